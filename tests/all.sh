@@ -94,6 +94,7 @@ try generated tools/check_generated.py
 if [ -x "$demangle" ]; then
     try rows tests/vectors.py --demangle "$demangle" "$symfilt"
     try texts tests/texts.py "$symfilt" "$demangle"
+    try tools tests/tools.sh "$demangle"
 else
     try rows tests/vectors.py "$symfilt"
     try texts tests/texts.py "$symfilt"

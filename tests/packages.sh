@@ -20,6 +20,10 @@ grep -q "^SYMDEMANGLE_${version%.*} {$" callers/archive/names.map || fail "calle
 [ "$(sed -n 's/^## \([0-9.]*\).*/\1/p' CHANGELOG.md | head -n 1)" = "$version" ] || fail "CHANGELOG.md begins with another version than $version"
 grep -q "^\.TH DEMANGLE 1 [0-9-]* \"symfilt $version\"" docs/demangle.1 || fail "docs/demangle.1 isn't of version $version"
 ! command -v mandoc >/dev/null || [ -z "$(mandoc -T lint docs/symfilt.1 docs/demangle.1 | tee /dev/stderr)" ] || fail 'the manual pages'
+if command -v mandb >/dev/null; then
+    mkdir -p "$work/man/man1" && cp docs/symfilt.1 docs/demangle.1 "$work/man/man1" && mandb -q -c "$work/man"
+    [ "$(apropos -M "$work/man" demangle | sed -n 's/ (1).*//p' | sort | paste -sd ' ')" = 'demangle symfilt' ] || fail "apropos doesn't find the pages"
+fi
 
 # Installed into a package's folder, then removed: what was there before stays, and nothing else.
 root=$work/root

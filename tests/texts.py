@@ -4,7 +4,8 @@
     tests/texts.py SYMFILT [DEMANGLE]
 
 Beside lines of linkers, debuggers, profilers and traces there are bytes that no text has, prompts that wait for an answer, a line
-of 30 MB, and a name that is made to exhaust a demangler. The status is 1 where one comes out otherwise.
+of 30 MB, a log without symbols, a reader that ends, and a name that is made to exhaust a demangler. The status is 1 where one
+comes out otherwise.
 """
 
 import os
@@ -12,6 +13,7 @@ import resource
 import selectors
 import subprocess
 import sys
+import tempfile
 import time
 
 VECTOR = "_ZNSt6vectorIiSaIiEE9push_backERKi"
@@ -47,6 +49,13 @@ SAME = {
     "nm": (f"0000000000001139 T {VECTOR}\n", f"0000000000001139 T {VECTOR_TEXT}\n"),
     "objdump": ("  401136:\te8 00 00\tcall 401130 <_Z1fv@plt> <_ZN1A1fEv+0x10>\n", "  401136:\te8 00 00\tcall 401130 <f()@plt> <A::f()+0x10>\n"),
     "readelf": ("FUNC GLOBAL _ZNSt9exceptionD1Ev@GLIBCXX_3.4 _Z1fv@@V_1\n", "FUNC GLOBAL std::exception::~exception()@GLIBCXX_3.4 f()@@V_1\n"),
+    "relocations": ("000000003fd8  000500000006 R_X86_64_GLOB_DAT 0000000000000000 _ZSt4cout@GLIBCXX_3.4 + 0\n", "000000003fd8  000500000006 R_X86_64_GLOB_DAT 0000000000000000 std::cout@GLIBCXX_3.4 + 0\n"),
+    "a sanitizer's trace": ("    #1 0x4f2 in _ZN1A1fEv /src/a.cpp:12:5\n    #2 0x51 in main (a.out+0x51)\n", "    #1 0x4f2 in A::f() /src/a.cpp:12:5\n    #2 0x51 in main (a.out+0x51)\n"),
+    "valgrind": ("==7==    by 0x1091B6: _ZN1A1fEv (a.cpp:12)\n==7==    by 0x10: ??? (in /usr/bin/x)\n", "==7==    by 0x1091B6: A::f() (a.cpp:12)\n==7==    by 0x10: ??? (in /usr/bin/x)\n"),
+    "gdb": ("#0  0x0000555555555139 in _ZN1A1fEv () at a.cpp:3\n", "#0  0x0000555555555139 in A::f() () at a.cpp:3\n"),
+    "a kernel's trace": ("[    1.5] RIP: 0010:_RNvC3foo3bar+0x1b/0x30 [rust_mod]\n", "[    1.5] RIP: 0010:foo::bar+0x1b/0x30 [rust_mod]\n"),
+    "a linker's options": ("-Wl,--undefined=_Z1fv,-u,_Z1gi --defsym=_Z1hv=0\n", "-Wl,--undefined=f(),-u,g(int) --defsym=h()=0\n"),
+    "gold": ("a.cc:(.text+0x1f): error: undefined reference to '_ZN1A1fEv'\n", "a.cc:(.text+0x1f): error: undefined reference to 'A::f()'\n"),
     "glibc's trace": ("./prog(_ZN1A1fEv+0x1f) [0x401136]\n", "./prog(A::f()+0x1f) [0x401136]\n"),
     "ld": ("ld: a.o: undefined reference to `_ZN1A1fEv'\n", "ld: a.o: undefined reference to `A::f()'\n"),
     "lld": ("ld.lld: error: undefined symbol: _ZN1A1fEv\n", "ld.lld: error: undefined symbol: A::f()\n"),
@@ -71,6 +80,7 @@ DEMANGLE = {
     "stacks": (["-p", "--brief"], f"main;{VECTOR};_ZN1A1fIiEEvT_ 42\n", "main;std::vector::push_back;A::f 42\n"),
     "legacy Rust names": ([], f"{LEGACY}\n", "demo::main\n"),
     "newer C++": ([], "_Z1fN2ns3BoxIiEENS0_IcEE\n", "f(ns::Box<int>, ns::Box<char>)\n"),
+    "quotes in JSON": (["--json"], '{"at":"_Zli2_sPKc"}\n', '{"at":"operator\\"\\" _s(char const*)"}\n'),
     "an option of c++filt": (["-n", "-s", "gnu-v3"], "_Z1fv _RNvC3foo3bar\n", "f() _RNvC3foo3bar\n"),
 }
 
@@ -130,11 +140,51 @@ def passes_long_lines(program):
     return (out, status) == (line, 0), out[:100]
 
 
+def processor_time(command, text):
+    """The seconds that a program takes of a processor over a file, the least of three."""
+    times = []
+    for _ in range(3):
+        with open(text, "rb") as file:
+            before = resource.getrusage(resource.RUSAGE_CHILDREN)
+            subprocess.run(command, stdin=file, stdout=subprocess.DEVNULL)
+            after = resource.getrusage(resource.RUSAGE_CHILDREN)
+        times.append(after.ru_utime + after.ru_stime - before.ru_utime - before.ru_stime)
+    return min(times)
+
+
+def costs_little(program):
+    """A log without symbols costs about what grep costs."""
+    with tempfile.NamedTemporaryFile() as log:
+        log.write(b"Nov 27 07:00:00 host kernel: eth0 link_up speed 1000 full duplex, mtu 1500\n" * 1_000_000)
+        log.flush()
+        searched, taken = processor_time(["grep", "-c", "_Z"], log.name), processor_time([program], log.name)
+    return taken < 2 * searched + 0.1, f"{taken:.2f} s, grep {searched:.2f} s"
+
+
+def tells_that_nobody_reads(program):
+    """Where the reader of its output ends, as head does, a program ends with 3 and says so."""
+    reader, writer = os.pipe()
+    run = subprocess.Popen([program], stdin=subprocess.PIPE, stdout=writer, stderr=subprocess.PIPE)
+    os.close(writer)
+    os.close(reader)
+    _, err = run.communicate(b"_Z1fv\n")
+    return (run.returncode, err) == (3, os.path.basename(program).encode() + b": write failed\n"), err
+
+
 def survives(program):
     """The lines before and after a name that doubles seventy times are answered, and it stays."""
     hostile = doubling(70)
     out, err, status = filtered(program, [], f"_Z1fv\n{hostile}\n_Z1gi\n")
     return (out, err, status) == (f"f()\n{hostile}\ng(int)\n".encode(), b"", 0), out
+
+
+CHECKS = {
+    "at once": answers_at_once,
+    "a long line": passes_long_lines,
+    "no symbols": costs_little,
+    "a reader that ends": tells_that_nobody_reads,
+    "a hostile name": survives,
+}
 
 
 def main():
@@ -144,7 +194,7 @@ def main():
     for path, own in zip(sys.argv[1:], (SYMFILT, DEMANGLE)):
         program = os.path.abspath(path)
         found = list(texts(program, own))
-        for name, check in (("at once", answers_at_once), ("a long line", passes_long_lines), ("a hostile name", survives)):
+        for name, check in CHECKS.items():
             found.append((name, *check(program)))
         for name, holds, out in found:
             count += 1

@@ -3,25 +3,22 @@ use Rattle.std.proofs.Common.{◌≡◌, ◌≢◌, ◌⊎◌, ℕ, Bool, true, 
 use Rattle.std.specs.Prelude.{IfOk, OnErr, None}
 use Rattle.std.specs.Fmt.{decimal}
 use Rattle.std.specs.Io.KnownBytes.{Appends}
-use Rattle.clap.specs.Words.{Row, Text, Kinds, IsAmong}
+use Rattle.clap.specs.Words.{Row, Text, IsAmong}
 use Rattle.clap.specs.declared.error.kind.ErrorKind.{ErrorKind}
 use Rattle.clap.specs.declared.error.kind.ErrorKind.TheVariants.{DisplayHelp, DisplayVersion, OutOfMemory}
 use Rattle.sym_print.specs.declared.detail.Detail.{Detail}
 use Rattle.sym_filter.specs.Runs.{Answering}
-use Rattle.sym_filter.specs.declared.kinds.Letters.TheVariants.{Within}
-use Rattle.sym_filter.specs.Streams.{BeginsWith, FiltersAllAt, FiltersFrontAt, PutsFront}
+use Rattle.sym_filter.specs.Streams.{BeginsWith, PutsFront}
 use Rattle.std.proofs.lemmas.Bool.{false≢true}
-use Rattle.std.proofs.lemmas.List.{append-nil}
 use Rattle.sym_filter.specs.declared.words.Tally.{Tally}
 use Rattle.sym_filter.specs.declared.streams.FilterFault.{FilterFault}
 use Rattle.sym_filter.proofs.StreamLemmas.{Appends-none}
 use Rattle.sym_command.specs.Command.{Took, Says}
 use Rattle.sym_command.proofs.CommandLemmas.{faulty}
 use Rattle.sym_command.proofs.PageLemmas.{Took-as, Took-said, OnErr-anyway}
-use Rattle.demangle_command.specs.Command.{answers_of, EndsOf, Ends, FiltersInput, FiltersInputFront, IsEndedOf, IsStoppedOf, IsTold, IsUntaken, StopsOf, Stops, is_request}
-use Rattle.demangle_command.specs.CommandLine.{AreGiven, AreOptions, faults_in, found_in, names_of}
+use Rattle.demangle_command.specs.Command.{answers_by, answers_of, EndsOf, FiltersInput, FiltersInputFront, IsEndedOf, IsStoppedOf, IsTold, StopsOf, Stops, is_request}
+use Rattle.demangle_command.specs.CommandLine.{AreGiven, AreOptions, faults_in, names_of}
 use Rattle.demangle_command.specs.Names.{AnswersNames, NamesFront, status_of, summary_if}
-use Rattle.demangle_command.specs.Style.{styled_answer}
 use Rattle.demangle_command.specs.declared.options.Options.{Options}
 use Rattle.demangle_command.specs.declared.style.Style.{Style}
 
@@ -57,16 +54,6 @@ untold-err kind out err err' result known says = OnErr-anyway result _ (Took-sai
 pub untold-nothing : (kind : ErrorKind) (out err : Option (List ℕ)) → Took out out err err (Untold kind)
 untold-nothing kind out err = record { lines = []; said = []; to_out = Appends-none out; to_err = Appends-none err; held = inr (refl, refl) }
 
-among : (kinds : Kinds) (kind : ErrorKind) → kind ≢ OutOfMemory → (kind ≡ OutOfMemory) ⊎ IsAmong kind kinds → IsAmong kind kinds
-among kinds kind known (inl memory) = absurd (known memory)
-among kinds kind known (inr is) = is
-
-pub told-ends : (words : List Text) (kind : ErrorKind) (coming out out' err err' : Option (List ℕ)) (result : Result ℕ FilterFault) → (kind ≡ OutOfMemory) ⊎ IsAmong kind (faults_in words) → IfOk result (λ _. kind ≢ OutOfMemory)
-    → IfOk result (λ status. Took out out' err err' (IsTold (is_request kind) status)) → IfOk result (Ends words coming coming out out' err err')
-told-ends words kind coming out out' err err' (Ok status) fails known told =
-    inr (refl, Took-as out out' err err' (IsTold (is_request kind) status) (IsUntaken words status) told (λ lines said held. (kind, among (faults_in words) kind known fails, held)))
-told-ends words kind coming out out' err err' (Err fault) fails known told = tt
-
 turned : (words : List Text) (kind : ErrorKind) (lines said : List ℕ) → (kind ≡ OutOfMemory) ⊎ IsAmong kind (faults_in words) → Untold kind lines said → (faults_in words ≢ []) ⊎ ((lines ≡ []) × (said ≡ []))
 turned words kind lines said fails (inl known) = inl (faulty (faults_in words) kind known fails)
 turned words kind lines said fails (inr nothing) = inr nothing
@@ -79,16 +66,6 @@ told-stops words kind coming out out' err err' (Err fault) fails told =
 
 -- ## Words that it takes
 
-pub found-ends : (words : List Text) (rows : List Row) (coming coming' out out' err err' : Option (List ℕ)) (result : Result ℕ FilterFault) → faults_in words ≡ [] → rows ≡ found_in words
-    → IfOk result (EndsOf rows coming coming' out out' err err') → IfOk result (Ends words coming coming' out out' err err')
-found-ends words rows coming coming' out out' err err' (Ok status) taken same ends = inl (taken, subst (λ (r : List Row). EndsOf r coming coming' out out' err err' status) same ends)
-found-ends words rows coming coming' out out' err err' (Err fault) taken same ends = tt
-
-pub found-stops : (words : List Text) (rows : List Row) (coming coming' out out' err err' : Option (List ℕ)) (result : Result ℕ FilterFault) → rows ≡ found_in words
-    → OnErr result (StopsOf rows coming coming' out out' err err') → OnErr result (Stops words coming coming' out out' err err')
-found-stops words rows coming coming' out out' err err' (Ok status) same stops = tt
-found-stops words rows coming coming' out out' err err' (Err fault) same stops = inl (subst (λ (r : List Row). StopsOf r coming coming' out out' err err') same stops)
-
 -- a style that isn't one
 pub refused-ends : (rows : List Row) (coming out err err' : Option (List ℕ)) (result : Result ℕ FilterFault) → AreOptions rows None → IfOk result (λ status. status ≡ 2) → Says err err'
     → IfOk result (EndsOf rows coming coming out out err err')
@@ -100,9 +77,11 @@ refused-stops rows coming out err err' result says = OnErr-anyway result _ (inl 
 
 -- ## What the options ask
 
-pub answers-are : (style : Style) (limit : ℕ) (detail : Detail) (options : Options) → style ≡ options.style → limit ≡ options.limit → detail ≡ options.detail → styled_answer style limit detail ≡ answers_of options
-answers-are style limit detail options s l d =
-    ap (λ (x : Style). styled_answer x limit detail) s ∙ ap (λ (x : ℕ). styled_answer options.style x detail) l ∙ ap (λ (x : Detail). styled_answer options.style options.limit x) d
+pub answers-are : (json : Bool) (style : Style) (limit : ℕ) (detail : Detail) (options : Options) → json ≡ options.json → style ≡ options.style → limit ≡ options.limit → detail ≡ options.detail
+    → answers_by json style limit detail ≡ answers_of options
+answers-are json style limit detail options j s l d =
+    ap (λ (x : Bool). answers_by x style limit detail) j ∙ ap (λ (x : Style). answers_by options.json x limit detail) s
+    ∙ ap (λ (x : ℕ). answers_by options.json options.style x detail) l ∙ ap (λ (x : Detail). answers_by options.json options.style options.limit x) d
 
 -- names
 pub some-names : (names : List (Bor (List ℕ))) → eqb (length names) 0 ≡ false → map (λ (name : Bor (List ℕ)). name.now) names ≢ []
@@ -110,29 +89,29 @@ some-names [] some = absurd (false≢true (sym some))
 some-names (name ∷ names) some = λ none. cc
 
 pub names-end : (rows : List Row) (options : Options) (answers : Answering) (names : List Text) (one_stays : Bool) (status : ℕ) (coming out out' err err' : Option (List ℕ)) → AreGiven rows options → answers ≡ answers_of options
-    → names ≡ names_of rows → names ≢ [] → Took out out' err err' (AnswersNames answers options.why names one_stays) → status ≡ status_of options.strict one_stays → EndsOf rows coming coming out out' err err' status
+    → names ≡ names_of rows → names ≢ [] → Took out out' err err' (AnswersNames answers options.types options.why names one_stays) → status ≡ status_of options.strict one_stays → EndsOf rows coming coming out out' err err' status
 names-end rows options answers names one_stays status coming out out' err err' given same are some took ends =
     inl (
       refl,
-      Took-as out out' err err' (AnswersNames answers options.why names one_stays) (IsEndedOf rows status) took (λ lines said held. inl (record {
+      Took-as out out' err err' (AnswersNames answers options.types options.why names one_stays) (IsEndedOf rows status) took (λ lines said held. inl (record {
         options = options;
         given = given;
         some = λ none. some (are ∙ none);
         one_stays = one_stays;
-        answered = subst (λ (a : Answering). AnswersNames a options.why (names_of rows) one_stays lines said) same (subst (λ (ns : List Text). AnswersNames answers options.why ns one_stays lines said) are held);
+        answered = subst (λ (a : Answering). AnswersNames a options.types options.why (names_of rows) one_stays lines said) same (subst (λ (ns : List Text). AnswersNames answers options.types options.why ns one_stays lines said) are held);
         ends = ends;
       })),
     )
 
 pub names-stop : (rows : List Row) (options : Options) (answers : Answering) (names : List Text) (coming out out' err err' : Option (List ℕ)) → AreGiven rows options → answers ≡ answers_of options
-    → names ≡ names_of rows → Took out out' err err' (NamesFront answers options.why names) → StopsOf rows coming coming out out' err err'
+    → names ≡ names_of rows → Took out out' err err' (NamesFront answers options.types options.why names) → StopsOf rows coming coming out out' err err'
 names-stop rows options answers names coming out out' err err' given same are took =
     inl (
       refl,
-      Took-as out out' err err' (NamesFront answers options.why names) (IsStoppedOf rows) took (λ lines said held. inl (record {
+      Took-as out out' err err' (NamesFront answers options.types options.why names) (IsStoppedOf rows) took (λ lines said held. inl (record {
         options = options;
         given = given;
-        front = subst (λ (a : Answering). NamesFront a options.why (names_of rows) lines said) same (subst (λ (ns : List Text). NamesFront answers options.why ns lines said) are held);
+        front = subst (λ (a : Answering). NamesFront a options.types options.why (names_of rows) lines said) same (subst (λ (ns : List Text). NamesFront answers options.types options.why ns lines said) are held);
       })),
     )
 
@@ -155,28 +134,8 @@ input-stops rows options answers names coming coming' out out' err err' given sa
   filtered = subst (λ (a : Answering). FiltersInputFront a options.why coming coming' out out' err err') same filtered;
 })
 
--- ## An input that is filtered
+-- ## What is said of an input
 
-pub summary-none : (asked : Bool) (tally : Tally) (err : Option (List ℕ)) → asked ≡ false → Appends err err (summary_if asked tally)
-summary-none asked tally err none = subst (λ (b : Bool). Appends err err (summary_if b tally)) (sym none) (Appends-none err)
-
--- nothing was said
-pub input-front : (answers : Answering) (why : Bool) (coming coming' out out' err : Option (List ℕ)) → FiltersFrontAt Within answers coming coming' out out' → FiltersInputFront answers why coming coming' out out' err err
-input-front answers why coming coming' out out' err front =
-    let none : Tally = record { words = 0; replaced = 0; refused = 0 } in record { filtered = front; tally = none; said = []; says = Appends-none err; said_begins = (summary_if why none, refl) }
-
--- the whole was filtered, and some was said
-pub input-said-front : (answers : Answering) (why : Bool) (tally : Tally) (coming coming' out out' err err' : Option (List ℕ)) → FiltersAllAt Within answers coming coming' out out' tally → PutsFront err err' [] (summary_if why tally)
-    → FiltersInputFront answers why coming coming' out out' err err'
-input-said-front answers why tally coming coming' out out' err err' all says = record {
-  filtered = record { text = all.text; gone = _; reads = all.reads; writes = all.writes; begins = ([], sym (append-nil _)) };
-  tally = tally;
-  said = says.gone;
-  says = says.writes;
-  said_begins = says.begins;
-}
-
--- what is said of it
 pub summary-line : (asked : Bool) (tally : Tally) (bytes : List ℕ) → asked ≡ true → bytes ≡ codes "demangle: " ++ (decimal tally.refused ++ (codes " of " ++ (decimal tally.words ++ (codes " symbols stay" ++ 10 ∷ [])))) → bytes ≡ summary_if asked tally
 summary-line asked tally bytes is made = made ∙ ap (λ (b : Bool). summary_if b tally) (sym is)
 

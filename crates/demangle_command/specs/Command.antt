@@ -4,19 +4,26 @@ use Rattle.std.specs.Io.KnownBytes.{Appends}
 use Rattle.clap.specs.Words.{Row, Text, IsAmong}
 use Rattle.clap.specs.declared.error.kind.ErrorKind.{ErrorKind}
 use Rattle.clap.specs.declared.error.kind.ErrorKind.TheVariants.{DisplayHelp, DisplayVersion}
-use Rattle.sym_filter.specs.declared.kinds.Letters.TheVariants.{Within}
+use Rattle.sym_print.specs.declared.detail.Detail.{Detail}
 use Rattle.sym_filter.specs.Runs.{Answering}
-use Rattle.sym_filter.specs.Streams.{BeginsWith, FiltersAllAt, FiltersFrontAt}
+use Rattle.sym_filter.specs.declared.kinds.Letters.TheVariants.{Within}
+use Rattle.sym_filter.specs.Streams.{FiltersAllAt, FiltersFrontAt, PutsFront}
 use Rattle.sym_filter.specs.declared.words.Tally.{Tally}
 use Rattle.sym_command.specs.Command.{Took}
 use Rattle.demangle_command.specs.CommandLine.{AreGiven, AreOptions, names_of, found_in, faults_in}
+use Rattle.demangle_command.specs.Json.{answer_by}
 use Rattle.demangle_command.specs.Names.{AnswersNames, NamesFront, summary_if, status_of}
 use Rattle.demangle_command.specs.Style.{styled_answer}
 use Rattle.demangle_command.specs.declared.options.Options.{Options}
+use Rattle.demangle_command.specs.declared.style.Style.{Style}
 
--- what is answered for symbols as options ask
+-- what is answered for symbols, escaped where texts go into JSON
+abbrev pub answers_by : (json : Bool) → Style → ℕ → Detail → Answering
+answers_by json style limit detail kind symbol = answer_by json (styled_answer style limit detail kind symbol)
+
+-- as options ask
 abbrev pub answers_of : Options → Answering
-answers_of options = styled_answer options.style options.limit options.detail
+answers_of options = answers_by options.json options.style options.limit options.detail
 
 -- ## An input
 
@@ -27,13 +34,11 @@ pub record FiltersInput (answers : Answering) (why strict : Bool) (coming coming
   pub says : Appends err err' (summary_if why tally)
   pub ends : status ≡ status_of strict (not (tally.refused == 0))
 
--- some of it was filtered before a fault
-pub record FiltersInputFront (answers : Answering) (why : Bool) (coming coming' out out' err err' : Option (List ℕ)) : Type 0 where
-  pub filtered : FiltersFrontAt Within answers coming coming' out out'
-  pub tally : Tally
-  pub said : List ℕ
-  pub says : Appends err err' said
-  pub said_begins : BeginsWith (summary_if why tally) said
+-- Before a fault some of it was filtered, and nothing was said; or all of it was, and some was said of it.
+abbrev pub FiltersInputFront : Answering → (why : Bool) → (coming coming' out out' err err' : Option (List ℕ)) → Type 0
+FiltersInputFront answers why coming coming' out out' err err' =
+    (FiltersFrontAt Within answers coming coming' out out' × (err' ≡ err))
+    ⊎ ((tally : Tally) × FiltersAllAt Within answers coming coming' out out' tally × PutsFront err err' [] (summary_if why tally))
 
 -- ## A command line that its parser takes, by what it found
 
@@ -43,13 +48,13 @@ pub record Answered (rows : List Row) (status : ℕ) (lines said : List ℕ) : T
   pub given : AreGiven rows options
   pub some : names_of rows ≢ []
   pub one_stays : Bool
-  pub answered : AnswersNames (answers_of options) options.why (names_of rows) one_stays lines said
+  pub answered : AnswersNames (answers_of options) options.types options.why (names_of rows) one_stays lines said
   pub ends : status ≡ status_of options.strict one_stays
 
 pub record AnsweredFront (rows : List Row) (lines said : List ℕ) : Type 0 where
   pub options : Options
   pub given : AreGiven rows options
-  pub front : NamesFront (answers_of options) options.why (names_of rows) lines said
+  pub front : NamesFront (answers_of options) options.types options.why (names_of rows) lines said
 
 -- it has no names, and the input was filtered as its options ask
 pub record Filtered (rows : List Row) (coming coming' out out' err err' : Option (List ℕ)) (status : ℕ) : Type 0 where

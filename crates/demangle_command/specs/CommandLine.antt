@@ -15,6 +15,10 @@ use Rattle.demangle_command.specs.declared.options.Options.{Options}
 abbrev pub no_params : Rule
 no_params = record (flag (codes "no-params")) { short = Some 112 }
 
+-- `-t`, `--types`
+abbrev pub types : Rule
+types = record (flag (codes "types")) { short = Some 116 }
+
 -- `-s`, `--format`, with the name of a style
 abbrev pub style_option : Rule
 style_option = record (new_rule (codes "format")) { long = Some (codes "format"); short = Some 115; value_names = 1 }
@@ -51,7 +55,7 @@ command_line = record {
     has_version = true;
     disable_version_flag = true;
     args_override_self = true;
-    rules = no_params ∷ flag (codes "brief") ∷ limit ∷ style_option ∷ flag (codes "why") ∷ flag (codes "strict") ∷ version_option ∷ taken_options ∷ name_arguments ∷ [];
+    rules = no_params ∷ flag (codes "brief") ∷ types ∷ limit ∷ style_option ∷ flag (codes "json") ∷ flag (codes "why") ∷ flag (codes "strict") ∷ version_option ∷ taken_options ∷ name_arguments ∷ [];
   };
   subs = [];
 }
@@ -75,6 +79,8 @@ pub record AreGiven (rows : List Row) (options : Options) : Type 0 where
   pub detail : options.detail ≡ detail_by brief no_params
   pub limit : IsLimit rows options.limit
   pub style : IsAskedStyle rows (Some options.style)
+  pub json : IsFlag rows (codes "json") options.json
+  pub types : IsFlag rows (codes "types") options.types
   pub why : IsFlag rows (codes "why") options.why
   pub strict : IsFlag rows (codes "strict") options.strict
 

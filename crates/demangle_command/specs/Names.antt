@@ -8,6 +8,7 @@ use Rattle.sym_filter.specs.declared.words.Tally.{Tally}
 use Rattle.sym_filter.specs.Runs.{Answering, filtered_at, tally_at}
 use Rattle.sym_filter.specs.Streams.{BeginsWith, PutsFront}
 use Rattle.sym_command.specs.Lines.{answer_for, reason_of}
+use Rattle.demangle_command.specs.Types.{type_for}
 
 -- a text with each word that has a text replaced by it, where words begin within runs
 abbrev pub filtered : Answering → List ℕ → List ℕ
@@ -16,10 +17,6 @@ filtered answers text = filtered_at Within answers text
 -- the line that a name makes
 abbrev pub line_of : List ℕ → List ℕ
 line_of name = name ++ 10 ∷ []
-
--- the lines of names
-abbrev pub lines_of : List (List ℕ) → List ℕ
-lines_of names = flat_map line_of names
 
 -- a text stays where a word in it has no text, or it has no word
 abbrev pub stays_by : Tally → Bool
@@ -42,25 +39,62 @@ said_if false answers name = []
 abbrev pub said_of : (why : Bool) → Answering → List ℕ → List ℕ
 said_of why answers name = said_if (why && name_stays answers name) answers name
 
--- names are answered: their lines are filtered, and it is said why those stay that do, where that is asked
-pub record AnswersNames (answers : Answering) (why : Bool) (names : List (List ℕ)) (one_stays : Bool) (lines said : List ℕ) : Type 0 where
-  pub are_lines : lines ≡ filtered answers (lines_of names)
-  pub is_said : said ≡ flat_map (said_of why answers) names
-  pub stay : one_stays ≡ list_any (name_stays answers) names
+-- ## Names, which may be types
 
--- A beginning of the lines was filtered, and a beginning of that was written.
-pub record NamesFront (answers : Answering) (why : Bool) (names : List (List ℕ)) (lines said : List ℕ) : Type 0 where
-  pub text : List ℕ
-  pub text_begins : BeginsWith (lines_of names) text
-  pub lines_begin : BeginsWith (filtered answers text) lines
-  pub said_begins : BeginsWith (flat_map (said_of why answers) names) said
+-- what is written for a name: the line of its type's text, where it is a type, or its own line filtered
+abbrev pub written_by : Option (List ℕ) → Answering → List ℕ → List ℕ
+written_by (Some text) answers name = line_of text
+written_by None answers name = filtered answers (line_of name)
 
--- the same of one name
-pub record NameFront (answers : Answering) (why : Bool) (name : List ℕ) (lines said : List ℕ) : Type 0 where
+-- whether it stays, as no type does
+abbrev pub stays_by_type : Option (List ℕ) → Answering → List ℕ → Bool
+stays_by_type (Some text) answers name = false
+stays_by_type None answers name = name_stays answers name
+
+abbrev pub written_for : (types : Bool) → Answering → List ℕ → List ℕ
+written_for types answers name = written_by (type_for types answers name) answers name
+
+abbrev pub stays_for : (types : Bool) → Answering → List ℕ → Bool
+stays_for types answers name = stays_by_type (type_for types answers name) answers name
+
+-- what is said of it
+abbrev pub said_for : (types why : Bool) → Answering → List ℕ → List ℕ
+said_for types why answers name = said_if (why && stays_for types answers name) answers name
+
+-- names are answered one by one, and it is said why those stay that do, where that is asked
+pub record AnswersNames (answers : Answering) (types why : Bool) (names : List (List ℕ)) (one_stays : Bool) (lines said : List ℕ) : Type 0 where
+  pub are_lines : lines ≡ flat_map (written_for types answers) names
+  pub is_said : said ≡ flat_map (said_for types why answers) names
+  pub stay : one_stays ≡ list_any (stays_for types answers) names
+
+-- ## Up to a fault
+
+-- of a name that is no type a beginning of its line was filtered, and a beginning of that was written
+pub record LineFront (answers : Answering) (why : Bool) (name : List ℕ) (lines said : List ℕ) : Type 0 where
   pub text : List ℕ
   pub text_begins : BeginsWith (line_of name) text
   pub lines_begin : BeginsWith (filtered answers text) lines
   pub said_begins : BeginsWith (said_of why answers name) said
+
+-- of a type's line a beginning was written
+abbrev pub NameFrontBy : Option (List ℕ) → Answering → (why : Bool) → (name lines said : List ℕ) → Type 0
+NameFrontBy (Some text) answers why name lines said = BeginsWith (line_of text) lines × (said ≡ [])
+NameFrontBy None answers why name lines said = LineFront answers why name lines said
+
+abbrev pub NameFront : Answering → (types why : Bool) → (name lines said : List ℕ) → Type 0
+NameFront answers types why name lines said = NameFrontBy (type_for types answers name) answers why name lines said
+
+-- some names were answered whole, and the next in part
+pub record NamesFront (answers : Answering) (types why : Bool) (names : List (List ℕ)) (lines said : List ℕ) : Type 0 where
+  pub whole : List (List ℕ)
+  pub next : List ℕ
+  pub others : List (List ℕ)
+  pub are_names : names ≡ whole ++ next ∷ others
+  pub next_lines : List ℕ
+  pub next_said : List ℕ
+  pub are_lines : lines ≡ flat_map (written_for types answers) whole ++ next_lines
+  pub is_said : said ≡ flat_map (said_for types why answers) whole ++ next_said
+  pub front : NameFront answers types why next next_lines next_said
 
 -- A beginning of a text was filtered, and a beginning of that was written.
 pub record FiltersSome (answers : Answering) (whole : List ℕ) (taken taken' : Option (List ℕ)) : Type 0 where

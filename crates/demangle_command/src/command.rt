@@ -8,6 +8,7 @@ ghost use Rattle.sym_command.specs.Command.{Took, Says};
 ghost use Rattle.demangle_command.specs.Command.{answers_of, Ends, Stops, EndsOf, StopsOf, FiltersInput, FiltersInputFront, IsTold, is_request};
 ghost use Rattle.demangle_command.specs.Names.{status_of, summary_if};
 
+use crate::json::Json;
 use crate::names::answer_names;
 use crate::options::{Options, found_in, names_of, options_of};
 use crate::styled::Styled;
@@ -137,31 +138,34 @@ fn run_found<S: Source, W: Sink, E: Sink>(
             Err(fault) => Err(fault),
         };
     }
-    match answer_names(alloc, &demangler, options.why, names, out, err) {
+    match answer_names(alloc, &demangler, options, names, out, err) {
         Ok(one_stays) => Ok(status_of(options.strict, one_stays)),
         Err(fault) => Err(fault),
     }
 }
 
 /// The demangler that options ask for.
-fn demangler_of(options: Options) -> Styled
-    ensures style { result.style ≡ options.style }
-    ensures limit { result.languages.limit ≡ options.limit }
-    ensures detail { result.languages.detail ≡ options.detail }
+fn demangler_of(options: Options) -> Json
+    ensures json { result.escapes ≡ options.json }
+    ensures style { result.styled.style ≡ options.style }
+    ensures limit { result.styled.languages.limit ≡ options.limit }
+    ensures detail { result.styled.languages.detail ≡ options.detail }
 {
     let Options {
         limit,
         detail,
         style,
+        json,
         ..
     } = options;
-    Styled {
-        style,
-        languages: Languages {
-            limit,
-            detail,
-            cpp: Wide,
-        },
+    let languages = Languages {
+        limit,
+        detail,
+        cpp: Wide,
+    };
+    Json {
+        styled: Styled { style, languages },
+        escapes: json,
     }
 }
 

@@ -6,8 +6,10 @@ ghost use Rattle.sym_filter.specs.declared.kinds.Letters.TheVariants.{Within};
 ghost use Rattle.sym_filter.specs.Streams.{PutsFront, writer_faults};
 ghost use Rattle.sym_command.specs.Command.{Took};
 ghost use Rattle.sym_command.specs.Lines.{answer_for};
-ghost use Rattle.demangle_command.specs.Names.{AnswersNames, NamesFront, NameFront, FiltersSome, filtered, line_of, said_if, said_of, name_stays, stays_by, reason_by};
+ghost use Rattle.demangle_command.specs.Names.{AnswersNames, NamesFront, NameFront, LineFront, FiltersSome, filtered, line_of, said_for, said_if, said_of, name_stays, stays_by, stays_for, written_for, reason_by};
 
+use crate::options::Options;
+use crate::types::type_for;
 use std::alloc::{AllocError, Global};
 use sym_command::reason;
 use sym_filter::{
@@ -17,7 +19,8 @@ use sym_filter::{
 /// Why a name stays that is no symbol.
 const NO_SYMBOL: &str = "not a symbol";
 
-/// Writes the line of each name with its symbols replaced, and why it stays where one does and that is asked. Answers whether one stays.
+/// Writes the text of each name that is a type, where types are read, and the line of each other one with its symbols replaced; and why
+/// one stays where that is asked. Answers whether one stays.
 ///
 /// # Errors
 ///
@@ -25,7 +28,7 @@ const NO_SYMBOL: &str = "not a symbol";
 pub(crate) fn answer_names<D: Demangler, W: Sink, E: Sink>(
     alloc: Global,
     demangler: &D,
-    why: bool,
+    options: Options,
     names: &[&str],
     out: &mut W,
     err: &mut E,
@@ -33,16 +36,16 @@ pub(crate) fn answer_names<D: Demangler, W: Sink, E: Sink>(
     requires out_failures { W.failure_count out.old < 2 ^ 64 - 1 }
     requires err_failures { E.failure_count err.old < 2 ^ 64 - 1 }
     ensures ok { IfOk result (λ one_stays. Took (W.taken out.old) (W.taken out.new) (E.taken err.old) (E.taken err.new)
-        (AnswersNames (D.answer demangler.now) why (map (λ name. name.now) names.now) one_stays)) }
+        (AnswersNames (D.answer demangler.now) options.types options.why (map (λ name. name.now) names.now) one_stays)) }
     ensures err { OnErr result (Took (W.taken out.old) (W.taken out.new) (E.taken err.old) (E.taken err.new)
-        (NamesFront (D.answer demangler.now) why (map (λ name. name.now) names.now))) }
+        (NamesFront (D.answer demangler.now) options.types options.why (map (λ name. name.now) names.now))) }
     ensures fault { IfErr result (λ fault. fault ≢ FilterFault.Read) }
     ensures failures { W.failure_count out.new + E.failure_count err.new
         ≡ W.failure_count out.old + E.failure_count err.old + writer_faults result }
 {
     let mut one_stays = false;
     'names: for name in names {
-        match answer_name(alloc, demangler, why, name, out, err) {
+        match answer_name(alloc, demangler, options, name, out, err) {
             Ok(stays) => one_stays |= stays,
             Err(fault) => return Err(fault),
         }
@@ -50,8 +53,54 @@ pub(crate) fn answer_names<D: Demangler, W: Sink, E: Sink>(
     Ok(one_stays)
 }
 
-/// Writes the line of a name with its symbols replaced, and why it stays where it does and that is asked. Answers whether it stays.
+/// Writes what stands for a name, and why it stays where it does and that is asked. Answers whether it stays.
 fn answer_name<D: Demangler, W: Sink, E: Sink>(
+    alloc: Global,
+    demangler: &D,
+    options: Options,
+    name: &str,
+    out: &mut W,
+    err: &mut E,
+) -> Result<bool, FilterFault>
+    requires out_failures { W.failure_count out.old < 2 ^ 64 - 1 }
+    requires err_failures { E.failure_count err.old < 2 ^ 64 - 1 }
+    ensures stays { IfOk result (λ left. left ≡ stays_for options.types (D.answer demangler.now) name.now) }
+    ensures line { OnOk result (Appends (W.taken out.old) (W.taken out.new) (written_for options.types (D.answer demangler.now) name.now)) }
+    ensures said { OnOk result (Appends (E.taken err.old) (E.taken err.new) (said_for options.types options.why (D.answer demangler.now) name.now)) }
+    ensures err { OnErr result (Took (W.taken out.old) (W.taken out.new) (E.taken err.old) (E.taken err.new)
+        (NameFront (D.answer demangler.now) options.types options.why name.now)) }
+    ensures fault { IfErr result (λ fault. fault ≢ FilterFault.Read) }
+    ensures out_failures { OnOk result (W.failure_count out.new ≡ W.failure_count out.old) }
+    ensures failures { W.failure_count out.new + E.failure_count err.new
+        ≡ W.failure_count out.old + E.failure_count err.old + writer_faults result }
+{
+    match type_for(alloc, demangler, options.types, name.as_bytes())? {
+        Some(text) => match write_line(out, text) {
+            Ok(()) => Ok(false),
+            Err(fault) => Err(fault),
+        },
+        None => answer_line(alloc, demangler, options.why, name, out, err),
+    }
+}
+
+/// Writes a text and a newline.
+fn write_line<W: Sink>(out: &mut W, text: Vec<u8>) -> Result<(), FilterFault>
+    requires { W.failure_count out.old < 2 ^ 64 - 1 }
+    ensures ok { OnOk result (Appends (W.taken out.old) (W.taken out.new) (line_of text.items)) }
+    ensures err { OnErr result (PutsFront (W.taken out.old) (W.taken out.new) [] (line_of text.items)) }
+    ensures fault { IfErr result (λ fault. fault ≢ FilterFault.Read) }
+    ensures failures { W.failure_count out.new ≡ W.failure_count out.old + writer_faults result }
+{
+    let mut line = text;
+    line.push(b'\n')?;
+    match write_all(out, &line) {
+        Ok(()) => Ok(()),
+        Err(fault) => Err(fault),
+    }
+}
+
+/// Writes the line of a name with its symbols replaced, and why it stays where it does and that is asked. Answers whether it stays.
+fn answer_line<D: Demangler, W: Sink, E: Sink>(
     alloc: Global,
     demangler: &D,
     why: bool,
@@ -65,7 +114,7 @@ fn answer_name<D: Demangler, W: Sink, E: Sink>(
     ensures line { OnOk result (Appends (W.taken out.old) (W.taken out.new) (filtered (D.answer demangler.now) (line_of name.now))) }
     ensures said { OnOk result (Appends (E.taken err.old) (E.taken err.new) (said_of why (D.answer demangler.now) name.now)) }
     ensures err { OnErr result (Took (W.taken out.old) (W.taken out.new) (E.taken err.old) (E.taken err.new)
-        (NameFront (D.answer demangler.now) why name.now)) }
+        (LineFront (D.answer demangler.now) why name.now)) }
     ensures fault { IfErr result (λ fault. fault ≢ FilterFault.Read) }
     ensures out_failures { OnOk result (W.failure_count out.new ≡ W.failure_count out.old) }
     ensures failures { W.failure_count out.new + E.failure_count err.new

@@ -1,7 +1,7 @@
 // The options of a command line, and its names.
 ghost use Rattle.std.specs.Prelude.{◌≡◌, IfOk, false, map};
 ghost use Rattle.clap.specs.Words.{FailsBy, found_of, rows_of, matches_of, fault_of, app_of, rule_of, with_rule};
-ghost use Rattle.demangle_command.specs.CommandLine.{command_line, no_params, style_option, version_flag, version_option, taken_option, taken_options, name_arguments, AreOptions, IsAskedStyle, names_of};
+ghost use Rattle.demangle_command.specs.CommandLine.{command_line, no_params, style_option, types, version_flag, version_option, taken_option, taken_options, name_arguments, AreOptions, IsAskedStyle, names_of};
 
 use crate::style::{Style, style_of};
 use clap::{Arg, ArgAction, ArgMatches, Command, Error};
@@ -21,6 +21,8 @@ A name that cannot be read is left as it is.";
 
 const BRIEF: &str = "Leave out template and generic arguments";
 
+const JSON: &str = "Escape \" and \\ in replaced text";
+
 const WHY: &str = "Say on standard error why a name is left";
 
 const STRICT: &str = "Exit with status 1 if a name is left";
@@ -30,6 +32,8 @@ const EXAMPLES: &str = "\
 Accepted for compatibility with c++filt; they change nothing:
   -n, --no-strip-underscore   -_, --strip-underscore   -i, --no-verbose
   -r, --no-recurse-limit      -R, --recurse-limit
+
+An argument @<file> is replaced by the words of the file.
 
 Examples:
   nm prog | demangle
@@ -45,6 +49,10 @@ pub struct Options {
     pub limit: u32,
     pub detail: Detail,
     pub style: Style,
+    /// Whether texts are escaped as within strings of JSON.
+    pub json: bool,
+    /// Whether names are read as types, too.
+    pub types: bool,
     /// Whether it is said why a name stays.
     pub why: bool,
     /// Whether the status is 1 where one stays.
@@ -72,7 +80,11 @@ fn command_line<'a>(alloc: Global) -> Result<Command<'a>, AllocError>
         .after_help(EXAMPLES)
         .arg(no_params(alloc))?;
     let command = with_flag(alloc, command, "brief", BRIEF)?;
-    let command = command.arg(limit(alloc))?.arg(style_option(alloc))?;
+    let command = command
+        .arg(types(alloc))?
+        .arg(limit(alloc))?
+        .arg(style_option(alloc))?;
+    let command = with_flag(alloc, command, "json", JSON)?;
     let command = with_flag(alloc, command, "why", WHY)?;
     let command = with_flag(alloc, command, "strict", STRICT)?;
     let command = with_version(alloc, command)?;
@@ -104,6 +116,16 @@ fn no_params<'a>(alloc: Global) -> Arg<'a>
     flag(alloc, "no-params")
         .short('p')
         .help("Print C++ functions without parameters and return types")
+}
+
+/// The option for types.
+fn types<'a>(alloc: Global) -> Arg<'a>
+    ensures rule { rule_of result ≡ types }
+    ensures local { result.global ≡ false }
+{
+    flag(alloc, "types").short('t').help(
+        "Also read names as C++ types, as typeid(x).name() gives them",
+    )
 }
 
 /// The option that names a style.
@@ -194,6 +216,8 @@ pub(crate) fn options_of(matches: &ArgMatches<'_>) -> Option<Options>
         limit: limit_of(matches),
         detail: detail_of(has_flag(matches, "brief"), has_flag(matches, "no-params")),
         style,
+        json: has_flag(matches, "json"),
+        types: has_flag(matches, "types"),
         why: has_flag(matches, "why"),
         strict: has_flag(matches, "strict"),
     })

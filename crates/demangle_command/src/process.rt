@@ -1,15 +1,17 @@
 // The program: names on the command line, or standard input filtered to standard output.
+use crate::argument_files::words_in;
 use crate::command::run_over;
-use std::io;
-use std::rt::Env;
+use std::alloc::AllocError;
+use std::rt::{Env, Files};
+use std::{fs, io};
 use sym_command::{WRONG_USE, called_with, fault};
-use sym_filter::{FilterFault, ReaderSource, WriterSink};
+use sym_filter::{FilterFault, ReaderSource, WriterSink, write_all};
 
 /// What the program calls itself.
 const NAME: &str = "demangle";
 
 /// Runs the program over standard input and output, and answers its exit status.
-pub fn program<R: Env + Input + Print + AllocGlobal, E: Print>(rt: &R, errors: &E) -> u8 {
+pub fn program<R: Env + Files + Input + Print + AllocGlobal, E: Print>(rt: &R, errors: &E) -> u8 {
     match run_on_streams(rt, errors) {
         Ok(status) => status,
         Err(error) => fault(errors, NAME, error),
@@ -17,19 +19,82 @@ pub fn program<R: Env + Input + Print + AllocGlobal, E: Print>(rt: &R, errors: &
 }
 
 /// Runs the program on the words that it was called with, and on its streams.
-fn run_on_streams<R: Env + Input + Print + AllocGlobal, E: Print>(
+fn run_on_streams<R: Env + Files + Input + Print + AllocGlobal, E: Print>(
     rt: &R,
     errors: &E,
 ) -> Result<u8, FilterFault> {
     let mut input = ReaderSource::new(rt.reader());
     let mut out = WriterSink::new(io::writer(rt));
     let mut err = WriterSink::new(io::writer(errors));
-    let Some(words) = called_with(rt, NAME, &mut err)? else {
+    let Some(arguments) = called_with(rt, NAME, &mut err)? else {
         return Ok(WRONG_USE);
+    };
+    let words = match with_files(rt, arguments)? {
+        Words::All(words) => words,
+        Words::NotText(argument) => {
+            let line = format!(in rt.alloc(); "{NAME}: {argument}: not valid UTF-8\n")?;
+            write_all(&mut err, line.as_bytes())?;
+            return Ok(WRONG_USE);
+        }
     };
     let mut texts = Vec::with_capacity(rt.alloc(), words.len())?;
     for word in &words {
         texts.push(word.as_str())?;
     }
     run_over(rt.alloc(), texts.as_slice(), &mut input, &mut out, &mut err)
+}
+
+/// The words of arguments.
+#[derive(Drop)]
+enum Words {
+    All(Vec<String>),
+    /// The argument whose file has a word that isn't valid UTF-8.
+    NotText(String),
+}
+
+/// The words that arguments stand for, the program's name first: those of the file for `@FILE`, where it can be read; each other
+/// argument for itself. A word of a file names no file.
+fn with_files<R: Files + AllocGlobal>(rt: &R, arguments: Vec<String>) -> Result<Words, AllocError> {
+    let mut words = Vec::with_capacity(rt.alloc(), arguments.len())?;
+    for argument in arguments {
+        match words_of_file(rt, argument.as_str())? {
+            None => words.push(argument)?,
+            Some(of_file) => {
+                if !push_texts(&mut words, of_file)? {
+                    return Ok(Words::NotText(argument));
+                }
+            }
+        }
+    }
+    Ok(Words::All(words))
+}
+
+/// The words of the file that an argument names, if it names one that can be read.
+fn words_of_file<R: Files + AllocGlobal>(
+    rt: &R,
+    argument: &str,
+) -> Result<Option<Vec<Vec<u8>>>, AllocError> {
+    let Some(path) = argument.strip_prefix('@') else {
+        return Ok(None);
+    };
+    match fs::read(rt, path) {
+        Ok(text) => Ok(Some(words_in(rt.alloc(), &text)?)),
+        Err(error) => {
+            if error.kind() == io::ErrorKind::OutOfMemory {
+                return Err(AllocError);
+            }
+            Ok(None)
+        }
+    }
+}
+
+/// Appends words up to the first that isn't valid UTF-8, and says whether each is.
+fn push_texts(words: &mut Vec<String>, of_file: Vec<Vec<u8>>) -> Result<bool, AllocError> {
+    for word in of_file {
+        match String::from_utf8(word) {
+            Ok(text) => words.push(text)?,
+            Err(_) => return Ok(false),
+        }
+    }
+    Ok(true)
 }

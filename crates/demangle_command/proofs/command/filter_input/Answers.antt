@@ -1,7 +1,8 @@
-use Rattle.demangle_command.proofs.CommandLemmas.{input-front}
+use Rattle.std.proofs.Common.{inl, inr, refl}
 use Rattle.demangle_command.proofs.command.filter_input.Goals as goal
 
 pub returns-in-Err-clause-err : goal.returns-in-Err-clause-err
-returns-in-Err-clause-err g c =
-    input-front (g.D.Demangler.answer c.args.demangler.now) c.args.options.why (g.S.Source.coming c.args.input.now) (g.S.Source.coming c.filter_words.new.reader) (g.W.Sink.taken c.args.out.now) (g.W.Sink.taken c.filter_words.new.writer)
-    (g.E.Sink.taken c.args.err.now) c.in-Err.ensures.err
+returns-in-Err-clause-err g c = inl (c.in-Err.ensures.err, refl)
+
+pub returns-in-Err-say_summary-clause-err : goal.returns-in-Err-say_summary-clause-err
+returns-in-Err-say_summary-clause-err g c = inr (c.in-Ok.tally, c.in-Ok.ensures.ok, c.in-Err-say_summary.ensures.err)

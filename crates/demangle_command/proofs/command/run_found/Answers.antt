@@ -1,7 +1,7 @@
 use Rattle.std.proofs.Common.{◌∙◌, sym, map, Bor, List, ℕ}
 use Rattle.clap.specs.Words.{found_of, rows_of}
 use Rattle.sym_command.proofs.CommandLemmas.{no-words}
-use Rattle.demangle_command.specs.Style.{styled_answer}
+use Rattle.demangle_command.specs.Command.{answers_by}
 use Rattle.demangle_command.proofs.CommandLemmas.{answers-are, input-ends, input-stops, names-end, names-stop, refused-ends, refused-stops, some-names}
 use Rattle.demangle_command.proofs.command.run_found.Goals as goal
 
@@ -19,8 +19,9 @@ returns-in-Ok-clause-ok g c =
     let options = c.in-Some.options in
     let demangler = c.demangler_of-demangler.result in
     let is = c.demangler_of-demangler.ensures in
-    let answers = styled_answer demangler.style demangler.languages.limit demangler.languages.detail in
-    let same = answers-are demangler.style demangler.languages.limit demangler.languages.detail options is.style is.limit is.detail in
+    let styled = demangler.styled in
+    let answers = answers_by demangler.escapes styled.style styled.languages.limit styled.languages.detail in
+    let same = answers-are demangler.escapes styled.style styled.languages.limit styled.languages.detail options is.json is.style is.limit is.detail in
     let names = c.names_of-names.result.now in
     let texts = map (λ (name : Bor (List ℕ)). name.now) names in
     let rows = rows_of (found_of c.args.matches.now) in
@@ -32,8 +33,9 @@ returns-in-Err-clause-err g c =
     let options = c.in-Some.options in
     let demangler = c.demangler_of-demangler.result in
     let is = c.demangler_of-demangler.ensures in
-    let answers = styled_answer demangler.style demangler.languages.limit demangler.languages.detail in
-    let same = answers-are demangler.style demangler.languages.limit demangler.languages.detail options is.style is.limit is.detail in
+    let styled = demangler.styled in
+    let answers = answers_by demangler.escapes styled.style styled.languages.limit styled.languages.detail in
+    let same = answers-are demangler.escapes styled.style styled.languages.limit styled.languages.detail options is.json is.style is.limit is.detail in
     let names = c.names_of-names.result.now in
     let texts = map (λ (name : Bor (List ℕ)). name.now) names in
     let rows = rows_of (found_of c.args.matches.now) in
@@ -45,8 +47,9 @@ returns-in-Ok-answer_names-clause-ok g c =
     let options = c.in-Some.options in
     let demangler = c.demangler_of-demangler.result in
     let is = c.demangler_of-demangler.ensures in
-    let answers = styled_answer demangler.style demangler.languages.limit demangler.languages.detail in
-    let same = answers-are demangler.style demangler.languages.limit demangler.languages.detail options is.style is.limit is.detail in
+    let styled = demangler.styled in
+    let answers = answers_by demangler.escapes styled.style styled.languages.limit styled.languages.detail in
+    let same = answers-are demangler.escapes styled.style styled.languages.limit styled.languages.detail options is.json is.style is.limit is.detail in
     let names = c.names_of-names.result.now in
     let texts = map (λ (name : Bor (List ℕ)). name.now) names in
     let rows = rows_of (found_of c.args.matches.now) in
@@ -58,8 +61,9 @@ returns-in-Err-answer_names-clause-err g c =
     let options = c.in-Some.options in
     let demangler = c.demangler_of-demangler.result in
     let is = c.demangler_of-demangler.ensures in
-    let answers = styled_answer demangler.style demangler.languages.limit demangler.languages.detail in
-    let same = answers-are demangler.style demangler.languages.limit demangler.languages.detail options is.style is.limit is.detail in
+    let styled = demangler.styled in
+    let answers = answers_by demangler.escapes styled.style styled.languages.limit styled.languages.detail in
+    let same = answers-are demangler.escapes styled.style styled.languages.limit styled.languages.detail options is.json is.style is.limit is.detail in
     let names = c.names_of-names.result.now in
     let texts = map (λ (name : Bor (List ℕ)). name.now) names in
     let rows = rows_of (found_of c.args.matches.now) in

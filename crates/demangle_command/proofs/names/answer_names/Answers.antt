@@ -6,7 +6,7 @@ use Rattle.demangle_command.proofs.names.answer_names.Goals as goal
 
 pub names-init : goal.names-init
 names-init g c = record {
-  so_far = SoFar-begin (g.D.Demangler.answer c.args.demangler.now) c.args.why (g.W.Sink.taken c.args.out.now) (g.E.Sink.taken c.args.err.now);
+  so_far = SoFar-begin (g.D.Demangler.answer c.args.demangler.now) c.args.options.types c.args.options.why (g.W.Sink.taken c.args.out.now) (g.E.Sink.taken c.args.err.now);
   out_fails = refl;
   err_fails = refl;
 }
@@ -21,7 +21,7 @@ names-preserved g c =
     let name = (get_or names i none).now in
     let before = c.names.invariant in
     let done = c.in-Ok.ensures in record {
-      so_far = SoFar-more answers c.args.why (map now (take i names)) (map now (take (i + 1) names)) name c.names.one_stays _ c.in-Ok.stays
+      so_far = SoFar-more answers c.args.options.types c.args.options.why (map now (take i names)) (map now (take (i + 1) names)) name c.names.one_stays _ c.in-Ok.stays
           (g.W.Sink.taken c.args.out.now) (g.W.Sink.taken c.names.out) (g.W.Sink.taken c.answer_name.new.out) (g.E.Sink.taken c.args.err.now) (g.E.Sink.taken c.names.err) (g.E.Sink.taken c.answer_name.new.err)
           before.so_far (words-more names i none c.names-test.true) done.line done.said done.stays refl;
       out_fails = done.out_failures ∙ before.out_fails;
@@ -38,6 +38,6 @@ returns-in-Err-clause-err g c =
     let name = (get_or names i none).now in
     let more = words-more names i none c.names-test.true in
     let rest = map now (drop (i + 1) names) in
-    SoFar-stopped answers c.args.why (map now (take i names)) rest (map now names) name c.names.one_stays
+    SoFar-stopped answers c.args.options.types c.args.options.why (map now (take i names)) rest (map now names) name c.names.one_stays
     (g.W.Sink.taken c.args.out.now) (g.W.Sink.taken c.names.out) (g.W.Sink.taken c.answer_name.new.out) (g.E.Sink.taken c.args.err.now) (g.E.Sink.taken c.names.err) (g.E.Sink.taken c.answer_name.new.err)
     c.names.invariant.so_far (words-split names (i + 1) ∙ ap (λ (t : List (List ℕ)). t ++ rest) more ∙ append_assoc (map now (take i names)) (name ∷ []) rest) c.in-Err.ensures.err

@@ -1,0 +1,119 @@
+// Texts within strings of JSON.
+ghost use Rattle.std.specs.Prelude.{◌≡◌, ◌++◌, ℕ, List, OnOk, OnErr};
+ghost use Rattle.demangle_command.specs.Json.{answer_by, escaped, escaped_byte};
+ghost use Rattle.demangle_command.specs.Style.{styled_answer};
+ghost use Rattle.sym_filter.specs.Languages.{AreWideCountsOf};
+
+use crate::styled::Styled;
+use std::alloc::{AllocError, Global};
+use sym_core::Refusal;
+use sym_filter::languages::Lists;
+use sym_filter::{Demangled, Demangler, Kind, Lang, Wide};
+
+/// The lists of the demangler below, and the text of one symbol.
+#[derive(Drop)]
+pub struct JsonLists {
+    lists: Lists<Wide>,
+    text: Vec<u8>,
+}
+
+/// A demangler whose texts may stand within strings of JSON.
+#[derive(Clone, Copy, Drop)]
+pub struct Json {
+    pub styled: Styled,
+    /// Whether texts are escaped.
+    pub escapes: bool,
+}
+
+impl Demangler for Json {
+    type Lists = JsonLists;
+
+    ghost answer = { λ json kind symbol. answer_by json.escapes (styled_answer json.styled.style json.styled.languages.limit json.styled.languages.detail kind symbol) };
+
+    ghost are_counts = { λ json lang symbol counts. AreWideCountsOf lang symbol counts };
+
+    fn lists(&self, alloc: Global) -> Result<JsonLists, AllocError> {
+        Ok(JsonLists {
+            lists: self.styled.lists(alloc)?,
+            text: Vec::new(alloc),
+        })
+    }
+
+    fn read_ahead(&self, lists: &mut JsonLists, lang: Lang, front: &[u8]) {
+        self.styled.read_ahead(&mut lists.lists, lang, front);
+    }
+
+    fn demangle(
+        &self,
+        lists: &mut JsonLists,
+        kind: Kind,
+        symbol: &[u8],
+        out: &mut Vec<u8>,
+    ) -> Demangled {
+        if !self.escapes {
+            return self.styled.demangle(&mut lists.lists, kind, symbol, out);
+        }
+        lists.text.clear();
+        match self
+            .styled
+            .demangle(&mut lists.lists, kind, symbol, &mut lists.text)
+        {
+            Demangled::Text(counts) => match push_escaped(&lists.text, out) {
+                Ok(()) => Demangled::Text(counts),
+                Err(_) => Demangled::Refused(Refusal::Memory),
+            },
+            Demangled::TooLong(counts) => Demangled::TooLong(counts),
+            Demangled::Refused(refusal) => Demangled::Refused(refusal),
+        }
+    }
+
+    fn append(
+        &self,
+        lists: &mut JsonLists,
+        kind: Kind,
+        symbol: &[u8],
+        out: &mut Vec<u8>,
+    ) -> Result<(), Refusal> {
+        if !self.escapes {
+            return self.styled.append(&mut lists.lists, kind, symbol, out);
+        }
+        lists.text.clear();
+        match self
+            .styled
+            .append(&mut lists.lists, kind, symbol, &mut lists.text)
+        {
+            Ok(()) => match push_escaped(&lists.text, out) {
+                Ok(()) => Ok(()),
+                Err(_) => Err(Refusal::Memory),
+            },
+            Err(refusal) => Err(refusal),
+        }
+    }
+}
+
+/// Appends a text as a string of JSON has it, or nothing: with a backslash before each quote and backslash.
+pub fn push_escaped(text: &[u8], out: &mut Vec<u8>) -> Result<(), AllocError>
+    ensures pushed { OnOk result (out.new.items ≡ out.old.items ++ escaped text.now) }
+    ensures same { OnErr result (out.new.items ≡ out.old.items) }
+{
+    let len = out.len();
+    'bytes: for byte in text {
+        if push_byte(*byte, out).is_err() {
+            out.truncate(len);
+            return Err(AllocError);
+        }
+    }
+    Ok(())
+}
+
+/// Appends a byte as a string of JSON has it, or a front of that.
+fn push_byte(byte: u8, out: &mut Vec<u8>) -> Result<(), AllocError>
+    ensures pushed { OnOk result (out.new.items ≡ out.old.items ++ escaped_byte byte) }
+    ensures front { OnErr result ((front : List ℕ) × (out.new.items ≡ out.old.items ++ front)) }
+{
+    if byte == b'"' || byte == b'\\' {
+        out.push(b'\\')?;
+    }
+    out.push(byte)?;
+    Ok(())
+}
