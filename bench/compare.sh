@@ -1,31 +1,34 @@
 #!/bin/bash
 # Runs symfilt beside the other filters that are installed, and prints a table with ratios to symfilt's figures.
 #
-#   bench/compare.sh [-n TIMES] [-c CORE] SYMFILT FILE..     processor time (user and system), the least of several runs in turn
-#   bench/compare.sh -i [-s LINES] SYMFILT FILE..            instructions a line, counted by valgrind
+#   bench/compare.sh [-w] [-n TIMES] [-c CORE] SYMFILT FILE..   processor time (user and system), the least of several runs in turn
+#   bench/compare.sh -i [-w] [-s LINES] SYMFILT FILE..          instructions a line, counted by valgrind
 #
 # SYMFILT is the built program, each FILE a text with symbols. bench/inputs.sh makes such files from installed libraries:
 #
 #   bench/inputs.sh inputs && bench/compare.sh -i crates/symfilt/out/symfilt inputs/*.txt
 #
+# With -w the ways of showing symbols are run too: the wide grammar, without parameters and in brief, and of the others -p.
 # Instructions don't depend on what else the machine does. They are those of LINES lines (5,000), taken evenly from the file, without
 # those of a run over no input. Debian's binutils has c++filt, llvm has llvm-cxxfilt, and rustfilt and valgrind are packages too.
 set -euo pipefail
 
 usage() {
-    echo "usage: $0 [-n TIMES] [-c CORE] SYMFILT FILE.. | $0 -i [-s LINES] SYMFILT FILE.." >&2
+    echo "usage: $0 [-w] [-n TIMES] [-c CORE] SYMFILT FILE.. | $0 -i [-w] [-s LINES] SYMFILT FILE.." >&2
     exit 2
 }
 times=5
 core=0
 counts=no
+ways=no
 sample=5000
-while getopts n:c:is: option; do
+while getopts n:c:is:w option; do
     case $option in
         n) times=$OPTARG ;;
         c) core=$OPTARG ;;
         i) counts=yes ;;
         s) sample=$OPTARG ;;
+        w) ways=yes ;;
         *) usage ;;
     esac
 done
@@ -35,27 +38,40 @@ symfilt=$1
 shift
 echo 'at _Z1fv' | "$symfilt" | grep -qx 'at f()' || { echo "$0: $symfilt is no filter of symbols" >&2; exit 1; }
 
-filters=("$symfilt")
+# what stands in the table: a program, and the options that it is run with
+filters=(symfilt)
+[ $ways = no ] || filters+=('symfilt --wide' 'symfilt --no-params' 'symfilt --brief')
 for name in c++filt llvm-cxxfilt rustfilt; do
-    if command -v "$name" >/dev/null; then filters+=("$name"); fi
+    command -v "$name" >/dev/null || continue
+    filters+=("$name")
+    if [ $ways = yes ] && [ "$name" != rustfilt ] && "$name" -p </dev/null >/dev/null 2>&1; then filters+=("$name -p"); fi
 done
+
+# words_of FILTER: puts the words that run it into `words`
+words_of() {
+    read -ra words <<<"$1"
+    [ "${words[0]}" != symfilt ] || words[0]=$symfilt
+}
 work=$(mktemp -d)
 trap 'rm -rf "$work"' EXIT
 
 # run_once FILTER FILE: seconds of the processor, and what the filter needed of memory
 run_once() {
-    local TIMEFORMAT='%3U %3S'
-    { time /usr/bin/time -f %M -o "$work/memory" taskset -c "$core" "$1" <"$2" >/dev/null 2>&1; } 2>"$work/time"
+    local TIMEFORMAT='%3U %3S' words
+    words_of "$1"
+    { time /usr/bin/time -f %M -o "$work/memory" taskset -c "$core" "${words[@]}" <"$2" >/dev/null 2>&1; } 2>"$work/time"
     awk -v memory="$(cat "$work/memory")" '{ print $1 + $2, memory }' "$work/time"
 }
 
 # instructions_of FILTER FILE
 instructions_of() {
-    valgrind --tool=callgrind --callgrind-out-file=/dev/null "$1" <"$2" 2>&1 >/dev/null | sed -n 's/^==[0-9]*== Collected : //p'
+    local words
+    words_of "$1"
+    valgrind --tool=callgrind --callgrind-out-file=/dev/null "${words[@]}" <"$2" 2>&1 >/dev/null | sed -n 's/^==[0-9]*== Collected : //p'
 }
 
 table() { # table FILTER OWN VALUE FORMAT MORE: a line, with the ratio to symfilt's value
-    awk -v name="$(basename "$1")" -v own="$2" -v value="$3" -v form="$4" -v more="$5" 'BEGIN {
+    awk -v name="$1" -v own="$2" -v value="$3" -v form="$4" -v more="$5" 'BEGIN {
         printf "  %-26s " form " %8s%s\n", name, value, (own > 0 ? sprintf("%.2f", value / own) : "-"), (more ? "  " more : "")
     }'
 }
@@ -91,7 +107,7 @@ for file in "$@"; do
         done
     done
     for filter in "${filters[@]}"; do
-        table "$filter" "${best[$symfilt]}" "${best[$filter]}" '%10.3f' \
+        table "$filter" "${best[symfilt]}" "${best[$filter]}" '%10.3f' \
             "$(awk -v s="${best[$filter]}" -v b="$bytes" 'BEGIN { if (s > 0) printf "%.1f MB/s, ", b / s / 1e6 }')${memory[$filter]} KB resident"
     done
 done
