@@ -2,13 +2,14 @@
 ghost use Rattle.std.specs.Prelude.{◌≡◌, ◌++◌, ℕ, List, OnOk, OnErr};
 ghost use Rattle.demangle_command.specs.Json.{answer_by, escaped, escaped_byte};
 ghost use Rattle.demangle_command.specs.Style.{styled_answer};
-ghost use Rattle.sym_filter.specs.Languages.{AreWideCountsOf};
+ghost use Rattle.sym_languages.specs.Languages.{AreWideCountsOf};
 
 use crate::styled::Styled;
 use std::alloc::{AllocError, Global};
 use sym_core::Refusal;
-use sym_filter::languages::Lists;
-use sym_filter::{Demangled, Demangler, Kind, Lang, Wide};
+use sym_filter::{Demangled, Demangler, Kind, Lang};
+use sym_languages::Wide;
+use sym_languages::languages::Lists;
 
 /// The lists of the demangler below, and the text of one symbol.
 #[derive(Drop)]
