@@ -502,6 +502,8 @@ pub fn library_filters(
     let flags = match letters {
         Letters::Any => shown,
         Letters::Ascii => shown | ASCII_WORDS,
+        // the library has no flag for them
+        Letters::Within => return Ok(false),
     };
     call_says(alloc, Asked::new(Call::Filter, text, limit, flags), wanted)
 }
