@@ -13,6 +13,7 @@ SUBTREES = (OWN, OUTSIDE, INSIDE, SIGNATURE, TREE, PIECE)
 APART = (OWN, OUTSIDE, SIGNATURE)
 SCOPED = (TREE, PIECE)
 
+def snake(name): return "".join(("_" if c.isupper() and i else "") + c.lower() for i, c in enumerate(name))
 def pattern(tree): return f"({' '.join([tree[0], *[name for name, sort in tree[1:]]])})" if tree[1:] else tree[0]
 def numbered(tree, letter): return f"({' '.join([tree[0], *[f'{letter}{i}' for i in range(len(tree) - 1)]])})" if tree[1:] else tree[0]
 def arguments(tree, *sorts): return [(name, sort) for name, sort in tree[1:] if sort in sorts]
@@ -534,6 +535,36 @@ def quiet(function, before, after):
             first.append(f"{function} Production.{p} {applied('', [*before, '(v ∷ vs)', *after]).strip()} = absurd (not_first vs less)")
     return never + first + [f"{function} _ {applied('', [*before, 'vs', *after]).strip()} = refl"]
 
+# ## Common productions
+
+def is_rare():
+    return [f"is_rare Production.{p} other = absurd (other.not_{snake(p)} refl)" for p in words.COMMON] + ["is_rare _ other = tt"]
+
+def rare_answers(function, goal, before, production, after):
+    """the answer that a production is rare, behind the arms of all that are common"""
+    return "\n".join([f"-- {WRITTEN}", "use Rattle.cpp_link.proofs.Making.{is_rare}", f"use Rattle.cpp_link.proofs.linked.Linked.{function}.Goals as goal", "",
+        f"pub {goal} : goal.{goal}", f"{goal} c = {before}is_rare {production} (record {{", *[f"  not_{snake(p)} = c.in_default.not-{p};" for p in words.COMMON], "})" + after]) + "\n"
+
+def arms(function, productions):
+    """the arms of a match that hand these productions to a function, as rt fmt lays them out"""
+    for p in productions:
+        line = f"            Production::{p} => self.{function}(symbol, Production::{p}, frame, parts),"
+        if len(line) <= 100: yield line
+        else: yield from [f"            Production::{p} => self.{function}(", "                symbol,", f"                Production::{p},", "                frame,", "                parts,", "            ),"]
+
+def common_arms():
+    """path, function, and the arms of its match that are written"""
+    yield "cpp_link/src/finish.rt", "finish_rule", list(arms("finish_as", words.COMMON))
+    yield "cpp_link/src/between.rt", "go_by_step", list(arms("go_as", words.COMMON_BEFORE))
+    yield "cpp_link/src/meaning.rt", "meant_rare", [f"            Production::{p} => unreachable!()," for p in words.COMMON]
+
+def with_arms(text, function, lines):
+    """the text, with these lines as the arms behind the line that says so, up to the other ones or the end of the match"""
+    start = text.index(f"// {WRITTEN}", re.search(rf"\bfn {function}\(", text).end())
+    start = text.index("\n", start) + 1
+    end = re.compile(r"^(?:            _ =>|        \})", re.M).search(text, start).start()
+    return text[:start] + "\n".join(lines) + "\n" + text[end:]
+
 # ## Declarations
 
 def first(lines):
@@ -567,6 +598,9 @@ def declarations():
     yield "cpp_grammar/specs/Closed.antt", "ScopesAreClosed", first(fold("ScopesAreClosed", [], " × ".join, "Unit {0}", {"function": CLOSED_FUNCTION}))
     yield "cpp_link/specs/Owed.antt", "made_before", by_production("made_before", {p: numbers(ns) for p, ns in words.MADE_BEFORE.items()}, "[]")
     yield "cpp_link/specs/Owed.antt", "made_at_end", by_production("made_at_end", words.MADE_AT_END, 0)
+    yield "cpp_link/specs/Making.antt", "IsRare", by_production("IsRare", {p: "⊥" for p in words.COMMON}, "Unit {0}")
+    yield "cpp_link/proofs/Making.antt", "IsNoneOfThem", [f"  pub not_{snake(p)} : p ≡ Production.{p} → ⊥" for p in words.COMMON]
+    yield "cpp_link/proofs/Making.antt", "is_rare", is_rare()
     yield "cpp_link/proofs/CandidatesFew.antt", "may_leave", by_production("may_leave", {p: "true" for p in words.LEAVES}, "false")
     yield "cpp_link/proofs/GoingOn.antt", "quiet_between", quiet("quiet_between", ["around", "place"], ["state", "less"])
     yield "cpp_tree/specs/Nodes.antt", "tree_of", tree_of()
@@ -637,7 +671,9 @@ def rewritten(text, name, lines):
 
 def files(crates):
     """the files that have declarations which are written, by their paths in the folder of the crates, and their texts"""
-    texts = {"cpp_tree/proofs/nodes/Nodes/noted/Answers.antt": noted_answers()}
+    texts = {"cpp_tree/proofs/nodes/Nodes/noted/Answers.antt": noted_answers(),
+             "cpp_link/proofs/linked/Linked/finish_rule/Answers.antt": rare_answers("finish_rule", "finish_rare-requires-clause-rare", "", "c.production_of-production.result", ""),
+             "cpp_link/proofs/linked/Linked/meant/Answers.antt": rare_answers("meant", "unreachable-requires", "c.requires.common (", "c.args.production", ")")}
     for path, name, lines in declarations():
         if path not in texts:
             with open(f"{crates}/{path}", encoding="utf-8") as f: texts[path] = f.read()
@@ -646,6 +682,10 @@ def files(crates):
         if path not in texts:
             with open(f"{crates}/{path}", encoding="utf-8") as f: texts[path] = f.read()
         texts[path] = with_wrappers(texts[path], template)
+    for path, function, lines in common_arms():
+        if path not in texts:
+            with open(f"{crates}/{path}", encoding="utf-8") as f: texts[path] = f.read()
+        texts[path] = with_arms(texts[path], function, lines)
     return texts
 
 def main():

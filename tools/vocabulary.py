@@ -248,6 +248,13 @@ LEAVES = """NestWithS NestParameter NestInternal NestLocalType NestSource NestSt
     TaggedStdType TypeInStd ArrayType AnyArray LengthArray BoundedArray
     ParameterArgument DeclaredArgument ConstrainedAuto""".split()
 
+# The productions that are common in real symbols: where they close, and before the parts of some, they have code of their own, in which
+# what is done for a production is a constant. All others share theirs.
+COMMON = """NestNext SourceName PlainType NestEnd Items Builtin AnyArgument NestSource Substitution Symbol NestedType Encoding NestedName NestWithS
+    Arguments NestTemplate TypeWithS AbbreviatedType ReferenceType Pointer ConstType QualifiedPlain Mark SourcePiece PlainArgument TypeInStd
+    TaggedStdType Special""".split()
+COMMON_BEFORE = "NestNext SourceName NestSource Encoding Arguments NestTemplate TypeWithS TaggedStdType".split()
+
 # ## The trees
 
 # The trees: each constructor with its arguments, a name and what it is. OWN is a tree under a scope of its own, of an encoding or its name;
