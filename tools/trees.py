@@ -544,7 +544,7 @@ def is_rare():
     return [f"is_rare Production.{p} other = absurd (other.not_{snake(p)} refl)" for p in words.COMMON] + ["is_rare _ other = tt"]
 
 def rare_answers(function, goal, before, production, after):
-    """the answer that a production is rare, behind the arms of all that are common"""
+    """the answer that a production is rare, after the arms of all that are common"""
     return "\n".join([f"-- {WRITTEN}", "use Rattle.cpp_link.proofs.Making.{is_rare}", f"use Rattle.cpp_link.proofs.linked.Linked.{function}.Goals as goal", "",
         f"pub {goal} : goal.{goal}", f"{goal} c = {before}is_rare {production} (record {{", *[f"  not_{snake(p)} = c.in_default.not-{p};" for p in words.COMMON], "})" + after]) + "\n"
 
@@ -562,7 +562,7 @@ def common_arms():
     yield "cpp_link/src/meaning.rt", "meant_rare", [f"            Production::{p} => unreachable!()," for p in words.COMMON]
 
 def with_arms(text, function, lines):
-    """the text, with these lines as the arms behind the line that says so, up to the other ones or the end of the match"""
+    """the text, with these lines as the arms after the line that says so, up to the other ones or the end of the match"""
     start = text.index(f"// {WRITTEN}", re.search(rf"\bfn {function}\(", text).end())
     start = text.index("\n", start) + 1
     end = re.compile(r"^(?:            _ =>|        \})", re.M).search(text, start).start()
