@@ -99,7 +99,7 @@ opening_bad Production.Unnamed parts place state = number_bad (place - 1) (last_
 opening_bad _ parts place state = tt
 
 between_bad : (p : Production) (around : Around) (place : ℕ) (vs : List Value) (state : State) → IsBad (between p around place vs state)
-unfolding between named_so_far listed_so_far piece_so_far tag_so_far
+unfolding between named_so_far listed_so_far piece_so_far tag_so_far parameter_named parameter_so_far argument_so_far
 between_bad Production.NestParameter around place (v ∷ []) state = parameter_bad around place (index_of v) [] state
 between_bad Production.Parameter around place (v ∷ []) state = parameter_bad around place (index_of v) [] state
 between_bad Production.ParameterArgument around place (v ∷ []) state = parameter_bad around (place - 1) (index_of v) [] state

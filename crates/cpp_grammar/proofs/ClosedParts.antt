@@ -116,7 +116,7 @@ good_leaf s internal bytes = record { closed = λ h. refl; scopes = tt }
 
 between_goes : (own : Bool) (production : Production) (around : Around) (place : ℕ) (vs : List Value) (state : State) (n : Next Value State Around) (at : ℕ) → StaysInside production → has_signature production ≡ false →
     GoodPrefix (Bare own around) around.prefix → AllGood (Bare own around) vs → between production around place vs state ≡ Ok n → GoesOn own around at state n
-unfolding has_signature between held is_open named_so_far listed_so_far
+unfolding has_signature between held is_open named_so_far listed_so_far piece_so_far parameter_so_far parameter_named tag_so_far argument_so_far
 between_goes own Production.LocalName around place [] state n at stays apart pre all e = same_goes own around at state [] n pre all e
 between_goes own Production.LocalName around place (v ∷ vs) state n at stays apart pre all e =
     goes own around at state (v ∷ vs) (after (tree_of v) true around) state n all (grows_same own around at state state refl) (fits_after own around (tree_of v) true (good_tree _ v all.0)) e

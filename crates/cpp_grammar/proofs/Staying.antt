@@ -233,7 +233,7 @@ argument_none around place k state settled cs = go around.scope refl
     ])
 
 between_none : (p : Production) (around : Around) (place : ℕ) (vs : List Value) (state : State) → Settled around → (are_closed p around ≡ true → AllNone vs) → AllHaveNone state.candidates → IfOk (between p around place vs state) (NextHasNone (are_closed p around) (has_specials p))
-unfolding are_closed is_shut has_specials opens after inside under_expansion in_signature between held is_open named_so_far listed_so_far piece_so_far
+unfolding are_closed is_shut has_specials opens after inside under_expansion in_signature between held is_open named_so_far listed_so_far piece_so_far parameter_named parameter_so_far tag_so_far argument_so_far
 between_none Production.Encoding around place [] state settled all cs = record { values = λ l. absurd (false≢true l); inside = λ l. absurd (false≢true l); context = name_none place; candidates = cs }
 between_none Production.Encoding around place (v ∷ vs) state settled all cs = record { values = λ l. absurd (false≢true l); inside = λ l. absurd (false≢true l); context = types_none place (tree_of v); candidates = cs }
 between_none Production.Special around place vs state settled all cs = record { values = all; inside = λ l. refl; context = name_none place; candidates = cs }
@@ -367,7 +367,7 @@ argument_stays around place k state n settled e = go around.in_lambda refl
     go false is = e
 
 between_stays : (p : Production) (around : Around) (place : ℕ) (vs : List Value) (state : State) (n : Next Value State Around) → Settled around → between p around place vs state ≡ Ok n → between_wide p around place vs state ≡ Ok n
-unfolding between between_wide
+unfolding between between_wide parameter_so_far parameter_named listed_so_far argument_so_far
 between_stays Production.Parameter around place (v ∷ []) state n settled e = here_stays around place (index_of v) state n settled e
 between_stays Production.NestParameter around place (v ∷ []) state n settled e = here_stays around place (index_of v) state n settled e
 between_stays Production.ParameterArgument around place (v ∷ []) state n settled e = here_stays around (place - 1) (index_of v) state n settled e

@@ -119,6 +119,5 @@ done holds around place vs state = Err (BadReference place)
 
 -- ## Once its parts are read
 
-unfoldable pub state_after : Row → (byte : ℕ) → Around → (began : State) → List Value → State → State
-state_after row byte around began vs state =
-    let s = gained row.gain around vs (meant row.form byte around vs) state in cond row.restores_packs (record s { packs = began.packs }) s
+unfoldable pub state_after : Row → Around → (began : State) → Value → List Value → State → State
+state_after row around began v vs state = let s = gained row.gain around vs v state in cond row.restores_packs (record s { packs = began.packs }) s

@@ -3,7 +3,7 @@
 -- candidate, unless it is one already or never is one.
 use Rattle.std.specs.Prelude.{ℕ, List, length}
 use Rattle.cpp_grammar.specs.declared.production.Production.{Production}
-use Rattle.cpp_term.specs.Values.{State, Around, Value}
+use Rattle.cpp_term.specs.Values.{State, Around, Value, part}
 use Rattle.cpp_term.specs.Surrounding.{Going}
 use Rattle.cpp_term.specs.Builders.{argument, built, bytes_in, number_in, tree_in, truth_in}
 use Rattle.cpp_grammar.specs.Row.{before_part}
@@ -14,5 +14,5 @@ unfoldable pub use Rattle.cpp_term.specs.Surrounding.{in_name, closed_arguments,
 -- What is done before the next part of a production that begins at a place, behind parts with these values: some of the
 -- values are made into trees, and candidates are appended.
 unfoldable pub between : Production → Around → (place : ℕ) → List Value → State → Going
-unfolding row_of before_part done around_part packs_within gained replaced tested made is_listing given all_given built argument tree_in bytes_in number_in truth_in
+unfolding row_of before_part done around_part packs_within gained replaced tested made is_listing given all_given built argument tree_in bytes_in number_in truth_in part
 between p around place vs state = done (before_part (row_of p) (length vs)) around place vs state

@@ -14,9 +14,7 @@ use Rattle.cpp_term.specs.Values.{State, outermost, Around, Value, nothing_there
 use Rattle.cpp_grammar.specs.Values.{local_number}
 use Rattle.cpp_term.specs.References.{substituted}
 use Rattle.cpp_term.specs.Between.{between}
-use Rattle.cpp_term.specs.Builders.{argument, built, qualifiers_in, tree_in, truth_in}
-use Rattle.cpp_term.specs.Own.{own_meaning}
-use Rattle.cpp_term.specs.Meant.{all_given, gained, given, is_listing, made, meant, state_after}
+use Rattle.cpp_term.specs.Meant.{gained, state_after}
 use Rattle.cpp_grammar.specs.Rows.{row_of}
 use Rattle.cpp_term.specs.Meaning.{meaning}
 use Rattle.cpp_grammar.specs.Unfolding.{last_token, production_at, byte_of}
@@ -37,8 +35,8 @@ opening _ parts place state = Ok state
 -- The state behind a production that began in another: types become candidates here, and behind an expansion the length of the
 -- packs around it holds again.
 unfoldable pub behind : Production → (byte : ℕ) → Around → (began : State) → List Value → State → State
-unfolding row_of state_after gained meant own_meaning made is_listing given all_given built argument tree_in truth_in qualifiers_in
-behind p byte around began vs state = state_after (row_of p) byte around began vs state
+unfolding row_of state_after gained
+behind p byte around began vs state = state_after (row_of p) around began (meaning p byte around vs) vs state
 
 -- What a production stands for, that begins at a place, once its parts are read; a substitution may be refused at its S, one
 -- byte before.
