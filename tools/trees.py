@@ -547,6 +547,16 @@ def built_none():
         lines.append(f"built_none new_{tree[0]} xs all = " + (facts[0][1:-1] if len(facts) == 1 else applied("or_no _ _", facts) if facts else "refl"))
     return lines
 
+def built_good():
+    lines = []
+    for tree in makers(grammar.rows()):
+        scoped = [f"(all {i}).closed" for i, (name, sort) in enumerate(tree[1:]) if sort in SCOPED]
+        scopes = [f"(all {i}).scopes" for i, (name, sort) in enumerate(tree[1:]) if sort in SUBTREES]
+        closed = "λ h. refl" if not scoped else scoped[0] if len(scoped) == 1 else f"λ h. {applied('or_no _ _', [f'({fact} h)' for fact in scoped])}"
+        joined = "tt" if not scopes else scopes[0] if len(scopes) == 1 else f"({', '.join(scopes)})"
+        lines.append(f"built_good s new_{tree[0]} xs all = record {{ closed = {closed}; scopes = {joined} }}")
+    return lines
+
 # ## Common productions
 
 def is_rare():
@@ -605,6 +615,7 @@ def declarations():
         "generic_lambda": "term_.generic_lambda (annotate in_own parameters) number"})
     yield "cpp_term/proofs/Erasing.antt", "erased", erased()
     yield "cpp_grammar/proofs/NoneFree.antt", "built_none", built_none()
+    yield "cpp_grammar/proofs/ClosedValues.antt", "built_good", built_good()
     yield "cpp_grammar/specs/Ranks.antt", "weight", weight_of_scopes()
     yield "cpp_grammar/proofs/RanksFall.antt", "weight_grows", weight_grows()
     yield "cpp_term/specs/Ranks.antt", "weight", weight_of_terms()
