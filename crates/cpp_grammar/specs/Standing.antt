@@ -1,10 +1,8 @@
 -- Of what productions stand for: parameters, encodings, references, signatures.
-use Rattle.std.specs.Prelude.{ℕ, List, [], ◌∷◌, Bool, true, false, cond, not, ◌&&◌, nat_eq, Option, Some, None}
-use Rattle.cpp_grammar.specs.declared.production.Production.{Production}
-use Rattle.cpp_grammar.specs.Term.{RefQualifier, any_value, lvalue_only, rvalue_only, non_virtual, by_table, adjusting, covariant, Term, symbol, function, object, special, thunk, of_name, construction, clone, local, of_default, abbreviation, source, operator, literal_operator, lambda, unnamed, string_literal, conversion, builtin, sized_float, constrained, vendor, pointer, lvalue, rvalue, array, bounded, member_pointer, function_type, qualified, vector, complex, expansion, integer, boolean, null_pointer, encoding_literal, address_of, pack, nil, list, absent}
+use Rattle.std.specs.Prelude.{ℕ, List, [], ◌∷◌, Bool, true, false, cond, ◌&&◌, nat_eq, Option, Some, None}
+use Rattle.cpp_grammar.specs.Term.{RefQualifier, Term, function, object, of_default, operator, builtin, lvalue, rvalue, function_type, qualified, nil, list, absent}
 use Rattle.cpp_grammar.specs.Scope.{has_return_type}
-use Rattle.cpp_grammar.specs.Values.{Around, prefix_tree, prefix_listed, Value, nothing_there, letter, text, signed, adjusted, tree, piece, named, signature, unqualified, tree_of, is_listed, qualifiers_of, ref_of, letter_of, is_there, mark_of, text_of, signed_of, adjustment_of, normal, signed_digits, local_number, part}
-use Rattle.cpp_grammar.specs.Surrounding.{extended, applied, no_items}
+use Rattle.cpp_grammar.specs.Values.{Value, nothing_there, letter, text, tree, piece, named, signature, tree_of, qualifiers_of, ref_of, is_there, normal}
 
 -- a lone void is no parameters
 unfoldable pub is_void : Term → Bool

@@ -1,15 +1,13 @@
 -- What surrounds the parts of a production, and the name that grows from part to part: each piece is added to the name so far.
-use Rattle.std.specs.Prelude.{ℕ, ◌-◌, List, [], ◌∷◌, Bool, true, false, None, Result, Ok, Err}
+use Rattle.std.specs.Prelude.{ℕ, List, [], ◌∷◌, Bool, true, false, None, Result, Ok}
 use Rattle.sym_core.specs.declared.refusal.Refusal.{Refusal}
-use Rattle.sym_core.specs.declared.refusal.Refusal.TheVariants.{BadReference}
 use Rattle.sym_core.specs.declared.NumberKind.TheVariants.{Decimal}
 use Rattle.sym_core.specs.Value.{counted_value}
 use Rattle.sym_link.specs.Reading.{Next, ◌>>=◌}
-use Rattle.cpp_grammar.specs.declared.production.Production.{Production}
-use Rattle.cpp_grammar.specs.Term.{Term, alone, within, in_std, instance, tagged, parameter, lvalue, rvalue, pack, source, operator, constructor, destructor, nil}
+use Rattle.cpp_grammar.specs.Term.{Term, alone, within, instance, tagged, parameter, nil}
 use Rattle.cpp_grammar.specs.Scope.{arguments_of, is_structor}
-use Rattle.cpp_grammar.specs.Values.{State, Prefix, outermost, behind, Around, prefix_tree, Value, nothing_there, tree, named, tree_of, piece_of, is_listed, is_there, letter_of, text_of}
-use Rattle.cpp_grammar.specs.References.{appended, with_type, with_prefix, parameter_named}
+use Rattle.cpp_grammar.specs.Values.{State, Prefix, outermost, behind, Around, prefix_tree, Value, nothing_there, tree, named, tree_of, is_there, text_of}
+use Rattle.cpp_grammar.specs.References.{parameter_named}
 
 -- ## What surrounds a part
 
