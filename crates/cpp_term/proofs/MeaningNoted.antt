@@ -178,15 +178,8 @@ parameters_noted s (list e rest) = go (meaning_.is_void e && meaning_.is_nil res
     go false true e = absurd cc
 parameters_noted s _ = refl
 
-function_of_noted : (s : Place) (noexcept : Bool) (u v w : Value) → noted_.function_of noexcept (noted_value s u) (noted_value s v) (noted_value s w) ≡ noted_value s (meaning_.function_of noexcept u v w)
-unfolding noted_.function_of meaning_.function_of noted_value annotate
-function_of_noted s noexcept u v w =
-    four (λ a b c d. value_.tree (term_.function_type a noexcept b c d) false) (there_noted s u) (ref_noted s w) (tree_noted s v) (ap noted_.parameters (tree_noted s w) ∙ parameters_noted s (tree_of w))
-
-qualified_by_noted : (s : Place) (restrict : Bool) (u v w : Value) → noted_.qualified_by restrict (noted_value s u) (noted_value s v) (noted_value s w) ≡ noted_value s (meaning_.qualified_by restrict u v w)
-unfolding noted_.qualified_by meaning_.qualified_by noted_value annotate
-qualified_by_noted s restrict u v w =
-    three (λ a b c. value_.tree (term_.qualified (record { restrict = restrict; volatile = a; const = b }) c) false) (there_noted s u) (there_noted s v) (tree_noted s w)
+parameters_part : (s : Place) (vs : List Value) (k : ℕ) → noted_.parameters (value_.tree_of (value_.part (noted_values s vs) k)) ≡ annotate s (meaning_.parameters (tree_of (part vs k)))
+parameters_part s vs k = ap noted_.parameters (tree_part s vs k) ∙ parameters_noted s (tree_of (part vs k))
 
 listed_value_noted : (s : Place) (v : Value) → noted_.listed_value (noted_value s v) ≡ noted_value s (meaning_.listed_value v)
 unfolding noted_.listed_value meaning_.listed_value noted_value
@@ -330,12 +323,12 @@ meaning_noted own Production.Lambda byte around vs h = lambda_noted (around_plac
 meaning_noted own Production.NestEnd byte around vs h = both value_.tree (prefix_tree_noted (around_place own around) around.prefix) (prefix_listed_noted (around_place own around) around.prefix)
 meaning_noted own Production.StringLiteral byte around vs h = ap (λ x. value_.tree x true) (extended_noted (around_place own around) around.prefix string_literal)
 meaning_noted own Production.Substitution byte around vs h = refl
-meaning_noted own Production.RestrictType byte around vs h = ap noted_.listed_value (three (noted_.qualified_by true) (part_noted (around_place own around) vs 0) (part_noted (around_place own around) vs 1) (part_noted (around_place own around) vs 2) ∙ qualified_by_noted (around_place own around) true (part vs 0) (part vs 1) (part vs 2)) ∙ listed_value_noted (around_place own around) (meaning_.qualified_by true (part vs 0) (part vs 1) (part vs 2))
-meaning_noted own Production.VolatileType byte around vs h = ap noted_.listed_value (both (noted_.qualified_by false (value_.letter 86)) (part_noted (around_place own around) vs 0) (part_noted (around_place own around) vs 1) ∙ qualified_by_noted (around_place own around) false (leaf_.letter 86) (part vs 0) (part vs 1)) ∙ listed_value_noted (around_place own around) (meaning_.qualified_by false (leaf_.letter 86) (part vs 0) (part vs 1))
-meaning_noted own Production.ConstType byte around vs h = ap noted_.listed_value (ap (noted_.qualified_by false value_.nothing_there (value_.letter 75)) (part_noted (around_place own around) vs 0) ∙ qualified_by_noted (around_place own around) false leaf_.nothing_there (leaf_.letter 75) (part vs 0)) ∙ listed_value_noted (around_place own around) (meaning_.qualified_by false leaf_.nothing_there (leaf_.letter 75) (part vs 0))
+meaning_noted own Production.RestrictType byte around vs h = three (λ a b x. value_.tree (term_.qualified (record { restrict = true; volatile = a; const = b }) x) true) (there_part (around_place own around) vs 0) (there_part (around_place own around) vs 1) (tree_part (around_place own around) vs 2)
+meaning_noted own Production.VolatileType byte around vs h = both (λ b x. value_.tree (term_.qualified (record { restrict = false; volatile = true; const = b }) x) true) (there_part (around_place own around) vs 0) (tree_part (around_place own around) vs 1)
+meaning_noted own Production.ConstType byte around vs h = ap (λ x. value_.tree (term_.qualified (record { restrict = false; volatile = false; const = true }) x) true) (tree_part (around_place own around) vs 0)
 meaning_noted own Production.ReferenceType byte around vs h = ap noted_.listed_value (ap (noted_.reference_to byte) (part_noted (around_place own around) vs 0) ∙ reference_to_noted (around_place own around) byte (part vs 0)) ∙ listed_value_noted (around_place own around) (meaning_.reference_to byte (part vs 0))
-meaning_noted own Production.NoexceptFunction byte around vs h = three (noted_.function_of true) (part_noted (around_place own around) vs 1) (part_noted (around_place own around) vs 2) (part_noted (around_place own around) vs 3) ∙ function_of_noted (around_place own around) true (part vs 1) (part vs 2) (part vs 3)
-meaning_noted own Production.Function byte around vs h = three (noted_.function_of false) (part_noted (around_place own around) vs 0) (part_noted (around_place own around) vs 1) (part_noted (around_place own around) vs 2) ∙ function_of_noted (around_place own around) false (part vs 0) (part vs 1) (part vs 2)
+meaning_noted own Production.NoexceptFunction byte around vs h = four (λ a m x y. value_.tree (term_.function_type a true m x y) false) (there_part (around_place own around) vs 1) (ref_part (around_place own around) vs 3) (tree_part (around_place own around) vs 2) (parameters_part (around_place own around) vs 3)
+meaning_noted own Production.Function byte around vs h = four (λ a m x y. value_.tree (term_.function_type a false m x y) false) (there_part (around_place own around) vs 0) (ref_part (around_place own around) vs 2) (tree_part (around_place own around) vs 1) (parameters_part (around_place own around) vs 2)
 meaning_noted own Production.RestLvalue byte around vs h = ap (noted_.signature_or lvalue_only) (part_noted (around_place own around) vs 0) ∙ signature_or_noted (around_place own around) lvalue_only (part vs 0)
 meaning_noted own Production.RestRvalue byte around vs h = ap (noted_.signature_or rvalue_only) (part_noted (around_place own around) vs 0) ∙ signature_or_noted (around_place own around) rvalue_only (part vs 0)
 meaning_noted own Production.OperatorL byte around vs h = ap (noted_.operator_or_literal byte) (part_noted (around_place own around) vs 0) ∙ operator_noted (around_place own around) byte (part vs 0)
