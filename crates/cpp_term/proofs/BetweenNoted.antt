@@ -186,7 +186,7 @@ tag_goes own around x y v packs =
 
 pub between_noted : (own : Bool) (production : Production) (around : Around) (place : ℕ) (vs : List Value) (x : State) (y : value_.State) → StaysInside production → y.packs ≡ x.packs →
     Alike (Goes own (parts_place own production around) around x y) (between production around place vs x) (between_.between production (noted_around own around) place (noted_values (parts_place own production around) vs) y)
-unfolding parts_place has_signature after inside under_expansion between between_.between noted_values noted_value named_so_far between_.named_so_far listed_so_far between_.listed_so_far annotate noted_around noted_prefix
+unfolding parts_place has_signature after inside under_expansion between between_.between noted_values noted_value named_so_far between_.named_so_far listed_so_far between_.listed_so_far annotate noted_around noted_prefix piece_so_far between_.piece_so_far parameter_named parameter_so_far reference_.parameter_named between_.parameter_so_far tag_so_far between_.tag_so_far argument_so_far noted_scope between_.argument_so_far
 between_noted own Production.LocalName around place [] x y stays packs = same_goes own around x y [] packs
 between_noted own Production.LocalName around place (v ∷ vs) x y stays packs = after_goes own around x x y y v (tree_of v) _ true (v ∷ vs) (tree_noted (around_place own around) v) (moves_none own around x x y y refl refl packs)
 between_noted own Production.LocalType around place [] x y stays packs = same_goes own around x y [] packs
