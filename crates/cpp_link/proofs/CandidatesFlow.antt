@@ -13,8 +13,8 @@ use Rattle.cpp_grammar.specs.Grammar.{parts_of, number_of_kind}
 use Rattle.cpp_grammar.proofs.ClosedStates.{ok_same}
 use Rattle.cpp_term.specs.Term.{Term, source, operator, constructor, destructor, in_std, instance, pack, lvalue, rvalue}
 use Rattle.cpp_term.specs.Values.{State, Around, prefix_tree, prefix_listed, Value, nothing_there, tree, named, tree_of, piece_of, letter_of, text_of, is_listed, is_there, part}
-use Rattle.cpp_term.specs.References.{appended, with_type, with_unqualified, with_prefix}
-use Rattle.cpp_term.specs.Between.{Going, in_name, in_types, in_signature, under_expansion, after, inside, extended, applied, no_items, named_so_far, listed_so_far, piece_so_far, with_tag, tag_so_far, index_of, between}
+use Rattle.cpp_term.specs.References.{appended, with_type, with_unqualified, with_prefix, parameter_named}
+use Rattle.cpp_term.specs.Between.{Going, in_name, in_types, in_signature, under_expansion, after, inside, extended, applied, no_items, named_so_far, listed_so_far, piece_so_far, with_tag, tag_so_far, index_of, between, parameter_so_far, argument_so_far}
 use Rattle.cpp_term.specs.Meaning.{meaning, listed_value, function_of}
 use Rattle.cpp_term.specs.Unfolding.{behind, close}
 use Rattle.cpp_link.specs.Owed.{made_before, made_at_end}
@@ -201,7 +201,7 @@ spent-behind false _ = omega arith
 
 -- a parameter is a candidate before its arguments
 parameter-type : (around : Around) (place : ℕ) → Flow Production.Parameter around place (Number Decimal ∷ OfKind ARGUMENTS_ALONE ∷ []) [] 0
-unfolding pending pending_around unlisted_around goes_on is_arguments is_component becomes_candidate after prefix_listed between makes_before made_before makes_at_end name_at_end part leaves makes_name may_leave unlisted is_listed meaning one_if_there close behind
+unfolding pending pending_around unlisted_around goes_on is_arguments is_component becomes_candidate after prefix_listed between makes_before made_before makes_at_end name_at_end part leaves makes_name may_leave unlisted is_listed meaning one_if_there close behind parameter_so_far parameter_named listed_so_far
 parameter-type around place = λ state next e. came (going [] around state) next e
     (quiet (going [] around state) (omega arith) (λ v. refl) begun)
   where
@@ -222,7 +222,7 @@ parameter-type around place = λ state next e. came (going [] around state) next
 
 -- the same behind its T
 parameter-behind-t : (around : Around) (place : ℕ) → Flow Production.ParameterArgument around place (Number Decimal ∷ OfKind ARGUMENTS_ALONE ∷ []) [] 0
-unfolding pending pending_around unlisted_around goes_on is_arguments is_component becomes_candidate after prefix_listed between makes_before made_before makes_at_end name_at_end part leaves makes_name may_leave unlisted is_listed meaning one_if_there close behind
+unfolding pending pending_around unlisted_around goes_on is_arguments is_component becomes_candidate after prefix_listed between makes_before made_before makes_at_end name_at_end part leaves makes_name may_leave unlisted is_listed meaning one_if_there close behind parameter_so_far parameter_named listed_so_far
 parameter-behind-t around place = λ state next e. came (going [] around state) next e
     (quiet (going [] around state) (omega arith) (λ v. refl) begun)
   where
@@ -300,7 +300,7 @@ nest-template around place = λ state next e. came (going [] around state) next 
     (λ w. same-closes Production.NestTemplate around place (tree (tree_of v) true ∷ w ∷ []) w (λ u. refl) (λ byte began last. refl)))))
 
 nest-parameter : (around : Around) (place : ℕ) → Flow Production.NestParameter around place (Number Decimal ∷ OfKind NEST_REST_ALONE ∷ []) [] 0
-unfolding pending pending_around goes_on is_arguments is_component becomes_candidate between makes_before made_before part leaves makes_name may_leave meaning close behind
+unfolding pending pending_around goes_on is_arguments is_component becomes_candidate between makes_before made_before part leaves makes_name may_leave meaning close behind parameter_so_far parameter_named listed_so_far
 nest-parameter around place = λ state next e. came (going [] around state) next e
     (quiet (going [] around state) (omega arith) (λ v. refl) begun)
   where
@@ -475,14 +475,14 @@ pack-keeps around place (v ∷ w ∷ vs) state next e = kept (v ∷ w ∷ vs) ar
     (makes_before Production.PackArgument (v ∷ w ∷ vs)) e
 
 parameter-keeps : (around : Around) (place : ℕ) → Keeps Production.ParameterExpression around place
-unfolding between makes_before made_before
+unfolding between makes_before made_before argument_so_far parameter_named
 parameter-keeps around place [] state next e = kept [] around state next 0 e
 parameter-keeps around place (v ∷ []) state next e = omega (arith, argument-none around place (index_of v) state next e)
 parameter-keeps around place (v ∷ w ∷ vs) state next e = kept (v ∷ w ∷ vs) around state next
     (makes_before Production.ParameterExpression (v ∷ w ∷ vs)) e
 
 bounded-keeps : (around : Around) (place : ℕ) → Keeps Production.BoundedArray around place
-unfolding between makes_before made_before
+unfolding between makes_before made_before argument_so_far parameter_named
 bounded-keeps around place [] state next e = kept [] around state next 0 e
 bounded-keeps around place (v ∷ []) state next e = omega (arith, argument-none around place (index_of v) state next e)
 bounded-keeps around place (v ∷ w ∷ vs) state next e = kept (v ∷ w ∷ vs) around state next

@@ -37,7 +37,7 @@ lone_closed around place k state closed = by (parameter_named around place k sta
     by (Err e) = tt
 
 goes_closed : (p : Production) (around : Around) (place : ℕ) (vs : List Value) (state : State) → IsClosed around → GoesClosed (between p around place vs state)
-unfolding between in_name in_types in_signature under_expansion after inside named_so_far listed_so_far piece_so_far tag_so_far
+unfolding between in_name in_types in_signature under_expansion after inside named_so_far listed_so_far piece_so_far tag_so_far parameter_named parameter_so_far argument_so_far
 goes_closed Production.Encoding around place [] state closed = tt
 goes_closed Production.Encoding around place (name ∷ vs) state closed = closed_are (tree_of name)
 goes_closed Production.Special around place vs state closed = tt
