@@ -1,5 +1,5 @@
 use Rattle.cpp_link.proofs.Making.{is_rare}
-use Rattle.cpp_link.proofs.linked.Linked.meant.Goals as goal
+use Rattle.cpp_link.proofs.linked.Linked.outcome.Goals as goal
 
 pub unreachable-requires : goal.unreachable-requires
 unreachable-requires c = c.requires.common (is_rare c.args.production
