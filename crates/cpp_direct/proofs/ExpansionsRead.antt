@@ -14,8 +14,8 @@ use Rattle.cpp_direct.specs.declared.open.Arguments.{Arguments}
 use Rattle.cpp_direct.specs.declared.open.Candidate.{Candidate}
 use Rattle.cpp_direct.specs.Holes.{StandsAt, candidate}
 use Rattle.cpp_direct.specs.Prints.{forwarded, PrintAllBy, list_of}
-use Rattle.cpp_direct.specs.Stands.{AreCandidates, EncodedBehind, HasArguments, IsScope, ParametersGoOn, in_front_of_next, IsAmong, IsKnown, place_of}
-use Rattle.cpp_direct.specs.Ways.{AwaitsNextParameter, IsParameterEnded, AreForwarded, IsPackOf, PrintsForwarded, comma_text}
+use Rattle.cpp_direct.specs.WriterInvariant.{AreCandidates, EncodedBehind, HasArguments, IsScope, ParametersGoOn, in_front_of_next, IsAmong, IsKnown, place_of}
+use Rattle.cpp_direct.specs.MidStep.{AwaitsNextParameter, IsParameterEnded, AreForwarded, IsPackOf, PrintsForwarded, comma_text}
 use Rattle.cpp_direct.specs.Written.{hidden, Writes}
 use Rattle.cpp_direct.proofs.Ending.{parameter-goes_on}
 use Rattle.cpp_direct.proofs.Kept.{candidates-stay, piece-found}
@@ -28,7 +28,7 @@ use Rattle.cpp_direct.proofs.PrintedLists.{next-prints-in, next-prints-by}
 use Rattle.cpp_direct.proofs.Scopes.{arguments-stay, placed-stays}
 use Rattle.cpp_direct.proofs.Signatures.{one-hidden}
 
--- its letters stand side by side
+-- its letters are side by side
 pub letters-stand : (s : List ℕ) (at second third fourth fifth : ℕ) → StandsAt s at (68 ∷ []) → second ≡ at + 1 → StandsAt s second (112 ∷ [])
     → third ≡ at + 2 → StandsAt s third (79 ∷ []) → fourth ≡ at + 3 → StandsAt s fourth (84 ∷ []) → fifth ≡ at + 4 → StandsAt s fifth (95 ∷ [])
     → StandsAt s at (68 ∷ 112 ∷ 79 ∷ 84 ∷ 95 ∷ [])
@@ -121,7 +121,7 @@ comma-between [] (suc k) bytes e = absurd (omega (arith, e))
 comma-between (d ∷ done) zero bytes e = absurd (omega (arith, e))
 comma-between (d ∷ done) (suc k) bytes e = refl
 
--- where an element stands
+-- where an element is
 pub forwarded-inside : (before w one : Direct) (ts : List Term) (argument : Arguments) (number : ℕ) (place : Argument) → IsPackOf before.text.list.items argument ts
     → AreForwarded before w ts number → place ≡ place_of argument number → place.from ≤ place.to → place.is_pack ≡ true → Writes w one (comma_text number)
     → place.to ≤ length one.text.list.items

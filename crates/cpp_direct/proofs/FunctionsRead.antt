@@ -9,14 +9,14 @@ use Rattle.cpp_direct.specs.declared.direct.Direct.{Direct}
 use Rattle.cpp_direct.specs.Holes.{Opened, StandsAt, Expects}
 use Rattle.cpp_direct.specs.HolesOfFunctions.{FunctionOpened}
 use Rattle.cpp_direct.specs.HolesOfTypes.{NoReference, IsQualifiable}
-use Rattle.cpp_direct.specs.Stands.{IsScoped, AreCandidates, TakesFunction, Stands, IsWriting}
+use Rattle.cpp_direct.specs.WriterInvariant.{IsScoped, AreCandidates, TakesFunction, Stands, IsWriting}
 use Rattle.cpp_direct.proofs.Kept.{reverse-last}
 use Rattle.cpp_direct.proofs.Scopes.{none-scoped}
 use Rattle.cpp_direct.proofs.MovesOfFunctions.{function-opens, pointed-function-opens}
 
 -- ## The return type
 
--- it is expected behind the letters
+-- it is expected after the letters
 return-opens : (s : Symbol) (is_pointer : Bool) (kind : Kind) (os : List Opened) (around : Around) (at : ℕ) (st : State) → IsQualifiable kind
     → around.prefix ≡ outermost → Expects s kind around os at st → StandsAt s.bytes at (if is_pointer then 80 ∷ 70 ∷ [] else 70 ∷ [])
     → FunctionOpened s os around is_pointer (at + (if is_pointer then 2 else 1)) st

@@ -14,7 +14,7 @@ use Rattle.sym_core.specs.declared.NumberKind.TheVariants.{Seq36}
 use Rattle.sym_core.specs.Value.{counted_value}
 use Rattle.cpp_grammar.specs.Values.{Candidate, State, Around, prefix_tree, prefix_listed, Value, letter, tree, piece, is_listed, text_of, local_number, part, tree_of}
 use Rattle.cpp_grammar.specs.References.{appended, is_function_type, with_type, with_unqualified, with_prefix, with_packs, packs_in, substituted, parameter_named}
-use Rattle.cpp_grammar.specs.Rescoping.{lambda_with, with_own, with_holder, is_counted_alike, is_foreign, in_scope, under_scope, with_free, restated, substituted_wide, numbered, close_wide}
+use Rattle.cpp_grammar.specs.Rescoping.{lambda_with, as_generic_lambda, with_holder, is_counted_alike, is_foreign, in_scope, under_scope, with_free, restated, substituted_wide, numbered, close_wide}
 use Rattle.cpp_grammar.specs.Meaning.{parameters, meaning}
 use Rattle.cpp_grammar.specs.Unfolding as unfolding_
 use Rattle.cpp_grammar.specs.Unfolding.{close}
@@ -26,11 +26,11 @@ use Rattle.cpp_grammar.proofs.ClosedValues.{all_where, prefix_where, Good, AllGo
 abbrev pub Bare : (own : Bool) → Around → Type 0
 Bare own around = (around.scope ≡ None) × (own ≡ true → around.in_lambda ≡ false)
 
--- no parameters stand in the parts of this production: in those of a lambda its own may
+-- no parameters are in the parts of this production: in those of a lambda its own may
 abbrev pub Within : (own : Bool) → Production → Around → Type 0
 Within own p around = Bare own around × (own ≡ true → has_signature p ≡ false)
 
--- a candidate in which no parameters of a lambda stand
+-- a candidate in which no parameters of a lambda are
 abbrev pub IsOutside : (own : Bool) → Candidate → Type 0
 IsOutside own c = own ≡ true → c.in_lambda ≡ false
 
@@ -38,13 +38,13 @@ IsOutside own c = own ≡ true → c.in_lambda ≡ false
 abbrev IsHere : (own : Bool) → Around → Candidate → Type 0
 IsHere own around c = (c.encoding ≡ around.encoding) × (around.scope ≡ None → IsOutside own c → is_open c.tree ≡ false)
 
--- a candidate in front of a place
+-- a candidate before a place
 pub record IsOld (own : Bool) (around : Around) (at : ℕ) (c : Candidate) : Type 0 where
   pub scopes : ScopesAreClosed c.tree
   pub closed : Bare own around → around.in_lambda ≡ false → IsOutside own c → c.encoding ≡ around.encoding → is_open c.tree ≡ false
   pub place : (c.encoding ≡ around.encoding) ⊎ (c.encoding < at)
 
--- a candidate that was made in front of a place
+-- a candidate that was made before a place
 pub record IsNew (own : Bool) (around : Around) (end : ℕ) (c : Candidate) : Type 0 where
   pub scopes : ScopesAreClosed c.tree
   pub place : IsHere own around c ⊎ ((around.encoding < c.encoding) × (c.encoding < end))
@@ -259,7 +259,7 @@ parameter_grows own around place k end state new e = go around.scope refl e
     go None is h = absurd cc
     go (Some arguments) is h = tested arguments (nat_lt k (count arguments)) is h
 
--- ## Behind the parts of a production
+-- ## After the parts of a production
 
 pub with_prefix_grows : (own : Bool) (around : Around) (end : ℕ) (state : State) → GoodPrefix (Bare own around) around.prefix → Grows own around end state (with_prefix around state)
 unfolding with_prefix
@@ -429,8 +429,8 @@ lambda_good s t number scopes = go (is_open t) refl
     go false is = record { closed = λ h. is; scopes = scopes }
 
 lambda_comes : (byte : ℕ) (around : Around) (vs : List Value) (state : State) (r : Found Value State) (end : ℕ) → GoodPrefix (Bare true around) around.prefix → AllGood (Within true Production.Lambda around) vs →
-    ◌≡◌ {A = Result (Found Value State) Refusal} (Ok (found (with_own (meaning Production.Lambda byte around vs)) state)) (Ok r) → Comes true around end state r
-unfolding with_own meaning held
+    ◌≡◌ {A = Result (Found Value State) Refusal} (Ok (found (as_generic_lambda (meaning Production.Lambda byte around vs)) state)) (Ok r) → Comes true around end state r
+unfolding as_generic_lambda meaning held
 lambda_comes byte around vs state r end pre all e =
     let s = Within true Production.Lambda around in
     let t = parameters (list (tree_of (part vs 0)) (no_items (part vs 1))) in

@@ -24,7 +24,7 @@ use Rattle.cpp_grammar.specs.Unfolding.{opening, close, production_at, byte_of, 
 unfoldable pub generic_number : ℕ → ℕ
 generic_number k = cond (nat_lt k (2 ^ 32)) k (2 ^ 32 - 1)
 
--- a parameter of the lambda in whose signature it stands is good whatever its number, and a candidate
+-- a parameter of the lambda in whose signature it is is good whatever its number, and a candidate
 unfoldable pub generic_so_far : Around → ℕ → List Value → State → Going
 generic_so_far around k vs state = listed_so_far around (parameter (generic_number k)) vs (appended around (parameter (generic_number k)) state)
 
@@ -46,13 +46,13 @@ argument_here around place k state = elim around.in_lambda [
 unfoldable pub lambda_with : (parameters : Term) → (number : ℕ) → Term
 lambda_with parameters number = elim (is_open parameters) [ true ↦ generic_lambda parameters number | false ↦ lambda parameters number ]
 
-unfoldable pub with_own : Value → Value
-with_own (piece (lambda parameters number)) = piece (lambda_with parameters number)
-with_own v = v
+unfoldable pub as_generic_lambda : Value → Value
+as_generic_lambda (piece (lambda parameters number)) = piece (lambda_with parameters number)
+as_generic_lambda v = v
 
 -- ## Names with an M
 
--- What stands in the initializer of a variable or of a data member has that one's name, with an M behind it, as its prefix. Some
+-- What is in the initializer of a variable or of a data member has that one's name, with an M after it, as its prefix. Some
 -- compilers count that name among the candidates and some don't, and a symbol doesn't tell by which one it was made. So from that
 -- candidate on, the last one before the M, no number is known to name the same tree by all of them. Here the name is a candidate, and
 -- is one again with its M, as a mark of that.
@@ -75,7 +75,7 @@ unfoldable pub is_instance : Term → Bool
 is_instance (instance template arguments) = true
 is_instance _ = false
 
--- Behind arguments an M is refused: not all compilers count the name of their template either, and what the arguments name by its
+-- After arguments an M is refused: not all compilers count the name of their template either, and what the arguments name by its
 -- number has been read by then.
 unfoldable pub holder_so_far : Around → (place : ℕ) → State → Going
 holder_so_far around place state = elim (is_instance (prefix_tree around.prefix)) [
@@ -153,7 +153,7 @@ between_wide production around place vs state = between production around place 
 unfoldable pub close_wide : Production → (byte : ℕ) → Around → (place : ℕ) → (began : State) → List Value → State → Result (Found Value State) Refusal
 close_wide Production.Substitution byte around place began vs state =
     numbered around (place - 1) (counted_value Seq36 (text_of (part vs 0))) state
-close_wide Production.Lambda byte around place began vs state = Ok (found (with_own (meaning Production.Lambda byte around vs)) state)
+close_wide Production.Lambda byte around place began vs state = Ok (found (as_generic_lambda (meaning Production.Lambda byte around vs)) state)
 close_wide production byte around place began vs state = close production byte around place began vs state
 
 -- C++ by the wide grammar as a language

@@ -31,7 +31,7 @@ use Rattle.cpp_term.specs.Meaning.{parameters, meaning}
 use Rattle.cpp_term.specs.Unfolding.{number_tested, opening, behind, close, cpp, first_around, first_state}
 use Rattle.cpp_link.specs.Numbered.{is_numbered}
 use Rattle.cpp_grammar.proofs.Ways.{differs}
-use Rattle.cpp_term.specs.Rescoping.{with_own, between_wide, close_wide, cpp_wide}
+use Rattle.cpp_term.specs.Rescoping.{as_generic_lambda, between_wide, close_wide, cpp_wide}
 use Rattle.cpp_term.proofs.NotedWays.{NotedWay, reading_noted_by, IsPlainNoted, abi_noted, wide_noted, abi_is_noted, wide_is_noted}
 use Rattle.cpp_link.specs.LinkRescoping.{link_close_wide, linked_wide}
 use Rattle.cpp_link.specs.LinkReading.{in_64_bits, link_meaning, link_close, link_begin, linked}
@@ -275,7 +275,7 @@ module _ (way : NotedWay) (plain_way : IsPlainNoted way) (plain_lambda : IsPlain
       let whole = both_ok ((reading_noted_by way).close o inner.0.value inner.0.state) alone one inner.2 in
       (whole.0.value, values_same (found (whole.0.value ∷ []) whole.0.state) one whole.2)
 
-  -- one part of a lambda behind the values of those before it
+  -- one part of a lambda after the values of those before it
   lambda_part : (taken : List ℕ) (place : ℕ) (context : Around) (before : State) (known : List Value) (at : ℕ) (first : Tree) (rest : Forest) (state : State) (inner : Found (List Value) State)
       → unfold_forest (reading_noted_by way) (lambda_open taken place context before) known at (grown first rest) state ≡ Ok inner
       → (v : Value) × (after : State) × (unfold_forest (reading_noted_by way) (lambda_open taken place context before) (known ++ v ∷ []) (at + length (spell first)) rest after ≡ Ok inner)
@@ -324,7 +324,7 @@ module _ (way : NotedWay) (plain_way : IsPlainNoted way) (plain_lambda : IsPlain
   numbered_plain Production.Unnamed other s = unnamed_closes s
   numbered_plain _ other s = absurd (true≢false other)
 
--- each rule that stands in a symbol closes to the same
+-- each rule that is in a symbol closes to the same
 pub closes_same : (s : List ℕ) → ClosesSame wide s cpp (linked s).close
 unfolding cpp reading_noted_by abi_noted
 closes_same s kind rule taken parts place context before begun inner rest known is at is_begun is_inner =
@@ -355,7 +355,7 @@ other_closes : (s : List ℕ) (p : Production) → is_plain p ≡ false → (byt
     → link_close_wide s p byte around place began vs state ≡ close_wide p byte around place began vs state
 unfolding is_plain link_close_wide close_wide link_close close behind
 other_closes s Production.Substitution other byte around place began vs state same = absurd (true≢false other)
-other_closes s Production.Lambda other byte around place began vs state same = ap (λ r. r >>= λ made. Ok (found (with_own made.value) made.state)) same
+other_closes s Production.Lambda other byte around place began vs state same = ap (λ r. r >>= λ made. Ok (found (as_generic_lambda made.value) made.state)) same
 other_closes s p other byte around place began vs state same = same
 
 wide_lambda : IsPlainLambda wide_noted

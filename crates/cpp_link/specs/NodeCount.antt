@@ -14,7 +14,7 @@ use Rattle.cpp_term.specs.Meaning.{is_void, is_nil}
 use Rattle.cpp_term.specs.Unfolding.{cpp, first_around, first_state}
 use Rattle.cpp_link.specs.declared.linked.Linked.{Linked}
 use Rattle.cpp_link.specs.declared.part.Part.{Part}
-use Rattle.cpp_references.specs.declared.around.Kept.{Kept}
+use Rattle.cpp_references.specs.declared.around.Surroundings.{Surroundings}
 use Rattle.cpp_link.specs.Owed.{made_before, made_at_end}
 use Rattle.cpp_link.specs.View.{cpp_view}
 
@@ -24,12 +24,12 @@ use Rattle.cpp_link.specs.View.{cpp_view}
 unfoldable pub one_if_there : Value → ℕ
 one_if_there v = if is_there v then 1 else 0
 
--- One node if there are arguments: a name with tags, which stands in the place of another, is made already.
+-- One node if there are arguments: a name with tags, which takes the place of another, is made already.
 unfoldable pub one_if_arguments : Value → ℕ
 one_if_arguments (named t qualifiers ref) = 0
 one_if_arguments v = one_if_there v
 
--- A name in std is made behind its piece, and once more behind its arguments, if it has some.
+-- A name in std is made after its piece, and once more after its arguments, if it has some.
 unfoldable pub std_before : List Value → ℕ
 std_before (name ∷ []) = 1
 std_before (name ∷ arguments ∷ []) = one_if_arguments arguments
@@ -98,5 +98,5 @@ abbrev pub are_nodes : Tree → ℕ → Type 0
 are_nodes shape nodes = nodes ≡ nodes_of_shape shape
 
 -- C++'s language, whose nodes are counted
-abbrev pub cpp_counted : List ℕ → View Linked Part Kept Value (Tally State) Around
+abbrev pub cpp_counted : List ℕ → View Linked Part Surroundings Value (Tally State) Around
 cpp_counted s = tallied_view (cpp_view s) cpp_makes

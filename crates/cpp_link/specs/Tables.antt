@@ -4,53 +4,53 @@ use Rattle.cpp_grammar.specs.declared.production.Production.{Production}
 
 -- Before so many of the parts of a production nothing is done: before none, the first, or all, which are five at most.
 unfoldable pub quiet_parts : Production → ℕ
-quiet_parts Production.Encoding = 0
-quiet_parts Production.Special = 0
-quiet_parts Production.NestArguments = 0
-quiet_parts Production.NestInstance = 0
-quiet_parts Production.NestNext = 0
-quiet_parts Production.Arguments = 0
-quiet_parts Production.Lambda = 0
-quiet_parts Production.Expansion = 0
-quiet_parts Production.Conversion = 0
-quiet_parts Production.OtherSpecial = 0
-quiet_parts Production.LocalName = 1
-quiet_parts Production.LocalType = 1
 quiet_parts Production.InternalName = 1
-quiet_parts Production.SourceName = 1
 quiet_parts Production.LocalTypeName = 1
+quiet_parts Production.SourceName = 1
 quiet_parts Production.OperatorName = 1
-quiet_parts Production.Constructor = 1
-quiet_parts Production.Destructor = 1
+quiet_parts Production.Special = 0
+quiet_parts Production.OtherSpecial = 0
+quiet_parts Production.Encoding = 0
+quiet_parts Production.LocalName = 1
 quiet_parts Production.StdName = 1
 quiet_parts Production.AbbreviatedName = 1
-quiet_parts Production.NestStd = 1
-quiet_parts Production.NestTemplate = 1
 quiet_parts Production.NestParameter = 1
 quiet_parts Production.NestInternal = 1
-quiet_parts Production.NestSource = 1
 quiet_parts Production.NestLocalType = 1
-quiet_parts Production.PackArgument = 1
+quiet_parts Production.NestSource = 1
+quiet_parts Production.NestStd = 1
+quiet_parts Production.NestTemplate = 1
+quiet_parts Production.NestArguments = 0
+quiet_parts Production.NestNext = 0
+quiet_parts Production.NestTag = 1
+quiet_parts Production.Constructor = 1
+quiet_parts Production.Destructor = 1
+quiet_parts Production.OtherOperatorName = 1
+quiet_parts Production.Holder = 1
+quiet_parts Production.Lambda = 0
+quiet_parts Production.Expansion = 0
 quiet_parts Production.Parameter = 1
 quiet_parts Production.TypeWithS = 1
+quiet_parts Production.LocalType = 1
 quiet_parts Production.LvalueItem = 1
 quiet_parts Production.RvalueItem = 1
-quiet_parts Production.IntegerLiteral = 1
-quiet_parts Production.Holder = 1
-quiet_parts Production.NestTag = 1
+quiet_parts Production.Arguments = 0
 quiet_parts Production.Tag = 1
-quiet_parts Production.OtherOperatorName = 1
+quiet_parts Production.PackArgument = 1
+quiet_parts Production.IntegerLiteral = 1
+quiet_parts Production.NestInstance = 0
+quiet_parts Production.Conversion = 0
 quiet_parts Production.OperatorNameWithC = 1
 quiet_parts Production.TaggedStdType = 1
 quiet_parts Production.TypeTag = 1
-quiet_parts Production.ParameterExpression = 1
-quiet_parts Production.BoundedArray = 1
 quiet_parts Production.ParameterArgument = 1
 quiet_parts Production.ValueOf = 0
 quiet_parts Production.OfConcept = 0
+quiet_parts Production.ParameterExpression = 1
+quiet_parts Production.BoundedArray = 1
 quiet_parts _ = 5
 
--- parts without a row may stand between those with one
+-- parts without a row may be between those with one
 unfoldable pub skips_parts : Production → Bool
 skips_parts Production.Symbol = true
 skips_parts Production.EncodingLiteral = true

@@ -21,7 +21,7 @@ ghost use Rattle.cpp_link.specs.Room.{KeepsRoom, LacksRoom, IsRoomy};
 
 use crate::dispatch::production_of;
 use crate::linked::Linked;
-use crate::part::{Kept, Part, Step};
+use crate::part::{Part, Step, Surroundings};
 use crate::tables::QUIET_PARTS;
 use cpp_grammar::production::Production;
 use cpp_tree::node::Node;
@@ -69,7 +69,7 @@ impl Linked {
     fn note(
         &mut self,
         symbol: &[u8],
-        kept: Kept,
+        kept: Surroundings,
         candidate: Option<u32>,
         packs: Option<u32>,
     ) -> Result<(), Refusal>
@@ -97,7 +97,7 @@ impl Linked {
     fn add_noted(
         &mut self,
         symbol: &[u8],
-        kept: Kept,
+        kept: Surroundings,
         node: Node,
         is_candidate: bool,
         packs: Option<u32>,
@@ -123,10 +123,10 @@ impl Linked {
         Ok(number)
     }
 
-    /// What surrounds the part behind a tree that has been made.
+    /// What surrounds the part after a tree that has been made.
     #[tactic(auto, unfolding(crate::specs::Reads::named_if))]
     #[inline(always)]
-    fn behind_if(&self, is_name: bool, kept: Kept, node: u32, listed: bool) -> Kept
+    fn behind_if(&self, is_name: bool, kept: Surroundings, node: u32, listed: bool) -> Surroundings
         requires kept { IsKeptThere (length self.now.nodes.nodes) kept }
         requires node { node < length self.now.nodes.nodes }
         ensures around { (ts : List Term) → around_of ts result ≡ named_if is_name (around_of ts kept) (tree_at ts node) listed }
@@ -147,11 +147,11 @@ impl Linked {
     pub(crate) fn take_step(
         &mut self,
         symbol: &[u8],
-        kept: Kept,
+        kept: Surroundings,
         base: usize,
         step: Step,
         parts: &mut Vec<Part>,
-    ) -> Result<Kept, Refusal>
+    ) -> Result<Surroundings, Refusal>
         requires place { HasPlace symbol.now self.old.nodes 1 }
         requires step { IsStepThere symbol.now (length self.old.nodes.thunks) (length self.old.nodes.nodes) step }
         requires of { (production : Production) × IsStepOf production (length (drop base parts.old.items)) step }
@@ -199,20 +199,20 @@ impl Linked {
         }
     }
 
-    /// Does what is to be done before the next part of the rule of the frame, which is of this production, and answers what
+    /// Does what is to be done before the next part of the frame's rule, which is of this production, and answers what
     /// surrounds that part.
     ///
     /// # Errors
     ///
-    /// Those of `go_on`.
+    /// Those of `before_part`.
     #[inline(always)]
-    fn go_as(
+    fn before_as(
         &mut self,
         symbol: &[u8],
         production: Production,
-        frame: &Frame<Kept>,
+        frame: &Frame<Surroundings>,
         parts: &mut Vec<Part>,
-    ) -> Result<Kept, Refusal>
+    ) -> Result<Surroundings, Refusal>
         requires numbered { production ≡ production_at frame.now.rule }
         requires room { HasRoom (cpp_view symbol.now) symbol.now self.old (owed_behind (cpp_view symbol.now) frame.now parts.old.items) }
         requires open { IsOpenAt (cpp_view symbol.now) symbol.now self.old frame.now parts.old.items }
@@ -231,20 +231,20 @@ impl Linked {
         Ok(then)
     }
 
-    /// The same for productions that are rare: its code is that of all of them, and clears the room for the nodes of each at
-    /// each call.
+    /// The same for rare productions: one body serves all of them, and zeroes the room for the nodes of each on
+    /// every call.
     ///
     /// # Errors
     ///
-    /// Those of `go_on`.
+    /// Those of `before_part`.
     #[inline(never)]
-    fn go_rare(
+    fn before_rare(
         &mut self,
         symbol: &[u8],
         production: Production,
-        frame: &Frame<Kept>,
+        frame: &Frame<Surroundings>,
         parts: &mut Vec<Part>,
-    ) -> Result<Kept, Refusal>
+    ) -> Result<Surroundings, Refusal>
         requires numbered { production ≡ production_at frame.now.rule }
         requires room { HasRoom (cpp_view symbol.now) symbol.now self.old (owed_behind (cpp_view symbol.now) frame.now parts.old.items) }
         requires open { IsOpenAt (cpp_view symbol.now) symbol.now self.old frame.now parts.old.items }
@@ -257,21 +257,21 @@ impl Linked {
         ensures count { OnOk result (length parts.new.items ≡ length parts.old.items) }
         ensures roomy { IsRoomy self.old self.new parts.old parts.new result }
     {
-        self.go_as(symbol, production, frame, parts)
+        self.before_as(symbol, production, frame, parts)
     }
 
     /// The same, with code of their own for the productions that are common.
     ///
     /// # Errors
     ///
-    /// Those of `go_on`.
+    /// Those of `before_part`.
     #[inline(never)]
-    fn go_by_step(
+    fn before_by_step(
         &mut self,
         symbol: &[u8],
-        frame: &Frame<Kept>,
+        frame: &Frame<Surroundings>,
         parts: &mut Vec<Part>,
-    ) -> Result<Kept, Refusal>
+    ) -> Result<Surroundings, Refusal>
         requires room { HasRoom (cpp_view symbol.now) symbol.now self.old (owed_behind (cpp_view symbol.now) frame.now parts.old.items) }
         requires open { IsOpenAt (cpp_view symbol.now) symbol.now self.old frame.now parts.old.items }
         requires base { frame.now.base ≤ length parts.old.items }
@@ -285,38 +285,44 @@ impl Linked {
     {
         let production = production_of(frame.rule);
         match production {
-            Production::NestNext => self.go_as(symbol, Production::NestNext, frame, parts),
-            Production::SourceName => self.go_as(symbol, Production::SourceName, frame, parts),
-            Production::NestSource => self.go_as(symbol, Production::NestSource, frame, parts),
-            Production::Encoding => self.go_as(symbol, Production::Encoding, frame, parts),
-            Production::Arguments => self.go_as(symbol, Production::Arguments, frame, parts),
-            Production::NestTemplate => self.go_as(symbol, Production::NestTemplate, frame, parts),
-            Production::TypeWithS => self.go_as(symbol, Production::TypeWithS, frame, parts),
-            Production::TaggedStdType => self.go_as(
+            // Generated by tools/trees.py. The productions that are common before their parts
+            Production::NestNext => self.before_as(symbol, Production::NestNext, frame, parts),
+            Production::SourceName => self.before_as(symbol, Production::SourceName, frame, parts),
+            Production::NestSource => self.before_as(symbol, Production::NestSource, frame, parts),
+            Production::Encoding => self.before_as(symbol, Production::Encoding, frame, parts),
+            Production::Arguments => self.before_as(symbol, Production::Arguments, frame, parts),
+            Production::NestTemplate => self.before_as(
+                symbol,
+                Production::NestTemplate,
+                frame,
+                parts,
+            ),
+            Production::TypeWithS => self.before_as(symbol, Production::TypeWithS, frame, parts),
+            Production::TaggedStdType => self.before_as(
                 symbol,
                 Production::TaggedStdType,
                 frame,
                 parts,
             ),
-            _ => match self.go_rare(symbol, production, frame, parts) {
+            _ => match self.before_rare(symbol, production, frame, parts) {
                 Ok(then) => Ok(then),
                 Err(refusal) => Err(refusal),
             },
         }
     }
 
-    /// What is done before the next part of the rule of the frame, and what surrounds that part.
+    /// What is done before the next part of the frame's rule, and what surrounds that part.
     ///
     /// # Errors
     ///
     /// `BadReference` at a parameter that names no argument that it may name, `Memory` where a list couldn't grow.
     #[inline(always)]
-    pub fn go_on(
+    pub fn before_part(
         &mut self,
         symbol: &[u8],
-        frame: &Frame<Kept>,
+        frame: &Frame<Surroundings>,
         parts: &mut Vec<Part>,
-    ) -> Result<Kept, Refusal>
+    ) -> Result<Surroundings, Refusal>
         requires room { HasRoom (cpp_view symbol.now) symbol.now self.old (owed_behind (cpp_view symbol.now) frame.now parts.old.items) }
         requires open { IsOpenAt (cpp_view symbol.now) symbol.now self.old frame.now parts.old.items }
         requires base { frame.now.base ≤ length parts.old.items }
@@ -331,6 +337,6 @@ impl Linked {
         if parts.len() - frame.base < quiet_parts(frame.rule) {
             return Ok(frame.kept);
         }
-        self.go_by_step(symbol, frame, parts)
+        self.before_by_step(symbol, frame, parts)
     }
 }

@@ -24,7 +24,7 @@ ghost use Rattle.cpp_link.specs.View as view;
 ghost use Rattle.cpp_link.specs.View.{IsPaid, IsWhole, Surrounds, cpp_view};
 
 use crate::linked::{Linked, has_holder, is_apart};
-use crate::part::{Kept, Part, Step};
+use crate::part::{Part, Step, Surroundings};
 use cpp_grammar::production::Production;
 use cpp_references::again::opened;
 use cpp_references::candidates::numbered;
@@ -54,7 +54,7 @@ fn is_instance_node(node: Node) -> bool
     }
 }
 
-/// The number behind this one, if it has 64 bits at most.
+/// The number after this one, if it has 64 bits at most.
 fn next_number(counted: Option<u64>) -> Option<u64>
     ensures { (k : ℕ) → MatchOption counted (2 ^ 64 ≤ k) (λ v. v ≡ k) → MatchOption result (2 ^ 64 ≤ k + 1) (λ v. v ≡ k + 1) }
 {
@@ -96,7 +96,7 @@ impl Linked {
         &mut self,
         symbol: &[u8],
         place: u32,
-        kept: Kept,
+        kept: Surroundings,
         parts: &[Part],
     ) -> Result<Part, Refusal>
         requires whole { IsWhole symbol.now self.old }
@@ -129,13 +129,13 @@ impl Linked {
     ///
     /// # Errors
     ///
-    /// `BadReference` at the `M` behind arguments, `Memory` where a list couldn't grow.
-    pub fn go_holder(
+    /// `BadReference` at the `M` after arguments, `Memory` where a list couldn't grow.
+    pub fn before_holder(
         &mut self,
         symbol: &[u8],
-        frame: &Frame<Kept>,
+        frame: &Frame<Surroundings>,
         parts: &mut Vec<Part>,
-    ) -> Result<Kept, Refusal>
+    ) -> Result<Surroundings, Refusal>
         requires holder { is_holder (production_at frame.now.rule) ≡ true }
         requires second { length parts.old.items ≡ frame.now.base + 1 }
         requires room { HasRoom (cpp_view symbol.now) symbol.now self.old (owed_behind (cpp_view symbol.now) frame.now parts.old.items) }

@@ -11,7 +11,7 @@ ghost use Rattle.cpp_tree.specs.Nodes.{over, tree_at, IsTable};
 ghost use Rattle.cpp_references.specs.Around.{trees_in, around_of, IsClosed, IsKeptThere};
 ghost use Rattle.cpp_references.specs.References.{argument_read};
 
-use crate::around::Kept;
+use crate::around::Surroundings;
 use crate::packs::with_packs;
 use crate::parameters::{argument, count};
 use cpp_tree::Nodes;
@@ -35,17 +35,17 @@ fn packs_with(nodes: &Nodes, symbol: &[u8], node: u32, argument: u32) -> Option<
 }
 
 /// The argument here of the one parameter, by its number, that is free in a tree which was made elsewhere, and the length of the
-/// packs behind it.
+/// packs after it.
 ///
 /// # Errors
 ///
-/// `BadReference` where it names no argument of the scope, or where the tree has packs then and stands outside an expansion or
-/// behind packs of another length.
+/// `BadReference` where it names no argument of the scope, or where the tree has packs then and is outside an expansion or
+/// after packs of another length.
 #[tactic(auto, unfolding(crate::specs::References::argument_read, crate::specs::Around::around_of))]
 fn argument_by(
     nodes: &Nodes,
     symbol: &[u8],
-    kept: Kept,
+    kept: Surroundings,
     place: u32,
     node: u32,
     number: u32,
@@ -87,7 +87,7 @@ fn argument_by(
 fn scope_by(
     nodes: &Nodes,
     symbol: &[u8],
-    kept: Kept,
+    kept: Surroundings,
     place: u32,
     greatest: u32,
     packs: Option<u32>,
@@ -112,7 +112,7 @@ fn scope_by(
 }
 
 /// The argument that the free parameters of a tree which was made elsewhere have here, or the scope with one for each, and the
-/// length of the packs behind it.
+/// length of the packs after it.
 ///
 /// # Errors
 ///
@@ -122,7 +122,7 @@ fn scope_by(
 pub fn argument_here(
     nodes: &Nodes,
     symbol: &[u8],
-    kept: Kept,
+    kept: Surroundings,
     place: u32,
     node: u32,
     packs: Option<u32>,

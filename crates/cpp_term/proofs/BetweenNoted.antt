@@ -1,4 +1,4 @@
--- What is done between and behind the parts of a production, annotated.
+-- What is done between and after the parts of a production, annotated.
 use Rattle.std.proofs.Common.{◌≡◌, refl, ap, sym, ◌∙◌, subst, ℕ, ◌-◌, List, [], ◌∷◌, Bool, true, false, slice_get, Option, Some, None, Result, Ok, Err, ◌&&◌, nat_lt, ◌⊎◌, inl, inr}
 use Rattle.std.proofs.lemmas.Bool.{false≢true}
 use Rattle.sym_core.specs.declared.refusal.Refusal.{Refusal}
@@ -8,7 +8,7 @@ use Rattle.sym_link.specs.Unfold.{found}
 use Rattle.sym_core.specs.declared.NumberKind.TheVariants.{Decimal, Seq36}
 use Rattle.sym_core.specs.Value.{counted_value}
 use Rattle.cpp_grammar.specs.declared.production.Production.{Production}
-use Rattle.cpp_grammar.specs.Rescoping.{generic_number, generic_so_far, parameter_here, argument_here, lambda_with, with_own, with_holder, is_instance, holder_so_far, numbered, between_wide, close_wide}
+use Rattle.cpp_grammar.specs.Rescoping.{generic_number, generic_so_far, parameter_here, argument_here, lambda_with, as_generic_lambda, with_holder, is_instance, holder_so_far, numbered, between_wide, close_wide}
 use Rattle.cpp_grammar.specs.Scope.{count, element, is_open, length_if_pack}
 use Rattle.cpp_grammar.specs.Term.{Term, lambda, generic_lambda, list, in_std, instance, holder, parameter, lvalue, rvalue, source, operator, constructor, destructor}
 use Rattle.cpp_grammar.specs.Values as leaf_
@@ -34,7 +34,7 @@ use Rattle.cpp_term.proofs.Notes.{both, open_noted, closed_noted}
 use Rattle.cpp_term.proofs.MeaningNoted.{structor_noted, part_noted, tree_noted, piece_noted, text_noted, letter_noted, listed_noted, items_noted, applied_noted, text_part_, extended_noted, prefix_tree_noted, Inside, lambda_noted, meaning_noted}
 use Rattle.cpp_term.proofs.StatesNoted.{IsOutside, Settled, own_place, Alike, alike_bind, Same, Moves, moves_none, one_moves, type_moves, unqualified_moves, prefix_moves, Comes, get_noted, substituted_noted, wide_numbered_noted, held_moves, parameter_noted}
 
--- what stands inside has the same scope, or none
+-- what is inside has the same scope, or none
 abbrev pub InScope : Around → Around → Type 0
 InScope around inner = ((inner.scope ≡ around.scope) × (inner.in_lambda ≡ around.in_lambda)) ⊎ ((inner.scope ≡ None) × (inner.in_lambda ≡ true))
 
@@ -266,7 +266,7 @@ between_noted own Production.Special around place vs x y stays packs = absurd st
 between_noted own Production.OtherSpecial around place vs x y stays packs = absurd stays
 between_noted own _ around place vs x y stays packs = same_goes own around x y vs packs
 
--- ## Behind a production
+-- ## After a production
 
 made_moves : (own : Bool) (production : Production) (byte : ℕ) (around : Around) (vs : List Value) (x : State) (y : value_.State) → Inside production vs → y.packs ≡ x.packs →
     Moves own around x y (appended around (tree_of (meaning production byte around vs)) x)
@@ -427,7 +427,7 @@ wide_between_noted Production.Holder around place (v ∷ []) x y stays settled p
 wide_between_noted Production.Holder around place (v ∷ w ∷ vs) x y stays settled packs = between_noted true Production.Holder around place (v ∷ w ∷ vs) x y stays packs
 wide_between_noted p around place vs x y stays settled packs = between_noted true p around place vs x y stays packs
 
--- a lambda is told apart alike, and what stands in its signature is under its own parameters
+-- a lambda is told apart alike, and what is in its signature is under its own parameters
 lambda_with_noted : (s : Place) (t : Term) (number : ℕ) → wide_.lambda_with (annotate in_own t) number ≡ annotate s (lambda_with t number)
 unfolding lambda_with wide_.lambda_with annotate
 lambda_with_noted s t number = go (is_open t) (scope_.is_open (annotate in_own t)) (open_noted in_own t) refl
@@ -441,10 +441,10 @@ lambda_with_noted s t number = go (is_open t) (scope_.is_open (annotate in_own t
 
 -- `meaning_noted` says it of the place of the values
 own_lambda : (s : Place) (byte : ℕ) (around : Around) (other : value_.Around) (vs : List Value) →
-    wide_.with_own (noted_.meaning Production.Lambda byte other (noted_values in_own vs)) ≡ noted_value s (with_own (meaning Production.Lambda byte around vs))
-unfolding with_own wide_.with_own meaning noted_.meaning noted_value annotate
+    wide_.as_generic_lambda (noted_.meaning Production.Lambda byte other (noted_values in_own vs)) ≡ noted_value s (as_generic_lambda (meaning Production.Lambda byte around vs))
+unfolding as_generic_lambda wide_.as_generic_lambda meaning noted_.meaning noted_value annotate
 own_lambda s byte around other vs =
-    ap wide_.with_own (lambda_noted in_own vs)
+    ap wide_.as_generic_lambda (lambda_noted in_own vs)
     ∙ ap value_.piece (lambda_with_noted s (parameters (list (tree_of (part vs 0)) (no_items (part vs 1)))) (local_number (text_of (part vs 3))))
 
 pub wide_close_noted : (production : Production) (byte : ℕ) (around : Around) (place : ℕ) (began : State) (first : value_.State) (vs : List Value) (x : State) (y : value_.State) → Inside production vs →

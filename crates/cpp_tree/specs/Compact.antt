@@ -7,18 +7,18 @@ use Rattle.cpp_tree.specs.declared.node.Placed.{Placed}
 use Rattle.cpp_tree.specs.declared.node.HeadClass.{HeadClass}
 use Rattle.cpp_tree.specs.declared.node.Free.{Free}
 use Rattle.cpp_tree.specs.declared.node.ByArgument.{ByArgument}
-use Rattle.cpp_tree.specs.declared.compact.HowMany.{HowMany}
+use Rattle.cpp_tree.specs.declared.compact.FreeCount.{FreeCount}
 use Rattle.cpp_tree.specs.declared.compact.Words.{Words}
 use Rattle.cpp_tree.specs.declared.compact.Compact.{Compact}
 use Rattle.cpp_tree.specs.Nodes.{under_kept}
 use Rattle.cpp_tree.specs.Notes.{placed_under, if_own, class_by}
 
--- the length of packs, by what is kept: the number behind it, and 0 where there are none
+-- the length of packs, by what is kept: the number after it, and 0 where there are none
 unfoldable pub packs_kept : ℕ → Option ℕ
 packs_kept zero = None
 packs_kept (suc n) = Some n
 
--- the first word is a node, and the second the argument under which it stands and one more, 0 where there is none
+-- the first word is a node, and the second the argument under which it is and one more, 0 where there is none
 abbrev pub placed_kept : (first second : ℕ) → Placed
 placed_kept first second = record { node = first; under = under_kept second }
 
@@ -58,10 +58,10 @@ has_pack_kept Words.ElementsWithPack = true
 has_pack_kept _ = false
 
 -- the free parameters: the number is that of one alone, or the greatest of several
-unfoldable pub free_kept : HowMany → (number : ℕ) → Free
-free_kept HowMany.None k = Free.None
-free_kept HowMany.One k = Free.One k
-free_kept HowMany.Several k = Free.Several k
+unfoldable pub free_kept : FreeCount → (number : ℕ) → Free
+free_kept FreeCount.None k = Free.None
+free_kept FreeCount.One k = Free.One k
+free_kept FreeCount.Several k = Free.Several k
 
 -- an entry, by what is shared in two words
 abbrev pub kept : (n : Node) (packs : Option ℕ) (free : Free) (is_empty : Bool) (by_argument : ByArgument) (words : Words) (first second : ℕ) → Entry
@@ -131,7 +131,7 @@ with_arguments n packs free by_argument arguments returns = record {
   has_pack = false;
 }
 
--- the entry of a name with tags, under which this one stands
+-- the entry of a name with tags, under which this one is
 abbrev pub with_tags : (n : Node) (packs : Option ℕ) (free : Free) (by_argument : ByArgument) (untagged : Placed) → Entry
 with_tags n packs free by_argument untagged = record {
   node = n;

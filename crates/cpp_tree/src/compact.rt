@@ -9,7 +9,7 @@ ghost use Rattle.cpp_tree.specs.Notes.{bare_entry};
 use crate::node::{ByArgument, Entry, Free, Head, HeadClass, HeadFrom, Node, Placed, under_of};
 
 /// What two words beside a node tell: of a type a list of elements, of a name its arguments or itself without tags, each with the
-/// argument under which it stands, and of a list its count and its run, and whether it has a pack among its elements.
+/// argument under which it is, and of a list its count and its run, and whether it has a pack among its elements.
 #[derive(Clone, Copy)]
 pub enum Words {
     Plain,
@@ -25,9 +25,10 @@ pub enum Words {
     ElementsWithPack,
 }
 
-/// How many parameters are free. The number of one alone stands beside, and of several the greatest.
+/// How many parameters are free. The number of one alone is beside it, and of several the greatest: an enum that holds the number would
+/// make an entry 56 bytes.
 #[derive(Clone, Copy)]
-pub enum HowMany {
+pub enum FreeCount {
     None,
     One,
     Several,
@@ -44,7 +45,7 @@ pub struct Compact {
     pub second: u32,
     /// The number of the free parameter, where one alone is free, and the greatest, where several are.
     pub number: u32,
-    pub free: HowMany,
+    pub free: FreeCount,
     pub is_empty: bool,
     pub words: Words,
     pub by_argument: ByArgument,
@@ -138,7 +139,7 @@ fn count(words: Words, first: u32) -> u32
     }
 }
 
-/// How many cells stand before a cell.
+/// How many cells come before a cell.
 #[inline(always)]
 #[tactic(auto, unfolding(crate::specs::Compact::run_kept))]
 fn run(words: Words, second: u32) -> u32
@@ -166,13 +167,13 @@ fn has_pack(words: Words) -> bool
 /// The free parameters.
 #[inline(always)]
 #[tactic(auto, unfolding(crate::specs::Compact::free_kept))]
-fn free_parameters(kept: HowMany, number: u32) -> Free
+fn free_parameters(kept: FreeCount, number: u32) -> Free
     ensures { result ≡ free_kept kept number }
 {
     match kept {
-        HowMany::None => Free::None,
-        HowMany::One => Free::One(number),
-        HowMany::Several => Free::Several(number),
+        FreeCount::None => Free::None,
+        FreeCount::One => Free::One(number),
+        FreeCount::Several => Free::Several(number),
     }
 }
 
@@ -224,7 +225,7 @@ pub(crate) fn bare(node: Node, is_empty: bool) -> Compact
         first: 0,
         second: 0,
         number: 0,
-        free: HowMany::None,
+        free: FreeCount::None,
         is_empty,
         words: Words::Plain,
         by_argument: by_none(is_empty),

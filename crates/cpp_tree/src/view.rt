@@ -26,7 +26,7 @@ use crate::tree_production::{
 use crate::{Nodes, node};
 use sym_core::Span;
 
-/// The view of a node. What its numbers, texts and parts are stands at its production in `tree_production`.
+/// The view of a node. What its numbers, texts and parts are is at its production in `tree_production`.
 #[derive(Clone, Copy)]
 pub struct Node {
     pub production: u16,
@@ -147,7 +147,7 @@ fn two(production: u16, numbers: [u64; 2], text: Span, first: u32, second: u32) 
     seen(production, numbers, [text, NO_TEXT], 2, [first, second, 0])
 }
 
-/// A name of this text, behind a prefix if there is one.
+/// A name of this text, after a prefix if there is one.
 fn named(production: u16, numbers: [u64; 2], text: Span, prefix: Option<u32>) -> NodeView
     ensures { result ≡ seen_behind production numbers text prefix }
 {
@@ -164,7 +164,7 @@ fn linkage_number(c_linkage: bool, noexcept: bool) -> u64
     (bit(c_linkage) + 2 * bit(noexcept)) as u64
 }
 
-/// The view of a name of a piece, behind a prefix if there is one.
+/// The view of a name of a piece, after a prefix if there is one.
 #[tactic(auto, unfolding(crate::specs::Fields::name_fields, cpp_term::specs::Erased::erase, crate::specs::Nodes::piece_of))]
 fn view_of_name(
     symbol: &[u8],
@@ -324,7 +324,7 @@ pub fn view_of(symbol: &[u8], nodes: &Nodes, node: node::Node) -> NodeView
     ensures few { result.node.parts ≤ 3 }
 {
     match node {
-        node::Node::Again { tree, .. } => view_of_tree(symbol, nodes, tree),
+        node::Node::Reargued { tree, .. } => view_of_tree(symbol, nodes, tree),
         _ => view_of_own(symbol, nodes, node),
     }
 }
@@ -464,7 +464,7 @@ fn view_of_own(symbol: &[u8], nodes: &Nodes, node: node::Node) -> NodeView
         node::Node::Cell { first, rest } => two(LIST, none, NO_TEXT, first, rest),
         node::Node::Whole { encoding, suffix } => one(SYMBOL, none, suffix, encoding),
         // No node here: the tree that is there again is shown in its place.
-        node::Node::Again { .. } => leaf(ABSENT, 0),
+        node::Node::Reargued { .. } => leaf(ABSENT, 0),
     }
 }
 
@@ -476,7 +476,7 @@ pub fn offsets_of(symbol: &[u8], nodes: &Nodes, node: node::Node) -> Option<Thun
     ensures within { IsKnownThunk symbol.now result }
 {
     match node {
-        node::Node::Again { tree, .. } => {
+        node::Node::Reargued { tree, .. } => {
             let place = nodes.resolved(symbol, tree);
             own_offsets_of(symbol, nodes, nodes.node(symbol, place.node))
         }

@@ -18,9 +18,9 @@ use Rattle.rust_direct.specs.declared.open.Step.TheVariants as steps
 use Rattle.rust_direct.specs.declared.direct.Direct.{Direct}
 use Rattle.rust_direct.specs.Holes.{Comes, Expects, within, Wanted, path, other_path, type, kind_of, is_for_type, IsType, Ends}
 use Rattle.rust_direct.specs.Prints.{PathPrints, TypePrints, opening}
-use Rattle.rust_direct.specs.Says.{PathHas, Holds, has_form, is_type, form_of, is_path}
+use Rattle.rust_direct.specs.PrintsInForm.{PathHas, Holds, has_form, is_type, form_of, is_path}
 use Rattle.rust_direct.specs.Written.{Writes, Pushes}
-use Rattle.rust_direct.specs.Stands.{Stands, IsWriting, Keeps, parked_of, separator_of}
+use Rattle.rust_direct.specs.WriterInvariant.{Stands, IsWriting, Keeps, parked_of, separator_of}
 use Rattle.rust_direct.specs.Awaits.{Awaits, AwaitsPath, AwaitsArgument, Arrives, IsEnded}
 use Rattle.rust_direct.proofs.Kept.{keeps-same, keeps-written, reverse-last}
 use Rattle.rust_direct.proofs.Moves.{expects-moved}
@@ -120,7 +120,7 @@ pub filled-text : (text own : List ℕ) → text ≡ own → false ≡ nat_eq (l
 filled-text text [] is e = absurd (false≢true (e ∙ ap (λ l. nat_eq (length l) 0) is))
 filled-text text (b ∷ bs) is e = omega arith
 
--- the letter of a basic type stands where it was read
+-- the letter of a basic type is where it was read
 pub letter-there : (s : List ℕ) (at letter : ℕ) → 1 ≤ length (basic_text letter) → (letter ≢ 0 → StandsAt s at (letter ∷ [])) → StandsAt s at (letter ∷ [])
 unfolding basic_text
 letter-there s at letter filled stands = stands (λ none. omega (arith, subst (λ b. 1 ≤ length (basic_text b)) none filled))
@@ -264,7 +264,7 @@ argument-separated s old new p writes =
       };
     }
 
--- no separator stands before the first one
+-- no separator comes before the first one
 pub argument-first : (s : List ℕ) (w : Direct) → IsWriting s w (steps.Arguments true) → AwaitsArgument s w true
 argument-first s w p = record {
   state = p.state;

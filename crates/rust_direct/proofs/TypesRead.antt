@@ -1,4 +1,4 @@
--- Types that were read and written: those of one type, and those that stand before.
+-- Types that were read and written: those of one type, and those that came before.
 use Rattle.std.proofs.Common.{◌≡◌, ℕ, suc, ◌+◌, List, [], ◌∷◌, length, slice_get, true, Some, refl, ap, subst, ◌∙◌}
 use Rattle.std.proofs.lemmas.Bool.{false≢true}
 use Rattle.sym_direct.specs.Holes.{StandsAt}
@@ -12,7 +12,7 @@ use Rattle.rust_direct.specs.declared.open.Note.{Note}
 use Rattle.rust_direct.specs.declared.direct.Direct.{Direct}
 use Rattle.rust_direct.specs.Holes.{Expects, Wanted, path, other_path, type, is_for_type, kind_of, IsNumberAt}
 use Rattle.rust_direct.specs.Prints.{TypePrints}
-use Rattle.rust_direct.specs.Says.{Says, Holds, is_type}
+use Rattle.rust_direct.specs.PrintsInForm.{Says, Holds, is_type}
 use Rattle.rust_direct.specs.Notes.{home}
 use Rattle.rust_direct.specs.Written.{Writes, piece}
 use Rattle.rust_direct.specs.Awaits.{Awaits, IsEnded}
@@ -22,7 +22,7 @@ use Rattle.rust_direct.proofs.PrintedTypes.{path-is-type}
 use Rattle.rust_direct.proofs.PathsRead.{stands-written}
 use Rattle.rust_direct.proofs.Again.{note-found}
 
--- ## What stands before
+-- ## What came before
 
 path-as-type : (v : Value) (p : tree.Path) → as_path (Some v) ≡ Some p → as_type (Some v) ≡ Some (tree.path_type p)
 path-as-type (a_path q) p is = let same : q ≡ p = cc is in ap (λ x. Some (tree.path_type x)) same

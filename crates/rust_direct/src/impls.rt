@@ -6,7 +6,7 @@ ghost use Rattle.sym_core.specs.Number.{FitsSymbol};
 ghost use Rattle.sym_direct.specs.Holes.{StandsAt};
 ghost use Rattle.rust_direct.specs.declared.open.Closing.TheVariants as closings;
 ghost use Rattle.rust_direct.specs.declared.open.Open.TheVariants as opens;
-ghost use Rattle.rust_direct.specs.Stands.{IsWriting};
+ghost use Rattle.rust_direct.specs.WriterInvariant.{IsWriting};
 ghost use Rattle.rust_direct.specs.Awaits.{AwaitsPath, AwaitsImplType, Arrives};
 
 use crate::direct::Direct;
@@ -72,7 +72,7 @@ impl Direct {
         self.begin_impl_type(_s, place)
     }
 
-    /// The type of an impl stands in angles.
+    /// The type of an impl is in angles.
     // <path> = "M" <impl-path> <type>
     #[inline(always)]
     fn begin_impl_type(&mut self, _s: &[u8], place: usize) -> Option<Step>

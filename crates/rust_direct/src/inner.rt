@@ -1,10 +1,10 @@
-// Impls within what isn't shown: their paths are written in front of it, where nothing of it is written yet.
+// Impls within what isn't shown: their paths are written before it, where nothing of it is written yet.
 
 ghost use Rattle.std.specs.Prelude.{◌≡◌, ◌+◌, ◌∷◌, [], reverse, true};
 ghost use Rattle.std.specs.Option.{IfSome};
 ghost use Rattle.sym_direct.specs.Holes.{StandsAt};
 ghost use Rattle.rust_direct.specs.Holes.{HasDisambiguator};
-ghost use Rattle.rust_direct.specs.Stands.{IsWriting, IsUnbegun};
+ghost use Rattle.rust_direct.specs.WriterInvariant.{IsWriting, IsUnbegun};
 ghost use Rattle.rust_direct.specs.Awaits.{AwaitsPath};
 
 use crate::direct::Direct;

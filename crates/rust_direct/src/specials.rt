@@ -5,10 +5,10 @@ ghost use Rattle.std.specs.Option.{IfSome, OnSome};
 ghost use Rattle.sym_core.specs.Number.{FitsSymbol};
 ghost use Rattle.rust_tree.specs.Shown.{namespace_text};
 ghost use Rattle.rust_direct.specs.declared.open.Open.TheVariants as opens;
-ghost use Rattle.rust_direct.specs.Says.{is_path};
+ghost use Rattle.rust_direct.specs.PrintsInForm.{is_path};
 ghost use Rattle.rust_direct.specs.Written.{Writes};
 ghost use Rattle.rust_direct.specs.Specials.{behind_colon, special_text};
-ghost use Rattle.rust_direct.specs.Stands.{IsWriting};
+ghost use Rattle.rust_direct.specs.WriterInvariant.{IsWriting};
 ghost use Rattle.rust_direct.specs.Awaits.{Arrives};
 
 use crate::direct::Direct;
@@ -68,7 +68,7 @@ impl Direct {
         self.ended(s, place, from, forms, forms)
     }
 
-    /// Writes what stands behind the parent.
+    /// Writes what follows the parent.
     fn push_special(&mut self, namespace: &[u8], name: &[u8], count: u64) -> Option<()>
         ensures { OnSome result (Writes self.old self.new (special_text namespace.now name.now count)) }
     {
@@ -90,7 +90,7 @@ impl Direct {
         Some(())
     }
 
-    /// Writes a name behind a colon, if it isn't empty.
+    /// Writes a name after a colon, if it isn't empty.
     #[inline(always)]
     fn push_behind_colon(&mut self, name: &[u8]) -> Option<()>
         ensures { OnSome result (Writes self.old self.new (behind_colon name.now)) }

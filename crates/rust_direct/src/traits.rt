@@ -5,7 +5,7 @@ ghost use Rattle.std.specs.Option.{IfSome};
 ghost use Rattle.sym_core.specs.Number.{FitsSymbol};
 ghost use Rattle.sym_direct.specs.Holes.{StandsAt};
 ghost use Rattle.rust_direct.specs.declared.open.Open.TheVariants as opens;
-ghost use Rattle.rust_direct.specs.Stands.{IsWriting};
+ghost use Rattle.rust_direct.specs.WriterInvariant.{IsWriting};
 ghost use Rattle.rust_direct.specs.Awaits.{AwaitsPath, AwaitsTraitType, Arrives};
 
 use crate::direct::Direct;
@@ -71,7 +71,7 @@ impl Direct {
         self.begin_trait_type(_s, place)
     }
 
-    /// The type that implements a trait stands behind an angle.
+    /// The type that implements a trait comes after an angle.
     // <path> = "X" <impl-path> <type> <path>
     #[inline(always)]
     fn begin_trait_type(&mut self, _s: &[u8], place: usize) -> Option<Step>

@@ -4,14 +4,14 @@ ghost use Rattle.std.specs.Prelude.{◌≡◌, ◌∷◌, [], true};
 ghost use Rattle.std.specs.Option.{IfSome};
 ghost use Rattle.sym_direct.specs.Holes.{StandsAt};
 ghost use Rattle.rust_direct.specs.declared.open.Open.TheVariants as opens;
-ghost use Rattle.rust_direct.specs.Stands.{IsWriting, tuple_end};
+ghost use Rattle.rust_direct.specs.WriterInvariant.{IsWriting, tuple_end};
 ghost use Rattle.rust_direct.specs.Awaits.{Awaits, Arrives};
 
 use crate::direct::Direct;
 use crate::open::{Forms, Open, Step, is_type};
 use sym_direct::byte_at;
 
-/// What closes a tuple behind its first type, and behind another one.
+/// What closes a tuple after its first type, and after another one.
 #[inline(always)]
 fn tuple_end(is_first: bool) -> &'static [u8]
     ensures { result.now ≡ tuple_end is_first }

@@ -6,14 +6,14 @@ ghost use Rattle.sym_direct.specs.Holes.{StandsAt};
 ghost use Rattle.rust_direct.specs.declared.open.Closing.TheVariants as closings;
 ghost use Rattle.rust_direct.specs.declared.open.Open.TheVariants as opens;
 ghost use Rattle.rust_direct.specs.Holes.{IsErasedAt};
-ghost use Rattle.rust_direct.specs.Stands.{IsWriting};
+ghost use Rattle.rust_direct.specs.WriterInvariant.{IsWriting};
 ghost use Rattle.rust_direct.specs.Awaits.{Awaits, Arrives};
 
 use crate::direct::Direct;
 use crate::open::{Closing, Forms, Open, Step, is_type};
 use sym_direct::byte_at;
 
-/// The place behind an erased lifetime, or the same place where none stands there.
+/// The place after an erased lifetime, or the same place where none is there.
 // <lifetime> = "L" <base-62-number>
 #[inline(always)]
 fn behind_erased(s: &[u8], at: usize) -> Option<usize>
