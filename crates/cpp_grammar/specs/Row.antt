@@ -1,0 +1,183 @@
+-- What a row says of a production: what is done before its parts, what it stands for, and what becomes a candidate once they are read.
+-- A part is named by its number. No tree and no function is in a row, so rows are the same for each sort of trees.
+use Rattle.std.specs.Prelude.{ℕ, ◌+◌, List, [], ◌∷◌, get_or, Bool}
+use Rattle.cpp_grammar.specs.Makers.{Maker}
+
+-- where an argument of a tree comes from: a part, the name so far, the byte that the production takes, or the row itself
+pub data Source : Type 0 where
+  tree_at : ℕ → Source
+  -- a list, which isn't there where it has no items; and one of the parameters of a function, of which a lone void is none
+  list_at : ℕ → Source
+  parameters_at : ℕ → Source
+  piece_at : ℕ → Source
+  the_name : Source
+  text_at : ℕ → Source
+  -- a text of digits without zeros in front
+  digits_at : ℕ → Source
+  -- the code of a builtin type: these bytes, and the one that is taken
+  code : (front : List ℕ) → Source
+  taken : Source
+  fixed : ℕ → Source
+  letter_at : ℕ → Source
+  -- the number of a lambda or an unnamed type
+  number_at : ℕ → Source
+  yes : Source
+  no : Source
+  -- whether a part is there, and whether its letter is this one
+  there_at : ℕ → Source
+  letter_is : ℕ → (letter : ℕ) → Source
+  qualifiers_at : ℕ → Source
+  qualified_by : (restrict volatile const : Source) → Source
+  ref_at : ℕ → Source
+  signed_at : ℕ → Source
+  discriminator_at : ℕ → Source
+
+-- a tree that a row makes
+pub data Made : Type 0 where
+  of : Maker → List Source → Made
+  -- one that is there already
+  only : Source → Made
+  -- the name so far with one more piece, or with one more tag
+  extending : Made → Made
+  tagging : (text : ℕ) → Made
+  -- a name with the arguments that a part is, if it is there
+  applying : Made → (arguments : ℕ) → Made
+  -- a pack of the elements that a part is
+  packing : ℕ → Made
+
+-- Whether a tree is marked as listed: as one that is a candidate already, or never is one. A name to which something is added becomes a
+-- candidate unless it is.
+pub data Listing : Type 0 where
+  listed : Listing
+  unlisted : Listing
+  as_part : ℕ → Listing
+  -- unless this part is there
+  unless_there : ℕ → Listing
+  as_part_alone : ℕ → (arguments : ℕ) → Listing
+
+-- what has code of its own: specs/Own
+pub data Own : Type 0 where
+  nested_name : Own
+  encoding : Own
+  non_virtual_thunk : Own
+  virtual_thunk : Own
+  covariant_thunk : Own
+  local_name : Own
+  in_default : Own
+  nest_end : Own
+  closure : Own
+  substitution : Own
+  first_of_operator : Own
+  reference : Own
+  lvalue_signature : Own
+  rvalue_signature : Own
+  no_parameters : Own
+  no_value : Own
+  character : Own
+  suffix : Own
+  non_virtual_offset : Own
+  virtual_offset : Own
+  negative : Own
+  positive : Own
+  one_digit : Own
+  many_digits : Own
+
+-- what a production stands for
+pub data Form : Type 0 where
+  -- what a part stands for; and the same tree, which is a candidate by now
+  handed : ℕ → Form
+  finished : ℕ → Form
+  -- the byte that is taken
+  the_byte : Form
+  -- a tree, a piece of a name, a cell of a list, one more item of a signature
+  makes : Made → Listing → Form
+  a_piece : Made → Form
+  cell : (first rest : ℕ) → Form
+  item : (first rest : ℕ) → Form
+  -- the first part with the arguments that the second is, if it is there; one that was tagged is in the place of another name
+  a_name : Listing → Form
+  in_place : Form
+  -- its own code makes so many nodes at most
+  own : Own → (most : ℕ) → Form
+
+-- what surrounds a part
+pub data Where : Type 0 where
+  as_before : Where
+  in_its_name : Where
+  in_its_types : Where
+  in_a_signature : Where
+  -- under an expansion
+  under_it : Where
+  -- where no name begins yet
+  nameless : Where
+  -- in a name, whose part so far is this tree, or is what it was
+  after_part : ℕ → Listing → Where
+  after_the_name : Where
+
+-- what becomes a candidate
+pub data Gain : Type 0 where
+  nothing : Gain
+  -- the name so far
+  the_prefix : Gain
+  -- the type that a part is, unless it is listed; and if it isn't a function type, which is none where qualifiers are behind it
+  type_of : ℕ → Gain
+  unqualified_of : ℕ → Gain
+  -- what the production stands for
+  itself : Gain
+
+-- what is done before a part
+pub data Before : Type 0 where
+  quiet : Before
+  goes : Gain → Where → Before
+  -- the first part becomes this tree, which may be the name so far, and may become a candidate
+  becomes : Made → (is_in is_name is_candidate : Bool) → Before
+  -- the first part is the number of a parameter, which is tested at the place, or at the T before it; it may be the name so far
+  tests : (after_t is_name : Bool) → Before
+  -- the first part is an M behind the name so far
+  holds : Before
+
+pub record Row : Type 0 where
+  -- before each part from the first one on, and before each of the others
+  pub before : List Before
+  pub onward : Before
+  pub form : Form
+  pub gain : Gain
+  -- at the end the packs are those of the surroundings again
+  pub restores_packs : Bool
+  -- the number that its last token is has 64 bits: this is tested first
+  pub tests_number : Bool
+
+-- ## Counts
+
+-- Before how many parts nothing is done: none, the first ones, or all, which are five at most
+unfoldable pub quiet_from : List Before → Before → (n : ℕ) → ℕ
+quiet_from [] quiet n = 5
+quiet_from [] onward n = n
+quiet_from (quiet ∷ rest) onward n = quiet_from rest onward (n + 1)
+quiet_from (b ∷ rest) onward n = n
+
+unfoldable pub quiet_before : Row → ℕ
+quiet_before row = quiet_from row.before row.onward 0
+
+unfoldable pub before_part : Row → ℕ → Before
+before_part row n = get_or row.before n row.onward
+
+-- how many nodes are made at most for a tree, before a part, and at the end
+unfoldable pub most_made : Made → ℕ
+most_made (only source) = 0
+most_made m = 1
+
+unfoldable pub most_before : Before → ℕ
+most_before (becomes m is_in is_name is_candidate) = most_made m
+most_before (tests after_t is_name) = 1
+most_before holds = 1
+most_before _ = 0
+
+unfoldable pub most_at_end : Form → ℕ
+most_at_end (makes m listing) = most_made m
+most_at_end (cell first rest) = 1
+most_at_end (item first rest) = 1
+most_at_end (a_name listing) = 1
+most_at_end in_place = 1
+most_at_end (own o most) = most
+most_at_end _ = 0
