@@ -20,7 +20,9 @@ pub finished-requires-clause-most : goal.finished-requires-clause-most
 finished-requires-clause-most c = c.requires.1.steps_few
 
 pub returns-clause-whole : goal.returns-clause-whole
-returns-clause-whole c shape is = c.finished.ensures.whole (unfold_wide shape) (wide_whole wide c.args.bytes.items c.args.linked.now c.args.parts.now c.args.rows c.args.steps shape is)
+returns-clause-whole c shape is =
+    rw c.new.ensures (c.finished.ensures.whole (unfold_wide shape) (wide_whole wide c.args.bytes.items c.args.linked.now c.args.parts.now c.args.rows c.args.steps shape is))
 
 pub returns-clause-nodes : goal.returns-clause-nodes
-returns-clause-nodes c shape is = ap length c.finished.ensures.nodes ∙ wide_nodes wide c.args.bytes.items c.args.linked.now c.args.parts.now c.args.rows c.args.steps shape is
+returns-clause-nodes c shape is =
+    rw c.new.ensures (ap length c.finished.ensures.nodes ∙ wide_nodes wide c.args.bytes.items c.args.linked.now c.args.parts.now c.args.rows c.args.steps shape is)
