@@ -44,8 +44,8 @@ extended (behind t listed) piece = within t piece
 unfoldable pub with_tag : Term → List ℕ → Term
 with_tag t tag = tagged (is_structor t) t tag
 
--- A name, with arguments where there are some. A name that stands behind it is the same with tags, and perhaps arguments behind
--- these: it stands in its place.
+-- A name, with arguments where there are some. A name that follows it is the same with tags, and perhaps arguments after
+-- these: it takes its place.
 unfoldable pub applied : Term → Value → Term
 applied t (named u qualifiers ref) = u
 applied t v = elim (is_there v) [ true ↦ instance t (tree_of v) | false ↦ t ]
@@ -54,14 +54,14 @@ unfoldable pub no_items : Value → Term
 no_items nothing_there = nil
 no_items v = tree_of v
 
--- these values so far, these surroundings of the next part, and this state in front of it
+-- these values so far, these surroundings of the next part, and this state before it
 abbrev pub Going : Type 0
 Going = Result (Next Value State Around) Refusal
 
 abbrev pub next : List Value → Around → State → Going
 next vs around state = Ok (record { values = vs; context = around; state = state })
 
--- a name that has been made stands before its arguments
+-- a name that has been made comes before its arguments
 unfoldable pub named_so_far : Around → Term → List Value → State → Going
 named_so_far around t vs state = next (tree t false ∷ vs) (after t false around) state
 
