@@ -32,7 +32,7 @@ fi
 [ $# -gt 0 ] || { echo 'none of the usual libraries is installed' >&2; exit 1; }
 for library in "$@"; do realpath "$library"; done | sort -u >"$out/libraries"
 
-# the lines of nm, and behind each library's a line with its path
+# the lines of nm, and after each library's a line with its path
 listed() {
     while read -r library; do
         case $library in

@@ -1,5 +1,5 @@
 #!/bin/bash
-# Runs the scripts that are run by hand, over the program and the library that stand in crates/*/out, and prints a line for each:
+# Runs the scripts that are run by hand, over the program and the library that are in crates/*/out, and prints a line for each:
 #
 #   tests/all.sh [-b] [-s SYMBOLS].. [-r REFERENCE] [-m MODULE] [NAME..]
 #
@@ -9,7 +9,7 @@
 #   -m MODULE     another implementation as a module of Python, for costs.py
 #   NAME          the lines that are run, as `callers packages`; without names all
 #
-# A line is `ok`, `FAILED` with the end of what the script printed, or `left out` with what is missing. Behind it stands what the
+# A line is `ok`, `FAILED` with the end of what the script printed, or `left out` with what is missing. After it comes what the
 # script itself left out. The status is 1 where one failed, 2 where the program or the library isn't built.
 set -u
 usage() {

@@ -195,7 +195,7 @@ shows '__Z1fv' SYMDEMANGLE_NEXT=0 '' __Z1fv
 echo 'c++filt, its options and what is handed on: ok'
 
 # rustc_demangle, in a program that knows its declaration alone, and in one that is packaged and loads the library by its name:
-# Hotspot's parser of perf's records (1.6; 1.3 has no such call). PERFPARSER names it, or a script that runs it, where it stands
+# Hotspot's parser of perf's records (1.6; 1.3 has no such call). PERFPARSER names it, or a script that runs it, where it is
 # elsewhere.
 if has rustc 'rustc_demangle'; then
     cc -std=c99 -O2 -shared -fPIC "${warnings[@]}" -Wpedantic -DRUSTC callers/shims/shims.c -o "$work/librustc_demangle.so" "${static[@]}"

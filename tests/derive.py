@@ -6,7 +6,7 @@
 
 With --wide the table is that of the wide grammar, and the rules that it alone has are taken more often. Each symbol goes on towards
 some rules, which are picked at random, so that a rule which is added to the table occurs as often as the others. References have the
-numbers of candidates and arguments that are there, now and then another one. In some symbols a kind stands many times within itself,
+numbers of candidates and arguments that are there, now and then another one. In some symbols a kind is nested many times within itself,
 as in a chain of tags, some have lists of types each of which has the one before it twice, and some have an encoding in a name's
 arguments, with types whose parameters stand for others outside it. A symbol has at most BYTES bytes (200).
 With a PROGRAM, which has symfilt's command line, the second column says how many of them it answers with a text.
@@ -35,7 +35,7 @@ REFERENCES = {"Substitution", *PARAMETERS}
 REFERRING = {"PlainType", "QualifiedPlain", "TypeWithS", "AbbreviatedType", *REFERENCES}
 NAMING = {"Anonymous", "Operator", "ConstructorDigit", "DestructorDigit"}
 TYPES = {"Type", "Plain", "Item", "ItemButRef", "Argument"}
-# the part that is an argument behind what is declared of it
+# the part that is an argument after what is declared of it
 DECLARED = {"AnyArgument": 0, "AnyElement": 0, "ArgumentWithT": 0, "DeclaredArgument": 1}
 # what a token is in a word that is read here; the names have lengths of one digit
 TOKENS = {grammar.NAME: re.compile(rb"[0-9]"), grammar.SEQ36: re.compile(rb"[0-9A-Z]*_"), grammar.DECIMAL: re.compile(rb"[0-9]*_"), grammar.DIGITS: re.compile(rb"[0-9]+")}
@@ -60,7 +60,7 @@ Token = collections.namedtuple("Token", "cls production")
 # of a tree that a substitution may name: its free parameters, whether it has packs, the encoding in which it was made, and whether in
 # the signature of a lambda
 Candidate = collections.namedtuple("Candidate", "parameters is_packed encoding in_lambda")
-# around a part: the encoding; which of the arguments that parameters name are packs, or None; where it stands
+# around a part: the encoding; which of the arguments that parameters name are packs, or None; where it is
 Around = collections.namedtuple("Around", "encoding scope in_lambda in_expansion")
 
 
@@ -195,7 +195,7 @@ class Derivation:
 
 
 def parts_within(table, node):
-    """The ways to what stands within a node, each with its kind and what stands there."""
+    """The ways to what is within a node, each with its kind and what is there."""
     ways = [((), node.kind, node)]
     while ways:
         way, kind, part = ways.pop()
@@ -242,7 +242,7 @@ def read(table, word):
 
 
 def repeated(rng, table, tree, times, kind=None):
-    """The tree, in which some kind, or the one that is asked for, stands so many times more within itself; more often than not with
+    """The tree, in which some kind, or the one that is asked for, is nested so many times more within itself; more often than not with
     a rule of the wide grammar's own each time."""
     nodes = [(way, part) for way, _, part in parts_within(table, tree) if part is not None]
     own = [way for way, node in nodes if table.is_own(node)]
@@ -429,7 +429,7 @@ class Spelling:
 
 
 def leaves_candidate(node):
-    """Whether a type is a candidate behind this node."""
+    """Whether a type is a candidate after this node."""
     if node.production in ("RestrictType", "VolatileType", "ConstType", "ReferenceType", "LvalueItem", "RvalueItem"):
         return True
     if node.production not in ("PlainType", "TypeWithD", "PlainArgument", "ArgumentWithT"):
@@ -443,7 +443,7 @@ def leaves_candidate(node):
 
 
 def counted(number, base):
-    """A number with an underscore behind it, which alone is the first."""
+    """A number with an underscore after it, which alone is the first."""
     digits = b""
     while number > 0:
         number, digit = divmod(number - 1, base) if not digits else divmod(number, base)

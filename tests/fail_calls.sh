@@ -38,7 +38,7 @@ ends_well() {
         return
     fi
     [ "$status" -eq 3 ] && begins "$work/out" "$work/whole" || return 1
-    # the words of the fault stand behind the complaints so far, which a failed write may have cut off
+    # the words of the fault come after the complaints so far, which a failed write may have cut off
     [ "$(tail -n 1 "$work/err" | tail -c $((${#which} + 17)))" = "symfilt: $which failed" ]
 }
 

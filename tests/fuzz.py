@@ -81,7 +81,7 @@ def double(rng, word, _others):
 
 
 def refer_twice(rng, word, _others):
-    """A reference stands twice, or another one stands in its place."""
+    """A reference comes twice, or another one takes its place."""
     found = list(REFERENCE.finditer(word))
     if not found:
         return double(rng, word, _others)

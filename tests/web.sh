@@ -53,7 +53,7 @@ echo '{"type": "module"}' >"$page/package.json"
 module_test "$page"
 ! has chromium 'the page in a browser' || page_test "$page" "$shots"
 
-# broken TEST FILE OLD NEW : the test has to fail where OLD, which stands there once, is NEW
+# broken TEST FILE OLD NEW : the test has to fail where OLD, which is there once, is NEW
 broken() {
     cp "$page/$2" "$work/whole"
     FILE=$page/$2 OLD=$3 NEW=$4 python3 -c '

@@ -16,7 +16,7 @@ SHARED = {
 }
 BY_HAND = ("Items", "Ranks")
 
-# what differs: each text stands once
+# what differs: each text occurs once
 CHANGED = {
     "Term": [("  parameter : (number : ℕ) → Term\n", "  -- a parameter by its number, and the argument that it names\n  parameter : (number : ℕ) → (argument : Term) → Term\n")],
     "Scope": [("is_open (parameter number) =", "is_open (parameter number argument) ="),

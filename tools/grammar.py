@@ -36,13 +36,13 @@ def wide(rule): return (*rule, "wide")
 def eats(cls, name, *symbols, **row): return (cls, prod(name, *symbols, **row))
 def chain(name, *symbols, **row): return (None, prod(name, *symbols, chain=True, **row))
 
-# the first letters of operators, each with the second letters behind it
+# the first letters of operators, each with the second letters after it
 OPS = [(first, "".join(code[1] for code, text in words.OPERATORS if code[0] == first)) for first in words.FIRST_LETTERS]
-# the letters of builtin types with a code of one letter, and behind D; of those whose literals are of a sort
+# the letters of builtin types with a code of one letter, and after D; of those whose literals are of a sort
 def builtins(d, *sorts): return "".join(code[-1] for code, text, literal in words.BUILTINS if (len(code) == 2) == d and (not sorts or literal in sorts))
 ABBREVIATED = "".join(letter for letter, text in words.ABBREVIATIONS)
 SPECIAL = "".join(letter for letter, text in words.SPECIALS)
-# of those of a name the ones behind T
+# of those of a name the ones after T
 NAMED_SPECIAL = "".join(code[1] for code, text in words.NAMED_SPECIALS if code[0] == "T")
 def MARK(cls): return eats(cls, "Mark", means="byte")
 
@@ -332,7 +332,7 @@ def build(extended=True, widened=False):
     kind("NestRestOrEnd", eats("I", "NestInstance", "ArgumentsFirst", "'E'", "NestMoreOrEnd",
                                before="0: list the name, inside; 2: name = instance(name, i0)", means="part 2"),
          chain("NestNext", "Component", "NestTail"))
-    # behind a parameter and a substitution no tag may come: in the ABI's grammar these are as MaybeArguments and NestRest
+    # after a parameter and a substitution no tag may come: in the ABI's grammar these are as MaybeArguments and NestRest
     kind("ArgumentsAlone", ARGUMENTS, empty=True)
     kind("NestRestAlone", *NEST_REST)
     kind("HolderMark", MARK("M"))
@@ -344,11 +344,11 @@ def build(extended=True, widened=False):
         # <unqualified-name> ::= <operator-name>, within a nested name, behind a c
         chain("OperatorNameWithC", "OperatorAfterC", "MaybeArguments", before="1: name = name + operator('c', l0)", means="applied"))
     kind("OtherOperator", *[rule for a, rule in by_letter.items() if a != "c"])
-    # a pack begins with an I where it is the first argument alone: behind a name that I would begin the arguments of the name
+    # a pack begins with an I where it is the first argument alone: after a name that I would begin the arguments of the name
     kind("ArgumentsFirst", *arguments, wide(pack("I")), empty=True)
     kind("PlainEntity", *plain_entity)
     kind("PlainTypeEntity", *plain_type_entity)
-    # behind a G and an St the wide grammar has more than the other: a chain leads to a kind that takes these bytes
+    # after a G and an St the wide grammar has more than the other: a chain leads to a kind that takes these bytes
     kind("SpecialMark", MARK("G"))
     kind("SpecialAfterG",
         # <special-name> ::= GV <object name>, behind the G
@@ -360,7 +360,7 @@ def build(extended=True, widened=False):
     kind("TypeInStd", eats("t", "TaggedStdType", "SourceOrLocal", "MaybeTags", before="1: name = in_std(p0)", means="applied"))
     # <unqualified-name> ::= <unqualified-name> <abi-tags>, in std as a type
     kind("MaybeTags", wide(eats("B", "TypeTag", NAME, "MaybeTags", before="1: name = tagged(name, x0)", means="applied in place")), empty=True)
-    # an argument: behind an X an expression, the address of an encoding or a parameter; behind a T a parameter, or what is declared of
+    # an argument: after an X an expression, the address of an encoding or a parameter; after a T a parameter, or what is declared of
     # the argument that follows, which may be a pack; or a type that begins with no T
     argument = [
         *QUALS, ITEM_WITH_D, REF,
@@ -410,7 +410,7 @@ def build(extended=True, widened=False):
         wide(eats("T", "BoundedArray", DECIMAL, "'_'", "Type", before="1: parameter, no candidate", means="bounded(t0, t2)")),
         # <array-type> ::= A <number> _ <element type>, behind the A
         chain("LengthArray", DECIMAL, "Type", means="array(d0, t1)"))
-    # behind the arguments of a substitution in a nested name: by the ABI the name doesn't end there
+    # after the arguments of a substitution in a nested name: by the ABI the name doesn't end there
     kind("NestMoreOrEnd", wide(eats("E", "NestEnd")), chain("NestNext", "Component", "NestTail"))
 
 def is_kind(s): return s in KS
@@ -574,7 +574,7 @@ def rust_kinds():
 
 def rust_productions():
     out = [f"// {WRITTEN} The productions of the grammar (ABI 5.1).", "",
-           "/// The productions of the grammar. A production has one meaning, and one rule, in whatever kind it stands.",
+           "/// The productions of the grammar. A production has one meaning, and one rule, whichever kind it appears in.",
            "#[derive(Clone, Copy)]", "pub enum Production {"]
     out += [f"    {p}," for p in P] + ["}"]
     return "\n".join(out) + "\n"
@@ -667,7 +667,7 @@ def rust_table():
     for i, k in enumerate(K):
         if any(k in syms for ate, syms in P.values()): out += [f"const {snake(k).upper()}: Sym = Sym::Kind({i});", ""]
     for t in (NAME, DECIMAL, SEQ36, DIGITS): out += [f"const {t.upper()}: Sym = {rust_symbol(t)};", ""]
-    out += ["/// The letter of the production with number 0; the others have the letters behind it, in the order of their numbers.",
+    out += ["/// The letter of the production with number 0; the others have the letters after it, in the order of their numbers.",
             f"pub const FIRST_LETTER: u8 = b'{chr(FIRST_LETTER)}';", ""]
     out += rust_letters("LETTERS")
     out += ["/// A rule without its number and its symbols.", "pub struct Head {", "    pub eats: bool,", "    pub count: u8,", "}", ""]
@@ -709,7 +709,7 @@ pub record Alternative : Type 0 where
 abbrev on : String → Production → Alternative
 on singles production = record { ranges = []; singles = codes singles; production = production }
 
--- at a byte of one of these ranges, each with a dash between its ends, or at one of the bytes behind them
+-- at a byte of one of these ranges, each with a dash between its ends, or at one of the bytes after them
 abbrev on_ranges : String → String → Production → Alternative
 on_ranges ranges singles production = record { ranges = codes ranges; singles = codes singles; production = production }
 
@@ -743,7 +743,7 @@ def antt_grammar():
     out += antt_alternatives("alternatives")
     out += ["", "-- the production that a kind takes at a byte", "unfoldable pub choose : Kind → ℕ → Option Production",
             "choose kind byte = pick (alternatives kind) byte", "",
-            "-- the parts of a production, behind its own byte if it takes one", "unfoldable pub parts_of : Production → List Sym"]
+            "-- the parts of a production, after its own byte if it takes one", "unfoldable pub parts_of : Production → List Sym"]
     for p, (ate, syms) in P.items(): out.append(f"parts_of Production.{p} = " + "".join(antt_symbol(s) + " ∷ " for s in syms) + "[]")
     out += ["", "-- the productions that take no byte of their own", "unfoldable pub is_chain : Production → Bool"]
     out += [f"is_chain Production.{p} = true" for p, (ate, syms) in P.items() if not ate]

@@ -9,11 +9,11 @@ from annotated import names_of, read, used
 
 SHARED = "is_operator is_encoding is_one_piece pressed".split()
 
-# what differs: each text stands once
+# what differs: each text occurs once
 CHANGED = [
-    # behind a test for an equal component before
+    # after a test for an equal component before
     ("between and ended encoding template and arguments", "between and compared encoding template and arguments"),
-    # between N and E, where no reference can stand
+    # between N and E, where no reference can be
     ("(t.between_N_and_E and ended n template and behind)", "(t.between_N_and_E and not_compared n template and behind)"),
 ]
 PLAIN, MARKED = "Rattle.cpp_press_laws.specs.Components", "Rattle.cpp_press_laws.specs.MarkedComponents"

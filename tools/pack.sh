@@ -4,7 +4,7 @@
 #   tools/pack.sh OUT [PREFIX [LIBDIR]]
 #
 # In the folder OUT it puts libsymdemangle.a, libsymdemangle_arena.a, the shared library with its links, and what pkg-config and
-# CMake read, for libraries that will stand in PREFIX/LIBDIR (/usr/local and lib). It needs a C compiler and binutils.
+# CMake read, for libraries that will be in PREFIX/LIBDIR (/usr/local and lib). It needs a C compiler and binutils.
 set -eu
 [ $# -ge 1 ] && [ $# -le 3 ] || { echo "usage: $0 OUT [PREFIX [LIBDIR]]" >&2; exit 2; }
 mkdir -p "$1"

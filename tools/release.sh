@@ -5,7 +5,7 @@
 #   tools/release.sh OUT
 #
 # The tree has to be committed, and proved: `rt run` in crates/symfilt and crates/demangle and `rt lib` in crates/symdemangle have
-# built what stands there now. The same commit gives the same bytes each time, with the same compiler, binutils, tar, gzip and dpkg; all times are
+# built what is there now. The same commit gives the same bytes each time, with the same compiler, binutils, tar, gzip and dpkg; all times are
 # SOURCE_DATE_EPOCH, that of the commit where it isn't set. MAINTAINER is whom the Debian package names, as `Name <address>`.
 set -euo pipefail
 [ $# -eq 1 ] || { echo "usage: $0 OUT" >&2; exit 2; }

@@ -3,7 +3,7 @@
 usage: rows.py REFERENCE GENERATOR CRATES
 REFERENCE is a Python module with demangle(symbol, limit, brief) that answers (answer, at, text, cost), and press(symbol) that answers
 the pressed spelling; GENERATOR is one with symbols(seed, count, lang, mode, size=, wild=). CRATES is the folder of the crates. The
-symbols that are printed stand in cpp_symbols.txt, those that are pressed in crates/check_rows/stdin."""
+symbols that are printed are in cpp_symbols.txt, those that are pressed in crates/check_rows/stdin."""
 import os, re, sys
 
 from loading import load

@@ -233,7 +233,7 @@ def letters(rules):
 
 def table():
     out = [TABLE_HEAD.replace("@WRITTEN@", WRITTEN).rstrip("\n"), "", "const BASE62: Sym = Number(NumberKind::Base62);", "", "const HEX: Sym = Number(NumberKind::Hex);", "",
-           "/// What stands where a rule has no symbol.", "const NONE: Sym = END;", "",
+           "/// What is there where a rule has no symbol.", "const NONE: Sym = END;", "",
            "// For each kind a row: for each byte from `$` to `z` the letter of the rule that the kind takes there. A rule has one letter,",
            "// so that a row is one string to be read below the bytes, and one byte a place in memory.",
            f"static LETTERS: [[u8; {LAST - FIRST + 1}]; {len(KINDS)}] = [", "    // " + "".join(chr(b) for b in range(FIRST, LAST + 1))]

@@ -4,7 +4,7 @@
     symfilt_dask.py SCHEDULER LOG [SYMFILT [BYTES]] > FILTERED
 
 SCHEDULER is the address of the scheduler, as tcp://127.0.0.1:8786. Each worker reads its pieces of LOG itself, so the file
-stands at the same path on each machine, and the program too. A piece has BYTES bytes (8 MiB), and goes on to the next newline.
+is at the same path on each machine, and the program too. A piece has BYTES bytes (8 MiB), and goes on to the next newline.
 Debian has Dask's scheduler and workers in python3-distributed.
 """
 import subprocess
@@ -25,7 +25,7 @@ def filtered(path, start, end, symfilt):
 
 
 def pieces(path, size):
-    """Where the pieces of a log begin and end: each ends behind a newline, or with the log."""
+    """Where the pieces of a log begin and end: each ends after a newline, or with the log."""
     with open(path, "rb") as log:
         length = log.seek(0, 2)
         start = 0

@@ -1,5 +1,5 @@
 #!/usr/bin/env python3
-"""What nothing names: definitions and lemmas of specs/ and proofs/ whose name stands nowhere but in themselves, and names of crates.txt that no
+"""What nothing names: definitions and lemmas of specs/ and proofs/ that nothing else mentions, and names of crates.txt that no
 file of their crate has. Names what it finds, and ends with status 1 then.
 usage: unreached.py [ROOT]
 Names are compared as words, so a definition that shares its name with another that is used isn't found. Rows and limits are left out: they

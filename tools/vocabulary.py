@@ -1,5 +1,5 @@
 """The words that symbols are made of, each once: grammar.py and words.py write from here every table that has them, code and
-definitions. An entry is a line; entries keep their order, and a new one stands where it belongs: nothing is numbered here."""
+definitions. An entry is a line; entries keep their order, and a new one goes where it belongs: nothing is numbered here."""
 
 # ## C++ (ABI 5.1)
 
@@ -42,7 +42,7 @@ WIDE_BUILTINS = [
     ("Dh", "half"),
 ]
 
-# <operator-name>: code, and the text behind the word operator
+# <operator-name>: code, and the text after the word operator
 OPERATORS = [
     ("nw", " new"),
     ("na", " new[]"),
@@ -96,7 +96,7 @@ OPERATORS = [
 # the first letters in the order of their productions: a new one is a production and a kind of its own
 FIRST_LETTERS = "ndapcmroelsig"
 
-# <substitution> with a code of its own, behind S: letter, text
+# <substitution> with a code of its own, after S: letter, text
 ABBREVIATIONS = [
     ("a", "std::allocator"),
     ("b", "std::basic_string"),
@@ -106,7 +106,7 @@ ABBREVIATIONS = [
     ("d", "std::iostream"),
 ]
 
-# <special-name> of a type, behind T: letter, text
+# <special-name> of a type, after T: letter, text
 SPECIALS = [
     ("V", "vtable for "),
     ("T", "VTT for "),
@@ -121,7 +121,7 @@ NAMED_SPECIALS = [
     ("TW", "thread-local wrapper routine for "),
 ]
 
-# what stands behind the digits of an integer literal, by its type
+# what follows the digits of an integer literal, by its type
 ENDINGS = [
     ("j", "u"),
     ("l", "l"),
@@ -130,7 +130,7 @@ ENDINGS = [
     ("y", "ull"),
 ]
 
-# texts that the layout of a node has of itself: name, text. Contracts name the first by number, so a new one stands last
+# texts that the layout of a node has of itself: name, text. Contracts name the first by number, so a new one comes last
 PLAIN_TEXTS = [
     ("COMMA", ", "),
     ("DOTS", "..."),
@@ -194,7 +194,7 @@ QUIET = {
     "ParameterArgument": 1, "ValueOf": 0, "OfConcept": 0,
 }
 
-# the productions in which parts without a row may stand between those with one
+# the productions in which parts without a row may be between those with one
 SKIPS = """Symbol EncodingLiteral Address NonVirtualThunk VirtualThunk VirtualOffset
     LocalName LocalType Vector LiteralArgument LiteralElement NestedName RestrictType VolatileType NestStd NestArguments
     NestInstance NoexceptFunction Function PackArgument ConstructionVtable AddressExpression BoundedArray PackOf""".split()

@@ -48,7 +48,7 @@ def namings(name, rows, comment=None):
 def other_fronts(): return [c for c, _ in words.NAMED_SPECIALS if c[0] != "T"]
 
 def special_front():
-    lines = ["-- the letter in front of the last one of such a code", "unfoldable pub special_front : ℕ → ℕ", "special_front letter ="]
+    lines = ["-- the letter before the last one of such a code", "unfoldable pub special_front : ℕ → ℕ", "special_front letter ="]
     chain = str(ord("T"))
     for c in reversed(other_fronts()): chain = f"cond (nat_eq letter {ord(c[1])}) {ord(c[0])} ({chain})" if " " in chain else f"cond (nat_eq letter {ord(c[1])}) {ord(c[0])} {chain}"
     return "\n".join([*lines, f"    {chain}"]) + "\n"
@@ -56,7 +56,7 @@ def special_front():
 def grammar_texts():
     return "\n".join([GRAMMAR_TEXTS_HEAD,
         namings("builtin_texts", BUILTINS),
-        namings("operator_texts", words.OPERATORS, "behind the word operator"),
+        namings("operator_texts", words.OPERATORS, "after the word operator"),
         namings("abbreviation_texts", words.ABBREVIATIONS), namings("special_texts", words.SPECIALS),
         namings("named_special_texts", [(c[-1], t) for c, t in words.NAMED_SPECIALS], "special names of names, by the last letters of their codes"),
         special_front(),
@@ -68,8 +68,8 @@ def listed(name, texts, comment):
 def text_lists():
     out = [f"-- {WRITTEN} The fixed texts that no code has, in the order of their numbers.", "use Rattle.std.specs.Prelude.{ℕ, List, [], ◌∷◌, codes}", ""]
     out += listed("plain_texts", [t for _, t in words.PLAIN_TEXTS], "texts that the layout of a node has of itself")
-    out += listed("suffix_texts", SUFFIXES, "what stands behind a function's parameters")
-    out += listed("blanked_texts", BLANKED, "qualifiers whose blank stands behind them")
+    out += listed("suffix_texts", SUFFIXES, "what follows a function's parameters")
+    out += listed("blanked_texts", BLANKED, "qualifiers whose blank comes after them")
     return "\n".join(out)
 
 # ## cpp_layout's texts
@@ -86,7 +86,7 @@ def groups():
                         ("ENDING", len(words.ENDINGS)), ("BLANKED", len(BLANKED)), ("OPERATOR_ALONE", 1), ("COUNT", 0)):
         out[name] = at
         at += count
-    # the first of these texts has the number behind
+    # the first of these texts has the number after
     out["BLANKED"] -= 1
     return out
 
@@ -102,7 +102,7 @@ def layout_texts():
     def constant(name, value, comment=None):
         return ([f"/// {comment}"] if comment else []) + [f"pub const {name}: u16 = {value};", ""]
     for i, (name, text) in enumerate(words.PLAIN_TEXTS): out += constant(name, i)
-    out += constant("SUFFIX", at["SUFFIX"], "Where the texts behind a function's parameters begin.")
+    out += constant("SUFFIX", at["SUFFIX"], "Where the texts after a function's parameters begin.")
     out += constant("NONE", at["SUFFIX"], "No text.")
     out += constant("BUILTIN", at["BUILTIN"], "Where the builtin types begin.")
     out += constant("OPERATOR", at["OPERATOR"], "Where the names of operators begin.")
@@ -112,7 +112,7 @@ def layout_texts():
     out += constant("SPECIAL", at["SPECIAL"], "Where the special names begin.")
     out += constant("NAMED_SPECIAL", at["NAMED_SPECIAL"], "Where the special names of names begin.")
     out += constant("ENDING", at["ENDING"], "Where the endings of integer literals begin.")
-    out += constant("BLANKED", at["BLANKED"], "Where the qualifiers begin whose blank stands behind them, but for those of no qualifier.")
+    out += constant("BLANKED", at["BLANKED"], "Where the qualifiers begin whose blank comes after them, but for those of no qualifier.")
     out += constant("OPERATOR_ALONE", at["OPERATOR_ALONE"], "The name of an operator that has no code.")
     out += constant("COUNT", at["COUNT"], "How many texts there are.")
     out.pop()
@@ -122,13 +122,13 @@ def layout_texts():
     remaining += [(at["NAMED_SPECIAL"] + i, t) for i, (c, t) in enumerate(words.NAMED_SPECIALS)]
     remaining += [(at["ENDING"] + i, t) for i, (c, t) in enumerate(words.ENDINGS)]
     remaining += [(at["BLANKED"] + 1 + i, t) for i, t in enumerate(BLANKED)]
-    out += function("remaining_text", "A text behind the operators: an abbreviation, a special name, an ending, a qualifier.", at["ABBREVIATION"], ALL_TABLES,
+    out += function("remaining_text", "A text after the operators: an abbreviation, a special name, an ending, a qualifier.", at["ABBREVIATION"], ALL_TABLES,
                     remaining + [("OPERATOR_ALONE", "operator")], 'b""')
     out += function("operator_text", "The name of an operator.", at["OPERATOR"], ALL_TABLES[:2],
                     [(at["OPERATOR"] + i, "operator" + t) for i, (c, t) in enumerate(words.OPERATORS)], "remaining_text(number)")
     out += function("builtin_text", "A builtin type.", at["BUILTIN"], ALL_TABLES[:1],
                     [(at["BUILTIN"] + i, t) for i, (c, t) in enumerate(BUILTINS)], "operator_text(number)")
-    out += function("suffix_text", "What stands behind a function's parameters.", at["SUFFIX"], [],
+    out += function("suffix_text", "What comes after a function's parameters.", at["SUFFIX"], [],
                     [("NONE", "")] + [(at["SUFFIX"] + i, t) for i, t in enumerate(SUFFIXES) if i], "builtin_text(number)")
     out += ["", "/// The text of a number.", of_texts(), "#[inline(always)]", "pub fn fixed_text(number: u16) -> &'static [u8]",
             "    ensures { result.now ≡ fixed_text number }", "{", "    match number {"]
@@ -146,11 +146,11 @@ def coded():
          [(c, i, t) for c, i, t in builtins if len(c) == 1], "no_builtin", "builtin_letters"),
         ("builtin_with_d", "The text of a builtin type with a code of D and a letter.", "look_up (68 ∷ letter ∷ []) builtin_texts", "BUILTIN",
          [(c[1], i, t) for c, i, t in builtins if len(c) == 2], "no_d", "d_letters"),
-        ("abbreviation", "The text of an abbreviation, behind S.", "look_up (letter ∷ []) abbreviation_texts", "ABBREVIATION",
+        ("abbreviation", "The text of an abbreviation, after S.", "look_up (letter ∷ []) abbreviation_texts", "ABBREVIATION",
          rows(words.ABBREVIATIONS), "no_abbreviation", "abbreviation_letters"),
         ("last_of_abbreviation", "The last name of an abbreviation.", "drop 5 (look_up (letter ∷ []) abbreviation_texts)", "LAST_OF_ABBREVIATION",
          [(c, i, t[len("std::"):]) for c, i, t in rows(words.ABBREVIATIONS)], "no_abbreviation", "abbreviation_letters"),
-        ("special", "The text before the type of a special name, behind T.", "look_up (letter ∷ []) special_texts", "SPECIAL",
+        ("special", "The text before the type of a special name, after T.", "look_up (letter ∷ []) special_texts", "SPECIAL",
          rows(words.SPECIALS), "no_special", "special_letters"),
         ("named_special", "The text before the name of a special name, by the last letter of its code.", "look_up (letter ∷ []) named_special_texts", "NAMED_SPECIAL",
          [(c[-1], i, t) for i, (c, t) in enumerate(words.NAMED_SPECIALS)], "no_named_special", "named_special_letters"),
@@ -169,7 +169,7 @@ def layout_codes():
         out += ["", f"/// {comment}", OF_CODES, f"pub(crate) fn {name}(letter: u8) -> u16", f"    ensures text {{ fixed_text result ≡ {looked} }}",
                 "    ensures few { result < COUNT }", "{", "    match letter {"]
         out += [f"        b'{c}' => texts::{group}{f' + {i}' if i else ''}, // {t.strip()}" for c, i, t in rows] + ["        _ => texts::NONE,", "    }", "}"]
-    out += ["", "/// The letter in front of the last one in the code of a special name of a name.", unfolding("cpp_grammar::specs::Texts::special_front"),
+    out += ["", "/// The letter before the last one in the code of a special name of a name.", unfolding("cpp_grammar::specs::Texts::special_front"),
             "pub fn special_front(letter: u8) -> u8", "    ensures { result ≡ special_front letter }", "{", "    match letter {"]
     out += [f"        b'{c[1]}' => b'{c[0]}'," for c in other_fronts()] + ["        _ => b'T',", "    }", "}"]
     out += ["", "// A code of two letters as one number.", "macro_rules! code {", "    ($first:literal, $second:literal) => {", "        $first as u16 * 256 + $second as u16", "    };", "}",
@@ -217,7 +217,7 @@ def link_tables(productions):
     out = [f"// {WRITTEN} What is known of each production, in the order of their numbers.", "", "use cpp_grammar::production::Production;", "",
            "/// The productions.", f"pub(crate) const PRODUCTIONS: [Production; {len(productions)}] = [", *[f"    Production::{p}," for p in productions], "];"]
     out += table("PART_COUNTS", "u8", ["How many parts each has."], lambda p: len(productions[p]))
-    out += table("SKIPS_PARTS", "bool", ["Whether parts without a row may stand between those of each."], lambda p: "true" if p in words.SKIPS else "false")
+    out += table("SKIPS_PARTS", "bool", ["Whether parts without a row may be between those of each."], lambda p: "true" if p in words.SKIPS else "false")
     out += table("QUIET_PARTS", "u8", ["Before how many of its parts nothing is done in each: before none, the first, or all, which are five at most."], lambda p: words.QUIET.get(p, ALL_PARTS))
     return "\n".join(out) + "\n"
 
@@ -226,7 +226,7 @@ def link_definitions():
            "use Rattle.cpp_grammar.specs.declared.production.Production.{Production}", "",
            "-- Before so many of the parts of a production nothing is done: before none, the first, or all, which are five at most.",
            "unfoldable pub quiet_parts : Production → ℕ", *[f"quiet_parts Production.{p} = {n}" for p, n in words.QUIET.items()], f"quiet_parts _ = {ALL_PARTS}", "",
-           "-- parts without a row may stand between those with one", "unfoldable pub skips_parts : Production → Bool",
+           "-- parts without a row may be between those with one", "unfoldable pub skips_parts : Production → Bool",
            *[f"skips_parts Production.{p} = true" for p in words.SKIPS], "skips_parts _ = false"]
     return "\n".join(out) + "\n"
 
@@ -235,11 +235,11 @@ def link_definitions():
 # lists of letters: name, what they are, the letters
 def direct_lists():
     return [
-        ("builtin_letters", "builtin types, but for those behind a D", [c for c, _, _ in words.BUILTINS if len(c) == 1]),
-        ("builtin_letters_with_d", "builtin types behind a D", [c[1] for c, _, _ in words.BUILTINS if len(c) == 2]),
+        ("builtin_letters", "builtin types, but for those after a D", [c for c, _, _ in words.BUILTINS if len(c) == 1]),
+        ("builtin_letters_with_d", "builtin types after a D", [c[1] for c, _, _ in words.BUILTINS if len(c) == 2]),
         ("integer_letters", "builtin types that an integer in an argument may have", [c for c, _, literal in words.BUILTINS if len(c) == 1 and literal == words.INTEGER]),
-        ("abbreviation_letters", "classes of std, and std itself, behind an S", [c for c, _ in words.ABBREVIATIONS]),
-        ("special_letters", "special objects that belong to a type, behind a T", [c for c, _ in words.SPECIALS]),
+        ("abbreviation_letters", "classes of std, and std itself, after an S", [c for c, _ in words.ABBREVIATIONS]),
+        ("special_letters", "special objects that belong to a type, after a T", [c for c, _ in words.SPECIALS]),
     ]
 
 def direct_letters():
@@ -250,7 +250,7 @@ def direct_letters():
 # what the letters of such a list are asked for: a test's name, what it says, and where it is defined
 DIRECT_TESTS = [
     ("is_integer_letter", "integer_letters", "the letter of a type that an integer in an argument may have", "ItemBytes", []),
-    ("is_builtin_with_d", "builtin_letters_with_d", "the letter behind a D of a builtin type", "Bytes", ["cpp_grammar::specs::Grammar::among"]),
+    ("is_builtin_with_d", "builtin_letters_with_d", "the letter after a D of a builtin type", "Bytes", ["cpp_grammar::specs::Grammar::among"]),
 ]
 
 def direct_tests():

@@ -20,7 +20,7 @@ const pause = () => new Promise((resolve) => {
     port2.postMessage(0);
 });
 
-/** How many UTF-16 units stand before a byte of a text's UTF-8. */
+/** How many UTF-16 units come before a byte of a text's UTF-8. */
 function unitAt(text, offset) {
     let units = 0;
     for (let bytes = 0; bytes < offset && units < text.length; ) {

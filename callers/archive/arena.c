@@ -16,7 +16,7 @@ struct tried {
     void *at;
 };
 
-/* What is in front of each block: where the one before it has its head, and whether this one was given back. */
+/* What is before each block: where the one before it has its head, and whether this one was given back. */
 struct head {
     size_t before, is_free;
 };

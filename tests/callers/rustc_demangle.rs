@@ -1,5 +1,5 @@
 // A program of Rust that knows `rustc_demangle` by its C declaration alone, as rust-lang's rustc-demangle-capi has it: 1 with a text
-// and a 0 byte behind it in `out`, 0 where the name isn't one of Rust's or the text has no room.
+// and a 0 byte after it in `out`, 0 where the name isn't one of Rust's or the text has no room.
 //
 //   rustc_demangle          holds the call to that
 //   rustc_demangle names    prints the text of each name of standard input, or the name

@@ -46,7 +46,7 @@ fn reason(alloc: Global, refusal: Refusal) -> Result<String, AllocError> {
     }
 }
 
-/// Whether a call answers what stands in a row.
+/// Whether a call answers what is in a row.
 ///
 /// # Errors
 ///

@@ -13,7 +13,7 @@ use sym_demangle::{Linker, Workspace};
 use sym_filter::{Demangled, Demangler, Kind};
 use sym_print::Detail;
 
-/// What stands in a list before a call appends to it.
+/// What is in a list before a call appends to it.
 const BEFORE: &[u8] = b"> ";
 
 /// An answer that no row has, where a call doesn't keep to what it promises beside its answer.
@@ -47,7 +47,7 @@ fn answered(alloc: Global, answer: Demangled, len: usize, out: &[u8]) -> Result<
     }
 }
 
-/// A refusal, behind which a list has to be as before.
+/// A refusal, after which a list has to be as before.
 fn refused(alloc: Global, refusal: Refusal, appended: &[u8]) -> Result<Vec<u8>, Refusal> {
     if appended.is_empty() {
         Err(refusal)

@@ -12,7 +12,7 @@ use sym_languages::{Abi, Languages};
 pub enum Change {
     /// It ends there.
     Cut,
-    /// Another byte stands there.
+    /// Another byte is there.
     Put(u8),
 }
 

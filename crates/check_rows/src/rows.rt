@@ -1,4 +1,4 @@
-// Rows: a word that says what a row is of, and fields behind it, with tabs between.
+// Rows: a word that says what a row is of, and fields after it, with tabs between.
 
 use crate::answer::spelled;
 use crate::calls::{by_demangler, calls_say, demangler_says, pieces_say, presses_say};
@@ -191,7 +191,7 @@ fn has_length(
     )
 }
 
-/// A front, with bytes behind it so many times, and an end.
+/// A front, with bytes after it so many times, and an end.
 fn repeated(
     alloc: Global,
     front: &[u8],
@@ -464,7 +464,7 @@ fn of_changes(
     }
 }
 
-/// Whether each call answers what stands in a row of these fields.
+/// Whether each call answers what is in a row of these fields.
 fn hold(
     alloc: Global,
     lists: &mut AllLists,
@@ -493,7 +493,7 @@ fn hold(
     }
 }
 
-/// Whether each call answers what stands in a row.
+/// Whether each call answers what is in a row.
 ///
 /// # Errors
 ///

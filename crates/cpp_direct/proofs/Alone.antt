@@ -1,4 +1,4 @@
--- What is expected behind any name is expected where no tags may come, what is expected of arguments from the first one on of any others, and what is expected of
+-- What is expected after any name is expected where no tags may come, what is expected of arguments from the first one on of any others, and what is expected of
 -- any argument of a type.
 use Rattle.std.proofs.Common.{◌≡◌, ℕ, List, true, ◌∙◌}
 use Rattle.sym_shape.specs.declared.rule.Sym.{Sym}
@@ -27,7 +27,7 @@ pub any-list : (s : Symbol) (around : Around) (os : List Opened) (at : ℕ) (st 
 unfolding number_of_kind
 any-list s around os at st expects = of-trees s _ _ around os at st (lists-by s.is_wide) expects
 
--- by the wide grammar a nested name may end behind the arguments of a name that an S stands for
+-- by the wide grammar a nested name may end after the arguments of a name that an S stands for
 pub any-tail : (s : Symbol) (around : Around) (os : List Opened) (at : ℕ) (st : State) → s.is_wide ≡ true → Expects s Kind.NestMoreOrEnd around os at st → Expects s Kind.NestTail around os at st
 unfolding number_of_kind
 any-tail s around os at st wide expects = of-trees s _ _ around os at st (tails-by s.is_wide wide) expects

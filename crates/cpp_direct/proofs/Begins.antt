@@ -102,7 +102,7 @@ unfolding thunk_text
 thunk-text (non_virtual a) e = cc e
 thunk-text (by_table a b) e = cc e
 
--- the encoding that a thunk calls is expected, behind the thunk's text
+-- the encoding that a thunk calls is expected, after the thunk's text
 thunk-awaited : (s : Symbol) (opened_ : SymbolOpened s) (by : Adjustment) (w : Direct)
     → is_local s.bytes ≡ false → ThunkOpened s opened_.inner 2 by w.at first_state → w.text.list.items ≡ thunk_text (adjusting by) → w.candidates.list.items ≡ []
     → AwaitsEncoding s w
@@ -122,7 +122,7 @@ thunk-awaited s opened_ by w apart thunk_ text_is no_candidate = record {
       });
 }
 
--- what was read without a text and written behind it, where nothing was there before
+-- what was read without a text and written after it, where nothing was there before
 thunk-written : (old middle new : Direct) (text : List ℕ) → IsFresh old → Reads old middle [] → Writes middle new text
     → (new.text.list.items ≡ text) × (new.candidates.list.items ≡ [])
 thunk-written old middle new text fresh reads writes = (
@@ -187,7 +187,7 @@ no-special : look_up (0 ∷ []) special_texts ≡ []
 unfolding look_up special_texts same_bytes
 no-special = refl
 
--- a letter that has a text stands in the symbol
+-- a letter that has a text is in the symbol
 pub special-stands : (s : List ℕ) (letter : ℕ) → look_up (letter ∷ []) special_texts ≢ [] → StandsAt s 2 (84 ∷ [])
     → (letter ≢ 0 → StandsAt s 3 (letter ∷ [])) → StandsAt s 2 (84 ∷ letter ∷ [])
 special-stands s letter filled first there =
@@ -240,7 +240,7 @@ nested-marked s old n mark p stands at_is =
           (nest.onward t listed at st comes);
     }
 
--- behind an N, where they stand
+-- after an N, where they are
 pub nested-begins : (s : Symbol) (old : Direct) (first : ℕ) (place : MarkPlace) → AwaitsEncoding s old → StandsAt s.bytes old.at (78 ∷ []) → first ≡ old.at + 1
     → IsMarkPlace s.bytes first place → AwaitsNest s (record old { at = place.end }) (purposes.Name place.mark)
 nested-begins s old first place p letter next is =

@@ -114,7 +114,7 @@ parameter-comes s kind around os k at st typed few scope expects stands =
     (last-of s p (84 ∷ []) at around st (v ∷ []) nothing_there solid.inner end later v later refl
     (expects-empty s Kind.ArgumentsAlone (after t true around) (opened rule (v ∷ []) [] ∷ solid.inner) end later behind refl))
 
--- the digits of a parameter's number stand in front of its line
+-- the digits of a parameter's number come before its line
 pub digit-stands : (s : List ℕ) (at k digit : ℕ) → parameter_digits k ≡ digit ∷ [] → StandsAt s at (digit ∷ []) → StandsAt s (at + 1) (95 ∷ [])
     → StandsAt s at (parameter_digits k ++ 95 ∷ [])
 digit-stands s at k digit is first line =
@@ -122,7 +122,7 @@ digit-stands s at k digit is first line =
 
 -- ## The argument
 
--- at one place stands one text
+-- at one place is one text
 same-placed : (text : List ℕ) (p : Argument) (a b : List ℕ) → IsPlaced text p a → IsPlaced text p b → a ≡ b
 same-placed text p a b h k =
     sym (piece-found text h.front a h.back p.from p.to h.written h.from_is h.to_is).2
@@ -132,7 +132,7 @@ argument-is : (name all : Term) (k : ℕ) → arguments_of name ≡ Some all →
 unfolding argument types_of indexed
 argument-is name all k e = rw e refl
 
--- what prints behind the argument prints so in the types of the name that has it
+-- what prints after the argument prints so in the types of the name that has it
 behind-argument : (text : List ℕ) (size : ℕ) (p : Argument) (number : ℕ) (name t : Term) (bytes marks : List ℕ) (r : Bool) → IsArgument text size p number name → IsPlain p
     → IsPlaced text p bytes → PrintsBehind number t marks r → PrintsIn (types_of name) 2 t (bytes ++ marks) r
 behind-argument text size p number name t bytes marks r a plain placed behind =
@@ -154,7 +154,7 @@ placed-at : (text : List ℕ) (p q : Arguments) (k : ℕ) (name : Term) → p �
     → (bytes : List ℕ) × IsPlaced text (place_of q k) bytes
 placed-at text p q k name e has known = let h = named-one text p q k name e has known in (h.bytes, h.placed)
 
--- where it stands in what is open, it stands in the text
+-- where it is in what is open, it is in the text
 pub argument-placed : (s : Symbol) (ws : List Open) (os : List Opened) (text : List ℕ) (p : Arguments) (k : ℕ) → Stands s ws os text → argument_of ws ≡ Some p
     → IsKnown (place_of p k) → (bytes : List ℕ) × IsPlaced text (place_of p k) bytes
 argument-placed s (opens.Pointer from ∷ rest) os text p k stands found known = argument-placed s rest stands.0 text p k stands.4 found known
@@ -187,7 +187,7 @@ argument-within s w all k p a found is known =
     let inside = (piece-found w.text.list.items h.1.front h.0 h.1.back q.from q.to h.1.written h.1.from_is h.1.to_is).1 in
     subst (λ (j : Argument). j.to ≤ length w.text.list.items) (sym is) inside
 
--- a type that names an argument becomes a candidate, with the text behind the argument's
+-- a type that names an argument becomes a candidate, with the text after the argument's
 dependent-candidate : (text : List ℕ) (w : Direct) (st : State) (front marks : List ℕ) (begins k : ℕ) (made_in : Around) (place : ℕ) (r : Bool) (t : Term) → w.text.list.items ≡ text
     → AreCandidates text w.candidates.list.items st.candidates → text ≡ front ++ marks → begins ≡ length front → NamesArgument k t marks r → (place ≢ 0 → made_in.encoding ≡ place)
     → AreCandidates text (with_dependent w begins r k place) (with_candidate made_in t st).candidates
@@ -264,7 +264,7 @@ no-pack-named : (scope : Option Term) (all t : Term) → scope ≡ Some all → 
 unfolding packs_in
 no-pack-named scope all t is none = rw is none
 
--- what a substitution names is written behind the argument's text
+-- what a substitution names is written after the argument's text
 pub again-inside : (s : Symbol) (w one : Direct) (k : Candidate) (piece : List ℕ) → IsNamedAgain s w k → Writes w one piece
     → (k.from ≤ k.to) × (k.to ≤ length one.text.list.items)
 again-inside s w one k piece p writes =
@@ -419,7 +419,7 @@ dependent-parameter s w is_reference mark begins number place start argument_ p 
     parameter-got s w mark start argument_ p.state last.0 b.0 b.1 b.2 (b.3 ++ b.4) waits p.candidates last.1
     (b.6 ∙ append_assoc b.2 b.3 b.4) b.12 (type-element-in (types_of waits.6.own) b.1 (b.3 ++ b.4) is_reference prints)
 
--- of a function in which a type stands
+-- of a function in which a type is
 pub dependent-within : (s : Symbol) (w : Direct) (is_reference : Bool) (mark : Mark) (begins number place from : ℕ) (argument_ : Arguments)
     → IsWriting s w (steps.Dependent is_reference begins number place)
     → slice_get w.waiting.list.items (length w.waiting.list.items - 1) ≡ Some (opens.Enclosing mark from argument_)

@@ -173,14 +173,14 @@ ends-so text front last e =
     ap (λ n. pointwise nat_eq last (drop n text)) size ∙ ap (λ l. pointwise nat_eq last (drop (length front) l)) e
     ∙ ap (λ l. pointwise nat_eq last l) (drop-append_seam front last)
 
--- A text ends in no type whose integers stand without it.
+-- A text ends in no type whose integers are without it.
 pub record EndsOtherwise (text : List ℕ) : Type 0 where
   pub int : ends_with nat_eq text (codes "(int") ≡ false
   pub blank_int : ends_with nat_eq text (codes " int") ≡ false
   pub long : ends_with nat_eq text (codes "(long") ≡ false
   pub blank_long : ends_with nat_eq text (codes " long") ≡ false
 
--- a type that stands behind a bracket at the end of one is none
+-- a type that follows a bracket at the end of one is none
 no-integer-type : (text front bytes : List ℕ) → text ≡ front ++ codes "(" ++ bytes → EndsOtherwise text → EndsAsInteger bytes → ⊥
 no-integer-type text front bytes e other ending = go ending.1
   where
@@ -196,7 +196,7 @@ no-integer-type text front bytes e other ending = go ending.1
     go (inr (inr (inl is))) = false≢true (sym other.long ∙ ends-so text front (codes "(long") (whole (codes "long") is))
     go (inr (inr (inr is))) = false≢true (sym other.blank_long ∙ ends-so text (front ++ codes "(" ++ ending.0) (codes " long") (behind (codes " long") is))
 
--- the number of an enumerator was read behind its type, and an E
+-- the number of an enumerator was read after its type, and an E
 pub enumerator-read : (s : Symbol) (old begun pushed middle new : Direct) (a : AwaitsNumber s old)
     → EndsOtherwise old.text.list.items → begun.text ≡ old.text → begun.candidates ≡ old.candidates → begun.at ≡ old.at → reverse begun.waiting.list.items ≡ a.opened
     → Writes begun pushed (codes ")") → (read : IsNumberRead s.bytes pushed middle)

@@ -1,4 +1,4 @@
--- Types that stand in functions, from their Z to their end.
+-- Types that are in functions, from their Z to their end.
 use Rattle.std.proofs.Common.{◌≡◌, ◌≢◌, refl, ap, sym, ◌∙◌, subst, inl, inr, ℕ, ◌+◌, List, [], ◌∷◌, ◌++◌, length, reverse, true, false, Option, None, Some, arith, codes, append-nil, append_assoc}
 use Rattle.std.specs.Prelude.{decimal}
 use Rattle.std.proofs.lemmas.Fmt.{decimal_digit}
@@ -53,7 +53,7 @@ use Rattle.cpp_direct.proofs.Scopes.{arguments-named, arguments-stay, enclosing-
 
 -- ## Names
 
--- The name of a function in which a type stands is expected, behind this text.
+-- The name of a function in which a type is is expected, after this text.
 record NameOpened (s : Symbol) (below : Below) (front : List ℕ) (at : ℕ) (st : State) : Type 0 where
   pub inner : List Opened
   pub awaits : Expects s Kind.CompleteName (in_name at) inner at st
@@ -124,7 +124,7 @@ nest-marked s old n mark a letter stands at_is =
           e.onward text argument (named t (qualifiers (has_const mark)) (called_on mark)) at st names unplaced (nest.onward t listed at st comes);
     }
 
--- behind an N, where they stand
+-- after an N, where they are
 pub nest-within : (s : Symbol) (old : Direct) (first second : ℕ) (place : MarkPlace) → AwaitsNamedType s old → StandsAt s.bytes old.at (90 ∷ [])
     → first ≡ old.at + 1 → StandsAt s.bytes first (78 ∷ []) → second ≡ first + 1 → IsMarkPlace s.bytes second place
     → AwaitsNest s (record old { at = place.end }) (purposes.Enclosing place.mark)
@@ -243,7 +243,7 @@ plain-awaits s w mark from p = record {
   goes = p.goes;
 }
 
--- and so does one behind its return type, which is a builtin one
+-- and so does one after its return type, which is a builtin one
 pub returned-awaits : (s : Symbol) (w : Direct) (n : ℕ) (mark : Mark) (from letter : ℕ) → IsEnclosingInstance s w mark from
     → look_up (letter ∷ []) builtin_texts ≢ [] → (letter ≢ 0 → StandsAt s.bytes w.at (letter ∷ [])) → n ≡ w.at + 1
     → AwaitsEnclosingParameters s (record w { at = n }) mark from (named_in 0 w.argument)
@@ -510,7 +510,7 @@ marks-written-within s old new mark from p writes = record {
 
 -- ## Lambdas
 
--- its first bytes stand there
+-- its first bytes are there
 pub lambda-stands : (s : List ℕ) (at second third fourth fifth : ℕ) (rest : List ℕ) → StandsAt s at (85 ∷ []) → second ≡ at + 1 → StandsAt s second (108 ∷ [])
     → third ≡ at + 2 → StandsAt s third (118 ∷ []) → fourth ≡ at + 3 → StandsAt s fourth (69 ∷ []) → fifth ≡ at + 4 → StandsAt s fifth rest
     → StandsAt s at (85 ∷ 108 ∷ 118 ∷ 69 ∷ rest)
@@ -540,7 +540,7 @@ lambda-told s old new digit is stands ends reads = (
   reads,
 )
 
--- its first bytes stand there, with parameters
+-- its first bytes are there, with parameters
 abbrev lambda_front : List ℕ
 lambda_front = codes "::{lambda("
 
@@ -669,7 +669,7 @@ whole-text f b l n =
     ∙ behind-five f (b ++ lambda_front) l (codes ")#") n (codes "}")
     ∙ ap (λ k. f ++ k) (behind-five b lambda_front l (codes ")#") n (codes "}") ∙ sym (append_assoc b (codes "::") x))
 
--- its bracket stands by itself
+-- its bracket is by itself
 pub lambda-bracket : (f b l : List ℕ) → (f ++ (b ++ codes "::{lambda(")) ++ l ≡ (f ++ (b ++ codes "::{lambda")) ++ codes "(" ++ l
 lambda-bracket f b l =
     ap (λ k. k ++ l) (ap (λ k. f ++ k) (sym (append_assoc b (codes "::{lambda") (codes "(")))

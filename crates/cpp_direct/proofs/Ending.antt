@@ -1,4 +1,4 @@
--- How a symbol ends: its encoding's name, its parameters, and what stands behind them.
+-- How a symbol ends: its encoding's name, its parameters, and what follows them.
 use Rattle.cpp_grammar.specs.Scope.{arguments_of}
 use Rattle.std.proofs.Common.{◌≡◌, ◌≢◌, ◌⊎◌, refl, ap, sym, ◌∙◌, subst, ℕ, ◌+◌, ◌-◌, ◌≤◌, List, [], ◌∷◌, ◌++◌, length, take, drop, reverse, inl, inr, Bool, true, false, nat_eq, arith, codes, append-nil, append_assoc}
 use Rattle.std.specs.List.{ends_with}
@@ -59,7 +59,7 @@ whole-suffixed s e at text (d ∷ rest) encoded shows stands ended is = record {
   cost = suffix-cost e text shows d rest;
 }
 
--- what a symbol has from a place on stands there, and ends with it
+-- what a symbol has from a place on is there, and ends with it
 pub rest-stands : (s suffix : List ℕ) (at : ℕ) → at ≤ length s → suffix ≡ take (length s - at) (drop at s)
     → StandsAt s at suffix × (at + length suffix ≡ length s)
 rest-stands s suffix at inside is =
@@ -81,7 +81,7 @@ marks-written s old new mark p writes = record {
   behind = subst (λ n. EncodedBehind s p.lead p.e n) (sym writes.at) p.behind;
 }
 
--- an encoding in which no entity stands ends the symbol
+-- an encoding in which no entity is ends the symbol
 pub symbol-ended : (s : Symbol) (w : Direct) → IsEncodingEnded s w marks.Plain → is_local s.bytes ≡ false → IsSymbolEnded s w
 symbol-ended s w p apart =
     let behind : EndsBehind s p.lead p.e w.at = p.behind.whole apart in
@@ -123,7 +123,7 @@ ends-suffixed s suffix w first second last p inside is is_suffix one two three =
 
 -- ## Names
 
--- what stands behind an encoding with these qualifiers
+-- what follows an encoding with these qualifiers
 pub plain-text : (mark : Mark) → encoding_text (qualifiers (has_const mark)) (called_on mark) ≡ mark_text mark
 unfolding encoding_text qualifier_text ref_text
 plain-text marks.Plain = refl
@@ -137,7 +137,7 @@ pub qualifiers-text : (v : Value) (mark : Mark) → qualifiers_of v ≡ qualifie
     → encoding_text (qualifiers_of v) (ref_of v) ≡ mark_text mark
 qualifiers-text v mark e f = rw (e, f) (plain-text mark)
 
--- what stands behind a text is written in two or more pieces
+-- what follows a text is written in two or more pieces
 pub behind-two : (lead a q : List ℕ) → lead ++ a ++ q ≡ lead ++ (a ++ q)
 behind-two lead a q = append_assoc lead a q
 
@@ -187,7 +187,7 @@ pub next-written : (ts : List Term) (l : List ℕ) → ts ≢ [] → in_front_of
 next-written [] l some = absurd (some refl)
 next-written (t ∷ ts) l some = refl
 
--- a name is one where parameters go on behind none
+-- a name is one where parameters go on after none
 pub none-go_on : (s : Symbol) (argument : Arguments) (lead : List ℕ) (v : Value) (at : ℕ) (st : State) (p : AwaitsItems s lead v at st)
     → HasScope argument p.around → ParametersGoOn s argument lead (λ l. encoding_of v l) [] at st
 none-go_on s argument lead v at st p scoped =
@@ -340,7 +340,7 @@ next-expected s w last mark start argument p one =
       goes = subst (λ n. ParametersGoOn s argument p.lead p.make p.ts n p.state) (sym one.at) p.goes;
     }
 
--- ## What stands in front of an encoding's text
+-- ## What comes before an encoding's text
 
 -- where that is taken away, what is left of the candidates is some
 cut-candidates : (old new : Direct) (start : ℕ) (st : State) → Cuts old new start
@@ -357,7 +357,7 @@ cut-candidates old new start st cuts known = go cuts.candidates
     )
     go (inr none) = (record st { candidates = [] }, subst (λ ks. AreCandidates new.text.list.items ks []) (sym none) tt)
 
--- and the text is what stood behind it
+-- and the text is what came after it
 cut-text : (old new : Direct) (start : ℕ) (aside text : List ℕ) → Cuts old new start → start ≡ length aside → old.text.list.items ≡ aside ++ text
     → new.text.list.items ≡ text
 cut-text old new start aside text cuts start_is written =

@@ -39,7 +39,7 @@ object-comes s opened_ encoding_ v at st comes =
     let items = encoding_.onward v at st comes in
     items.onward nothing_there at st (expects-empty s Kind.Items (in_types 2 (tree_of v)) items.inner at st items.awaits refl)
 
--- the encoding is expected that a local entity stands in
+-- the encoding is expected that a local entity is in
 pub local-begins : (s : Symbol) (w : Direct) → IsFresh w → StandsAt s.bytes 0 (95 ∷ 90 ∷ []) → StandsAt s.bytes 2 (90 ∷ [])
     → AwaitsEncoding s (record w { at = 3 })
 unfolding tree_of qualifiers_of ref_of first_state
@@ -141,13 +141,13 @@ entity-ended s internal old pushed read last p one name is_name filled two digit
 pub none-told : (s : List ℕ) (w : Direct) → (told : Discriminator) × IsDiscriminatorAt s w.at told w.at × Reads w w []
 none-told s w = (unnumbered, refl, reads-begun w w refl refl refl refl refl)
 
--- a digit was read behind a _
+-- a digit was read after a _
 pub digit-told : (s : List ℕ) (old new : Direct) (digit : ℕ) → StandsAt s old.at (95 ∷ []) → StandsAt s (old.at + 1) (digit ∷ []) → 48 ≤ digit → digit ≤ 57
     → new.at ≡ old.at + 2 → Reads old new [] → (told : Discriminator) × IsDiscriminatorAt s old.at told new.at × Reads old new []
 digit-told s old new digit line there low high at_is reads =
     (by_digit digit, (low, high, stands-join s old.at (95 ∷ []) (digit ∷ []) line there, at_is), reads)
 
--- digits were read behind two of them
+-- digits were read after two of them
 pub digits-told : (s : List ℕ) (old new : Direct) (digits : List ℕ) (middle : ℕ) → StandsAt s old.at (95 ∷ []) → StandsAt s (old.at + 1) (95 ∷ [])
     → IsDigitsAt s (old.at + 2) digits middle → StandsAt s middle (95 ∷ []) → new.at ≡ middle + 1 → Reads old new []
     → (told : Discriminator) × IsDiscriminatorAt s old.at told new.at × Reads old new []

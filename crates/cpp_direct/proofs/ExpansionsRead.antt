@@ -28,7 +28,7 @@ use Rattle.cpp_direct.proofs.PrintedLists.{next-prints-in, next-prints-by}
 use Rattle.cpp_direct.proofs.Scopes.{arguments-stay, placed-stays}
 use Rattle.cpp_direct.proofs.Signatures.{one-hidden}
 
--- its letters stand side by side
+-- its letters are side by side
 pub letters-stand : (s : List ℕ) (at second third fourth fifth : ℕ) → StandsAt s at (68 ∷ []) → second ≡ at + 1 → StandsAt s second (112 ∷ [])
     → third ≡ at + 2 → StandsAt s third (79 ∷ []) → fourth ≡ at + 3 → StandsAt s fourth (84 ∷ []) → fifth ≡ at + 4 → StandsAt s fifth (95 ∷ [])
     → StandsAt s at (68 ∷ 112 ∷ 79 ∷ 84 ∷ 95 ∷ [])
@@ -121,7 +121,7 @@ comma-between [] (suc k) bytes e = absurd (omega (arith, e))
 comma-between (d ∷ done) zero bytes e = absurd (omega (arith, e))
 comma-between (d ∷ done) (suc k) bytes e = refl
 
--- where an element stands
+-- where an element is
 pub forwarded-inside : (before w one : Direct) (ts : List Term) (argument : Arguments) (number : ℕ) (place : Argument) → IsPackOf before.text.list.items argument ts
     → AreForwarded before w ts number → place ≡ place_of argument number → place.from ≤ place.to → place.is_pack ≡ true → Writes w one (comma_text number)
     → place.to ≤ length one.text.list.items

@@ -18,7 +18,7 @@ use Rattle.cpp_direct.specs.HolesOfLists.{IsDigitsAt}
 use Rattle.cpp_direct.specs.Ways.{number_text}
 use Rattle.cpp_direct.specs.Written.{Writes, Reads}
 
--- what stands between two places behind a third one
+-- what is between two places after a third one
 pub piece-at : (s before own behind rest : List ℕ) (at from to : ℕ) → at ≤ length s → drop at s ≡ (before ++ own ++ behind) ++ rest
     → from ≡ at + length before → to ≡ at + length before + length own
     → (from ≤ to) × (to ≤ length s) × (take (to - from) (drop from s) ≡ own)
@@ -61,7 +61,7 @@ place-found Is s at (Err bad) o place finds ok some = absurd (apart o place ok s
     apart : (o : Option TokenPlace) (place : TokenPlace) → o ≡ None → o ≡ Some place → ⊥
     apart o place e f = cc (e, f)
 
--- where a token's own bytes stand
+-- where a token's own bytes are
 pub own-found : (Is : Token → Type 0) (s : List ℕ) (at : ℕ) (place : TokenPlace) (h : HasToken Is (drop at s) at place) → at ≤ length s
     → (place.from ≤ place.to) × (place.to ≤ length s) × (take (place.to - place.from) (drop place.from s) ≡ h.token.own)
 own-found Is s at place h le = piece-at s h.token.before h.token.own h.token.behind h.rest at place.from place.to le h.split h.from h.to
@@ -119,7 +119,7 @@ pub some-by : {T P Q : Type 0} (r : Option T) → OnSome r P → (P → Q) → O
 some-by None h f = tt
 some-by (Some x) h f = f h
 
--- a text was written behind a place that was changed
+-- a text was written after a place that was changed
 pub reads-written : (old middle new : Direct) (bytes text : List ℕ) → Writes middle new bytes → middle.text ≡ old.text
     → middle.candidates ≡ old.candidates
     → middle.waiting ≡ old.waiting → middle.nest ≡ old.nest → middle.rounds ≡ old.rounds → bytes ≡ text → Reads old new text
@@ -133,7 +133,7 @@ reads-written old middle new bytes text w same_text same_candidates same_waiting
 
 -- ## Substitutions
 
--- what stands at a number in a list
+-- what is at a number in a list
 pub there-at : {X : Type 0} (ks slice : List X) (index counted : ℕ) (k : X) → slice ≡ ks → index ≡ counted → true ≡ nat_lt index (length slice)
     → k ≡ get_or slice index k → slice_get ks counted ≡ Some k
 there-at ks slice index counted k same number inside is =
@@ -154,7 +154,7 @@ reads-then a b c x y first second = record {
 pub reads-of : (a b : Direct) (x : List ℕ) → Writes a b x → Reads a b x
 reads-of a b x w = record { text = w.text; candidates = w.candidates; waiting = w.waiting; nest = w.nest; rounds = w.rounds }
 
--- the digits of a number were read, and written behind a sign
+-- the digits of a number were read, and written after a sign
 pub digits-read : (s : List ℕ) (old new : Direct) (place : TokenPlace) (is_negative : Bool) (written : List ℕ)
     → HasToken (IsNumberToken Digits) (drop old.at s) old.at place → old.at ≤ length s → new.at ≡ place.end → Reads old new written
     → written ≡ number_text (signed_digits is_negative (take (place.to - place.from) (drop place.from s)))

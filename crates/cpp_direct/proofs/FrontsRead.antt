@@ -1,4 +1,4 @@
--- Functions that have a return type: it is read behind the name, and written in front of it.
+-- Functions that have a return type: it is read after the name, and written before it.
 use Rattle.cpp_direct.proofs.PrintedLocals.{returned-enclosing}
 use Rattle.std.proofs.Common.{◌≡◌, refl, ap, sym, ◌∙◌, subst, ℕ, ◌-◌, List, [], ◌∷◌, ◌++◌, length, take, drop, reverse, inl, inr, Bool, true, false, arith, codes, append_assoc, ◌≢◌}
 use Rattle.std.proofs.lemmas.Bool.{false≢true}
@@ -29,7 +29,7 @@ use Rattle.cpp_direct.proofs.PrintedLists.{none-print-in}
 use Rattle.cpp_direct.proofs.Scopes.{arguments-named, arguments-stay, front-scoped}
 use Rattle.cpp_direct.proofs.PrintedSymbols.{encoding-returned, front-shows}
 
--- the return type of a function is expected behind its name
+-- the return type of a function is expected after its name
 pub front-begins : (s : Symbol) (w new : Direct) (mark : Mark) (argument_ : Arguments) (from start place : ℕ) → IsNameEnded s w mark true argument_ from
     → (is_local s.bytes ≡ false → from ≡ 0) → (place ≢ 0 → from ≡ 0) → (place ≢ 0 → place ≡ encoding_place s.bytes)
     → start ≡ length w.text.list.items → new.text ≡ w.text → new.candidates ≡ w.candidates → new.at ≡ w.at
@@ -76,7 +76,7 @@ front-begins s w new mark argument_ from start place p apart first place_is star
       );
     }
 
--- a function's return type stands in front of what it shows without one
+-- a function's return type comes before what it shows without one
 turned : (s : Symbol) (argument : Arguments) (mark : Mark) (v : Value) (name : List ℕ) (text : List ℕ) (is : IsInstance text argument mark v name) (r : Term) (b : List ℕ)
     (is_reference : Bool) → PrintsIn (types_of is.own) 2 r b is_reference → (items : Term) (at : ℕ) → is_local s.bytes ≡ false → EncodedBehind s [] (encoding_of v (list r items)) at
     → EncodedBehind s (b ++ codes " ") (plain_encoding mark is.own items) at
@@ -92,7 +92,7 @@ turned s argument mark v name text is r b is_reference prints items at apart p =
   entity = λ e. absurd (false≢true (sym apart ∙ e));
 }
 
--- the return type is read, and behind it the name is written once more
+-- the return type is read, and after it the name is written once more
 pub front-turned : (s : Symbol) (w here first last : Direct) (mark : Mark) (start : ℕ) (argument : Arguments) → IsFrontRead s w mark start argument
     → is_local s.bytes ≡ false
     → here.text ≡ w.text → here.candidates ≡ w.candidates → here.at ≡ w.at → Writes here first (codes " ")
@@ -139,7 +139,7 @@ front-turned s w here first last mark start argument p plain text candidates at 
       };
     }
 
--- in front of a local entity a function shows no return type
+-- before a local entity a function shows no return type
 hidden-return : (s : Symbol) (lead : List ℕ) (argument : Arguments) (mark : Mark) (v : Value) (name text : List ℕ) (is : IsInstance text argument mark v name)
     (r : Term) → is_local s.bytes ≡ true → (items : Term) (at : ℕ) → EncodedBehind s lead (encoding_of v (list r items)) at
     → EncodedBehind s lead (plain_encoding mark is.own items) at
@@ -155,7 +155,7 @@ hidden-return s lead argument mark v name text is r local_ items at p = record {
   };
 }
 
--- the return type is read, and behind it the name is written once more, with what stands in front of it
+-- the return type is read, and after it the name is written once more, with what comes before it
 pub front-hidden : (s : Symbol) (w last : Direct) (mark : Mark) (start begins : ℕ) (argument : Arguments) → IsFrontRead s w mark start argument
     → is_local s.bytes ≡ true → begins ≡ length w.text.list.items → Writes w last (take (start - 0) (drop 0 w.text.list.items))
     → AwaitsParameters s last mark begins argument

@@ -16,7 +16,7 @@ use Rattle.cpp_direct.proofs.MovesOfFunctions.{function-opens, pointed-function-
 
 -- ## The return type
 
--- it is expected behind the letters
+-- it is expected after the letters
 return-opens : (s : Symbol) (is_pointer : Bool) (kind : Kind) (os : List Opened) (around : Around) (at : ℕ) (st : State) → IsQualifiable kind
     → around.prefix ≡ outermost → Expects s kind around os at st → StandsAt s.bytes at (if is_pointer then 80 ∷ 70 ∷ [] else 70 ∷ [])
     → FunctionOpened s os around is_pointer (at + (if is_pointer then 2 else 1)) st

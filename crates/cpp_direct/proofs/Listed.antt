@@ -64,7 +64,7 @@ pub list-more : (ts : List Term) (t r : Term) → list_with (ts ++ t ∷ []) r �
 list-more [] t r = refl
 list-more (u ∷ ts) t r = ap (λ l. list u l) (list-more ts t r)
 
--- one more element behind these
+-- one more element after these
 pub some-elements : (ts : List Term) (t : Term) → ts ++ t ∷ [] ≢ []
 some-elements [] t e = cc e
 some-elements (u ∷ ts) t e = cc e
@@ -78,7 +78,7 @@ pub element-kind : (l : Listing) → IsArgumentKind (element_kind l)
 element-kind of_template = tt
 element-kind (of_pack before written) = tt
 
--- a list goes on behind one more
+-- a list goes on after one more
 pub element-goes-on : (s : Symbol) (kind : Kind) (closes : Term → (at : ℕ) → State → Type 0) (ts : List Term) (t : Term)
     (before at : ℕ) (earlier st : State) (goes : ElementsGoOn s kind closes ts before earlier) → ListGoesOn s kind goes.1 goes.0 t at st
     → ElementsGoOn s kind closes (ts ++ t ∷ []) at st
@@ -489,7 +489,7 @@ pack-ends s w new p stands found text candidates at popped = go p.is_before.0.li
           );
         }
 
--- one more element is expected, and a comma stands before it but at the first
+-- one more element is expected, and a comma comes before it but at the first
 pub argument-expected : (s : Symbol) (w new : Direct) (first : Bool) → IsWriting s w (steps.List first)
     → new.text.list.items ≡ w.text.list.items ++ comma first → new.candidates.list.items ≡ w.candidates.list.items → new.waiting ≡ w.waiting → new.at ≡ w.at
     → AwaitsNextArgument s new
@@ -640,7 +640,7 @@ list-none opened text p = go p.listing refl
         ∙ takes-none p.owner p.rest (template-takes p.owner p.front p.template p.name text p.is_template)
     go (of_pack before written) is = ap argument_of (subst (λ l. Belongs l opened p.owner p.rest) is p.belongs).0
 
--- it stands open so
+-- it is open so
 list-stands : (s : Symbol) (opened : List Open) (os : List Opened) (text : List ℕ) → ListWaits s opened os text → Stands s opened os text
 list-stands s opened os text w = go w.place.listing refl
   where
@@ -699,7 +699,7 @@ waits-of s owner rest os text p = record {
   onward = p.8;
 }
 
--- and what stands open so is a list
+-- and what is open so is a list
 pub list-waits : (s : Symbol) (o : Open) (rest : List Open) (os : List Opened) (text : List ℕ) → TakesElements o → Stands s (o ∷ rest) os text
     → ListWaits s (o ∷ rest) os text
 list-waits s opens.Pack [] os text takes p = absurd p

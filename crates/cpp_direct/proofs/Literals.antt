@@ -17,7 +17,7 @@ use Rattle.cpp_direct.proofs.Moves.{stands-join}
 
 -- ## Digits
 
--- a zero in front of more digits counts nothing
+-- a zero before more digits counts nothing
 pub normal-step : (xs : List ℕ) (at : ℕ) → at + 1 < length xs → get_or xs at 0 ≡ 48 → normal (drop (at + 1) xs) ≡ normal (drop at xs)
 unfolding normal
 normal-step xs at inside zero_there =
@@ -68,7 +68,7 @@ minus-digits ns ds n is e other =
     ap (λ l. codes "-" ++ l) is ∙ sym (ap (λ b. number_text (signed_digits b ds)) e
     ∙ ap (λ (b : Bool). cond (true && not b) (codes "-") [] ++ normal ds) (ap is_zero (sym is) ∙ sym other))
 
--- the digits of an offset and its _ were read behind its sign
+-- the digits of an offset and its _ were read after its sign
 pub offset-read : (s : List ℕ) (old middle new : Direct) (n : Bool) → StandsAt s old.at (minus_sign n) → middle.at ≡ old.at + length (minus_sign n)
     → Reads old middle []
     → (digits : List ℕ) × (end : ℕ) × IsDigitsAt s middle.at digits end × StandsAt s end (95 ∷ []) × (new.at ≡ end + 1) × Reads middle new []
@@ -154,7 +154,7 @@ plain-integer-read s old middle there new letter ending first is plain next begu
           (reads-then old there new (number_text n) ending (reads-then old middle there [] (number_text n) begun read.4) written),
     )
 
--- an integer behind its type was read
+-- an integer after its type was read
 pub cast-integer-read : (s : List ℕ) (old middle new : Direct) (letter : ℕ) → (letter ≢ 0 → StandsAt s old.at (letter ∷ []))
     → true ≡ is_integer_letter letter → false ≡ is_plain_integer (builtin (letter ∷ [])) → middle.at ≡ old.at + 1
     → Reads old middle (codes "(" ++ look_up (letter ∷ []) builtin_texts ++ codes ")")

@@ -1,4 +1,4 @@
--- Where the qualifiers of member functions stand.
+-- Where the qualifiers of member functions are.
 use Rattle.std.proofs.Common.{◌≡◌, ℕ, ◌+◌, List, [], ◌∷◌, subst, arith}
 use Rattle.cpp_direct.specs.declared.open.Mark.TheVariants as marks
 use Rattle.cpp_direct.specs.Holes.{StandsAt}

@@ -28,7 +28,7 @@ use Rattle.cpp_direct.specs.Holes.{cpp_language, Opened, opened, ReadsRest, Stan
 
 -- ## Kinds
 
--- each kind stands at its number
+-- each kind is at its number
 pub kind-at : (kind : Kind) → slice_get kinds (number_of_kind kind) ≡ Some kind
 unfolding kinds number_of_kind
 kind-at Kind.Symbol = refl
@@ -47,15 +47,15 @@ takes-wide s kind p byte taken wide chosen small takes =
 
 -- ## Bytes at a place
 
--- what stands in two pieces stands as one
+-- what is there in two pieces is there as one
 pub stands-join : (s : List ℕ) (at : ℕ) (a b : List ℕ) → StandsAt s at a → StandsAt s (at + length a) b → StandsAt s at (a ++ b)
 stands-join s at a b first second = moves.stands-join s at a b first second
 
--- what stands as one stands in two pieces
+-- what is there as one is there in two pieces
 pub stands-split : (s : List ℕ) (at : ℕ) (a b : List ℕ) → StandsAt s at (a ++ b) → StandsAt s at a × StandsAt s (at + length a) b
 stands-split s at a b whole = moves.stands-split s at a b whole
 
--- nothing stands anywhere
+-- nothing is anywhere
 pub stands-none : (s : List ℕ) (at : ℕ) → StandsAt s at []
 stands-none s at = moves.stands-none s at
 
@@ -73,7 +73,7 @@ begins-so : (p : Production) (taken : List ℕ) (around : Around) (at : ℕ) (st
 unfolding cpp
 begins-so p taken around at st begins f = ap (λ q. opening q f at st) (at_number p) ∙ begins f
 
--- a kind takes a production: the production's rule stands open
+-- a kind takes a production: the production's rule is open
 opens-by : (s : Symbol) (kind : Kind) (p : Production) (taken : List ℕ) (around : Around) (os : List Opened) (at : ℕ) (st : State)
     → TakesRule (table_by s.is_wide) (number_of_kind kind) (rule_of p) taken → ((f : Forest) → opening p f at st ≡ Ok st)
     → Expects s kind around os at st → StandsAt s.bytes at taken
@@ -91,7 +91,7 @@ pub opens : (s : Symbol) (kind : Kind) (p : Production) (byte : ℕ) (taken : Li
 opens s kind p byte taken around os at st chosen small takes begins expects stands =
     opens-by s kind p taken around os at st (takes-it s kind p byte taken chosen small takes) begins expects stands
 
--- the same where the production begins well with whatever parts stand in the symbol
+-- the same where the production begins well with whatever parts are in the symbol
 pub opens-where : (s : Symbol) (kind : Kind) (p : Production) (byte : ℕ) (taken : List ℕ) (around : Around) (os : List Opened) (at : ℕ) (st : State)
     → choose kind byte ≡ Some p → byte < 256 → taken ≡ (if not (is_chain p) then byte ∷ [] else [])
     → ((f : Forest) → AreTrees (table_by s.is_wide) (parts_of p) f → StandsAt s.bytes (at + length taken) (spell_all f) → opening p f at st ≡ Ok st)
@@ -123,7 +123,7 @@ pub goes-so : (p : Production) (taken : List ℕ) (at0 : ℕ) (around : Around) 
 unfolding cpp
 goes-so p taken at0 around before known st next goes = ap (λ q. between q around at0 known st) (at_number p) ∙ goes
 
--- a part of a production is read, and those behind it
+-- a part of a production is read, and those after it
 unfoldable pub joins : (s : Symbol) (p : Production) (taken : List ℕ) (at0 : ℕ) (around : Around) (before : State) (known : List Value) (x : Sym)
     (todo : List Sym) (at : ℕ) (st : State) (context : Around) (values : List Value) (state after inner : State) (v : List Value)
     (first more : List ℕ) (vs : List Value)
@@ -217,7 +217,7 @@ takes-byte p byte chain = sym (ap (λ b. if not b then byte ∷ [] else []) chai
 takes-none : (p : Production) (byte : ℕ) → is_chain p ≡ true → [] ≡ (if not (is_chain p) then byte ∷ [] else [])
 takes-none p byte chain = sym (ap (λ b. if not b then byte ∷ [] else []) chain)
 
--- a production that takes its byte stands open
+-- a production that takes its byte is open
 pub opens-byte : (s : Symbol) (kind : Kind) (p : Production) (byte : ℕ) (around : Around) (os : List Opened) (at : ℕ) (st : State)
     → choose kind byte ≡ Some p → byte < 256 → is_chain p ≡ false → ((f : Forest) → opening p f at st ≡ Ok st)
     → Expects s kind around os at st → StandsAt s.bytes at (byte ∷ [])
@@ -225,7 +225,7 @@ pub opens-byte : (s : Symbol) (kind : Kind) (p : Production) (byte : ℕ) (aroun
 opens-byte s kind p byte around os at st chosen small chain begins expects stands =
     opens s kind p byte (byte ∷ []) around os at st chosen small (takes-byte p byte chain) begins expects stands
 
--- A production that takes no byte stands open; the byte is any at which it is taken.
+-- A production that takes no byte is open; the byte is any at which it is taken.
 pub opens-chain : (s : Symbol) (kind : Kind) (p : Production) (byte : ℕ) (around : Around) (os : List Opened) (at : ℕ) (st : State)
     → choose kind byte ≡ Some p → byte < 256 → is_chain p ≡ true → ((f : Forest) → opening p f at st ≡ Ok st)
     → Expects s kind around os at st

@@ -33,7 +33,7 @@ expects-size s around os at st digits end expects is =
     (comes-moved s os (values.text is.token.own) (at + length (bytes_of is.token)) end st (sym is.ends)
     (expects-number s Decimal around os at st is.token expects is.is_number is.stands))
 
--- the type of an array's elements is expected behind its size
+-- the type of an array's elements is expected after its size
 plain-array-opens : (s : Symbol) (kind : Kind) (os : List Opened) (around : Around) (at : ℕ) (st : State) (digits : List ℕ) (end : ℕ) → IsQualifiable kind
     → Expects s kind around os at st → StandsAt s.bytes at (65 ∷ []) → IsSizeAt s.bytes (at + 1) digits end → ArrayOpened s os around accesses.Plain digits end st
 unfolding choose alternatives pick is_in in_ranges among is_chain parts_of number_of_kind between opening close unfolding_.behind meaning byte_of tree_of text_of part

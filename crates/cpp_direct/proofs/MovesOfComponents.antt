@@ -1,4 +1,4 @@
--- The components of a nested name are read one behind another.
+-- The components of a nested name are read one after another.
 use Rattle.std.proofs.Common.{◌≡◌, ℕ, ◌+◌, ◌<◌, ◌⊎◌, List, [], ◌∷◌, Option, Some, inl, inr, Bool, true, false, Ok, refl, sym, subst, arith}
 use Rattle.std.proofs.lemmas.Bool.{le-leb}
 use Rattle.sym_shape.specs.declared.rule.Sym.TheVariants.{Kind as OfKind, Name, Byte}
@@ -26,7 +26,7 @@ use Rattle.cpp_direct.proofs.Moves.{stands-split, comes-moved, first-of, first-o
 use Rattle.cpp_direct.proofs.MovesOfNests.{last-passes}
 use Rattle.cpp_direct.proofs.Operators.{IsOperator}
 
--- ## Behind the name so far
+-- ## After the name so far
 
 rest-chooses : (kind : Kind) → IsRest kind → choose kind 48 ≡ Some Production.NestNext
 unfolding choose alternatives pick is_in in_ranges among
@@ -42,7 +42,7 @@ unfolding with_prefix appended after prefix_tree prefix_listed
 prefix-appended around t true st = refl
 prefix-appended around t false st = refl
 
--- a component follows, in front of which the name so far is a candidate
+-- a component follows, before which the name so far is a candidate
 pub component-awaits : (s : Symbol) (kind : Kind) (os : List Opened) (around : Around) (t : Term) (listed : Bool) (at : ℕ) (st : State)
     → IsRest kind → Expects s kind (after t listed around) os at st
     → AwaitsComponent s os around t at (unless_listed listed around t st)
@@ -95,7 +95,7 @@ first-arguments s os around t listed at st expects stands =
           };
     }
 
--- arguments of a name that an S stands for, behind which it may end by the wide grammar
+-- arguments of a name that an S stands for, after which it may end by the wide grammar
 pub instance-arguments : (s : Symbol) (os : List Opened) (around : Around) (t : Term) (listed : Bool) (at : ℕ) (st : State)
     → Expects s Kind.NestRestOrEnd (after t listed around) os at st → StandsAt s.bytes at (73 ∷ [])
     → AwaitsInstance s os around t listed at st
@@ -134,7 +134,7 @@ component-outside s inner outer around t at st passes a = record {
       record { inner = g.inner; awaits = g.awaits; passes = λ v onto newer came. passes v onto newer (g.passes v onto newer came) };
 }
 
--- and behind which a component follows
+-- and after which a component follows
 known-arguments : (s : Symbol) (os : List Opened) (around : Around) (t : Term) (listed : Bool) (at : ℕ) (st : State)
     → Expects s Kind.NestRestOrEnd (after t listed around) os at st → StandsAt s.bytes at (73 ∷ [])
     → AwaitsArguments s os around t listed at st

@@ -35,7 +35,7 @@ use Rattle.cpp_direct.proofs.Tables.{stands-by}
 
 -- ## Encodings
 
--- an encoding begins with its name, behind which its items are expected
+-- an encoding begins with its name, after which its items are expected
 pub encoding-opens : (s : Symbol) (os : List Opened) (around : Around) (at : ℕ) (st : State)
     → Expects s Kind.Encoding around os at st → EncodingOpened s os at st
 unfolding choose alternatives pick is_in in_ranges among is_chain parts_of between opening close unfolding_.behind meaning part
@@ -188,7 +188,7 @@ unfolding is_there
 quality-is true = refl
 quality-is false = refl
 
--- a nested name begins with an N, and its qualifiers behind it
+-- a nested name begins with an N, and its qualifiers after it
 pub name-nested : (s : Symbol) (os : List Opened) (around : Around) (const : Bool) (on : RefQualifier) (at : ℕ) (st : State)
     → Expects s Kind.CompleteName around os at st → StandsAt s.bytes at (nest_marks const on)
     → NestOpened s os around const on (at + length (nest_marks const on)) st
@@ -264,7 +264,7 @@ name-nested s os around const on at st expects stands = go on stands
     go lvalue_only there = referred 82 refl (omega arith) there
     go rvalue_only there = referred 79 refl (omega arith) there
 
--- a name of its own, with or without arguments behind it
+-- a name of its own, with or without arguments after it
 pub name-source : (s : Symbol) (os : List Opened) (around : Around) (at : ℕ) (name : List ℕ) (end : ℕ) (st : State)
     → Expects s Kind.CompleteName around os at st → around.prefix ≡ outermost → IsNameAt s.bytes at name end
     → Named s os around (alone (source false name)) end st
@@ -286,7 +286,7 @@ name-source s os around at name end st expects first is =
       renamed = λ u here now comes. ends s p [] at around st (tree t false ∷ bare_name u ∷ []) os here now _ now comes refl;
     }
 
--- one with internal linkage, behind an L
+-- one with internal linkage, after an L
 pub name-internal : (s : Symbol) (os : List Opened) (around : Around) (at : ℕ) (name : List ℕ) (end : ℕ) (st : State)
     → Expects s Kind.CompleteName around os at st → around.prefix ≡ outermost → StandsAt s.bytes at (76 ∷ []) → IsNameAt s.bytes (at + 1) name end
     → Named s os around (alone (source true name)) end st

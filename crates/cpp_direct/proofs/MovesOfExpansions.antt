@@ -68,7 +68,7 @@ pack-comes s around os at st scope expects stands =
     (last-of s p (84 ∷ []) at here (begun st) (v ∷ []) nothing_there solid.inner (at + 1 + 1) later v later refl
     (expects-empty s Kind.ArgumentsAlone (after t true here) (opened rule (v ∷ []) [] ∷ solid.inner) (at + 1 + 1) later behind refl)))
 
--- the candidates behind it
+-- the candidates after it
 abbrev pub with_expansion : (size : ℕ) → Around → State → State
 with_expansion size around st =
     let each = rvalue (parameter 0) in

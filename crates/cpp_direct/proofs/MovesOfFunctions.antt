@@ -23,7 +23,7 @@ use Rattle.cpp_direct.specs.HolesOfFunctions.{plain_function, SignatureGoesOn, F
 use Rattle.cpp_direct.proofs.Moves.{opens, opens-chain, first-of, first-of-chain, needs-next, next-of, last-of, ends, expects-empty, stands-split}
 use Rattle.cpp_direct.proofs.MovesOfTypes.{whole-opens, pointer-opens}
 
--- the return type of a function type is expected behind its F
+-- the return type of a function type is expected after its F
 pub function-opens : (s : Symbol) (kind : Kind) (os : List Opened) (around : Around) (at : ℕ) (st : State) → IsQualifiable kind
     → around.prefix ≡ outermost → Expects s kind around os at st → StandsAt s.bytes at (70 ∷ []) → FunctionOpened s os around false (at + 1) st
 unfolding choose alternatives pick is_in in_ranges among is_chain parts_of number_of_kind may_be_empty between opening close unfolding_.behind meaning function_of part tree_of ref_of is_there
@@ -52,7 +52,7 @@ function-opens s kind os around at st whole outside expects stands =
       };
     }
 
--- and behind PF that of one that is pointed to
+-- and after PF that of one that is pointed to
 pub pointed-function-opens : (s : Symbol) (kind : Kind) (os : List Opened) (around : Around) (at : ℕ) (st : State) → IsQualifiable kind
     → around.prefix ≡ outermost → Expects s kind around os at st → StandsAt s.bytes at (80 ∷ 70 ∷ []) → FunctionOpened s os around true (at + 2) st
 pointed-function-opens s kind os around at st whole outside expects stands =
@@ -112,7 +112,7 @@ signature-ends s outer made_in is_pointer made at st g stands =
 
 -- ## References as parameters
 
--- Behind what a reference is to, the reader makes the reference, and goes on as behind another parameter.
+-- After what a reference is to, the reader makes the reference, and goes on as after another parameter.
 rests-alike : (s : Symbol) (item : Production) (made : Term → Term) (around : Around) (at0 : ℕ) (before : State) (t : Term) (at : ℕ) (st then_ : State)
     (bytes : List ℕ) (vs : List Value) (inner : State) (x : Sym)
     → ◌≡◌ {A = Going} (between item around at0 (tree t true ∷ []) st)
@@ -152,7 +152,7 @@ alike s item made around at0 before os x t at st then_ goes same closes comes by
     (ap (λ q. close q 0 around at0 before vs inner) (at_number item) ∙ closes vs inner
     ∙ sym (ap (λ q. close q 0 around at0 before vs inner) (at_number Production.RestItem)) ∙ closed)
 
--- a parameter that is a reference is expected behind its letter
+-- a parameter that is a reference is expected after its letter
 pub reference-opens : (s : Symbol) (outer : List Opened) (made_in : Around) (is_pointer is_lvalue : Bool) (made : Term → Term) (at : ℕ) (st : State)
     → SignatureGoesOn s outer made_in is_pointer made at st → StandsAt s.bytes at (reference_letter is_lvalue ∷ [])
     → ReferenceOpened s outer made_in is_pointer is_lvalue made at st

@@ -1,4 +1,4 @@
--- The moves in lists of arguments and of items: arguments are opened and closed, and a list goes on behind each of its elements.
+-- The moves in lists of arguments and of items: arguments are opened and closed, and a list goes on after each of its elements.
 use Rattle.std.proofs.Common.{◌≡◌, ℕ, ◌+◌, ◌<◌, ◌⊎◌, inl, inr, length, List, [], ◌∷◌, Bool, true, false, nat_eq, Some, Ok, refl, ap, sym, subst, arith, ◌∙◌, Result, Err}
 use Rattle.sym_core.specs.declared.NumberKind.TheVariants.{Digits}
 use Rattle.sym_shape.specs.declared.rule.Sym.TheVariants.{Kind as OfKind, Number, Byte}
@@ -47,7 +47,7 @@ unfolding between after inside with_prefix appended prefix_tree prefix_listed
 prefix-listed t true around at st = refl
 prefix-listed t false around at st = refl
 
--- arguments behind a name begin with an I, and end with an E
+-- arguments after a name begin with an I, and end with an E
 pub arguments-open : (s : Symbol) (os : List Opened) (around : Around) (t : Term) (listed : Bool) (at : ℕ) (st : State)
     → Expects s Kind.ArgumentsAlone (after t listed around) os at st → StandsAt s.bytes at (73 ∷ [])
     → ArgumentsOpened s os around (at + 1) (unless_listed listed around t st)

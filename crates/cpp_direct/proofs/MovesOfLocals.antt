@@ -132,7 +132,7 @@ name-comes s os around e at false name end st expects marked is =
 
 -- ## Local names
 
--- a local name begins with a Z and the encoding that its entity stands in
+-- a local name begins with a Z and the encoding that its entity is in
 pub local-opens : (s : Symbol) (os : List Opened) (around : Around) (at : ℕ) (st : State)
     → Expects s Kind.CompleteName around os at st → StandsAt s.bytes at (90 ∷ []) → LocalOpened s os around (at + 1) st
 unfolding choose alternatives pick is_in in_ranges among is_chain parts_of between opening close unfolding_.behind meaning part tree_of qualifiers_of ref_of
@@ -272,7 +272,7 @@ local-taken Kind.Solid is_named = refl
 local-taken Kind.LiteralType is_named = refl
 local-taken _ is_named = absurd is_named
 
--- such a type begins with a Z and the encoding that it stands in
+-- such a type begins with a Z and the encoding that it is in
 pub local-type-opens : (s : Symbol) (kind : Kind) (os : List Opened) (around : Around) (at : ℕ) (st : State) → IsNamedKind kind
     → Expects s kind around os at st → StandsAt s.bytes at (90 ∷ []) → LocalTypeOpened s os around (at + 1) st
 unfolding is_chain parts_of between opening close unfolding_.behind meaning part tree_of
@@ -307,7 +307,7 @@ local-type-opens s kind os around at st named_ expects stands =
 
 -- ## Lambdas
 
--- what becomes of the parameters of a lambda, in front of the E behind them
+-- what becomes of the parameters of a lambda, before the E after them
 abbrev pub LambdaEnds : (s : Symbol) → (os : List Opened) → (e : Term) → (items : Term) → (at : ℕ) → State → Type 0
 LambdaEnds s os e items at st =
     (number : Option ℕ) (end : ℕ) → IsLambdaDigit number → StandsAt s.bytes at (lambda_ending number) → end ≡ at + length (lambda_ending number)

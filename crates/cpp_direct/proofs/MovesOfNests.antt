@@ -1,4 +1,4 @@
--- The parts of a nested name are read one behind another.
+-- The parts of a nested name are read one after another.
 use Rattle.std.proofs.Common.{◌≡◌, ℕ, ◌+◌, ◌-◌, ◌<◌, List, [], ◌∷◌, ◌++◌, Option, Some, None, Bool, true, false, Ok, refl, ap, subst, arith}
 use Rattle.std.specs.Prelude.{codes, slice_get, not, ◌&&◌, ◌||◌, nat_eq, Result, Err}
 use Rattle.std.proofs.lemmas.Bool.Decides.{nat_tests}
@@ -53,7 +53,7 @@ letter-small : (code : ℕ) → among (codes "abdios") code ≡ true → code < 
 unfolding among
 letter-small code h = grind (arith, nat_tests)
 
--- one of the letters behind an S that stand for a name of std
+-- one of the letters after an S that stand for a name of std
 pub abbreviation-comes : (s : Symbol) (os : List Opened) (around : Around) (at : ℕ) (st : State) (code : ℕ)
     → Expects s Kind.Abbreviation around os at st → StandsAt s.bytes at (code ∷ []) → among (codes "abdios") code ≡ true
     → Comes s os (tree (abbreviation code) true) (at + 1) st
@@ -115,7 +115,7 @@ nest-source s os around at st name end first expects is =
       passes = last-passes s p [] at around st (tree u false ∷ []) os (λ v later. refl);
     }
 
--- what an S stands in front of
+-- what follows an S
 pub behind-s : (s : Symbol) (os : List Opened) (around : Around) (at : ℕ) (st : State)
     → Expects s Kind.Nest around os at st → StandsAt s.bytes at (83 ∷ [])
     → Expects s Kind.NestAfterS around (opened (standing (rule_of Production.NestWithS) (83 ∷ []) at around st) [] [] ∷ os) (at + 1) st

@@ -1,4 +1,4 @@
--- A tag stands behind a name.
+-- A tag comes after a name.
 use Rattle.std.proofs.Common.{◌≡◌, ℕ, ◌+◌, List, [], ◌∷◌, true, false, refl, arith}
 use Rattle.sym_shape.specs.declared.rule.Sym.TheVariants.{Kind as OfKind, Name}
 use Rattle.sym_link.specs.Unfold.{standing}

@@ -203,7 +203,7 @@ builtin-with-d-comes s _ around os at st b typed is expects stands = absurd type
 
 -- ## Types of types
 
--- a type is expected behind a P
+-- a type is expected after a P
 pub pointer-opens : (s : Symbol) (kind : Kind) (around : Around) (os : List Opened) (at : ℕ) (st : State) → IsTyped kind
     → Expects s kind around os at st → StandsAt s.bytes at (80 ∷ []) → TypeOpens s Kind.Type os around pointer (at + 1) st
 unfolding choose alternatives pick is_in in_ranges among is_chain parts_of number_of_kind between opening close unfolding_.behind meaning byte_of tree_of part is_function_type
@@ -244,21 +244,21 @@ rvalue-taken Kind.Item typed = refl
 rvalue-taken Kind.Plain typed = refl
 rvalue-taken _ typed = absurd typed
 
--- a type is expected behind an R
+-- a type is expected after an R
 pub lvalue-opens : (s : Symbol) (kind : Kind) (around : Around) (os : List Opened) (at : ℕ) (st : State) → IsReferable kind
     → Expects s kind around os at st → StandsAt s.bytes at (82 ∷ []) → TypeOpens s Kind.Type os around lvalue (at + 1) st
 unfolding reference_to tree_of
 lvalue-opens s kind around os at st typed expects stands =
     reference-opens s kind around os at st 82 lvalue typed lvalue-taken (omega arith) (λ t. refl) expects stands
 
--- and behind an O
+-- and after an O
 pub rvalue-opens : (s : Symbol) (kind : Kind) (around : Around) (os : List Opened) (at : ℕ) (st : State) → IsReferable kind
     → Expects s kind around os at st → StandsAt s.bytes at (79 ∷ []) → TypeOpens s Kind.Type os around rvalue (at + 1) st
 unfolding reference_to tree_of
 rvalue-opens s kind around os at st typed expects stands =
     reference-opens s kind around os at st 79 rvalue typed rvalue-taken (omega arith) (λ t. refl) expects stands
 
--- a plain type is expected behind a K
+-- a plain type is expected after a K
 pub const-opens : (s : Symbol) (kind : Kind) (around : Around) (os : List Opened) (at : ℕ) (st : State) → IsQualifiable kind
     → Expects s kind around os at st → StandsAt s.bytes at (75 ∷ []) → TypeOpens s Kind.Plain os around as_const (at + 1) st
 unfolding choose alternatives pick is_in in_ranges among is_chain parts_of number_of_kind between opening close unfolding_.behind meaning listed_value qualified_by byte_of tree_of is_there part appended
@@ -349,7 +349,7 @@ listed-lost : (t : Term) (listed : Bool) (st : State)
 listed-lost t true st = refl
 listed-lost t false st = refl
 
--- a name behind an S
+-- a name after an S
 pub name-with-s-opens : (s : Symbol) (kind : Kind) (around : Around) (os : List Opened) (at : ℕ) (st : State) → IsNamedKind kind
     → TreeOpens s kind os around at st → StandsAt s.bytes at (83 ∷ []) → NameOpens s Kind.TypeAfterS os around (at + 1) st
 unfolding choose alternatives pick is_in in_ranges among is_chain parts_of number_of_kind between opening close unfolding_.behind meaning byte_of tree_of is_listed is_there part applied
@@ -407,7 +407,7 @@ abbreviation-small : (byte : ℕ) → is_abbreviated byte ≡ true → byte < 25
 unfolding among is_abbreviated each_passes is_small
 abbreviation-small byte is = small byte (tested abbreviation_letters is_small refl byte is)
 
--- an abbreviation or a substitution is expected behind an S
+-- an abbreviation or a substitution is expected after an S
 reference-behind-s : (s : Symbol) (around : Around) (os : List Opened) (at : ℕ) (st : State) → Expects s Kind.TypeAfterS around os at st
     → Expects s Kind.Abbreviation around (opened (standing (rule_of Production.AbbreviatedType) [] at around st) [] [] ∷ os) at st
 unfolding choose alternatives pick is_in in_ranges among is_chain parts_of number_of_kind between opening
@@ -521,7 +521,7 @@ pub open-substitution-opens : (s : Symbol) (kind : Kind) (around : Around) (os :
 open-substitution-opens s kind around os at st digits end c is_named names_it made plain none solid stands is =
     substitution-by s kind around os at st digits end c is_named names_it (λ place. substituted-open around place c st made plain none) solid stands is
 
--- a nested name is expected behind an N
+-- a nested name is expected after an N
 pub nested-type-opens : (s : Symbol) (kind : Kind) (around : Around) (os : List Opened) (at : ℕ) (st : State) → IsNamedKind kind
     → TreeOpens s kind os around at st → StandsAt s.bytes at (78 ∷ []) → TreeOpens s Kind.Nest os around (at + 1) st
 unfolding choose alternatives pick is_in in_ranges among is_chain parts_of number_of_kind between opening close unfolding_.behind meaning byte_of part

@@ -1,4 +1,4 @@
--- The moves in names of encodings that stand in no class: operators, and names in std.
+-- The moves in names of encodings that are in no class: operators, and names in std.
 use Rattle.std.proofs.Common.{◌≡◌, ℕ, ◌+◌, List, [], ◌∷◌, true, false, refl, ap, subst, arith}
 use Rattle.sym_shape.specs.declared.rule.Sym.TheVariants.{Kind as OfKind}
 use Rattle.sym_link.specs.Unfold.{standing}
@@ -35,7 +35,7 @@ operator-comes s os around at st first second is expects stands =
     (λ f. is.takes.begins f at st) is.takes.parts (is.takes.passes around at st) expects two.0)
     two.1))
 
--- an operator of its own, with or without arguments behind it
+-- an operator of its own, with or without arguments after it
 pub name-operator : (s : Symbol) (os : List Opened) (around : Around) (at : ℕ) (st : State) (first second : ℕ) → IsOperator first second
     → Expects s Kind.CompleteName around os at st → around.prefix ≡ outermost → StandsAt s.bytes at (first ∷ second ∷ [])
     → Named s os around (alone (operator first second)) (at + 2) st
@@ -63,7 +63,7 @@ operator-piece-comes s os around at st first second is expects stands =
     (operator-comes s above around at st first second is
     (first-of-chain s Kind.Unqualified p 110 around os at st (OfKind OPERATOR) [] around [] st refl (omega arith) refl (λ f. refl) refl refl expects) stands)
 
--- an entity of std, with or without arguments behind it
+-- an entity of std, with or without arguments after it
 pub name-std : (s : Symbol) (os : List Opened) (around : Around) (at : ℕ) (q : Term) (end : ℕ) (st : State)
     → Expects s Kind.CompleteName around os at st → StandsAt s.bytes at (83 ∷ 116 ∷ [])
     → ((inner : List Opened) → Expects s Kind.Unqualified around inner (at + 2) st → Comes s inner (piece q) end st)

@@ -1,4 +1,4 @@
--- Where names stand.
+-- Where names are.
 use Rattle.std.proofs.Common.{◌≡◌, ◌≢◌, ℕ, ◌+◌, ◌-◌, ◌*◌, ◌≤◌, ◌<◌, suc, List, [], ◌∷◌, ◌++◌, length, take, drop, get_or, codes, Bool, true, false, ◌&&◌, not, nat_eq, nat_lt, refl, ap, sym, subst, ◌∙◌, arith, append_assoc, append-nil}
 use Rattle.std.proofs.lemmas.List.{get_or-drop, get_or-take, length-append, length-drop, length-take-le, take-append-drop, drop-drop}
 use Rattle.std.proofs.lemmas.Bool.{and_parts, le-leb, ltb-false, ltb-true}
@@ -66,7 +66,7 @@ begins-no-number (b ∷ bs) some bare = bare
 byte-may : (b : ℕ) → b < 256 → nat_lt 32 b ≡ true → not (nat_eq b 127) ≡ true → is_name_byte Cpp b ≡ true
 byte-may b small low other = grind (arith, nat_tests)
 
--- one byte more may stand in a name
+-- one byte more may be in a name
 pub reached-more : (bytes : List ℕ) (at : ℕ) (are : Bool) → (are ≡ true → ReachesNameBytes Cpp bytes at) → get_or bytes at 0 < 256
     → (are && nat_lt 32 (get_or bytes at 0) && not (nat_eq (get_or bytes at 0) 127)) ≡ true → ReachesNameBytes Cpp bytes (at + 1)
 reached-more bytes at are before small e k less = go (nat_lt k at) refl
@@ -84,7 +84,7 @@ reached-more bytes at are before small e k less = go (nat_lt k at) refl
     go true d = before parts.0 k (ltb-true k at d)
     go false d = subst (λ n. is_name_byte Cpp (get_or bytes n 0) ≡ true) (omega (arith, less, ltb-false k at d)) (byte-may b small parts.1 both.1)
 
--- what is cut out of bytes that may stand in a name may stand there as well
+-- what is cut out of bytes that may be in a name may be there as well
 pub own-each : (s : List ℕ) (from size : ℕ) (own : List ℕ) → from ≤ length s → size ≤ length s - from → own ≡ take size (drop from s)
     → ReachesNameBytes Cpp s (length s) → ReachesNameBytes Cpp own (length own)
 own-each s from size own within few own_is each k less =
@@ -93,7 +93,7 @@ own-each s from size own within few own_is each k less =
     (sym (ap (λ l. get_or l k 0) own_is ∙ get_or-take size (drop from s) k 0 (omega (arith, less, counted)) ∙ get_or-drop from s k 0))
     (each (from + k) (omega (arith, less, counted, within, few)))
 
--- a name's own bytes stand behind its length
+-- a name's own bytes come after its length
 pub own-placed : (s : List ℕ) (at from size : ℕ) (own : List ℕ) → IsLengthRead s at from size → from ≤ length s → size ≤ length s - from
     → own ≡ take size (drop from s) → is_decimal_digit (get_or own 0 0) ≡ false → ReachesNameBytes Cpp own (length own)
     → IsNamePlace s at (record { from = from; to = from + size })

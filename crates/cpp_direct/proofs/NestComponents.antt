@@ -33,7 +33,7 @@ piece-keeps text front bytes back more e = ap (λ l. l ++ more) e ∙ append_ass
 
 -- ## A text is written
 
--- This was written behind what was, and the nested name begins and serves as before.
+-- This was written after what was, and the nested name begins and serves as before.
 pub record Goes (old new : Direct) (bytes : List ℕ) : Type 0 where
   pub text : new.text.list.items ≡ old.text.list.items ++ bytes
   pub candidates : new.candidates.list.items ≡ old.candidates.list.items
@@ -49,7 +49,7 @@ pub record Moves (old new : Direct) (by : ℕ) : Type 0 where
   pub nest : new.nest ≡ old.nest
   pub at : new.at ≡ old.at + by
 
--- a mark was written behind a move
+-- a mark was written after a move
 goes-marked : (old between new : Direct) (by : ℕ) (bytes : List ℕ) → Moves old between by → Writes between new bytes → Goes old new bytes
 goes-marked old between new by bytes m w = record {
   text = rw (w.text, m.text) refl;
@@ -74,7 +74,7 @@ serves-go s old new bytes outer front g p =
 
 -- ## The name of a class once more
 
--- a constructor or a destructor stands behind a name, and was written but for the name of its class
+-- a constructor or a destructor comes after a name, and was written but for the name of its class
 class-awaits : (s : Symbol) (old new : Direct) (st : State) (t own : Term) (front bytes mark : List ℕ) (around : Around) (outer : List Opened)
     → AreCandidates old.text.list.items old.candidates.list.items st.candidates → old.text.list.items ≡ front ++ bytes
     → (is : IsNest front bytes old.text.list.items old.nest t)
@@ -191,7 +191,7 @@ named-again s old new p g at from to unlisted classless no_instance =
       serves = serves-go s old new p.class p.outer p.front g p.serves;
     }
 
--- the same by what stands at the place of the class
+-- the same by what is at the place of the class
 pub class-named : (s : Symbol) (old between new : Direct) (p : AwaitsClass s old)
     → Writes old between (take (old.nest.class_to - old.nest.class_from) (drop old.nest.class_from old.text.list.items))
     → new.text.list.items ≡ between.text.list.items → new.candidates.list.items ≡ between.candidates.list.items → new.waiting.list.items ≡ between.waiting.list.items
@@ -213,7 +213,7 @@ class-named s old between new p w text candidates waiting at nest_from purpose f
 
 -- ## A piece of a name
 
--- A piece is written behind the name so far.
+-- A piece is written after the name so far.
 piece-named : (s : Symbol) (old new : Direct) (st : State) (t piece : Term) (x front bytes : List ℕ) (around : Around) (outer : List Opened)
     → AreCandidates old.text.list.items old.candidates.list.items st.candidates → old.text.list.items ≡ front ++ bytes
     → IsNest front bytes old.text.list.items old.nest t → Serves s old.nest.purpose (Stands s (reverse old.waiting.list.items)) outer front

@@ -60,11 +60,11 @@ pub record OpensArguments (old new : Direct) (owner : Open) : Type 0 where
   pub at : new.at ≡ old.at + 1
   pub candidates : new.candidates ≡ old.candidates
 
--- what a byte says of the symbol, where it isn't behind its end
+-- what a byte says of the symbol, where it isn't after its end
 pub byte-there : (s : List ℕ) (at byte known : ℕ) → byte ≡ known → known ≢ 0 → (byte ≢ 0 → StandsAt s at (byte ∷ [])) → StandsAt s at (known ∷ [])
 byte-there s at byte known is some there = subst (λ b. StandsAt s at (b ∷ [])) is (there (λ e. some (sym is ∙ e)))
 
--- arguments begin behind a name
+-- arguments begin after a name
 list-begins : (s : Symbol) (old mid new : Direct) (ks : List Candidate) (st : State) (owner : Open) (front name : List ℕ) (t : Term)
     → Keeps old mid ks → OpensArguments mid new owner → AreCandidates old.text.list.items ks st.candidates
     → IsTemplate owner front t name (old.text.list.items ++ codes "<") → old.text.list.items ≡ front ++ name
@@ -88,7 +88,7 @@ list-begins s old mid new ks st owner front name t keeps opening_ candidates tem
 
 -- ## A name with or without arguments
 
--- no arguments stand behind a name
+-- no arguments come after a name
 pub named-goes-on : (s : Symbol) (w : Direct) → IsNestNamed s w → IsWriting s w steps.Tail
 unfolding may_be_empty
 named-goes-on s w n = record {
@@ -113,7 +113,7 @@ named-goes-on s w n = record {
   );
 }
 
--- a tag stands behind it
+-- a tag comes after it
 pub named-tagged : (s : Symbol) (old new : Direct) (tag : List ℕ) → s.is_wide ≡ true → IsNestNamed s old → IsTagAt s.bytes old.at tag new.at
     → Reads old new (tag_text tag) → IsNestNamed s new
 unfolding with_tag has_return_type arguments_of is_structor
@@ -166,7 +166,7 @@ named-tagged s old new tag wide n is reads =
           (subst (λ v. Serves s old.nest.purpose (Stands s (reverse v.list.items)) n.outer n.front) (sym reads.waiting) n.serves);
     }
 
--- arguments stand behind it
+-- arguments come after it
 pub named-opens : (s : Symbol) (old mid new : Direct) → IsNestNamed s old → StandsAt s.bytes old.at (73 ∷ [])
     → Keeps old mid (added old old.nest.from false) → OpensArguments mid new (opens.NestArguments mid.nest) → IsWriting s new (steps.List true)
 unfolding inside
@@ -187,7 +187,7 @@ named-opens s old mid new n here keeps opening_ =
 
 -- ## A name that an S stands for
 
--- what stands behind it is read
+-- what follows it is read
 pub known-goes-on : (s : Symbol) (w : Direct) → IsNestKnown s w → IsWriting s w steps.Rest
 known-goes-on s w n = record {
   state = n.state;
@@ -215,13 +215,13 @@ nest-outside : (s : Symbol) (kind : Kind) (inner outer : List Opened) (around : 
 nest-outside s kind inner outer around t listed at st passes g =
     record { inner = g.inner; awaits = g.awaits; passes = λ v to later came. passes v to later (g.passes v to later came) }
 
--- by the wide grammar it may end behind its arguments
+-- by the wide grammar it may end after its arguments
 may-end : (s : Symbol) (outer : List Opened) (around : Around) (t : Term) (listed : Bool) (at : ℕ) (st : State) → s.is_wide ≡ true
     → NestGoesOn s Kind.NestMoreOrEnd outer around t listed at st → NestGoesOn s Kind.NestTail outer around t listed at st
 may-end s outer around t listed at st wide g =
     record { inner = g.inner; awaits = any-tail s (after t listed around) g.inner at st wide g.awaits; passes = g.passes }
 
--- by the wide grammar arguments stand behind it, where it is a type
+-- by the wide grammar arguments come after it, where it is a type
 pub known-opens : (s : Symbol) (old new : Direct) → IsNestKnown s old → s.is_wide ≡ true → old.nest.purpose ≡ purposes.Type → StandsAt s.bytes old.at (73 ∷ [])
     → OpensArguments old new (opens.NestArguments old.nest) → IsWriting s new (steps.List true)
 unfolding inside
@@ -248,7 +248,7 @@ known-opens s old new n wide is_type here opening_ =
       )),
     )
 
--- ## Behind a name so far
+-- ## After a name so far
 
 -- a component follows
 pub component-next : (s : Symbol) (kind : Kind) (old new : Direct) (st : State) (t : Term) → IsRest kind
@@ -450,7 +450,7 @@ classless-nest front bytes nest t from_is class_from class_to none prints = reco
   names_class = λ e. absurd (false≢true (sym none ∙ e));
 }
 
--- the rest is expected behind a first piece
+-- the rest is expected after a first piece
 nest-begins : (s : Symbol) (old new : Direct) (purpose : Purpose) (a : AwaitsNest s old purpose) (t : Term) (bytes : List ℕ)
     → new.text.list.items ≡ old.text.list.items ++ bytes → new.candidates ≡ old.candidates → new.waiting ≡ old.waiting → new.nest.purpose ≡ purpose
     → IsNest old.text.list.items bytes (old.text.list.items ++ bytes) new.nest t
@@ -479,7 +479,7 @@ nest-begins s old new purpose a t bytes text_is candidates_are waiting_is purpos
   );
 }
 
--- and behind one that an S stands for
+-- and after one that an S stands for
 known-begins : (s : Symbol) (old new : Direct) (purpose : Purpose) (a : AwaitsNest s old purpose) (t : Term) (bytes : List ℕ)
     → new.text.list.items ≡ old.text.list.items ++ bytes → new.candidates ≡ old.candidates → new.waiting ≡ old.waiting → new.nest.purpose ≡ purpose
     → IsNest old.text.list.items bytes (old.text.list.items ++ bytes) new.nest t → new.nest.is_listed ≡ true → new.nest.has_class ≡ false

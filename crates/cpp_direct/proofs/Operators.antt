@@ -19,7 +19,7 @@ use Rattle.cpp_direct.proofs.PrintedLetters.{is_pair, are_pairs, pair-listed}
 
 -- ## The productions of first letters
 
--- the kind of the second letter, behind the production that takes the first
+-- the kind of the second letter, after the production that takes the first
 unfoldable second_kind : Production → Option Kind
 second_kind Production.OperatorN = Some Kind.OperatorAfterN
 second_kind Production.OperatorD = Some Kind.OperatorAfterD

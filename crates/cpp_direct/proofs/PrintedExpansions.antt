@@ -61,7 +61,7 @@ forwarded-prints : (ts : List Term) (k : ℕ) (own : Term) (b : List ℕ) → sl
 forwarded-prints ts k own b at p =
     subst (λ l. PrintsIn (at_index k (packed_in ts)) 3 each l true) (sym p.3) (each-prints ts k own p.0 p.1 at p.2)
 
--- ## Behind the first one
+-- ## After the first one
 
 not-below : (n m : ℕ) → m ≤ n → nat_lt n m ≡ false
 not-below n m le = go (nat_lt n m) refl
@@ -70,7 +70,7 @@ not-below n m le = go (nat_lt n m) refl
     go true is = absurd (omega (arith, le, ltb-true n m is))
     go false is = is
 
--- what stands behind the first ones
+-- what follows the first ones
 rest-ends : (ts : List Term) (n : ℕ) → length ts ≤ n → expand_rest (packed_in ts) each n ≡ []
 unfolding expand_rest is_below packs_of pack_length length_if_pack element
 rest-ends ts n le = rw (not-below n (count (list_of ts)) (omega (arith, le, count-of ts)), expand_rest) refl
@@ -79,7 +79,7 @@ rest-goes : (ts : List Term) (n : ℕ) → n < length ts → expand_rest (packed
 unfolding expand_rest is_below packs_of pack_length length_if_pack element
 rest-goes ts n lt = rw (lt-ltb n (count (list_of ts)) (omega (arith, lt, count-of ts)), expand_rest) refl
 
--- the parts of one behind the first
+-- the parts of one after the first
 abbrev next_parts : (ts : List Term) (m : ℕ) → List ℕ → Type 0
 next_parts ts m l = (text_of (printed_by (expand_rest (packed_in ts) each m)) ≡ l) × (cost_of (printed_by (expand_rest (packed_in ts) each m)) ≤ 1 + 4 * length l)
 

@@ -21,7 +21,7 @@ pub joined-further : (b : List ℕ) (bs : List (List ℕ)) → joined (b ∷ bs)
 joined-further b [] = sym (append-nil b)
 joined-further b (c ∷ bs) = ap (λ s. b ++ codes ", " ++ s) (joined-further c bs) ∙ append_assoc b (codes ", ") (c ++ further bs)
 
--- the parts of a list behind another element, and those of the whole
+-- the parts of a list after another element, and those of the whole
 more-is : (c : Context) (e rest : Term) → is_empty c e ≡ false
     → more_parts c (list e rest) ≡ says ", " ∷ as_item left c e ∷ as_item right c e ∷ list_part more c rest
 unfolding more_parts
@@ -35,7 +35,7 @@ first-is c e rest filled = rw (filled, first_parts) refl
 element-text : (l r x b y : List ℕ) → l ++ r ≡ b → x ≡ y → l ++ (r ++ x) ≡ b ++ y
 element-text l r x b y e f = sym (append_assoc l r x) ∙ ap (λ k. k ++ x) e ∙ ap (λ k. b ++ k) f
 
--- Behind the elements of a list this stands and prints nothing. It may cost so much.
+-- After the elements of a list this comes, and prints nothing. It may cost so much.
 record EndsList (most : ℕ) (tail : Term) : Type 0 where
   first_text : (c : Context) → text_of (printed_by (list_part first c tail)) ≡ []
   first_cost : (c : Context) → cost_of (printed_by (list_part first c tail)) ≤ 1 + most
@@ -216,7 +216,7 @@ pub list-packless : (scope : Term) (extra : ℕ) (ts : List Term) (tail : Term) 
     → pack_length scope (list_with ts tail) ≡ None
 list-packless scope extra ts tail l is all = each-packless scope extra ts tail all.0 1 (ends-list tail is) all.1
 
--- ## Elements are read one behind the other
+-- ## Elements are read one after the other
 
 -- A type prints its text as an element.
 pub type-element : (extra : ℕ) (t : Term) (b : List ℕ) (r : Bool) → Prints t b r → IsElement extra t b
@@ -296,7 +296,7 @@ next-prints-by by [] l t b all p = go all.0 all.1 all.2
     go (c ∷ texts) each is = absurd each
 next-prints-by by (u ∷ ts) l t b all p = another-prints by u ts l t b all p
 
--- One more prints behind those before it,
+-- One more prints after those before it,
 pub next-prints : (extra : ℕ) (ts : List Term) (l : List ℕ) (t : Term) (b : List ℕ) → PrintAll extra ts l → IsElement extra t b
     → PrintAll extra (ts ++ t ∷ []) (in_front_of_next ts l ++ b)
 next-prints extra ts l t b all p = next-prints-by (IsElement extra) ts l t b all p

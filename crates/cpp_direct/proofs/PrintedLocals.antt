@@ -16,7 +16,7 @@ use Rattle.cpp_direct.proofs.PrintedNames.{piece-text, piece-cost}
 use Rattle.cpp_direct.proofs.PrintedNests.{joins}
 use Rattle.cpp_direct.proofs.PrintedSymbols.{encoding-object}
 
--- ## Encodings in front of an entity
+-- ## Encodings before an entity
 
 bare-same : (t : Term) → bare_parts Full t ≡ full_parts Full t → in_form bare closed t ≡ in_form full closed t
 unfolding parts_in
@@ -74,7 +74,7 @@ object-encloses : (name : Term) (q : Qualifiers) (ref : RefQualifier) (b : List 
 unfolding bare_parts full_parts prefix_item is_open pack_length
 object-encloses name q ref b p = encloses-as (object name q ref) b refl (λ c. refl) refl (λ k. refl) p
 
--- Data print the same in front of an entity.
+-- Data print the same before an entity.
 pub object-enclosing : (v : Value) (b : List ℕ) → Shows (encoding_of v nil) b → Encloses (encoding_of v nil) b
 object-enclosing v b p =
     let e = encoding-object v in
@@ -124,7 +124,7 @@ entity-cost e b p internal name d =
       length-append b (codes "::"),
     )
 
--- A local entity shows the encoding that it stands in, and its name.
+-- A local entity shows the encoding that it is in, and its name.
 pub entity-shows : (e : Term) (b : List ℕ) → Encloses e b → (internal : Bool) (name : List ℕ) (d : Option (List ℕ))
     → Shows (object (local e (within e (source internal name)) d) unqualified any_value) (b ++ codes "::" ++ source_text name)
 unfolding parts_in full_parts encoding_text qualifier_text ref_text text_part not_empty

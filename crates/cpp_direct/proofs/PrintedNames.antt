@@ -36,7 +36,7 @@ at-letter P letter c before others there e = go before refl e
     go true is h = others is
     go false is h = subst P (sym (eqb-true letter c h)) there
 
--- the name of a type whose integers stand without it
+-- the name of a type whose integers are without it
 builtin-ends : (letter : ℕ) → is_plain_integer (builtin (letter ∷ [])) ≡ true → EndsAsInteger (look_up (letter ∷ []) builtin_texts)
 unfolding is_plain_integer look_up builtin_texts same_bytes
 builtin-ends letter e =
@@ -177,7 +177,7 @@ operator-names a b = let t = alone (operator a b) in let x = operator_text a b i
   );
 }
 
--- It prints so, unless a blank stands between it and arguments.
+-- It prints so, unless a blank is between it and arguments.
 pub operator-prints : (a b : ℕ) → is_angle a b ≡ false → Prints (alone (operator a b)) (operator_text a b) false
 unfolding parts_in right_parts not_empty head head_with is_reference is_funarr is_empty is_open pack_length is_function_type length_if_pack
     prefix_item last_piece opening_text is_void is_plain_integer

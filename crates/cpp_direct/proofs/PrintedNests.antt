@@ -22,7 +22,7 @@ joins x m y b n e f = rw (e, f, append-nil n) (sym (append_assoc b m n))
 
 -- ## A piece in a name
 
--- a piece of a name, with its text, that is printed behind colons
+-- a piece of a name, with its text, that is printed after colons
 pub record IsPiece (p : Term) (x : List ℕ) : Type 0 where
   pub piece_text : (context : Context) → text_of (in_form piece context p) ≡ x
   pub piece_cost : (context : Context) → cost_of (in_form piece context p) ≡ 1 + length x
@@ -49,7 +49,7 @@ source-piece internal name filled = record {
   no_structor = λ t. refl;
 }
 
--- behind which arguments stand in brackets
+-- after which arguments are in brackets
 pub source-opening : (internal : Bool) (name : List ℕ) → opening_text (source internal name) ≡ codes "<"
 unfolding opening_text
 source-opening internal name = refl
@@ -69,7 +69,7 @@ operator-piece a b = record {
   no_structor = λ t. refl;
 }
 
--- but for << and <, behind which a blank stands before them
+-- but for << and <, after which a blank comes before them
 pub operator-opening : (a b : ℕ) → is_angle a b ≡ false → opening_text (operator a b) ≡ codes "<"
 unfolding opening_text
 operator-opening a b plain = rw plain refl
@@ -135,7 +135,7 @@ within-prints t b prints p x is opening = let w = within t p in let n = within-n
   integer = λ e. cc e;
 }
 
--- It names its class without what it stands in.
+-- It names its class without what it is in.
 pub within-class : (t : Term) (b : List ℕ) → Prints t b false → (p : Term) (x : List ℕ) → IsPiece p x → NamesClass (within t p) x
 unfolding parts_in right_parts base_parts not_empty
 within-class t b prints p x is = let w = within t p in record {
@@ -188,7 +188,7 @@ constructor-prints t b class p n digit = let w = within t (constructor digit) in
   integer = λ e. cc e;
 }
 
--- A destructor prints it behind a tilde.
+-- A destructor prints it after a tilde.
 pub destructor-prints : (t : Term) (b class : List ℕ) → Prints t b false → NamesClass t class → (digit : ℕ)
     → Prints (within t (destructor digit)) (b ++ codes "::~" ++ class) false
 unfolding parts_in left_parts right_parts within_parts not_empty head head_with is_reference is_funarr is_empty is_open pack_length first_of

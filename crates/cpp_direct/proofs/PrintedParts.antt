@@ -31,7 +31,7 @@ pub cost_by : (form : Form) (context : Context) (t : Term) (ps : List (PartOf It
     → cost_of (in_form form context t) ≡ cost_of (printed_by ps)
 cost_by form context t ps e = ap cost_of (prints_parts form context t) ∙ ap (λ xs. cost_of (printed_by xs)) e
 
--- a text stands in front of what is behind it, be it empty or not
+-- a text comes before what is after it, be it empty or not
 pub text_first : (b : List ℕ) (ps : List (PartOf Item)) → text_of (printed_by (text b ∷ ps)) ≡ b ++ text_of (printed_by ps)
 unfolding not_empty
 text_first [] ps = refl
@@ -54,7 +54,7 @@ pub length-filled : (xs : List ℕ) → xs ≢ [] → 1 ≤ length xs
 length-filled [] e = absurd (e refl)
 length-filled (x ∷ xs) e = omega arith
 
--- parts behind parts
+-- parts after parts
 pub text_append : (ps qs : List (PartOf Item)) → text_of (printed_by (ps ++ qs)) ≡ text_of (printed_by ps) ++ text_of (printed_by qs)
 unfolding not_empty
 text_append [] qs = refl

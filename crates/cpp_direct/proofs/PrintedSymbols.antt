@@ -70,7 +70,7 @@ returned_parts name q ref _ items there = refl
 fronted_text : (x y z b l : List ℕ) → x ≡ b → y ≡ l → z ≡ [] → (x ++ (codes " " ++ [])) ++ y ++ (z ++ []) ≡ b ++ codes " " ++ l
 fronted_text x y z b l e f g = rw (e, f, g) (append-nil (b ++ codes " " ++ l))
 
--- A function that has a return type prints it in front of what it prints without.
+-- A function that has a return type prints it before what it prints without.
 pub front-shows : (name : Term) (q : Qualifiers) (ref : RefQualifier) (items : Term) (l : List ℕ) → Shows (function name q ref absent items) l
     → (r : Term) (b : List ℕ) (is_reference : Bool) → PrintsIn (types_of name) 2 r b is_reference → Shows (function name q ref r items) (b ++ codes " " ++ l)
 unfolding parts_in full_parts function_full not_empty

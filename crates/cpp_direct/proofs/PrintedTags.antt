@@ -15,7 +15,7 @@ use Rattle.cpp_direct.proofs.PrintedParts.{printed_by, text_by, cost_by, text_al
 use Rattle.cpp_direct.proofs.PrintedNames.{std-prints}
 use Rattle.cpp_direct.proofs.PrintedNests.{IsPiece, within-prints}
 
--- what stands behind the name
+-- what follows the name
 behind-text : (tag : List ℕ) → text_of (printed_by (says "[abi:" ∷ text tag ∷ says "]" ∷ [])) ≡ tag_text tag
 unfolding not_empty
 behind-text tag = ap (λ l. codes "[abi:" ++ l) (text_first tag (says "]" ∷ []))
@@ -48,7 +48,7 @@ tagged-cost of_structor t tag c = omega (
   behind-cost tag,
 )
 
--- A name with a tag prints it behind itself.
+-- A name with a tag prints it after itself.
 pub tagged-names : (of_structor : Bool) (t : Term) (b : List ℕ) → PrintsName t b → (tag : List ℕ) → PrintsName (tagged of_structor t tag) (b ++ tag_text tag)
 unfolding parts_in right_parts not_empty
 tagged-names of_structor t b p tag = record {

@@ -198,7 +198,7 @@ unfolding qualified_right is_function_type length_if_pack
 qualified_right-is c (function_type linkage noexcept ref returned parameters) e = cc e
 qualified_right-is c t e = refl
 
--- A constant type, which is no reference, prints the word behind it.
+-- A constant type, which is no reference, prints the word after it.
 pub const-in : (c : Context) (extra : ℕ) (t : Term) (b : List ℕ) → PrintsIn c extra t b false → PrintsIn c extra (qualified constant t) (b ++ codes " const") false
 unfolding parts_in left_parts right_parts not_empty head head_with is_empty is_function_type is_void
 const-in c extra t b p =
@@ -296,7 +296,7 @@ rvalue-again c b p =
       void = λ e. cc e;
     }
 
--- With a mark behind it a type that names the argument prints that too.
+-- With a mark after it a type that names the argument prints that too.
 pub pointer-behind : (k : ℕ) (t : Term) (m : List ℕ) (r : Bool) → NamesArgument k t m r → NamesArgument k (pointer t) (m ++ codes "*") false
 unfolding pack_length is_function_type
 pointer-behind k t m r h = record {

@@ -180,7 +180,7 @@ pub cast-integer-prints : (letter : ℕ) → is_plain_integer (builtin (letter �
 cast-integer-prints letter cast there n filled =
     enumerator-prints (builtin (letter ∷ [])) (look_up (letter ∷ []) builtin_texts) false (builtin-prints letter there) cast n filled
 
--- a type with another name is none whose integers stand without it
+-- a type with another name is none whose integers are without it
 pub not-integer : (t : Term) (b : List ℕ) (r : Bool) → Prints t b r → (EndsAsInteger b → ⊥) → is_plain_integer t ≡ false
 not-integer t b r p other = go (is_plain_integer t) refl
   where

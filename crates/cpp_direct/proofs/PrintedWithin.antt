@@ -1,4 +1,4 @@
--- Types that stand in functions, and their names.
+-- Types that are in functions, and their names.
 use Rattle.std.proofs.Common.{◌≡◌, refl, ap, sym, ◌∙◌, append_assoc, ℕ, ◌+◌, List, [], ◌∷◌, ◌++◌, length, false, arith, codes, length-append, append-nil}
 use Rattle.std.specs.Prelude.{decimal}
 use Rattle.sym_print.specs.Unfold.{text}

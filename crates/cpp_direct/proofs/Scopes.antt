@@ -1,4 +1,4 @@
--- What a parameter of a template may name, and where it stands.
+-- What a parameter of a template may name, and where it is.
 use Rattle.std.proofs.Common.{◌≡◌, ℕ, zero, suc, ◌<◌, List, [], ◌∷◌, ◌++◌, slice_get, Some, None, arith, ap, sym, ◌∙◌, subst, append_assoc, refl, inl, inr, Bool, true, false}
 use Rattle.cpp_grammar.specs.Scope.{count, element, arguments_of, before_arguments, has_return_type, is_structor}
 use Rattle.cpp_grammar.specs.Term.{Term, instance}
@@ -11,7 +11,7 @@ use Rattle.cpp_direct.specs.declared.open.Arguments.{Arguments}
 use Rattle.cpp_direct.specs.Stands.{IsArgument, IsPlaced, IsAmong, AreAmong, IsEnclosing, HasArguments, HasScope, IsEncodingOf, IsFunction, IsKnown, IsScoped, argument_of, list_with, named_in, nowhere, place_of}
 use Rattle.cpp_direct.specs.Ways.{AreKnown}
 
--- what stands at a place stays there where more is written
+-- what is at a place stays there where more is written
 pub placed-stays : (text more : List ℕ) (p : Argument) (bytes : List ℕ) → IsPlaced text p bytes → IsPlaced (text ++ more) p bytes
 placed-stays text more p bytes h = record {
   front = h.front;
@@ -48,7 +48,7 @@ one-stays text more p k ts h = record {
 pub among-stay : (text more : List ℕ) (is_pack : Bool) (a : Arguments) (ts : List Term) → AreAmong text is_pack a ts → AreAmong (text ++ more) is_pack a ts
 among-stay text more is_pack a ts known k o = let h = known k o in (one-stays text more (place_of a k) k ts h.0, h.1)
 
--- and behind the last of them
+-- and after the last of them
 pub known-stay : (text more : List ℕ) (a : Arguments) (ts : List Term) (tail : Term) → AreKnown text a ts tail → AreKnown (text ++ more) a ts tail
 known-stay text more a ts tail known k o = elim (known k o) [
   | inl h ↦ inl (h.0, one-stays text more (place_of a k) k ts h.1)
@@ -82,7 +82,7 @@ function-stays text more p mark make ts name texts f = record {
   names = arguments-stay text more p f.own f.names;
 }
 
--- and that of a function in which a type stands
+-- and that of a function in which a type is
 pub enclosing-stays : (text more : List ℕ) (p : Arguments) (mark : Mark) (make : Term → Term) (ts : List Term) (name texts : List ℕ)
     → IsEnclosing text p mark make ts name texts → IsEnclosing (text ++ more) p mark make ts name texts
 enclosing-stays text more p mark make ts name texts f = record {
@@ -107,7 +107,7 @@ pub front-scoped : (around : Around) (mark : Mark) (start : ℕ) (p : Arguments)
     → IsScoped around (opens.Front mark start p ∷ rest)
 front-scoped around mark start p rest h q e = scoped-by around p q (cc e) h
 
--- a parameter of a function in which a type stands may name its argument, too
+-- a parameter of a function in which a type is may name its argument, too
 pub enclosing-scoped : (around : Around) (mark : Mark) (from : ℕ) (p : Arguments) (rest : List Open) → HasScope p around
     → IsScoped around (opens.Enclosing mark from p ∷ rest)
 enclosing-scoped around mark from p rest h q e = scoped-by around p q (cc e) h
@@ -116,7 +116,7 @@ enclosing-scoped around mark from p rest h q e = scoped-by around p q (cc e) h
 pub scoped-encoding : (around : Around) (open_ : List Open) → IsScoped around open_ → IsEncodingOf (argument_of open_) around.encoding
 scoped-encoding around open_ scoped a k e known real = ((scoped a e k known).1 real).0
 
--- they stand where they stood
+-- they are where they were
 pub named-there : (place : ℕ) (a : Arguments) (k : ℕ) → place_of (named_in place a) k ≡ place_of a k
 named-there place a zero = refl
 named-there place a (suc zero) = refl
@@ -124,7 +124,7 @@ named-there place a (suc (suc zero)) = refl
 named-there place a (suc (suc (suc zero))) = refl
 named-there place a (suc (suc (suc (suc k)))) = refl
 
--- how many elements a pack has says nothing of where they stand
+-- how many elements a pack has says nothing of where they are
 pub elements-there : (size : ℕ) (a : Arguments) (k : ℕ) → place_of (record a { elements = size }) k ≡ place_of a k
 elements-there size a zero = refl
 elements-there size a (suc zero) = refl
@@ -143,12 +143,12 @@ none-scoped around open_ none q e k ordered = cc (none, e)
 
 -- ## Names with arguments
 
--- a constructor or a destructor has no return type in front of its arguments
+-- a constructor or a destructor has no return type before its arguments
 pub structor-returns : (t a : Term) → is_structor t ≡ true → has_return_type (instance t a) ≡ false
 unfolding has_return_type arguments_of before_arguments
 structor-returns t a h = rw h refl
 
--- the name of a function that is no constructor and no destructor has one in front of its arguments
+-- the name of a function that is no constructor and no destructor has one before its arguments
 pub instance-returns : (t a : Term) → is_structor t ≡ false → has_return_type (instance t a) ≡ true
 unfolding has_return_type arguments_of before_arguments
 instance-returns t a h = rw h refl

@@ -1,4 +1,4 @@
--- Numbers in a symbol in which no twenty digits stand side by side.
+-- Numbers in a symbol in which no twenty digits are side by side.
 use Rattle.std.proofs.Common.{◌≡◌, ℕ, zero, suc, ◌+◌, ◌*◌, ◌-◌, ◌^◌, ◌<◌, ◌≤◌, List, [], ◌∷◌, ◌++◌, length, drop, get_or, Bool, true, false, ◌&&◌, nat_lt, Ok, Err, refl, ap, sym, ◌∙◌, subst, arith}
 use Rattle.std.proofs.Math.Nat.{pow-le-pow_right}
 use Rattle.std.proofs.Math.Seq.{drop-cons}
@@ -136,7 +136,7 @@ own-stands s at t bare stands =
     let all = (stands-split s at (bytes_of t) [] stands).0 in
     (stands-split s at t.own t.behind (subst (λ b. StandsAt s at (b ++ t.own ++ t.behind)) bare all)).0
 
--- Whatever stands there as the parts of a lambda, its number has 64 bits.
+-- Whatever is there as the parts of a lambda, its number has 64 bits.
 pub lambda-begins : (wide : Bool) (s : List ℕ) (at place : ℕ) (st : State) → short_numbers 0 s ≡ true → (f : Forest) → AreTrees (table_by wide) (parts_of Production.Lambda) f
     → StandsAt s at (spell_all f) → opening Production.Lambda f place st ≡ Ok st
 unfolding parts_of opening last_token

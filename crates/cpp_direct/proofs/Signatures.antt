@@ -1,4 +1,4 @@
--- A writer within a function type: behind its return type, between its parameters, and behind it.
+-- A writer within a function type: after its return type, between its parameters, and after it.
 use Rattle.std.proofs.Common.{◌≡◌, ◌≢◌, inl, inr, ℕ, ◌+◌, ◌-◌, length, List, [], ◌∷◌, ◌++◌, reverse, Bool, true, false, Option, refl, ap, sym, take, ◌∙◌, subst, arith, codes, append_assoc, append-nil, nat_eq}
 use Rattle.std.specs.List.{ends_with}
 use Rattle.std.specs.Option.{OnSome, IfSome}
@@ -36,7 +36,7 @@ use Rattle.cpp_direct.proofs.PrintedLists.{none-print}
 use Rattle.cpp_direct.proofs.Scopes.{none-scoped}
 use Rattle.cpp_direct.proofs.TypesRead.{by-step, given, popped}
 
--- ## Behind the return type
+-- ## After the return type
 
 -- what is kept where a text is written
 kept : (old new : Direct) (more : List ℕ) (cs : List values.Candidate) → new.text.list.items ≡ old.text.list.items ++ more → new.candidates ≡ old.candidates
@@ -131,7 +131,7 @@ another-next s old new is_pointer a one =
       stands = a.stands;
     }
 
--- a signature goes on behind one more
+-- a signature goes on after one more
 one-more : (s : Symbol) (outer : List Opened) (made_in : Around) (is_pointer : Bool) (returned : Term) (ts : List Term) (t : Term) (at : ℕ) (st : State)
     → SignatureGoesOn s outer made_in is_pointer (λ l. plain_function returned (list_with ts (list t l))) at st
     → SignatureGoesOn s outer made_in is_pointer (λ l. plain_function returned (list_with (ts ++ t ∷ []) l)) at st

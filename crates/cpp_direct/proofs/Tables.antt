@@ -89,7 +89,7 @@ grows j k small big at_small at_big same empties empty is = wide_empty_at k big 
 grows j k small big at_small at_big same empties (token t) is = absurd is
 grows j k small big at_small at_big same empties (fixed byte) is = absurd is
 
--- what may stand behind a parameter or a substitution may stand behind any name
+-- what may come after a parameter or a substitution may come after any name
 pub arguments-by : (is_wide : Bool) (t : Tree) → IsTree (table_by is_wide) (OfKind ARGUMENTS_ALONE) t → IsTree (table_by is_wide) (OfKind MAYBE_ARGUMENTS) t
 unfolding kinds may_be_empty in_ranges among is_in pick number_of wide_choose wide_alternatives same_choice each_below
 arguments-by true t is = grows ARGUMENTS_ALONE MAYBE_ARGUMENTS Kind.ArgumentsAlone Kind.MaybeArguments refl refl refl refl t is
@@ -106,7 +106,7 @@ unfolding kinds may_be_empty in_ranges among is_in pick number_of wide_choose wi
 lists-by true t is = grows ARGUMENT_LIST ARGUMENTS_FIRST Kind.ArgumentList Kind.ArgumentsFirst refl refl refl refl t is
 lists-by false t is = list_first t is
 
--- by the wide grammar a nested name may end behind the arguments of a name that an S stands for, too
+-- by the wide grammar a nested name may end after the arguments of a name that an S stands for, too
 pub tails-by : (is_wide : Bool) → is_wide ≡ true → (t : Tree) → IsTree (table_by is_wide) (OfKind NEST_TAIL) t → IsTree (table_by is_wide) (OfKind NEST_MORE_OR_END) t
 unfolding kinds may_be_empty in_ranges among is_in pick number_of wide_choose wide_alternatives same_choice each_below
 tails-by true is t tree = grows NEST_TAIL NEST_MORE_OR_END Kind.NestTail Kind.NestMoreOrEnd refl refl refl refl t tree

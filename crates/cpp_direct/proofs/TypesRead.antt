@@ -40,7 +40,7 @@ use Rattle.cpp_direct.proofs.PrintedNames.{source-prints, std-prints, abbreviati
 
 -- ## What calls give
 
--- a byte that is this one stands there
+-- a byte that is this one is there
 pub there : (s : List ℕ) (at b d : ℕ) → b ≡ d → 1 ≤ d → (b ≢ 0 → StandsAt s at (b ∷ [])) → StandsAt s at (d ∷ [])
 there s at b d is some stands = subst (λ k. StandsAt s at (k ∷ [])) is (stands (λ z. omega (arith, is, some, z)))
 
@@ -117,7 +117,7 @@ named-candidates s old new from false r a candidates =
     (candidates-added old.text.list.items old.candidates.list.items a.state.candidates a.front a.bytes from a.own a.around false a.candidates a.written
     a.from_is (subst (λ b. Prints a.own a.bytes b) (a.no_reference refl) a.prints))
 
--- nothing stands behind the name of a type
+-- nothing comes after the name of a type
 pub bare-done : (s : Symbol) (old new : Direct) (from : ℕ) (listed r : Bool) → IsTypeNamed s old from listed r
     → new.waiting.list.items ≡ old.waiting.list.items → new.text.list.items ≡ old.text.list.items → new.candidates.list.items ≡ added_unless old listed from
     → new.at ≡ old.at → IsWriting s new (steps.Value r)
@@ -221,7 +221,7 @@ unfoldable is_text : List ℕ → Bool
 is_text [] = false
 is_text (b ∷ bs) = true
 
--- a letter of these has a text behind a D
+-- a letter of these has a text after a D
 builtin-with-d-text : (letter : ℕ) → is_builtin_with_d letter ≡ true → look_up (68 ∷ letter ∷ []) builtin_texts ≢ []
 unfolding is_builtin_with_d builtin_texts look_up same_bytes each_passes is_text
 builtin-with-d-text letter is none =
@@ -449,7 +449,7 @@ abbreviation-named s old new from letter a s_stands stands has text candidates w
       stands = subst (λ v. Stands s (reverse v.list.items) a.os old.text.list.items) (sym waits) a.stands;
     }
 
--- where a substitution's text stands
+-- where a substitution's text is
 pub substitution-stands : (s : Symbol) (old : Direct) (n : ℕ) (k : Candidate) → AwaitsNamedType s old → k.from ≤ k.to → slice_get old.candidates.list.items n ≡ Some k
     → (k.from ≤ k.to) × (k.to ≤ length old.text.list.items)
 substitution-stands s old n k a ordered found =
@@ -542,7 +542,7 @@ type-opened s old new o entry from made a t begins stands scoped is waits at tex
       );
     })
 
--- behind a P
+-- after a P
 pub pointer-opened : (s : Symbol) (old new : Direct) (o : Option Step) (from : ℕ) → AwaitsType s old → from ≡ length old.text.list.items
     → StandsAt s.bytes old.at (80 ∷ []) → IfSome o (λ next. next ≡ steps.Type) → OnSome o (new.waiting.list.items ≡ old.waiting.list.items ++ opens.Pointer from ∷ [])
     → OnSome o (new.at ≡ old.at + 1) → new.text ≡ old.text → new.candidates ≡ old.candidates → IfSome o (IsWriting s new)
@@ -550,7 +550,7 @@ pointer-opened s old new o from a begins stands is waits at text candidates =
     type-opened s old new o (opens.Pointer from) from pointer a (pointer-opens s a.kind a.around a.os old.at a.state a.typed a.awaits stands) begins
     (λ m. m) a.scoped is waits at text candidates
 
--- behind an R
+-- after an R
 pub lvalue-opened : (s : Symbol) (old new : Direct) (o : Option Step) (from : ℕ) → AwaitsType s old → from ≡ length old.text.list.items
     → StandsAt s.bytes old.at (82 ∷ []) → IfSome o (λ next. next ≡ steps.Type) → OnSome o (new.waiting.list.items ≡ old.waiting.list.items ++ opens.Lvalue from ∷ [])
     → OnSome o (new.at ≡ old.at + 1) → new.text ≡ old.text → new.candidates ≡ old.candidates → IfSome o (IsWriting s new)
@@ -563,7 +563,7 @@ lvalue-opened s old new o from a begins stands is waits at text candidates =
         type-opened s old new o (opens.Lvalue from) from lvalue a (lvalue-opens s a.kind a.around a.os old.at a.state referable a.awaits stands) begins
         (λ m. m) a.scoped is waits at text candidates
 
--- and behind an O
+-- and after an O
 pub rvalue-opened : (s : Symbol) (old new : Direct) (o : Option Step) (from : ℕ) → AwaitsType s old → from ≡ length old.text.list.items
     → StandsAt s.bytes old.at (79 ∷ []) → IfSome o (λ next. next ≡ steps.Type) → OnSome o (new.waiting.list.items ≡ old.waiting.list.items ++ opens.Rvalue from ∷ [])
     → OnSome o (new.at ≡ old.at + 1) → new.text ≡ old.text → new.candidates ≡ old.candidates → IfSome o (IsWriting s new)
@@ -603,7 +603,7 @@ plain-opened s old new o from a may begins stands is waits at text candidates =
       );
     })
 
--- behind a K
+-- after a K
 pub const-opened : (s : Symbol) (old new : Direct) (o : Option Step) (from : ℕ) (is_plain : Bool)
     → IsWriting s old (if is_plain then steps.Plain else steps.Type) → is_plain ≡ false → from ≡ length old.text.list.items
     → StandsAt s.bytes old.at (75 ∷ []) → IfSome o (λ next. next ≡ steps.Plain) → OnSome o (new.waiting.list.items ≡ old.waiting.list.items ++ opens.Const from ∷ [])
@@ -653,7 +653,7 @@ const-opened s old new o from false p plain begins stands is waits at text candi
       scoped = p.is_before.5;
     }) tt begins stands is waits at text candidates
 
--- a nested name is expected behind an N
+-- a nested name is expected after an N
 pub nest-awaited : (s : Symbol) (old : Direct) (n : ℕ) → AwaitsNamedType s old → n ≡ old.at + 1 → StandsAt s.bytes old.at (78 ∷ [])
     → AwaitsNest s (record old { at = n }) purposes.Type
 nest-awaited s old n a at stands =

@@ -1,4 +1,4 @@
--- Names of encodings that stand in no class: where a writer is behind them.
+-- Names of encodings that are in no class: where a writer is after them.
 use Rattle.cpp_direct.proofs.Scopes.{none-known}
 use Rattle.std.proofs.Common.{◌≡◌, ◌≢◌, ℕ, ◌+◌, length, List, [], ◌∷◌, ◌++◌, reverse, Bool, true, false, not, cond, Option, Some, None, refl, ap, sym, subst, ◌∙◌, arith, append_assoc, codes}
 use Rattle.std.specs.Option.{IfSome, OnSome}
@@ -43,7 +43,7 @@ not-so false other e h = sym e
 
 -- ## What was read
 
--- a name that comes awaits its items, and arguments may stand behind it
+-- a name that comes awaits its items, and arguments may come after it
 named-has : (s : Symbol) (w : Direct) (p : AwaitsEncoding s w) (t : Term) (at : ℕ)
     → Named s (encoding-expected s w p).inner (in_name w.at) t at p.state → HasName s w.text.list.items w.at t at p.state
 named-has s w p t at is = record {
@@ -68,7 +68,7 @@ name-has s false w p at name end letter at_is is =
     named-has s w p (alone (source false name)) end
     (name-source s encoding.inner (in_name w.at) w.at name end p.state encoding.awaits refl (subst (λ n. IsNameAt s.bytes n name end) here is))
 
--- A name was read and written that stands in no class.
+-- A name was read and written that is in no class.
 unscoped-read : (s : Symbol) (old new : Direct) (takes : Bool) (own : Term) (bytes : List ℕ) (st : State) (encoding : ℕ)
     → AreCandidates old.text.list.items old.candidates.list.items st.candidates → HasName s old.text.list.items encoding own new.at st
     → Reads old new bytes → PrintsName own bytes → (takes ≡ true → Prints own bytes false) → has_return_type own ≡ false → is_structor own ≡ false
@@ -114,7 +114,7 @@ operator-unscoped s old new first second takes p is plain reads from from_is =
     (name-operator s encoding.inner (in_name old.at) old.at p.state first second (operator-listed first second is.known) encoding.awaits refl is.stands)))
     reads (operator-names first second) (λ e. operator-prints first second (plain e)) refl refl from from_is
 
--- what was read behind an St was read behind it and its text
+-- what was read after an St was read after it and its text
 std-reads : (old marked read : Direct) (n : ℕ) (bytes : List ℕ) → Writes (record old { at = n }) marked (codes "std::") → Reads marked read bytes
     → Reads old read (codes "std::" ++ bytes)
 std-reads old marked read n bytes w r =
@@ -162,7 +162,7 @@ std-operator-unscoped s old marked read first second a b takes p letter next mar
     (operator-piece-comes s inner (in_name old.at) (old.at + 2) p.state a b (operator-listed a b there.known) expects there.stands))))
     (std-reads old marked read second (operator_text a b) w r) (std-operator-names a b) (λ e. std-operator-prints a b (plain e)) refl refl from from_is
 
--- ## What stands behind it
+-- ## What comes after it
 
 -- no arguments
 pub unscoped-bare : (s : Symbol) (w : Direct) (from : ℕ) (takes : Bool) → IsUnscoped s w from takes → IsNameEnded s w marks.Plain false nowhere from
@@ -187,7 +187,7 @@ unscoped-bare s w from takes p = record {
       (expects-empty s Kind.MaybeArguments (after p.own false (in_name p.encoding)) p.has.inner w.at p.state p.has.awaits refl);
 }
 
--- a tag stands behind it
+-- a tag comes after it
 pub unscoped-tagged : (s : Symbol) (old new : Direct) (from : ℕ) (takes : Bool) (tag : List ℕ) → s.is_wide ≡ true → IsUnscoped s old from takes
     → IsTagAt s.bytes old.at tag new.at → Reads old new (tag_text tag) → IsUnscoped s new from takes
 unfolding with_tag has_return_type arguments_of is_structor
@@ -216,7 +216,7 @@ unscoped-tagged s old new from takes tag wide p is reads =
       no_structor = p.no_structor;
     }
 
--- where arguments were opened behind it
+-- where arguments were opened after it
 list-stands : (s : Symbol) (read new : Direct) (from : ℕ) (takes : Bool) → IsUnscoped s read from takes → takes ≡ true → StandsAt s.bytes read.at (73 ∷ [])
     → new.candidates.list.items ≡ added read from false → new.text.list.items ≡ read.text.list.items ++ codes "<"
     → new.waiting.list.items ≡ read.waiting.list.items ++ opens.NameArguments from ∷ [] → new.at ≡ read.at + 1 → IsWriting s new (steps.List true)

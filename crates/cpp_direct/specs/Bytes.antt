@@ -4,24 +4,24 @@ use Rattle.sym_core.specs.Number.{is_decimal_digit}
 use Rattle.cpp_grammar.specs.Grammar.{among}
 use Rattle.cpp_direct.specs.Letters.{builtin_letters, builtin_letters_with_d, abbreviation_letters}
 
--- the letters of the builtin types, but for those behind a D
+-- the letters of the builtin types, but for those after a D
 unfoldable pub is_builtin : ℕ → Bool
 is_builtin byte = among builtin_letters byte
 
--- the letters of the builtin types behind a D
+-- the letters of the builtin types after a D
 unfoldable pub is_builtin_with_d : ℕ → Bool
 is_builtin_with_d byte = among builtin_letters_with_d byte
 
--- the letters behind an S that stand for a class of std, or for std itself
+-- the letters after an S that stand for a class of std, or for std itself
 unfoldable pub is_abbreviated : ℕ → Bool
 is_abbreviated byte = among abbreviation_letters byte
 
--- no twenty digits stand side by side, so many of them in front
+-- no twenty digits are side by side, so many of them at the front
 unfoldable pub short_numbers : (run : ℕ) → List ℕ → Bool
 short_numbers run [] = true
 short_numbers run (b ∷ bs) = elim (is_decimal_digit b) [ true ↦ nat_lt run 19 && short_numbers (run + 1) bs | false ↦ short_numbers 0 bs ]
 
--- a symbol that names a local entity, or something special of one, has a Z or a G behind its _Z
+-- a symbol that names a local entity, or something special of one, has a Z or a G after its _Z
 unfoldable pub is_local : List ℕ → Bool
 is_local (a ∷ b ∷ c ∷ rest) = nat_eq c 90 || nat_eq c 71
 is_local _ = false

@@ -1,4 +1,4 @@
--- A symbol that is read from left to right while nothing is known of what comes behind: what the rules that stand open still need,
+-- A symbol that is read from left to right while nothing is known of what comes after: what the rules that are open still need,
 -- and that the whole is read once they have it.
 use Rattle.std.specs.Prelude.{◌≡◌, ℕ, ◌+◌, List, [], ◌∷◌, ◌++◌, length, Bool, true, false}
 use Rattle.sym_core.specs.declared.NameClass.TheVariants.{Cpp}
@@ -66,7 +66,7 @@ unless_listed false around t state = with_candidate around t state
 
 -- ## What is read
 
--- a name stands at the place, with these bytes of its own, and this is the place behind it
+-- a name is at the place, with these bytes of its own, and this is the place after it
 pub record IsNameAt (s : List ℕ) (at : ℕ) (name : List ℕ) (end : ℕ) : Type 0 where
   pub token : Token
   pub is_name : IsName Cpp token
@@ -74,11 +74,11 @@ pub record IsNameAt (s : List ℕ) (at : ℕ) (name : List ℕ) (end : ℕ) : Ty
   pub stands : StandsAt s at (bytes_of token)
   pub ends : end ≡ at + length (bytes_of token)
 
--- a tag stands at the place, and this is the place behind it
+-- a tag is at the place, and this is the place after it
 abbrev pub IsTagAt : (s : List ℕ) → (at : ℕ) → (tag : List ℕ) → (end : ℕ) → Type 0
 IsTagAt s at tag end = StandsAt s at (66 ∷ []) × IsNameAt s (at + 1) tag end
 
--- the number of a substitution stands at the place, and this is the place behind it
+-- the number of a substitution is at the place, and this is the place after it
 pub record IsSeqAt (s : List ℕ) (at : ℕ) (digits : List ℕ) (end : ℕ) : Type 0 where
   pub token : Token
   pub is_number : IsNumberToken Seq36 token
@@ -117,7 +117,7 @@ abbrev pub TypePasses : (s : Symbol) → (inner outer : List Opened) → Around 
 TypePasses s inner outer around made =
     (t : Term) (at : ℕ) (st : State) → Comes s inner (tree t true) at st → Comes s outer (tree (made t) true) at (with_candidate around (made t) st)
 
--- A name was read that is a type, with or without arguments behind it.
+-- A name was read that is a type, with or without arguments after it.
 pub record TypeNamed (s : Symbol) (outer : List Opened) (around : Around) (t : Term) (listed : Bool) (at : ℕ) (st : State) : Type 0 where
   pub inner : List Opened
   pub awaits : Expects s Kind.ArgumentsAlone (after t listed around) inner at st
@@ -130,7 +130,7 @@ pub record TypeNamed (s : Symbol) (outer : List Opened) (around : Around) (t : T
 abbrev pub bare_name : Term → Value
 bare_name u = named u unqualified any_value
 
--- A name was read that is the name of an encoding or a component, with or without arguments behind it, or tags.
+-- A name was read that is the name of an encoding or a component, with or without arguments after it, or tags.
 pub record Named (s : Symbol) (outer : List Opened) (around : Around) (t : Term) (at : ℕ) (st : State) : Type 0 where
   pub inner : List Opened
   pub awaits : Expects s Kind.MaybeArguments (after t false around) inner at st
@@ -150,7 +150,7 @@ pub record AwaitsComponent (s : Symbol) (outer : List Opened) (around : Around) 
   pub awaits : Expects s Kind.Component (after t true around) inner at st
   pub onward : (u : Term) (at : ℕ) (st : State) → Comes s inner (tree u false) at st → NestGoesOn s Kind.NestTail outer around u false at st
 
--- A std name was read at the front of a nested one, or a component, with or without arguments behind it, or tags.
+-- A std name was read at the front of a nested one, or a component, with or without arguments after it, or tags.
 pub record NestNamed (s : Symbol) (outer : List Opened) (around : Around) (t : Term) (at : ℕ) (st : State) : Type 0 where
   pub inner : List Opened
   pub awaits : Expects s Kind.MaybeArguments (after t false around) inner at st
@@ -158,7 +158,7 @@ pub record NestNamed (s : Symbol) (outer : List Opened) (around : Around) (t : T
   pub argued : (a : Term) (at : ℕ) (st : State) → Comes s inner (tree a true) at st → NestGoesOn s Kind.NestTail outer around (instance t a) false at st
   pub renamed : (u : Term) (at : ℕ) (st : State) → Comes s inner (bare_name u) at st → NestGoesOn s Kind.NestTail outer around u false at st
 
--- A list goes on behind an element.
+-- A list goes on after an element.
 pub record ListGoesOn (s : Symbol) (kind : Kind) (outer : List Opened) (around : Around) (t : Term) (at : ℕ) (st : State) : Type 0 where
   pub inner : List Opened
   pub awaits : Expects s kind around inner at st

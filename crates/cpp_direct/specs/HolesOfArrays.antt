@@ -11,7 +11,7 @@ use Rattle.cpp_direct.specs.declared.open.Access.{Access}
 use Rattle.cpp_direct.specs.declared.open.Access.TheVariants as accesses
 use Rattle.cpp_direct.specs.Holes.{Opened, StandsAt, Comes, Expects, with_candidate}
 
--- the size of an array stands at the place, digits or none, and this is the place behind it
+-- the size of an array is at the place, digits or none, and this is the place after it
 pub record IsSizeAt (s : List ℕ) (at : ℕ) (digits : List ℕ) (end : ℕ) : Type 0 where
   pub token : Token
   pub is_number : IsNumberToken Decimal token
@@ -25,7 +25,7 @@ accessed accesses.Plain t = t
 accessed accesses.Pointer t = pointer t
 accessed accesses.Lvalue t = lvalue t
 
--- the letters in front of its size
+-- the letters before its size
 abbrev pub access_letters : Access → List ℕ
 access_letters accesses.Plain = 65 ∷ []
 access_letters accesses.Pointer = 80 ∷ 65 ∷ []
@@ -42,13 +42,13 @@ with_accessed accesses.Plain around t st = with_candidate around t st
 with_accessed accesses.Pointer around t st = with_candidate around (pointer t) (with_candidate around t st)
 with_accessed accesses.Lvalue around t st = with_candidate around (lvalue t) (with_candidate around t st)
 
--- what stands between the text of the elements' type and the size
+-- what is between the text of the elements' type and the size
 abbrev pub array_opening : Access → List ℕ
 array_opening accesses.Plain = codes " ["
 array_opening accesses.Pointer = codes " (*)["
 array_opening accesses.Lvalue = codes " (&)["
 
--- Behind its size the type of an array's elements is expected.
+-- After its size the type of an array's elements is expected.
 pub record ArrayOpened (s : Symbol) (outer : List Opened) (around : Around) (access : Access) (digits : List ℕ) (at : ℕ) (st : State) : Type 0 where
   pub inner : List Opened
   pub awaits : Expects s Kind.Type around inner at st

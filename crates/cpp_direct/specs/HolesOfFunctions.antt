@@ -30,7 +30,7 @@ pub record SignatureGoesOn (s : Symbol) (outer : List Opened) (made_in : Around)
   pub passes : (l : Term) (at : ℕ) (st : State) → Comes s inner (signature l any_value) at st
       → Comes s outer (tree (pointed is_pointer (made l)) true) at (with_pointed is_pointer made_in (made l) st)
 
--- Behind an F the return type is expected.
+-- After an F the return type is expected.
 pub record FunctionOpened (s : Symbol) (outer : List Opened) (around : Around) (is_pointer : Bool) (at : ℕ) (st : State) : Type 0 where
   pub inner : List Opened
   pub awaits : Expects s Kind.Type around inner at st
@@ -51,12 +51,12 @@ abbrev pub reference : (is_lvalue : Bool) → Term → Term
 reference true t = lvalue t
 reference false t = rvalue t
 
--- and the letter in front of it
+-- and the letter before it
 abbrev pub reference_letter : (is_lvalue : Bool) → ℕ
 reference_letter true = 82
 reference_letter false = 79
 
--- A parameter is expected that is a reference, behind its letter: what it is a reference to comes first.
+-- A parameter is expected that is a reference, after its letter: what it is a reference to comes first.
 pub record ReferenceOpened (s : Symbol) (outer : List Opened) (made_in : Around) (is_pointer is_lvalue : Bool) (made : Term → Term) (at : ℕ) (st : State) : Type 0 where
   pub around : Around
   pub outside : around.prefix ≡ outermost

@@ -17,7 +17,7 @@ use Rattle.cpp_direct.specs.ItemBytes.{is_suffix_byte}
 
 -- ## Lists
 
--- Behind an I the arguments are expected; at an E they are the arguments of what stands before them.
+-- After an I the arguments are expected; at an E they are the arguments of what comes before them.
 pub record ArgumentsOpened (s : Symbol) (outer : List Opened) (around : Around) (at : ℕ) (st : State) : Type 0 where
   pub inner : List Opened
   pub awaits : Expects s Kind.ArgumentList (inside around) inner at st
@@ -30,21 +30,21 @@ IsArgumentKind Kind.ArgumentList = Unit {0}
 IsArgumentKind Kind.PackList = Unit {0}
 IsArgumentKind _ = ⊥
 
--- Behind an L a literal is expected, which ends at an E.
+-- After an L a literal is expected, which ends at an E.
 pub record LiteralOpened (s : Symbol) (kind : Kind) (outer : List Opened) (around : Around) (at : ℕ) (st : State) : Type 0 where
   pub inner : List Opened
   pub awaits : Expects s Kind.Literal around inner at st
   pub onward : (t : Term) (at : ℕ) (st : State) → Comes s inner (tree t true) at st → StandsAt s.bytes at (69 ∷ [])
       → ListGoesOn s kind outer around t (at + 1) st
 
--- Behind a J the elements of a pack are expected, which ends at an E.
+-- After a J the elements of a pack are expected, which ends at an E.
 pub record PackOpened (s : Symbol) (outer : List Opened) (around : Around) (at : ℕ) (st : State) : Type 0 where
   pub inner : List Opened
   pub awaits : Expects s Kind.PackList around inner at st
   pub onward : (l : Value) (at : ℕ) (st : State) → Comes s inner l at st → StandsAt s.bytes at (69 ∷ [])
       → ListGoesOn s Kind.ArgumentList outer around (pack (no_items l)) (at + 1) st
 
--- the digits of an integer stand at the place, and this is the place behind them
+-- the digits of an integer are at the place, and this is the place after them
 pub record IsDigitsAt (s : List ℕ) (at : ℕ) (digits : List ℕ) (end : ℕ) : Type 0 where
   pub token : Token
   pub is_number : IsNumberToken Digits token
@@ -52,12 +52,12 @@ pub record IsDigitsAt (s : List ℕ) (at : ℕ) (digits : List ℕ) (end : ℕ) 
   pub stands : StandsAt s at (bytes_of token)
   pub ends : end ≡ at + length (bytes_of token)
 
--- what stands before the digits of an integer
+-- what comes before the digits of an integer
 abbrev pub minus_sign : Bool → List ℕ
 minus_sign true = 110 ∷ []
 minus_sign false = []
 
--- Behind an L the type of an enumerator is expected, then its number and an E.
+-- After an L the type of an enumerator is expected, then its number and an E.
 pub record EnumeratorOpened (s : Symbol) (kind : Kind) (outer : List Opened) (around : Around) (at : ℕ) (st : State) : Type 0 where
   pub inner : List Opened
   pub opens : TreeOpens s Kind.LiteralType inner around at st
@@ -85,7 +85,7 @@ pub record SpecialOpened (s : Symbol) (outer : List Opened) (encoding letter : �
   pub awaits : Expects s Kind.Type (in_name encoding) inner at st
   pub onward : (t : Term) (at : ℕ) (st : State) → Comes s inner (tree t true) at st → Comes s outer (tree (special letter t) true) at st
 
--- an offset of a thunk stands at the place, and this is the place behind its _
+-- an offset of a thunk is at the place, and this is the place after its _
 pub record IsOffsetAt (s : List ℕ) (at : ℕ) (end : ℕ) : Type 0 where
   pub negative : Bool
   pub digits : List ℕ
@@ -107,7 +107,7 @@ abbrev pub const_letter : (const : Bool) → List ℕ
 const_letter true = 75 ∷ []
 const_letter false = []
 
--- and the one behind it that tells what the function may be called on
+-- and the one after it that tells what the function may be called on
 abbrev pub mark_letters : (const : Bool) → RefQualifier → List ℕ
 mark_letters const any_value = const_letter const
 mark_letters const lvalue_only = const_letter const ++ 82 ∷ []
@@ -126,13 +126,13 @@ pub record NestOpened (s : Symbol) (outer : List Opened) (around : Around) (cons
 
 -- ## Symbols
 
--- a dot, and one or more bytes behind it
+-- a dot, and one or more bytes after it
 abbrev pub IsSuffix : List ℕ → Type 0
 IsSuffix [] = ⊥
 IsSuffix (d ∷ []) = ⊥
 IsSuffix (d ∷ b ∷ bs) = (d ≡ 46) × AllByRecursion (λ c. is_suffix_byte c ≡ true) (b ∷ bs)
 
--- The encoding of a symbol is expected, which ends the symbol or stands before its suffix.
+-- The encoding of a symbol is expected, which ends the symbol or comes before its suffix.
 pub record SymbolOpened (s : Symbol) : Type 0 where
   pub inner : List Opened
   pub awaits : Expects s Kind.Encoding first_around inner 2 first_state

@@ -9,7 +9,7 @@ use Rattle.cpp_direct.specs.Symbol.{Symbol}
 use Rattle.cpp_direct.specs.Holes.{Opened, StandsAt, Comes, Expects, IsNameAt}
 use Rattle.cpp_direct.specs.HolesOfLists.{IsDigitsAt}
 
--- What stands behind the name of an entity: nothing, a digit behind a _, or digits behind two and in front of another one.
+-- What comes after the name of an entity: nothing, a digit after a _, or digits after two and before another one.
 pub data Discriminator : Type 0 where
   unnumbered : Discriminator
   by_digit : ℕ → Discriminator
@@ -21,14 +21,14 @@ discriminator_value unnumbered = nothing_there
 discriminator_value (by_digit digit) = text (digit ∷ [])
 discriminator_value (by_digits digits) = text (normal digits)
 
--- a discriminator stands at the place, and this is the place behind it
+-- a discriminator is at the place, and this is the place after it
 abbrev pub IsDiscriminatorAt : (s : List ℕ) → (at : ℕ) → Discriminator → (end : ℕ) → Type 0
 IsDiscriminatorAt s at unnumbered end = end ≡ at
 IsDiscriminatorAt s at (by_digit digit) end = (48 ≤ digit) × (digit ≤ 57) × StandsAt s at (95 ∷ digit ∷ []) × (end ≡ at + 2)
 IsDiscriminatorAt s at (by_digits digits) end =
     (middle : ℕ) × StandsAt s at (95 ∷ 95 ∷ []) × IsDigitsAt s (at + 2) digits middle × StandsAt s middle (95 ∷ []) × (end ≡ middle + 1)
 
--- an entity stands at the place, behind an E, with this name and discriminator, and this is the place behind it
+-- an entity is at the place, after an E, with this name and discriminator, and this is the place after it
 pub record IsEntityAt (s : List ℕ) (at : ℕ) (internal : Bool) (name : List ℕ) (digit : Discriminator) (end : ℕ) : Type 0 where
   pub first : StandsAt s at (69 ∷ [])
   pub letter : internal ≡ true → StandsAt s (at + 1) (76 ∷ [])
@@ -45,14 +45,14 @@ local_in e p digit = local e (within e p) (discriminator_of (discriminator_value
 abbrev pub entity_in : (e : Term) → (internal : Bool) → (name : List ℕ) → (digit : Discriminator) → Term
 entity_in e internal name digit = local_in e (source internal name) digit
 
--- The encoding is expected in which an entity stands.
+-- The encoding is expected in which an entity is.
 pub record LocalOpened (s : Symbol) (outer : List Opened) (around : Around) (at : ℕ) (st : State) : Type 0 where
   pub inner : List Opened
   pub awaits : Expects s Kind.Encoding around inner at st
   pub onward : (e : Term) (at : ℕ) (st : State) → Comes s inner (tree e true) at st → (internal : Bool) (name : List ℕ) (digit : Discriminator) (end : ℕ)
       → IsEntityAt s.bytes at internal name digit end → Comes s outer (named (entity_in e internal name digit) unqualified any_value) end st
 
--- a piece stands at the place as the name of a type in an encoding, and this is the place behind it
+-- a piece is at the place as the name of a type in an encoding, and this is the place after it
 abbrev pub IsPieceAt : (s : Symbol) → (at : ℕ) → (piece : Term) → (end : ℕ) → Type 0
 IsPieceAt s at p end =
     (os : List Opened) (around : Around) (e : Term) (st : State) → Expects s Kind.TypeEntity (after e true around) os at st
@@ -66,14 +66,14 @@ pub record EntityOpened (s : Symbol) (becomes : Term → (at : ℕ) → State �
   pub onward : (p : Term) (at : ℕ) (st : State) → Comes s inner (tree (within e p) false) at st → (digit : Discriminator) (end : ℕ)
       → IsDiscriminatorAt s.bytes at digit end → becomes (local_in e p digit) end st
 
--- The encoding is expected in which a type stands.
+-- The encoding is expected in which a type is.
 pub record LocalTypeOpened (s : Symbol) (outer : List Opened) (around : Around) (at : ℕ) (st : State) : Type 0 where
   pub inner : List Opened
   pub awaits : Expects s Kind.Encoding around inner at st
   pub onward : (e : Term) (at : ℕ) (st : State) → Comes s inner (tree e true) at st → StandsAt s.bytes at (69 ∷ [])
       → EntityOpened s (λ t end now. Comes s outer (tree t false) end now) e (at + 1) st
 
--- the digit behind a lambda's E, if it isn't the first one
+-- the digit after a lambda's E, if it isn't the first one
 abbrev pub lambda_digits : Option ℕ → List ℕ
 lambda_digits None = []
 lambda_digits (Some digit) = digit ∷ []
@@ -92,7 +92,7 @@ IsLambdaDigit (Some digit) = (48 ≤ digit) × (digit ≤ 55)
 abbrev pub lambda_with : (items : Term) → (number : Option ℕ) → Term
 lambda_with items number = lambda (parameters items) (local_number (lambda_digits number))
 
--- the bytes behind a lambda's parameters
+-- the bytes after a lambda's parameters
 abbrev pub lambda_ending : Option ℕ → List ℕ
 lambda_ending number = 69 ∷ (lambda_digits number ++ 95 ∷ [])
 

@@ -15,20 +15,20 @@ IsRest Kind.NestMoreOrEnd = Unit {0}
 IsRest Kind.NestTail = Unit {0}
 IsRest _ = ⊥
 
--- and behind its first piece as one of these
+-- and after its first piece as one of these
 abbrev pub IsFirstRest : Kind → Type 0
 IsFirstRest Kind.NestRestAlone = Unit {0}
 IsFirstRest Kind.NestRestOrEnd = Unit {0}
 IsFirstRest _ = ⊥
 
--- Arguments of the name so far are expected behind an I, and behind their E a component.
+-- Arguments of the name so far are expected after an I, and after their E a component.
 pub record AwaitsArguments (s : Symbol) (outer : List Opened) (around : Around) (t : Term) (listed : Bool) (at : ℕ) (st : State) : Type 0 where
   pub inner : List Opened
   pub awaits : Expects s Kind.ArgumentList (inside around) inner (at + 1) (unless_listed listed around t st)
   pub onward : (l : Value) (at : ℕ) (st : State) → Comes s inner l at st → StandsAt s.bytes at (69 ∷ [])
       → AwaitsComponent s outer around (instance t (no_items l)) (at + 1) (with_candidate around (instance t (no_items l)) st)
 
--- The same of a name that an S stands for: behind the E a component follows, or by the wide grammar the name ends.
+-- The same of a name that an S stands for: after the E a component follows, or by the wide grammar the name ends.
 pub record AwaitsInstance (s : Symbol) (outer : List Opened) (around : Around) (t : Term) (listed : Bool) (at : ℕ) (st : State) : Type 0 where
   pub inner : List Opened
   pub awaits : Expects s Kind.ArgumentList (inside around) inner (at + 1) (unless_listed listed around t st)

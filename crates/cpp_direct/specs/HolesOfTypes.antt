@@ -18,7 +18,7 @@ IsQualifiable Kind.Item = Unit {0}
 IsQualifiable Kind.ItemButRef = Unit {0}
 IsQualifiable _ = ⊥
 
--- no reference stands at the place
+-- no reference is at the place
 abbrev pub NoReference : (s : List ℕ) → (at : ℕ) → Type 0
 NoReference s at = (StandsAt s at (82 ∷ []) → ⊥) × (StandsAt s at (79 ∷ []) → ⊥)
 
@@ -46,7 +46,7 @@ pub record TreeOpens (s : Symbol) (kind : Kind) (outer : List Opened) (around : 
   pub awaits : Expects s kind around inner at st
   pub passes : TreePasses s inner outer around
 
--- A name of a type is expected behind an S.
+-- A name of a type is expected after an S.
 pub record NameOpens (s : Symbol) (kind : Kind) (outer : List Opened) (around : Around) (at : ℕ) (st : State) : Type 0 where
   pub inner : List Opened
   pub awaits : Expects s kind around inner at st

@@ -11,11 +11,11 @@ one_of (c ∷ cs) byte = nat_eq byte c || one_of cs byte
 unfoldable pub is_integer_letter : ℕ → Bool
 is_integer_letter byte = one_of integer_letters byte
 
--- the letter of a special object that belongs to a type, behind a T
+-- the letter of a special object that belongs to a type, after a T
 unfoldable pub is_special_letter : ℕ → Bool
 is_special_letter byte = one_of special_letters byte
 
--- a byte of a suffix, behind its dot
+-- a byte of a suffix, after its dot
 unfoldable pub is_suffix_byte : ℕ → Bool
 is_suffix_byte byte =
     (nat_le 48 byte && nat_le byte 57) || (nat_le 65 byte && nat_le byte 90) || (nat_le 97 byte && nat_le byte 122) || one_of (codes "$._") byte

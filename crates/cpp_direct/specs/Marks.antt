@@ -1,4 +1,4 @@
--- The qualifiers of member functions: where they stand, what they are of, and what is written of them.
+-- The qualifiers of member functions: where they are, what they are of, and what is written of them.
 use Rattle.std.specs.Prelude.{◌≡◌, ℕ, ◌+◌, List, [], length, Bool, true, false, codes}
 use Rattle.cpp_grammar.specs.Term.{RefQualifier, any_value, lvalue_only, rvalue_only}
 use Rattle.cpp_direct.specs.declared.marks.MarkPlace.{MarkPlace}
@@ -25,7 +25,7 @@ called_on marks.ConstLvalue = lvalue_only
 called_on marks.Rvalue = rvalue_only
 called_on marks.ConstRvalue = rvalue_only
 
--- what stands behind its parameters
+-- what follows its parameters
 abbrev pub mark_text : Mark → List ℕ
 mark_text marks.Plain = []
 mark_text marks.Const = codes " const"
@@ -34,7 +34,7 @@ mark_text marks.ConstLvalue = codes " const &"
 mark_text marks.Rvalue = codes " &&"
 mark_text marks.ConstRvalue = codes " const &&"
 
--- The letters of these qualifiers stand at the place, and this is the place behind them.
+-- The letters of these qualifiers are at the place, and this is the place after them.
 pub record IsMarkPlace (s : List ℕ) (at : ℕ) (place : MarkPlace) : Type 0 where
   pub stands : StandsAt s at (mark_letters (has_const place.mark) (called_on place.mark))
   pub ends : place.end ≡ at + length (mark_letters (has_const place.mark) (called_on place.mark))

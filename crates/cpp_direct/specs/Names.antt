@@ -1,4 +1,4 @@
--- Names: what is read of their length, and where their own bytes stand. Operators: where their codes stand, and their names.
+-- Names: what is read of their length, and where their own bytes are. Operators: where their codes are, and their names.
 use Rattle.std.specs.Prelude.{◌≡◌, ◌≢◌, ℕ, ◌+◌, ◌-◌, ◌≤◌, ◌<◌, List, [], ◌∷◌, ◌++◌, ◌||◌, ◌⊎◌, length, take, drop, Bool, true, codes}
 use Rattle.sym_core.specs.declared.NumberKind.TheVariants.{Length}
 use Rattle.sym_core.specs.declared.NameClass.TheVariants.{Cpp}
@@ -9,12 +9,12 @@ use Rattle.cpp_grammar.specs.Texts.{look_up, operator_texts, same_bytes}
 use Rattle.cpp_direct.specs.declared.names.NamePlace.{NamePlace}
 use Rattle.cpp_direct.specs.Holes.{StandsAt, IsNameAt}
 
--- A symbol that isn't too long to be read, and of which each byte may stand in a name.
+-- A symbol that isn't too long to be read, and of which each byte may be in a name.
 pub record IsReadable (s : List ℕ) : Type 0 where
   pub fits : FitsSymbol s
   pub plain : ReachesNameBytes Cpp s (length s)
 
--- The length of a name stands at the place. The name's own bytes, this many, would stand from here on.
+-- The length of a name is at the place. The name's own bytes, this many, would be from here on.
 pub record IsLengthRead (s : List ℕ) (at from size : ℕ) : Type 0 where
   pub digits : List ℕ
   pub are_digits : AreDigitsOf Length digits
@@ -23,7 +23,7 @@ pub record IsLengthRead (s : List ℕ) (at from size : ℕ) : Type 0 where
   pub size_is : size ≡ value_of Length digits
   pub some : 0 < size
 
--- The code of an operator stands at the place, and this is the place behind it.
+-- The code of an operator is at the place, and this is the place after it.
 pub record IsOperatorAt (s : List ℕ) (at : ℕ) (first second : ℕ) (end : ℕ) : Type 0 where
   pub known : look_up (first ∷ second ∷ []) operator_texts ≢ []
   pub stands : StandsAt s at (first ∷ second ∷ [])
@@ -49,7 +49,7 @@ IsDestructorDigit is_wide digit = ((48 ≤ digit) × (digit ≤ 50)) ⊎ ((is_wi
 abbrev pub tag_text : (tag : List ℕ) → List ℕ
 tag_text tag = codes "[abi:" ++ tag ++ codes "]"
 
--- A name stands at the place, and its own bytes are those from here to there.
+-- A name is at the place, and its own bytes are those from here to there.
 pub record IsNamePlace (s : List ℕ) (at : ℕ) (place : NamePlace) : Type 0 where
   pub name : List ℕ
   pub is : IsNameAt s at name place.to

@@ -1,4 +1,4 @@
--- Trees of which the text is known: those that print it at the left and nothing at the right, wherever they stand.
+-- Trees of which the text is known: those that print it at the left and nothing at the right, wherever they are.
 use Rattle.std.specs.Prelude.{◌≡◌, ℕ, ◌+◌, ◌*◌, ◌≤◌, List, [], ◌∷◌, ◌++◌, length, Bool, true, false, cond, None, codes, ◌⊎◌}
 use Rattle.sym_print.specs.declared.detail.Detail.TheVariants.{Full}
 use Rattle.sym_print.specs.Unshared.{Unshared, text_of, cost_of}
@@ -10,11 +10,11 @@ use Rattle.cpp_grammar.specs.Meaning.{is_void}
 use Rattle.cpp_grammar.specs.Parts.{as_item, says, prefix_item, within_parts, last_piece, opening_text, is_plain_integer}
 use Rattle.cpp_grammar.specs.Answer.{shown}
 
--- what a tree prints in a form, wherever it stands
+-- what a tree prints in a form, wherever it is
 abbrev pub in_form : Form → Context → Term → Unshared
 in_form form context t = shown Full (record { tree = t; form = form; context = context })
 
--- the name of a builtin type whose integers stand without it is one of these words, or ends in one behind a blank
+-- the name of a builtin type whose integers are without it is one of these words, or ends in one after a blank
 abbrev pub EndsAsInteger : List ℕ → Type 0
 EndsAsInteger bytes =
     (front : List ℕ) × ((bytes ≡ codes "int") ⊎ (bytes ≡ front ++ codes " int") ⊎ (bytes ≡ codes "long") ⊎ (bytes ≡ front ++ codes " long"))
@@ -42,7 +42,7 @@ pub record PrintsName (t : Term) (bytes : List ℕ) : Type 0 where
   pub left_text : (context : Context) → text_of (in_form left context t) ≡ bytes
   pub cost : (context : Context) → 1 + cost_of (in_form left context t) + cost_of (in_form right context t) ≤ 4 * length bytes
 
--- A tree with this text in a context. It may cost so much more than one that has this text wherever it stands.
+-- A tree with this text in a context. It may cost so much more than one that has this text wherever it is.
 pub record PrintsIn (context : Context) (extra : ℕ) (t : Term) (bytes : List ℕ) (reference : Bool) : Type 0 where
   pub left_text : text_of (in_form left context t) ≡ bytes
   pub right_text : text_of (in_form right context t) ≡ []
@@ -53,7 +53,7 @@ pub record PrintsIn (context : Context) (extra : ℕ) (t : Term) (bytes : List �
   pub no_function : is_function_type t ≡ false
   pub void : is_void t ≡ true → bytes ≡ codes "void"
 
--- A tree that names an argument of its scope: wherever that is a type with a text, and no reference, it prints this behind it.
+-- A tree that names an argument of its scope: wherever that is a type with a text, and no reference, it prints this after it.
 abbrev pub PrintsBehind : (number : ℕ) → Term → (marks : List ℕ) → (reference : Bool) → Type 0
 PrintsBehind number t marks reference =
     (context : Context) (bytes : List ℕ) → Prints (argument context number) bytes false → PrintsIn context 2 t (bytes ++ marks) reference
@@ -64,12 +64,12 @@ pub record NamesArgument (number : ℕ) (t : Term) (marks : List ℕ) (reference
   pub packless : (scope : Term) → length_if_pack (element scope number) ≡ None → pack_length scope t ≡ None
   pub no_function : is_function_type t ≡ false
 
--- what an rvalue reference to a type has behind its text, if it is no reference
+-- what an rvalue reference to a type has after its text, if it is no reference
 abbrev pub forwarded : (reference : Bool) → List ℕ
 forwarded true = []
 forwarded false = codes "&&"
 
--- A tree whose class is named so where it stands in front of a constructor or a destructor.
+-- A tree whose class is named so where it comes before a constructor or a destructor.
 pub record NamesClass (t : Term) (class : List ℕ) : Type 0 where
   pub base_text : (context : Context) → text_of (in_form base context t) ≡ class
   pub base_cost : (context : Context) → cost_of (in_form left context t) + cost_of (in_form right context t) + cost_of (in_form base context t)
@@ -90,7 +90,7 @@ pub record Shows (t : Term) (bytes : List ℕ) : Type 0 where
   pub shown_text : text_of (in_form full closed t) ≡ bytes
   pub shown_cost : 1 + cost_of (in_form full closed t) ≤ 4 * length bytes
 
--- An encoding that has this text in front of what stands in it.
+-- An encoding that has this text before what is in it.
 pub record Encloses (t : Term) (bytes : List ℕ) : Type 0 where
   pub as_prefix : (context : Context) → prefix_item context t ≡ as_item bare closed t
   pub bare_text : text_of (in_form bare closed t) ≡ bytes
@@ -109,7 +109,7 @@ abbrev pub list_of : List Term → Term
 list_of [] = nil
 list_of (t ∷ ts) = list t (list_of ts)
 
--- texts one behind the other, with a comma and a blank between two of them
+-- texts one after the other, with a comma and a blank between two of them
 abbrev pub joined : List (List ℕ) → List ℕ
 joined [] = []
 joined (b ∷ []) = b

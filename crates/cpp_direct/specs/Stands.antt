@@ -41,7 +41,7 @@ use Rattle.cpp_grammar.specs.Parts.{types_of}
 
 -- ## Candidates
 
--- It prints a text, or that behind an argument, in the encoding that begins at its place, if this is known.
+-- It prints a text, or that after an argument, in the encoding that begins at its place, if this is known.
 abbrev pub PrintsOrNames : (is_dependent : Bool) → Candidate → values.Candidate → (bytes : List ℕ) → Type 0
 PrintsOrNames false k c bytes = Prints c.tree bytes k.is_reference
 PrintsOrNames true k c bytes = NamesArgument k.number c.tree bytes k.is_reference × (k.encoding ≢ 0 → c.encoding ≡ k.encoding)
@@ -49,7 +49,7 @@ PrintsOrNames true k c bytes = NamesArgument k.number c.tree bytes k.is_referenc
 abbrev pub PrintsAs : Candidate → values.Candidate → (bytes : List ℕ) → Type 0
 PrintsAs k c bytes = PrintsOrNames k.is_dependent k c bytes
 
--- what a substitution may name prints the text that stands at its place
+-- what a substitution may name prints the text that is at its place
 pub record IsCandidate (text : List ℕ) (k : Candidate) (c : values.Candidate) : Type 0 where
   pub front : List ℕ
   pub bytes : List ℕ
@@ -67,7 +67,7 @@ AreCandidates text _ _ = ⊥
 
 -- ## Arguments of templates
 
--- this text stands at a place
+-- this text is at a place
 pub record IsPlaced (text : List ℕ) (p : Argument) (bytes : List ℕ) : Type 0 where
   pub front : List ℕ
   pub back : List ℕ
@@ -75,7 +75,7 @@ pub record IsPlaced (text : List ℕ) (p : Argument) (bytes : List ℕ) : Type 0
   pub from_is : p.from ≡ length front
   pub to_is : p.to ≡ length front + length bytes
 
--- what stands nowhere
+-- what is nowhere
 abbrev pub no_place : Argument
 no_place = record { from = 1; to = 0; is_pack = false; is_reference = false }
 
@@ -94,11 +94,11 @@ place_of a (suc (suc zero)) = a.third
 place_of a (suc (suc (suc zero))) = a.fourth
 place_of a _ = no_place
 
--- what stands somewhere
+-- what is somewhere
 abbrev pub IsKnown : Argument → Type 0
 IsKnown p = p.from ≤ p.to
 
--- The argument of a name with this number stands at a place, or the element with this number of the pack that is its only argument and
+-- The argument of a name with this number is at a place, or the element with this number of the pack that is its only argument and
 -- has so many elements.
 pub record IsArgument (text : List ℕ) (size : ℕ) (p : Argument) (number : ℕ) (name : Term) : Type 0 where
   pub bytes : List ℕ
@@ -111,7 +111,7 @@ pub record IsArgument (text : List ℕ) (size : ℕ) (p : Argument) (number : �
   pub alone : p.is_pack ≡ true → (all ≡ list (pack (list_of elements)) nil) × (slice_get elements number ≡ Some own) × (length elements ≡ size)
   pub prints : Prints own bytes p.is_reference
 
--- the known arguments of a name stand at their places
+-- the known arguments of a name are at their places
 abbrev pub HasArguments : (text : List ℕ) → Arguments → (name : Term) → Type 0
 HasArguments text a name = (number : ℕ) → IsKnown (place_of a number) → IsArgument text a.elements (place_of a number) number name
 
@@ -155,13 +155,13 @@ IsPlain p = IsKnown p × (p.is_pack ≡ false) × (p.is_reference ≡ false)
 
 -- ## The end
 
--- An encoding with this tree ends at the place: with the symbol, or in front of its suffix.
+-- An encoding with this tree ends at the place: with the symbol, or before its suffix.
 pub record Encoded (s : Symbol) (e : Term) (at : ℕ) : Type 0 where
   pub ends : at ≡ length s.bytes → StandsFor (mangled_of s) s.bytes (Ok (symbol e []))
   pub ends_in : (suffix : List ℕ) → StandsAt s.bytes at suffix → at + length suffix ≡ length s.bytes → IsSuffix suffix
       → StandsFor (mangled_of s) s.bytes (Ok (symbol e suffix))
 
--- An encoding with this tree ends the symbol at the place, behind a text: what the whole makes of it shows the text in front of its
+-- An encoding with this tree ends the symbol at the place, after a text: what the whole makes of it shows the text before its
 -- own. Of a thunk that text says that it is one; else it is empty.
 pub record EndsBehind (s : Symbol) (lead : List ℕ) (e : Term) (at : ℕ) : Type 0 where
   pub made : Term
@@ -174,17 +174,17 @@ pub record EntityBehind (s : Symbol) (lead : List ℕ) (e : Term) (name : List �
   pub encoded : Encoded s made at
   pub shows : (bytes : List ℕ) → Encloses e bytes → Shows made (lead ++ (bytes ++ codes "::" ++ source_text name))
 
--- An encoding with this tree ends at the place, behind a text. It ends the symbol, or a local entity stands behind it.
+-- An encoding with this tree ends at the place, after a text. It ends the symbol, or a local entity comes after it.
 pub record EncodedBehind (s : Symbol) (lead : List ℕ) (e : Term) (at : ℕ) : Type 0 where
   pub whole : is_local s.bytes ≡ false → EndsBehind s lead e at
   pub entity : is_local s.bytes ≡ true → (internal : Bool) (name : List ℕ) (digit : Discriminator) (end : ℕ) → IsEntityAt s.bytes at internal name digit end
       → EntityBehind s lead e name end
 
--- where the encoding begins that a symbol has behind no text
+-- where the encoding begins that a symbol has after no text
 abbrev pub encoding_place : List ℕ → ℕ
 encoding_place s = cond (is_local s) 3 2
 
--- the name of an encoding behind a text was read, and items may follow
+-- the name of an encoding after a text was read, and items may follow
 pub record AwaitsItems (s : Symbol) (lead : List ℕ) (v : Value) (at : ℕ) (st : State) : Type 0 where
   pub around : Around
   pub inner : List Opened
@@ -207,7 +207,7 @@ pub record IsWhole (s : Symbol) (text : List ℕ) : Type 0 where
 abbrev pub qualifiers : (is_const : Bool) → Qualifiers
 qualifiers is_const = record { restrict = false; volatile = false; const = is_const }
 
--- a name so far, with these bytes behind a front
+-- a name so far, with these bytes after a front
 pub record IsNest (front bytes text : List ℕ) (nest : Nest) (t : Term) : Type 0 where
   pub back : List ℕ
   pub written : text ≡ front ++ bytes ++ back
@@ -223,21 +223,21 @@ pub record IsNest (front bytes text : List ℕ) (nest : Nest) (t : Term) : Type 
 
 -- ## Lists
 
--- a list of these elements, and of what comes behind them
+-- a list of these elements, and of what comes after them
 abbrev pub list_with : List Term → Term → Term
 list_with [] rest = rest
 list_with (t ∷ ts) rest = list t (list_with ts rest)
 
--- behind the elements that print something there may be a pack of nothing
+-- after the elements that print something there may be a pack of nothing
 abbrev pub IsTail : Term → Type 0
 IsTail rest = (rest ≡ nil) ⊎ (rest ≡ list (pack nil) nil)
 
--- the text of elements so far, in front of the next one
+-- the text of elements so far, before the next one
 abbrev pub in_front_of_next : List Term → List ℕ → List ℕ
 in_front_of_next [] l = l
 in_front_of_next (t ∷ ts) l = l ++ codes ", "
 
--- Parameters go on behind these. All of them make an encoding, of which something becomes. They may name arguments.
+-- Parameters go on after these. All of them make an encoding, of which something becomes. They may name arguments.
 pub record ItemsGoOn (s : Symbol) (argument : Arguments) (becomes : Term → (at : ℕ) → State → Type 0) (make : Term → Term) (ts : List Term) (at : ℕ) (st : State) : Type 0 where
   pub around : Around
   pub inner : List Opened
@@ -246,7 +246,7 @@ pub record ItemsGoOn (s : Symbol) (argument : Arguments) (becomes : Term → (at
   pub awaits : Expects s Kind.Items around inner at st
   pub onward : (l : Value) (at : ℕ) (st : State) → Comes s inner l at st → becomes (make (list_with ts (no_items l))) at st
 
--- They are those of an encoding behind a text.
+-- They are those of an encoding after a text.
 abbrev pub ParametersGoOn : (s : Symbol) → (argument : Arguments) → (lead : List ℕ) → (make : Term → Term) → (ts : List Term) → (at : ℕ) → State → Type 0
 ParametersGoOn s argument lead make ts at st = ItemsGoOn s argument (λ e here now. EncodedBehind s lead e here) make ts at st
 
@@ -255,7 +255,7 @@ abbrev pub plain_encoding : (mark : Mark) → (own : Term) → (items : Term) �
 plain_encoding mark own items = function own (qualifiers (has_const mark)) (called_on mark) absent (parameters items)
 
 -- A function's name and the parameters so far, with their texts. All parameters make a function that has no return type. The known
--- arguments of its template stand at their places.
+-- arguments of its template are at their places.
 pub record IsFunction (text : List ℕ) (argument : Arguments) (mark : Mark) (make : Term → Term) (ts : List Term) (name texts : List ℕ) : Type 0 where
   pub own : Term
   pub makes : (t rest : Term) → make (list t rest) ≡ plain_encoding mark own (list t rest)
@@ -263,7 +263,7 @@ pub record IsFunction (text : List ℕ) (argument : Arguments) (mark : Mark) (ma
   pub elements : PrintAllIn (types_of own) 6 ts texts
   pub names : HasArguments text argument own
 
--- The same of a function in which a type stands. All parameters make one that has some return type, or none.
+-- The same of a function in which a type is. All parameters make one that has some return type, or none.
 pub record IsEnclosing (text : List ℕ) (argument : Arguments) (mark : Mark) (make : Term → Term) (ts : List Term) (name texts : List ℕ) : Type 0 where
   pub own : Term
   pub returned : Term
@@ -272,7 +272,7 @@ pub record IsEnclosing (text : List ℕ) (argument : Arguments) (mark : Mark) (m
   pub elements : PrintAllIn (types_of own) 6 ts texts
   pub names : HasArguments text argument own
 
--- the name of a function that has a return type, and its text, and where the arguments of its template stand
+-- the name of a function that has a return type, and its text, and where the arguments of its template are
 pub record IsInstance (text : List ℕ) (argument : Arguments) (mark : Mark) (v : Value) (name : List ℕ) : Type 0 where
   pub own : Term
   pub tree_is : tree_of v ≡ own
@@ -284,7 +284,7 @@ pub record IsInstance (text : List ℕ) (argument : Arguments) (mark : Mark) (v 
 
 -- ## What is open
 
--- what is open below: what waits for a value, behind this text
+-- what is open below: what waits for a value, after this text
 abbrev pub Below : Type 1
 Below = List Opened → (text : List ℕ) → Type 0
 
@@ -297,14 +297,14 @@ abbrev pub Marks : (s : Symbol) → Below → (scope : Option Arguments) → Lis
 Marks s below scope os text from made =
     (outer : List Opened) × (around : Around) × (from ≡ length text) × TypePasses s os outer around made × below outer text × IsEncodingOf scope around.encoding
 
--- An encoding with this tree ends at the place, and a type that stands in it comes for what is open below, behind this text.
+-- An encoding with this tree ends at the place, and a type that is in it comes for what is open below, after this text.
 abbrev pub TypeWithin : (s : Symbol) → Below → (front : List ℕ) → (e : Term) → (at : ℕ) → State → Type 0
 TypeWithin s below front e at st =
     (outer : List Opened) × (around : Around)
     × (StandsAt s.bytes at (69 ∷ []) → EntityOpened s (λ t end now. Comes s outer (tree t true) end (with_candidate around t now)) e (at + 1) st)
     × below outer front
 
--- The same of the parameters of a lambda, which is such a type, in front of the E behind them.
+-- The same of the parameters of a lambda, which is such a type, before the E after them.
 abbrev pub LambdaWithin : (s : Symbol) → Below → (front : List ℕ) → (e : Term) → (items : Term) → (at : ℕ) → State → Type 0
 LambdaWithin s below front e items at st =
     (outer : List Opened) × (around : Around)
@@ -327,7 +327,7 @@ Serves s (purposes.Enclosing mark) below os front =
     → HasArguments text argument t → argument.encoding ≡ 0 → Comes s os (tree t listed) at st
     → ItemsGoOn s argument (TypeWithin s below front) (λ l. encoding_of (named t (qualifiers (has_const mark)) (called_on mark)) l) [] at st
 
--- An instance is read, behind this text: what becomes of it.
+-- An instance is read, after this text: what becomes of it.
 abbrev pub Owns : (s : Symbol) → Open → Below → (front : List ℕ) → Term → (at : ℕ) → State → Type 0
 Owns s (opens.TypeArguments from) below front u at st =
     (outer : List Opened) × (around : Around) × Comes s outer (tree u true) at (with_candidate around u st) × below outer front
@@ -339,18 +339,18 @@ Owns s (opens.FirstArguments nest) below front u at st =
 Owns s (opens.NameArguments from) below front u at st = AwaitsItems s front (tree u false) at st
 Owns s _ below front u at st = ⊥
 
--- elements go on behind these, up to an E, and what becomes of the list that they make
+-- elements go on after these, up to an E, and what becomes of the list that they make
 abbrev pub ElementsGoOn : (s : Symbol) → Kind → (closes : Term → (at : ℕ) → State → Type 0) → List Term → (at : ℕ) → State → Type 0
 ElementsGoOn s kind closes ts at st =
     (around : Around) × (inner : List Opened) × (around.prefix ≡ outermost) × Expects s kind around inner at st
     × ((l : Value) (at : ℕ) (st : State) → Comes s inner l at st → StandsAt s.bytes at (69 ∷ []) → closes (list_with ts (no_items l)) (at + 1) st)
 
--- arguments go on behind these
+-- arguments go on after these
 abbrev pub ArgumentsGoOn : (s : Symbol) → Open → Below → (front : List ℕ) → (template : Term) → List Term → (at : ℕ) → State → Type 0
 ArgumentsGoOn s owner below front template ts at st =
     ElementsGoOn s Kind.ArgumentList (λ l now then. Owns s owner below front (instance template l) now then) ts at st
 
--- the list that is read: the arguments of a template, or a pack among them, behind these and their text
+-- the list that is read: the arguments of a template, or a pack among them, after these and their text
 pub data Listing : Type 0 where
   of_template : Listing
   of_pack : (before : List Term) → (written : List ℕ) → Listing
@@ -365,7 +365,7 @@ abbrev pub extra_of : Listing → ℕ
 extra_of of_template = 3
 extra_of (of_pack before written) = 0
 
--- the text in front of them
+-- the text before them
 abbrev pub led_by : Listing → (front name : List ℕ) → List ℕ
 led_by of_template front name = front ++ name ++ codes "<"
 led_by (of_pack before written) front name = front ++ name ++ codes "<" ++ in_front_of_next before written
@@ -376,12 +376,12 @@ Closes s of_template owner below front template l at st = Owns s owner below fro
 Closes s (of_pack before written) owner below front template l at st =
     ArgumentsGoOn s owner below front template (before ++ pack l ∷ []) at st
 
--- the list goes on behind these elements
+-- the list goes on after these elements
 abbrev pub GoesOn : (s : Symbol) → Listing → Open → Below → (front : List ℕ) → (template : Term) → List Term → (at : ℕ) → State → Type 0
 GoesOn s listing owner below front template ts at st =
     ElementsGoOn s (element_kind listing) (λ l now then. Closes s listing owner below front template l now then) ts at st
 
--- Arguments are these elements, and what is known of them so far. The one with this number stands at a place.
+-- Arguments are these elements, and what is known of them so far. The one with this number is at a place.
 pub record IsAmong (text : List ℕ) (p : Argument) (number : ℕ) (ts : List Term) : Type 0 where
   pub bytes : List ℕ
   pub placed : IsPlaced text p bytes
@@ -399,7 +399,7 @@ abbrev pub IsOwn : Purpose → Type 0
 IsOwn purposes.Type = ⊥
 IsOwn _ = Unit {0}
 
--- this template stands before the arguments
+-- this template comes before the arguments
 abbrev pub IsTemplate : Open → (front : List ℕ) → Term → (name : List ℕ) → (text : List ℕ) → Type 0
 IsTemplate (opens.TypeArguments from) front template name text = (from ≡ length front) × Prints template name false
 IsTemplate (opens.NestArguments nest) front template name text =
@@ -418,7 +418,7 @@ AwaitsElementOf s listing owner below os text =
     × (text ≡ led_by listing front name ++ in_front_of_next ts elements)
     × ((t : Term) (at : ℕ) (st : State) → Comes s os (tree t true) at st → GoesOn s listing owner below front template (ts ++ t ∷ []) at st)
 
--- a list goes on behind an enumerator of this type, once its number and an E are read
+-- a list goes on after an enumerator of this type, once its number and an E are read
 abbrev pub EnumeratorGoesOn : (s : Symbol) → Listing → Open → Below → (front : List ℕ) → (template : Term) → List Term → Term → (at : ℕ) → State → Type 0
 EnumeratorGoesOn s listing owner below front template ts t at st =
     (negative : Bool) (digits : List ℕ) (end : ℕ) → StandsAt s.bytes at (minus_sign negative)
@@ -449,7 +449,7 @@ pub record IsListing (opened : List Open) (text : List ℕ) : Type 0 where
   pub name : List ℕ
   pub is_template : IsTemplate owner front template name text
 
--- what stands behind the return type of a function type, or of one that is pointed to
+-- what follows the return type of a function type, or of one that is pointed to
 abbrev pub opening_text : (is_pointer : Bool) → List ℕ
 opening_text true = codes " (*)("
 opening_text false = codes " ("
@@ -472,7 +472,7 @@ TakesFunction (opens.Special ∷ rest) = Unit {0}
 TakesFunction (opens.Enclosing mark from argument ∷ rest) = Unit {0}
 TakesFunction _ = ⊥
 
--- A type comes for the last of the open ones, behind what is written.
+-- A type comes for the last of the open ones, after what is written.
 abbrev pub Stands : (s : Symbol) → List Open → List Opened → (text : List ℕ) → Type 0
 Stands s [] os text = ⊥
 Stands s (opens.Pointer from ∷ rest) os text = Marks s (Stands s rest) (argument_of rest) os text from pointer

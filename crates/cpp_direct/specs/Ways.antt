@@ -31,7 +31,7 @@ use Rattle.cpp_direct.specs.Marks.{has_const, called_on, mark_text}
 use Rattle.cpp_direct.specs.Prints.{NamesClass, Prints, PrintsName, IsElement, PrintAll, Shows, Encloses, sign_text, PrintsIn, NamesArgument, list_of, PrintAllBy, forwarded}
 use Rattle.cpp_direct.specs.Stands.{AreCandidates, AwaitsItems, Encoded, EncodedBehind, IsFunction, IsInstance, IsListing, IsNest, IsTail, IsTemplate, GoesOn, EnumeratorGoesOn, Owns, ParametersGoOn, Serves, Stands, TakesFunction, opening_text, qualifiers, extra_of, led_by, list_with, in_front_of_next, IsPlaced, IsAmong, AreAmong, HasArguments, IsKnown, IsScoped, argument_of, place_of, of_pack, IsPlain, ArgumentsGoOn, encoding_place}
 
--- the digits behind the T of a parameter with this number
+-- the digits after the T of a parameter with this number
 abbrev pub parameter_digits : (number : ℕ) → List ℕ
 parameter_digits zero = []
 parameter_digits (suc zero) = 48 ∷ []
@@ -49,7 +49,7 @@ pub record IsFresh (w : Direct) : Type 0 where
   pub no_candidate : w.candidates.list.items ≡ []
   pub none_open : w.waiting.list.items ≡ []
 
--- an encoding is expected behind what is written
+-- an encoding is expected after what is written
 pub record AwaitsEncoding (s : Symbol) (w : Direct) : Type 0 where
   pub state : State
   pub candidates : AreCandidates w.text.list.items w.candidates.list.items state.candidates
@@ -59,14 +59,14 @@ pub record AwaitsEncoding (s : Symbol) (w : Direct) : Type 0 where
   pub awaits : Expects s Kind.Encoding around outer w.at state
   pub onward : (e : Term) (at : ℕ) (st : State) → Comes s outer (tree e true) at st → EncodedBehind s w.text.list.items e at
 
--- the name of an encoding that began before is expected, behind the L of internal linkage or without
+-- the name of an encoding that began before is expected, after the L of internal linkage or without
 pub record AwaitsSource (s : Symbol) (w : Direct) (is_internal : Bool) : Type 0 where
   pub before : ℕ
   pub awaits : AwaitsEncoding s (record w { at = before })
   pub letter : is_internal ≡ true → StandsAt s.bytes before (76 ∷ [])
   pub at_is : w.at ≡ before + cond is_internal 1 0
 
--- the name of an encoding was read behind a text, with or without arguments behind it, or tags
+-- the name of an encoding was read after a text, with or without arguments after it, or tags
 pub record HasName (s : Symbol) (lead : List ℕ) (encoding : ℕ) (t : Term) (at : ℕ) (st : State) : Type 0 where
   pub inner : List Opened
   pub awaits : Expects s Kind.MaybeArguments (after t false (in_name encoding)) inner at st
@@ -74,7 +74,7 @@ pub record HasName (s : Symbol) (lead : List ℕ) (encoding : ℕ) (t : Term) (a
   pub argued : (a : Term) (at : ℕ) (st : State) → Comes s inner (tree a true) at st → AwaitsItems s lead (tree (instance t a) false) at st
   pub renamed : (u : Term) (at : ℕ) (st : State) → Comes s inner (bare_name u) at st → AwaitsItems s lead (tree u false) at st
 
--- The name of an encoding that stands in no class was read, and written from a place on. It takes arguments behind it, or may have none.
+-- The name of an encoding that is in no class was read, and written from a place on. It takes arguments after it, or may have none.
 pub record IsUnscoped (s : Symbol) (w : Direct) (from : ℕ) (takes : Bool) : Type 0 where
   pub state : State
   pub candidates : AreCandidates w.text.list.items w.candidates.list.items state.candidates
@@ -188,7 +188,7 @@ pub record AwaitsDependentMark (s : Symbol) (w : Direct) (mark : List ℕ) (is_r
   pub placed : IsPlaced front (place_of argument number) bytes
   pub stands : Stands s rest outer front
 
--- An argument of a name was read, which is a type, behind so many others.
+-- An argument of a name was read, which is a type, after so many others.
 pub record IsArgumentRead (s : Symbol) (w : Direct) (from number : ℕ) (known : Arguments) (is_reference : Bool) : Type 0 where
   pub state : State
   pub candidates : AreCandidates w.text.list.items w.candidates.list.items state.candidates
@@ -211,7 +211,7 @@ pub record IsArgumentRead (s : Symbol) (w : Direct) (from number : ℕ) (known :
   pub prints : Prints t bytes is_reference
   pub goes : ArgumentsGoOn s owner (Stands s rest) front template (ts ++ t ∷ []) w.at state
 
--- A type is expected as an argument of a name, behind these and so many, of which some are known.
+-- A type is expected as an argument of a name, after these and so many, of which some are known.
 pub record AwaitsKnownArgument (s : Symbol) (w : Direct) (before : ℕ) (known : Arguments) : Type 0 where
   pub state : State
   pub candidates : AreCandidates w.text.list.items w.candidates.list.items state.candidates
@@ -231,7 +231,7 @@ pub record AwaitsKnownArgument (s : Symbol) (w : Direct) (before : ℕ) (known :
   pub among : AreAmong w.text.list.items false known ts
   pub goes : ArgumentsGoOn s owner (Stands s rest) front template ts w.at state
 
--- An element of a pack was read, which is the first argument of a name, behind so many others.
+-- An element of a pack was read, which is the first argument of a name, after so many others.
 pub record IsPackElementRead (s : Symbol) (w : Direct) (from number : ℕ) (known : Arguments) (is_reference : Bool) : Type 0 where
   pub state : State
   pub candidates : AreCandidates w.text.list.items w.candidates.list.items state.candidates
@@ -254,7 +254,7 @@ pub record IsPackElementRead (s : Symbol) (w : Direct) (from number : ℕ) (know
   pub prints : Prints t bytes is_reference
   pub goes : GoesOn s (of_pack [] []) owner (Stands s rest) front template (ts ++ t ∷ []) w.at state
 
--- Another one is expected, behind so many.
+-- Another one is expected, after so many.
 pub record AwaitsPackElement (s : Symbol) (w : Direct) (before : ℕ) (known : Arguments) : Type 0 where
   pub state : State
   pub candidates : AreCandidates w.text.list.items w.candidates.list.items state.candidates
@@ -300,7 +300,7 @@ pub record IsNestKnown (s : Symbol) (w : Direct) : Type 0 where
   pub classless : w.nest.has_class ≡ false
   pub serves : Serves s w.nest.purpose (Stands s (reverse w.waiting.list.items)) outer front
 
--- A component of a nested name was read, or a name in std. Arguments may stand behind it, or tags.
+-- A component of a nested name was read, or a name in std. Arguments may come after it, or tags.
 pub record IsNestNamed (s : Symbol) (w : Direct) : Type 0 where
   pub state : State
   pub candidates : AreCandidates w.text.list.items w.candidates.list.items state.candidates
@@ -320,7 +320,7 @@ pub record IsNestNamed (s : Symbol) (w : Direct) : Type 0 where
   pub no_structor : w.nest.has_class ≡ true → is_structor own ≡ false
   pub serves : Serves s w.nest.purpose (Stands s (reverse w.waiting.list.items)) outer front
 
--- An operator was read that ends a nested name: no arguments are read behind it.
+-- An operator was read that ends a nested name: no arguments are read after it.
 pub record IsOperatorRead (s : Symbol) (w : Direct) : Type 0 where
   pub state : State
   pub candidates : AreCandidates w.text.list.items w.candidates.list.items state.candidates
@@ -359,14 +359,14 @@ pub record AwaitsClass (s : Symbol) (w : Direct) : Type 0 where
   pub structor : is_structor own ≡ true
   pub serves : Serves s w.nest.purpose (Stands s (reverse w.waiting.list.items)) outer front
 
--- the known ones among arguments stand at their places, and a pack is the only one
+-- the known ones among arguments are at their places, and a pack is the only one
 abbrev pub AreKnown : (text : List ℕ) → Arguments → List Term → (tail : Term) → Type 0
 AreKnown text a ts tail =
     (number : ℕ) → IsKnown (place_of a number) → (((place_of a number).is_pack ≡ false) × IsAmong text (place_of a number) number ts)
     ⊎ (((place_of a number).is_pack ≡ true) × (es : List Term) × (list_with ts tail ≡ list (pack (list_of es)) nil) × (length es ≡ a.elements)
     × IsAmong text (place_of a number) number es)
 
--- The arguments of what was opened last are read and their E, but for their last bracket. Those that are known stand at their places.
+-- The arguments of what was opened last are read and their E, but for their last bracket. Those that are known are at their places.
 pub record IsListEnded (s : Symbol) (w : Direct) (argument : Arguments) : Type 0 where
   pub state : State
   pub candidates : AreCandidates w.text.list.items w.candidates.list.items state.candidates
@@ -414,7 +414,7 @@ pub record AwaitsNumber (s : Symbol) (w : Direct) : Type 0 where
   pub written : w.text.list.items ≡ led_by place.listing place.front place.name ++ in_front_of_next ts texts ++ codes "(" ++ bytes
   pub goes : EnumeratorGoesOn s place.listing place.owner (Stands s place.rest) place.front place.template ts type w.at state
 
--- The name of an encoding was read and written from a place on, but for its qualifier. The known ones of these arguments stand at their
+-- The name of an encoding was read and written from a place on, but for its qualifier. The known ones of these arguments are at their
 -- places.
 pub record IsNameEnded (s : Symbol) (w : Direct) (mark : Mark) (is_instance : Bool) (argument : Arguments) (from : ℕ) : Type 0 where
   pub state : State
@@ -434,7 +434,7 @@ pub record IsNameEnded (s : Symbol) (w : Direct) (mark : Mark) (is_instance : Bo
   pub names : HasArguments w.text.list.items argument own
   pub awaits : AwaitsItems s lead v w.at state
 
--- The return type of a function was read, and stands behind the function's name and what is written in front of it.
+-- The return type of a function was read, and comes after the function's name and what is written before it.
 pub record IsFrontRead (s : Symbol) (w : Direct) (mark : Mark) (start : ℕ) (argument : Arguments) : Type 0 where
   pub state : State
   pub candidates : AreCandidates w.text.list.items w.candidates.list.items state.candidates
@@ -453,7 +453,7 @@ pub record IsFrontRead (s : Symbol) (w : Direct) (mark : Mark) (start : ℕ) (ar
   pub written : w.text.list.items ≡ front ++ bytes
   pub goes : ParametersGoOn s argument lead (encoding_of v) (returned ∷ []) w.at state
 
--- A function's name was read and written, and what stands in front of it. Its parameters are expected.
+-- A function's name was read and written, and what comes before it. Its parameters are expected.
 pub record AwaitsParameters (s : Symbol) (w : Direct) (mark : Mark) (start : ℕ) (argument : Arguments) : Type 0 where
   pub state : State
   pub candidates : AreCandidates w.text.list.items w.candidates.list.items state.candidates
@@ -483,12 +483,12 @@ pub record AwaitsNextParameter (s : Symbol) (w : Direct) (mark : Mark) (start : 
   pub written : w.text.list.items ≡ aside ++ lead ++ name ++ codes "(" ++ in_front_of_next ts texts
   pub goes : ParametersGoOn s argument lead make ts w.at state
 
--- what stands in front of the element of a list with this number
+-- what comes before the element of a list with this number
 abbrev pub comma_text : (number : ℕ) → List ℕ
 comma_text zero = []
 comma_text (suc k) = codes ", "
 
--- a pack has these elements, and the known ones stand at their places
+-- a pack has these elements, and the known ones are at their places
 pub record IsPackOf (text : List ℕ) (a : Arguments) (ts : List Term) : Type 0 where
   pub size : length ts ≡ a.elements
   pub among : (k : ℕ) → IsKnown (place_of a k) → (place_of a k).is_pack ≡ true → IsAmong text (place_of a k) k ts
@@ -525,7 +525,7 @@ pub record IsParameterEnded (s : Symbol) (w : Direct) (mark : Mark) (start : ℕ
   pub written : w.text.list.items ≡ aside ++ lead ++ name ++ codes "(" ++ texts
   pub goes : ParametersGoOn s argument lead make ts w.at state
 
--- An encoding was read and written behind a text, but for its qualifier.
+-- An encoding was read and written after a text, but for its qualifier.
 pub record IsEncodingEnded (s : Symbol) (w : Direct) (mark : Mark) : Type 0 where
   pub state : State
   pub candidates : AreCandidates w.text.list.items w.candidates.list.items state.candidates
@@ -547,7 +547,7 @@ pub record IsSymbolEnded (s : Symbol) (w : Direct) : Type 0 where
 
 -- ## Function types
 
--- A type was read behind a text, as an element or a parameter of what is open.
+-- A type was read after a text, as an element or a parameter of what is open.
 pub record IsElementRead (s : Symbol) (w : Direct) (o : Open) : Type 0 where
   pub state : State
   pub candidates : AreCandidates w.text.list.items w.candidates.list.items state.candidates
@@ -576,7 +576,7 @@ pub record IsElementPassed (s : Symbol) (w : Direct) : Type 0 where
   pub takes : TakesFunction (reverse w.waiting.list.items)
   pub stands : Stands s (reverse w.waiting.list.items) os front
 
--- The type of an array's elements was read. The digits of the size stand between two places of the symbol.
+-- The type of an array's elements was read. The digits of the size are between two places of the symbol.
 pub record IsArrayRead (s : Symbol) (w : Direct) (access : Access) (from to : ℕ) : Type 0 where
   pub state : State
   pub candidates : AreCandidates w.text.list.items w.candidates.list.items state.candidates

@@ -20,7 +20,7 @@ use Rattle.cpp_direct.specs.Ways.{IsEncodingEnded}
 
 -- ## Local entities
 
--- The name of a local entity is expected behind the E of the encoding before it, and behind the L of internal linkage or without.
+-- The name of a local entity is expected after the E of the encoding before it, and after the L of internal linkage or without.
 pub record AwaitsEntity (s : Symbol) (w : Direct) (is_internal : Bool) : Type 0 where
   pub before : ℕ
   pub ended : IsEncodingEnded s (record w { at = before }) marks.Plain
@@ -31,7 +31,7 @@ pub record AwaitsEntity (s : Symbol) (w : Direct) (is_internal : Bool) : Type 0 
 
 -- ## Types in functions
 
--- The name of a function in which a type stands was read and written from a place on, but for its qualifier.
+-- The name of a function in which a type is was read and written from a place on, but for its qualifier.
 pub record IsEnclosingNamed (s : Symbol) (w : Direct) (mark : Mark) (from : ℕ) : Type 0 where
   pub state : State
   pub candidates : AreCandidates w.text.list.items w.candidates.list.items state.candidates
@@ -48,7 +48,7 @@ pub record IsEnclosingNamed (s : Symbol) (w : Direct) (mark : Mark) (from : ℕ)
   pub no_return : has_return_type own ≡ false
   pub goes : ItemsGoOn s nowhere (TypeWithin s (Stands s (reverse w.waiting.list.items)) front) (λ l. encoding_of v l) [] w.at state
 
--- The same of an instance of a function template. Its return type is expected, and the argument of the template stands where it was
+-- The same of an instance of a function template. Its return type is expected, and the argument of the template is where it was
 -- noted last, or it isn't known.
 pub record IsEnclosingInstance (s : Symbol) (w : Direct) (mark : Mark) (from : ℕ) : Type 0 where
   pub state : State
@@ -67,7 +67,7 @@ pub record IsEnclosingInstance (s : Symbol) (w : Direct) (mark : Mark) (from : �
   pub names : HasArguments w.text.list.items w.argument own
   pub goes : ItemsGoOn s (named_in 0 w.argument) (TypeWithin s (Stands s (reverse w.waiting.list.items)) front) (λ l. encoding_of v l) [] w.at state
 
--- The name of a function in which a type stands was read, and its return type if it has one. Its parameters are expected.
+-- The name of a function in which a type is was read, and its return type if it has one. Its parameters are expected.
 pub record AwaitsEnclosingParameters (s : Symbol) (w : Direct) (mark : Mark) (from : ℕ) (argument : Arguments) : Type 0 where
   pub state : State
   pub candidates : AreCandidates w.text.list.items w.candidates.list.items state.candidates
@@ -108,14 +108,14 @@ pub record IsEnclosingRead (s : Symbol) (w : Direct) (mark : Mark) (from : ℕ) 
   pub encloses : Encloses e bytes
   pub within : TypeWithin s (Stands s (reverse w.waiting.list.items)) front e w.at state
 
--- The name of a type is expected behind the E of the function that it stands in, which was written from a place on.
+-- The name of a type is expected after the E of the function that it is in, which was written from a place on.
 pub record AwaitsTypeName (s : Symbol) (w : Direct) (from : ℕ) : Type 0 where
   pub before : ℕ
   pub read : IsEnclosingRead s (record w { at = before }) marks.Plain from
   pub letter : StandsAt s.bytes before (69 ∷ [])
   pub at_is : w.at ≡ before + 1
 
--- A parameter of a lambda was read, which is a type that stands in a function.
+-- A parameter of a lambda was read, which is a type that is in a function.
 pub record IsLambdaParameterRead (s : Symbol) (w : Direct) (from : ℕ) : Type 0 where
   pub state : State
   pub candidates : AreCandidates w.text.list.items w.candidates.list.items state.candidates

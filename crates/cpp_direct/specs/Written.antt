@@ -32,7 +32,7 @@ added w from is_reference =
     w.candidates.list.items
     ++ record { from = from; to = length w.text.list.items; is_reference = is_reference; is_dependent = false; number = 0; encoding = 0 } ∷ []
 
--- the candidates, and what is written from a place on, which stands behind the text of an argument
+-- the candidates, and what is written from a place on, which follows the text of an argument
 abbrev pub with_dependent : Direct → (from : ℕ) → (is_reference : Bool) → (number encoding : ℕ) → List Candidate
 with_dependent w from is_reference number encoding =
     w.candidates.list.items

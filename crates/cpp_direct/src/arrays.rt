@@ -16,7 +16,7 @@ use crate::lists::normal;
 use crate::open::{Access, Open, Step};
 use sym_core::{NumberKind, find_number};
 
-/// How many letters stand in front of an array's size.
+/// How many letters come before an array's size.
 fn letters(access: Access) -> usize
     ensures { result ≡ length (access_letters access) }
 {
@@ -27,7 +27,7 @@ fn letters(access: Access) -> usize
     }
 }
 
-/// What stands between the text of the elements' type and the size.
+/// What is between the text of the elements' type and the size.
 fn array_opening(access: Access) -> &'static [u8]
     ensures { result.now ≡ array_opening access }
 {

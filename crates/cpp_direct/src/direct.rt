@@ -24,7 +24,7 @@ pub struct Direct {
 }
 
 impl Direct {
-    /// Lists that have no memory yet.
+    /// Empty lists: nothing is allocated yet.
     pub fn new(alloc: Global) -> Direct {
         Direct {
             text: Bounded::new(alloc),
@@ -63,7 +63,7 @@ impl Direct {
         self.waiting.begin(entries);
     }
 
-    /// A symbol is done, after so many steps: the candidates and what stood open are forgotten.
+    /// A symbol is done, after so many steps: the candidates and what was open are forgotten.
     #[inline(always)]
     pub fn forget(&mut self, rounds: usize)
         ensures text { self.new.text ≡ self.old.text }

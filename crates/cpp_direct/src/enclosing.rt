@@ -1,4 +1,4 @@
-// Types that stand in the body of a function.
+// Types that are in the body of a function.
 
 ghost use Rattle.std.specs.Prelude.{◌≡◌, ◌+◌, ◌∷◌, ◌++◌, [], ℕ, List, length, Option, false, codes};
 ghost use Rattle.std.specs.Option.{OnSome, IfSome};
@@ -25,7 +25,7 @@ use crate::tokens::{are_numbers_short, byte_at};
 const LONGEST_WITH_LAMBDAS: usize = 1_024;
 
 impl Direct {
-    /// Reads the first bytes of a type that stands in a function, up to the first type in that one's name.
+    /// Reads the first bytes of a type that is in a function, up to the first type in that one's name.
     // <local-name> ::= Z <function encoding> E <entity name> [<discriminator>]
     #[inline(never)]
     pub(crate) fn begin_enclosing<G: Grammar>(&mut self, s: &[u8]) -> Option<Step>
@@ -46,7 +46,7 @@ impl Direct {
         self.nest_at::<G>(s, Purpose::Enclosing { mark: place.mark })
     }
 
-    /// The name of a function is read in which a type stands: its parameters follow, or the type.
+    /// The name of a function is read in which a type is: its parameters follow, or the type.
     // <encoding> ::= <function name> <bare-function-type> | <data name>
     pub(crate) fn enclosing_named<G: Grammar>(
         &mut self,
@@ -64,7 +64,7 @@ impl Direct {
         self.enclosing_parameters::<G>(s, mark, from, NOWHERE)
     }
 
-    /// The name of an instance of a function template is read in which a type stands. The function's return type follows, a builtin
+    /// The name of an instance of a function template is read in which a type is. The function's return type follows, a builtin
     /// one, of which nothing is written.
     // <bare-function-type> ::= <return type> <parameter type>+
     pub(crate) fn enclosing_instance<G: Grammar>(
@@ -88,7 +88,7 @@ impl Direct {
         self.enclosing_parameters::<G>(s, mark, from, argument)
     }
 
-    /// Reads the parameters of a function in which a type stands, up to the first type in them.
+    /// Reads the parameters of a function in which a type is, up to the first type in them.
     // <bare-function-type> ::= <parameter type>+ | v
     fn enclosing_parameters<G: Grammar>(
         &mut self,
@@ -116,7 +116,7 @@ impl Direct {
         Some(Step::Type)
     }
 
-    /// A parameter of a function is read in which a type stands: another one follows, or the type.
+    /// A parameter of a function is read in which a type is: another one follows, or the type.
     // <bare-function-type> ::= <parameter type>+
     pub(crate) fn enclosing_parameter<G: Grammar>(
         &mut self,
@@ -142,7 +142,7 @@ impl Direct {
         self.enclosing_ended::<G>(s, mark, from)
     }
 
-    /// Writes the qualifiers of a function in which a type stands.
+    /// Writes the qualifiers of a function in which a type is.
     fn enclosing_ended<G: Grammar>(&mut self, s: &[u8], mark: Mark, from: u32) -> Option<Step>
         requires fits { IsReadable s.now }
         requires read { IsEnclosingRead (symbol_by G.IS_WIDE s.now) self.old mark from }
@@ -152,7 +152,7 @@ impl Direct {
         self.enclosed::<G>(s, from)
     }
 
-    /// Reads the E behind the function that a type stands in.
+    /// Reads the E after the function that a type is in.
     // <local-name> ::= Z <function encoding> E <entity name> [<discriminator>]
     fn enclosed<G: Grammar>(&mut self, s: &[u8], from: u32) -> Option<Step>
         requires fits { IsReadable s.now }
@@ -173,7 +173,7 @@ impl Direct {
         self.begin_lambda::<G>(s, from)
     }
 
-    /// Reads the name of a type that stands in a function.
+    /// Reads the name of a type that is in a function.
     // <local-name> ::= Z <function encoding> E <entity name> [<discriminator>]
     fn enclosed_named<G: Grammar>(&mut self, s: &[u8], from: u32) -> Option<Step>
         requires fits { IsReadable s.now }
@@ -218,7 +218,7 @@ impl Direct {
         self.lambda_number(s)
     }
 
-    /// Reads the number of a lambda, one of the first nine, and writes it and what stands behind it.
+    /// Reads the number of a lambda, one of the first nine, and writes it and what follows it.
     // <closure-type-name> ::= Ul <lambda-sig> E [<nonnegative number>] _
     fn lambda_number(&mut self, s: &[u8]) -> Option<()>
         ensures { OnSome result ((number : Option ℕ) × IsLambdaDigit number × StandsAt s.now self.old.at (lambda_digits number ++ 95 ∷ [])

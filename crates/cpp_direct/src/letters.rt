@@ -30,7 +30,7 @@ pub fn is_integer_letter(letter: u8) -> bool
     }
 }
 
-/// Whether it is the letter behind a D of a builtin type.
+/// Whether it is the letter after a D of a builtin type.
 #[tactic(auto, unfolding(crate::specs::Bytes::is_builtin_with_d, cpp_grammar::specs::Grammar::among))]
 #[inline(always)]
 pub fn is_builtin_with_d(letter: u8) -> bool

@@ -50,7 +50,7 @@ fn is_zero(digits: &[u8]) -> bool
     }
 }
 
-/// Whether the integers of the type with this letter stand without it.
+/// Whether the integers of the type with this letter are without it.
 #[tactic(auto, unfolding(cpp_grammar::specs::Parts::is_plain_integer))]
 #[inline(always)]
 fn is_plain_letter(letter: u8) -> bool
@@ -220,14 +220,14 @@ impl Direct {
         }
     }
 
-    /// Reads the number of an enumerator, behind its type.
+    /// Reads the number of an enumerator, after its type.
     // <expr-primary> ::= L <type> <value number> E
     pub(crate) fn enumerator<G: Grammar>(&mut self, s: &[u8]) -> Option<Step>
         requires fits { IsReadable s.now }
         requires awaits { AwaitsNumber (symbol_by G.IS_WIDE s.now) self.old }
         ensures { IfSome result (IsWriting (symbol_by G.IS_WIDE s.now) self.new) }
     {
-        // the integers of some builtin types stand without them
+        // the integers of some builtin types are without them
         if self.text.as_slice().ends_with(b"(int") {
             return None;
         }
@@ -259,7 +259,7 @@ impl Direct {
         Some(())
     }
 
-    /// Reads a truth value behind its type, at whose letter the writer is.
+    /// Reads a truth value after its type, at whose letter the writer is.
     fn boolean(&mut self, s: &[u8]) -> Option<()>
         requires { StandsAt s.now self.old.at (98 ∷ []) }
         ensures { OnSome result ((digit : ℕ) × ((digit ≡ 48) ⊎ (digit ≡ 49)) × StandsAt s.now self.old.at (98 ∷ digit ∷ [])
@@ -312,7 +312,7 @@ impl Direct {
         self.digits(s, false)
     }
 
-    /// Reads the digits of a number behind its sign, and writes both.
+    /// Reads the digits of a number after its sign, and writes both.
     // <non-negative decimal integer>
     fn digits(&mut self, s: &[u8], is_negative: bool) -> Option<()>
         requires { IsReadable s.now }

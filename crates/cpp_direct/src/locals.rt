@@ -50,7 +50,7 @@ impl Direct {
         self.begin_encoding::<G>(s)
     }
 
-    /// A local entity, behind the encoding that it stands in.
+    /// A local entity, after the encoding that it is in.
     // <local-name> ::= Z <function encoding> E <entity name> [<discriminator>]
     pub(crate) fn entity<G: Grammar>(&mut self, s: &[u8]) -> Option<Step>
         requires fits { IsReadable s.now }
@@ -69,7 +69,7 @@ impl Direct {
         self.entity_name::<G>(s, false)
     }
 
-    /// The name of a local entity, behind the L of internal linkage or without one.
+    /// The name of a local entity, after the L of internal linkage or without one.
     // <unscoped-name> ::= <source-name>
     fn entity_name<G: Grammar>(&mut self, s: &[u8], is_internal: bool) -> Option<Step>
         requires fits { IsReadable s.now }

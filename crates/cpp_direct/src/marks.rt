@@ -10,7 +10,7 @@ use crate::direct::Direct;
 use crate::open::Mark;
 use crate::tokens::byte_at;
 
-/// The qualifiers that stand at a place, and the place behind them.
+/// The qualifiers that are at a place, and the place after them.
 #[derive(Clone, Copy)]
 pub struct MarkPlace {
     pub mark: Mark,

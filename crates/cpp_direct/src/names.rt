@@ -1,4 +1,4 @@
-// Names: where they stand.
+// Names: where they are.
 
 ghost use Rattle.std.specs.Prelude.{◌≡◌, ◌≤◌, length, true, false};
 ghost use Rattle.std.specs.Option.{IfSome};
@@ -11,7 +11,7 @@ ghost use Rattle.cpp_direct.specs.Names.{IsLengthRead, IsNamePlace, IsReadable};
 use crate::tokens::byte_at;
 use sym_core::{NameClass, find_name};
 
-/// Whether each byte may stand in a name.
+/// Whether each byte may be in a name.
 // without an end in between, so that many bytes are held against the bounds at once
 #[inline(never)]
 pub fn are_name_bytes(bytes: &[u8]) -> bool
@@ -26,7 +26,7 @@ pub fn are_name_bytes(bytes: &[u8]) -> bool
     are
 }
 
-/// Where a name has its own bytes: those behind its length.
+/// Where a name has its own bytes: those after its length.
 #[derive(Clone, Copy)]
 pub struct NamePlace {
     pub from: usize,
@@ -41,7 +41,7 @@ pub fn is_digit(byte: u8) -> bool
     b'0' <= byte && byte <= b'9'
 }
 
-/// A name's own bytes, so many, behind its length, which stands at a place.
+/// A name's own bytes, so many, after its length, which is at a place.
 #[inline(always)]
 fn own_at(s: &[u8], _at: usize, from: usize, size: usize) -> Option<NamePlace>
     requires readable { IsReadable s.now }
@@ -76,7 +76,7 @@ fn long_name_at(s: &[u8], at: usize) -> Option<NamePlace>
     })
 }
 
-/// Where the name that stands at a place has its own bytes.
+/// Where the name that is at a place has its own bytes.
 // <source-name> ::= <positive length number> <identifier>
 #[inline(always)]
 pub fn name_at(s: &[u8], at: usize) -> Option<NamePlace>

@@ -115,7 +115,7 @@ impl Direct {
         self.nest_known::<G>(s)
     }
 
-    /// A name that an S stands for is read, at the front of a nested one. By the wide grammar a type may end behind its arguments.
+    /// A name that an S stands for is read, at the front of a nested one. By the wide grammar a type may end after its arguments.
     // <nested-name> ::= N <substitution> <template-args> E
     #[inline(always)]
     fn nest_known<G: Grammar>(&mut self, s: &[u8]) -> Option<Step>
@@ -156,7 +156,7 @@ impl Direct {
         self.nest_named::<G>(s)
     }
 
-    /// The name of a component is read. Arguments may stand behind it, and by the wide grammar a tag before them.
+    /// The name of a component is read. Arguments may come after it, and by the wide grammar a tag before them.
     // <unqualified-name> ::= <unqualified-name> <abi-tags>
     #[inline(always)]
     fn nest_named<G: Grammar>(&mut self, s: &[u8]) -> Option<Step>
@@ -171,7 +171,7 @@ impl Direct {
         self.nest_tagged::<G>(s)
     }
 
-    /// The name of a component is read, with its tag. Arguments may stand behind it.
+    /// The name of a component is read, with its tag. Arguments may come after it.
     // <prefix> ::= <template-prefix> <template-args>
     #[inline(always)]
     fn nest_tagged<G: Grammar>(&mut self, s: &[u8]) -> Option<Step>
@@ -185,7 +185,7 @@ impl Direct {
         self.open_arguments(Open::NestArguments { nest: self.nest })
     }
 
-    /// Reads what stands behind the first piece of a nested name.
+    /// Reads what follows the first piece of a nested name.
     pub(crate) fn rest_at<G: Grammar>(&mut self, s: &[u8]) -> Option<Step>
         requires fits { IsReadable s.now }
         requires writing { IsWriting (symbol_by G.IS_WIDE s.now) self.old steps.Rest }
@@ -322,7 +322,7 @@ impl Direct {
         self.nest_named::<G>(s)
     }
 
-    /// Reads the E of a nested name behind an operator that no arguments are read of.
+    /// Reads the E of a nested name after an operator that no arguments are read of.
     fn operator_ended<G: Grammar>(&mut self, s: &[u8]) -> Option<Step>
         requires fits { IsReadable s.now }
         requires read { IsOperatorRead (symbol_by G.IS_WIDE s.now) self.old }

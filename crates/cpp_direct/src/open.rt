@@ -1,4 +1,4 @@
-// What stands open around what is being read, and what comes next.
+// What is open around what is being read, and what comes next.
 
 /// What a substitution may name: its text, by its place in the text so far. One that ends before it begins has none.
 #[derive(Clone, Copy)]
@@ -6,7 +6,7 @@ pub struct Candidate {
     pub from: u32,
     pub to: u32,
     pub is_reference: bool,
-    /// It names an argument of the function's template, and its text is only what stands behind the argument's.
+    /// It names an argument of the function's template, and its text is only what follows the argument's.
     pub is_dependent: bool,
     /// the argument's number
     pub number: u16,
@@ -14,7 +14,7 @@ pub struct Candidate {
     pub encoding: u16,
 }
 
-/// An argument of a name, or an element of a pack, and where its text stands in what is written. One that ends before it begins is
+/// An argument of a name, or an element of a pack, and where its text is in what is written. One that ends before it begins is
 /// nowhere.
 #[derive(Clone, Copy)]
 pub struct Argument {
@@ -55,7 +55,7 @@ pub enum Purpose {
     Type,
     /// the name of the encoding, of a member function with these qualifiers
     Name { mark: Mark },
-    /// the name of a function in which a type stands, with these qualifiers
+    /// the name of a function in which a type is, with these qualifiers
     Enclosing { mark: Mark },
 }
 
@@ -70,11 +70,11 @@ pub struct Nest {
     pub is_listed: bool,
     /// Its last piece is the name of a class.
     pub has_class: bool,
-    /// It ends in arguments. Before those of a constructor or a destructor stands no name of a class.
+    /// It ends in arguments. No name of a class comes before those of a constructor or a destructor.
     pub is_instance: bool,
 }
 
-/// How an array is read: by itself, or behind a pointer or an lvalue reference.
+/// How an array is read: by itself, or after a pointer or an lvalue reference.
 #[derive(Clone, Copy)]
 pub enum Access {
     Plain,
@@ -105,7 +105,7 @@ pub enum Open {
     NestArguments {
         nest: Nest,
     },
-    /// the arguments of a nested name's first piece, behind which a component stands
+    /// the arguments of a nested name's first piece, after which a component is
     FirstArguments {
         nest: Nest,
     },
@@ -113,7 +113,7 @@ pub enum Open {
     NameArguments {
         from: u32,
     },
-    /// the return type of a function, which is written behind its name; what was written up to this place is no part of the text
+    /// the return type of a function, which is written after its name; what was written up to this place is no part of the text
     Front {
         mark: Mark,
         start: u32,
@@ -125,19 +125,19 @@ pub enum Open {
         start: u32,
         argument: Arguments,
     },
-    /// the parameters of a function in which a type stands; the type's text begins at this place, with the function's
+    /// the parameters of a function in which a type is; the type's text begins at this place, with the function's
     Enclosing {
         mark: Mark,
         from: u32,
         argument: Arguments,
     },
-    /// the parameters of a lambda that stands in a function, whose text begins at this place
+    /// the parameters of a lambda that is in a function, whose text begins at this place
     Lambda {
         from: u32,
     },
     /// the name of a special symbol
     Special,
-    /// the return type of a function type that is an element or a parameter, by itself or behind a pointer
+    /// the return type of a function type that is an element or a parameter, by itself or after a pointer
     Returned {
         is_pointer: bool,
     },
@@ -145,14 +145,14 @@ pub enum Open {
     Signature {
         is_pointer: bool,
     },
-    /// the type of an array's elements, where the array is an element or a parameter; the digits of its size stand between these
+    /// the type of an array's elements, where the array is an element or a parameter; the digits of its size are between these
     /// places of the symbol
     Array {
         access: Access,
         from: u32,
         to: u32,
     },
-    /// an argument of a name, so many behind the first one, whose text begins at this place: an element of what was opened before
+    /// an argument of a name, so many after the first one, whose text begins at this place: an element of what was opened before
     Argument {
         from: u32,
         number: u16,
@@ -160,7 +160,7 @@ pub enum Open {
     },
     /// the elements of a pack, an argument of what was opened before
     Pack,
-    /// an element of a pack that is the first argument of a name, so many behind the first one, whose text begins at this place
+    /// an element of a pack that is the first argument of a name, so many after the first one, whose text begins at this place
     Element {
         from: u32,
         number: u16,
@@ -175,13 +175,13 @@ pub enum Open {
 pub enum Step {
     /// a type
     Type,
-    /// a type behind a const
+    /// a type after a const
     Plain,
     /// a type was read
     Value {
         is_reference: bool,
     },
-    /// a type was read that names an argument of a function's template, the one with this number; what stands behind the argument's
+    /// a type was read that names an argument of a function's template, the one with this number; what follows the argument's
     /// text begins at this place, and the encoding at that one, if it is known
     Dependent {
         is_reference: bool,

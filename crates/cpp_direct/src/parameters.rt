@@ -29,7 +29,7 @@ fn known(place: Argument) -> Option<Argument>
     Some(place)
 }
 
-/// An argument with a text that stands from one place to another one.
+/// An argument with a text that is from one place to another one.
 fn placed(from: u32, to: u32, is_pack: bool, is_reference: bool) -> Argument
     ensures { result.from ≤ result.to
         → result ≡ record { from = from; to = to; is_pack = is_pack; is_reference = is_reference } }
@@ -85,7 +85,7 @@ impl Arguments {
     }
 }
 
-/// The number that stands behind the T of a parameter, one digit at most, and the place behind it.
+/// The number that follows the T of a parameter, one digit at most, and the place after it.
 #[derive(Clone, Copy)]
 struct ParameterNumber {
     number: u16,
@@ -118,7 +118,7 @@ fn parameter_number(s: &[u8], at: usize) -> Option<ParameterNumber>
     Some(ParameterNumber { number, end })
 }
 
-/// Whether a function type or an array stands at a place, or what points or refers to one: these are elements alone.
+/// Whether a function type or an array is at a place, or what points or refers to one: these are elements alone.
 fn is_element_at(s: &[u8], at: usize) -> bool {
     match byte_at(s, at) {
         b'F' | b'A' => true,
@@ -130,7 +130,7 @@ fn is_element_at(s: &[u8], at: usize) -> bool {
     }
 }
 
-/// The place behind `DpOT_`, if this stands at a place.
+/// The place after `DpOT_`, if this is at a place.
 // <type> ::= Dp <type>
 fn expansion_end(s: &[u8], at: usize) -> Option<usize>
     ensures stands { IfSome result (λ end. StandsAt s.now at (68 ∷ 112 ∷ 79 ∷ 84 ∷ 95 ∷ [])) }
@@ -215,7 +215,7 @@ impl Direct {
         Some(Step::Type)
     }
 
-    /// An element of a pack is read, which is the first argument of a name: others follow, or the end of the pack, and behind it that of
+    /// An element of a pack is read, which is the first argument of a name: others follow, or the end of the pack, and after it that of
     /// the arguments.
     // <template-arg> ::= J <template-arg>* E
     pub(crate) fn element_ended<G: Grammar>(
@@ -232,7 +232,7 @@ impl Direct {
     {
         let _element = self.waiting.pop();
         let byte = byte_at(s, self.at);
-        // a literal isn't known, nor is what stands behind it
+        // a literal isn't known, nor is what follows it
         if byte == b'L' || is_element_at(s, self.at) {
             return Some(Step::List { is_first: false });
         }
@@ -251,7 +251,7 @@ impl Direct {
         self.close_list::<G>(s, Arguments { elements, ..more })
     }
 
-    /// An element of a pack comes next, behind so many others.
+    /// An element of a pack comes next, after so many others.
     // <template-arg> ::= J <template-arg>* E
     fn next_element<G: Grammar>(&mut self, s: &[u8], before: u16, known: Arguments) -> Option<Step>
         requires fits { IsReadable s.now }
@@ -321,7 +321,7 @@ impl Direct {
         self.close_parameters::<G>(s, mark, start, argument)
     }
 
-    /// Writes what stands in front of the element of a list with this number.
+    /// Writes what comes before the element of a list with this number.
     fn comma(&mut self, number: u16) -> Option<()>
         ensures { OnSome result (Writes self.old self.new (comma_text number)) }
     {
@@ -331,7 +331,7 @@ impl Direct {
         }
     }
 
-    /// Writes a reference to the element of a pack with this number, behind those before it. A reference to a reference is one to what
+    /// Writes a reference to the element of a pack with this number, after those before it. A reference to a reference is one to what
     /// this refers to.
     // <type> ::= O <type>
     fn forward(&mut self, argument: Arguments, number: u16) -> Option<()>
@@ -352,7 +352,7 @@ impl Direct {
         self.push(if place.is_reference { b"" } else { b"&&" })
     }
 
-    /// An argument of a name is read, so many behind the first one: others follow, or the end.
+    /// An argument of a name is read, so many after the first one: others follow, or the end.
     // <template-args> ::= I <template-arg>* E
     pub(crate) fn argument_ended<G: Grammar>(
         &mut self,
@@ -368,7 +368,7 @@ impl Direct {
     {
         let _open = self.waiting.pop();
         let byte = byte_at(s, self.at);
-        // a literal or a pack isn't known, nor is what stands behind it
+        // a literal or a pack isn't known, nor is what follows it
         if byte == b'L' || byte == b'J' || is_element_at(s, self.at) {
             return Some(Step::List { is_first: false });
         }
@@ -381,7 +381,7 @@ impl Direct {
         self.close_list::<G>(s, more)
     }
 
-    /// An argument of a name comes next, behind so many others.
+    /// An argument of a name comes next, after so many others.
     // <template-args> ::= I <template-arg>* E
     fn next_argument<G: Grammar>(&mut self, s: &[u8], before: u16, known: Arguments) -> Option<Step>
         requires fits { IsReadable s.now }

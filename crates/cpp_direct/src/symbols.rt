@@ -44,7 +44,7 @@ pub const NOWHERE: Arguments = Arguments {
     elements: 0,
 };
 
-/// Whether a function whose name is written from a place on may have a return type. Behind a thunk's text it would have to be moved.
+/// Whether a function whose name is written from a place on may have a return type. After a thunk's text it would have to be moved.
 fn has_front(s: &[u8], from: u32) -> bool
     ensures { result ≡ true → is_local s.now ≡ false → from ≡ 0 }
 {
@@ -54,7 +54,7 @@ fn has_front(s: &[u8], from: u32) -> bool
     from == 0
 }
 
-/// The place where the encoding begins whose name is written from a place on, 0 if a text stands in front of it.
+/// The place where the encoding begins whose name is written from a place on, 0 if a text comes before it.
 fn encoding_place(s: &[u8], from: u32) -> u16
     ensures first { result ≢ 0 → from ≡ 0 }
     ensures is { result ≢ 0 → result ≡ encoding_place s.now }
@@ -196,7 +196,7 @@ impl Direct {
         self.begin_parameters::<G>(s, mark, 0, argument)
     }
 
-    /// The return type of a function is expected. It is written behind the name, and behind it the name once more.
+    /// The return type of a function is expected. It is written after the name, and after it the name once more.
     // <bare-function-type> ::= <return type> <parameter type>+
     #[inline(never)]
     fn begin_front<G: Grammar>(
@@ -252,7 +252,7 @@ impl Direct {
         self.begin_parameters::<G>(s, mark, start, argument)
     }
 
-    /// Of a function in which a local entity stands the return type isn't shown: the text begins behind it.
+    /// Of a function in which a local entity is the return type isn't shown: the text begins after it.
     #[inline(never)]
     fn front_hidden<G: Grammar>(
         &mut self,
@@ -322,7 +322,7 @@ impl Direct {
         self.close_parameters::<G>(s, mark, start, argument)
     }
 
-    /// The end of an encoding is reached behind a parameter.
+    /// The end of an encoding is reached after a parameter.
     // <bare-function-type> ::= <parameter type>+
     #[inline(always)]
     pub(crate) fn close_parameters<G: Grammar>(
@@ -345,7 +345,7 @@ impl Direct {
         self.end::<G>(s, mark)
     }
 
-    /// The end of an encoding, behind its text but for its qualifier: a local entity follows, or the end of the symbol.
+    /// The end of an encoding, after its text but for its qualifier: a local entity follows, or the end of the symbol.
     pub(crate) fn end<G: Grammar>(&mut self, s: &[u8], mark: Mark) -> Option<Step>
         requires fits { IsReadable s.now }
         requires ended { IsEncodingEnded (symbol_by G.IS_WIDE s.now) self.old mark }
@@ -358,7 +358,7 @@ impl Direct {
         self.finish::<G>(s)
     }
 
-    /// The end of a symbol, behind the text of its encoding.
+    /// The end of a symbol, after the text of its encoding.
     // <mangled-name> ::= _Z <encoding> . <vendor-specific suffix>
     pub(crate) fn finish<G: Grammar>(&mut self, s: &[u8]) -> Option<Step>
         requires { IsSymbolEnded (symbol_by G.IS_WIDE s.now) self.old }

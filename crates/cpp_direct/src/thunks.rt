@@ -52,7 +52,7 @@ impl Direct {
         self.begin_encoding::<G>(s)
     }
 
-    /// Reads an offset and the _ behind it, of which nothing is written.
+    /// Reads an offset and the _ after it, of which nothing is written.
     // <number> ::= [n] <non-negative decimal integer>
     fn offset(&mut self, s: &[u8]) -> Option<()>
         requires { IsReadable s.now }
@@ -65,7 +65,7 @@ impl Direct {
         self.distance(s)
     }
 
-    /// Reads digits and the _ behind them, of which nothing is written.
+    /// Reads digits and the _ after them, of which nothing is written.
     // <non-negative decimal integer>
     pub(crate) fn distance(&mut self, s: &[u8]) -> Option<()>
         requires { IsReadable s.now }

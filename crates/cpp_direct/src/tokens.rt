@@ -18,7 +18,7 @@ use crate::names::{is_digit, name_at};
 use crate::open::Candidate;
 use sym_core::{NumberKind, find_number, value36};
 
-/// The byte at a place, or 0 behind the end.
+/// The byte at a place, or 0 after the end.
 #[inline(always)]
 pub fn byte_at(s: &[u8], at: usize) -> u8
     ensures { result ≢ 0 → StandsAt s.now at (result ∷ []) }
@@ -26,7 +26,7 @@ pub fn byte_at(s: &[u8], at: usize) -> u8
     if at < s.len() { s[at] } else { 0 }
 }
 
-/// Whether a symbol has a Z or a G behind its _Z: it may name a local entity, or something special of one.
+/// Whether a symbol has a Z or a G after its _Z: it may name a local entity, or something special of one.
 #[inline(always)]
 #[tactic(auto, unfolding(crate::specs::Bytes::is_local))]
 pub fn is_local(s: &[u8]) -> bool
@@ -38,7 +38,7 @@ pub fn is_local(s: &[u8]) -> bool
     }
 }
 
-/// Whether no twenty digits stand side by side in a symbol.
+/// Whether no twenty digits are side by side in a symbol.
 #[inline(never)]
 pub fn are_numbers_short(s: &[u8]) -> bool
     ensures { result ≡ true → short_numbers 0 s.now ≡ true }
@@ -59,13 +59,13 @@ pub fn are_numbers_short(s: &[u8]) -> bool
     true
 }
 
-/// Whether an encoding may end in front of a byte, which is 0 where the symbol ends.
+/// Whether an encoding may end before a byte, which is 0 where the symbol ends.
 #[inline(always)]
 pub fn may_end(byte: u8) -> bool {
     byte == 0 || byte == b'.' || byte == b'E'
 }
 
-/// Whether a byte may stand in a suffix.
+/// Whether a byte may be in a suffix.
 #[tactic(auto, unfolding(crate::specs::ItemBytes::is_suffix_byte))]
 fn is_suffix_byte(byte: u8) -> bool
     ensures { result ≡ is_suffix_byte byte }
@@ -79,7 +79,7 @@ fn is_suffix_byte(byte: u8) -> bool
     }
 }
 
-/// Whether each byte may stand in a suffix.
+/// Whether each byte may be in a suffix.
 fn are_suffix_bytes(bytes: &[u8]) -> bool
     ensures { result ≡ true → AllByRecursion (λ b. is_suffix_byte b ≡ true) bytes.now }
 {
@@ -109,7 +109,7 @@ impl Direct {
         self.push(cpp_layout::name_text(&s[place.from..place.to]))
     }
 
-    /// Reads a tag behind a name, and writes it.
+    /// Reads a tag after a name, and writes it.
     // <abi-tag> ::= B <source-name>
     #[inline(never)]
     pub(crate) fn tag(&mut self, s: &[u8]) -> Option<()>

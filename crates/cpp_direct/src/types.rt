@@ -15,7 +15,7 @@ use crate::letters::is_builtin_with_d;
 use crate::open::{Access, Open, Purpose, Step};
 use crate::tokens::byte_at;
 
-/// Whether an array begins behind the byte at a place.
+/// Whether an array begins after the byte at a place.
 #[inline(always)]
 fn is_array_behind(s: &[u8], at: usize) -> bool
     ensures { result ≡ true → StandsAt s.now (at + 1) (65 ∷ []) }
@@ -27,7 +27,7 @@ fn is_array_behind(s: &[u8], at: usize) -> bool
 }
 
 impl Direct {
-    /// Reads a type, up to the first that stands in it.
+    /// Reads a type, up to the first that is in it.
     // <type> ::= <builtin-type> | <qualified-type> | <class-enum-type> | P <type> | R <type> | O <type> | <substitution>
     pub(crate) fn type_at<G: Grammar>(&mut self, s: &[u8], is_plain: bool) -> Option<Step>
         requires fits { IsReadable s.now }
@@ -69,7 +69,7 @@ impl Direct {
         }
     }
 
-    /// Reads a pointer, up to the first type that stands in it.
+    /// Reads a pointer, up to the first type that is in it.
     // <type> ::= P <type>
     #[inline(always)]
     fn pointer_at<G: Grammar>(&mut self, s: &[u8], is_plain: bool) -> Option<Step>
@@ -89,7 +89,7 @@ impl Direct {
         self.open_type(Open::Pointer { from }, Step::Type)
     }
 
-    /// Reads a type that is a name, up to the first type that stands in it.
+    /// Reads a type that is a name, up to the first type that is in it.
     // <class-enum-type> ::= <name>
     pub(crate) fn named_type<G: Grammar>(&mut self, s: &[u8]) -> Option<Step>
         requires fits { IsReadable s.now }
@@ -178,7 +178,7 @@ impl Direct {
         self.type_named::<G>(s, from, true, candidate.is_reference)
     }
 
-    /// The name of a type is read. Arguments may stand behind it.
+    /// The name of a type is read. Arguments may come after it.
     // <class-enum-type> ::= <name> | <template-template-param> <template-args>
     #[inline(always)]
     fn type_named<G: Grammar>(

@@ -1,4 +1,4 @@
-// Names of encodings that stand in no class, and operators.
+// Names of encodings that are in no class, and operators.
 
 ghost use Rattle.std.specs.Prelude.{◌≡◌, ◌∷◌, [], ℕ, true, false};
 ghost use Rattle.std.specs.Option.{IfSome};
@@ -16,7 +16,7 @@ use crate::symbols::NOWHERE;
 use crate::tokens::byte_at;
 
 impl Direct {
-    /// A name of its own, behind the L of internal linkage or without one.
+    /// A name of its own, after the L of internal linkage or without one.
     // <unscoped-name> ::= <source-name>
     pub(crate) fn begin_name<G: Grammar>(&mut self, s: &[u8], is_internal: bool) -> Option<Step>
         requires fits { IsReadable s.now }
@@ -65,7 +65,7 @@ impl Direct {
         self.unscoped_named::<G>(s, from, true)
     }
 
-    /// The name of an encoding is read, which was written from a place on. Arguments may stand behind it, if it is one that takes them,
+    /// The name of an encoding is read, which was written from a place on. Arguments may come after it, if it is one that takes them,
     /// and by the wide grammar a tag before them.
     // <unqualified-name> ::= <unqualified-name> <abi-tags>
     fn unscoped_named<G: Grammar>(&mut self, s: &[u8], from: u32, takes: bool) -> Option<Step>
@@ -98,7 +98,7 @@ impl Direct {
         self.open_arguments(Open::NameArguments { from })
     }
 
-    /// Reads an operator, and answers whether arguments behind it are read: between << or < and its arguments stands a blank.
+    /// Reads an operator, and answers whether arguments after it are read: there is a blank between << or < and its arguments.
     // <operator-name> ::= nw | na | dl | da | ps | ng | ..
     #[inline(never)]
     pub(crate) fn operator_name(&mut self, s: &[u8]) -> Option<bool>

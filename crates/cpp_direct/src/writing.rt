@@ -64,7 +64,7 @@ impl Direct {
         })
     }
 
-    /// A type that names an argument becomes a candidate: what is written from a place on stands behind the argument's text.
+    /// A type that names an argument becomes a candidate: what is written from a place on comes after the argument's text.
     pub(crate) fn add_dependent(
         &mut self,
         from: u32,
@@ -121,7 +121,7 @@ impl Direct {
         self.add_candidate(from, false)
     }
 
-    /// Writes what stands in the text once more.
+    /// Writes what is in the text once more.
     pub(crate) fn repeat(&mut self, from: u32, to: u32) -> Option<()>
         requires from { from ≤ to }
         requires to { to ≤ length self.old.text.list.items }

@@ -1,5 +1,5 @@
--- In the ABI's grammar there is no tag, so what stands behind a parameter or a substitution is what stands behind any other name. Nor does
--- a pack begin with an I, so the arguments from the first on are as those behind it.
+-- In the ABI's grammar there is no tag, so what follows a parameter or a substitution is what follows any other name. Nor does
+-- a pack begin with an I, so the arguments from the first on are as those after it.
 use Rattle.std.proofs.Common.{◌≡◌, refl, sym, ◌∙◌, ℕ}
 use Rattle.sym_shape.specs.declared.rule.Sym.TheVariants.{Kind as OfKind}
 use Rattle.sym_shape.specs.Table.{Table}

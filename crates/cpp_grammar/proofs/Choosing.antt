@@ -79,7 +79,7 @@ is_kind k lt none = elim (slice_get_cases kinds k).1 [
   | inr past ↦ absurd (omega (arith, past.0, lt, kind_count))
 ]
 
--- the kinds stand in the order of their numbers
+-- the kinds are in the order of their numbers
 unfoldable pub numbered_from : ℕ → List Kind → Bool
 numbered_from n [] = true
 numbered_from n (kind ∷ rest) = nat_eq (number_of_kind kind) n && numbered_from (suc n) rest

@@ -14,7 +14,7 @@ use Rattle.cpp_grammar.proofs.Ways.{has_signature}
 use Rattle.cpp_grammar.proofs.ClosedValues.{all_where, Good, AllGood, GoodPrefix, held, good_tree, good_piece, good_no_items, good_applied, good_instance, good_extended, good_prefix}
 use Rattle.cpp_grammar.proofs.ClosedStates.{Bare, Within, Grows, grows_same, grows_one, grows_held, with_prefix_grows, with_type_grows, parameter_good, parameter_grows, ok_same, behind_bind}
 
--- what surrounds a part, which stands in the same encoding
+-- what surrounds a part, which is in the same encoding
 pub record Fits (own : Bool) (around inner : Around) : Type 0 where
   pub encoding : inner.encoding ≡ around.encoding
   pub scope : around.scope ≡ None → inner.scope ≡ None
@@ -38,7 +38,7 @@ goes_by own s around at state vs inner new n values grows fits bare e =
     let whole : Next Value State Around = record { context = inner; values = vs; state = new } in
     subst (λ x. Goes own s around at state x) (ok_same whole n e) (record { values = values; grows = grows; fits = fits; bare = bare })
 
--- the surroundings of a part that stands in no signature of its own
+-- the surroundings of a part that is in no signature of its own
 record FitsBare (own : Bool) (around inner : Around) : Type 0 where
   fits : Fits own around inner
   bare : Bare own around → Bare own inner
@@ -66,7 +66,7 @@ fits_signature : (own : Bool) (around : Around) → Fits own around (in_signatur
 unfolding in_signature
 fits_signature own around = record { encoding = refl; scope = λ h. refl; back = λ h f. absurd (true≢false f); prefix = tt }
 
--- a production whose parts stand in the encoding around it
+-- a production whose parts are in the encoding around it
 abbrev pub StaysInside : Production → Type 0
 StaysInside Production.Encoding = ⊥
 StaysInside Production.Special = ⊥

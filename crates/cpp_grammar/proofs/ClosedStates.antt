@@ -26,11 +26,11 @@ use Rattle.cpp_grammar.proofs.ClosedValues.{all_where, prefix_where, Good, AllGo
 abbrev pub Bare : (own : Bool) → Around → Type 0
 Bare own around = (around.scope ≡ None) × (own ≡ true → around.in_lambda ≡ false)
 
--- no parameters stand in the parts of this production: in those of a lambda its own may
+-- no parameters are in the parts of this production: in those of a lambda its own may
 abbrev pub Within : (own : Bool) → Production → Around → Type 0
 Within own p around = Bare own around × (own ≡ true → has_signature p ≡ false)
 
--- a candidate in which no parameters of a lambda stand
+-- a candidate in which no parameters of a lambda are
 abbrev pub IsOutside : (own : Bool) → Candidate → Type 0
 IsOutside own c = own ≡ true → c.in_lambda ≡ false
 
@@ -38,13 +38,13 @@ IsOutside own c = own ≡ true → c.in_lambda ≡ false
 abbrev IsHere : (own : Bool) → Around → Candidate → Type 0
 IsHere own around c = (c.encoding ≡ around.encoding) × (around.scope ≡ None → IsOutside own c → is_open c.tree ≡ false)
 
--- a candidate in front of a place
+-- a candidate before a place
 pub record IsOld (own : Bool) (around : Around) (at : ℕ) (c : Candidate) : Type 0 where
   pub scopes : ScopesAreClosed c.tree
   pub closed : Bare own around → around.in_lambda ≡ false → IsOutside own c → c.encoding ≡ around.encoding → is_open c.tree ≡ false
   pub place : (c.encoding ≡ around.encoding) ⊎ (c.encoding < at)
 
--- a candidate that was made in front of a place
+-- a candidate that was made before a place
 pub record IsNew (own : Bool) (around : Around) (end : ℕ) (c : Candidate) : Type 0 where
   pub scopes : ScopesAreClosed c.tree
   pub place : IsHere own around c ⊎ ((around.encoding < c.encoding) × (c.encoding < end))
@@ -259,7 +259,7 @@ parameter_grows own around place k end state new e = go around.scope refl e
     go None is h = absurd cc
     go (Some arguments) is h = tested arguments (nat_lt k (count arguments)) is h
 
--- ## Behind the parts of a production
+-- ## After the parts of a production
 
 pub with_prefix_grows : (own : Bool) (around : Around) (end : ℕ) (state : State) → GoodPrefix (Bare own around) around.prefix → Grows own around end state (with_prefix around state)
 unfolding with_prefix

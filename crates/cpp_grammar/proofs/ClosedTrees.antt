@@ -73,7 +73,7 @@ unfoldable pub has_encoding : List Sym → Bool
 has_encoding [] = false
 has_encoding (x ∷ xs) = is_encoding x || has_encoding xs
 
--- an encoding stands behind a byte
+-- an encoding comes after a byte
 behind_a_byte : (p : Production) → is_chain p && has_encoding (parts_of p) ≡ false
 unfolding is_chain parts_of has_encoding is_encoding number_of_kind
 behind_a_byte Production.Mark = refl
@@ -242,7 +242,7 @@ leaf_comes own around end state v r good e =
 pub grows_on : (own : Bool) (around : Around) (a b : ℕ) (old new : State) → a ≤ b → Grows own around a old new → Grows own around b old new
 grows_on own around a b old new le g = grows_then own around a b old new new le g (grows_same own around b new new refl)
 
--- what is closed stays so between the parts of a production, and behind them
+-- what is closed stays so between the parts of a production, and after them
 pub record KeepsClosed (w : Way) : Type 0 where
   pub plain : IsPlain w
   pub goes : (production : Production) (around : Around) (place : ℕ) (vs : List Value) (state : State) (n : Next Value State Around) (at : ℕ) → StaysInside production →
@@ -302,7 +302,7 @@ pub filled : (xs : List ℕ) → (xs ≡ [] → ⊥) → 0 < length xs
 filled [] h = absurd (h refl)
 filled (x ∷ xs) h = omega arith
 
--- what an encoding's production means, and the state behind it
+-- what an encoding's production means, and the state after it
 pub inner_closes : (p : Production) → opens p ≡ true → (byte : ℕ) (around : Around) (place : ℕ) (began : State) (vs : List Value) (state : State) (one : Found Value State) →
     close p byte around place began vs state ≡ Ok one → found (meaning p byte around vs) state ≡ one
 unfolding opens close unfolding_.behind
@@ -324,7 +324,7 @@ takes_byte p rule k taken is takes has = go (is_chain p) refl (behind_a_byte p)
     go true e none = absurd (true≢false (sym there ∙ none))
     go false e none = omega (arith, ap length (taken_eats wide k rule taken takes (ap (λ x. x.eats) is ∙ ap not e)))
 
--- a rule that stands
+-- a rule that is there
 abbrev pub Whole : Rule → List ℕ → ℕ → Around → State → Open State Around
 Whole rule taken at around state = standing rule taken at around state
 

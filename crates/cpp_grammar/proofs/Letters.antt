@@ -78,7 +78,7 @@ rule_at row k byte k_lt byte_lt =
 pub rule_listed : (head : Head) (n : ℕ) → n < PRODUCTION_COUNT → Some (listed_rule head n) ≡ rule_taken (slice_get productions n)
 rule_listed head n = alike_at (λ n. Some (listed_rule head n)) (λ n. rule_taken (slice_get productions n)) PRODUCTION_COUNT n (rules head)
 
--- in the list of symbols each rule has six places, behind those of the start
+-- in the list of symbols each rule has six places, after those of the start
 places : (head : Head) → map (λ n. abi_listed (n * 6 + 6)) (range_with_len 0 PRODUCTION_COUNT) ≡ map (λ n. symbols_of (listed_rule head n)) (range_with_len 0 PRODUCTION_COUNT)
 unfolding listed_rule
 places head = refl

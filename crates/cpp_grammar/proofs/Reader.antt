@@ -23,7 +23,7 @@ abbrev ◌and_then◌ : {A B : Type 0} → Option A → (A → Option B) → Opt
 (Some x) and_then f = f x
 None and_then f = None
 
--- the digits at the front, and what is behind them
+-- the digits at the front, and what is after them
 unfoldable pub front_digits : NumberKind → List ℕ → List ℕ
 front_digits kind [] = []
 front_digits kind (b ∷ bytes) = elim (is_digit_of kind b) [ true ↦ b ∷ front_digits kind bytes | false ↦ [] ]
@@ -32,7 +32,7 @@ unfoldable pub is_length_form : List ℕ → Bool
 is_length_form [] = false
 is_length_form (d ∷ ds) = (nat_eq (length ds) 0 || not (nat_eq d 48)) && nat_le (length ds) 8
 
--- enough digits, and the ending of the kind behind them
+-- enough digits, and the ending of the kind after them
 unfoldable pub number_at : NumberKind → List ℕ → List ℕ → Option (Tree × List ℕ)
 number_at Digits [] rest = None
 number_at Digits digits rest = Some (token (record { before = []; own = digits; behind = [] }), rest)

@@ -27,7 +27,7 @@ deep_same : (m : Result Read Refusal) → One m → (a b c d f g : Read → Resu
 deep_same _ (refused e) a b c d f g same = refl
 deep_same _ (one v s) a b c d f g same = same v s
 
--- arguments and a further piece behind them: the piece is a part of its own
+-- arguments and a further piece after them: the piece is a part of its own
 abbrev in_parts : (a : Tree) (byte : ℕ) (c t : Tree) → Tree
 in_parts a byte c t = branch (rule_of Production.NestInstance) (73 ∷ []) (grown a (grown (fixed byte) (grown (branch (rule_of Production.NestNext) [] (grown c (grown t nothing))) nothing)))
 

@@ -39,7 +39,7 @@ use Rattle.cpp_grammar.proofs.NoneFree.{HasNone, AllNone, none_tree, none_piece,
 
 -- ## What is closed
 
--- productions whose parts are closed wherever they stand: a signature's, and those that stand for one of their parts
+-- productions whose parts are closed wherever they are: a signature's, and those that stand for one of their parts
 unfoldable is_shut : Production → Bool
 is_shut Production.Lambda = true
 is_shut Production.Special = true
@@ -297,7 +297,7 @@ between_none Production.RvalueItem around place (v ∷ []) state settled all cs 
 between_none Production.IntegerLiteral around place (v ∷ []) state settled all cs = record { inside = λ l. l; values = all; context = settled; candidates = typed_none around v state (λ l. none_tree v (all l).0) cs }
 between_none _ around place vs state settled all cs = record { inside = λ l. l; values = all; context = settled; candidates = cs }
 
--- ## Behind the parts of a production
+-- ## After the parts of a production
 
 -- what an encoding stands for is closed, and what else stands for something closed in a signature
 means_none : (p : Production) (byte : ℕ) (around : Around) (vs : List Value) → Settled around → (are_closed p around ≡ true → AllNone vs) → around.in_lambda ≡ true → HasNone (held (meaning p byte around vs))
@@ -474,7 +474,7 @@ close_stays p byte around place began vs state r settled all cs e = closed_stays
 
 -- ## Trees
 
--- the kinds of what special names stand for, which is closed wherever it stands
+-- the kinds of what special names stand for, which is closed wherever it is
 unfoldable is_special : Sym → Bool
 is_special (OfKind k) = nat_eq k SPECIAL || (nat_eq k SPECIAL_MARK || nat_eq k SPECIAL_AFTER_G)
 is_special _ = false

@@ -1,4 +1,4 @@
--- The two readings of C++, as one that is given what is done between the parts of a production and behind them.
+-- The two readings of C++, as one that is given what is done between the parts of a production and after them.
 use Rattle.std.proofs.Common.{◌≡◌, refl, ℕ, List, [], ◌∷◌, Bool, true, false, Result, Ok}
 use Rattle.std.proofs.lemmas.Bool.{true≢false}
 use Rattle.sym_core.specs.declared.refusal.Refusal.{Refusal}
@@ -43,7 +43,7 @@ differs Production.BoundedArray = true
 differs Production.Holder = true
 differs _ = false
 
--- the productions whose parts stand in a signature: lambdas, and what is declared of an argument
+-- the productions whose parts are in a signature: lambdas, and what is declared of an argument
 unfoldable pub has_signature : Production → Bool
 has_signature Production.Lambda = true
 has_signature Production.ValueOf = true

@@ -17,7 +17,7 @@ pub record Alternative : Type 0 where
 abbrev on : String → Production → Alternative
 on singles production = record { ranges = []; singles = codes singles; production = production }
 
--- at a byte of one of these ranges, each with a dash between its ends, or at one of the bytes behind them
+-- at a byte of one of these ranges, each with a dash between its ends, or at one of the bytes after them
 abbrev on_ranges : String → String → Production → Alternative
 on_ranges ranges singles production = record { ranges = codes ranges; singles = codes singles; production = production }
 
@@ -238,7 +238,7 @@ alternatives Kind.NestMoreOrEnd = on_ranges "0-9c-el-p" "CDLUagirs" Production.N
 unfoldable pub choose : Kind → ℕ → Option Production
 choose kind byte = pick (alternatives kind) byte
 
--- the parts of a production, behind its own byte if it takes one
+-- the parts of a production, after its own byte if it takes one
 unfoldable pub parts_of : Production → List Sym
 parts_of Production.Mark = []
 parts_of Production.InternalName = Name ∷ part Kind.MaybeArguments ∷ []

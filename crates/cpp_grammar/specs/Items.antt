@@ -5,7 +5,7 @@ use Rattle.cpp_grammar.specs.Scope.{element, pack_length}
 
 -- ## Items
 
--- Left and right are what stands before and behind a declared name, low is left of a reference under an lvalue reference,
+-- Left and right are what comes before and after a declared name, low is left of a reference under an lvalue reference,
 -- base is the name of a constructor's class, bare an encoding without its return type. First and more are a list's
 -- elements, expand the elements of an expansion from a number on.
 pub data Form : Type 0 where
@@ -21,7 +21,7 @@ pub data Form : Type 0 where
   more : Form
   expand : ℕ → Form
 
--- where a tree is printed: the arguments that its parameters name, the index into their packs, and whether it stands in the
+-- where a tree is printed: the arguments that its parameters name, the index into their packs, and whether it is in the
 -- signature of a lambda that has parameters of its own
 pub record Context : Type 0 where
   pub scope : Option Term
@@ -39,7 +39,7 @@ pub record Item : Type 0 where
 abbrev pub closed : Context
 closed = record { scope = None; index = None; in_signature = false }
 
--- in the signature of a lambda that has parameters of its own, which stands in this context
+-- in the signature of a lambda that has parameters of its own, which is in this context
 abbrev pub signature_in : Context → Context
 signature_in context = record { scope = None; index = context.index; in_signature = true }
 

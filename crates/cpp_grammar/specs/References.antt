@@ -32,7 +32,7 @@ with_prefix around state = elim (prefix_listed around.prefix) [ true ↦ state |
 
 -- ## References
 
--- A tree that holds packs stands under an expansion, and its packs have the length of the earlier ones there.
+-- A tree that holds packs is under an expansion, and its packs have the length of the earlier ones there.
 unfoldable pub with_packs : ℕ → Bool → Option ℕ → State → Result State Refusal
 with_packs place in_expansion None state = Ok state
 with_packs place false (Some m) state = Err (BadReference place)

@@ -24,7 +24,7 @@ use Rattle.cpp_grammar.specs.Unfolding.{opening, close, production_at, byte_of, 
 unfoldable pub generic_number : ℕ → ℕ
 generic_number k = cond (nat_lt k (2 ^ 32)) k (2 ^ 32 - 1)
 
--- a parameter of the lambda in whose signature it stands is good whatever its number, and a candidate
+-- a parameter of the lambda in whose signature it is is good whatever its number, and a candidate
 unfoldable pub generic_so_far : Around → ℕ → List Value → State → Going
 generic_so_far around k vs state = listed_so_far around (parameter (generic_number k)) vs (appended around (parameter (generic_number k)) state)
 
@@ -52,7 +52,7 @@ with_own v = v
 
 -- ## Names with an M
 
--- What stands in the initializer of a variable or of a data member has that one's name, with an M behind it, as its prefix. Some
+-- What is in the initializer of a variable or of a data member has that one's name, with an M after it, as its prefix. Some
 -- compilers count that name among the candidates and some don't, and a symbol doesn't tell by which one it was made. So from that
 -- candidate on, the last one before the M, no number is known to name the same tree by all of them. Here the name is a candidate, and
 -- is one again with its M, as a mark of that.
@@ -75,7 +75,7 @@ unfoldable pub is_instance : Term → Bool
 is_instance (instance template arguments) = true
 is_instance _ = false
 
--- Behind arguments an M is refused: not all compilers count the name of their template either, and what the arguments name by its
+-- After arguments an M is refused: not all compilers count the name of their template either, and what the arguments name by its
 -- number has been read by then.
 unfoldable pub holder_so_far : Around → (place : ℕ) → State → Going
 holder_so_far around place state = elim (is_instance (prefix_tree around.prefix)) [

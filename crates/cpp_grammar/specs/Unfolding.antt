@@ -24,7 +24,7 @@ last_token nothing digits = digits
 last_token (grown (token t) rest) digits = last_token rest t.own
 last_token (grown part rest) digits = last_token rest digits
 
--- The number of a lambda or an unnamed type has 64 bits. It is tested at its U, before what stands between.
+-- The number of a lambda or an unnamed type has 64 bits. It is tested at its U, before what is between.
 unfoldable pub number_tested : ℕ → List ℕ → State → Result State Refusal
 number_tested place digits state = elim (nat_lt (local_number digits) (2 ^ 64)) [ true ↦ Ok state | false ↦ Err (BadValue place) ]
 
@@ -33,9 +33,9 @@ opening Production.Lambda parts place state = number_tested (place - 1) (last_to
 opening Production.Unnamed parts place state = number_tested (place - 1) (last_token parts []) state
 opening _ parts place state = Ok state
 
--- ## Behind the parts of a production
+-- ## After the parts of a production
 
--- The state behind a production that began in another: types become candidates here, and behind an expansion the length of the
+-- The state after a production that began in another: types become candidates here, and after an expansion the length of the
 -- packs around it holds again.
 unfoldable pub behind : Production → (byte : ℕ) → Around → (began : State) → List Value → State → State
 behind Production.RestrictType byte around began vs state = appended around (tree_of (meaning Production.RestrictType byte around vs)) state

@@ -44,7 +44,7 @@ pub fn abi_trees_stay()
     grown_keeps::<Wide>();
 }
 
-/// The kinds of what comes behind a parameter or a substitution are apart from those of what comes behind other names since
+/// The kinds of what comes after a parameter or a substitution are apart from those of what comes after other names since
 /// [`Wide`](crate::Wide) has no tags there. In [`Abi`](crate::Abi) they have the same trees.
 pub fn no_tags_in_abi()
     ensures arguments { (shape : Tree) → IsTree abi (Kind MAYBE_ARGUMENTS) shape → IsTree abi (Kind ARGUMENTS_ALONE) shape }

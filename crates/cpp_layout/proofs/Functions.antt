@@ -120,7 +120,7 @@ more-other s us ts given c n flat t is other = more-other-of s us ts given c n f
 pub object-whole : (i : PartOf items.Item) (q : values.Qualifiers) (m : values.RefQualifier) → i ∷ (text_part (suffix_of q m false) ++ []) ≡ i ∷ text_part (encoding_text q m)
 object-whole i q m = ap (λ l. i ∷ l) (append-nil (text_part (suffix_of q m false)) ∙ ap text_part (suffix-plain q m))
 
--- behind the text before it
+-- after the text before it
 pub special_name-whole : (t u : List ℕ) (i : PartOf items.Item) (q : values.Qualifiers) (m : values.RefQualifier) → t ≡ u
     → text t ∷ i ∷ (text_part (suffix_of q m false) ++ []) ≡ text u ∷ i ∷ text_part (encoding_text q m)
 special_name-whole t u i q m same = rw same (ap (λ l. text u ∷ i ∷ l) (append-nil (text_part (suffix_of q m false)) ∙ ap text_part (suffix-plain q m)))

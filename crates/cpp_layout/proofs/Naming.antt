@@ -201,7 +201,7 @@ entity-other s us ts given n flat t is other = subst (λ u. u ≡ entity_of u) (
 
 -- ## The last piece
 
--- how many entities a name stands under
+-- how many entities a name is under
 unfoldable pub layers : Term → ℕ
 layers (term.local encoding entity discriminator) = suc (layers entity)
 layers (term.of_default digits entity) = suc (layers entity)

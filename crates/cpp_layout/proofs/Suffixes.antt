@@ -1,4 +1,4 @@
--- The texts behind a function's parameters, by their numbers.
+-- The texts after a function's parameters, by their numbers.
 use Rattle.std.proofs.Common.{◌≡◌, refl, arith, ℕ, ◌+◌, ◌*◌, ◌<◌, length, Bool, true, false}
 use Rattle.cpp_grammar.specs.Parts.{encoding_text, qualifier_text, ref_text}
 use Rattle.cpp_tree.specs.declared.node.Mark.{Mark}

@@ -73,7 +73,7 @@ shown_in ts c t = reargued (tree_if_there ts c.argument) t
 abbrev pub tree_shown : ReadSymbol → Context → (node : ℕ) → Term
 tree_shown y c node = shown_in (trees (table_of y)) c (tree_at (trees (table_of y)) node)
 
--- a type of an encoding, which stands under an argument, if the word says one
+-- a type of an encoding, which is under an argument, if the word says one
 abbrev pub type_shown : ReadSymbol → (under node : ℕ) → Term
 type_shown y under node = reargued (tree_if_there (trees (table_of y)) (under_kept under)) (tree_at (trees (table_of y)) node)
 
@@ -111,7 +111,7 @@ IsOwn _ own = ⊥
 
 -- ## What the arms push
 
--- an item and the text behind it, by a test
+-- an item and the text after it, by a test
 abbrev pub marked : Bool → PartOf items.Item → (if_so if_not : List ℕ) → List (PartOf items.Item)
 marked true i if_so if_not = i ∷ text if_so ∷ []
 marked false i if_so if_not = i ∷ text if_not ∷ []
@@ -126,7 +126,7 @@ abbrev pub text_if : Bool → List ℕ → List (PartOf items.Item) → List (Pa
 text_if true t others = text t ∷ others
 text_if false t others = others
 
--- the qualifiers behind a type: none behind a reference, and with the blank last before a bracket
+-- the qualifiers after a type: none after a reference, and with the blank last before a bracket
 abbrev pub qualifiers_behind : (reference function : Bool) → Qualifiers → List (PartOf items.Item)
 qualifiers_behind true function q = []
 qualifiers_behind false true q = text_part (blank_last (qualifier_text q))
@@ -213,7 +213,7 @@ shown_symbol detail y = answer.shown detail (answer.root_item (whole_of y))
 abbrev pub shown : Detail → List (PartOf items.Item) → Unshared
 shown d others = printed_parts (printed (parts d) rank) (not_empty others)
 
--- The parts that a list was given may come, and are these; the first stands last.
+-- The parts that a list was given may come, and are these; the first comes last.
 pub record Shows (y : ReadSymbol) (d : Detail) (below held : Held Context) (others : List (PartOf items.Item)) : Type 0 where
   pub stacked : Stacked (unshared_of y) (bytes_of_part y) (MayCome (table_of y)) below.items held.items (shown d others)
   pub capacity : held.capacity ≡ below.capacity

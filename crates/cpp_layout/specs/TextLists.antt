@@ -53,7 +53,7 @@ plain_texts =
     codes " auto" ∷
     codes " decltype(auto)" ∷ []
 
--- what stands behind a function's parameters
+-- what follows a function's parameters
 abbrev pub suffix_texts : List (List ℕ)
 suffix_texts =
     codes "" ∷
@@ -105,7 +105,7 @@ suffix_texts =
     codes " const volatile && noexcept" ∷
     codes " const volatile restrict && noexcept" ∷ []
 
--- qualifiers whose blank stands behind them
+-- qualifiers whose blank comes after them
 abbrev pub blanked_texts : List (List ℕ)
 blanked_texts =
     codes "restrict " ∷

@@ -6,7 +6,7 @@ use Rattle.cpp_grammar.specs.Texts.{Naming, builtin_texts, operator_texts, abbre
 use Rattle.cpp_grammar.specs.Parts.{encoding_text}
 use Rattle.cpp_layout.specs.TextLists.{plain_texts, suffix_texts, blanked_texts}
 
--- texts as a table has them, behind others
+-- texts as a table has them, after others
 abbrev pub named_texts : (List ℕ → List ℕ) → List Naming → List (List ℕ) → List (List ℕ)
 named_texts f [] others = others
 named_texts f (n ∷ ns) others = f n.text ∷ named_texts f ns others
@@ -23,7 +23,7 @@ texts = plain_texts ++ (suffix_texts ++ named_texts (λ t. t) builtin_texts (nam
 abbrev pub fixed_text : ℕ → List ℕ
 fixed_text number = elim (slice_get texts number) [ Some text ↦ text | None ↦ [] ]
 
--- ## What stands behind a function's parameters
+-- ## What comes after a function's parameters
 
 unfoldable pub suffix_of : Qualifiers → RefQualifier → (noexcept : Bool) → List ℕ
 suffix_of q m noexcept = encoding_text q m ++ cond noexcept (codes " noexcept") []

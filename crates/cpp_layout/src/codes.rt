@@ -28,7 +28,7 @@ pub(crate) fn is_plain(letter: u8) -> bool
     }
 }
 
-/// The text behind the name of the concept that is asked of a placeholder type, by the last letter of its code.
+/// The text after the name of the concept that is asked of a placeholder type, by the last letter of its code.
 #[tactic(auto, unfolding(cpp_grammar::specs::Parts::placeholder_text))]
 pub(crate) fn placeholder(letter: u8) -> u16
     ensures text { fixed_text result ≡ placeholder_text letter }
@@ -87,7 +87,7 @@ pub fn builtin_with_d_text(letter: u8) -> &'static [u8]
     texts::fixed_text(builtin_with_d(letter))
 }
 
-/// The text of an abbreviation, by the letter behind its S, or none.
+/// The text of an abbreviation, by the letter after its S, or none.
 #[inline(always)]
 pub fn abbreviation_text(letter: u8) -> &'static [u8]
     ensures { result.now ≡ look_up (letter ∷ []) abbreviation_texts }
@@ -102,7 +102,7 @@ pub fn operator_text(first: u8, second: u8) -> &'static [u8]
     texts::fixed_text(operator(first, second))
 }
 
-/// The text before the type of a special name, by the letter behind its T, or none.
+/// The text before the type of a special name, by the letter after its T, or none.
 #[inline(always)]
 pub fn special_text(letter: u8) -> &'static [u8]
     ensures { result.now ≡ look_up (letter ∷ []) special_texts }
@@ -110,7 +110,7 @@ pub fn special_text(letter: u8) -> &'static [u8]
     texts::fixed_text(special(letter))
 }
 
-/// What stands behind the digits of an integer of a builtin type, or nothing.
+/// What comes after the digits of an integer of a builtin type, or nothing.
 #[inline(always)]
 pub fn ending_text(letter: u8) -> &'static [u8]
     ensures { result.now ≡ look_up (letter ∷ []) literal_endings }

@@ -36,7 +36,7 @@ impl Context {
         }
     }
 
-    /// What the types of an encoding are told: they have no index, and stand under the argument that this word says, if it says one.
+    /// What the types of an encoding are told: they have no index, and are under the argument that this word says, if it says one.
     pub fn of_types(detail: Detail, under: u32) -> Context
         ensures { result ≡ record { index = None; detail = detail; argument = under_kept under } }
     {

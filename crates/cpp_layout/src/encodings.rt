@@ -41,7 +41,7 @@ fn thunk_number(thunk: Option<Thunk>) -> u16
     }
 }
 
-/// The number of the text behind a function's parameters.
+/// The number of the text after a function's parameters.
 fn suffix_number(qualifiers: Qualifiers, mark: Mark, noexcept: bool) -> u16
     ensures text { fixed_text result ≡ suffix_of (qualifiers_of qualifiers) (mark_of mark) noexcept }
     ensures some { SUFFIX < result → 0 < length (fixed_text result) }
@@ -54,7 +54,7 @@ fn suffix_number(qualifiers: Qualifiers, mark: Mark, noexcept: bool) -> u16
 }
 
 impl Symbol {
-    /// Adds what stands behind a function's parameters, if that is something.
+    /// Adds what follows a function's parameters, if that is something.
     pub(crate) fn push_suffix<S: PartList<Context>>(
         &self,
         parts: &mut S,

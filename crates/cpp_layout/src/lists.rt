@@ -40,7 +40,7 @@ impl Symbol {
         }
     }
 
-    /// The parts of a list's elements behind others.
+    /// The parts of a list's elements after others.
     pub(crate) fn fill_more<S: PartList<Context>>(
         &self,
         parts: &mut S,
@@ -111,7 +111,7 @@ impl Symbol {
         }
     }
 
-    /// The parts of a node in the form of elements behind others.
+    /// The parts of a node in the form of elements after others.
     pub(crate) fn fill_more_of<S: PartList<Context>>(&self, parts: &mut S, node: u32, ctx: Context)
         requires context { IsThereBelow (length self.now.table.nodes) ctx.argument }
         requires own { is_again (entry_at self.now.table.nodes node).node ≡ false }

@@ -41,7 +41,7 @@ impl Symbol {
         self.push_text_if(parts, value.negative, texts::MINUS);
     }
 
-    /// The parts of an integer behind a cast to its type.
+    /// The parts of an integer after a cast to its type.
     fn fill_cast_integer<S: PartList<Context>>(
         &self,
         parts: &mut S,
@@ -94,7 +94,7 @@ impl Symbol {
         }
     }
 
-    /// An encoding without its return type, behind & or not.
+    /// An encoding without its return type, after & or not.
     // <expr-primary> ::= L <mangled-name> E
     pub(crate) fn fill_encoding_literal<S: PartList<Context>>(
         &self,

@@ -280,7 +280,7 @@ impl Symbol {
         self.push_item(parts, prefix, form::LEFT, 0, ctx);
     }
 
-    /// The parts of a piece behind its prefix.
+    /// The parts of a piece after its prefix.
     fn fill_nested<S: PartList<Context>>(&self, parts: &mut S, node: u32, prefix: u32, ctx: Context)
         requires context { IsThereBelow (length self.now.table.nodes) ctx.argument }
         requires table { IsTable (table_of self.now) }
@@ -322,7 +322,7 @@ impl Symbol {
         }
     }
 
-    /// The entity of a local name. In which default argument it stands isn't shown.
+    /// The entity of a local name. In which default argument it is isn't shown.
     #[inline(always)]
     pub(crate) fn own_entity(&self, entity: u32, ctx: Context) -> Place
         requires table { IsTable (table_of self.now) }

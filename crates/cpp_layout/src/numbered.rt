@@ -61,7 +61,7 @@ pub(crate) fn builtin_with_d(letter: u8) -> u16
     }
 }
 
-/// The text of an abbreviation, behind S.
+/// The text of an abbreviation, after S.
 #[tactic(auto, unfolding(cpp_grammar::specs::Texts::look_up, cpp_grammar::specs::Texts::same_bytes, cpp_grammar::specs::Texts::builtin_texts, cpp_grammar::specs::Texts::operator_texts, cpp_grammar::specs::Texts::abbreviation_texts, cpp_grammar::specs::Texts::special_texts, cpp_grammar::specs::Texts::named_special_texts, cpp_grammar::specs::Texts::literal_endings))]
 pub(crate) fn abbreviation(letter: u8) -> u16
     ensures text { fixed_text result ≡ look_up (letter ∷ []) abbreviation_texts }
@@ -95,7 +95,7 @@ pub(crate) fn last_of_abbreviation(letter: u8) -> u16
     }
 }
 
-/// The text before the type of a special name, behind T.
+/// The text before the type of a special name, after T.
 #[tactic(auto, unfolding(cpp_grammar::specs::Texts::look_up, cpp_grammar::specs::Texts::same_bytes, cpp_grammar::specs::Texts::builtin_texts, cpp_grammar::specs::Texts::operator_texts, cpp_grammar::specs::Texts::abbreviation_texts, cpp_grammar::specs::Texts::special_texts, cpp_grammar::specs::Texts::named_special_texts, cpp_grammar::specs::Texts::literal_endings))]
 pub(crate) fn special(letter: u8) -> u16
     ensures text { fixed_text result ≡ look_up (letter ∷ []) special_texts }
@@ -140,7 +140,7 @@ pub(crate) fn ending(letter: u8) -> u16
     }
 }
 
-/// The letter in front of the last one in the code of a special name of a name.
+/// The letter before the last one in the code of a special name of a name.
 #[tactic(auto, unfolding(cpp_grammar::specs::Texts::special_front))]
 pub fn special_front(letter: u8) -> u8
     ensures { result ≡ special_front letter }

@@ -149,7 +149,7 @@ impl Symbol {
         self.push_item(parts, node, form, 0, Context::closed(detail));
     }
 
-    /// Adds an item of an encoding's types, which stand under the argument that this word says, if it says one.
+    /// Adds an item of an encoding's types, which are under the argument that this word says, if it says one.
     #[inline(always)]
     pub(crate) fn push_typed<S: PartList<Context>>(
         &self,

@@ -25,7 +25,7 @@ use cpp_term::texts_are_the_same;
 use sym_core::Refusal;
 use sym_print::{Detail, Item, Layout, Part, PartList, print};
 
-/// Whether the packs have an element behind this one.
+/// Whether the packs have an element after this one.
 #[tactic(auto, unfolding(cpp_grammar::specs::Parts::is_below))]
 fn has_next(packs: Option<u32>, at: u32) -> bool
     ensures is { result ≡ is_below (at + 1) packs }
@@ -38,7 +38,7 @@ fn has_next(packs: Option<u32>, at: u32) -> bool
 }
 
 impl Symbol {
-    /// Adds an expansion's elements behind one.
+    /// Adds an expansion's elements after one.
     fn push_next<S: PartList<Context>>(&self, parts: &mut S, pattern: u32, at: u32, ctx: Context)
         requires context { IsThereBelow (length self.now.table.nodes) ctx.argument }
         requires table { IsTable (table_of self.now) }

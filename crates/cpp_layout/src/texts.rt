@@ -100,7 +100,7 @@ pub const AUTO: u16 = 46;
 
 pub const DECLTYPE_AUTO: u16 = 47;
 
-/// Where the texts behind a function's parameters begin.
+/// Where the texts after a function's parameters begin.
 pub const SUFFIX: u16 = 48;
 
 /// No text.
@@ -129,7 +129,7 @@ pub const NAMED_SPECIAL: u16 = 191;
 /// Where the endings of integer literals begin.
 pub const ENDING: u16 = 194;
 
-/// Where the qualifiers begin whose blank stands behind them, but for those of no qualifier.
+/// Where the qualifiers begin whose blank comes after them, but for those of no qualifier.
 pub const BLANKED: u16 = 198;
 
 /// The name of an operator that has no code.
@@ -138,7 +138,7 @@ pub const OPERATOR_ALONE: u16 = 206;
 /// How many texts there are.
 pub const COUNT: u16 = 207;
 
-/// A text behind the operators: an abbreviation, a special name, an ending, a qualifier.
+/// A text after the operators: an abbreviation, a special name, an ending, a qualifier.
 #[tactic(auto, unfolding(crate::specs::Texts::fixed_text, cpp_grammar::specs::Texts::builtin_texts, cpp_grammar::specs::Texts::operator_texts, cpp_grammar::specs::Texts::abbreviation_texts, cpp_grammar::specs::Texts::special_texts, cpp_grammar::specs::Texts::named_special_texts, cpp_grammar::specs::Texts::literal_endings))]
 #[inline(always)]
 fn remaining_text(number: u16) -> &'static [u8]
@@ -285,7 +285,7 @@ fn builtin_text(number: u16) -> &'static [u8]
     }
 }
 
-/// What stands behind a function's parameters.
+/// What comes after a function's parameters.
 #[tactic(auto, unfolding(crate::specs::Texts::fixed_text))]
 #[inline(always)]
 fn suffix_text(number: u16) -> &'static [u8]

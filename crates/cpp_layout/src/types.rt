@@ -19,7 +19,7 @@ use sym_core::Span;
 use sym_print::PartList;
 
 impl Symbol {
-    /// The left parts of a type and a text behind them, which is another one behind a function or an array.
+    /// The left parts of a type and a text after them, which is another one after a function or an array.
     pub(crate) fn fill_marked<S: PartList<Context>>(
         &self,
         parts: &mut S,
@@ -139,7 +139,7 @@ impl Symbol {
         self.push_item(parts, element, form::LEFT, 0, ctx);
     }
 
-    /// The left parts of a type and a text behind them.
+    /// The left parts of a type and a text after them.
     pub(crate) fn fill_left_text<S: PartList<Context>>(
         &self,
         parts: &mut S,

@@ -39,24 +39,24 @@ becomes_candidate k =
     || nat_eq k 32 || nat_eq k 33 || nat_eq k 34 || nat_eq k 36 || nat_eq k 51 || nat_eq k 66 || nat_eq k 68 || nat_eq k 80
     || nat_eq k 83 || nat_eq k 87 || nat_eq k 88 || nat_eq k 90 || nat_eq k 91 || nat_eq k 92
 
--- what goes on with the name so far, and arguments behind it
+-- what goes on with the name so far, and arguments after it
 unfoldable pub goes_on : ℕ → Bool
 goes_on k = nat_eq k 17 || nat_eq k 18 || nat_eq k 66 || nat_eq k 68 || nat_eq k 92
 
 unfoldable pub is_arguments : ℕ → Bool
 is_arguments k = nat_eq k 42 || nat_eq k 43 || nat_eq k 67 || nat_eq k 81
 
--- a name with tags in the place of the arguments behind it, which isn't a candidate yet
+-- a name with tags in the place of the arguments after it, which isn't a candidate yet
 unfoldable pub in_place : Value → ℕ
 in_place (named t qualifiers ref) = 1
 in_place _ = 0
 
--- what is pending behind a part with this value
+-- what is pending after a part with this value
 unfoldable pub pending : Sym → Value → ℕ
 pending (OfKind k) v = cond (is_component k) 1 (cond (becomes_candidate k) (unlisted v) (cond (is_arguments k) (in_place v) 0))
 pending _ v = 0
 
--- what is pending in front of it, that it may append
+-- what is pending before it, that it may append
 unfoldable pub pending_around : Sym → Around → Value → ℕ
 pending_around (OfKind k) around v = cond (goes_on k) (unlisted_around around)
     (cond (is_arguments k) (cond (is_there v) (unlisted_around around) 0) 0)
@@ -131,12 +131,12 @@ takes_name Production.NestNext = true
 takes_name Production.NestEnd = true
 takes_name _ = false
 
--- arguments behind it
+-- arguments after it
 unfoldable pub begins_arguments : Production → Bool
 begins_arguments Production.Arguments = true
 begins_arguments _ = false
 
--- what is pending behind a production, and in front of it
+-- what is pending after a production, and before it
 unfoldable pub leaves : Production → Value → ℕ
 leaves p v = cond (makes_name p) 1 (cond (may_leave p) (unlisted v) 0)
 
@@ -145,7 +145,7 @@ starts_with p around = cond (takes_name p) (unlisted_around around) (cond (begin
 
 -- ## From part to part
 
--- behind a part with this value so much is pending, and the rest goes on with it
+-- after a part with this value so much is pending, and the rest goes on with it
 pub record Later (x : Sym) (over : ℕ) (rest : List Value → ℕ → Type 0) (next : Next Value State Around) (v : Value) : Type 0 where
   pub now : ℕ
   pub few : now + pending_around x next.context v ≤ over + pending x v
@@ -157,7 +157,7 @@ pub record Onward (x : Sym) (made now : ℕ) (state : State) (rest : List Value 
   pub few : length next.state.candidates + over ≤ length state.candidates + made + now
   pub later : (v : Value) → Later x over rest next v
 
--- Behind parts with these values so much is pending. Where the production closes, what is appended, and what its value leaves pending,
+-- After parts with these values so much is pending. Where the production closes, what is appended, and what its value leaves pending,
 -- was pending or is made there.
 abbrev pub Flow : Production → Around → (place : ℕ) → List Sym → List Value → (now : ℕ) → Type 0
 Flow p around place [] vs now =
@@ -326,7 +326,7 @@ pub ended : (p : Production) (made now : ℕ) (state : State) (f one : Found Val
 ended p made now state f one e few =
     subst (λ o. length o.state.candidates + leaves p o.value ≤ length state.candidates + made + now) (ok_same f one e) few
 
--- a part before which nothing is appended, and in front of which nothing is pending
+-- a part before which nothing is appended, and before which nothing is pending
 pub quiet : {x : Sym} {made : ℕ} {state : State} {rest : List Value → ℕ → Type 0} (next : Next Value State Around)
     → length next.state.candidates ≤ length state.candidates + made → ((v : Value) → pending_around x next.context v ≡ 0)
     → ((v : Value) → rest (next.values ++ v ∷ []) 0) → Onward x made 0 state rest next
@@ -383,7 +383,7 @@ pub still : (m : Value) (state : State) (one : Found Value State) → ◌≡◌ 
     (Ok one) → one.state ≡ state
 still m state one e = ap (λ o. o.state) (sym (ok_same (found m state) one e))
 
--- what is pending of it behind what may be arguments
+-- what is pending of it after what may be arguments
 unfoldable pub behind_name : ℕ → Value → ℕ
 behind_name n v = cond (is_there v) 0 n + in_place v
 
@@ -476,7 +476,7 @@ same-closes p around place vs w is means = λ byte began state one e. (
     let same : found w state ≡ one = ok_same (found w state) one (sym (means byte began state) ∙ e) in
     omega (arith, ap (λ o. length o.state.candidates) same, ap (λ o. unlisted o.value) same, is one.value))
 
--- behind a name that was made, or one that is a candidate already, what follows goes on with it
+-- after a name that was made, or one that is a candidate already, what follows goes on with it
 pub rest-step : (p : Production) (around : Around) (place k made now : ℕ) (state : State) (vs : List Value) (t : Term) (listed : Bool)
     (new : State)
     → ((a : Around) (v : Value) → pending_around (OfKind k) a v ≡ unlisted_around a) → ((v : Value) → pending (OfKind k) v ≡ unlisted v)

@@ -66,7 +66,7 @@ operator-name-with-c around place =
     (λ v state. refl) (λ v. refl) (λ u w. refl) (λ v. omega arith) (λ byte began vs state one e. still
     (meaning Production.OperatorNameWithC byte around vs) state one e)
 
--- a component behind a c is one that is made
+-- a component after a c is one that is made
 component-with-c : (around : Around) (place : ℕ) → Flow Production.ComponentWithC around place (OfKind COMPONENT_AFTER_C ∷ []) [] 0
 unfolding pending pending_around goes_on is_arguments is_component becomes_candidate between makes_before made_before makes_at_end made_at_end part leaves makes_name meaning close behind
 component-with-c around place = λ state next e. came (going [] around state) next e (record {
@@ -125,7 +125,7 @@ abbreviated-name around place = λ state next e. came (going [] around state) ne
 
 -- ## Types
 
--- a name in std as a type, and tags behind it
+-- a name in std as a type, and tags after it
 tagged-std-type : (around : Around) (place : ℕ) → Flow Production.TaggedStdType around place (OfKind SOURCE_OR_LOCAL ∷ OfKind MAYBE_TAGS ∷ []) [] 0
 unfolding pending pending_around goes_on is_arguments is_component becomes_candidate between named_so_far makes_before made_before makes_at_end name_at_end part leaves makes_name may_leave unlisted close behind
 tagged-std-type around place =
@@ -189,7 +189,7 @@ integer-literal around place = λ state next e. came (going [] around state) nex
   };
 })
 
--- a name is a candidate behind it, or its arguments are one, or it is one already
+-- a name is a candidate after it, or its arguments are one, or it is one already
 spent-behind : (a : Bool) (w : Value) → cond (a && not (is_there w)) 0 1 ≤ one_if_arguments w + behind_name (cond a 0 1) w
 unfolding is_there one_if_arguments one_if_there behind_name in_place
 spent-behind true nothing_there = omega arith
@@ -220,7 +220,7 @@ parameter-type around place = λ state next e. came (going [] around state) next
           later = λ w. record { now = behind_name 0 w; few = spent-or-not 0 w; goes = closes (tree n.own true) w };
         }))
 
--- the same behind its T
+-- the same after its T
 parameter-behind-t : (around : Around) (place : ℕ) → Flow Production.ParameterArgument around place (Number Decimal ∷ OfKind ARGUMENTS_ALONE ∷ []) [] 0
 unfolding pending pending_around unlisted_around goes_on is_arguments is_component becomes_candidate after prefix_listed between makes_before made_before makes_at_end name_at_end part leaves makes_name may_leave unlisted is_listed meaning one_if_there close behind
 parameter-behind-t around place = λ state next e. came (going [] around state) next e

@@ -38,7 +38,7 @@ use Rattle.cpp_link.proofs.CandidatesFlow.{flows}
 
 -- ## Kinds and their productions
 
--- a production of a kind takes no more than is pending in front of the kind, and leaves no less than is pending behind it
+-- a production of a kind takes no more than is pending before the kind, and leaves no less than is pending after it
 unfoldable fits : (k : ℕ) → Production → Bool
 fits k p =
     (not (is_component k) || makes_name p)
@@ -72,7 +72,7 @@ place-small (named t qualifiers ref) = omega arith
 place-small nothing_there = omega arith
 place-small _ = omega arith
 
--- what is pending behind a kind is left by its production
+-- what is pending after a kind is left by its production
 pending-left : (k : ℕ) (p : Production) (v : Value) → fits k p ≡ true → (begins_arguments p ≡ true → in_place v ≡ 0) → pending (OfKind k) v ≤ leaves p v
 unfolding fits pending leaves unlisted
 pending-left k p v h alone_ =
@@ -101,7 +101,7 @@ pending-left k p v h alone_ =
     go false false true false l true few one plain e f h = omega (arith, plain refl)
     go false false true false l false few one plain e f h = absurd (false≢true h)
 
--- what a production begins with is pending in front of its kind
+-- what a production begins with is pending before its kind
 pending-first : (k : ℕ) (p : Production) (around : Around) (v : Value) → fits k p ≡ true → (begins_arguments p ≡ true → is_there v ≡ true)
     → starts_with p around ≤ pending_around (OfKind k) around v
 unfolding fits starts_with pending_around
@@ -170,7 +170,7 @@ rule-taken k byte rule lt takes = go (slice_get kinds k) refl
     go None none = absurd (is_wide_kind k lt none)
     go (Some kind) at = chosen kind at (wide_choose kind byte) refl (sym (wide_rule_at k kind byte at) ∙ takes)
 
--- nothing is pending behind a kind that is empty
+-- nothing is pending after a kind that is empty
 never-empty : (kind : Kind) → not (may_be_empty kind) || not (is_component (number_of_kind kind) || becomes_candidate
     (number_of_kind kind)) ≡ true
 unfolding may_be_empty number_of_kind is_component becomes_candidate
@@ -218,7 +218,7 @@ abbrev AllFew : Forest → Type 0
 AllFew nothing = Unit {0}
 AllFew (grown t f) = TreeFew t × AllFew f
 
--- behind all parts of a production
+-- after all parts of a production
 record Ends (p : Production) (around : Around) (place : ℕ) (state : State) (m now : ℕ) (r : Found (List Value) (Tally State)) : Type 0 where
   left : ℕ
   closes : Flow p around place [] r.value left

@@ -41,7 +41,7 @@ normal_none : normal [] ≡ []
 unfolding normal
 normal_none = refl
 
--- a zero in front of other digits is passed
+-- a zero before other digits is passed
 pub passes_zero : (s : List ℕ) (f t : ℕ) → 1 < t - f → t ≤ length s → nat_eq (get_or s f 0) 48 ≡ true → normal (slice_range s f t) ≡ normal (slice_range s (f + 1) t)
 passes_zero s f t more within zero_is =
     let one = first_byte s f t (omega (arith, more)) within in

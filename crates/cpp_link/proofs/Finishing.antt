@@ -79,7 +79,7 @@ refused_right s old frame own given p e rule known state is production same refu
 
 -- ## How many nodes are made
 
--- they are no more than the rule may add behind its parts
+-- they are no more than the rule may add after its parts
 pub ends_few : (s : List ℕ) (old new : Linked) (frame : Frame Kept) (parts own : List Part) (p : Production) → p ≡ production_at frame.rule → own ≡ drop frame.base parts → 4 ≤ length old.nodes.nodes
     → length new.nodes.nodes ≤ length old.nodes.nodes + ends_of p own → AddsFew (cpp_view s) old new frame parts
 unfolding closes

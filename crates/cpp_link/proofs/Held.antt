@@ -170,7 +170,7 @@ module _ (s : List ℕ) (old mid new : Linked) (frame : Frame Kept) (parts new_p
         (parts_all s new (drop frame.base new_parts) (subst (λ y. AreThere s (length y.nodes) (drop frame.base new_parts)) (sym stored) takes.there)),
   )
 
--- behind arguments it is refused
+-- after arguments it is refused
 pub held_refuses : (s : List ℕ) (old : Linked) (frame : Frame Kept) (parts : List Part) → production_at frame.rule ≡ Production.Holder → length (values_in s old.nodes (drop frame.base parts)) ≡ 1
     → is_instance (prefix_tree (prefix_of (trees_in s old.nodes) (name_of frame.kept))) ≡ true → GoesOn (wide_view s) s (Surrounds s) old old frame parts parts (Err (BadReference frame.place))
 unfolding around_of
@@ -214,7 +214,7 @@ unfolding numbered
 numbered_apart around place number state is =
     ap (λ b. elim b as (λ _. Named) [ true ↦ substituted_wide around place (slice_get state.candidates number) state | false ↦ Err (BadReference place) ]) is
 
--- whether compilers count alike up to a number, by the candidate behind it, or by the last one
+-- whether compilers count alike up to a number, by the candidate after it, or by the last one
 pub alike_by_next : (ts : List Term) (cs : List Candidate) (number : ℕ) (next : Candidate) → AreCounted false cs → slice_get cs (number + 1) ≡ Some next
     → is_counted_alike (candidates_of ts cs) number ≡ not (next.is_apart || next.is_held)
 unfolding is_counted_alike

@@ -22,7 +22,7 @@ module _ (g : Table) where
     answers_below n k zero = true
     answers_below n k (suc byte) = answers n byte (g.rule k byte) && answers_below n k byte
 
-    -- where these parts are left behind n others, the number is that of the next part with a rule
+    -- where these parts are left after n others, the number is that of the next part with a rule
     abbrev pub lands : (n : ℕ) → List Sym → Bool
     lands n (Byte c ∷ ss) = lands (n + 1) ss
     lands n (Kind k ∷ ss) = answers_below n k 256 && (not (g.may_be_empty k) || lands (n + 1) ss)
@@ -65,7 +65,7 @@ module _ (g : Table) where
       landed n (Number kind ∷ ss) (grown (branch r t i) f_) rest known lands_so trees is = absurd trees.0
       landed n (Number kind ∷ ss) (grown (fixed d) f_) rest known lands_so trees is = absurd trees.0
 
-  -- where these parts are left behind n others, this is the number of the next part that is a token
+  -- where these parts are left after n others, this is the number of the next part that is a token
   abbrev pub stops : (m n : ℕ) → List Sym → Bool
   stops m n [] = true
   stops m n (Byte c ∷ ss) = stops m (n + 1) ss

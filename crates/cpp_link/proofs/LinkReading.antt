@@ -275,7 +275,7 @@ module _ (way : NotedWay) (plain_way : IsPlainNoted way) (plain_lambda : IsPlain
       let whole = both_ok ((reading_noted_by way).close o inner.0.value inner.0.state) alone one inner.2 in
       (whole.0.value, values_same (found (whole.0.value ∷ []) whole.0.state) one whole.2)
 
-  -- one part of a lambda behind the values of those before it
+  -- one part of a lambda after the values of those before it
   lambda_part : (taken : List ℕ) (place : ℕ) (context : Around) (before : State) (known : List Value) (at : ℕ) (first : Tree) (rest : Forest) (state : State) (inner : Found (List Value) State)
       → unfold_forest (reading_noted_by way) (lambda_open taken place context before) known at (grown first rest) state ≡ Ok inner
       → (v : Value) × (after : State) × (unfold_forest (reading_noted_by way) (lambda_open taken place context before) (known ++ v ∷ []) (at + length (spell first)) rest after ≡ Ok inner)
@@ -324,7 +324,7 @@ module _ (way : NotedWay) (plain_way : IsPlainNoted way) (plain_lambda : IsPlain
   numbered_plain Production.Unnamed other s = unnamed_closes s
   numbered_plain _ other s = absurd (true≢false other)
 
--- each rule that stands in a symbol closes to the same
+-- each rule that is in a symbol closes to the same
 pub closes_same : (s : List ℕ) → ClosesSame wide s cpp (linked s).close
 unfolding cpp reading_noted_by abi_noted
 closes_same s kind rule taken parts place context before begun inner rest known is at is_begun is_inner =

@@ -1,4 +1,4 @@
--- What comes behind a rule, in terms of the nodes that are there once its own is made.
+-- What comes after a rule, in terms of the nodes that are there once its own is made.
 use Rattle.std.proofs.Common.{◌≡◌, refl, sym, ◌∙◌, ap, subst, ℕ, ◌-◌, ◌<◌, ◌≤◌, List, [], ◌∷◌, length, Option, Result, Ok, Err}
 use Rattle.std.specs.Prelude.{slice_get, IfOk, IfErr, OnOk}
 use Rattle.sym_core.specs.Value.{counted_value}
@@ -33,7 +33,7 @@ same_behind : (p : Production) (byte : ℕ) (later around : Around) (began : Sta
     → behind p byte around began vs (record { candidates = cs; packs = packs }) ≡ behind p byte later began us (record { candidates = ds; packs = then })
 same_behind p byte later around began us vs ds cs then packs context known candidates same = rw (context, known, candidates, same) refl
 
--- the state behind a rule, once its node is made and what becomes a candidate is one
+-- the state after a rule, once its node is made and what becomes a candidate is one
 pub state_behind : (s : List ℕ) (old mid last : Linked) (p : Production) (byte : ℕ) (kept : Kept) (parts : List Part) (candidate packs : Option ℕ) (began : State)
     → ((i : ℕ) → i < length old.nodes.nodes → tree_at (trees_in s mid.nodes) i ≡ tree_at (trees_in s old.nodes) i)
     → IsKeptThere (length old.nodes.nodes) kept → AreThere s (length old.nodes.nodes) parts → AreCandidatesThere (length old.nodes.nodes) old.candidates.items

@@ -112,7 +112,7 @@ none_spelled : (taken : List ℕ) (passed inner : Forest) → length (spell_all 
 none_spelled taken passed inner none nothing_there =
     ap (λ x. taken ++ x) (joined_spell passed inner ∙ ap (λ x. x ++ spell_all inner) (nil_from_length (spell_all passed) none)) ∙ nothing_there
 
--- ## The rule that stands in a symbol
+-- ## The rule that is in a symbol
 
 module _ (s : List ℕ) (l : Linked) (frame : Frame Kept) (own : List Part) (around : Open State Around) (known : List Value) (from : ℕ) (left : Forest) (state : State)
     (is : IsInside (cpp_view s) s l frame own around known from left state) where

@@ -96,7 +96,7 @@ quiet_made s old frame parts held counted less =
           (omega (arith, values_length s (trees_in s old.nodes) (drop frame.base parts), length-drop frame.base parts, counted, less)),
     )
 
--- what a production makes of these parts, the rule of the frame makes of its own
+-- what a production makes of these parts, the frame's rule makes of its own
 pub made_before_part : (s : List ℕ) (old : Linked) (frame : Frame Kept) (parts own : List Part) (p : Production) (made : ℕ) → own ≡ drop frame.base parts → p ≡ production_at frame.rule
     → made ≡ makes_before p (values_in s old.nodes own) → made ≡ makes_before (production_at frame.rule) (values_in s old.nodes (drop frame.base parts))
 made_before_part s old frame parts own p made same numbered is = rw (← same, ← numbered) is
@@ -121,7 +121,7 @@ unfolding makes_before pack_before one_if_there is_there value_of
 pack_made s ts Part.Nothing some = absurd (some refl)
 pack_made s ts _ some = refl
 
--- ## In terms of the rule that stands open
+-- ## In terms of the rule that is open
 
 pub before_read : (s : List ℕ) (old new : Linked) (frame : Frame Kept) (parts : List Part) (result : Result Kept Refusal) → 4 ≤ length old.nodes.nodes
     → OnOk result (length new.nodes.nodes ≡ length old.nodes.nodes + makes_before (production_at frame.rule) (values_in s old.nodes (drop frame.base parts)))

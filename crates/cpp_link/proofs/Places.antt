@@ -85,7 +85,7 @@ there_closes s ts (p ∷ []) there = absurd (false≢true there)
 there_closes s ts (p ∷ Part.Nothing ∷ ps) there = absurd (false≢true there)
 there_closes s ts (p ∷ q ∷ ps) there = lit≤ tt
 
--- ## What stands behind a name
+-- ## What comes after a name
 
 -- neither nothing nor a name in its place: its arguments
 pub record AreArguments (s : List ℕ) (ts : List Term) (t : Term) (p : Part) : Type 0 where
@@ -107,19 +107,19 @@ all-and : (b : Bool) → b && true ≡ b
 all-and true = refl
 all-and false = refl
 
--- a name with nothing behind it
+-- a name with nothing after it
 pub nothing_behind : (s : List ℕ) (ts : List Term) (t : Term) (b : Bool)
     → tree (applied t (value_of s ts Part.Nothing)) (b && not (is_there (value_of s ts Part.Nothing))) ≡ tree t b
 unfolding value_of applied is_there tree_of
 nothing_behind s ts t b = ap (λ c. tree t c) (all-and b)
 
--- a name with one behind it that stands in its place
+-- a name with one after it that takes its place
 pub name_behind : (s : List ℕ) (ts : List Term) (t : Term) (b : Bool) (n : ℕ) (q : Qualifiers) (m : Mark)
     → tree (applied t (value_of s ts (Part.Named n q m))) (b && not (is_there (value_of s ts (Part.Named n q m)))) ≡ tree (tree_at ts n) false
 unfolding value_of applied is_there tree_of
 name_behind s ts t b n q m = ap (λ c. tree (tree_at ts n) c) (none-and b)
 
--- a name with its arguments behind it
+-- a name with its arguments after it
 pub arguments_behind : (s : List ℕ) (ts : List Term) (t : Term) (b : Bool) (p : Part) → AreArguments s ts t p
     → tree (applied t (value_of s ts p)) (b && not (is_there (value_of s ts p))) ≡ tree (instance t (tree_of (value_of s ts p))) false
 arguments_behind s ts t b p a = rw a.instance_of (rw a.there (ap (λ c. tree (instance t (tree_of (value_of s ts p))) c) (none-and b)))

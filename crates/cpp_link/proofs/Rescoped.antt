@@ -1,4 +1,4 @@
--- What the wide reading says of a rule that stands open, in terms of the frame and the nodes.
+-- What the wide reading says of a rule that is open, in terms of the frame and the nodes.
 use Rattle.std.proofs.Common.{◌≡◌, refl, sym, ◌∙◌, ap, subst, arith, ℕ, ◌+◌, ◌-◌, ◌<◌, ◌≤◌, List, [], ◌∷◌, ◌++◌, length, take, drop, Bool, true, false, ◌&&◌, nat_eq, Option, Ok, Err}
 use Rattle.std.specs.Prelude.{Result, OnOk}
 use Rattle.std.proofs.lemmas.List.{length-drop, take-append-drop}

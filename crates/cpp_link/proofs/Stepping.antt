@@ -27,7 +27,7 @@ use Rattle.cpp_link.proofs.Making.{parts_more}
 
 -- ## Nodes that steps make
 
--- a parameter makes its node behind its digits
+-- a parameter makes its node after its digits
 pub parameter_steps : (result : Result Step Refusal) → IfOk result (λ step. IsStepOf Production.Parameter 1 step)
 unfolding made_before
 parameter_steps (Err e) = tt
@@ -71,7 +71,7 @@ step_owed p held (Step.Made node listed is_name is_candidate packs) of = made_ow
 
 -- ## Parts
 
--- the parts behind the first
+-- the parts after the first
 rest_values : (s : List ℕ) (ts : List Term) (base : ℕ) (parts : List Part) → behind_first (values_of s ts (drop base parts)) ≡ values_of s ts (drop (suc base) parts)
 unfolding behind_first values_of
 rest_values s ts zero [] = refl
@@ -85,7 +85,7 @@ rest_there s n zero (p ∷ ps) there = there.1
 rest_there s n (suc base) [] there = tt
 rest_there s n (suc base) (p ∷ ps) there = rest_there s n base ps there
 
--- the tree that is the first part now is there with those behind it
+-- the tree that is the first part now is there with those after it
 first_there : (s : List ℕ) (n base : ℕ) (parts new_parts : List Part) (node : ℕ) (listed : Bool) → AreThere s n (drop base parts) → node < n
     → drop base new_parts ≡ Part.Tree node listed ∷ drop (base + 1) parts → AreThere s n (drop base new_parts)
 first_there s n base parts new_parts node listed there less own =
@@ -131,7 +131,7 @@ takes_go s old new kept base parts candidate then packs table same candidates ar
   is = same_going _ _ _ _ _ _ (ap (λ y. values_in s y (drop base parts)) (sym same)) (ap (λ y. around_of (trees_in s y) then) (sym same)) is;
 }
 
--- the first part is a tree that is there, and stands before the next one
+-- the first part is a tree that is there, and comes before the next one
 pub takes_named : (s : List ℕ) (l : Linked) (kept then : Kept) (base : ℕ) (parts new_parts : List Part) (node : ℕ) (listed is_name : Bool)
     → IsTable (over s l.nodes) → AreCandidatesThere (length l.nodes.nodes) l.candidates.items
     → AreThere s (length l.nodes.nodes) (drop base parts) → node < length l.nodes.nodes

@@ -18,7 +18,7 @@ parts_are s l (p ∷ ps) (v ∷ vs) are = let rest = parts_are s l ps vs are.1 i
 parts_are s l [] (v ∷ vs) are = absurd are
 parts_are s l (p ∷ ps) [] are = absurd are
 
--- the parts of a rule that stands open are there
+-- the parts of a rule that is open are there
 pub open_there : (s : List ℕ) (l : Linked) (frame : Frame Kept) (parts own : List Part) → IsOpenAt (cpp_view s) s l frame parts → own ≡ drop frame.base parts
     → AreThere s (length l.nodes.nodes) own
 open_there s l frame parts own o same =
@@ -29,6 +29,6 @@ unfolding values_of
 parts_all s l [] there = tt
 parts_all s l (p ∷ ps) there = (record { there = there.0; is = refl }, parts_all s l ps there.1)
 
--- no parameter is free in the arguments that are named where a rule stands open
+-- no parameter is free in the arguments that are named where a rule is open
 pub kept_closed : (s : List ℕ) (l : Linked) (kept : Kept) (around : Around) → Surrounds s l kept around → IsClosed (around_of (trees_in s l.nodes) kept)
 kept_closed s l kept around surrounds = subst (λ a. IsClosed a) (sym surrounds.is) surrounds.closed

@@ -1,4 +1,4 @@
--- What is said of a language in which what is linked stands within something, or in which another reading is followed, by what is
+-- What is said of a language in which what is linked is within something, or in which another reading is followed, by what is
 -- said of the language without.
 use Rattle.std.proofs.Common.{ℕ, List, drop}
 use Rattle.std.specs.Prelude.{Result}

@@ -29,7 +29,7 @@ use Rattle.cpp_link.specs.ClosesLaws.{name_one, closes_owed}
 
 -- ## The test
 
--- what a production adds at most where it closes behind so many parts
+-- what a production adds at most where it closes after so many parts
 unfoldable pack_most_at : (held : ℕ) → ℕ
 pack_most_at zero = 1
 pack_most_at (suc held) = owes_of Production.PackArgument (suc held)

@@ -1,11 +1,11 @@
--- How many nodes a rule may add behind these parts where no other part with a row comes: before the parts that have none, and at its end.
+-- How many nodes a rule may add after these parts where no other part with a row comes: before the parts that have none, and at its end.
 use Rattle.std.specs.Prelude.{ℕ, ◌+◌, List, [], ◌∷◌, length}
 use Rattle.cpp_grammar.specs.declared.production.Production.{Production}
 use Rattle.cpp_grammar.specs.Unfolding.{production_at}
 use Rattle.cpp_link.specs.declared.part.Part.{Part}
 use Rattle.cpp_link.specs.Owed.{made_at_end, owes_of}
 
--- a name is made behind its own part, and one with its arguments at the end
+-- a name is made after its own part, and one with its arguments at the end
 unfoldable pub name_closes : List Part → ℕ
 name_closes (name ∷ Part.Nothing ∷ parts) = 0
 name_closes _ = 1
@@ -15,7 +15,7 @@ unfoldable pub pack_makes : Part → ℕ
 pack_makes Part.Nothing = 0
 pack_makes _ = 1
 
--- it is made behind them, and a list that it begins at the end
+-- it is made after them, and a list that it begins at the end
 unfoldable pub pack_closes : List Part → ℕ
 pack_closes (elements ∷ []) = pack_makes elements + 1
 pack_closes _ = 1

@@ -1,4 +1,4 @@
--- What a rule may add behind its parts, as they become more.
+-- What a rule may add after its parts, as they become more.
 use Rattle.std.proofs.Common.{◌≡◌, refl, arith, lit≤, ℕ, zero, suc, ◌+◌, ◌≤◌, List, [], ◌∷◌, ◌++◌, length, drop, get_or, length-append}
 use Rattle.cpp_grammar.specs.declared.production.Production.{Production}
 use Rattle.cpp_link.specs.declared.part.Part.{Part}
@@ -27,7 +27,7 @@ sum_next [] (suc held) = refl
 sum_next (n ∷ ns) zero = refl
 sum_next (n ∷ ns) (suc held) = sum_next ns held
 
--- a production owes no more behind one part more
+-- a production owes no more after one part more
 pub quiet_owed : (p : Production) (held : ℕ) → owes_of p (suc held) ≤ owes_of p held
 unfolding owes_of
 quiet_owed p held = omega (arith, sum_next (made_before p) held)
@@ -84,7 +84,7 @@ ends_closes Production.PackArgument (elements ∷ []) = omega arith
 ends_closes Production.PackArgument (elements ∷ p ∷ own) = omega arith
 ends_closes p own = end_owed p (length own)
 
--- ## Behind one part more, which is none
+-- ## After one part more, which is none
 
 name_behind : (first part : Part) (rest : List Part) → name_closes ((part ∷ rest) ++ Part.Nothing ∷ []) ≤ name_closes (first ∷ rest)
 unfolding name_closes

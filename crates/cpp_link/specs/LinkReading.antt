@@ -18,7 +18,7 @@ use Rattle.cpp_term.specs.Unfolding.{behind, close, cpp}
 unfoldable pub in_64_bits : ℕ → ℕ
 in_64_bits n = if nat_lt n (2 ^ 64) then n else (2 ^ 64 - 1)
 
--- What a production stands for that begins at a place: a suffix is so many bytes from there on, one more than those behind its
+-- What a production stands for that begins at a place: a suffix is so many bytes from there on, one more than those after its
 -- first, and the number of a lambda or an unnamed type has 64 bits.
 unfoldable pub link_meaning : List ℕ → Production → (byte place : ℕ) → Around → List Value → Value
 link_meaning s Production.Suffix byte place around vs = text (take (length (text_of (part vs 0)) + 1) (drop place s))
@@ -34,7 +34,7 @@ link_close s Production.Substitution byte around place began vs state = close Pr
 link_close s production byte around place began vs state =
     Ok (found (link_meaning s production byte place around vs) (behind production byte around began vs state))
 
--- no lambda and no unnamed type stands at the first place
+-- no lambda and no unnamed type is at the first place
 unfoldable pub link_begin : Open State Around → Forest → Result State Refusal
 link_begin rule parts = if nat_eq rule.place 0 then Ok rule.before else cpp.begin rule parts
 

@@ -67,11 +67,11 @@ unfoldable pub is_holder : Production → Bool
 is_holder Production.Holder = true
 is_holder _ = false
 
--- before the part behind these a name becomes a candidate with its M
+-- before the part after these a name becomes a candidate with its M
 abbrev pub names_holder : Production → (held : ℕ) → Bool
 names_holder p held = is_holder p && nat_eq held 1
 
--- before the part behind these a parameter of a lambda is named
+-- before the part after these a parameter of a lambda is named
 abbrev pub names_generic : Production → (in_lambda : Bool) → (held : ℕ) → Bool
 names_generic p in_lambda held = in_lambda && is_parameter p && nat_eq held 1
 

@@ -6,7 +6,7 @@ use Rattle.cpp_grammar.specs.Grammar.{number_of}
 unfoldable pub at_least : (least held : ℕ) → ℕ
 at_least least held = elim (nat_lt held least) [ true ↦ least | false ↦ held ]
 
--- behind a fixed byte, if that is next
+-- after a fixed byte, if that is next
 unfoldable pub over : (byte held : ℕ) → ℕ
 over byte held = elim (nat_eq held byte) [ true ↦ byte + 1 | false ↦ held ]
 
@@ -14,7 +14,7 @@ over byte held = elim (nat_eq held byte) [ true ↦ byte + 1 | false ↦ held ]
 unfoldable pub is_mark : ℕ → Bool
 is_mark rule = nat_eq rule (number_of Production.Mark)
 
--- a list of arguments, or a tag, behind which they may stand
+-- a list of arguments, or a tag, which they may follow
 unfoldable pub is_list : ℕ → Bool
 is_list rule = nat_eq rule (number_of Production.Arguments) || nat_eq rule (number_of Production.Tag)
 
@@ -34,11 +34,11 @@ nested_mark byte = elim (nat_eq byte 114) [
   | false ↦ elim (nat_eq byte 86) [ true ↦ 1 | false ↦ elim (nat_eq byte 75) [ true ↦ 2 | false ↦ 3 ] ]
 ]
 
--- V and K: which of the marks behind a type's r it is
+-- V and K: which of the marks after a type's r it is
 unfoldable pub type_mark : ℕ → ℕ
 type_mark byte = elim (nat_eq byte 86) [ true ↦ 0 | false ↦ 1 ]
 
--- behind fixed bytes
+-- after fixed bytes
 unfoldable pub behind_bytes : Production → (held : ℕ) → ℕ
 behind_bytes Production.Symbol held = at_least 1 held
 behind_bytes Production.EncodingLiteral held = at_least 1 held

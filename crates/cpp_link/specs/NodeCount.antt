@@ -24,12 +24,12 @@ use Rattle.cpp_link.specs.View.{cpp_view}
 unfoldable pub one_if_there : Value → ℕ
 one_if_there v = if is_there v then 1 else 0
 
--- One node if there are arguments: a name with tags, which stands in the place of another, is made already.
+-- One node if there are arguments: a name with tags, which takes the place of another, is made already.
 unfoldable pub one_if_arguments : Value → ℕ
 one_if_arguments (named t qualifiers ref) = 0
 one_if_arguments v = one_if_there v
 
--- A name in std is made behind its piece, and once more behind its arguments, if it has some.
+-- A name in std is made after its piece, and once more after its arguments, if it has some.
 unfoldable pub std_before : List Value → ℕ
 std_before (name ∷ []) = 1
 std_before (name ∷ arguments ∷ []) = one_if_arguments arguments

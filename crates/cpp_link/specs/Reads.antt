@@ -32,7 +32,7 @@ unfoldable pub instance_node : Node → Bool
 instance_node (Node.Instance template arguments) = true
 instance_node _ = false
 
--- the first element and the others of a list that has some, and the argument under which both stand
+-- the first element and the others of a list that has some, and the argument under which both are
 unfoldable pub cell_under : Node → Option ℕ → Option Split
 cell_under (Node.Cell first rest) under = Some (record { first = first; rest = rest; under = under })
 cell_under _ under = None
@@ -63,7 +63,7 @@ with_candidate around ts (Some n) state = appended around (tree_at ts n) state
 
 -- ## Steps
 
--- the values behind the first
+-- the values after the first
 unfoldable pub behind_first : List Value → List Value
 behind_first [] = []
 behind_first (v ∷ vs) = vs
@@ -76,7 +76,7 @@ unfoldable pub appended_if : Bool → Around → Term → State → State
 appended_if false around t state = state
 appended_if true around t state = appended around t state
 
--- what a step comes to, before a part that this surrounds, behind these values
+-- what a step comes to, before a part that this surrounds, after these values
 unfoldable pub goes_on : List ℕ → Stored → Kept → List Value → List values.Candidate → Option ℕ → Step → Going
 goes_on s y kept vs cs before (Step.Go candidate then packs) =
     Ok (record { values = vs; context = around_of (trees_in s y) then; state = with_candidate (around_of (trees_in s y) kept) (trees_in s y) candidate (record { candidates = cs; packs = packs }) })

@@ -26,7 +26,7 @@ LacksRoom old new =
     ⊎ (old.nodes.thunk_room < length new.nodes.thunks + 1)
     ⊎ (vec_capacity old.candidates < length new.candidates.items + 1)
 
--- A call on these parts has as much room behind it as before, and answers `Memory` only where a list had no room.
+-- A call on these parts has as much room after it as before, and answers `Memory` only where a list had no room.
 pub record IsRoomy {A : Type 0} (old new : Linked) (parts new_parts : Vec Part Global) (result : Result A Refusal) : Type 0 where
   pub keeps : KeepsRoom old new
   pub capacity : vec_capacity parts ≤ vec_capacity new_parts

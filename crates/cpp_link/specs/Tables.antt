@@ -50,7 +50,7 @@ quiet_parts Production.ValueOf = 0
 quiet_parts Production.OfConcept = 0
 quiet_parts _ = 5
 
--- parts without a row may stand between those with one
+-- parts without a row may be between those with one
 unfoldable pub skips_parts : Production → Bool
 skips_parts Production.Symbol = true
 skips_parts Production.EncodingLiteral = true

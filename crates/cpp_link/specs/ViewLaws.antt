@@ -68,7 +68,7 @@ cpp_laws s = record {
       record { closed = at_once.closed; refused = at_once.refused };
 }
 
--- the symbol's nodes go on one behind the other
+-- the symbol's nodes go on one after the other
 pub cpp_threads : (s : List ℕ) → IsThreading (cpp_view s)
 unfolding cpp
 cpp_threads s = record {

@@ -23,7 +23,7 @@ fn at_least(least: usize, held: usize) -> usize
     if held < least { least } else { held }
 }
 
-/// Behind a fixed byte, if that is next.
+/// After a fixed byte, if that is next.
 #[tactic(auto, unfolding(crate::specs::Next::over))]
 fn over(byte: usize, held: usize) -> usize
     requires { byte < 5 }
@@ -40,7 +40,7 @@ fn is_mark(rule: u16) -> bool
     rule == Production::Mark as u16
 }
 
-/// Whether the rule is a list of arguments, or a tag, behind which they may stand.
+/// Whether the rule is a list of arguments, or a tag, which they may follow.
 #[tactic(auto, unfolding(crate::specs::Next::is_list, cpp_grammar::specs::Grammar::number_of))]
 fn is_list(rule: u16) -> bool
     ensures { result ≡ is_list rule }
@@ -79,7 +79,7 @@ fn nested_mark(byte: u8) -> usize
     }
 }
 
-/// Which of the marks behind a type's `r` it is: `V` or `K`.
+/// Which of the marks after a type's `r` it is: `V` or `K`.
 #[tactic(auto, unfolding(crate::specs::Next::type_mark))]
 fn type_mark(byte: u8) -> usize
     ensures { result ≡ type_mark byte }
@@ -170,7 +170,7 @@ fn part_count(number: u16) -> usize
     }
 }
 
-/// Whether parts without a row may stand between those of the production with a number.
+/// Whether parts without a row may be between those of the production with a number.
 #[inline(always)]
 fn skips_parts(number: u16) -> bool
     ensures { result ≡ skips_parts (production_at number) }
@@ -194,7 +194,7 @@ fn next_of(number: u16, held: usize, rule: u16, byte: u8) -> usize
 }
 
 impl Linked {
-    /// The number of the next part of the rule of the frame that has a row: a rule's, of which so many parts have begun.
+    /// The number of the next part with a row in the frame's rule: a rule's, of which so many parts have begun.
     #[inline(always)]
     pub fn next_rule(
         &self,
@@ -210,7 +210,7 @@ impl Linked {
         next_of(frame.rule, held, row.rule, symbol[row.from as usize])
     }
 
-    /// The number of the next part of the rule of the frame that has a row: a token's, of which so many parts have begun.
+    /// The number of the next part with a row in the frame's rule: a token's, of which so many parts have begun.
     #[inline(always)]
     pub fn next_token(&self, symbol: &[u8], frame: &Frame<Kept>, held: usize) -> usize
         ensures { IsAheadToken (cpp_view symbol.now) symbol.now self.now frame.now held result }
@@ -218,7 +218,7 @@ impl Linked {
         token_part(production_of(frame.rule), held)
     }
 
-    /// The number of the parts of the rule of the frame, where no row is left.
+    /// How many parts the frame's rule has, once no rows remain.
     #[inline(always)]
     pub fn count_parts(&self, symbol: &[u8], frame: &Frame<Kept>, held: usize) -> usize
         ensures { IsCount (cpp_view symbol.now) symbol.now self.now frame.now held result }

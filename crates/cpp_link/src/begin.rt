@@ -74,7 +74,7 @@ impl Linked {
         if !is_numbered(production_of(row.rule)) {
             return Ok(kept);
         }
-        // the `U` stands in front, so no such rule is a symbol's first
+        // the `U` comes first, so no such rule is a symbol's first
         let Some(at) = row.from.checked_sub(1) else {
             return Ok(kept);
         };

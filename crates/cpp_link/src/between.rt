@@ -123,7 +123,7 @@ impl Linked {
         Ok(number)
     }
 
-    /// What surrounds the part behind a tree that has been made.
+    /// What surrounds the part after a tree that has been made.
     #[tactic(auto, unfolding(crate::specs::Reads::named_if))]
     #[inline(always)]
     fn behind_if(&self, is_name: bool, kept: Kept, node: u32, listed: bool) -> Kept
@@ -199,7 +199,7 @@ impl Linked {
         }
     }
 
-    /// Does what is to be done before the next part of the rule of the frame, which is of this production, and answers what
+    /// Does what is to be done before the next part of the frame's rule, which is of this production, and answers what
     /// surrounds that part.
     ///
     /// # Errors
@@ -231,8 +231,8 @@ impl Linked {
         Ok(then)
     }
 
-    /// The same for productions that are rare: its code is that of all of them, and clears the room for the nodes of each at
-    /// each call.
+    /// The same for rare productions: one body serves all of them, and zeroes the room for the nodes of each on
+    /// every call.
     ///
     /// # Errors
     ///
@@ -305,7 +305,7 @@ impl Linked {
         }
     }
 
-    /// What is done before the next part of the rule of the frame, and what surrounds that part.
+    /// What is done before the next part of the frame's rule, and what surrounds that part.
     ///
     /// # Errors
     ///

@@ -165,7 +165,7 @@ impl Linked {
         self.keep(symbol, production, place, kept, parts, meant)
     }
 
-    /// What a production that is common closes to, that begins at a place, with these parts.
+    /// What a common production that begins at a place closes to, with these parts.
     ///
     /// # Errors
     ///
@@ -206,7 +206,7 @@ impl Linked {
         }
     }
 
-    /// What a production that is rare closes to, that begins at a place, with these parts.
+    /// What a rare production that begins at a place closes to, with these parts.
     ///
     /// # Errors
     ///
@@ -245,7 +245,7 @@ impl Linked {
         self.keep(symbol, production, place, kept, parts, meant)
     }
 
-    /// The rule of the frame closes, of this production, over all its parts: what it means takes their place.
+    /// The frame's rule closes, of this production, over all its parts: what it means takes their place.
     ///
     /// # Errors
     ///
@@ -282,8 +282,8 @@ impl Linked {
         Ok(())
     }
 
-    /// The same for productions that are rare: its code is that of all of them, and clears the room for the nodes of each at
-    /// each call.
+    /// The same for rare productions: one body serves all of them, and zeroes the room for the nodes of each on
+    /// every call.
     ///
     /// # Errors
     ///
@@ -320,7 +320,7 @@ impl Linked {
         Ok(())
     }
 
-    /// The rule of the frame closes over all its parts: what it means takes their place. The productions that are common
+    /// The frame's rule closes over all its parts: what it means takes their place. The productions that are common
     /// have code of their own.
     ///
     /// # Errors

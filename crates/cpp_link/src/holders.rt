@@ -54,7 +54,7 @@ fn is_instance_node(node: Node) -> bool
     }
 }
 
-/// The number behind this one, if it has 64 bits at most.
+/// The number after this one, if it has 64 bits at most.
 fn next_number(counted: Option<u64>) -> Option<u64>
     ensures { (k : ℕ) → MatchOption counted (2 ^ 64 ≤ k) (λ v. v ≡ k) → MatchOption result (2 ^ 64 ≤ k + 1) (λ v. v ≡ k + 1) }
 {
@@ -129,7 +129,7 @@ impl Linked {
     ///
     /// # Errors
     ///
-    /// `BadReference` at the `M` behind arguments, `Memory` where a list couldn't grow.
+    /// `BadReference` at the `M` after arguments, `Memory` where a list couldn't grow.
     pub fn go_holder(
         &mut self,
         symbol: &[u8],

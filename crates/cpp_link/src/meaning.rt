@@ -76,8 +76,8 @@ fn qualified(restrict: bool, volatile: bool, const_: bool, ty: u32) -> Meant
 }
 
 impl Linked {
-    /// What a production that is rare stands for, that begins at a place, given its parts. This code takes room for the parts of
-    /// each.
+    /// What a rare production that begins at a place stands for, given its parts. The stack frame has room for the locals of
+    /// every arm.
     #[tactic(auto, unfolding(crate::specs::LinkReading::link_meaning, cpp_term::specs::Meaning::meaning, cpp_term::specs::Meaning::qualified_by, cpp_term::specs::Meaning::listed_value, cpp_term::specs::Meaning::function_of, cpp_term::specs::Meaning::with_item, cpp_term::specs::Values::tree_of, cpp_term::specs::Values::is_there, crate::specs::Parts::around_of, crate::specs::Parts::meant_value, crate::specs::Parts::value_of, cpp_tree::specs::Nodes::tree_of, cpp_tree::specs::Nodes::piece_of, cpp_tree::specs::Nodes::thunk_of, cpp_tree::specs::Nodes::adjustment_of, crate::specs::Owed::made_at_end, crate::specs::Closes::ends_of, crate::specs::Making::nodes_of_meant, crate::specs::NodeCount::makes_at_end))]
     #[inline(never)]
     pub fn meant_rare(
@@ -169,7 +169,7 @@ impl Linked {
             ),
             // <special-name> ::= GV <object name> | GTt <encoding> | GTn <encoding>
             Production::OtherSpecial => Meant::Given(self.given(symbol, parts, 1)),
-            // <special-name> ::= GTt <encoding> | GTn <encoding>, behind the G
+            // <special-name> ::= GTt <encoding> | GTn <encoding>, after the G
             Production::Clone => made(
                 Node::CloneOf {
                     letter: self.letter(symbol, parts, 0),
@@ -261,9 +261,9 @@ impl Linked {
             Production::Complex => made(Node::Complex(self.tree(symbol, parts, 0)), false),
             // <array-type> ::= A <number> _ <element type> | A <expression> _ <element type>
             Production::ArrayType => Meant::Given(self.given(symbol, parts, 0)),
-            // <array-type>, behind the A
+            // <array-type>, after the A
             Production::AnyArray => Meant::Given(self.given(symbol, parts, 0)),
-            // <array-type> ::= A <number> _ <element type>, behind the A
+            // <array-type> ::= A <number> _ <element type>, after the A
             Production::LengthArray => made(
                 Node::Array {
                     digits: normal(symbol, self.text(symbol, parts, 0)),
@@ -271,7 +271,7 @@ impl Linked {
                 },
                 false,
             ),
-            // <array-type> ::= A <template-param> _ <element type>, behind the A
+            // <array-type> ::= A <template-param> _ <element type>, after the A
             Production::BoundedArray => made(
                 Node::Bounded {
                     bound: self.tree(symbol, parts, 0),
@@ -335,13 +335,13 @@ impl Linked {
             ),
             // <template-arg> ::= <template-param> [<template-args>] | <template-param-decl> <template-arg>
             Production::ArgumentWithT => tree(self.tree(symbol, parts, 0), true),
-            // <template-param> ::= T_ | T <parameter number> _, behind the T
+            // <template-param> ::= T_ | T <parameter number> _, after the T
             Production::ParameterArgument => self.applied(symbol, parts, true),
-            // <template-arg> ::= <template-param-decl> <template-arg>, behind the T
+            // <template-arg> ::= <template-param-decl> <template-arg>, after the T
             Production::DeclaredArgument => tree(self.tree(symbol, parts, 1), true),
             // <template-arg> ::= <expr-primary>
             Production::OneLiteral => Meant::Given(self.given(symbol, parts, 0)),
-            // <template-arg> ::= J <template-arg>* E, behind a <template-param-decl>
+            // <template-arg> ::= J <template-arg>* E, after a <template-param-decl>
             Production::OnePack => made(Node::Pack(self.list(symbol, parts, 0)), true),
             // <template-param-decl> ::= Ty
             Production::AnyType => Meant::Given(Part::Letter(byte)),
@@ -357,17 +357,17 @@ impl Linked {
             Production::Declarations => Meant::Given(Part::Letter(byte)),
             // X <expression> E
             Production::Expression => Meant::Given(self.given(symbol, parts, 0)),
-            // <expression> ::= ad <expression>, behind the a
+            // <expression> ::= ad <expression>, after the a
             Production::AddressExpression => Meant::Given(self.given(symbol, parts, 1)),
             // <expression> ::= <template-param>
             Production::ParameterExpression => Meant::Given(self.given(symbol, parts, 0)),
-            // <type> ::= R <type>, a parameter, and those behind it
+            // <type> ::= R <type>, a parameter, and those after it
             Production::LvalueItem => items(
                 self.tree(symbol, parts, 0),
                 self.tree(symbol, parts, 1),
                 self.reference(symbol, parts, 1),
             ),
-            // <type> ::= O <type>, a parameter, and those behind it
+            // <type> ::= O <type>, a parameter, and those after it
             Production::RvalueItem => items(
                 self.tree(symbol, parts, 0),
                 self.tree(symbol, parts, 1),
@@ -412,7 +412,7 @@ impl Linked {
             Production::LocalTypeName => self.applied(symbol, parts, false),
             // <unqualified-name> ::= <operator-name>, perhaps with <template-args>
             Production::OperatorName => self.applied(symbol, parts, false),
-            // <unqualified-name> ::= <operator-name>, within a nested name, without a c in front and behind one
+            // <unqualified-name> ::= <operator-name>, within a nested name, without a c in front and after one
             Production::OtherOperatorName => self.applied(symbol, parts, false),
             Production::OperatorNameWithC => self.applied(symbol, parts, false),
             Production::ComponentWithC => Meant::Given(self.given(symbol, parts, 0)),
@@ -577,7 +577,7 @@ impl Linked {
         }
     }
 
-    /// What a production that is common stands for, that begins at a place, given its parts.
+    /// What a common production that begins at a place stands for, given its parts.
     #[tactic(auto, unfolding(cpp_term::specs::Meaning::meaning, cpp_term::specs::Meaning::qualified_by, cpp_term::specs::Meaning::listed_value, cpp_term::specs::Meaning::function_of, cpp_term::specs::Meaning::with_item, cpp_term::specs::Values::tree_of, cpp_term::specs::Values::is_there, crate::specs::Parts::around_of, crate::specs::Parts::meant_value, crate::specs::Parts::value_of, cpp_tree::specs::Nodes::tree_of, cpp_tree::specs::Nodes::piece_of, cpp_tree::specs::Nodes::thunk_of, cpp_tree::specs::Nodes::adjustment_of, crate::specs::Owed::made_at_end, crate::specs::Closes::ends_of, crate::specs::Making::nodes_of_meant, crate::specs::NodeCount::makes_at_end))]
     #[inline(always)]
     pub fn meant(

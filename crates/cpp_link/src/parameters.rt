@@ -18,7 +18,7 @@ use cpp_references::parameters::named_parameter;
 use sym_core::{Refusal, Span};
 
 impl Linked {
-    /// What a parameter names by these digits, and the length of the packs behind it.
+    /// What a parameter names by these digits, and the length of the packs after it.
     ///
     /// # Errors
     ///

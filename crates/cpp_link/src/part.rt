@@ -74,13 +74,13 @@ pub enum Step {
         then: Kept,
         packs: Option<u32>,
     },
-    /// A node that is there is what the first part is now. It may stand before the next part as the name so far.
+    /// A node that is there is what the first part is now. It may come before the next part as the name so far.
     Named {
         node: u32,
         listed: bool,
         is_name: bool,
     },
-    /// A node is made, which the first part is now. It may stand before the next part as the name so far, and become a candidate.
+    /// A node is made, which the first part is now. It may come before the next part as the name so far, and become a candidate.
     Made {
         node: Node,
         listed: bool,
@@ -90,7 +90,7 @@ pub enum Step {
     },
 }
 
-/// What comes behind a rule: a tree that becomes a candidate or none, and the length of the packs.
+/// What comes after a rule: a tree that becomes a candidate or none, and the length of the packs.
 #[derive(Clone, Copy)]
 pub struct Behind {
     pub candidate: Option<u32>,

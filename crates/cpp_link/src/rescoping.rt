@@ -1,5 +1,5 @@
 // What is linked of a symbol by the wide grammar: in a lambda's signature parameters are the lambda's own, such a lambda is a piece of
-// its own, and a substitution stands for its tree with the arguments that are meant where it stands.
+// its own, and a substitution stands for its tree with the arguments that are meant where it is.
 
 ghost use Rattle.std.specs.Prelude.{◌≡◌, ℕ, ◌+◌, ◌-◌, ◌<◌, ◌≤◌, ◌^◌, ◌∷◌, ◌++◌, [], MatchOption, ◌&&◌, ◌||◌, List, length, drop, true, Ok, IfOk, IfErr, OnOk};
 ghost use Rattle.sym_core.specs.Value.{counted_value};
@@ -122,7 +122,7 @@ pub fn is_lambda_production(production: Production) -> bool
 }
 
 impl Linked {
-    /// The parameter of the lambda in whose signature it stands, with these digits (ABI 5.1.8). It may be an argument itself.
+    /// The parameter of the lambda in whose signature it is, with these digits (ABI 5.1.8). It may be an argument itself.
     #[tactic(auto, unfolding(crate::specs::LinkRescoping::generic_read, cpp_term::specs::Rescoping::generic_so_far, cpp_term::specs::Between::listed_so_far, crate::specs::Reads::goes_on, crate::specs::Reads::behind_first, crate::specs::Reads::named_if, crate::specs::Reads::appended_if, cpp_tree::specs::Nodes::tree_of))]
     fn generic(&self, symbol: &[u8], kept: Kept, digits: Span, is_argument: bool) -> Step
         requires table { IsTable (over symbol.now self.now.nodes) }
@@ -282,7 +282,7 @@ impl Linked {
         Ok(then)
     }
 
-    /// The rule of the frame, a substitution, closes: what it stands for takes the place of its part.
+    /// The frame's rule, a substitution, closes: what it stands for takes the place of its part.
     ///
     /// # Errors
     ///
@@ -343,7 +343,7 @@ impl Linked {
         }
     }
 
-    /// The rule of the frame, a lambda, closes: what it is takes the place of its parts.
+    /// The frame's rule, a lambda, closes: what it is takes the place of its parts.
     ///
     /// # Errors
     ///

@@ -99,7 +99,7 @@ impl Linked {
         }
     }
 
-    /// The same of a name with a tag, which stands in the place of the name without it.
+    /// The same of a name with a tag, which takes the place of the name without it.
     #[tactic(auto, unfolding(cpp_term::specs::Between::applied, cpp_term::specs::Values::tree_of, cpp_term::specs::Values::is_there, crate::specs::Parts::meant_value, crate::specs::Parts::value_of, cpp_tree::specs::Nodes::tree_of, crate::specs::Making::nodes_of_meant, crate::specs::NodeCount::name_at_end, crate::specs::NodeCount::one_if_arguments, crate::specs::NodeCount::one_if_there))]
     pub fn in_place(&self, symbol: &[u8], parts: &[Part]) -> Meant
         requires table { IsTable (over symbol.now self.now.nodes) }
@@ -198,7 +198,7 @@ impl Linked {
         }
     }
 
-    /// The entity of a local name that stands in a default argument.
+    /// The entity of a local name that is in a default argument.
     #[tactic(auto, unfolding(cpp_term::specs::Meaning::default_entity, crate::specs::Parts::meant_value, crate::specs::Parts::value_of, cpp_tree::specs::Nodes::tree_of, crate::specs::Making::nodes_of_meant))]
     pub fn default_entity(&self, symbol: &[u8], parts: &[Part]) -> Meant
         requires table { IsTable (over symbol.now self.now.nodes) }

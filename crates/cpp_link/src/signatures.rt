@@ -39,7 +39,7 @@ fn is_nil(node: Node) -> bool
     }
 }
 
-/// The first element and the others of a list that has some, and the argument under which both stand.
+/// The first element and the others of a list that has some, and the argument under which both are.
 #[derive(Clone, Copy)]
 pub(crate) struct Split {
     pub first: u32,

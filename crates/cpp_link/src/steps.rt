@@ -256,7 +256,7 @@ impl Linked {
         }
     }
 
-    /// What is done behind a name in std and what may stand behind it: its arguments, or itself with tags.
+    /// What is done after a name in std and what may come after it: its arguments, or itself with tags.
     #[tactic(auto, unfolding(cpp_term::specs::Between::named_so_far, cpp_term::specs::Between::applied, cpp_term::specs::Values::tree_of, cpp_term::specs::Values::is_there, cpp_tree::specs::Nodes::tree_of, crate::specs::Parts::value_of, crate::specs::Reads::goes_on, crate::specs::Reads::behind_first, crate::specs::Reads::named_if, crate::specs::Reads::appended_if, crate::specs::Owed::made_before, crate::specs::NodeCount::one_if_arguments, crate::specs::NodeCount::one_if_there))]
     fn std_name(&self, symbol: &[u8], name: u32, behind: Part) -> Step
         requires table { IsTable (over symbol.now self.now.nodes) }
@@ -378,7 +378,7 @@ impl Linked {
                 kept.prefix(),
                 self.piece_in(symbol, first),
             )),
-            // an operator's name within a nested one, behind its c or without one
+            // an operator's name within a nested one, after its c or without one
             Production::OtherOperatorName => self.named(self.extended(
                 symbol,
                 kept.prefix(),
@@ -687,7 +687,7 @@ impl Linked {
         }
     }
 
-    /// What is done before the next part of a production that begins at a place, behind these parts.
+    /// What is done before the next part of a production that begins at a place, after these parts.
     ///
     /// # Errors
     ///

@@ -31,7 +31,7 @@ impl Linked {
         then
     }
 
-    /// Behind this name.
+    /// After this name.
     #[tactic(auto, unfolding(crate::specs::Parts::around_of, crate::specs::Parts::prefix_in, crate::specs::Parts::prefix_of, cpp_term::specs::Between::after))]
     #[inline(always)]
     pub(crate) fn behind_name(&self, kept: Kept, node: u32, listed: bool) -> Kept

@@ -300,7 +300,7 @@ pub(crate) const PART_COUNTS: [u8; 145] = [
     2, // LengthArray
 ];
 
-/// Whether parts without a row may stand between those of each.
+/// Whether parts without a row may be between those of each.
 pub(crate) const SKIPS_PARTS: [bool; 145] = [
     false, // Mark
     false, // InternalName

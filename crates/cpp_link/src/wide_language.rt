@@ -26,14 +26,14 @@ use sym_link::language::{Frame, Linking};
 use sym_link::threads::{Threading, close_by, enter_by, token_by};
 use sym_shape::rule::Row;
 
-/// Whether before the part behind so many a parameter of a lambda is named.
+/// Whether before the part after so many a parameter of a lambda is named.
 fn names_generic(production: Production, kept: Kept, held: usize) -> bool
     ensures { result ≡ names_generic production (is_lambda kept.scope) held }
 {
     kept.in_lambda() && is_parameter(production) && held == 1
 }
 
-/// Whether before the part behind so many a name becomes a candidate with its `M`.
+/// Whether before the part after so many a name becomes a candidate with its `M`.
 fn names_holder(production: Production, held: usize) -> bool
     ensures { result ≡ names_holder production held }
 {

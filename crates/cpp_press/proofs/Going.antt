@@ -125,7 +125,7 @@ ended-goes {y} {ns} {first = first} {new = new} {count = count} {tasks = tasks} 
           ∙ g.spelled;
     }
 
--- ## The first turn, and behind the last
+-- ## The first turn, and after the last
 
 pub first-goes : {y : ReadSymbol} {ns : List ℕ} {first : Likeness → Option ℕ} {count : ℕ} {tasks : List Task} {out : List ℕ}
     → ((q : Likeness) → first q ≡ None) → count ≡ 0 → AreTasks y tasks

@@ -1,4 +1,4 @@
--- Keys of nodes, and what a map of them is behind one more.
+-- Keys of nodes, and what a map of them is after one more.
 use Rattle.std.proofs.Common.{◌≡◌, ℕ, zero, suc, ◌+◌, ◌<◌, ◌≤◌, length, take, slice_get, List, [], ◌∷◌, ◌++◌, get_or, Option, Some, None, Bool, true, refl, ap, arith, sym, subst, ◌∙◌, length-append, Ordering}
 use Rattle.std.specs.Prelude.{map}
 use Rattle.std.specs.List.{All}

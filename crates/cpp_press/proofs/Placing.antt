@@ -142,7 +142,7 @@ like-at a b = by (is_eq (likeness_cmp a b)) (like a b) refl refl
     by false true h k = alike k ∙ sym k
     by false false h k = h ∙ sym k
 
--- what is known behind one component more, as the map has it
+-- what is known after one component more, as the map has it
 pub noted-fresh : (old : Likeness → Option ℕ) (one q : Likeness) (count : ℕ) (o new : Option ℕ) → old one ≡ o → is_some o ≡ false → new ≡ cond (is_at (likeness_cmp one) q) (Some count) (old q) → new ≡ noted old one count q
 noted-fresh old one q count None new there none is = is ∙ ap (λ b. cond b (Some count) (old q)) (like-at one q) ∙ sym (ap (λ p. choose p (old q) (like one q) count) there)
 noted-fresh old one q count (Some k) new there none is = absurd (true-false none)

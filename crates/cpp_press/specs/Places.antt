@@ -20,7 +20,7 @@ like a b = nat_eq a.number b.number && nat_eq a.encoding b.encoding
 abbrev pub likeness_cmp : Likeness → Likeness → Ordering
 likeness_cmp a b = ordering_then (nat_cmp a.number b.number) (nat_cmp a.encoding b.encoding)
 
--- what is known of first components behind one more
+-- what is known of first components after one more
 abbrev pub noted : (Likeness → Option ℕ) → (one : Likeness) → (count : ℕ) → Likeness → Option ℕ
 noted first one count q = elim (first one) [ Some number ↦ first q | None ↦ cond (like one q) (Some count) (first q) ]
 
@@ -42,11 +42,11 @@ abbrev pub AreOfNodes : ReadSymbol → List Component → Type 0
 AreOfNodes y [] = Unit {0}
 AreOfNodes y (c ∷ cs) = ((node : ℕ) × (node < length y.table.nodes) × (plain_at y node ≡ c.tree)) × AreOfNodes y cs
 
--- what is written, and a spelling behind it
+-- what is written, and a spelling after it
 abbrev pub behind : List ℕ → Pressed Component → Pressed Component
 behind out one = record { bytes = out ++ one.bytes; components = one.components }
 
--- What is written, and what the tasks will write behind it, are the spelling of a symbol's tree; the components so far are trees of
+-- What is written, and what the tasks will write after it, are the spelling of a symbol's tree; the components so far are trees of
 -- nodes.
 pub record Goes (y : ReadSymbol) (numbers : List ℕ) (whole : Term) (first : Likeness → Option ℕ) (count : ℕ) (tasks : List Task) (out : List ℕ) : Type 0 where
   pub components : List Component

@@ -136,7 +136,7 @@ fn press_tasks(alloc: Global, symbol: &Symbol, numbering: &Numbers) -> Result<Ve
 /// to an earlier one is a reference to the first such one (ABI 5.1.10), and numbers and names have their shortest form.
 /// Symbols of one tree have one pressed spelling; the suffix is part of the tree.
 ///
-/// Components are compared by their numbers, and each repeated one is spelled out at most once where a reference can stand,
+/// Components are compared by their numbers, and each repeated one is spelled out at most once where a reference can be,
 /// however large the tree is.
 ///
 /// # Errors

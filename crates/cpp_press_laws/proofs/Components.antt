@@ -1,6 +1,6 @@
--- What is spelled out, and what stands before it: the lists of components that pressing builds.
+-- What is spelled out, and what comes before it: the lists of components that pressing builds.
 -- Components are apart (`Apart`, an induction over the ways of each tree, with `Growing` and `Sameness`), and so are kept (`Keeping`);
--- pressing a tree whose components stand adds none (`Known`, `KnownTrees`, `NoneAdded`), and a tree that fits adds its own (`Adding`,
+-- pressing a tree whose components are there adds none (`Known`, `KnownTrees`, `NoneAdded`), a tree that fits adds its own (`Adding`,
 -- `AddedWays`, `AddedNames`, `AddedTrees`, with `Parts`, `Encodings`, `Complete` and `Again`); there are few of them (`FewTrees`,
 -- `FewComponents`, `FewPressed`, with `Counting`); and one that is spelled again has a reason (`Repeated`). `Steps` has a reader's
 -- candidates beside them.

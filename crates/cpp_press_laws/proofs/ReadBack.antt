@@ -1,6 +1,6 @@
 -- Each production is read back from its parts: what pressing writes for a tree is read as that tree, where its parts are.
 -- `Reading` says what it means, and has the step that all others take; `Tokens` reads names and numbers; the others go by the sorts
--- of what stands there, from types and names to encodings and whole symbols. Nothing here looks at how a part was spelled: that is
+-- of what is there, from types and names to encodings and whole symbols. Nothing here looks at how a part was spelled: that is
 -- `EveryWay`, which takes these one by one.
 pub mod Tokens
 pub mod Reading

@@ -7,14 +7,14 @@ use Rattle.cpp_press_laws.specs.Pressing.{ways_of, pressed}
 use Rattle.cpp_press_laws.specs.MarkedComponents.{Marked, unmarked}
 use Rattle.cpp_press_laws.specs.MarkedPressing as marked
 
--- ## Where no reference can stand
+-- ## Where no reference can be
 
 -- a template name whose arguments end the name
 abbrev pub IsTemplateOf : Term → (name : Term) → Type 0
 IsTemplateOf own (instance template arguments) = (own ≡ template) ⊎ IsTemplateOf own template
 IsTemplateOf own _ = ⊥
 
--- an encoding's own name stands between N and E where it has letters
+-- an encoding's own name is between N and E where it has letters
 abbrev pub IsTemplateBehindLetters : Term → (name : Term) → (letters : List ℕ) → Type 0
 IsTemplateBehindLetters own name [] = ⊥
 IsTemplateBehindLetters own name (l ∷ ls) = IsTemplateOf own name
@@ -68,7 +68,7 @@ IsNeverReferred own _ = ⊥
 unfoldable pub spelled_components : Term → List Component
 spelled_components t = ((ways_of 0 t).as_encoding 0 []).components
 
--- the same, each with whether it was compared with those before it where it stands
+-- the same, each with whether it was compared with those before it where it is
 unfoldable pub marked_components : Term → List Marked
 marked_components t = ((marked.ways_of 0 t).as_encoding 0 []).components
 

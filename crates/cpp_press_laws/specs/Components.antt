@@ -19,7 +19,7 @@ unfoldable pub components_of : List Candidate → List Component
 components_of [] = []
 components_of (c ∷ cs) = record { tree = c.tree; encoding = c.encoding } ∷ components_of cs
 
--- spellings, whose components stand in the order of their numbers
+-- spellings, whose components are in the order of their numbers
 abbrev pub Spelling : Type 0
 Spelling = spell.Pressing Component
 
@@ -47,7 +47,7 @@ ended encoding own place components = record { bytes = []; components = componen
 unfoldable pub spelled_out : (encoding : ℕ) → Term → Spelling → Spelling
 spelled_out encoding own spelling = spelling and ended encoding own
 
--- one spelling behind a reference to the tree where an equal component stands before, or else another
+-- one spelling after a reference to the tree where an equal component comes before, or else another
 unfoldable pub referred : (encoding : ℕ) → Term → (behind other : Spelling) → Spelling
 referred encoding own behind other place components =
     elim (first_equal encoding own 0 components) [ Some number ↦ (reference number and behind) place components | None ↦ other place components ]

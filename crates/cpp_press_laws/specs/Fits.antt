@@ -1,5 +1,5 @@
--- Where a tree can be spelled so that it is read again: each component stands before or has a spelling where it stands, whose parts
--- have theirs behind the components that are spelled before them. This is `ways_of` once more, way for way.
+-- Where a tree can be spelled so that it is read again: each component comes before or has a spelling where it is, whose parts
+-- have theirs after the components that are spelled before them. This is `ways_of` once more, way for way.
 use Rattle.std.specs.Prelude.{◌≡◌, ℕ, ◌+◌, ◌<◌, ◌⊎◌, length, List, [], ◌∷◌, ◌++◌, Option, Some, None, Bool, true, false, cond, not, ◌&&◌, ◌||◌, ◌^◌, nat_lt, codes}
 use Rattle.sym_core.specs.declared.NumberKind.TheVariants.{Decimal, Digits}
 use Rattle.sym_spell.specs.Pressing.{◌and◌, text}
@@ -23,14 +23,14 @@ use Rattle.cpp_press_laws.specs.Spellable.{IsSpellableName, AreSpellableDigits, 
 abbrev pub PacksFit : Around → (allowed : Option ℕ) → (packs : Option ℕ) → Type 0
 PacksFit around allowed packs = (packs ≡ None) ⊎ ((around.in_expansion ≡ true) × (packs ≡ allowed))
 
--- a tree may be referred to where it stands, if it stands before: one with free parameters not in the signature of a lambda
+-- a tree may be referred to where it is, if it comes before: one with free parameters not in the signature of a lambda
 pub record MayBeReferred (around : Around) (allowed : Option ℕ) (t : Term) : Type 0 where
   pub lambda : is_open t && around.in_lambda ≡ false
   pub packs : PacksFit around allowed (packs_in around.scope t)
 
 -- ## Places
 
--- at a place behind components
+-- at a place after components
 abbrev pub Standing : Type 1
 Standing = (place : ℕ) → List Component → Type 0
 
@@ -38,25 +38,25 @@ Standing = (place : ℕ) → List Component → Type 0
 abbrev pub Fitting : Type 1
 Fitting = Around → (allowed : Option ℕ) → Standing
 
--- behind what a spelling writes
+-- after what a spelling writes
 abbrev pub Behind : Spelling → Standing → Standing
 Behind spelling stands place cs = stands (place + length (spelling place cs).bytes) (spelling place cs).components
 
--- no equal component stands before
+-- no equal component comes before
 abbrev pub IsFirst : Around → Term → List Component → Type 0
 IsFirst around own cs = first_equal around.encoding own 0 cs ≡ None
 
--- a component: it may be referred to, and where no equal one stands before, it can be spelled out
+-- a component: it may be referred to, and where no equal one comes before, it can be spelled out
 abbrev pub as_component : Term → Fitting → Fitting
 as_component own spelled around allowed place cs = MayBeReferred around allowed own × (IsFirst around own cs
     → spelled around allowed place cs)
 
--- a component that has no spelling: an equal one stands before
+-- a component that has no spelling: an equal one comes before
 abbrev pub as_reference : Term → Fitting
 as_reference own = as_component own (λ around allowed place cs. ⊥)
 
--- Before arguments, a template name is a component: they stand behind a reference to it where an equal one stands before, or else
--- behind its spelling, which ends a component.
+-- Before arguments, a template name is a component: they come after a reference to it where an equal one comes before, or else
+-- after its spelling, which ends a component.
 abbrev pub as_template : Term → Fitting → (front : ℕ → Spelling) → (arguments : Fitting) → Fitting
 as_template own spelled front arguments around allowed place cs =
     MayBeReferred around allowed own
@@ -64,11 +64,11 @@ as_template own spelled front arguments around allowed place cs =
     × (IsFirst around own cs → spelled around allowed place cs
     × Behind (front around.encoding and ended around.encoding own) (arguments around allowed) place cs)
 
--- behind fixed bytes
+-- after fixed bytes
 abbrev pub behind_bytes : List ℕ → Fitting → Fitting
 behind_bytes bytes fitting around allowed place cs = fitting around allowed (place + length bytes) cs
 
--- a name of one piece behind a prefix
+-- a name of one piece after a prefix
 abbrev pub one_piece : Prefix → (may : Bool) → Fitting → Fitting
 one_piece prefix may piece around allowed place cs = (around.prefix ≡ prefix) × (may ≡ true) × piece around allowed place cs
 
@@ -77,7 +77,7 @@ unfoldable pub either : Bool → (one other : Type 0) → Type 0
 either true one other = one
 either false one other = other
 
--- ## Where types stand
+-- ## Where types are
 
 -- anywhere; right under qualifiers; as an item of a list; as a parameter of a function type; as the type of a literal
 pub data Slot : Type 0 where
@@ -92,7 +92,7 @@ unfoldable pub takes_all : Slot → Bool
 takes_all literal_type = false
 takes_all _ = true
 
--- qualified types stand under no qualifiers
+-- qualified types are under no qualifiers
 unfoldable pub takes_qualified : Slot → Bool
 takes_qualified bare_type = false
 takes_qualified literal_type = false
@@ -103,7 +103,7 @@ takes_expansions item_type = true
 takes_expansions parameter_type = true
 takes_expansions _ = false
 
--- a builtin type's letter, or the letter behind its D
+-- a builtin type's letter, or the letter after its D
 abbrev pub IsBuiltin : Slot → (code : List ℕ) → Type 0
 IsBuiltin literal_type (b ∷ []) = (b < 256) × (choose Kind.LiteralType b ≡ Some Production.Builtin)
 IsBuiltin slot (b ∷ []) = (b < 256) × (choose Kind.Solid b ≡ Some Production.Builtin)
@@ -124,9 +124,9 @@ pub record NamesArgument (around : Around) (allowed : Option ℕ) (k : ℕ) : Ty
   pub below : nat_lt k (count arguments) ≡ true
   pub packs : PacksFit around allowed (length_if_pack (element arguments k))
 
--- ## Where pieces of names stand
+-- ## Where pieces of names are
 
--- as a type's name, behind St in a type, as the first of a name between N and E, or as a local type's
+-- as a type's name, after St in a type, as the first of a name between N and E, or as a local type's
 unfoldable pub begins_name : Term → Bool
 begins_name (source internal name) = true
 begins_name (lambda parameters k) = true
@@ -138,13 +138,13 @@ unfoldable pub names_type : Term → Bool
 names_type (source internal name) = not internal
 names_type p = begins_name p
 
--- as an encoding's own name, or behind St
+-- as an encoding's own name, or after St
 unfoldable pub names_function : Term → Bool
 names_function (operator a b) = true
 names_function (literal_operator name) = true
 names_function p = begins_name p
 
--- behind a prefix
+-- after a prefix
 unfoldable pub names_member : Term → Bool
 names_member (constructor digit) = true
 names_member (destructor digit) = true
@@ -195,7 +195,7 @@ unfoldable pub names_in : Role → Term → Bool
 names_in in_type p = begins_name p
 names_in (in_name_with q ref) p = names_entity p
 
--- Where a tree can stand in each of its ways. A template name before the arguments that end a prefix, a name between N and E, or an
+-- Where a tree can be in each of its ways. A template name before the arguments that end a prefix, a name between N and E, or an
 -- entity, has a field of its own, since no name that ends in arguments is one.
 pub record Fits : Type 1 where
   pub as_type : Slot → Fitting
@@ -239,7 +239,7 @@ fits_nowhere = record {
   as_elements = λ in_pack. nowhere;
 }
 
--- a component that isn't a name made of pieces: as a prefix and before arguments only a reference to it stands
+-- a component that isn't a name made of pieces: as a prefix and before arguments there is only a reference to it
 unfoldable pub type_fits : Term → (Slot → Fitting) → Fits
 type_fits own spelled = record fits_nowhere {
   as_type = λ slot. as_component own (spelled slot);
@@ -263,12 +263,12 @@ abbrev pub IsWithoutLetters : List ℕ → Type 0
 IsWithoutLetters [] = Unit {0}
 IsWithoutLetters (l ∷ ls) = ⊥
 
--- a name that needs no N without letters, and between N and E behind letters
+-- a name that needs no N without letters, and between N and E after letters
 unfoldable pub by_letters : (letters : List ℕ) → (own between : Fitting) → Fitting
 by_letters [] own between = own
 by_letters (l ∷ ls) own between = behind_bytes (codes "N" ++ l ∷ ls) between
 
--- where a tree can stand
+-- where a tree can be
 unfoldable pub fits_of : Term → Fits
 fits_of (symbol e suffix) = fits_nowhere
 -- encodings: in its own name an encoding gives no scope, and in its types its last arguments are the scope
@@ -309,7 +309,7 @@ fits_of (alone p) = record fits_nowhere {
       (λ n. (ways_of n p).as_piece);
   as_argument = λ in_pack. as_component (alone p) (one_piece outermost (names_type p) (fits_of p).as_piece);
 }
--- a piece behind St; an operator stands between N and E in a type
+-- a piece after St; an operator is between N and E in a type
 fits_of (in_std p) =
     let std : Fitting = λ around allowed place cs. (names_function p ≡ true) × (fits_of p).as_piece around allowed (place + 2) cs in
     let typed_std : Fitting = behind_bytes (elim (is_operator p) [ true ↦ codes "N" | false ↦ [] ]) std in
@@ -325,7 +325,7 @@ fits_of (in_std p) =
           (λ n. text (elim (typed && is_operator p) [ true ↦ codes "N" | false ↦ [] ]) and text (codes "St") and (ways_of n p).as_piece);
       as_argument = λ in_pack. as_component (in_std p) typed_std;
     }
--- a piece behind a prefix; in the scope of an encoding it is the first one of an entity's name
+-- a piece after a prefix; in the scope of an encoding it is the first one of an entity's name
 fits_of (within prefix p) =
     let joined : Fitting = λ around allowed place cs.
     (fits_of prefix).as_prefix around allowed place cs
@@ -378,7 +378,7 @@ fits_of (local e entity discriminator) =
     ((fits_of entity).as_entity role (after e true around) allowed) place cs
     × IsSpellableDiscriminator discriminator in
     record (type_fits (local e entity discriminator) (λ slot. spelled in_type)) { as_name = λ q ref. spelled (in_name_with q ref) }
--- tags are read by the wide grammar alone, but a reference to a name that has one stands where another does
+-- tags are read by the wide grammar alone, but a reference to a name that has one may come where another does
 fits_of (tagged of_structor name tag) = type_fits (tagged of_structor name tag) (λ slot. nowhere)
 fits_of (abbreviation l) =
     let lettered : Fitting = λ around allowed place cs. IsAbbreviation l in

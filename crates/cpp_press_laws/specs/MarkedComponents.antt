@@ -1,5 +1,5 @@
 -- Components that say whether they were compared. Pressing compares a tree with the components before it wherever a reference to one
--- of them can stand; where none can, the tree is spelled out and becomes a component whatever stands before.
+-- of them can be; where none can, the tree is spelled out and becomes a component whatever comes before.
 use Rattle.std.specs.Prelude.{ℕ, List, [], ◌∷◌, ◌++◌, Bool, true, false, codes, Some, None}
 use Rattle.sym_spell.specs.Pressing as spell
 use Rattle.sym_spell.specs.Pressing.{◌and◌, text}
@@ -35,7 +35,7 @@ not_compared = ended false
 unfoldable pub reference : (number : ℕ) → Spelling
 reference number = text (codes "S" ++ seq_id number ++ codes "_")
 
--- one spelling behind a reference to the tree where an equal component stands before, or else another
+-- one spelling after a reference to the tree where an equal component comes before, or else another
 unfoldable pub referred : (encoding : ℕ) → Term → (behind other : Spelling) → Spelling
 referred encoding own behind other place components =
     elim (first_equal encoding own 0 (unmarked components)) [

@@ -7,7 +7,7 @@ use Rattle.cpp_grammar.specs.Term.{RefQualifier, Term, symbol, function, object,
 use Rattle.cpp_press_laws.specs.Texts.{counted, ordinal, signed_text, qualifier_letters, mark_letter, name_letters, special_code, thunk_text, discriminator_text}
 use Rattle.cpp_press_laws.specs.Components.{Spelling, ended, referred, component}
 
--- How a tree is spelled depends on where it stands. So each tree has these ways, of which those count that it can stand in.
+-- How a tree is spelled depends on where it is. So each tree has these ways, of which those count that it can be in.
 pub record Ways : Type 0 where
   -- a type; one right under qualifiers; a prefix; a name between N and E; a piece of a name
   pub as_type : Spelling
@@ -15,12 +15,12 @@ pub record Ways : Type 0 where
   pub as_prefix : Spelling
   pub between_N_and_E : Spelling
   pub as_piece : Spelling
-  -- an encoding, which begins where it stands; its own name, with letters for its qualifiers and its mark
+  -- an encoding, which begins where it is; its own name, with letters for its qualifiers and its mark
   pub as_encoding : Spelling
   pub as_name : (letters : List ℕ) → Spelling
-  -- a template name and the arguments behind it, in a type or in an encoding's own name
+  -- a template name and the arguments after it, in a type or in an encoding's own name
   pub before : (in_type : Bool) → (arguments : Spelling) → Spelling
-  -- an argument of a template; the parameters of a function; those behind the first; elements of a list
+  -- an argument of a template; the parameters of a function; those after the first; elements of a list
   pub as_argument : Spelling
   pub as_parameters : Spelling
   pub as_more_parameters : Spelling
@@ -47,7 +47,7 @@ says bytes = text (codes bytes)
 
 -- ## Types
 
--- a type that has one spelling wherever it stands
+-- a type that has one spelling wherever it is
 unfoldable pub type_ways : Spelling → Ways
 type_ways spelling = record no_ways {
   as_type = spelling;
@@ -73,7 +73,7 @@ with_letters [] own between = own
 with_letters (l ∷ ls) own between = in_N_and_E (l ∷ ls) between
 
 -- A name that isn't local: its spelling as a type, as an encoding's own name without letters, as a prefix and between N and E. An
--- encoding's own name is no component, nor is what stands between N and E as a whole.
+-- encoding's own name is no component, nor is what is between N and E as a whole.
 unfoldable pub name_ways : (encoding : ℕ) → Term → (type own prefix between : Spelling) → (before : Bool → Spelling → Spelling) → Ways
 name_ways encoding name type own prefix between before =
     let typed = component encoding name type in record no_ways {
@@ -108,8 +108,8 @@ is_encoding (construction derived digits parent) = true
 is_encoding (clone letter e) = true
 is_encoding _ = false
 
--- The entity of a local name is one piece behind its encoding, with or without arguments, or stands between N and E. No reference
--- can stand there: a template name is spelled out even where an equal one stands before.
+-- The entity of a local name is one piece after its encoding, with or without arguments, or is between N and E. No reference
+-- can be there: a template name is spelled out even where an equal one comes before.
 unfoldable pub is_one_piece : Term → Bool
 is_one_piece (within prefix p) = is_encoding prefix
 is_one_piece (instance (within prefix p) arguments) = is_encoding prefix

@@ -48,7 +48,7 @@ pub record IsOperator (first second : ℕ) : Type 0 where
   pub means : (around : Around) (place : ℕ) (began s : State)
       → close production first around place began (letter second ∷ []) s ≡ Ok (found (piece (operator first second)) s)
 
--- the bytes behind the first of a suffix: none, or each a byte of suffixes
+-- the bytes after the first of a suffix: none, or each a byte of suffixes
 abbrev pub AreSuffixBytes : List ℕ → Type 0
 AreSuffixBytes [] = Unit {0}
 AreSuffixBytes (b ∷ bs) = (b < 256) × (choose Kind.SuffixMore b ≡ Some Production.SuffixByte) × AreSuffixBytes bs

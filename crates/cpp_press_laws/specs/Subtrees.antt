@@ -1,4 +1,4 @@
--- What is pressed of a part of a symbol is read as that part, behind whatever was spelled before it.
+-- What is pressed of a part of a symbol is read as that part, after whatever was spelled before it.
 use Rattle.std.specs.Prelude.{◌≡◌, ℕ, ◌≤◌, ◌⊎◌, List, [], ◌∷◌, length, true, Option, Some, None, Ok}
 use Rattle.sym_shape.specs.declared.rule.Sym.{Sym}
 use Rattle.sym_shape.specs.declared.rule.Sym.TheVariants.{Kind as OfKind}
@@ -19,7 +19,7 @@ use Rattle.cpp_press_laws.specs.Components.{Component, components_of, Spelling}
 
 -- ## What it means that a spelling is read
 
--- what was written, and the components behind it
+-- what was written, and the components after it
 abbrev pub Written : Type 0
 Written = spell.Pressed Component
 
@@ -31,7 +31,7 @@ abbrev pub IsAllowed : Option ℕ → Option ℕ → Type 0
 IsAllowed allowed packs = (packs ≡ None) ⊎ (packs ≡ allowed)
 
 -- What is written at a place is spelled by a shape of the grammar for a symbol, which is read there as a value with Q, and the
--- components are what may be named behind it.
+-- components are what may be named after it.
 pub record Reads (around : Around) (allowed : Option ℕ) (symbol : Sym) (Q : Value → Type 0) (place : ℕ) (start : State) (w : Written) : Type 0 where
   pub shape : Shape
   pub spelled : spell shape ≡ w.bytes
@@ -43,7 +43,7 @@ pub record Reads (around : Around) (allowed : Option ℕ) (symbol : Sym) (Q : Va
   pub candidates : components_of state.candidates ≡ w.components
   pub packs : IsAllowed allowed state.packs
 
--- at a place behind components, in any state there
+-- at a place after components, in any state there
 abbrev pub ReadsAt : Around → Option ℕ → Sym → (Value → Type 0) → (place : ℕ) → List Component → Written → Type 0
 ReadsAt around allowed symbol Q place components w =
     (s : State) → components_of s.candidates ≡ components → IsAllowed allowed s.packs → Reads around allowed symbol Q place s w
@@ -69,7 +69,7 @@ IsSmall around = (arguments : Term) → around.scope ≡ Some arguments → coun
 
 -- ## The laws
 
--- Each part is read as its tree where it is pressed: at any place, behind any components, in any state in which they are the
+-- Each part is read as its tree where it is pressed: at any place, after any components, in any state in which they are the
 -- candidates, where the tree fits and its numbers have 64 bits.
 abbrev pub IsReadBehind : Kind → Term → (ℕ → Spelling) → Fitting → Type 0
 IsReadBehind kind t spelled fits =
@@ -83,6 +83,6 @@ TypesAreRead = (t : Term) → IsReadBehind Kind.Type t (λ n. (ways_of n t).as_t
 abbrev pub EncodingsAreRead : Type 0
 EncodingsAreRead = (t : Term) → IsReadBehind Kind.Encoding t (λ n. (ways_of n t).as_encoding) (λ around. (fits_of t).as_encoding)
 
--- what a symbol is read as fits from its first byte on, and with it each of its parts where it stands
+-- what a symbol is read as fits from its first byte on, and with it each of its parts where it is
 abbrev pub SymbolsFit : Type 0
 SymbolsFit = (shape : Shape) (t : Term) → IsReadFrom shape t → SymbolFits t

@@ -7,7 +7,7 @@ use Rattle.cpp_grammar.specs.Term.{Qualifiers, RefQualifier, any_value, lvalue_o
 unfoldable pub decimal : ℕ → List ℕ
 decimal n = digits_in 10 decimal_digit 40 n
 
--- a name behind its length (ABI 5.1, `<source-name>`)
+-- a name after its length (ABI 5.1, `<source-name>`)
 unfoldable pub counted : (name : List ℕ) → List ℕ
 counted name = decimal (length name) ++ name
 
@@ -28,7 +28,7 @@ mark_letter any_value = []
 mark_letter lvalue_only = codes "R"
 mark_letter rvalue_only = codes "O"
 
--- what is said of a function behind the N of its name (ABI 5.1, `<nested-name>`)
+-- what is said of a function after the N of its name (ABI 5.1, `<nested-name>`)
 unfoldable pub name_letters : Qualifiers → RefQualifier → List ℕ
 name_letters q ref = qualifier_letters q ++ mark_letter ref
 
@@ -45,7 +45,7 @@ unfoldable pub thunk_text : Thunk → List ℕ
 thunk_text (adjusting a) = codes "T" ++ offset_text a
 thunk_text (covariant a b) = codes "Tc" ++ offset_text a ++ offset_text b
 
--- one digit stands behind one underscore, more stand behind two and before a third (ABI 5.1, `<discriminator>`)
+-- one digit comes after one underscore, more come after two and before a third (ABI 5.1, `<discriminator>`)
 unfoldable pub discriminator_text : Option (List ℕ) → List ℕ
 discriminator_text None = []
 discriminator_text (Some (d ∷ [])) = codes "_" ++ (d ∷ [])

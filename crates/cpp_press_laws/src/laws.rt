@@ -19,8 +19,8 @@ pub fn pressed_once()
     ensures { PressedOnce }
 {}
 
-/// Each type and each encoding is read as itself where it is pressed, at any place behind any components, where it fits there
-/// (`fits_of`): each component stands before or can be spelled out. What a symbol is read as fits from its first byte on. The laws of
+/// Each type and each encoding is read as itself where it is pressed, at any place after any components, where it fits there
+/// (`fits_of`): each component comes before or can be spelled out. What a symbol is read as fits from its first byte on. The laws of
 /// whole symbols follow.
 pub fn subtrees_are_read()
     ensures types { TypesAreRead }
@@ -40,16 +40,16 @@ pub fn trees_are_compared()
     ensures itself { (tree : Term) → same_tree tree tree ≡ true }
 {}
 
-/// A component that was compared with those before it, where it stands, is equal to none of them; with free parameters, to none of its
-/// own encoding. Only a template name can be one that wasn't compared, and only where its arguments end the name of an entity behind
-/// `Z..E`, or an own name with qualifiers or a reference mark: no reference can stand there. What gives the components these marks
+/// A component that was compared with those before it, where it is, is equal to none of them; with free parameters, to none of its
+/// own encoding. Only a template name can be one that wasn't compared, and only where its arguments end the name of an entity after
+/// `Z..E`, or an own name with qualifiers or a reference mark: no reference can be there. What gives the components these marks
 /// spells the pressed spelling, byte by byte.
 pub fn components_are_apart()
     ensures marked { ComponentsAreMarked }
     ensures apart { ComponentsAreApart }
 {}
 
-/// A component whose tree is spelled out already, in whatever encoding, has free parameters or is a template name that stands
+/// A component whose tree is spelled out already, in whatever encoding, has free parameters or is a template name that is
 /// somewhere in the symbol where no reference can.
 pub fn repeated_components_have_reasons()
     ensures { RepeatedComponentsHaveReasons }

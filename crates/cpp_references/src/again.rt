@@ -8,7 +8,7 @@ ghost use Rattle.cpp_references.specs.Around.{trees_in, tree_of_node};
 use cpp_tree::Nodes;
 use cpp_tree::node::{Node, Placed};
 
-/// A node that isn't there again, and the argument under which its parts stand.
+/// A node that isn't there again, and the argument under which its parts are.
 #[derive(Clone, Copy)]
 pub struct OpenedNode {
     pub node: Node,

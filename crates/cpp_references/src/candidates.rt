@@ -71,7 +71,7 @@ fn pack_length(nodes: &Nodes, symbol: &[u8], node: u32) -> Option<u32>
     nodes.entry(node).packs
 }
 
-/// What a substitution of this candidate names, and the length of the packs behind it.
+/// What a substitution of this candidate names, and the length of the packs after it.
 ///
 /// # Errors
 ///
@@ -105,7 +105,7 @@ pub fn substituted(
     }
 }
 
-/// What the substitution whose digits begin at this place names, and the length of the packs behind it.
+/// What the substitution whose digits begin at this place names, and the length of the packs after it.
 ///
 /// # Errors
 ///

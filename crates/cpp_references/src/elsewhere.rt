@@ -35,12 +35,12 @@ fn packs_with(nodes: &Nodes, symbol: &[u8], node: u32, argument: u32) -> Option<
 }
 
 /// The argument here of the one parameter, by its number, that is free in a tree which was made elsewhere, and the length of the
-/// packs behind it.
+/// packs after it.
 ///
 /// # Errors
 ///
-/// `BadReference` where it names no argument of the scope, or where the tree has packs then and stands outside an expansion or
-/// behind packs of another length.
+/// `BadReference` where it names no argument of the scope, or where the tree has packs then and is outside an expansion or
+/// after packs of another length.
 #[tactic(auto, unfolding(crate::specs::References::argument_read, crate::specs::Around::around_of))]
 fn argument_by(
     nodes: &Nodes,
@@ -112,7 +112,7 @@ fn scope_by(
 }
 
 /// The argument that the free parameters of a tree which was made elsewhere have here, or the scope with one for each, and the
-/// length of the packs behind it.
+/// length of the packs after it.
 ///
 /// # Errors
 ///

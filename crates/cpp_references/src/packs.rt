@@ -8,7 +8,7 @@ ghost use Rattle.cpp_references.specs.References.{packs_read};
 
 use sym_core::Refusal;
 
-/// The length of the packs under an expansion, behind a tree that holds packs of this length.
+/// The length of the packs under an expansion, after a tree that holds packs of this length.
 ///
 /// # Errors
 ///

@@ -75,7 +75,7 @@ pub fn argument(nodes: &Nodes, symbol: &[u8], scope: u32, number: u32) -> u32
     nodes.closed_node(symbol, argument)
 }
 
-/// The parameter of these digits with the argument that it names, and the length of the packs behind it.
+/// The parameter of these digits with the argument that it names, and the length of the packs after it.
 ///
 /// # Errors
 ///

@@ -90,7 +90,7 @@ again-tree y i t a table less is =
 
 -- ## Functions
 
--- under what the types of a function stand isn't seen
+-- under what the types of a function are isn't seen
 pub function-spelled : (y : ReadSymbol) (here : ℕ) (node : Node) (name returned parameters under : ℕ) (q : Qualifiers) (m : Mark) (rest : Spelling) → node ≡ Node.Function name q m returned parameters under
     → ◌≡◌ {A = Spelling} (in_way here (Way.Name q m) (plain_at y name) onto in_way here Way.Type (plain_at y returned) onto in_way here Way.Parameters (plain_at y parameters) onto rest) (encoding_onto here (node_tree y node) rest)
 unfolding encoding_onto erase tree_of in_way

@@ -1,4 +1,4 @@
--- Trees that are spelled out, each onto what stands behind it.
+-- Trees that are spelled out, each onto what follows it.
 use Rattle.std.specs.Prelude.{ℕ, ◌-◌, List, [], ◌∷◌, ◌++◌, Bool, true, false, cond, ◌&&◌, ◌||◌, codes, Option}
 use Prim.Native.String.{String}
 use Rattle.cpp_grammar.specs.Term.{Qualifiers, RefQualifier, any_value, Term, symbol, function, object, special, thunk, of_name, construction, clone, alone, in_std, within, instance, local, holder, tagged, abbreviation, parameter, source, operator, literal_operator, constructor, destructor, lambda, unnamed, string_literal, conversion, builtin, sized_float, vendor, pointer, lvalue, rvalue, array, member_pointer, function_type, qualified, vector, complex, expansion, integer, boolean, null_pointer, encoding_literal, address_of, pack, nil, list}
@@ -60,7 +60,7 @@ plain_name_onto n _ rest = rest
 abbrev pub lettered_onto : (n : ℕ) → (letters : List ℕ) → (name : Term) → Spelling → Spelling
 lettered_onto n letters name rest = written letters onto in_way n Way.Between name onto fixed "E" onto rest
 
--- one piece behind an encoding
+-- one piece after an encoding
 unfoldable pub is_piece_behind : Term → Bool
 is_piece_behind (within prefix p) = is_encoding prefix
 is_piece_behind _ = false

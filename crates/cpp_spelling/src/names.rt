@@ -40,7 +40,7 @@ fn is_encoding(node: Node) -> bool
     node.is_encoding()
 }
 
-/// Whether a name is one piece behind an encoding.
+/// Whether a name is one piece after an encoding.
 #[tactic(auto, unfolding(crate::specs::Spelled::is_piece_behind, cpp_term::specs::Erased::erase, cpp_tree::specs::Nodes::tree_of, cpp_tree::specs::Nodes::is_again))]
 fn is_piece_behind(symbol: &Symbol, name: u32) -> bool
     requires table { IsTable (table_of symbol.now) }
@@ -53,7 +53,7 @@ fn is_piece_behind(symbol: &Symbol, name: u32) -> bool
     }
 }
 
-/// Whether an entity is one piece behind its encoding, with arguments or without.
+/// Whether an entity is one piece after its encoding, with arguments or without.
 #[tactic(auto, unfolding(cpp_press_laws::specs::Pressing::is_one_piece, cpp_term::specs::Erased::erase, cpp_tree::specs::Nodes::tree_of, cpp_tree::specs::Nodes::is_again))]
 fn is_one_piece(symbol: &Symbol, entity: u32) -> bool
     requires table { IsTable (table_of symbol.now) }
@@ -142,7 +142,7 @@ pub fn then_in_std(symbol: &Symbol, piece: Piece, encoding: u64, tasks: &mut Vec
     then_fixed(symbol, b"St", tasks);
 }
 
-/// A piece behind its prefix (ABI 5.1.3, `<prefix> ::= <prefix> <unqualified-name>`).
+/// A piece after its prefix (ABI 5.1.3, `<prefix> ::= <prefix> <unqualified-name>`).
 pub fn then_within(symbol: &Symbol, prefix: u32, piece: Piece, encoding: u64, tasks: &mut Vec<Task>)
     requires prefix { prefix < length symbol.now.table.nodes }
     requires piece { IsPieceMade symbol.now piece }
@@ -157,7 +157,7 @@ pub fn then_within(symbol: &Symbol, prefix: u32, piece: Piece, encoding: u64, ta
     then_tree(symbol, prefix, Way::Prefix, encoding, tasks);
 }
 
-/// A name in which another one stands (ABI 5.1.3, `<nested-name> ::= N .. <prefix> <unqualified-name> E`).
+/// A name in which another one is (ABI 5.1.3, `<nested-name> ::= N .. <prefix> <unqualified-name> E`).
 pub fn then_nested(symbol: &Symbol, prefix: u32, piece: Piece, encoding: u64, tasks: &mut Vec<Task>)
     requires prefix { prefix < length symbol.now.table.nodes }
     requires piece { IsPieceMade symbol.now piece }
@@ -271,7 +271,7 @@ fn then_plain_name(symbol: &Symbol, node: Node, encoding: u64, tasks: &mut Vec<T
     }
 }
 
-/// A name behind an N that may have letters (ABI 5.1.3, `<nested-name> ::= N [<CV-qualifiers>] [<ref-qualifier>] .. E`).
+/// A name after an N that may have letters (ABI 5.1.3, `<nested-name> ::= N [<CV-qualifiers>] [<ref-qualifier>] .. E`).
 fn then_lettered(symbol: &Symbol, letters: Text, name: u32, encoding: u64, tasks: &mut Vec<Task>)
     requires letters { IsThere symbol.now letters }
     requires name { name < length symbol.now.table.nodes }

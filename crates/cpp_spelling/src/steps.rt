@@ -24,7 +24,7 @@ use sym_core::Refusal;
 /// How a tree stands to the components before it.
 #[derive(Clone, Copy)]
 pub enum Standing {
-    /// It isn't compared with them where it stands.
+    /// It isn't compared with them where it is.
     Apart,
     /// It is equal to the first of this number.
     Known(u64),
@@ -32,7 +32,7 @@ pub enum Standing {
     Fresh,
 }
 
-/// How a compared tree stands, by the number of the first component that it is equal to.
+/// How a compared tree is, by the number of the first component that it is equal to.
 #[tactic(auto, unfolding(crate::specs::Standings::compared))]
 pub fn compared(first: Option<u64>) -> Standing
     ensures { result ≡ compared first }

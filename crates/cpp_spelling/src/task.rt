@@ -13,7 +13,7 @@ use cpp_layout::Symbol;
 use cpp_tree::node::{Mark, Qualifiers};
 use sym_core::Refusal;
 
-/// How a tree is spelled, by the place where it stands.
+/// How a tree is spelled, by the place where it is.
 #[derive(Clone, Copy)]
 pub enum Way {
     Type,

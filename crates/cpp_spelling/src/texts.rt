@@ -14,7 +14,7 @@ use cpp_tree::node::{Adjustment, Mark, Qualifiers, Signed, Thunk};
 use sym_core::{Refusal, Span};
 use sym_spell::push_digits;
 
-/// Bytes of a spelling in which no tree stands.
+/// Bytes of a spelling in which no tree is.
 #[derive(Clone, Copy)]
 pub enum Text {
     Fixed(&'static [u8]),
@@ -22,7 +22,7 @@ pub enum Text {
     Pair(u8, u8),
     /// Fixed bytes, and a number that is counted from 0.
     Ordinal(&'static [u8], u64),
-    /// Fixed bytes, and a name behind its length.
+    /// Fixed bytes, and a name after its length.
     Counted(&'static [u8], Span),
     /// Fixed bytes, digits, and an underscore.
     Digits(&'static [u8], Span),
@@ -42,7 +42,7 @@ pub enum Text {
     Reference(u64),
 }
 
-/// A letter where it is to stand.
+/// A letter where it is to be.
 fn push_letter_if(stands: bool, letter: u8, out: &mut Vec<u8>) -> Result<(), Refusal>
     ensures letter { OnOk result (out.new.items ≡ out.old.items ++ cond stands (letter ∷ []) []) }
     ensures memory { IfErr result (λ e. e ≡ Memory) }
@@ -93,7 +93,7 @@ fn push_ordinal(before: &[u8], number: u64, out: &mut Vec<u8>) -> Result<(), Ref
     Ok(())
 }
 
-/// Bytes and a name behind its length (ABI 5.1.2, `<source-name> ::= <number> <identifier>`).
+/// Bytes and a name after its length (ABI 5.1.2, `<source-name> ::= <number> <identifier>`).
 fn push_counted(before: &[u8], name: &[u8], out: &mut Vec<u8>) -> Result<(), Refusal>
     ensures name { OnOk result (out.new.items ≡ out.old.items ++ (before.now ++ counted name.now)) }
     ensures memory { IfErr result (λ e. e ≡ Memory) }

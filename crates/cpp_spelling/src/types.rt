@@ -49,7 +49,7 @@ fn is_component(node: Node) -> bool
     }
 }
 
-/// Whether a tree is compared with others where it stands. A function type right under qualifiers isn't.
+/// Whether a tree is compared with others where it is. A function type right under qualifiers isn't.
 #[tactic(auto, unfolding(crate::specs::Spelled::is_component, crate::specs::Spelled::is_function_type, cpp_term::specs::Erased::erase, cpp_tree::specs::Nodes::tree_of, cpp_tree::specs::Nodes::is_again))]
 pub fn is_compared(way: Way, node: Node) -> bool
     requires own { is_again node ≡ false }
@@ -67,7 +67,7 @@ pub fn is_compared(way: Way, node: Node) -> bool
     }
 }
 
-/// A type behind a letter (ABI 5.1.5).
+/// A type after a letter (ABI 5.1.5).
 fn then_behind(
     symbol: &Symbol,
     letters: &'static [u8],
@@ -169,7 +169,7 @@ fn then_compound(symbol: &Symbol, node: Node, encoding: u64, tasks: &mut Vec<Tas
     }
 }
 
-/// A name that is a type (ABI 5.1.5, `<class-enum-type> ::= <name>`): behind St an operator needs an N.
+/// A name that is a type (ABI 5.1.5, `<class-enum-type> ::= <name>`): after St an operator needs an N.
 #[tactic(auto, unfolding(crate::specs::Spelled::class_onto, cpp_term::specs::Erased::erase, cpp_tree::specs::Nodes::tree_of, cpp_tree::specs::Nodes::is_again, crate::specs::Weight::weight, crate::specs::Bytes::text_bytes))]
 fn then_class(symbol: &Symbol, node: Node, encoding: u64, tasks: &mut Vec<Task>)
     requires table { IsTable (table_of symbol.now) }
@@ -291,7 +291,7 @@ fn then_argument(symbol: &Symbol, node: Node, encoding: u64, tasks: &mut Vec<Tas
     }
 }
 
-/// The parameters behind the first (ABI 5.1.5.3, `<bare-function-type> ::= <signature type>+`).
+/// The parameters after the first (ABI 5.1.5.3, `<bare-function-type> ::= <signature type>+`).
 #[tactic(auto, unfolding(crate::specs::Spelled::more_parameters_onto, cpp_term::specs::Erased::erase, cpp_tree::specs::Nodes::tree_of, cpp_tree::specs::Nodes::is_again, crate::specs::Weight::weight, crate::specs::Bytes::text_bytes))]
 fn then_more_parameters(symbol: &Symbol, node: Node, encoding: u64, tasks: &mut Vec<Task>)
     requires own { is_again node ≡ false }
@@ -425,7 +425,7 @@ fn then_encoding(symbol: &Symbol, node: Node, here: u64, tasks: &mut Vec<Task>)
     }
 }
 
-/// A tree spelled out in one of its ways. What is written next stands at the place `here`.
+/// A tree spelled out in one of its ways. What is written next is at the place `here`.
 pub fn then_spelled(
     symbol: &Symbol,
     node: u32,

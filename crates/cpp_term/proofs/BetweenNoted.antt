@@ -1,4 +1,4 @@
--- What is done between and behind the parts of a production, annotated.
+-- What is done between and after the parts of a production, annotated.
 use Rattle.std.proofs.Common.{◌≡◌, refl, ap, sym, ◌∙◌, subst, ℕ, ◌-◌, List, [], ◌∷◌, Bool, true, false, slice_get, Option, Some, None, Result, Ok, Err, ◌&&◌, nat_lt, ◌⊎◌, inl, inr}
 use Rattle.std.proofs.lemmas.Bool.{false≢true}
 use Rattle.sym_core.specs.declared.refusal.Refusal.{Refusal}
@@ -34,7 +34,7 @@ use Rattle.cpp_term.proofs.Notes.{both, open_noted, closed_noted}
 use Rattle.cpp_term.proofs.MeaningNoted.{structor_noted, part_noted, tree_noted, piece_noted, text_noted, letter_noted, listed_noted, items_noted, applied_noted, text_part_, extended_noted, prefix_tree_noted, Inside, lambda_noted, meaning_noted}
 use Rattle.cpp_term.proofs.StatesNoted.{IsOutside, Settled, own_place, Alike, alike_bind, Same, Moves, moves_none, one_moves, type_moves, unqualified_moves, prefix_moves, Comes, get_noted, substituted_noted, wide_numbered_noted, held_moves, parameter_noted}
 
--- what stands inside has the same scope, or none
+-- what is inside has the same scope, or none
 abbrev pub InScope : Around → Around → Type 0
 InScope around inner = ((inner.scope ≡ around.scope) × (inner.in_lambda ≡ around.in_lambda)) ⊎ ((inner.scope ≡ None) × (inner.in_lambda ≡ true))
 
@@ -266,7 +266,7 @@ between_noted own Production.Special around place vs x y stays packs = absurd st
 between_noted own Production.OtherSpecial around place vs x y stays packs = absurd stays
 between_noted own _ around place vs x y stays packs = same_goes own around x y vs packs
 
--- ## Behind a production
+-- ## After a production
 
 made_moves : (own : Bool) (production : Production) (byte : ℕ) (around : Around) (vs : List Value) (x : State) (y : value_.State) → Inside production vs → y.packs ≡ x.packs →
     Moves own around x y (appended around (tree_of (meaning production byte around vs)) x)
@@ -427,7 +427,7 @@ wide_between_noted Production.Holder around place (v ∷ []) x y stays settled p
 wide_between_noted Production.Holder around place (v ∷ w ∷ vs) x y stays settled packs = between_noted true Production.Holder around place (v ∷ w ∷ vs) x y stays packs
 wide_between_noted p around place vs x y stays settled packs = between_noted true p around place vs x y stays packs
 
--- a lambda is told apart alike, and what stands in its signature is under its own parameters
+-- a lambda is told apart alike, and what is in its signature is under its own parameters
 lambda_with_noted : (s : Place) (t : Term) (number : ℕ) → wide_.lambda_with (annotate in_own t) number ≡ annotate s (lambda_with t number)
 unfolding lambda_with wide_.lambda_with annotate
 lambda_with_noted s t number = go (is_open t) (scope_.is_open (annotate in_own t)) (open_noted in_own t) refl

@@ -120,7 +120,7 @@ nameless_ at vs state = record { context = in_name at; values = vs; state = stat
 
 -- ## Encodings among the parts of a production
 
--- the values behind the parts so far are those of the next parts
+-- the values after the parts so far are those of the next parts
 abbrev Keeps : Way → Production → Type 0
 Keeps way p = (around : Around) (place : ℕ) (vs : List Value) (state : State) (n : Next Value State Around) → way.between p around place vs state ≡ Ok n → n.values ≡ vs
 

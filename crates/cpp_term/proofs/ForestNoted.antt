@@ -27,7 +27,7 @@ use Rattle.cpp_term.proofs.StatesNoted.{Settled, Alike, alike_bind, Same, Moves,
 use Rattle.cpp_term.proofs.BetweenNoted.{InScope, parts_place, Goes}
 use Rattle.cpp_term.proofs.NotedWays.{NotedWay, reading_noted_by, IsNotedBy}
 
--- ## From a part to what it stands in, and back
+-- ## From a part to what it is in, and back
 
 pub cancel : (xs as_ bs : List Candidate) → xs ++ as_ ≡ xs ++ bs → as_ ≡ bs
 cancel [] as_ bs e = e
@@ -113,7 +113,7 @@ value_closed s r _ h = refl
 
 -- ## Trees and forests
 
--- a tree of a kind of special names: these stand where nothing is named
+-- a tree of a kind of special names: these are where nothing is named
 unfoldable pub is_special : Sym → Bool
 is_special (OfKind k) = is_special_kind k
 is_special _ = false
@@ -142,11 +142,11 @@ alike_map R Q (Err e) (Err d) f r = r
 alike_map R Q (Ok a) (Err d) f r = absurd r
 alike_map R Q (Err e) (Ok b) f r = absurd r
 
--- a rule that stands, annotated
+-- a rule that is there, annotated
 abbrev pub noted_open : (own : Bool) → Open State Around → value_.State → Open value_.State value_.Around
 noted_open own rule first = record { rule = rule.rule; taken = rule.taken; place = rule.place; context = noted_around own rule.context; before = first }
 
--- a part's values, where they stand in a part of their own
+-- a part's values, where they are in a part of their own
 outer_values : (own : Bool) (s : Place) (inner : Around) (r : Found (List Value) State) (end : ℕ) (old : State) → (around_place own inner ≡ s) ⊎ ((inner.scope ≡ None) × (own ≡ false)) → TreeComes own inner end old r →
     noted_values (around_place own inner) r.value ≡ noted_values s r.value
 unfolding noted_values

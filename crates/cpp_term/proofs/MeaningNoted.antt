@@ -287,7 +287,7 @@ encoding_noted s name _ = three term_.object (tree_noted nowhere name) (qualifie
 
 -- ## Meanings
 
--- the parts of a production that are encodings, or stand in one, have no free parameters; the values of an encoding's own parts have two scopes
+-- the parts of a production that are encodings, or are in one, have no free parameters; the values of an encoding's own parts have two scopes
 abbrev pub Inside : Production → List Value → Type 0
 Inside Production.Symbol vs = is_open (tree_of (part vs 1)) ≡ false
 Inside Production.SpecialType vs = is_open (tree_of (part vs 0)) ≡ false

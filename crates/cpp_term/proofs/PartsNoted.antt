@@ -21,7 +21,7 @@ unfolding noted_parts
 noted_append [] ys = refl
 noted_append (x ∷ xs) ys = ap (λ ps. noted_part x ∷ ps) (noted_append xs ys)
 
--- two lists of parts, one behind the other
+-- two lists of parts, one after the other
 joins : (xs ys : List (PartOf Item)) (us ws : List (PartOf item_.Item)) → us ≡ noted_parts xs → ws ≡ noted_parts ys → us ++ ws ≡ noted_parts (xs ++ ys)
 joins xs ys us ws e g = both (λ ps qs. ps ++ qs) e g ∙ sym (noted_append xs ys)
 

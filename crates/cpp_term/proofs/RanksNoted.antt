@@ -149,7 +149,7 @@ float_falls : (r : ℕ) (digits : List ℕ) (end : ℕ) → RanksBelow rank r (f
 unfolding float_parts
 float_falls r digits end = falls_choice r (nat_eq end 98) _ _ tt (falls_choice r (nat_eq end 120) _ _ tt tt)
 
--- the entity of a local name weighs no more than what it stands in
+-- the entity of a local name weighs no more than what it is in
 entity_weight : (c : Context) (entity : Term) → weight_in c (entity_of entity) ≤ weight_in c entity
 unfolding entity_of weight_in weight
 entity_weight c (of_default digits entity) = omega arith

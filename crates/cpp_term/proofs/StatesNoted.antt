@@ -41,7 +41,7 @@ alike_bind R Q (Err e) (Ok b) f g r next = absurd r
 
 -- ## Candidates
 
--- a candidate with its arguments, for what stands in an encoding
+-- a candidate with its arguments, for what is in an encoding
 pub record IsNoted (own : Bool) (around : Around) (c : Candidate) (d : value_.Candidate) : Type 0 where
   pub encoding : d.encoding ≡ c.encoding
   -- the scope by which it was annotated

@@ -46,7 +46,7 @@ symbol_there : wide.may_be_empty 0 ≡ false
 unfolding wide wide_sheet sheet_with kinds may_be_empty
 symbol_there = refl
 
--- the values are one tree, that of an encoding with what stands behind it
+-- the values are one tree, that of an encoding with what follows it
 pub record IsWhole (values : List Value) : Type 0 where
   pub encoding : Term
   pub suffix : List ℕ

@@ -11,7 +11,7 @@ use Rattle.cpp_term.specs.Scope as scope_
 use Rattle.cpp_term.specs.Values as value_
 use Rattle.cpp_term.specs.Items as item_
 
--- what the parameters of a tree name where it stands: nothing, the arguments of an encoding, or a lambda's own parameters
+-- what the parameters of a tree name where it is: nothing, the arguments of an encoding, or a lambda's own parameters
 pub data Place : Type 0 where
   nowhere : Place
   in_arguments : (arguments : term_.Term) → Place

@@ -48,8 +48,8 @@ extended (behind t listed) piece = within t piece
 unfoldable pub with_tag : Term → List ℕ → Term
 with_tag t tag = tagged (is_structor t) t tag
 
--- A name, with arguments where there are some. A name that stands behind it is the same with tags, and perhaps arguments behind
--- these: it stands in its place.
+-- A name, with arguments where there are some. A name that follows it is the same with tags, and perhaps arguments after
+-- these: it takes its place.
 unfoldable pub applied : Term → Value → Term
 applied t (named u qualifiers ref) = u
 applied t v = elim (is_there v) [ true ↦ instance t (tree_of v) | false ↦ t ]
@@ -58,14 +58,14 @@ unfoldable pub no_items : Value → Term
 no_items nothing_there = nil
 no_items v = tree_of v
 
--- these values so far, these surroundings of the next part, and this state in front of it
+-- these values so far, these surroundings of the next part, and this state before it
 abbrev pub Going : Type 0
 Going = Result (Next Value State Around) Refusal
 
 abbrev pub next : List Value → Around → State → Going
 next vs around state = Ok (record { values = vs; context = around; state = state })
 
--- a name that has been made stands before its arguments
+-- a name that has been made comes before its arguments
 unfoldable pub named_so_far : Around → Term → List Value → State → Going
 named_so_far around t vs state = next (tree t false ∷ vs) (after t false around) state
 
@@ -96,7 +96,7 @@ argument_so_far around place k state = parameter_named around place k state >>= 
 unfoldable pub index_of : Value → ℕ
 index_of v = counted_value Decimal (text_of v)
 
--- What is done before the next part of a production that begins at a place, behind parts with these values: some of the
+-- What is done before the next part of a production that begins at a place, after parts with these values: some of the
 -- values are made into trees, and candidates are appended.
 unfoldable pub between : Production → Around → (place : ℕ) → List Value → State → Going
 -- encodings: in its own name an encoding gives no scope, and in its types its last arguments are the scope
@@ -130,7 +130,7 @@ between Production.NestArguments around place [] state = next [] (inside around)
 between Production.NestArguments around place (arguments ∷ e ∷ []) state =
     let t = instance (prefix_tree around.prefix) (no_items arguments) in listed_so_far around t (e ∷ []) (appended around t state)
 between Production.NestArguments around place (v ∷ e ∷ component ∷ []) state = next (v ∷ e ∷ component ∷ []) (after (tree_of component) false around) state
--- the name may end behind these arguments, so it isn't a candidate yet
+-- the name may end after these arguments, so it isn't a candidate yet
 between Production.NestInstance around place [] state = next [] (inside around) (with_prefix around state)
 between Production.NestInstance around place (arguments ∷ e ∷ []) state = named_so_far around (instance (prefix_tree around.prefix) (no_items arguments)) (e ∷ []) state
 between Production.NestTag around place (v ∷ []) state = tag_so_far around (text_of v) state
@@ -148,7 +148,7 @@ between Production.Lambda around place vs state = next vs (in_signature around) 
 -- types
 between Production.Expansion around place vs state = next vs (under_expansion around) (record state { packs = None })
 between Production.Parameter around place (v ∷ []) state = parameter_so_far around place (index_of v) [] state
--- a parameter behind the T
+-- a parameter after the T
 between Production.ParameterArgument around place (v ∷ []) state = parameter_so_far around (place - 1) (index_of v) [] state
 -- in what is declared of an argument parameters are those of no encoding, as in a lambda's signature
 between Production.ValueOf around place vs state = next vs (in_signature around) state

@@ -42,7 +42,7 @@ piece_parts context string_literal = says "string literal" ∷ []
 piece_parts context (conversion t) = says "operator " ∷ as_item left context t ∷ as_item right context t ∷ []
 piece_parts context _ = []
 
--- a prefix is a name, or the enclosing encoding, which names no parameters of what stands in it
+-- a prefix is a name, or the enclosing encoding, which names no parameters of what is in it
 unfoldable pub prefix_item : Context → Term → PartOf Item
 prefix_item context (function name q r returned parameters) = as_item bare closed (function name q r returned parameters)
 prefix_item context (object name q r) = as_item bare closed (object name q r)
@@ -68,7 +68,7 @@ last_piece (local encoding entity discriminator) = last_piece entity
 last_piece (of_default digits entity) = last_piece entity
 last_piece _ = absent
 
--- a blank stands before the < of arguments behind the operators << and <
+-- there is a blank before the < of arguments after the operators << and <
 unfoldable pub opening_text : Term → List ℕ
 opening_text (operator a b) = cond (same_bytes (a ∷ b ∷ []) (codes "ls") || same_bytes (a ∷ b ∷ []) (codes "lt")) (codes " <") (codes "<")
 opening_text _ = codes "<"
@@ -78,7 +78,7 @@ instance_parts false context template arguments = as_item left context template 
 instance_parts true context template arguments =
     (as_item left context template ∷ text (opening_text (last_piece template)) ∷ list_part first context arguments) ++ (says ">" ∷ [])
 
--- the left parts of the inner type, and the mark, behind ( where that type is a function or an array
+-- the left parts of the inner type, and the mark, after ( where that type is a function or an array
 unfoldable pub marked_parts : Context → Term → String → List (PartOf Item)
 marked_parts context t mark = elim (is_funarr (head context t)) [
   | true ↦ as_item left context t ∷ text (codes "(" ++ codes mark) ∷ []
@@ -142,7 +142,7 @@ float_parts digits end = elim (nat_eq end 98) [
   | false ↦ elim (nat_eq end 120) [ true ↦ says "_Float" ∷ text digits ∷ says "x" ∷ [] | false ↦ says "_Float" ∷ text digits ∷ [] ]
 ]
 
--- the entity of a local name; in which default argument it stands isn't printed
+-- the entity of a local name; in which default argument it is isn't printed
 unfoldable pub entity_of : Term → Term
 entity_of (of_default digits entity) = entity
 entity_of entity = entity

@@ -15,14 +15,14 @@ element (list first rest) zero = first
 element (list first rest) (suc k) = element rest k
 element _ _ = absent
 
--- the arguments that a name ends in; a discriminator behind them doesn't count
+-- the arguments that a name ends in; a discriminator after them doesn't count
 unfoldable pub arguments_of : Term → Option Term
 arguments_of (instance template arguments) = Some arguments
 arguments_of (local encoding entity discriminator) = arguments_of entity
 arguments_of (of_default digits entity) = arguments_of entity
 arguments_of _ = None
 
--- what stands before those arguments
+-- what comes before those arguments
 unfoldable pub before_arguments : Term → Term
 before_arguments (instance template arguments) = template
 before_arguments (local encoding entity discriminator) = before_arguments entity
@@ -41,12 +41,12 @@ unfoldable pub without_tags : Term → Term
 without_tags (tagged of_structor name tag) = without_tags name
 without_tags name = name
 
--- A function's first item is its return type where its name ends in arguments, and what stands before them isn't a
+-- A function's first item is its return type where its name ends in arguments, and what comes before them isn't a
 -- constructor or a destructor.
 unfoldable pub has_return_type : Term → Bool
 has_return_type name = elim (arguments_of name) [ None ↦ false | Some arguments ↦ not (is_structor (before_arguments name)) ]
 
--- The tree has free parameters: ones that stand under no encoding of the tree. Each encoding gives its parameters a
+-- The tree has free parameters: ones that are under no encoding of the tree. Each encoding gives its parameters a
 -- scope of its own, or is refused.
 unfoldable pub is_open : Term → Bool
 is_open (parameter number argument) = true

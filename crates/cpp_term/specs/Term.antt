@@ -21,11 +21,11 @@ pub data Term : Type 0 where
   within : (prefix piece : Term) → Term
   instance : (template arguments : Term) → Term
   local : (encoding entity : Term) → (discriminator : Option (List ℕ)) → Term
-  -- a data member or a variable, of what stands in its initializer
+  -- a data member or a variable, of what is in its initializer
   holder : (name : Term) → Term
   -- a name with one more tag, and whether it is that of a constructor or a destructor
   tagged : (of_structor : Bool) → (name : Term) → (tag : List ℕ) → Term
-  -- the entity of a local name that stands in a default argument, and the digits that say in which
+  -- the entity of a local name that is in a default argument, and the digits that say in which
   of_default : (digits : List ℕ) → (entity : Term) → Term
   abbreviation : (letter : ℕ) → Term
   -- a parameter by its number, and the argument that it names
@@ -45,7 +45,7 @@ pub data Term : Type 0 where
   conversion : (type : Term) → Term
   -- types
   builtin : (code : List ℕ) → Term
-  -- a floating type of so many bits, and the byte behind their digits
+  -- a floating type of so many bits, and the byte after their digits
   sized_float : (digits : List ℕ) → (end : ℕ) → Term
   -- auto or decltype(auto), by the last letter of its code, of which a concept is asked
   constrained : (letter : ℕ) → (concept : Term) → Term

@@ -32,7 +32,7 @@ prefix_listed outermost = true
 prefix_listed (behind t listed) = listed
 
 -- What surrounds a part: the arguments that parameters name there, the place where the innermost encoding begins,
--- whether the part stands in a lambda's signature of that encoding or in what is declared of an argument, whether it stands under
+-- whether the part is in a lambda's signature of that encoding or in what is declared of an argument, whether it is under
 -- an expansion, and the name so far.
 pub record Around : Type 0 where
   pub scope : Option Term

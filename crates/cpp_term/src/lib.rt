@@ -43,7 +43,7 @@ pub fn trees_are_annotated()
 {}
 
 /// Without its arguments the tree that a symbol is read into is the tree of the symbol, and they can be told from that tree: no
-/// two symbols with one tree differ in them. It is an encoding with what stands behind it.
+/// two symbols with one tree differ in them. It is an encoding with what follows it.
 pub fn arguments_are_erased()
     ensures tree { (shape : Tree) (t : Term) → IsTree wide (Kind 0) shape → unfolded_.unfold_cpp shape ≡ Ok t → unfolding_.unfold_cpp shape ≡ Ok (erase t) }
     ensures carries { (shape : Tree) (t : Term) → IsTree wide (Kind 0) shape → unfolded_.unfold_cpp shape ≡ Ok t → CarriesArguments t }

@@ -11,7 +11,7 @@ nested-row : fields_of (within foo (operator 112 108)) ≡ record { production =
 unfolding fields_of name_fields
 nested-row = refl
 
--- the prefix stands before a lambda's parameters
+-- the prefix comes before a lambda's parameters
 lambda-row : fields_of (within foo (lambda nil 2)) ≡ record { production = 59; numbers = 2 ∷ 0 ∷ []; texts = [] ∷ [] ∷ []; parts = foo ∷ nil ∷ [] }
 unfolding fields_of name_fields
 lambda-row = refl

@@ -77,7 +77,7 @@ pub placed_element : (y : Table) (p : Placed) (k : ℕ) → element (placed_tree
 unfolding placed_tree
 placed_element y p k = element_reargued (tree_if_there (trees y) p.under) (tree_at (trees y) p.node) k
 
--- the first element, and those behind it
+-- the first element, and those after it
 pub cell_first : (y : Table) (p : Placed) (first rest : ℕ) → IsTable y → p.node < length y.nodes → (entry_at y.nodes p.node).node ≡ Node.Cell first rest
     → placed_tree (trees y) (record { node = first; under = p.under }) ≡ element (placed_tree (trees y) p) 0
 unfolding placed_tree
@@ -102,7 +102,7 @@ pub placed_run : (y : Table) (i k run : ℕ) (u : Option ℕ) → IsTable y → 
 placed_run y i k run u table less is most =
     placed_element y (record { node = i - k; under = u }) 0 ∙ ap (under_tree y u) (sym (run_at y i k run table less is most)) ∙ sym (placed_element y (record { node = i; under = u }) k)
 
--- behind the end of a run
+-- after the end of a run
 placed_behind : (y : Table) (i k run : ℕ) (u : Option ℕ) → IsTable y → i < length y.nodes → (entry_at y.nodes i).run ≡ run → run < k
     → element (placed_tree (trees y) (record { node = i - run; under = u })) (suc (k - (run + 1))) ≡ element (placed_tree (trees y) (record { node = i; under = u })) k
 placed_behind y i k run u table less is more =
@@ -175,7 +175,7 @@ pub erased_again : (y : Table) (t a : ℕ) (n : Node) → n ≡ Node.Again t a �
 unfolding tree_of
 erased_again y t a n is = ap (λ x. erase (tree_of y.bytes y.thunks (trees y) x)) is ∙ erase_reargued (Some (tree_at (trees y) a)) (tree_at (trees y) t)
 
--- the fields of a function: under what its types stand isn't seen
+-- the fields of a function: under what its types are isn't seen
 pub function_seen : (y : Table) (n : Node) (seen : NodeView) (name returned parameters under first second : ℕ) (q : Qualifiers) (m : Mark) → n ≡ Node.Function name q m returned parameters under
     → seen ≡ seen_of FUNCTION (first ∷ second ∷ []) (no_text ∷ no_text ∷ []) 3 (name ∷ returned ∷ parameters ∷ []) → first ≡ qualifiers_number (qualifiers_of q) → second ≡ mark_number (mark_of m)
     → seen_fields y seen ≡ fields_of (erase (tree_of y.bytes y.thunks (trees y) n))

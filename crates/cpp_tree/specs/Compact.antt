@@ -13,12 +13,12 @@ use Rattle.cpp_tree.specs.declared.compact.Compact.{Compact}
 use Rattle.cpp_tree.specs.Nodes.{under_kept}
 use Rattle.cpp_tree.specs.Notes.{placed_under, if_own, class_by}
 
--- the length of packs, by what is kept: the number behind it, and 0 where there are none
+-- the length of packs, by what is kept: the number after it, and 0 where there are none
 unfoldable pub packs_kept : ℕ → Option ℕ
 packs_kept zero = None
 packs_kept (suc n) = Some n
 
--- the first word is a node, and the second the argument under which it stands and one more, 0 where there is none
+-- the first word is a node, and the second the argument under which it is and one more, 0 where there is none
 abbrev pub placed_kept : (first second : ℕ) → Placed
 placed_kept first second = record { node = first; under = under_kept second }
 
@@ -131,7 +131,7 @@ with_arguments n packs free by_argument arguments returns = record {
   has_pack = false;
 }
 
--- the entry of a name with tags, under which this one stands
+-- the entry of a name with tags, under which this one is
 abbrev pub with_tags : (n : Node) (packs : Option ℕ) (free : Free) (by_argument : ByArgument) (untagged : Placed) → Entry
 with_tags n packs free by_argument untagged = record {
   node = n;

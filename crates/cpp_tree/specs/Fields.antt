@@ -35,7 +35,7 @@ linkage_number c_linkage noexcept = bit c_linkage + 2 * bit noexcept
 abbrev pub no_node : Term → Fields
 no_node t = fields NO_NODE 0 0 [] (t ∷ [])
 
--- of a name, by its piece, behind a prefix if there is one
+-- of a name, by its piece, after a prefix if there is one
 unfoldable pub name_fields : Names → (prefix : List Term) → (whole : Term) → Term → Fields
 name_fields names prefix whole (source internal bytes) = fields names.source (bit internal) 0 bytes prefix
 name_fields names prefix whole (operator first second) = fields names.operator first second [] prefix

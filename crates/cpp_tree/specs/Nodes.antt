@@ -299,7 +299,7 @@ unfoldable pub is_again : Node → Bool
 is_again (Node.Again t a) = true
 is_again _ = false
 
--- the entry of a node; behind the last one that of the absent tree
+-- the entry of a node; after the last one that of the absent tree
 abbrev pub entry_at : List Entry → ℕ → Entry
 entry_at es i = get_or es i (record { node = Node.Absent; packs = None; free = Free.None; is_empty = false; by_argument = by_none false; class = HeadClass.Known Head.Plain; arguments = None; untagged = None; returns = false; count = 0; run = 0; has_pack = false })
 
@@ -317,7 +317,7 @@ IsSettled ts (Node.Again t a) = IsLone (tree_at ts a) (tree_at ts t)
 IsSettled ts _ = Unit {0}
 
 -- What holds of the node at a place: all that is noted follows from its tree. A cell's run is how many of the nodes before it are
--- the cells behind it, so that an element is found by a subtraction.
+-- the cells after it, so that an element is found by a subtraction.
 pub record IsEntry (y : Table) (ts : List Term) (i : ℕ) (e : Entry) : Type 0 where
   pub built : tree_at ts i ≡ tree_of y.bytes y.thunks ts e.node
   pub below : IsBelow y.bytes (length y.thunks) i e.node

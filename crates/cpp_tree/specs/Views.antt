@@ -45,7 +45,7 @@ abbrev pub seen_of : (production : ℕ) → (numbers : List ℕ) → (texts : Li
 seen_of production numbers texts count parts =
     record { node = record { production = production; numbers = numbers; texts = texts; parts = count }; parts = parts }
 
--- the same of a name, behind a prefix if there is one
+-- the same of a name, after a prefix if there is one
 abbrev pub seen_behind : (production : ℕ) → (numbers : List ℕ) → (text : Span) → (prefix : Option ℕ) → NodeView
 seen_behind production numbers text None = seen_of production numbers (text ∷ no_text ∷ []) 0 (0 ∷ 0 ∷ 0 ∷ [])
 seen_behind production numbers text (Some prefix) = seen_of production numbers (text ∷ no_text ∷ []) 1 (prefix ∷ 0 ∷ 0 ∷ [])

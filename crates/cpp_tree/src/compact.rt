@@ -9,7 +9,7 @@ ghost use Rattle.cpp_tree.specs.Notes.{bare_entry};
 use crate::node::{ByArgument, Entry, Free, Head, HeadClass, HeadFrom, Node, Placed, under_of};
 
 /// What two words beside a node tell: of a type a list of elements, of a name its arguments or itself without tags, each with the
-/// argument under which it stands, and of a list its count and its run, and whether it has a pack among its elements.
+/// argument under which it is, and of a list its count and its run, and whether it has a pack among its elements.
 #[derive(Clone, Copy)]
 pub enum Words {
     Plain,
@@ -25,7 +25,8 @@ pub enum Words {
     ElementsWithPack,
 }
 
-/// How many parameters are free. The number of one alone stands beside, and of several the greatest.
+/// How many parameters are free. The number of one alone is beside it, and of several the greatest: an enum that holds the number would
+/// make an entry 56 bytes.
 #[derive(Clone, Copy)]
 pub enum HowMany {
     None,
@@ -138,7 +139,7 @@ fn count(words: Words, first: u32) -> u32
     }
 }
 
-/// How many cells stand before a cell.
+/// How many cells come before a cell.
 #[inline(always)]
 #[tactic(auto, unfolding(crate::specs::Compact::run_kept))]
 fn run(words: Words, second: u32) -> u32

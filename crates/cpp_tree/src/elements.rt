@@ -1,4 +1,4 @@
-// The elements of lists, and the nodes that stand under an argument.
+// The elements of lists, and the nodes that are under an argument.
 #![tactic(auto)]
 
 ghost use Rattle.std.specs.Prelude.{◌≡◌, ◌<◌, length, false};
@@ -35,7 +35,7 @@ impl Nodes {
         }
     }
 
-    /// The element of a list at a place, or the absent tree. Of cells that were made one behind the other it is found at once.
+    /// The element of a list at a place, or the absent tree. Of cells that were made one after the other it is found at once.
     pub fn element(&self, symbol: &[u8], list: Placed, k: u32) -> Placed
         requires table { IsTable (over symbol.now self.now) }
         requires list { IsPlacedBelow (length self.now.nodes) list }
@@ -98,7 +98,7 @@ impl Nodes {
         }
     }
 
-    /// The node of a tree in which no parameter is free: the argument under which it stands changes nothing of it.
+    /// The node of a tree in which no parameter is free: the argument under which it is changes nothing of it.
     #[inline(always)]
     pub fn closed_node(&self, symbol: &[u8], tree: Placed) -> u32
         requires table { IsTable (over symbol.now self.now) }
@@ -151,7 +151,7 @@ impl Nodes {
     }
 
     /// What a parameter of this number gets: of a list of arguments its own, and any other argument itself. It is found at once where
-    /// the list's cells were made one behind the other.
+    /// the list's cells were made one after the other.
     pub fn given_for(&self, symbol: &[u8], given: u32, number: u32) -> u32
         requires table { IsTable (over symbol.now self.now) }
         requires given { given < length self.now.nodes }

@@ -16,7 +16,8 @@ pub fn bit(test: bool) -> u8
     if test { 1 } else { 0 }
 }
 
-/// The word for an argument under which a tree stands: its node and one more, and 0 where there is none.
+/// The word for an argument under which a tree is: its node and one more, and 0 where there is none. An `Option` would make each node
+/// 32 bytes in place of 24.
 #[inline(always)]
 #[tactic(auto, unfolding(crate::specs::Nodes::under_kept))]
 pub fn under_word(under: Option<u32>) -> u32
@@ -117,7 +118,7 @@ pub enum Piece {
     Absent,
 }
 
-/// A node, by the numbers of earlier nodes. A parameter stands with its argument. Builtin types, abbreviations, special names and
+/// A node, by the numbers of earlier nodes. A parameter is with its argument. Builtin types, abbreviations, special names and
 /// clones have the last letter of their codes, a thunk has the number of what it adjusts.
 #[derive(Clone, Copy)]
 pub enum Node {
@@ -129,7 +130,7 @@ pub enum Node {
         mark: Mark,
         returned: u32,
         parameters: u32,
-        /// The argument under which its return type and its parameters stand, as a word (`under_word`).
+        /// The argument under which its return type and its parameters are, as a word (`under_word`).
         under: u32,
     },
     Object {
@@ -182,7 +183,7 @@ pub enum Node {
         name: u32,
         tag: Span,
     },
-    /// The entity of a local name that stands in a default argument, and the digits that say in which.
+    /// The entity of a local name that is in a default argument, and the digits that say in which.
     OfDefault {
         digits: Span,
         entity: u32,
@@ -359,7 +360,7 @@ pub enum Free {
 /// What depends on the argument of a tree's free parameters, if they get another one.
 #[derive(Clone, Copy)]
 pub struct ByArgument {
-    /// Whether one stands under no expansion of the tree, so that its packs are the argument's.
+    /// Whether one is under no expansion of the tree, so that its packs are the argument's.
     pub is_bare: bool,
     pub head: HeadFrom,
     /// Whether it prints nothing where the argument is a pack of no elements.
@@ -389,7 +390,7 @@ pub struct Entry {
     pub returns: bool,
     /// How many elements a list has.
     pub count: u32,
-    /// How many of the nodes before a cell are the cells behind it, each before the next.
+    /// How many of the nodes before a cell are the cells after it, each before the next.
     pub run: u32,
     /// Whether a list has a pack among its elements, or another that is no argument by itself.
     pub has_pack: bool,

@@ -15,7 +15,7 @@ use std::alloc::Global;
 use std::marker::Model;
 use sym_core::Refusal;
 
-/// The nodes of a symbol, each behind its parts, and what its thunks adjust.
+/// The nodes of a symbol, each after its parts, and what its thunks adjust.
 #[derive(Drop)]
 pub struct Nodes {
     pub(crate) entries: Vec<Compact>,

@@ -153,7 +153,7 @@ fn of_elements(has_pack: bool) -> Words
     }
 }
 
-/// Two words, of which the first is a node and the second the argument under which it stands and one more.
+/// Two words, of which the first is a node and the second the argument under which it is and one more.
 #[derive(Clone, Copy)]
 struct Pair {
     first: u32,
@@ -466,7 +466,7 @@ impl Nodes {
         packs(self.given(symbol, argument).packs)
     }
 
-    /// A name of a piece behind no other.
+    /// A name of a piece after no other.
     #[inline(always)]
     fn noted_piece(&self, symbol: &[u8], node: Node, piece: Piece) -> Compact
         requires below { IsPieceBelow symbol.now (length self.now.nodes) piece }
@@ -479,7 +479,7 @@ impl Nodes {
         }
     }
 
-    /// A name of a piece behind a prefix.
+    /// A name of a piece after a prefix.
     #[inline(always)]
     fn noted_within(&self, symbol: &[u8], node: Node, prefix: u32, piece: Piece) -> Compact
         requires prefix { prefix < length self.now.nodes }
@@ -590,7 +590,7 @@ impl Nodes {
         }
     }
 
-    /// How many of the nodes before the cell to come are the cells behind it.
+    /// How many of the nodes before the cell to come are the cells after it.
     #[inline(always)]
     fn run_to(&self, rest: u32) -> u32
         requires rest { rest < length self.now.nodes }

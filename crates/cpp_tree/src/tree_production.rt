@@ -4,13 +4,13 @@
 // restrict, 2 for volatile and 4 for const. A mark is 0 for none, 1 for & and 2 for &&. An offset is 1 where it is negative
 // among the numbers, and its digits without zeros in front among the texts.
 
-/// No tree: what stands in the place of a return type that a function doesn't have.
+/// No tree: what takes the place of a return type that a function doesn't have.
 pub const ABSENT: u16 = 0;
 
 /// The end of a list.
 pub const NIL: u16 = 1;
 
-/// An element before others. Parts: the element and the elements behind it.
+/// An element before others. Parts: the element and the elements after it.
 pub const LIST: u16 = 2;
 
 /// A whole symbol. Texts: its suffix with the dot. Parts: its encoding.
@@ -31,7 +31,7 @@ pub const GUARD: u16 = 7;
 /// A thunk that adjusts one pointer by an offset. Numbers and texts: the offset. Parts: its encoding.
 pub const THUNK: u16 = 8;
 
-/// A thunk that adjusts one pointer by an offset, and by one that stands in a table. Numbers and texts: the two offsets. Parts:
+/// A thunk that adjusts one pointer by an offset, and by one that is in a table. Numbers and texts: the two offsets. Parts:
 /// its encoding.
 pub const TABLE_THUNK: u16 = 9;
 
@@ -209,11 +209,11 @@ pub const OF_NAME: u16 = 64;
 /// class' offset. Parts: the derived class and the base class. Symbols of the wide grammar alone have it.
 pub const CONSTRUCTION: u16 = 65;
 
-/// A data member or a variable, as the prefix of what stands in its initializer. Parts: its name. Symbols of the wide grammar alone
+/// A data member or a variable, as the prefix of what is in its initializer. Parts: its name. Symbols of the wide grammar alone
 /// have it.
 pub const HOLDER: u16 = 66;
 
-/// A floating type of so many bits. Numbers: the byte behind their digits, `_`, `x` or `b`. Texts: the digits. Symbols of the wide
+/// A floating type of so many bits. Numbers: the byte after their digits, `_`, `x` or `b`. Texts: the digits. Symbols of the wide
 /// grammar alone have it.
 pub const SIZED_FLOAT: u16 = 67;
 
@@ -234,7 +234,7 @@ pub const NESTED_CONVERSION: u16 = 71;
 /// Symbols of the wide grammar alone have it.
 pub const CLONE: u16 = 72;
 
-/// The entity of a local name that stands in a default argument. Texts: the digits that say in which. Parts: the entity. Symbols of
+/// The entity of a local name that is in a default argument. Texts: the digits that say in which. Parts: the entity. Symbols of
 /// the wide grammar alone have it.
 pub const OF_DEFAULT: u16 = 73;
 

@@ -26,7 +26,7 @@ use crate::tree_production::{
 use crate::{Nodes, node};
 use sym_core::Span;
 
-/// The view of a node. What its numbers, texts and parts are stands at its production in `tree_production`.
+/// The view of a node. What its numbers, texts and parts are is at its production in `tree_production`.
 #[derive(Clone, Copy)]
 pub struct Node {
     pub production: u16,
@@ -147,7 +147,7 @@ fn two(production: u16, numbers: [u64; 2], text: Span, first: u32, second: u32) 
     seen(production, numbers, [text, NO_TEXT], 2, [first, second, 0])
 }
 
-/// A name of this text, behind a prefix if there is one.
+/// A name of this text, after a prefix if there is one.
 fn named(production: u16, numbers: [u64; 2], text: Span, prefix: Option<u32>) -> NodeView
     ensures { result ≡ seen_behind production numbers text prefix }
 {
@@ -164,7 +164,7 @@ fn linkage_number(c_linkage: bool, noexcept: bool) -> u64
     (bit(c_linkage) + 2 * bit(noexcept)) as u64
 }
 
-/// The view of a name of a piece, behind a prefix if there is one.
+/// The view of a name of a piece, after a prefix if there is one.
 #[tactic(auto, unfolding(crate::specs::Fields::name_fields, cpp_term::specs::Erased::erase, crate::specs::Nodes::piece_of))]
 fn view_of_name(
     symbol: &[u8],

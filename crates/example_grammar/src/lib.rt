@@ -214,7 +214,7 @@ pub const LIFE_RULES: [Choice; 1] = [Choice {
     },
 }];
 
-/// The symbols of all rules by their numbers, behind the start kind.
+/// The symbols of all rules by their numbers, after the start kind.
 static SYMBOLS: [[Sym; 5]; 11] = [
     START, WHOLE, CRATE, GENERIC, LETTER, REFERENCE, ARRAY, NAMED, LAST, MORE, LIFETIME,
 ];

@@ -77,7 +77,7 @@ fn reads_alike(alloc: Global, s: &[u8]) -> bool
     true
 }
 
-/// Whether what is read of a changed symbol is well shaped, or bad at a place or behind it.
+/// Whether what is read of a changed symbol is well shaped, or bad at a place or after it.
 fn is_bad_behind(outcome: Result<Shape, Refusal>, place: usize) -> bool {
     match outcome {
         Ok(_shape) => true,

@@ -63,7 +63,7 @@ linked-below i [] k d linked h = absurd (omega arith)
 linked-below i (node ∷ rest) zero d linked h = below-same i (i + 0) node (omega arith) linked.0
 linked-below i (node ∷ rest) (suc k) d linked h = below-same (i + 1 + k) (i + suc k) (get_or rest k d) (omega arith) (linked-below (i + 1) rest k d linked.1 (omega arith))
 
--- each node's parts stand before it
+-- each node's parts come before it
 pub below-at : (nodes : List Node) (k : ℕ) (d : Node) → IsLinked 0 nodes → k < length nodes → IsBelow k (get_or nodes k d)
 below-at nodes k d linked h = below-same (0 + k) k (get_or nodes k d) (omega arith) (linked-below 0 nodes k d linked h)
 

@@ -21,7 +21,7 @@ abbrev pub tree_of : List Tree → Node → Tree
 tree_of before (Leaf byte) = leaf byte
 tree_of before (Pair left right) = pair (at before left) (at before right)
 
--- the trees of a table, behind those of the nodes before it
+-- the trees of a table, after those of the nodes before it
 abbrev pub trees_onto : List Tree → List Node → List Tree
 trees_onto before [] = before
 trees_onto before (node ∷ rest) = trees_onto (before ++ tree_of before node ∷ []) rest
@@ -29,12 +29,12 @@ trees_onto before (node ∷ rest) = trees_onto (before ++ tree_of before node �
 abbrev pub trees_of : List Node → List Tree
 trees_of nodes = trees_onto [] nodes
 
--- a node's parts stand below i
+-- a node's parts are below i
 abbrev pub IsBelow : ℕ → Node → Type 0
 IsBelow i (Leaf _) = Unit {0}
 IsBelow i (Pair left right) = (left < i) × (right < i)
 
--- each node's parts stand before it
+-- each node's parts come before it
 abbrev pub IsLinked : ℕ → List Node → Type 0
 IsLinked i [] = Unit {0}
 IsLinked i (node ∷ rest) = IsBelow i node × IsLinked (i + 1) rest

@@ -21,7 +21,7 @@ pub enum Node {
     Pair(u32, u32),
 }
 
-/// A table of nodes, of which the last stands for the others. It can be printed where the parts of each stand before it.
+/// A table of nodes, of which the last stands for the others. It can be printed where the parts of each come before it.
 #[derive(Drop)]
 pub struct Dag {
     pub nodes: Vec<Node>,

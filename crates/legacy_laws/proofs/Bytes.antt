@@ -138,7 +138,7 @@ split (x ∷ front) (y ∷ s) is =
     let same : x ≡ y = grind (arith, nat_tests, h.0) in
     (rest.0, ap (λ l. y ∷ l) rest.1 ∙ ap (λ b. b ∷ (front ++ rest.0)) (sym same))
 
--- the E stands where names end
+-- the E is where names end
 pub end_here : (s : List ℕ) (at : ℕ) → begins_with (codes "E") (drop at s) ≡ true → StandsAt s at (69 ∷ [])
 end_here s at is = split (codes "E") (drop at s) is
 

@@ -1,5 +1,5 @@
 //! Reads numbers and names, one on each line of standard input, and prints for each what the calls of `sym_core` answer.
-//! Before the text of a line stand, with blanks behind them, a word for what it is and the place where it begins.
+//! Before the text of a line come, with blanks after them, a word for what it is and the place where it begins.
 #![tactic(auto)]
 
 ghost use Rattle.std.specs.Prelude.{◌≤◌, length};
@@ -63,7 +63,7 @@ fn value_at(s: &[u8], at: usize, kind: NumberKind) -> Option<u128>
     }
 }
 
-/// Prints where the number at a place stands, its value, and whether its digits are all that is there.
+/// Prints where the number at a place is, its value, and whether its digits are all that is there.
 fn show_number(rt: &impl Print, s: &[u8], at: usize, kind: NumberKind) -> io::Result<()>
     requires fits { FitsSymbol s.now }
     requires within { at ≤ length s.now }
@@ -82,7 +82,7 @@ fn show_number(rt: &impl Print, s: &[u8], at: usize, kind: NumberKind) -> io::Re
     println!(rt; "; digits alone: {}", are_digits(kind, &s[at..]))
 }
 
-/// Prints where the name at a place stands, and whether all bytes from there may stand in a name.
+/// Prints where the name at a place is, and whether all bytes from there may be in a name.
 fn show_name(rt: &impl Print, s: &[u8], at: usize, names: NameClass) -> io::Result<()>
     requires fits { FitsSymbol s.now }
     requires within { at ≤ length s.now }

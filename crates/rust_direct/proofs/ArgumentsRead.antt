@@ -120,7 +120,7 @@ pub filled-text : (text own : List ℕ) → text ≡ own → false ≡ nat_eq (l
 filled-text text [] is e = absurd (false≢true (e ∙ ap (λ l. nat_eq (length l) 0) is))
 filled-text text (b ∷ bs) is e = omega arith
 
--- the letter of a basic type stands where it was read
+-- the letter of a basic type is where it was read
 pub letter-there : (s : List ℕ) (at letter : ℕ) → 1 ≤ length (basic_text letter) → (letter ≢ 0 → StandsAt s at (letter ∷ [])) → StandsAt s at (letter ∷ [])
 unfolding basic_text
 letter-there s at letter filled stands = stands (λ none. omega (arith, subst (λ b. 1 ≤ length (basic_text b)) none filled))
@@ -264,7 +264,7 @@ argument-separated s old new p writes =
       };
     }
 
--- no separator stands before the first one
+-- no separator comes before the first one
 pub argument-first : (s : List ℕ) (w : Direct) → IsWriting s w (steps.Arguments true) → AwaitsArgument s w true
 argument-first s w p = record {
   state = p.state;

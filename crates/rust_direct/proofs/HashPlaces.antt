@@ -1,4 +1,4 @@
--- Where numbers of eleven digits stand.
+-- Where numbers of eleven digits are.
 use Rattle.std.proofs.Common.{◌≡◌, ℕ, ◌+◌, ◌-◌, ◌*◌, ◌^◌, ◌≤◌, ◌<◌, suc, List, [], ◌∷◌, ◌++◌, length, take, drop, get_or, true, refl, ap, sym, subst, ◌∙◌, arith, inr}
 use Rattle.std.proofs.lemmas.List.{length-append, length-drop, length-take-le, take-append-drop}
 use Rattle.std.proofs.lemmas.Bool.Decides.{nat_tests}
@@ -39,7 +39,7 @@ counted-small (d ∷ ds) eleven are low =
     let most : (0 * 62 + digit_value Base62 d + 1) * 62 ^ length ds ≤ 21 * 62 ^ length ds = mul-le-mul_right (62 ^ length ds) (omega (arith, low)) in
     omega (arith, less, most, ap (λ n. 62 ^ n) ten)
 
--- eleven digits and the mark behind them are a number
+-- eleven digits and the mark after them are a number
 pub hash-found : (s : List ℕ) (at : ℕ) (own : List ℕ) → at ≤ length s → 11 < length s - at → own ≡ take (at + 11 - at) (drop at s)
     → digit_value Base62 (get_or own 0 0) ≤ 20 → ReachesDigits own 11 → StandsAt s (at + 11) (95 ∷ []) → IsSmallNumberAt s at (at + 11 + 1)
 hash-found s at own within long own_is low each mark = (

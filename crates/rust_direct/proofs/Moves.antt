@@ -137,7 +137,7 @@ crate-comes s w os at st count middle name end expects stands counted named =
 
 -- ## Paths in a namespace
 
--- a byte that stands at a place
+-- a byte that is at a place
 pub byte-there : (s : List ℕ) (at b : ℕ) → StandsAt s at (b ∷ []) → slice_index s at ≡ b
 byte-there [] zero b stands = cc stands.1
 byte-there [] (suc at) b stands = cc stands.1

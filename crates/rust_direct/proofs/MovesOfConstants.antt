@@ -152,7 +152,7 @@ minus_rule = taking Production.Minus []
 takes-minus : TakesRule v0_table MINUS minus_rule (110 ∷ [])
 takes-minus = record { byte = 110; is_byte = omega arith; found = refl; takes = refl }
 
--- the state in front of the digits behind a minus
+-- the state before the digits after a minus
 abbrev negative : State → State
 negative st = record { ended = st.ended; inside = Some Production.SignedConstant; minus = true }
 

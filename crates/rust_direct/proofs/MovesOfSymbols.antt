@@ -125,7 +125,7 @@ symbol-read s y end reads =
 abbrev open_symbol : Open State ℕ
 open_symbol = standing symbol_rule (95 ∷ []) 0 0 at_first
 
--- the symbol closes behind these values as this one
+-- the symbol closes after these values as this one
 abbrev Closes : (s : List ℕ) → (known vs : List Value) → tree.Symbol → Type 0
 Closes s known vs y =
     (now : State) → (rust_language.reading s).close open_symbol (known ++ vs) now ≡ Ok (record { value = a_symbol y; state = behind now })
@@ -164,7 +164,7 @@ symbol-ends s known p other at st bare suffixed expects = record {
     all-of suffix here rest e few =
         e ∙ ap (λ l. suffix ++ l) (none-behind rest (omega (arith, few, ap length e, length-append suffix rest))) ∙ append-nil suffix
 
--- its path is expected behind _R
+-- its path is expected after _R
 pub symbol-starts : (s : List ℕ) → StandsAt s 0 (95 ∷ 82 ∷ [])
     → (inner : List Opened) × Expects s PATH inner 2 (within Production.Symbol at_first)
     × ((p : tree.Path) (at : ℕ) (st : State) → Comes s inner (a_path p) at st → OtherGoesOn s p at st)

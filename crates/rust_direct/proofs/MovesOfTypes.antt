@@ -1,4 +1,4 @@
--- The moves of types that are made of one type, of impls, and of references to what stands before.
+-- The moves of types that are made of one type, of impls, and of references to what came before.
 use Rattle.std.proofs.Common.{◌≡◌, ℕ, ◌+◌, ◌<◌, ◌≤◌, List, [], ◌∷◌, ◌++◌, length, inl, inr, false, Some, Ok, refl, ap, sym, subst, arith, ◌⊎◌}
 use Rattle.std.specs.Prelude.{if◌then◌else◌}
 use Rattle.std.proofs.lemmas.Bool.{le-leb, cases_eq, ne_eqb}
@@ -267,7 +267,7 @@ takes-path path e = record { byte = 66; is_byte = omega arith; found = refl; tak
 takes-path other_path e = record { byte = 66; is_byte = omega arith; found = refl; takes = refl }
 takes-path type e = cc e
 
--- a path comes that stands before
+-- a path comes that came before
 pub path-referred : (s : List ℕ) (w : Wanted) (os : List Opened) (at : ℕ) (st : State) (n end : ℕ) (p : tree.Path) → is_for_type w ≡ false
     → Expects s (kind_of w) os at st → StandsAt s at (66 ∷ []) → IsNumberAt s (at + 1) n end → as_path (ended_at st.ended (n + 2)) ≡ Some p
     → need p ≡ 0 → Ends s os at (a_path p) end st
@@ -279,7 +279,7 @@ path-referred s w os at st n end p for_path expects stands is names none =
     moves.last-of rust_language s rule [] (number n ∷ []) os end (within Production.PathReference st) (a_path p) (with_ended at (a_path p) st)
     (rw (names, none) refl) counted
 
--- a type comes that stands before
+-- a type comes that came before
 pub type-referred : (s : List ℕ) (os : List Opened) (at : ℕ) (st : State) (n end : ℕ) (t : tree.Ty)
     → Expects s TYPE os at st → StandsAt s at (66 ∷ []) → IsNumberAt s (at + 1) n end → as_type (ended_at st.ended (n + 2)) ≡ Some t
     → need_of_type t ≡ 0 → Ends s os at (a_type t) end st

@@ -1,4 +1,4 @@
--- Where names stand.
+-- Where names are.
 use Rattle.std.proofs.Common.{◌≡◌, ◌≢◌, ℕ, ◌+◌, ◌-◌, ◌*◌, ◌≤◌, ◌<◌, suc, List, [], ◌∷◌, ◌++◌, length, take, drop, get_or, Bool, true, false, refl, ap, sym, subst, ◌∙◌, arith, append_assoc, append-nil}
 use Rattle.std.specs.Prelude.{◌||◌, ◌==◌}
 use Rattle.std.proofs.lemmas.List.{length-append, length-drop, length-take-le, take-append-drop, drop-drop}
@@ -63,7 +63,7 @@ begins-apart (b ∷ bs) some apart =
     let parts = no-part (is_decimal_digit b) (b == 95) apart in
     (parts.0, λ e. absurd (false≢true (sym parts.1 ∙ eq-eqb b 95 e)))
 
--- a name's own bytes stand behind its length
+-- a name's own bytes come after its length
 pub own-placed : (s : List ℕ) (at from size : ℕ) (own : List ℕ) → IsLengthRead s at from size → from ≤ length s → size ≤ length s - from
     → own ≡ take size (drop from s) → goes_on (get_or own 0 0) ≡ false → ReachesNameBytes Rust own (length own)
     → IsNamePlace s at (record { from = from; to = from + size; end = from + size })

@@ -1,4 +1,4 @@
--- A text is written, and something waits for what comes behind it.
+-- A text is written, and something waits for what comes after it.
 use Rattle.std.proofs.Common.{◌≡◌, ℕ, List, ◌∷◌, ◌++◌, length, reverse, ap, ◌∙◌, append_assoc}
 use Rattle.rust_grammar.specs.Value.{State}
 use Rattle.rust_direct.specs.declared.open.Open.{Open}
@@ -24,6 +24,6 @@ stands-opened s old new bytes entry at os o h =
     waits-too s old.waiting.list.items new.waiting.list.items entry os new.text.list.items (parked_of new) o.waiting
     (rw (o.text, o.aside, o.is_aside) h)
 
--- what stands between a mark and what closes it
+-- what is between a mark and what closes it
 pub wrapped : (front mark bytes closing : List ℕ) → front ++ mark ++ bytes ++ closing ≡ front ++ (mark ++ bytes ++ closing)
 wrapped front mark bytes closing = ap (λ l. l ++ closing) (append_assoc front mark bytes) ∙ append_assoc front (mark ++ bytes) closing

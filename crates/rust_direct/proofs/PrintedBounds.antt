@@ -10,7 +10,7 @@ use Rattle.rust_direct.specs.Prints.{PathPrints, TypePrints, text_of_some, cost_
 use Rattle.rust_direct.specs.Bounds.{BoundsBegin}
 use Rattle.rust_direct.proofs.PrintedPaths.{one-text, then-cost, perhaps-text, perhaps-cost}
 
--- nothing stands before the first bound
+-- nothing comes before the first bound
 pub no-bounds-begin : BoundsBegin (λ b. b) [] []
 no-bounds-begin = record { text_is = λ rest. refl; cost = λ rest. omega arith; needs_none = λ rest h. h }
 
@@ -26,7 +26,7 @@ bound-shown separator (trait_definition t r) rest = refl
 bound-shown separator (nested letter q name) rest = refl
 bound-shown separator (generic q args) rest = refl
 
--- a path behind other bounds
+-- a path after other bounds
 pub bound-begins : (made : Bounds → Bounds) (separator bytes : List ℕ) (p : Path) (own : List ℕ) → BoundsBegin made separator bytes
     → PathPrints false p own → BoundsBegin (λ r. made (more_bounds p no_bindings r)) (codes " + ") (bytes ++ separator ++ own)
 unfolding need

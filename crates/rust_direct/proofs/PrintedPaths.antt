@@ -104,7 +104,7 @@ opening-length : (value : Bool) → 1 ≤ length (opening value)
 opening-length true = omega arith
 opening-length false = omega arith
 
--- nothing stands before the first argument
+-- nothing comes before the first argument
 pub none-begin : ArgumentsBegin (λ a. a) [] []
 none-begin = record { text_is = λ rest. refl; cost = λ rest. omega arith; needs_none = λ rest h. h }
 
@@ -128,7 +128,7 @@ one-cost separator before own u o e = omega (
   length-append before separator,
 )
 
--- a type behind other arguments
+-- a type after other arguments
 pub type-begins : (made : Arguments → Arguments) (separator bytes : List ℕ) (t : Ty) (own : List ℕ) → ArgumentsBegin made separator bytes
     → TypePrints t own → ArgumentsBegin (λ r. made (type_argument t r)) (codes ", ") (bytes ++ separator ++ own)
 unfolding path_parts need
@@ -143,7 +143,7 @@ type-begins made separator bytes t own begin prints = record {
   needs_none = λ rest h. begin.needs_none (type_argument t rest) (omega (arith, prints.needs_none, h));
 }
 
--- an erased lifetime behind other arguments
+-- an erased lifetime after other arguments
 pub lifetime-begins : (made : Arguments → Arguments) (separator bytes : List ℕ) → ArgumentsBegin made separator bytes
     → ArgumentsBegin (λ r. made (lifetime_argument 0 r)) (codes ", ") (bytes ++ separator ++ codes "'_")
 unfolding path_parts need lifetime_parts lifetime_text
@@ -158,7 +158,7 @@ lifetime-begins made separator bytes begin = record {
   needs_none = λ rest h. begin.needs_none (lifetime_argument 0 rest) (omega (arith, h));
 }
 
--- no argument stands behind these
+-- no argument comes after these
 pub arguments-end : (made : Arguments → Arguments) (separator bytes : List ℕ) → ArgumentsBegin made separator bytes → ArgumentsPrint (made no_arguments) bytes
 unfolding path_parts need
 arguments-end made separator bytes begin = record {
@@ -181,7 +181,7 @@ unfolding path_parts
 generic-shown true p args = refl
 generic-shown false p args = refl
 
--- A path with arguments prints them behind itself.
+-- A path with arguments prints them after itself.
 pub generic-prints : (value : Bool) (p : Path) (bytes : List ℕ) (args : Arguments) (own : List ℕ) → PathPrints value p bytes → ArgumentsPrint args own
     → PathPrints value (generic p args) (bytes ++ opening value ++ own ++ codes ">")
 unfolding need

@@ -120,7 +120,7 @@ pub placeholder-prints : Shows (constant_parts placeholder) (codes "_")
 unfolding constant_parts
 placeholder-prints = record { text_is = refl; cost = omega arith }
 
--- a constant behind other arguments
+-- a constant after other arguments
 pub constant-begins : (made : Arguments → Arguments) (separator bytes : List ℕ) (c : Constant) (own : List ℕ) → ArgumentsBegin made separator bytes
     → Shows (constant_parts c) own → ArgumentsBegin (λ r. made (constant_argument c r)) (codes ", ") (bytes ++ separator ++ own)
 unfolding path_parts need

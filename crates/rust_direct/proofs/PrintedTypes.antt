@@ -25,7 +25,7 @@ basic-prints letter filled = record {
   needs_none = refl;
 }
 
--- ## Types that stand behind a mark
+-- ## Types that follow a mark
 
 marked : (mark b l : List ℕ) → b ≡ l → mark ++ (b ++ []) ≡ mark ++ l
 marked mark b l e = ap (λ x. mark ++ x) (append-nil b ∙ e)
@@ -109,7 +109,7 @@ array-prints t bytes size own prints shows = record {
 
 -- ## Tuples
 
--- nothing stands before the first type
+-- nothing comes before the first type
 pub no-types-begin : TypesBegin (λ ts. ts) [] []
 no-types-begin = record { text_is = λ rest. refl; cost = λ rest. omega arith; needs_none = λ rest h. h }
 
@@ -121,7 +121,7 @@ one-text separator before own u o e =
     ∙ ap (λ l. before ++ (separator ++ (own ++ l))) (perhaps-text o done ∙ append-nil (text_of_some o))
     ∙ sym (append_assoc (before ++ separator) own (text_of_some o) ∙ append_assoc before separator (own ++ text_of_some o))
 
--- a type behind other types
+-- a type after other types
 pub types-begin : (made : Tys → Tys) (separator bytes : List ℕ) (t : Ty) (own : List ℕ) → TypesBegin made separator bytes
     → TypePrints t own → TypesBegin (λ r. made (more_types t r)) (codes ", ") (bytes ++ separator ++ own)
 unfolding path_parts need

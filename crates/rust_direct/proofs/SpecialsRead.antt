@@ -20,7 +20,7 @@ use Rattle.rust_direct.proofs.Moves.{identifier-comes}
 use Rattle.rust_direct.proofs.PathsRead.{path-held, path-says, stands-written}
 use Rattle.rust_direct.proofs.PrintedSpecials.{special-prints}
 
--- ## Texts one behind another
+-- ## Texts one after another
 
 pub writes-none : (w : Direct) → Writes w w []
 writes-none w = record {
@@ -53,13 +53,13 @@ pub none-behind : (w : Direct) (name : List ℕ) → length name ≡ 0 → Write
 none-behind w [] none = writes-none w
 none-behind w (b ∷ bs) none = cc none
 
--- a name behind a colon
+-- a name after a colon
 pub name-behind : (old middle new : Direct) (name : List ℕ) → (length name ≡ 0 → ⊥) → Writes old middle (58 ∷ []) → Writes middle new name
     → Writes old new (behind_colon name)
 name-behind old middle new [] some first second = absurd (some refl)
 name-behind old middle new (b ∷ bs) some first second = writes-both old middle new (58 ∷ []) (b ∷ bs) first second
 
--- all that stands behind the parent
+-- all that follows the parent
 pub special-written : (a b c d e f g : Direct) (namespace name : List ℕ) (count : ℕ) → Writes a b (codes "::{") → Writes b c namespace
     → Writes c d (behind_colon name) → Writes d e (codes "#") → Writes e f (decimal count) → Writes f g (codes "}") → Writes a g (special_text namespace name count)
 special-written a b c d e f g namespace name count one two three four five six =

@@ -146,7 +146,7 @@ other-read s old new from f arrives is hidden text aside is_aside notes numbers 
 
 -- ## The end
 
--- what a symbol has from a place on stands there, and ends with it
+-- what a symbol has from a place on is there, and ends with it
 rest-stands : (s suffix : List ℕ) (at : ℕ) → at ≤ length s → suffix ≡ take (length s - at) (drop at s)
     → StandsAt s at suffix × (at + length suffix ≡ length s)
 rest-stands s suffix at inside is =

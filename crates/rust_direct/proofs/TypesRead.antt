@@ -1,4 +1,4 @@
--- Types that were read and written: those of one type, and those that stand before.
+-- Types that were read and written: those of one type, and those that came before.
 use Rattle.std.proofs.Common.{◌≡◌, ℕ, suc, ◌+◌, List, [], ◌∷◌, length, slice_get, true, Some, refl, ap, subst, ◌∙◌}
 use Rattle.std.proofs.lemmas.Bool.{false≢true}
 use Rattle.sym_direct.specs.Holes.{StandsAt}
@@ -22,7 +22,7 @@ use Rattle.rust_direct.proofs.PrintedTypes.{path-is-type}
 use Rattle.rust_direct.proofs.PathsRead.{stands-written}
 use Rattle.rust_direct.proofs.Again.{note-found}
 
--- ## What stands before
+-- ## What came before
 
 path-as-type : (v : Value) (p : tree.Path) → as_path (Some v) ≡ Some p → as_type (Some v) ≡ Some (tree.path_type p)
 path-as-type (a_path q) p is = let same : q ≡ p = cc is in ap (λ x. Some (tree.path_type x)) same

@@ -45,7 +45,7 @@ wrap-begun s old new mark closing made at entry a goes holds is opened =
       };
     }
 
--- nothing stands behind the type
+-- nothing comes after the type
 bare : (mark bytes : List ℕ) (t : tree.Ty) → TypePrints t (mark ++ bytes) → Holds forms.Typed (a_type t) (mark ++ bytes ++ [])
 bare mark bytes t prints = (t, refl, subst (λ l. TypePrints t l) (sym (append-nil (mark ++ bytes))) prints)
 

@@ -68,7 +68,7 @@ pub record AwaitsImplType (s : List ℕ) (w : Direct) (place : ℕ) : Type 0 whe
   pub goes : TypeGoesOn s outer place (λ t. a_path (made t)) w.at state
   pub stands : Stands s (reverse w.waiting.list.items) outer w.text.list.items (parked_of w)
 
--- The same of an impl of a trait: behind its type the trait is expected.
+-- The same of an impl of a trait: after its type the trait is expected.
 pub record AwaitsTraitType (s : List ℕ) (w : Direct) (place : ℕ) : Type 0 where
   pub state : State
   pub keeps : Keeps s w state
@@ -86,7 +86,7 @@ pub record IsSymbolEnded (s : List ℕ) (w : Direct) : Type 0 where
   pub prints : PathPrints true p w.text.list.items
   pub ends : EndsSymbol s p w.at
 
--- an argument is expected, behind what separates it from the one before
+-- an argument is expected, after what separates it from the one before
 pub record AwaitsArgument (s : List ℕ) (w : Direct) (is_first : Bool) : Type 0 where
   pub state : State
   pub keeps : Keeps s w state

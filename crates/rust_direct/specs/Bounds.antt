@@ -11,14 +11,14 @@ use Rattle.rust_grammar.specs.Value.{State, a_type, some_bounds}
 use Rattle.rust_direct.specs.Holes.{Opened, Comes, Expects, Ends, within}
 use Rattle.rust_direct.specs.Prints.{text_of_some, cost_of_some}
 
--- Bounds so far have this text, whatever stands behind them; a separator stands before the next one.
+-- Bounds so far have this text, whatever follows them; a separator comes before the next one.
 pub record BoundsBegin (made : tree.Bounds → tree.Bounds) (separator bytes : List ℕ) : Type 0 where
   pub text_is : (rest : tree.Bounds) → text_of_some (bounds_from Full 0 [] (made rest)) ≡ bytes ++ text_of_some (bounds_from Full 0 separator rest)
   pub cost : (rest : tree.Bounds)
       → cost_of_some (bounds_from Full 0 [] (made rest)) ≤ 4 * length bytes + length separator + cost_of_some (bounds_from Full 0 separator rest)
   pub needs_none : (rest : tree.Bounds) → need_of_bounds rest ≡ 0 → need_of_bounds (made rest) ≡ 0
 
--- Bounds go on behind others, up to an E, behind which a lifetime that is erased stands.
+-- Bounds go on after others, up to an E, after which comes a lifetime that is erased.
 pub record BoundsGoOn (s : List ℕ) (outer : List Opened) (place : ℕ) (made : tree.Bounds → tree.Bounds) (at : ℕ) (st : State) : Type 0 where
   pub inner : List Opened
   pub production : Production

@@ -32,7 +32,7 @@ is_unsigned letter = one_of unsigned_letters letter
 abbrev pub sign_text : (minus : Bool) → List ℕ
 sign_text minus = if minus then 45 ∷ [] else []
 
--- a number in base 16 stands at the place, with this value of at most 64 bits, and this is the place behind it
+-- a number in base 16 is at the place, with this value of at most 64 bits, and this is the place after it
 pub record IsHexAt (s : List ℕ) (at : ℕ) (n : ℕ) (end : ℕ) : Type 0 where
   pub token : Token
   pub is_number : IsNumberToken Hex token
@@ -41,7 +41,7 @@ pub record IsHexAt (s : List ℕ) (at : ℕ) (n : ℕ) (end : ℕ) : Type 0 wher
   pub stands : StandsAt s at (bytes_of token)
   pub ends : end ≡ at + length (bytes_of token)
 
--- Where a constant is expected at the place, this one comes, and this is the place behind it.
+-- Where a constant is expected at the place, this one comes, and this is the place after it.
 abbrev pub IsConstantAt : (s : List ℕ) → (at : ℕ) → tree.Constant → (end : ℕ) → Type 0
 IsConstantAt s at c end =
     (os : List Opened) (st : State) → Expects s CONSTANT os at st → Comes s os (a_constant c) end (with_ended at (a_constant c) st)
@@ -66,7 +66,7 @@ pub record SizeGoesOn (s : List ℕ) (outer : List Opened) (place : ℕ) (t : tr
   pub awaits : Expects s CONSTANT inner at (within production st)
   pub passes : (c : tree.Constant) (at : ℕ) (st : State) → Comes s inner (a_constant c) at st → Ends s outer place (a_type (tree.array t c)) at st
 
--- The type of an array is expected, and behind it the size.
+-- The type of an array is expected, and after it the size.
 pub record ArrayGoesOn (s : List ℕ) (outer : List Opened) (place : ℕ) (at : ℕ) (st : State) : Type 0 where
   pub inner : List Opened
   pub production : Production

@@ -1,4 +1,4 @@
--- What the rules of a Rust symbol that stand open still need. No lifetime is bound: where one is, the symbol is given up.
+-- What the rules of a Rust symbol that are open still need. No lifetime is bound: where one is, the symbol is given up.
 use Rattle.std.specs.Prelude.{◌≡◌, ◌⊎◌, ℕ, ◌+◌, ◌≤◌, List, [], ◌∷◌, Bool, true, false, Option, Some, None, Ok, length}
 use Rattle.std.specs.List.{AllByRecursion}
 use Rattle.sym_core.specs.declared.NumberKind.TheVariants.{Base62}
@@ -38,15 +38,15 @@ Expects s kind os at state = direct.Expects rust_language s (OfKind kind) 0 os a
 
 -- ## States
 
--- the state in front of a part of a production
+-- the state before a part of a production
 abbrev pub within : Production → State → State
 within p state = record { ended = state.ended; inside = Some p; minus = false }
 
--- the state behind what no reference may name
+-- the state after what no reference may name
 abbrev pub behind : State → State
 behind state = record { ended = state.ended; inside = None; minus = false }
 
--- the state behind a path, a type or a constant that began at a place
+-- the state after a path, a type or a constant that began at a place
 abbrev pub with_ended : (place : ℕ) → Value → State → State
 with_ended place v state = record { ended = record { place = place; value = v } ∷ state.ended; inside = None; minus = false }
 
@@ -69,7 +69,7 @@ is_for_type _ = false
 
 -- ## What is read
 
--- a number in base 62 stands at the place, with this value, and this is the place behind it
+-- a number in base 62 is at the place, with this value, and this is the place after it
 pub record IsNumberAt (s : List ℕ) (at : ℕ) (n : ℕ) (end : ℕ) : Type 0 where
   pub token : Token
   pub is_number : IsNumberToken Base62 token
@@ -77,7 +77,7 @@ pub record IsNumberAt (s : List ℕ) (at : ℕ) (n : ℕ) (end : ℕ) : Type 0 w
   pub stands : StandsAt s at (bytes_of token)
   pub ends : end ≡ at + length (bytes_of token)
 
--- a name stands at the place, and this is the place behind it
+-- a name is at the place, and this is the place after it
 pub record IsNameAt (s : List ℕ) (at : ℕ) (name : List ℕ) (end : ℕ) : Type 0 where
   pub token : Token
   pub is_name : IsName Rust token
@@ -85,17 +85,17 @@ pub record IsNameAt (s : List ℕ) (at : ℕ) (name : List ℕ) (end : ℕ) : Ty
   pub stands : StandsAt s at (bytes_of token)
   pub ends : end ≡ at + length (bytes_of token)
 
--- a disambiguator stands at the place, or none, which counts 0
+-- a disambiguator is at the place, or none, which counts 0
 abbrev pub IsDisambiguatorAt : (s : List ℕ) → (at count end : ℕ) → Type 0
 IsDisambiguatorAt s at count end =
     ((count ≡ 0) × (end ≡ at))
     ⊎ ((n : ℕ) × StandsAt s at (115 ∷ []) × IsNumberAt s (at + 1) n end × (count ≡ n + 1) × (count ≤ greatest_u64))
 
--- a number in base 62 stands at the place that is less than the greatest of 64 bits, and this is the place behind it
+-- a number in base 62 is at the place that is less than the greatest of 64 bits, and this is the place after it
 abbrev pub IsSmallNumberAt : (s : List ℕ) → (at end : ℕ) → Type 0
 IsSmallNumberAt s at end = (n : ℕ) × IsNumberAt s at n end × (n + 1 ≤ greatest_u64)
 
--- a disambiguator stands at the place, or none, whatever it counts, and this is the place behind it
+-- a disambiguator is at the place, or none, whatever it counts, and this is the place after it
 abbrev pub HasDisambiguator : (s : List ℕ) → (at end : ℕ) → Type 0
 HasDisambiguator s at end = (count : ℕ) × IsDisambiguatorAt s at count end
 
@@ -116,7 +116,7 @@ abbrev pub erased_bytes : Erased → List ℕ
 erased_bytes unwritten = []
 erased_bytes written = 76 ∷ 95 ∷ []
 
--- an erased lifetime stands at the place, or none, and this is the place behind it
+-- an erased lifetime is at the place, or none, and this is the place after it
 abbrev pub IsErasedAt : (s : List ℕ) → (at end : ℕ) → Type 0
 IsErasedAt s at end = (e : Erased) × StandsAt s at (erased_bytes e) × (end ≡ at + length (erased_bytes e))
 
@@ -126,7 +126,7 @@ IsErasedAt s at end = (e : Erased) × StandsAt s at (erased_bytes e) × (end ≡
 unfoldable pub is_suffix_byte : ℕ → Bool
 is_suffix_byte b = in_ranges suffix_bytes b
 
--- a dot, and one or more bytes behind it
+-- a dot, and one or more bytes after it
 abbrev pub IsSuffix : List ℕ → Type 0
 IsSuffix [] = ⊥
 IsSuffix (d ∷ []) = ⊥
@@ -137,12 +137,12 @@ abbrev pub IsSymbol : (s : List ℕ) → tree.Path → (suffix : List ℕ) → T
 IsSymbol s p suffix =
     (other : Option tree.Path) × StandsFor v0_mangled s (Ok (record { path = p; instantiating = other; suffix = suffix }))
 
--- The paths of a symbol are read: it ends at the place, or a suffix stands there.
+-- The paths of a symbol are read: it ends at the place, or a suffix is there.
 pub record EndsSymbol (s : List ℕ) (p : tree.Path) (at : ℕ) : Type 0 where
   pub ends : at ≡ length s → IsSymbol s p []
   pub ends_in : (suffix : List ℕ) → StandsAt s at suffix → at + length suffix ≡ length s → IsSuffix suffix → IsSymbol s p suffix
 
--- The path of a symbol is read, and that of the crate that asked for it may stand there.
+-- The path of a symbol is read, and that of the crate that asked for it may be there.
 pub record OtherGoesOn (s : List ℕ) (p : tree.Path) (at : ℕ) (st : State) : Type 0 where
   pub inner : List Opened
   pub awaits : Expects s OTHER_PATH inner at (within Production.Symbol st)
@@ -190,7 +190,7 @@ pub record PathGoesOn (s : List ℕ) (outer : List Opened) (place : ℕ) (made :
   pub awaits : Expects s PATH inner at (within production st)
   pub passes : PathPasses s inner outer place made
 
--- Arguments of a path go on behind others, up to an E.
+-- Arguments of a path go on after others, up to an E.
 pub record ArgumentsGoOn (s : List ℕ) (outer : List Opened) (place : ℕ) (p : tree.Path) (made : tree.Arguments → tree.Arguments) (at : ℕ) (st : State)
     : Type 0 where
   pub inner : List Opened
@@ -199,28 +199,28 @@ pub record ArgumentsGoOn (s : List ℕ) (outer : List Opened) (place : ℕ) (p :
   pub closes : (vs : List Value) (a : tree.Arguments) (at : ℕ) (st : State) → arguments_part vs ≡ Ok (a, []) → ComesAll s inner vs at st
       → StandsAt s at (69 ∷ []) → Ends s outer place (a_path (tree.generic p (made a))) (at + 1) st
 
--- Types of a tuple go on behind others, up to an E.
+-- Types of a tuple go on after others, up to an E.
 pub record TypesGoOn (s : List ℕ) (outer : List Opened) (place : ℕ) (made : tree.Tys → tree.Tys) (at : ℕ) (st : State) : Type 0 where
   pub inner : List Opened
   pub production : Production
   pub awaits : Expects s TYPES inner at (within production st)
   pub closes : (ts : tree.Tys) (at : ℕ) (st : State) → Comes s inner (some_types ts) at st → Ends s outer place (a_type (tree.tuple (made ts))) at st
 
--- The type is expected that implements a trait, and behind it the trait.
+-- The type is expected that implements a trait, and after it the trait.
 pub record ImplementingGoesOn (s : List ℕ) (outer : List Opened) (place : ℕ) (made : tree.Ty → tree.Path → Value) (at : ℕ) (st : State) : Type 0 where
   pub inner : List Opened
   pub production : Production
   pub awaits : Expects s TYPE inner at (within production st)
   pub onward : (v : Value) (t : tree.Ty) (at : ℕ) (st : State) → IsType v t → Comes s inner v at st → PathGoesOn s outer place (made t) at st
 
--- The path of an impl is expected, and behind it its type.
+-- The path of an impl is expected, and after it its type.
 pub record ImplGoesOn (s : List ℕ) (outer : List Opened) (place : ℕ) (made : tree.Path → tree.Ty → Value) (at : ℕ) (st : State) : Type 0 where
   pub inner : List Opened
   pub production : Production
   pub awaits : Expects s PATH inner at (within production st)
   pub onward : (q : tree.Path) (at : ℕ) (st : State) → Comes s inner (a_path q) at st → TypeGoesOn s outer place (made q) at st
 
--- The path of an impl of a trait is expected, and behind it the type and the trait.
+-- The path of an impl of a trait is expected, and after it the type and the trait.
 pub record TraitGoesOn (s : List ℕ) (outer : List Opened) (place : ℕ) (made : tree.Path → tree.Ty → tree.Path → Value) (at : ℕ) (st : State)
     : Type 0 where
   pub inner : List Opened

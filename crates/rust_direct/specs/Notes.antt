@@ -5,14 +5,14 @@ use Rattle.rust_grammar.specs.Unfold.{ended_at}
 use Rattle.rust_direct.specs.declared.open.Note.{Note}
 use Rattle.rust_direct.specs.Says.{Says}
 
--- The list in which a note stands. What is read and not shown is written aside; while it is, that list is the one that is written to.
+-- The list in which a note is. What is read and not shown is written aside; while it is, that list is the one that is written to.
 abbrev pub home : (is_aside : Bool) → (note_is_aside : Bool) → (text aside : List ℕ) → List ℕ
 home true true text aside = text
 home false false text aside = text
 home true false text aside = aside
 home false true text aside = aside
 
--- a note says where the text of this value stands
+-- a note says where the text of this value is
 pub record IsNote (written : List ℕ) (n : Note) (v : Value) : Type 0 where
   pub front : List ℕ
   pub bytes : List ℕ

@@ -11,7 +11,7 @@ pub record Shows (parts : Unshared) (bytes : List ℕ) : Type 0 where
   pub text_is : text_of parts ≡ bytes
   pub cost : 1 + cost_of parts ≤ 4 * length bytes
 
--- A path with this text in a form: behind a value its arguments stand behind `::`. It needs no lifetime that is bound around it.
+-- A path with this text in a form: after a value its arguments come after `::`. It needs no lifetime that is bound around it.
 pub record PathPrints (value : Bool) (p : Path) (bytes : List ℕ) : Type 0 where
   pub shows : Shows (path_parts Full 0 value p) bytes
   pub needs_none : need p ≡ 0
@@ -36,7 +36,7 @@ abbrev pub cost_of_some : Option Unshared → ℕ
 cost_of_some None = 0
 cost_of_some (Some parts) = cost_of parts
 
--- what stands before the arguments of a path
+-- what comes before the arguments of a path
 abbrev pub opening : (value : Bool) → List ℕ
 opening value = cond value (codes "::<") (codes "<")
 
@@ -46,7 +46,7 @@ pub record ArgumentsPrint (args : Arguments) (bytes : List ℕ) : Type 0 where
   pub cost : cost_of_some (arguments_from Full 0 [] args) ≤ 4 * length bytes
   pub needs_none : need_of_arguments args ≡ 0
 
--- Arguments so far have this text, whatever stands behind them; a separator stands before the next one.
+-- Arguments so far have this text, whatever follows them; a separator comes before the next one.
 pub record ArgumentsBegin (made : Arguments → Arguments) (separator bytes : List ℕ) : Type 0 where
   pub text_is : (rest : Arguments) → text_of_some (arguments_from Full 0 [] (made rest)) ≡ bytes ++ text_of_some (arguments_from Full 0 separator rest)
   pub cost : (rest : Arguments) → cost_of_some (arguments_from Full 0 [] (made rest)) ≤ 4 * length bytes + cost_of_some (arguments_from Full 0 separator rest)

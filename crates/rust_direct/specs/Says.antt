@@ -33,7 +33,7 @@ Holds forms.Typed v bytes = (t : Ty) × (as_type (Some v) ≡ Some t) × TypePri
 Holds forms.Unnamed v bytes = ⊥
 Holds f v bytes = (p : Path) × (v ≡ a_path p) × PathHas f p bytes
 
--- the text is right in a form of a path: as it stands behind a value, or elsewhere
+-- the text is right in a form of a path: as it comes after a value, or elsewhere
 abbrev pub has_form : (value : Bool) → Forms → Bool
 has_form value forms.Alike = true
 has_form true forms.Valued = true

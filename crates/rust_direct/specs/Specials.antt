@@ -1,11 +1,11 @@
 -- How closures, shims and other things that a compiler made are shown.
 use Rattle.std.specs.Prelude.{ℕ, List, [], ◌∷◌, ◌++◌, codes, decimal}
 
--- a name behind a colon, where there is one
+-- a name after a colon, where there is one
 abbrev pub behind_colon : (name : List ℕ) → List ℕ
 behind_colon [] = []
 behind_colon (b ∷ bs) = 58 ∷ b ∷ bs
 
--- what stands behind the parent: the namespace, the name, and which of several it is
+-- what follows the parent: the namespace, the name, and which of several it is
 abbrev pub special_text : (namespace name : List ℕ) → (count : ℕ) → List ℕ
 special_text namespace name count = codes "::{" ++ namespace ++ behind_colon name ++ codes "#" ++ decimal count ++ codes "}"

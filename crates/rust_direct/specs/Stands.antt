@@ -45,7 +45,7 @@ TraitPrints made =
     (value : Bool) (t : tree.Ty) (r : tree.Path) (bytes own : List ℕ) → TypePrints t bytes → PathPrints false r own
     → PathPrints value (made t r) ((codes "<" ++ bytes ++ codes " as ") ++ own ++ codes ">")
 
--- what stands behind the type, and what is made of it then
+-- what follows the type, and what is made of it then
 abbrev pub closing_text : Closing → List ℕ
 closing_text closings.Nothing = []
 closing_text closings.Bracket = codes "]"
@@ -59,7 +59,7 @@ abbrev pub WrapHolds : (mark : List ℕ) → Closing → (tree.Ty → Value) →
 WrapHolds mark closing made =
     (t : tree.Ty) (bytes : List ℕ) → TypePrints t bytes → Holds (closing_forms closing) (made t) (mark ++ bytes ++ closing_text closing)
 
--- what closes a tuple behind its first type, and behind another one
+-- what closes a tuple after its first type, and after another one
 abbrev pub tuple_end : (is_first : Bool) → List ℕ
 tuple_end is_first = cond is_first (codes ",)") (codes ")")
 
@@ -69,8 +69,8 @@ pub record TypesCount (is_first : Bool) (made : tree.Tys → tree.Tys) : Type 0 
 
 -- ## What is open
 
--- A path or a type comes for the last of the open ones, behind what is written. Where it is read and not shown, the text that is
--- shown is the parked one. Behind the path of an impl that isn't shown itself, whatever is written, the impl's own text begins.
+-- A path or a type comes for the last of the open ones, after what is written. Where it is read and not shown, the text that is
+-- shown is the parked one. After the path of an impl that isn't shown itself, whatever is written, the impl's own text begins.
 abbrev pub Stands : (s : List ℕ) → List Open → List Opened → (text parked : List ℕ) → Type 0
 Stands s [] os text parked = ⊥
 Stands s (opens.Symbol ∷ rest) os text parked =
@@ -165,7 +165,7 @@ pub record IsAwaited (s : List ℕ) (w : Direct) (state : State) (for_type : Boo
   pub awaits : Expects s (kind_of wanted) os w.at state
   pub stands : Stands s (reverse w.waiting.list.items) os w.text.list.items (parked_of w)
 
--- a path or a type was read, which stands from a place on
+-- a path or a type was read, which is from a place on
 pub record IsRead (s : List ℕ) (w : Direct) (state : State) (waiting : List Open) (from : ℕ) (forms : Forms) : Type 0 where
   pub os : List Opened
   pub v : Value
@@ -177,7 +177,7 @@ pub record IsRead (s : List ℕ) (w : Direct) (state : State) (waiting : List Op
   pub comes : Comes s os v w.at state
   pub stands : Stands s waiting os front (parked_of w)
 
--- arguments go on: what stands between them and the next one
+-- arguments go on: what is between them and the next one
 abbrev pub separator_of : (is_first : Bool) → List ℕ
 separator_of is_first = cond is_first [] (codes ", ")
 

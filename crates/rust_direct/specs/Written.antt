@@ -30,7 +30,7 @@ pub record Notes (old new : Direct) (place from : ℕ) (forms : Forms) : Type 0 
   pub at : new.at ≡ old.at
   pub rounds : new.rounds ≡ old.rounds
 
--- what stands in a list between two places
+-- what is in a list between two places
 abbrev pub piece : List ℕ → (from to : ℕ) → List ℕ
 piece bytes from to = take (to - from) (drop from bytes)
 

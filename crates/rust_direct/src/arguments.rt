@@ -41,7 +41,7 @@ impl Direct {
         Some(Step::Arguments { is_first: true })
     }
 
-    /// Writes what stands before arguments.
+    /// Writes what comes before arguments.
     #[inline(always)]
     fn push_opening(&mut self, is_value: bool) -> Option<()>
         ensures { OnSome result (Writes self.old self.new (opening is_value)) }
@@ -70,7 +70,7 @@ impl Direct {
         self.next_argument(s, byte, false)
     }
 
-    /// Reads an argument, up to the first type that stands in it.
+    /// Reads an argument, up to the first type that is in it.
     // <generic-arg> = <lifetime> | <type> | "K" <const>
     #[inline(always)]
     fn next_argument(&mut self, s: &[u8], byte: u8, is_first: bool) -> Option<Step>

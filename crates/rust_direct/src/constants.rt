@@ -104,7 +104,7 @@ impl Direct {
         self.ended(s, place, from, Forms::Typed, Forms::Typed)
     }
 
-    /// Reads and writes the constant at a place, and answers the place behind it.
+    /// Reads and writes the constant at a place, and answers the place after it.
     // <const> = <type> <const-data> | "p"
     fn constant_at(&mut self, s: &[u8], at: usize) -> Option<usize>
         requires { FitsSymbol s.now }

@@ -58,7 +58,7 @@ fn is_low(byte: u8) -> bool
     byte <= b'9' || (b'a' <= byte && byte <= b'k')
 }
 
-/// The place behind a number that has as many digits as most hashes.
+/// The place after a number that has as many digits as most hashes.
 // <base-62-number> = {<0-9a-zA-Z>} "_"
 #[inline(always)]
 fn hash_end(s: &[u8], at: usize) -> Option<usize>
@@ -84,7 +84,7 @@ fn hash_end(s: &[u8], at: usize) -> Option<usize>
     Some(mark + 1)
 }
 
-/// The place behind the disambiguator at a place, whatever it is.
+/// The place after the disambiguator at a place, whatever it is.
 #[inline(never)]
 fn any_disambiguator_end(s: &[u8], at: usize) -> Option<usize>
     requires { FitsSymbol s.now }
@@ -94,7 +94,7 @@ fn any_disambiguator_end(s: &[u8], at: usize) -> Option<usize>
     Some(end)
 }
 
-/// The place behind the disambiguator at a place, or the same place where there is none.
+/// The place after the disambiguator at a place, or the same place where there is none.
 // <disambiguator> = "s" <base-62-number>
 #[inline(always)]
 pub fn disambiguator_end(s: &[u8], at: usize) -> Option<usize>

@@ -72,7 +72,7 @@ impl Direct {
         self.begin_impl_type(_s, place)
     }
 
-    /// The type of an impl stands in angles.
+    /// The type of an impl is in angles.
     // <path> = "M" <impl-path> <type>
     #[inline(always)]
     fn begin_impl_type(&mut self, _s: &[u8], place: usize) -> Option<Step>

@@ -1,4 +1,4 @@
-// Impls within what isn't shown: their paths are written in front of it, where nothing of it is written yet.
+// Impls within what isn't shown: their paths are written before it, where nothing of it is written yet.
 
 ghost use Rattle.std.specs.Prelude.{◌≡◌, ◌+◌, ◌∷◌, [], reverse, true};
 ghost use Rattle.std.specs.Option.{IfSome};

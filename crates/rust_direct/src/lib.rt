@@ -1,10 +1,8 @@
 //! The text of a Rust symbol, written while its bytes are read.
 //!
-//! Crate roots, paths in a namespace with closures and shims, impls, also within the paths of others, traits as a type implements
-//! them, and paths with arguments are read so; of types basic ones, paths, references, raw pointers, slices, arrays, tuples and `dyn`;
-//! of constants integers, truth values and what isn't known; with back references to paths and types, the crate that asked for a
-//! symbol, and a suffix. A symbol with anything else in it is given up, and is to be read by its grammar: no answer depends on this
-//! crate, which `rust_short_way` takes step by step, and `rust_v0` may leave out.
+//! Symbols of common parts are read so: paths, impls, closures, and types that bind no lifetime. What is left to the general way is
+//! listed in docs/ARCHITECTURE.md ("The short ways"). A symbol with anything of that is given up, and is to be read by its grammar: no
+//! answer depends on this crate, which `rust_short_way` takes step by step, and `rust_v0` may leave out.
 #![tactic(auto)]
 
 mod arguments;

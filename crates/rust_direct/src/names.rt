@@ -1,4 +1,4 @@
-// Names: where they stand.
+// Names: where they are.
 
 ghost use Rattle.std.specs.Prelude.{◌≡◌, ◌≤◌, length, true};
 ghost use Rattle.std.specs.Option.{IfSome};
@@ -11,7 +11,7 @@ ghost use Rattle.rust_direct.specs.Names.{IsLengthRead, IsNamePlace, IsNameSpan,
 use sym_core::{NameClass, Span, TokenPlace, find_name};
 use sym_direct::byte_at;
 
-// For each byte 1 where it may not stand in a name, else 0.
+// For each byte 1 where it may not be in a name, else 0.
 static BARRED: [u8; 256] = [
     1, 1, 1, 1, 1, 1, 1, 1, 1, 1, 1, 1, 1, 1, 1, 1, 1, 1, 1, 1, 1, 1, 1, 1, 1, 1, 1, 1, 1, 1, 1, 1,
     1, 1, 1, 1, 1, 1, 1, 1, 1, 1, 1, 1, 1, 1, 1, 1, 0, 0, 0, 0, 0, 0, 0, 0, 0, 0, 1, 1, 1, 1, 1, 1,
@@ -23,7 +23,7 @@ static BARRED: [u8; 256] = [
     1, 1, 1, 1, 1, 1, 1, 1, 1, 1, 1, 1, 1, 1, 1, 1, 1, 1, 1, 1, 1, 1, 1, 1, 1, 1, 1, 1, 1, 1, 1, 1,
 ];
 
-/// 1 where a byte may not stand in a name, else 0.
+/// 1 where a byte may not be in a name, else 0.
 #[inline(always)]
 fn barred(byte: u8) -> u8
     ensures few { result ≤ 1 }
@@ -32,7 +32,7 @@ fn barred(byte: u8) -> u8
     BARRED[byte as usize]
 }
 
-/// How many of the first bytes, by fours, may stand in a name.
+/// How many of the first bytes, by fours, may be in a name.
 #[inline(always)]
 fn named_fours(bytes: &[u8]) -> usize
     ensures within { result ≤ length bytes.now }
@@ -51,7 +51,7 @@ fn named_fours(bytes: &[u8]) -> usize
     end
 }
 
-/// Whether each byte may stand in a name.
+/// Whether each byte may be in a name.
 #[inline(always)]
 fn are_name_bytes(bytes: &[u8]) -> bool
     ensures { result ≡ true → ReachesNameBytes Rust bytes.now (length bytes.now) }
@@ -74,7 +74,7 @@ fn is_digit(byte: u8) -> bool
     b'0' <= byte && byte <= b'9'
 }
 
-/// Whether a byte behind a length may belong to it, or part it from the name.
+/// Whether a byte after a length may belong to it, or part it from the name.
 #[inline(always)]
 fn goes_on(byte: u8) -> bool
     ensures { result ≡ goes_on byte }
@@ -137,7 +137,7 @@ fn own_at(s: &[u8], at: usize, from: usize, size: usize) -> Option<TokenPlace>
     Some(TokenPlace { from, to, end: to })
 }
 
-/// The name at a place: most have a length of one digit or two, and nothing behind it.
+/// The name at a place: most have a length of one digit or two, and nothing after it.
 // <undisambiguated-identifier> = <decimal-number> ["_"] <bytes>
 #[inline(always)]
 pub fn name_at(s: &[u8], at: usize) -> Option<TokenPlace>

@@ -1,4 +1,4 @@
-// What stands open around what is being read, and what comes next.
+// What is open around what is being read, and what comes next.
 
 ghost use Rattle.std.specs.Prelude.{◌≡◌};
 ghost use Rattle.rust_direct.specs.Says.{has_form, is_path, is_type, form_of};
@@ -6,11 +6,11 @@ ghost use Rattle.rust_direct.specs.Says.{has_form, is_path, is_type, form_of};
 /// What was read at a place, by the text that it wrote.
 #[derive(Clone, Copy)]
 pub enum Forms {
-    /// a path that looks the same behind a value and in a type
+    /// a path that looks the same after a value and in a type
     Alike,
-    /// a path as it stands behind a value: `Vec::<u8>`
+    /// a path as it comes after a value: `Vec::<u8>`
     Valued,
-    /// a path as it stands in a type: `Vec<u8>`
+    /// a path as it is in a type: `Vec<u8>`
     Plain,
     /// a type
     Typed,
@@ -18,7 +18,7 @@ pub enum Forms {
     Unnamed,
 }
 
-/// Whether it is a path as it stands behind a value, or as it stands elsewhere.
+/// Whether it is a path as it comes after a value, or as it is elsewhere.
 #[inline(always)]
 pub fn has_form(is_value: bool, forms: Forms) -> bool
     ensures { result ≡ has_form is_value forms }
@@ -81,7 +81,7 @@ pub struct Note {
     pub is_aside: bool,
 }
 
-/// What stands behind a type or a path that waits.
+/// What comes after a type or a path that waits.
 #[derive(Clone, Copy)]
 pub enum Closing {
     Nothing,

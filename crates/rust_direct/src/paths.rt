@@ -17,7 +17,7 @@ use crate::tokens::{is_namespace, number_at};
 use sym_direct::byte_at;
 
 impl Direct {
-    /// Reads a path, up to the first that stands in it.
+    /// Reads a path, up to the first that is in it.
     // <path> = "C" <identifier> | "N" <namespace> <path> <identifier> | "I" <path> {<generic-arg>} "E" | "M" <impl-path> <type>
     //        | "X" <impl-path> <type> <path> | "Y" <type> <path> | <backref>
     pub(crate) fn path_at(&mut self, s: &[u8], is_value: bool) -> Option<Step>
@@ -36,7 +36,7 @@ impl Direct {
         }
     }
 
-    /// Reads the first bytes of the paths that stand around the innermost one.
+    /// Reads the first bytes of the paths that are around the innermost one.
     // <path> = "N" <namespace> <path> <identifier> | "I" <path> {<generic-arg>} "E"
     #[inline(always)]
     fn begin_outer(&mut self, s: &[u8], is_value: bool) -> Option<()>

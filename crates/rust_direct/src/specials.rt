@@ -68,7 +68,7 @@ impl Direct {
         self.ended(s, place, from, forms, forms)
     }
 
-    /// Writes what stands behind the parent.
+    /// Writes what follows the parent.
     fn push_special(&mut self, namespace: &[u8], name: &[u8], count: u64) -> Option<()>
         ensures { OnSome result (Writes self.old self.new (special_text namespace.now name.now count)) }
     {
@@ -90,7 +90,7 @@ impl Direct {
         Some(())
     }
 
-    /// Writes a name behind a colon, if it isn't empty.
+    /// Writes a name after a colon, if it isn't empty.
     #[inline(always)]
     fn push_behind_colon(&mut self, name: &[u8]) -> Option<()>
         ensures { OnSome result (Writes self.old self.new (behind_colon name.now)) }

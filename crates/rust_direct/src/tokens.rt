@@ -10,7 +10,7 @@ ghost use Rattle.rust_direct.specs.Constants.{IsHexAt};
 use sym_core::{NumberKind, find_number, value16, value62};
 use sym_direct::byte_at;
 
-/// Whether a byte may stand in a suffix.
+/// Whether a byte may be in a suffix.
 #[tactic(auto, unfolding(crate::specs::Holes::is_suffix_byte))]
 fn is_suffix_byte(byte: u8) -> bool
     ensures { result ≡ is_suffix_byte byte }
@@ -38,7 +38,7 @@ pub fn is_namespace(byte: u8) -> bool
     }
 }
 
-/// Whether each byte may stand in a suffix.
+/// Whether each byte may be in a suffix.
 fn are_suffix_bytes(bytes: &[u8]) -> bool
     ensures { result ≡ true → AllByRecursion (λ b. is_suffix_byte b ≡ true) bytes.now }
 {
@@ -55,7 +55,7 @@ pub fn is_suffix(bytes: &[u8]) -> bool
     are_suffix_bytes(&bytes[1..])
 }
 
-/// The number in base 62 at a place, and the place behind it.
+/// The number in base 62 at a place, and the place after it.
 // <base-62-number> = {<0-9a-zA-Z>} "_"
 #[inline(always)]
 pub fn number_at(s: &[u8], at: usize) -> Option<(u64, usize)>
@@ -70,7 +70,7 @@ pub fn number_at(s: &[u8], at: usize) -> Option<(u64, usize)>
     Some((value, place.end))
 }
 
-/// The number in base 16 at a place, of at most 64 bits, and the place behind it.
+/// The number in base 16 at a place, of at most 64 bits, and the place after it.
 // <const-data> = {<hex-digit>} "_"
 pub fn hex_at(s: &[u8], at: usize) -> Option<(u64, usize)>
     requires { FitsSymbol s.now }
@@ -84,7 +84,7 @@ pub fn hex_at(s: &[u8], at: usize) -> Option<(u64, usize)>
     Some((value, place.end))
 }
 
-/// The disambiguator at a place, 0 where there is none, and the place behind it.
+/// The disambiguator at a place, 0 where there is none, and the place after it.
 // <disambiguator> = "s" <base-62-number>
 #[inline(always)]
 pub fn disambiguator_at(s: &[u8], at: usize) -> Option<(u64, usize)>

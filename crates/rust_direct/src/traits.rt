@@ -71,7 +71,7 @@ impl Direct {
         self.begin_trait_type(_s, place)
     }
 
-    /// The type that implements a trait stands behind an angle.
+    /// The type that implements a trait comes after an angle.
     // <path> = "X" <impl-path> <type> <path>
     #[inline(always)]
     fn begin_trait_type(&mut self, _s: &[u8], place: usize) -> Option<Step>

@@ -11,7 +11,7 @@ use crate::direct::Direct;
 use crate::open::{Forms, Open, Step, is_type};
 use sym_direct::byte_at;
 
-/// What closes a tuple behind its first type, and behind another one.
+/// What closes a tuple after its first type, and after another one.
 #[inline(always)]
 fn tuple_end(is_first: bool) -> &'static [u8]
     ensures { result.now ≡ tuple_end is_first }

@@ -46,7 +46,7 @@ fn basic_text(letter: u8) -> &'static [u8]
 }
 
 impl Direct {
-    /// Reads a type, up to the first that stands in it.
+    /// Reads a type, up to the first that is in it.
     // <type> = <basic-type> | <path> | "S" <type> | "T" {<type>} "E" | "R" [<lifetime>] <type> | "Q" [<lifetime>] <type> | "P" <type>
     //        | "O" <type> | <backref> | ..
     pub(crate) fn type_at(&mut self, s: &[u8]) -> Option<Step>

@@ -13,7 +13,7 @@ use crate::direct::Direct;
 use crate::open::{Closing, Forms, Open, Step, is_type};
 use sym_direct::byte_at;
 
-/// The place behind an erased lifetime, or the same place where none stands there.
+/// The place after an erased lifetime, or the same place where none is there.
 // <lifetime> = "L" <base-62-number>
 #[inline(always)]
 fn behind_erased(s: &[u8], at: usize) -> Option<usize>

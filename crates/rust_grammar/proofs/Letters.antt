@@ -49,7 +49,7 @@ letter_range row k byte l k_lt byte_lt at =
     let both = and_parts (leb 43 l) (ltb l 92) (sym (ap is_letter at) ∙ is) in
     (leb-true _ _ both.0, ltb-true _ _ both.1)
 
--- in the list of symbols each rule has six places, behind those of the start
+-- in the list of symbols each rule has six places, after those of the start
 places : (head : Head) → map (λ n. listed_in SYMBOLS (n * 6 + 6)) (range_with_len 0 49) ≡ map (λ n. symbols_of (listed_rule head n)) (range_with_len 0 49)
 unfolding listed_rule
 places head = refl

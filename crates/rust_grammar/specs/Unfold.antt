@@ -31,7 +31,7 @@ is_scalar c = nat_lt c 55296 || (nat_le 57344 c && nat_lt c 1114112)
 abbrev pub no_such_parts : Refusal
 no_such_parts = Malformed 0
 
--- the next part, of one sort, and the parts behind it
+-- the next part, of one sort, and the parts after it
 abbrev pub Part : Type 0 → Type 0
 Part A = Result (A × List Value) Refusal
 
@@ -132,15 +132,15 @@ abbrev pub other_path_part : List Value → Part (Option tree.Path)
 other_path_part (a_path path ∷ rest) = Ok (Some path, rest)
 other_path_part rest = Ok (None, rest)
 
--- Where a rule stands: the symbol and the place in it, how many lifetimes are bound around it, and what has ended
--- behind its parts.
+-- Where a rule is: the symbol and the place in it, how many lifetimes are bound around it, and what has ended
+-- after its parts.
 pub record At : Type 0 where
   pub symbol : List ℕ
   pub place : ℕ
   pub bound : ℕ
   pub ended : List Ended
 
--- the byte that stands there
+-- the byte that is there
 abbrev pub byte_at : At → ℕ
 byte_at at = slice_index at.symbol at.place
 
@@ -184,7 +184,7 @@ abbrev pub as_constant : Option Value → Option tree.Constant
 as_constant (Some (a_constant constant)) = Some constant
 as_constant _ = None
 
--- What ended that a reference names. Its number counts the bytes behind `_R`.
+-- What ended that a reference names. Its number counts the bytes after `_R`.
 abbrev pub referred : At → ℕ → Option Value
 referred at n = ended_at at.ended (n + 2)
 
@@ -388,7 +388,7 @@ abbrev pub meaning_of : Option Production → At → List Value → Meaning
 meaning_of None at parts = Err no_such_parts
 meaning_of (Some production) at parts = meaning production at parts
 
--- How many lifetimes are bound around the next part of a rule: a binder of `F` holds for all behind it, a binder of
+-- How many lifetimes are bound around the next part of a rule: a binder of `F` holds for all after it, a binder of
 -- `D` for its bounds alone.
 abbrev pub bound_behind : Option Production → ℕ → List Value → ℕ
 bound_behind (Some rules.Function) outer (a_binder lifetimes ∷ _) = outer + lifetimes

@@ -12,7 +12,7 @@ pub const OTHER_PATH: u16 = 2;
 /// `[<vendor-specific-suffix>]`: a suffix with its dot, or none.
 pub const SUFFIX: u16 = 3;
 
-/// The first byte of a suffix behind its dot.
+/// The first byte of a suffix after its dot.
 pub const SUFFIX_BYTE: u16 = 4;
 
 /// The other bytes of a suffix.

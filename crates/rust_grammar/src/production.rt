@@ -22,9 +22,9 @@ pub enum Production {
     Nested,
     /// `I`, a path and its arguments, up to `E`.
     Generic,
-    /// `.` and what a producer put behind the symbol.
+    /// `.` and what a producer put after the symbol.
     Suffix,
-    /// A byte of the suffix, and the bytes behind it.
+    /// A byte of the suffix, and the bytes after it.
     SuffixByte,
     /// The letter of a namespace.
     Namespace,
@@ -36,11 +36,11 @@ pub enum Production {
     PunycodeName,
     /// A name.
     PlainName,
-    /// A lifetime among arguments, and those behind it.
+    /// A lifetime among arguments, and those after it.
     LifetimeArgument,
-    /// `K` and a constant, and the arguments behind it.
+    /// `K` and a constant, and the arguments after it.
     ConstantArgument,
-    /// A type among arguments, and those behind it.
+    /// A type among arguments, and those after it.
     TypeArgument,
     /// The letter of a basic type.
     BasicType,
@@ -64,9 +64,9 @@ pub enum Production {
     Function,
     /// `D`, a binder, bounds up to `E`, and a lifetime.
     Dyn,
-    /// The `E` behind types.
+    /// The `E` after types.
     TypesEnd,
-    /// A type and those behind it.
+    /// A type and those after it.
     TypesMore,
     /// `L` and a number.
     Lifetime,
@@ -78,11 +78,11 @@ pub enum Production {
     Abi,
     /// `C` as an ABI.
     AbiC,
-    /// The `E` behind bounds.
+    /// The `E` after bounds.
     BoundsEnd,
-    /// A bound of a `dyn` type with its bindings, and those behind it.
+    /// A bound of a `dyn` type with its bindings, and those after it.
     BoundsMore,
-    /// `p`, a name and a type, and the bindings behind it.
+    /// `p`, a name and a type, and the bindings after it.
     Binding,
     /// The letter of a signed type, `n` or none, and a number.
     SignedConstant,

@@ -23,7 +23,7 @@ const BASE62: Sym = Number(NumberKind::Base62);
 
 const HEX: Sym = Number(NumberKind::Hex);
 
-/// What stands where a rule has no symbol.
+/// What is there where a rule has no symbol.
 const NONE: Sym = END;
 
 // For each kind a row: for each byte from `$` to `z` the letter of the rule that the kind takes there. A rule has one letter,

@@ -5,7 +5,7 @@ use Rattle.std.proofs.lemmas.List.{take_rest}
 use Rattle.sym_core.specs.Number.{AreDigits, is_digit_of}
 use Rattle.sym_core.specs.declared.NumberKind.{NumberKind}
 
--- what stands after the first bytes
+-- what is after the first bytes
 pub rest_whole : (bytes : List ℕ) (n : ℕ) → take (length bytes - n) (drop n bytes) ≡ drop n bytes
 rest_whole bytes n = take_rest bytes n
 

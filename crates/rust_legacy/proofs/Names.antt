@@ -1,4 +1,4 @@
--- Names as they stand in a symbol, and the walk over them.
+-- Names as they are in a symbol, and the walk over them.
 use Rattle.std.proofs.Common.{◌≡◌, ℕ, zero, suc, ◌+◌, ◌-◌, ◌<◌, ◌≤◌, List, [], ◌∷◌, ◌++◌, length, take, drop, Bool, cond, ◌&&◌, not, refl, ap, sym, ◌∙◌, arith, true, false, subst}
 use Rattle.std.specs.Prelude.{Option, Some, None, codes, nat_le, nat_lt, nat_eq, unwrap_or}
 use Rattle.std.specs.List.{prefix_len}

@@ -11,7 +11,7 @@ use Rattle.rust_legacy.specs.declared.path.PathPlace.{PathPlace}
 use Rattle.rust_legacy.proofs.Legacy.{is_legacy, not_named, not_suffix}
 use Rattle.rust_legacy.proofs.Names.{AreNames-joined, AreNames-none, after, before_suffix, ended, ended_within, name_size, names_after, no_name, not_ended, one_name, path_read, some_names, some_path, with_names, with_names-None, with_names-Some, with_names-joined}
 
--- The names before a place are read, and the one that begins at another is the last of them: what names there are is told by what stands
+-- The names before a place are read, and the one that begins at another is the last of them: what names there are is told by what is
 -- from there on.
 pub record Reads (s : List ℕ) (hash at : ℕ) : Type 0 where
   pub before : List (List ℕ)
@@ -75,7 +75,7 @@ all_names s hash at r is =
     ∙ with_names-Some r.before (r.last ++ []) suffix
     ∙ ap (λ n. Some (record { names = r.before ++ n; suffix = suffix })) (append-nil r.last)
 
--- what stands after the E is no suffix
+-- what is after the E is no suffix
 suffix_not : (s : List ℕ) (names : List (List ℕ)) (suffix : List ℕ) → names_in (length s) (drop 3 s) ≡ Some (record { names = names; suffix = suffix })
     → is_suffix suffix ≡ false → legacy_of s ≡ None
 suffix_not s names suffix is none = by (before_hash names) refl
@@ -163,7 +163,7 @@ no_room s hash at r more short =
     not_named s (ap path_in r.whole
     ∙ no_hash_path (with_names r.before (with_names r.last (names_in r.depth (drop at s)))) (no_hash_before r.before _ (no_hash_before r.last _ none)))
 
--- what stands at a place that no name begins at, or after which no hash has room
+-- what is at a place that no name begins at, or after which no hash has room
 pub not_read : (s : List ℕ) (hash at : ℕ) → Reads s hash at → (begins_with (codes "E") (drop at s) ≡ false → legacy_of s ≡ None)
     → (is_end (drop at s) ≡ true → hash ≡ 3) → legacy_of s ≡ None
 not_read s hash at r none few = by (begins_with (codes "E") (drop at s)) (is_suffix (drop 1 (drop at s))) refl refl

@@ -30,7 +30,7 @@ name_in s =
     then Some (record { bytes = take size (drop count s); size = count + size })
     else None
 
--- a path: its names, and what stands after it
+-- a path: its names, and what is after it
 pub record Path : Type 0 where
   pub names : List (List ℕ)
   pub suffix : List ℕ
@@ -39,7 +39,7 @@ abbrev pub with_name : List ℕ → Option Path → Option Path
 with_name name None = None
 with_name name (Some path) = Some (record { names = name ∷ path.names; suffix = path.suffix })
 
--- the names at the front, and what stands after the E that ends them. There are fewer names than bytes: so many is depth enough
+-- the names at the front, and what is after the E that ends them. There are fewer names than bytes: so many is depth enough
 abbrev pub names_in : (depth : ℕ) → List ℕ → Option Path
 names_in zero s = None
 names_in (suc depth) s =
@@ -98,7 +98,7 @@ IsPlaced s place = (path : Path) × (legacy_of s ≡ Some path) × StandsAt s pa
 
 -- ## Lengths
 
--- the digits of a length stand from one place to another, and stand for a value: the name at the first is so many bytes after them, if
+-- the digits of a length are from one place to another, and stand for a value: the name at the first is so many bytes after them, if
 -- there are so many, else none is there, nor the E that ends names
 abbrev pub HasLength : (s : List ℕ) → (at to value : ℕ) → Type 0
 HasLength s at to value =
@@ -110,7 +110,7 @@ HasLength s at to value =
 abbrev pub is_end : List ℕ → Bool
 is_end s = begins_with (codes "E") s && is_suffix (drop 1 s)
 
--- the names of a symbol are two or more, of which the last is at a place, and a suffix or nothing stands after their E
+-- the names of a symbol are two or more, of which the last is at a place, and a suffix or nothing comes after their E
 abbrev pub AreRead : (s : List ℕ) → PathPlace → Type 0
 AreRead s place =
     (names : List (List ℕ)) × (last : List ℕ) × (names_in (length s) (drop 3 s) ≡ Some (record { names = names ++ last ∷ []; suffix = drop place.end s }))

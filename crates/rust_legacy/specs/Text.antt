@@ -16,17 +16,17 @@ name_parts (text ∷ next ∷ rest) = bytes text (item (name_parts (next ∷ res
 abbrev pub shown_name : List ℕ → Unshared
 shown_name name = name_parts (texts_of (bare_name name))
 
--- names, the first after a text: that, its item, and the item of the names after it, which stand after ::
+-- names, the first after a text: that, its item, and the item of the names after it, which come after ::
 abbrev pub names_parts : (front : List ℕ) → List (List ℕ) → Unshared
 names_parts front [] = done
 names_parts front (name ∷ []) = front then item (shown_name name) done
 names_parts front (name ∷ next ∷ rest) = front then item (shown_name name) (item (names_parts (codes "::") (next ∷ rest)) done)
 
--- what stands before the name at a place in a symbol: :: but before the first one, whose place is 3
+-- what comes before the name at a place in a symbol: :: but before the first one, whose place is 3
 abbrev pub front_at : (at : ℕ) → List ℕ
 front_at at = if nat_le at 3 then [] else codes "::"
 
--- a suffix stands in brackets
+-- a suffix is in brackets
 abbrev pub suffix_parts : List ℕ → Unshared
 suffix_parts [] = done
 suffix_parts (byte ∷ rest) = bytes (codes " (") (bytes (byte ∷ rest) (bytes (codes ")") done))

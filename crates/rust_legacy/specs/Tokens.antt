@@ -67,6 +67,6 @@ texts_in (suc most) (byte ∷ rest) = (token_of (byte ∷ rest)).text ∷ texts_
 abbrev pub texts_of : List ℕ → List (List ℕ)
 texts_of bytes = texts_in (length bytes) bytes
 
--- a name without the underscore that stands before an escape
+-- a name without the underscore that comes before an escape
 abbrev pub bare_name : List ℕ → List ℕ
 bare_name name = if begins_with (codes "_$") name then drop 1 name else name

@@ -1,4 +1,4 @@
-// Escapes: what stands between dollars.
+// Escapes: what is between dollars.
 #![tactic(auto)]
 
 ghost use Rattle.std.specs.Prelude.{◌≡◌, ◌≤◌, ◌<◌, ◌+◌, ◌++◌, length, take, drop, MatchOption, None, Some, true};

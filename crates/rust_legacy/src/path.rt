@@ -1,4 +1,4 @@
-// Which symbols are legacy names, and where their names stand.
+// Which symbols are legacy names, and where their names are.
 #![tactic(auto)]
 
 ghost use Rattle.std.specs.Prelude.{◌≡◌, ◌≢◌, ◌≤◌, ◌<◌, ◌+◌, ◌-◌, ◌*◌, ◌^◌, ◌⊎◌, ◌==◌, ◌&&◌, not, nat_lt, [], ◌∷◌, codes, length, take, drop, Some, None, true, false, MatchOption};
@@ -11,22 +11,22 @@ ghost use Rattle.rust_legacy.specs.Path.{AreRead, HasLength, IsPlaced, begins_wi
 use crate::escapes::digits_in;
 use sym_core::NumberKind;
 
-/// Where a name stands in a symbol: its bytes, which come after its length.
+/// Where a name is in a symbol: its bytes, which come after its length.
 #[derive(Clone, Copy)]
 pub struct NamePlace {
     pub from: usize,
     pub to: usize,
 }
 
-/// Where the path of a legacy name stands in its symbol: its names go from the fourth byte to `hash`, where the length of its hash
-/// stands, and its suffix begins at `end`, after its `E`. Both are counts of bytes.
+/// Where the path of a legacy name is in its symbol: its names go from the fourth byte to `hash`, where the length of its hash
+/// is, and its suffix begins at `end`, after its `E`. Both are counts of bytes.
 #[derive(Clone, Copy)]
 pub struct PathPlace {
     pub hash: usize,
     pub end: usize,
 }
 
-// For each byte whether it may stand in a legacy name: letters, digits, `_`, `.` and `$`.
+// For each byte whether it may be in a legacy name: letters, digits, `_`, `.` and `$`.
 static LEGACY_BYTES: [bool; 256] = [
     false, false, false, false, false, false, false, false, false, false, false, false, false,
     false, false, false, false, false, false, false, false, false, false, false, false, false,
@@ -49,7 +49,7 @@ static LEGACY_BYTES: [bool; 256] = [
     false, false, false, false, false, false, false, false, false, false,
 ];
 
-/// Whether a byte may stand in a legacy name.
+/// Whether a byte may be in a legacy name.
 #[inline(always)]
 fn is_legacy_byte(byte: u8) -> bool
     ensures { result ≡ is_legacy_byte byte }
@@ -57,7 +57,7 @@ fn is_legacy_byte(byte: u8) -> bool
     LEGACY_BYTES[byte as usize]
 }
 
-/// Whether each byte may stand in a legacy name, and how many turns that took. All are looked at, with no branch for each.
+/// Whether each byte may be in a legacy name, and how many turns that took. All are looked at, with no branch for each.
 fn are_legacy_bytes(bytes: &[u8]) -> (bool, usize)
     ensures are { result.0 ≡ list_all is_legacy_byte bytes.now }
     ensures turns { result.1 ≤ length bytes.now }
@@ -78,7 +78,7 @@ fn is_digit(byte: u8) -> bool
     b'0' <= byte && byte <= b'9'
 }
 
-/// Whether a byte stands at a place.
+/// Whether a byte is at a place.
 #[inline(always)]
 fn has_byte(s: &[u8], at: usize, byte: u8) -> bool
     ensures { result ≡ begins_with (byte ∷ []) (drop at s.now) }
@@ -86,7 +86,7 @@ fn has_byte(s: &[u8], at: usize, byte: u8) -> bool
     at < s.len() && s[at] == byte
 }
 
-/// Whether a decimal digit stands at a place.
+/// Whether a decimal digit is at a place.
 #[inline(always)]
 fn has_digit(s: &[u8], at: usize) -> bool
     requires { at ≤ length s.now }
@@ -136,7 +136,7 @@ fn begins_length(byte: u8) -> bool
     b'1' <= byte && byte <= b'9'
 }
 
-/// The length of a name that stands at a place, with a name after it or not. At most so many digits are looked at.
+/// The length of a name that is at a place, with a name after it or not. At most so many digits are looked at.
 #[inline(always)]
 fn name_length(s: &[u8], at: usize, most: usize) -> Option<Length>
     requires within { at + most ≤ length s.now }
@@ -157,7 +157,7 @@ fn name_length(s: &[u8], at: usize, most: usize) -> Option<Length>
     Some(length)
 }
 
-/// The name whose length stands at a place.
+/// The name whose length is at a place.
 #[inline(always)]
 pub fn name_at(s: &[u8], at: usize) -> Option<NamePlace>
     requires { at ≤ length s.now }
@@ -205,7 +205,7 @@ fn is_suffix(suffix: &[u8]) -> bool
     suffix.is_empty() || suffix[0] == b'.' && suffix.len() > 1
 }
 
-/// Where names stand, the last of them at a place, if they end at another: an `E` is there, and a suffix or nothing after it.
+/// Where names are, the last of them at a place, if they end at another: an `E` is there, and a suffix or nothing after it.
 #[tactic(auto, using(crate::proofs::Digits::rest_whole))]
 #[inline(always)]
 fn ended(s: &[u8], hash: usize, at: usize) -> Option<PathPlace>
@@ -223,8 +223,11 @@ fn ended(s: &[u8], hash: usize, at: usize) -> Option<PathPlace>
     Some(PathPlace { hash, end: at + 1 })
 }
 
-/// Where the names of a symbol stand, by their lengths alone, if they can be those of a legacy name, and how many turns that took: one
+/// Where the names of a symbol are, by their lengths alone, if they can be those of a legacy name, and how many turns that took: one
 /// for each name, and one for each digit of its length. Other symbols pay for this and no more.
+// 53 instructions a C++ symbol, on average over 20,000. A look at fixed places from the end won't do: a suffix is as long as it likes
+// and ends in any byte. The turns are counted so that a clause can bound them: put in place at each call, a count that nobody reads is
+// no instruction.
 #[inline(always)]
 pub fn names_of(symbol: &[u8]) -> (Option<PathPlace>, usize)
     ensures place { MatchOption result.0 (legacy_of symbol.now ≡ None) (AreRead symbol.now) }
@@ -272,7 +275,7 @@ pub fn is_path(symbol: &[u8], place: PathPlace) -> (bool, usize)
     (are, name.from - place.hash + hash_turns + byte_turns)
 }
 
-/// Where the path of a symbol stands, if it is a legacy name: `_ZN`, one or more names, a hash, `E` and a suffix or nothing, where each
+/// Where the path of a symbol is, if it is a legacy name: `_ZN`, one or more names, a hash, `E` and a suffix or nothing, where each
 /// byte is a letter, a digit, `_`, `.` or `$`. Its loops take at most three turns for each byte: those of `names_of` one, and those of
 /// `is_path` two.
 pub fn path_of(symbol: &[u8]) -> Option<PathPlace>

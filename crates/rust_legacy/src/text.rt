@@ -44,7 +44,7 @@ fn write_name(left: u32, name: &[u8], out: &mut Vec<u8>) -> Result<u32, Refusal>
     write_tokens(left, name, out)
 }
 
-/// Writes what stands before the name at a place, and answers what is left.
+/// Writes what comes before the name at a place, and answers what is left.
 #[inline(always)]
 fn write_front(left: u32, at: usize, out: &mut Vec<u8>) -> Result<u32, Refusal>
     ensures ok { IfOk result (λ now. IsWritten left now (front_at at) (length (front_at at)) out.old.items out.new.items) }
@@ -110,7 +110,7 @@ fn write_path(
     write_suffix(left, &symbol[place.end..], out)
 }
 
-/// Appends the text of a legacy name, whose path stands at a place that `path_of` found, if it costs at most the limit, else nothing.
+/// Appends the text of a legacy name, whose path is at a place that `path_of` found, if it costs at most the limit, else nothing.
 ///
 /// What it spends is the text's cost, and each turn of its loops spends at least 1.
 ///

@@ -1,4 +1,4 @@
--- Keys of nodes, and what a map of them is behind one more.
+-- Keys of nodes, and what a map of them is after one more.
 use Rattle.std.proofs.Common.{◌≡◌, ℕ, zero, suc, ◌<◌, ◌≤◌, length, List, [], ◌∷◌, ◌++◌, slice_get, get_or, Some, Bool, true, false, refl, ap, arith, sym, subst, ◌∙◌, length-append, Ordering}
 use Rattle.std.specs.Prelude.{map, nat_lt}
 use Rattle.std.specs.BTreeMap.{BTreeMap, get}

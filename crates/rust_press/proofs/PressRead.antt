@@ -87,7 +87,7 @@ abbrev pub AllGood : Production → (bound : ℕ) → List Value → Type 0
 AllGood p b [] = Unit {0}
 AllGood p b (v ∷ vs) = IsGood p b v × AllGood p b vs
 
--- The parts of a rule, of which a binder is the first: it binds around all behind it in a function, and in a `dyn`
+-- The parts of a rule, of which a binder is the first: it binds around all after it in a function, and in a `dyn`
 -- around its bounds.
 abbrev pub FunctionGood : (outer : ℕ) → List Value → Type 0
 FunctionGood outer (value.a_binder n ∷ rest) = (n ≤ 1000) × AllGood rules.Function (outer + n) rest

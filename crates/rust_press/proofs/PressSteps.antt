@@ -15,6 +15,6 @@ spelled-then own f h place cs =
     let a : Pressed = f place cs in
     ended-joined a.bytes h (record { place = place; own = own } ∷ a.components) (place + length a.bytes) (place + length a.bytes + 0) (omega arith)
 
--- what is equal from a place on stays so behind something else
+-- what is equal from a place on stays so after something else
 pub and-same : (f g h : Pressing) → ((place : ℕ) (cs : List Component) → g place cs ≡ h place cs) → (place : ℕ) (cs : List Component) → (f and g) place cs ≡ (f and h) place cs
 and-same f g h same place cs = rw (same (place + length (f place cs).bytes) (f place cs).components) refl

@@ -99,7 +99,7 @@ suffix-reads s front place components ended inside minus (dot ∷ b ∷ bs) is-a
 
 -- ## A symbol
 
--- every path, behind any spelled beginning, in which each lifetime is bound
+-- every path, after any spelled beginning, in which each lifetime is bound
 pub press-path-kept : (s : List ℕ) (bound : ℕ) → length s ≤ greatest_u64 → (inside : Option Production) (minus : Bool) (path : tree.Path) → IsSpellable path → need path ≤ bound
     → Presses s bound inside minus (Kind 1) (press_path path) (λ values. values ≡ value.a_path path ∷ [])
 press-path-kept s bound fits inside minus path good closed =

@@ -324,7 +324,7 @@ compared-itself (of_symbol s) is = false-true (sym (component-is (of_symbol s)) 
     false-true : false ≡ true → same_tree (of_symbol s) (of_symbol s) ≡ true
     false-true bad = cc
 
--- only components have something behind their parts
+-- only components have something after their parts
 test-off : (p k : ℕ) → is_component k ≡ true → is_component p ≡ false → (p == k) ≡ false
 test-off p k one not = go (p == k) refl
   where

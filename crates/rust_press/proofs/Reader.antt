@@ -17,7 +17,7 @@ abbrev ◌and_then◌ : {A B : Type 0} → Option A → (A → Option B) → Opt
 (Some x) and_then f = f x
 None and_then f = None
 
--- the digits at the front, and what is behind them
+-- the digits at the front, and what is after them
 unfoldable pub front_digits : NumberKind → List ℕ → List ℕ
 front_digits kind [] = []
 front_digits kind (b ∷ bytes) = elim (is_digit_of kind b) [ true ↦ b ∷ front_digits kind bytes | false ↦ [] ]
@@ -29,7 +29,7 @@ number_at digits (b ∷ rest) = elim (nat_eq b 95) [ true ↦ Some (token (recor
 unfoldable pub name_from : List ℕ → List ℕ → Option (Tree × List ℕ)
 name_from digits tail = Some (token (record { before = digits; own = take (value_of Length digits) tail; behind = [] }), drop (value_of Length digits) tail)
 
--- an underscore straight behind the length is the separator
+-- an underscore straight after the length is the separator
 unfoldable pub separated : List ℕ → List ℕ → Option (Tree × List ℕ)
 separated digits [] = name_from digits []
 separated digits (b ∷ tail) = elim (nat_eq b 95) [

@@ -1,4 +1,4 @@
--- A tree is spelled as the bytes before its parts, its parts, and the bytes behind them.
+-- A tree is spelled as the bytes before its parts, its parts, and the bytes after them.
 use Rattle.std.proofs.Common.{◌≡◌, ℕ, zero, suc, ◌+◌, ◌-◌, ◌*◌, ◌/◌, ◌%◌, ◌<◌, ◌≤◌, ◌^◌, length, List, [], ◌∷◌, ◌++◌, Bool, true, false, refl, ap, arith, sym, ◌∙◌, append_assoc, append-nil}
 use Rattle.std.specs.Prelude.{nat_lt, ◌==◌, if◌then◌else◌, get_or}
 use Rattle.std.specs.Fmt.{digit_glyph}
@@ -92,7 +92,7 @@ pub parts-same : (ts : List Tree) (g h : Pressing) → ((p : ℕ) (cs : List Com
 parts-same [] g h same p cs = same p cs
 parts-same (t ∷ ts) g h same p cs = and-same (press_tree t) _ _ (parts-same ts g h same) p cs
 
--- a spelling is that of fields, whatever stands behind it
+-- a spelling is that of fields, whatever follows it
 abbrev pub by_fields : Fields → Pressing → Pressing
 by_fields given rest = text (front given) and parts_then given.parts (text (end given) and rest)
 

@@ -433,7 +433,7 @@ pub number-below : (y : ReadSymbol) (numbers : List ℕ) (i : ℕ) → AreNumber
 number-below y numbers i are low =
     omega (arith, are.long, low, are.next i (omega (arith, are.long, low)), entries-front numbers are.next i (omega (arith, are.long, low)))
 
--- the suffix stands behind all else
+-- the suffix comes after all else
 pub whole-symbol : (symbol : tree.Symbol) → pressed symbol ≡ (press_tree (of_symbol symbol) 0 []).bytes ++ symbol.suffix
 whole-symbol symbol =
     ap (λ one. one.bytes) (sym (and-assoc-at (text (95 ∷ 82 ∷ [])) (press_path symbol.path) (press_other symbol.instantiating and text symbol.suffix) 0 []))

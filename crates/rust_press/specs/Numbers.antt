@@ -13,7 +13,7 @@ AreNumbers all numbers = AreNumbered (slice_get all) (length all) numbers
 abbrev pub IsPartNumber : List Tree → List ℕ → (parts : List Tree) → (k n : ℕ) → Type 0
 IsPartNumber all numbers parts k n = (p : ℕ) × (p < length numbers) × (slice_get all p ≡ slice_get parts k) × (n ≡ number_at numbers p)
 
--- The key has these fields: the parts by their numbers, and 0 behind them.
+-- The key has these fields: the parts by their numbers, and 0 after them.
 pub record IsKeyOf (all : List Tree) (numbers : List ℕ) (given : Fields) (key : Key) : Type 0 where
   pub production : key.production ≡ given.production
   pub own_numbers : key.numbers ≡ given.numbers

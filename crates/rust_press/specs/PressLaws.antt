@@ -1,4 +1,4 @@
--- What pressing keeps: what is pressed is spelled by a shape of the grammar, which is read as what was pressed, behind any
+-- What pressing keeps: what is pressed is spelled by a shape of the grammar, which is read as what was pressed, after any
 -- spelled beginning.
 use Rattle.std.specs.Prelude.{◌≡◌, ℕ, ◌+◌, ◌<◌, ◌≤◌, List, [], ◌∷◌, ◌++◌, length, Bool, Option, Some, None, Ok}
 use Rattle.sym_shape.specs.declared.rule.Rule.{Rule}
@@ -29,7 +29,7 @@ abbrev pub AreListed : List Ended → (place : ℕ) → List Component → Type 
 AreListed ended place [] = Unit {0}
 AreListed ended place (c ∷ cs) = (ended_at ended c.place ≡ Some (as_value c.own)) × (2 ≤ c.place) × (c.place < place) × AreListed ended place cs
 
--- What has ended agrees with the components so far: each of them is there, and nothing began at the place or behind it.
+-- What has ended agrees with the components so far: each of them is there, and nothing began at the place or after it.
 pub record Agrees (components : List Component) (ended : List Ended) (place : ℕ) : Type 0 where
   pub listed : AreListed ended place components
   pub behind : (q : ℕ) → place ≤ q → ended_at ended q ≡ None
@@ -49,7 +49,7 @@ pub record Reads (s : List ℕ) (bound : ℕ) (inside : Option Production) (minu
   pub agrees : Agrees pressed.components state.ended (place + length pressed.bytes)
   pub keeps : (p : ℕ) → p < place → ended_at state.ended p ≡ ended_at ended p
 
--- so behind any spelled beginning
+-- so after any spelled beginning
 abbrev pub Presses : (s : List ℕ) → (bound : ℕ) → (inside : Option Production) → (minus : Bool) → Sym → Pressing → (List Value → Type 0) → Type 0
 Presses s bound inside minus symbol pressing Q =
     (front back : List ℕ) (place : ℕ) (components : List Component) (ended : List Ended)
@@ -59,7 +59,7 @@ Presses s bound inside minus symbol pressing Q =
     → s ≡ front ++ ((pressing place components).bytes ++ back)
     → Reads s bound inside minus symbol Q place ended (pressing place components)
 
--- the same for the parts of a rule, behind parts that are known
+-- the same for the parts of a rule, after parts that are known
 pub record ReadsRow (s : List ℕ) (rule : Rule) (taken : List ℕ) (bound at : ℕ) (before : State) (symbols : List Sym) (known : List Value) (Q : List Value → Type 0) (place : ℕ) (start : State) (pressed : Pressed) : Type 0 where
   pub forest : Forest
   pub spelled : spell_all forest ≡ pressed.bytes

@@ -18,7 +18,7 @@ pub record Component : Type 0 where
   pub place : ℕ
   pub own : Tree
 
--- spellings, whose components stand the last first
+-- spellings, whose components are the last first
 abbrev pub Pressed : Type 0
 Pressed = spell.Pressed Component
 
@@ -43,7 +43,7 @@ digits16 (suc n) = hexadecimal (suc n)
 abbrev pub number16 : ℕ → Pressing
 number16 n = text (digits16 n ++ 95 ∷ [])
 
--- a separator stands only before a name that begins with a digit or an underscore
+-- a separator comes only before a name that begins with a digit or an underscore
 abbrev pub separator : List ℕ → List ℕ
 separator [] = []
 separator (c ∷ cs) = if is_decimal_digit c || (c == 95) then 95 ∷ [] else []
@@ -97,7 +97,7 @@ first_place own [] = None
 first_place own (c ∷ cs) =
     elim (first_place own cs) [ Some place ↦ Some place | None ↦ elim (same_tree own c.own) [ true ↦ Some c.place | false ↦ None ] ]
 
--- the place is counted from behind `_R`
+-- the place is counted from after `_R`
 abbrev pub reference : (place : ℕ) → Pressing
 reference place = letter 66 and number62 (place - 2)
 

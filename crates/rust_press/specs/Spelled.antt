@@ -1,4 +1,4 @@
--- What is written of a node by its production, its numbers and its text: bytes before its parts and bytes behind them.
+-- What is written of a node by its production, its numbers and its text: bytes before its parts and bytes after them.
 use Rattle.std.specs.Prelude.{ℕ, ◌-◌, List, [], ◌∷◌, ◌++◌, length, Bool, true, false, ◌==◌, nat_lt, if◌then◌else◌, get_or}
 use Rattle.rust_tree.specs.declared.tree_production.TheConstants.{CRATE_ROOT, PUNYCODE_CRATE_ROOT, TRAIT_DEFINITION, NESTED, PUNYCODE_NESTED, GENERIC, NO_ARGUMENTS, LIFETIME_ARGUMENT, BASIC, ARRAY, SHARED_REFERENCE, MUTABLE_REFERENCE, FUNCTION, C_FUNCTION, ABI_FUNCTION, PUNYCODE_ABI_FUNCTION, DYN, NO_TYPES, MORE_BINDINGS, PUNYCODE_MORE_BINDINGS, INTEGER, BOOLEAN, CHARACTER, PLACEHOLDER, SYMBOL}
 use Rattle.rust_tree.specs.Fields.{Fields, number_in, text_in}
@@ -66,7 +66,7 @@ constant_numbers production first second =
     if production == CHARACTER then (digits_of 16 first ++ 95 ∷ []) else (
     if production == SYMBOL then 82 ∷ [] else [])))
 
--- the numbers behind the letter
+-- the numbers after the letter
 unfoldable pub numbers_bytes : (production first second : ℕ) → List ℕ
 numbers_bytes production first second =
     if nat_lt production TRAIT_DEFINITION then count_bytes 115 first else (
@@ -76,7 +76,7 @@ numbers_bytes production first second =
     if nat_lt production BASIC then [] else (
     if nat_lt production NO_TYPES then type_numbers production first second else constant_numbers production first second)))))
 
--- the text behind the numbers
+-- the text after the numbers
 unfoldable pub text_bytes : (production : ℕ) → List ℕ → List ℕ
 text_bytes production name =
     if production == CRATE_ROOT then name_bytes false name else (
@@ -88,11 +88,11 @@ text_bytes production name =
     if production == PUNYCODE_MORE_BINDINGS then name_bytes true name else (
     if production == INTEGER then integer_bytes name else [])))))))
 
--- what stands before the parts
+-- what comes before the parts
 unfoldable pub front_bytes : (production first second : ℕ) → List ℕ → List ℕ
 front_bytes production first second name = letter_bytes production ++ (numbers_bytes production first second ++ text_bytes production name)
 
--- what stands behind the parts of a component
+-- what follows the parts of a component
 unfoldable pub end_bytes : (production second : ℕ) → List ℕ → List ℕ
 end_bytes production second name =
     if production == NESTED then (count_bytes 115 second ++ name_bytes false name) else (

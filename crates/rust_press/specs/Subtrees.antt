@@ -1,4 +1,4 @@
--- What is pressed of a part of a symbol is read as that part, behind whatever was spelled before it.
+-- What is pressed of a part of a symbol is read as that part, after whatever was spelled before it.
 use Rattle.std.specs.Prelude.{◌≡◌, ℕ, ◌≤◌, ◌⊎◌, List, [], ◌∷◌, length, Bool, Option}
 use Rattle.sym_shape.specs.declared.rule.Sym.TheVariants.{Kind}
 use Rattle.rust_grammar.specs.declared.production.Production.{Production}

@@ -14,7 +14,7 @@ pub fn pressed_once()
     ensures { PressedOnce }
 {}
 
-/// Each path, type or constant that a symbol may have is read as itself where it is pressed, behind any spelled beginning whose
+/// Each path, type or constant that a symbol may have is read as itself where it is pressed, after any spelled beginning whose
 /// components have ended where it is read. The laws of whole symbols follow from it.
 pub fn subtrees_are_read()
     ensures paths { PathsAreRead }

@@ -39,7 +39,7 @@ fn part_number(symbol: &Symbol, firsts: &[u32], node: u32, count: u32, k: u32) -
     }
 }
 
-/// The key of a node, behind nodes with these first ones.
+/// The key of a node, after nodes with these first ones.
 fn key_of<'a>(symbol: &'a Symbol, firsts: &[u32], node: u32) -> Key<'a>
     requires node { node < length symbol.now.table.nodes }
     requires before { length firsts.now ≡ node }

@@ -1,4 +1,4 @@
-// What is written of one node: the bytes before its parts and those behind them.
+// What is written of one node: the bytes before its parts and those after them.
 #![tactic(auto)]
 
 ghost use Rattle.std.specs.Prelude.{◌≡◌, ◌++◌, ◌∷◌, [], ◌<◌, ◌^◌, true, get_or, OnOk, IfErr};
@@ -56,7 +56,7 @@ fn push_lifetime(lifetime: u64, out: &mut Vec<u8>) -> Result<(), Refusal>
     Ok(())
 }
 
-/// A letter where it is to stand.
+/// A letter where it is to be.
 #[tactic(auto, unfolding(crate::specs::Spelled::mark_bytes))]
 fn push_mark(is_marked: bool, letter: u8, out: &mut Vec<u8>) -> Result<(), Refusal>
     ensures mark { OnOk result (out.new.items ≡ out.old.items ++ mark_bytes is_marked letter) }
@@ -215,7 +215,7 @@ fn push_constant_numbers(
     Ok(())
 }
 
-/// The numbers behind the letter.
+/// The numbers after the letter.
 #[tactic(auto, unfolding(crate::specs::Spelled::numbers_bytes))]
 fn push_numbers(production: u16, first: u64, second: u64, out: &mut Vec<u8>) -> Result<(), Refusal>
     requires letter { has_letter production ≡ true → first < 256 }
@@ -239,7 +239,7 @@ fn push_numbers(production: u16, first: u64, second: u64, out: &mut Vec<u8>) -> 
     Ok(())
 }
 
-/// The text behind the numbers.
+/// The text after the numbers.
 #[tactic(auto, unfolding(crate::specs::Spelled::text_bytes))]
 fn push_text(production: u16, text: &[u8], out: &mut Vec<u8>) -> Result<(), Refusal>
     ensures text { OnOk result (out.new.items ≡ out.old.items ++ text_bytes production text.now) }
@@ -261,7 +261,7 @@ fn push_text(production: u16, text: &[u8], out: &mut Vec<u8>) -> Result<(), Refu
     Ok(())
 }
 
-/// What stands before the parts.
+/// What comes before the parts.
 #[tactic(auto, unfolding(crate::specs::Spelled::front_bytes))]
 pub(crate) fn push_front(
     production: u16,
@@ -280,7 +280,7 @@ pub(crate) fn push_front(
     Ok(())
 }
 
-/// What stands behind the parts of a component.
+/// What comes after the parts of a component.
 #[tactic(auto, unfolding(crate::specs::Spelled::end_bytes))]
 pub(crate) fn push_end(
     production: u16,

@@ -31,7 +31,7 @@ unfolding hexadecimal_before
 before-none zero later = refl
 before-none (suc k) later = refl
 
--- digits behind a number that isn't zero are its digits before them
+-- digits after a number that isn't zero are its digits before them
 digits-behind : (v : ℕ) (ds later : List ℕ) (k : ℕ) → 0 < v → AreDigits Hex ds
     → hexadecimal_before (k + length ds) (value_onto Hex v ds) later ≡ hexadecimal_before k v (ds ++ later)
 digits-behind v [] later k some are = let none : k + 0 ≡ k = omega arith in ap (λ n. hexadecimal_before n v later) none

@@ -44,7 +44,7 @@ got-there [] i h = absurd (omega arith)
 got-there (x ∷ xs) zero h = (x, refl)
 got-there (x ∷ xs) (suc i) h = got-there xs i (omega arith)
 
--- an item of a front stands before its end, and in the whole
+-- an item of a front comes before its end, and in the whole
 pub got-early : {A : Type 0} (n : ℕ) (xs : List A) (i : ℕ) (x : A) → slice_get (take n xs) i ≡ Some x → (i < n) × (slice_get xs i ≡ Some x)
 got-early zero xs i x h = absurd (let e : None ≡ Some x = h in cc)
 got-early (suc n) [] i x h = absurd (let e : None ≡ Some x = h in cc)
@@ -477,7 +477,7 @@ unfolding trees_onto
 trees_onto-append s before [] more = refl
 trees_onto-append s before (n ∷ nodes) more = trees_onto-append s (before ++ tree_of s before n.node ∷ []) nodes more
 
--- a longer table has the trees of the shorter one, and more behind them
+-- a longer table has the trees of the shorter one, and more after them
 pub trees-grown : (s : List ℕ) (old new : Table) → Grows old new → (more : List Tree) × (trees s new.nodes ≡ trees s old.nodes ++ more)
 trees-grown s old new grows =
     let g = trees_onto-grows s (trees s old.nodes) grows.more_nodes in

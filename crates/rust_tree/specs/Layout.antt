@@ -112,7 +112,7 @@ HasForm all node Form.Bound = (bounds : tree.Bounds) × IsBounds all node bounds
 HasForm all node Form.FirstBinding = (bindings : tree.Bindings) × IsBindings all node bindings
 HasForm all node Form.MoreBindings = (bindings : tree.Bindings) × IsBindings all node bindings
 
--- Each node behind another one may bind so many lifetimes, and a signature's own are bound already: with this no
+-- Each node after another one may bind so many lifetimes, and a signature's own are bound already: with this no
 -- number of bound lifetimes comes near 64 bits.
 abbrev pub levels : Form → (node : ℕ) → ℕ
 levels Form.Signature node = node
@@ -131,7 +131,7 @@ MayCome y (part.Own bytes count) = (0 < count) × (count ≤ 24) × (length byte
 
 -- ## Lists of parts
 
--- The parts that a list was given may come, and are what is shown; the first stands last.
+-- The parts that a list was given may come, and are what is shown; the first comes last.
 pub record Shows (y : ReadSymbol) (below held : Held Context) (shown : Unshared) : Type 0 where
   pub stacked : Stacked (unshared_of y) (bytes_of_part y) (MayCome y) below.items held.items shown
   pub capacity : held.capacity ≡ below.capacity
@@ -157,7 +157,7 @@ abbrev pub is_empty : List ℕ → Bool
 is_empty [] = true
 is_empty (_ ∷ _) = false
 
--- an item before what is behind it, if there is to be one
+-- an item before what is after it, if there is to be one
 abbrev pub item_if : Bool → Unshared → Unshared → Unshared
 item_if true parts rest = parts also rest
 item_if false parts rest = rest

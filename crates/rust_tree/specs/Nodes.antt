@@ -158,7 +158,7 @@ tree_of s all (Node.Bindings bindings) = of_bindings (bindings_of s all bindings
 tree_of s all (Node.Constant constant) = of_constant (constant_of s constant)
 tree_of s all (Node.Symbol whole) = of_symbol (symbol_of s all whole)
 
--- the trees of nodes, behind those of the nodes before them
+-- the trees of nodes, after those of the nodes before them
 unfoldable pub trees_onto : List ℕ → List Tree → List Entry → List Tree
 trees_onto s before [] = before
 trees_onto s before (entry ∷ rest) = trees_onto s (before ++ tree_of s before entry.node ∷ []) rest

@@ -53,7 +53,7 @@ lifetime_parts bound lifetime = lifetime_text bound lifetime then done
 unfoldable pub namespace_text : ℕ → List ℕ
 namespace_text letter = if letter == 67 then codes "closure" else (if letter == 83 then codes "shim" else letter ∷ [])
 
--- a name and what stands before it, unless the name is empty
+-- a name and what comes before it, unless the name is empty
 abbrev pub name_behind : (before : List ℕ) → (name : List ℕ) → Unshared → Unshared
 name_behind before [] rest = rest
 name_behind before (b ∷ bs) rest = before then (b ∷ bs) then rest
@@ -67,7 +67,7 @@ abbrev pub nested_name : (lower_case : Bool) → (namespace : ℕ) → Identifie
 nested_name true namespace name rest = name_behind (codes "::") (name_text name.name) rest
 nested_name false namespace name rest = special_name namespace name rest
 
--- Arguments, which stand behind `::` in value style. In brief they aren't shown.
+-- Arguments, which follow `::` in value style. In brief they aren't shown.
 abbrev pub argument_list : (all : Bool) → (value : Bool) → (arguments : Option Unshared) → Unshared → Unshared
 argument_list true value arguments rest = (if value then codes "::<" else codes "<") then arguments perhaps codes ">" then rest
 argument_list false value arguments rest = rest
@@ -121,7 +121,7 @@ abbrev pub dyn_lifetime : (bound lifetime : ℕ) → Unshared → Unshared
 dyn_lifetime bound zero rest = rest
 dyn_lifetime bound (suc k) rest = codes " + " then lifetime_text bound (suc k) then rest
 
--- A bound of a `dyn`: its bindings, if it has any, stand behind the arguments of its path. In brief the path stands alone.
+-- A bound of a `dyn`: its bindings, if it has any, come after the arguments of its path. In brief the path stands alone.
 abbrev pub behind_arguments : (arguments : Option Unshared) → Unshared → Unshared
 behind_arguments None rest = rest
 behind_arguments (Some arguments) rest = arguments also codes ", " then rest

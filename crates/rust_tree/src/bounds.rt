@@ -19,7 +19,7 @@ use crate::texts;
 use sym_print::PartList;
 
 impl Symbol {
-    /// Adds arguments and a comma behind them, if there are any.
+    /// Adds arguments and a comma after them, if there are any.
     fn push_arguments_before<S: PartList<Context>>(
         &self,
         parts: &mut S,
@@ -38,7 +38,7 @@ impl Symbol {
         }
     }
 
-    /// Adds a path that is no generic one, and bindings behind it.
+    /// Adds a path that is no generic one, and bindings after it.
     fn push_plain_bound<S: PartList<Context>>(
         &self,
         parts: &mut S,

@@ -9,16 +9,16 @@ ghost use Rattle.rust_tree.specs.Forms.{form_of};
 pub enum Form {
     /// The symbol with its suffix.
     Root,
-    /// A path whose arguments stand behind `::`.
+    /// A path whose arguments come after `::`.
     ValuePath,
-    /// A path whose arguments stand behind it.
+    /// A path whose arguments come after it.
     PlainPath,
     /// A type, or a path as one.
     Ty,
     Constant,
     /// The arguments from one on, the first of all.
     FirstArgument,
-    /// The arguments from one on, behind others.
+    /// The arguments from one on, after others.
     MoreArguments,
     /// The lifetime at the front of arguments.
     Lifetime,

@@ -15,7 +15,7 @@ use std::alloc::Global;
 use std::marker::Model;
 use sym_core::{Refusal, Span};
 
-/// The nodes of a symbol, each behind its parts, and the text list, in which decoded names and decimals are.
+/// The nodes of a symbol, each after its parts, and the text list, in which decoded names and decimals are.
 #[derive(Drop)]
 pub struct Nodes {
     entries: Vec<Entry>,
@@ -237,7 +237,7 @@ impl Nodes {
         }
     }
 
-    /// Adds a node behind its parts, and answers its number.
+    /// Adds a node after its parts, and answers its number.
     #[inline(always)]
     pub fn push(&mut self, node: Node) -> Result<u32, Refusal>
         requires room { length self.old.nodes + 1 < 2 ^ 32 }
@@ -289,7 +289,7 @@ impl Nodes {
         Ok(span)
     }
 
-    /// Adds to the text list a decimal, behind a minus where that is asked for, and answers its span.
+    /// Adds to the text list a decimal, after a minus where that is asked for, and answers its span.
     ///
     /// # Errors
     ///

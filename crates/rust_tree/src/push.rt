@@ -19,7 +19,7 @@ use itoa::Buffer;
 use sym_core::Span;
 use sym_print::{Item, Part, PartList};
 
-/// Writes a text at a place, and answers the place behind it.
+/// Writes a text at a place, and answers the place after it.
 fn put(bytes: &mut [u8; 24], at: usize, text: &[u8]) -> usize
     requires { at + length text.now ≤ 24 }
     ensures place { result ≡ at + length text.now }
@@ -30,7 +30,7 @@ fn put(bytes: &mut [u8; 24], at: usize, text: &[u8]) -> usize
     end
 }
 
-/// A part with bytes of its own: three texts, one behind another.
+/// A part with bytes of its own: three texts, one after another.
 pub(crate) fn own(front: &[u8], text: &[u8], back: &[u8]) -> Part<Context>
     requires { length front.now + (length text.now + length back.now) ≤ 24 }
     ensures { IsOwn result (front.now ++ (text.now ++ back.now)) }
@@ -223,7 +223,7 @@ impl Symbol {
         }
     }
 
-    /// Adds a text and bytes of the symbol behind it, unless there are none of these.
+    /// Adds a text and bytes of the symbol after it, unless there are none of these.
     #[inline(always)]
     pub(crate) fn push_bytes_behind<S: PartList<Context>>(
         &self,
@@ -243,7 +243,7 @@ impl Symbol {
         }
     }
 
-    /// Adds a text and bytes of the text list behind it, unless there are none of these.
+    /// Adds a text and bytes of the text list after it, unless there are none of these.
     #[inline(always)]
     pub(crate) fn push_printed_behind<S: PartList<Context>>(
         &self,
@@ -263,7 +263,7 @@ impl Symbol {
         }
     }
 
-    /// Adds a text and a name behind it, unless the name prints nothing.
+    /// Adds a text and a name after it, unless the name prints nothing.
     #[inline(always)]
     pub(crate) fn push_name_behind<S: PartList<Context>>(
         &self,

@@ -19,11 +19,11 @@ pub const TRAIT_IMPL: u16 = 3;
 /// A trait as a type has it. Parts: the type and the path of the trait.
 pub const TRAIT_DEFINITION: u16 = 4;
 
-/// A path behind another one. Numbers: the letter of its namespace, and its disambiguator, 0 where it has none. Texts:
+/// A path after another one. Numbers: the letter of its namespace, and its disambiguator, 0 where it has none. Texts:
 /// its name, which isn't in Punycode. Parts: the path before it.
 pub const NESTED: u16 = 5;
 
-/// A path whose name is in Punycode behind another one, otherwise as `NESTED`.
+/// A path whose name is in Punycode after another one, otherwise as `NESTED`.
 pub const PUNYCODE_NESTED: u16 = 6;
 
 /// A path with arguments. Parts: the path and the arguments.
@@ -33,13 +33,13 @@ pub const GENERIC: u16 = 7;
 pub const NO_ARGUMENTS: u16 = 8;
 
 /// A lifetime before other arguments. Numbers: the lifetime, 0 where it is erased, 1 for the innermost that is bound.
-/// Parts: the arguments behind it.
+/// Parts: the arguments after it.
 pub const LIFETIME_ARGUMENT: u16 = 9;
 
-/// A constant before other arguments. Parts: the constant and the arguments behind it.
+/// A constant before other arguments. Parts: the constant and the arguments after it.
 pub const CONSTANT_ARGUMENT: u16 = 10;
 
-/// A type before other arguments. Parts: the type and the arguments behind it.
+/// A type before other arguments. Parts: the type and the arguments after it.
 pub const TYPE_ARGUMENT: u16 = 11;
 
 /// A basic type. Numbers: its letter. Parts: none.
@@ -91,19 +91,19 @@ pub const DYN: u16 = 25;
 /// The end of a list of types. Parts: none.
 pub const NO_TYPES: u16 = 26;
 
-/// A type before others. Parts: the type and the types behind it.
+/// A type before others. Parts: the type and the types after it.
 pub const MORE_TYPES: u16 = 27;
 
 /// The end of bounds. Parts: none.
 pub const NO_BOUNDS: u16 = 28;
 
-/// A bound before others. Parts: its path, its bindings and the bounds behind it.
+/// A bound before others. Parts: its path, its bindings and the bounds after it.
 pub const MORE_BOUNDS: u16 = 29;
 
 /// The end of bindings. Parts: none.
 pub const NO_BINDINGS: u16 = 30;
 
-/// A binding before others. Texts: its name, which isn't in Punycode. Parts: its type and the bindings behind it.
+/// A binding before others. Texts: its name, which isn't in Punycode. Parts: its type and the bindings after it.
 pub const MORE_BINDINGS: u16 = 31;
 
 /// A binding whose name is in Punycode before others, otherwise as `MORE_BINDINGS`.

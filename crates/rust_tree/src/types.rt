@@ -84,7 +84,7 @@ impl Symbol {
         }
     }
 
-    /// Adds the lifetime behind a `dyn`'s bounds, unless it is erased.
+    /// Adds the lifetime after a `dyn`'s bounds, unless it is erased.
     fn push_dyn_lifetime<S: PartList<Context>>(&self, parts: &mut S, lifetime: u64, ctx: Context)
         requires { 2 ≤ S.room parts.old }
         ensures shows { (below : Held Context) (so_far : Unshared) → Shows self.now below (S.held parts.old) so_far
@@ -143,7 +143,7 @@ impl Symbol {
         self.push_text(parts, texts::LEFT_BRACKET);
     }
 
-    /// Adds a pointer's type, behind the text that it begins with.
+    /// Adds a pointer's type, after the text that it begins with.
     fn push_pointer<S: PartList<Context>>(
         &self,
         parts: &mut S,

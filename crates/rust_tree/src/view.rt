@@ -22,7 +22,7 @@ use crate::tree_production::{
 };
 use sym_core::Span;
 
-/// The view of a node. What its numbers, texts and parts are stands at its production in `tree_production`.
+/// The view of a node. What its numbers, texts and parts are is at its production in `tree_production`.
 #[derive(Clone, Copy)]
 pub struct Node {
     pub production: u16,

@@ -18,7 +18,7 @@ digits_behind from to zeros s within =
     ∙ ap (λ l. take (to - (from + zeros)) l) (drop-drop zeros from s)
     )
 
--- what is left of digits behind some of them
+-- what is left of digits after some of them
 pub digits_left : (n : ℕ) (ds : List ℕ) → AreDigits Hex ds → AreDigits Hex (drop n ds)
 digits_left zero ds are = are
 digits_left (suc n) [] are = are

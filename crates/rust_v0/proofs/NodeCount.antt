@@ -29,7 +29,7 @@ pub made_so_many : (old new : RustNodes) (result : Result (Unit {0}) Refusal) (m
 made_so_many old new (Ok done) made more is same = omega (arith, is, same)
 made_so_many old new (Err e) made more is same = tt
 
--- and so it is of the nodes behind those that each table begins with
+-- and so it is of the nodes after those that each table begins with
 pub size_added : {A : Type 0} (old new : RustNodes) (result : Result A Refusal) (more : ℕ) → 3 ≤ length old.nodes.nodes → OnOk result (length new.nodes.nodes ≡ length old.nodes.nodes + more)
     → OnOk result (length new.nodes.nodes - 3 ≡ length old.nodes.nodes - 3 + more)
 size_added old new (Ok done) more begun is = omega (arith, begun, is)

@@ -26,7 +26,7 @@ module _ (s : List ℕ) (old new : Table) (grows : Grows old new) where
     bindings = tree-stays s old new 2 _ grows lists.bindings;
   }
 
--- places behind those so far change nothing
+-- places after those so far change nothing
 pub noted_further : (all : List Tree) (endings more : List Target) (k : ℕ) (ended : List Ended) → more ≡ endings ++ replicate k Target.Nothing
     → AreNoted all endings ended → AreNoted all more ended
 noted_further all endings more k ended same noted place = rw (same, same_there endings k place Target.Nothing) (noted place)

@@ -29,7 +29,7 @@ is_numeral_byte Base62 byte = is_decimal_digit byte || is_lower_letter byte || i
 is_numeral_byte Hex byte = is_decimal_digit byte || (nat_le 97 byte && nat_le byte 102)
 is_numeral_byte _ byte = is_decimal_digit byte
 
--- digits, and the underscore behind them
+-- digits, and the underscore after them
 abbrev pub ending : Bool → List ℕ → List ℕ → Read Tree
 ending true digits rest = Some (shape.token (record { before = []; own = digits; behind = 95 ∷ [] }), rest)
 ending false digits rest = None

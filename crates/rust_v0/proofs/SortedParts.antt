@@ -33,7 +33,7 @@ pub record Fill (slots : List Slot) (parts : List Value) : Type 0 where
 abbrev pub Makes : Sort → Meaning → Type 0
 Makes made m = Gives (λ f. sort_of f.value ≡ made) m
 
--- ## Reading the part of a slot, and what comes behind it
+-- ## Reading the part of a slot, and what comes after it
 
 number_then : (make : Sort) (slots : List Slot) (parts : List Value) (f : ℕ × List Value → Meaning) → Fill (sorts.one sorts.number ∷ slots) parts
     → ((found : ℕ × List Value) → Fill slots found.1 → Makes make (f found)) → Makes make (number_part parts >>= f)

@@ -75,7 +75,7 @@ all_sorts =
     number ∷ integer ∷ letter ∷ name ∷ identifier ∷ disambiguator ∷ binder ∷ lifetime ∷ unsafe ∷ abi ∷ truth ∷ minus ∷ path ∷ type ∷ constant
     ∷ arguments ∷ types ∷ bounds ∷ bindings ∷ suffix ∷ suffix_rest ∷ symbol ∷ []
 
--- where a sort stands in that list
+-- where a sort is in that list
 abbrev place_of : Sort → ℕ
 place_of number = 0
 place_of integer = 1
@@ -125,7 +125,7 @@ pub data Slot : Type 0 where
 abbrev pub one : Sort → Slot
 one s = one_of (s ∷ [])
 
--- whether parts of these sorts fill the slots; there may be more behind them
+-- whether parts of these sorts fill the slots; there may be more after them
 abbrev pub fills : List Slot → List Sort → Bool
 fills [] sorts = true
 fills (one_of wanted ∷ slots) [] = false
@@ -271,7 +271,7 @@ options production Name = (token_sort production ∷ []) ∷ []
 options production (Number kind) = (token_sort production ∷ []) ∷ []
 options production (Byte byte) = [] ∷ []
 
--- whatever the parts behind these are, all together fill the slots
+-- whatever the parts after these are, all together fill the slots
 abbrev pub always_fills : Production → List Sort → List Sym → Bool
 always_fills production known [] = fills (slots_of production) known
 always_fills production known (x ∷ xs) = list_all (λ more. always_fills production (known ++ more) xs) (options production x)

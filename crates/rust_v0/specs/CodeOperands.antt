@@ -1,5 +1,5 @@
--- Not a definition: what `operands.rt` reads at the front of the parts of a rule, and the parts behind it, said again so
--- that contracts can name it. What productions read of their values stands in `Unfold`; `proofs/OperandLemmas` has that
+-- Not a definition: what `operands.rt` reads at the front of the parts of a rule, and the parts after it, said again so
+-- that contracts can name it. What productions read of their values is in `Unfold`; `proofs/OperandLemmas` has that
 -- the two agree.
 use Rattle.std.specs.Prelude.{ℕ, ◌+◌, min, List, [], ◌∷◌, Bool, true, false, Option, Some, None, Result, Ok, Err}
 use Rattle.sym_core.specs.declared.refusal.Refusal.{Refusal}

@@ -334,7 +334,7 @@ abbrev pub as_part : Result Added Refusal → Result Part Refusal
 as_part (Ok added) = Ok (part_of added)
 as_part (Err e) = Err e
 
--- the rule of this number has made this node of its parts, or is refused, wherever it stands
+-- the rule of this number has made this node of its parts, or is refused, wherever it is
 pub record IsMadeBy (result : Result Node Refusal) (number : ℕ) (own : List Part) : Type 0 where
   pub production : Production
   pub is : production_of number ≡ Some production

@@ -41,7 +41,7 @@ fn may_bind(rule: u16) -> bool
 }
 
 /// How many lifetimes are bound around the next part of the rule of a frame, whose parts are those from its base on: a binder
-/// of a function's type holds for all behind it, one of a `dyn` type for its bounds alone.
+/// of a function's type holds for all after it, one of a `dyn` type for its bounds alone.
 #[inline(always)]
 fn bound_behind(frame: Frame<BoundLifetimes>, parts: &[Part]) -> u64
     requires { frame.base ≤ length parts.now }
@@ -72,7 +72,7 @@ fn end_of(symbol: &[u8]) -> u32
     symbol.len() as u32
 }
 
-/// Where the rule of a frame stands.
+/// Where the rule of a frame is.
 #[inline(always)]
 fn site_of(symbol: &[u8], frame: Frame<BoundLifetimes>) -> Site
     requires fits { FitsSymbol symbol.now }

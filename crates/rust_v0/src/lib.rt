@@ -1,4 +1,4 @@
-// The Rust v0 mangling (RFC 2603): from the bytes of a symbol to its text.
+//! The Rust v0 mangling (RFC 2603): from the bytes of a symbol to its text.
 #![tactic(auto)]
 
 mod demangling;

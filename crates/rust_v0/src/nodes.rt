@@ -65,7 +65,7 @@ pub fn reach(targets: &mut Vec<Target>, place: usize) -> Result<(), Refusal>
     Ok(())
 }
 
-/// What ended that began at the place that a reference names, whose number counts the bytes behind `_R`.
+/// What ended that began at the place that a reference names, whose number counts the bytes after `_R`.
 fn referred(targets: &[Target], number: Option<u64>) -> Target
     ensures { (n : ℕ) → IsNumber number n → result ≡ get_or targets.now (n + 2) target.Nothing }
 {

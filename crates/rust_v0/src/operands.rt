@@ -1,4 +1,4 @@
-// The operands of a rule's meaning: what stands at the front of its parts, and the parts behind it.
+// The operands of a rule's meaning: what is at the front of its parts, and the parts after it.
 
 ghost use Rattle.std.specs.Prelude.{◌≡◌, ◌≢◌, MatchResult, Ok, Err, IfErr};
 ghost use Rattle.sym_core.specs.declared.refusal.Refusal.TheVariants as refusals;
@@ -19,7 +19,7 @@ pub const EMPTY_BOUNDS: u32 = 1;
 /// The node of a missing list of bindings.
 pub const EMPTY_BINDINGS: u32 = 2;
 
-/// The letter at the front, and the parts behind it.
+/// The letter at the front, and the parts after it.
 pub fn letter(parts: &[Part]) -> Result<(u8, &[Part]), Refusal>
     ensures is { MatchResult result (λ r. operands.letter parts.now ≡ Ok (r.0, r.1.now)) (λ e. operands.letter parts.now ≡ Err e) }
     ensures never { IfErr result (λ e. e ≢ refusals.Memory) }
@@ -30,7 +30,7 @@ pub fn letter(parts: &[Part]) -> Result<(u8, &[Part]), Refusal>
     }
 }
 
-/// The name at the front, and the parts behind it.
+/// The name at the front, and the parts after it.
 pub fn name(parts: &[Part]) -> Result<(Name, &[Part]), Refusal>
     ensures is { MatchResult result (λ r. operands.name parts.now ≡ Ok (r.0, r.1.now)) (λ e. operands.name parts.now ≡ Err e) }
     ensures never { IfErr result (λ e. e ≢ refusals.Memory) }
@@ -41,7 +41,7 @@ pub fn name(parts: &[Part]) -> Result<(Name, &[Part]), Refusal>
     }
 }
 
-/// The name and its disambiguator at the front, and the parts behind it.
+/// The name and its disambiguator at the front, and the parts after it.
 pub fn identifier(parts: &[Part]) -> Result<((Name, u64), &[Part]), Refusal>
     ensures is { MatchResult result (λ r. operands.identifier parts.now ≡ Ok (r.0, r.1.now)) (λ e. operands.identifier parts.now ≡ Err e) }
     ensures never { IfErr result (λ e. e ≢ refusals.Memory) }
@@ -59,7 +59,7 @@ pub fn identifier(parts: &[Part]) -> Result<((Name, u64), &[Part]), Refusal>
     }
 }
 
-/// The path at the front, and the parts behind it.
+/// The path at the front, and the parts after it.
 pub fn path(parts: &[Part]) -> Result<(u32, &[Part]), Refusal>
     ensures is { MatchResult result (λ r. operands.path parts.now ≡ Ok (r.0, r.1.now)) (λ e. operands.path parts.now ≡ Err e) }
     ensures never { IfErr result (λ e. e ≢ refusals.Memory) }
@@ -70,7 +70,7 @@ pub fn path(parts: &[Part]) -> Result<(u32, &[Part]), Refusal>
     }
 }
 
-/// The type at the front, and the parts behind it.
+/// The type at the front, and the parts after it.
 pub fn type_node(parts: &[Part]) -> Result<(u32, &[Part]), Refusal>
     ensures is { MatchResult result (λ r. operands.type parts.now ≡ Ok (r.0, r.1.now)) (λ e. operands.type parts.now ≡ Err e) }
     ensures never { IfErr result (λ e. e ≢ refusals.Memory) }
@@ -82,7 +82,7 @@ pub fn type_node(parts: &[Part]) -> Result<(u32, &[Part]), Refusal>
     }
 }
 
-/// The constant at the front, and the parts behind it.
+/// The constant at the front, and the parts after it.
 pub fn constant(parts: &[Part]) -> Result<(u32, &[Part]), Refusal>
     ensures is { MatchResult result (λ r. operands.constant parts.now ≡ Ok (r.0, r.1.now)) (λ e. operands.constant parts.now ≡ Err e) }
     ensures never { IfErr result (λ e. e ≢ refusals.Memory) }
@@ -93,7 +93,7 @@ pub fn constant(parts: &[Part]) -> Result<(u32, &[Part]), Refusal>
     }
 }
 
-/// The lifetime at the front, and the parts behind it.
+/// The lifetime at the front, and the parts after it.
 pub fn lifetime(parts: &[Part]) -> Result<(u64, &[Part]), Refusal>
     ensures is { MatchResult result (λ r. operands.lifetime parts.now ≡ Ok (r.0, r.1.now)) (λ e. operands.lifetime parts.now ≡ Err e) }
     ensures never { IfErr result (λ e. e ≢ refusals.Memory) }
@@ -104,7 +104,7 @@ pub fn lifetime(parts: &[Part]) -> Result<(u64, &[Part]), Refusal>
     }
 }
 
-/// The truth value at the front, and the parts behind it.
+/// The truth value at the front, and the parts after it.
 pub fn truth(parts: &[Part]) -> Result<(bool, &[Part]), Refusal>
     ensures is { MatchResult result (λ r. operands.truth parts.now ≡ Ok (r.0, r.1.now)) (λ e. operands.truth parts.now ≡ Err e) }
     ensures never { IfErr result (λ e. e ≢ refusals.Memory) }
@@ -115,7 +115,7 @@ pub fn truth(parts: &[Part]) -> Result<(bool, &[Part]), Refusal>
     }
 }
 
-/// The ABI at the front, and the parts behind it.
+/// The ABI at the front, and the parts after it.
 pub fn abi_value(parts: &[Part]) -> Result<(Abi, &[Part]), Refusal>
     ensures is { MatchResult result (λ r. operands.abi_value parts.now ≡ Ok (r.0, r.1.now)) (λ e. operands.abi_value parts.now ≡ Err e) }
     ensures never { IfErr result (λ e. e ≢ refusals.Memory) }
@@ -127,7 +127,7 @@ pub fn abi_value(parts: &[Part]) -> Result<(Abi, &[Part]), Refusal>
     }
 }
 
-/// The bounds at the front, and the parts behind it.
+/// The bounds at the front, and the parts after it.
 pub fn bounds(parts: &[Part]) -> Result<(u32, &[Part]), Refusal>
     ensures is { MatchResult result (λ r. operands.bounds parts.now ≡ Ok (r.0, r.1.now)) (λ e. operands.bounds parts.now ≡ Err e) }
     ensures never { IfErr result (λ e. e ≢ refusals.Memory) }
@@ -138,7 +138,7 @@ pub fn bounds(parts: &[Part]) -> Result<(u32, &[Part]), Refusal>
     }
 }
 
-/// The types at the front, and the parts behind it.
+/// The types at the front, and the parts after it.
 pub fn types(parts: &[Part]) -> Result<(u32, &[Part]), Refusal>
     ensures is { MatchResult result (λ r. operands.types parts.now ≡ Ok (r.0, r.1.now)) (λ e. operands.types parts.now ≡ Err e) }
     ensures never { IfErr result (λ e. e ≢ refusals.Memory) }
@@ -149,7 +149,7 @@ pub fn types(parts: &[Part]) -> Result<(u32, &[Part]), Refusal>
     }
 }
 
-/// The number at the front, and the parts behind it.
+/// The number at the front, and the parts after it.
 pub fn number(parts: &[Part]) -> Result<(Option<u64>, &[Part]), Refusal>
     ensures is { MatchResult result (λ r. operands.number parts.now ≡ Ok (r.0, r.1.now)) (λ e. operands.number parts.now ≡ Err e) }
     ensures never { IfErr result (λ e. e ≢ refusals.Memory) }
@@ -160,7 +160,7 @@ pub fn number(parts: &[Part]) -> Result<(Option<u64>, &[Part]), Refusal>
     }
 }
 
-/// The integer at the front, and the parts behind it.
+/// The integer at the front, and the parts after it.
 pub fn integer(parts: &[Part]) -> Result<(Option<Integer>, &[Part]), Refusal>
     ensures is { MatchResult result (λ r. operands.integer parts.now ≡ Ok (r.0, r.1.now)) (λ e. operands.integer parts.now ≡ Err e) }
     ensures never { IfErr result (λ e. e ≢ refusals.Memory) }
@@ -171,7 +171,7 @@ pub fn integer(parts: &[Part]) -> Result<(Option<Integer>, &[Part]), Refusal>
     }
 }
 
-/// The disambiguator at the front, if there is one, and the parts behind it.
+/// The disambiguator at the front, if there is one, and the parts after it.
 pub fn disambiguator(parts: &[Part]) -> Result<(u64, &[Part]), Refusal>
     ensures is { MatchResult result (λ r. operands.disambiguator parts.now ≡ Ok (r.0, r.1.now)) (λ e. operands.disambiguator parts.now ≡ Err e) }
     ensures never { IfErr result (λ e. e ≢ refusals.Memory) }
@@ -182,7 +182,7 @@ pub fn disambiguator(parts: &[Part]) -> Result<(u64, &[Part]), Refusal>
     }
 }
 
-/// The binder at the front, if there is one, and the parts behind it.
+/// The binder at the front, if there is one, and the parts after it.
 pub fn binder(parts: &[Part]) -> Result<(u16, &[Part]), Refusal>
     ensures is { MatchResult result (λ r. operands.binder parts.now ≡ Ok (r.0, r.1.now)) (λ e. operands.binder parts.now ≡ Err e) }
     ensures never { IfErr result (λ e. e ≢ refusals.Memory) }
@@ -193,7 +193,7 @@ pub fn binder(parts: &[Part]) -> Result<(u16, &[Part]), Refusal>
     }
 }
 
-/// The lifetime at the front, if there is one, and the parts behind it.
+/// The lifetime at the front, if there is one, and the parts after it.
 pub fn some_lifetime(parts: &[Part]) -> Result<(u64, &[Part]), Refusal>
     ensures is { MatchResult result (λ r. operands.some_lifetime parts.now ≡ Ok (r.0, r.1.now)) (λ e. operands.some_lifetime parts.now ≡ Err e) }
     ensures never { IfErr result (λ e. e ≢ refusals.Memory) }
@@ -204,7 +204,7 @@ pub fn some_lifetime(parts: &[Part]) -> Result<(u64, &[Part]), Refusal>
     }
 }
 
-/// Whether the mark of an unsafe function stands at the front, if there is one, and the parts behind it.
+/// Whether the mark of an unsafe function is at the front, if there is one, and the parts after it.
 pub fn unsafe_mark(parts: &[Part]) -> Result<(bool, &[Part]), Refusal>
     ensures is { MatchResult result (λ r. operands.unsafe parts.now ≡ Ok (r.0, r.1.now)) (λ e. operands.unsafe parts.now ≡ Err e) }
     ensures never { IfErr result (λ e. e ≢ refusals.Memory) }
@@ -215,7 +215,7 @@ pub fn unsafe_mark(parts: &[Part]) -> Result<(bool, &[Part]), Refusal>
     }
 }
 
-/// Whether a minus stands at the front, if there is one, and the parts behind it.
+/// Whether a minus is at the front, if there is one, and the parts after it.
 pub fn minus(parts: &[Part]) -> Result<(bool, &[Part]), Refusal>
     ensures is { MatchResult result (λ r. operands.minus parts.now ≡ Ok (r.0, r.1.now)) (λ e. operands.minus parts.now ≡ Err e) }
     ensures never { IfErr result (λ e. e ≢ refusals.Memory) }
@@ -226,7 +226,7 @@ pub fn minus(parts: &[Part]) -> Result<(bool, &[Part]), Refusal>
     }
 }
 
-/// The ABI at the front, if there is one, and the parts behind it.
+/// The ABI at the front, if there is one, and the parts after it.
 pub fn abi(parts: &[Part]) -> Result<(Abi, &[Part]), Refusal>
     ensures is { MatchResult result (λ r. operands.abi parts.now ≡ Ok (r.0, r.1.now)) (λ e. operands.abi parts.now ≡ Err e) }
     ensures never { IfErr result (λ e. e ≢ refusals.Memory) }
@@ -237,7 +237,7 @@ pub fn abi(parts: &[Part]) -> Result<(Abi, &[Part]), Refusal>
     }
 }
 
-/// The arguments at the front, if there is one, and the parts behind it.
+/// The arguments at the front, if there is one, and the parts after it.
 pub fn arguments(parts: &[Part]) -> Result<(u32, &[Part]), Refusal>
     ensures is { MatchResult result (λ r. operands.arguments parts.now ≡ Ok (r.0, r.1.now)) (λ e. operands.arguments parts.now ≡ Err e) }
     ensures never { IfErr result (λ e. e ≢ refusals.Memory) }
@@ -248,7 +248,7 @@ pub fn arguments(parts: &[Part]) -> Result<(u32, &[Part]), Refusal>
     }
 }
 
-/// The bindings at the front, if there is one, and the parts behind it.
+/// The bindings at the front, if there is one, and the parts after it.
 pub fn bindings(parts: &[Part]) -> Result<(u32, &[Part]), Refusal>
     ensures is { MatchResult result (λ r. operands.bindings parts.now ≡ Ok (r.0, r.1.now)) (λ e. operands.bindings parts.now ≡ Err e) }
     ensures never { IfErr result (λ e. e ≢ refusals.Memory) }
@@ -259,7 +259,7 @@ pub fn bindings(parts: &[Part]) -> Result<(u32, &[Part]), Refusal>
     }
 }
 
-/// The suffix at the front, if there is one, and the parts behind it.
+/// The suffix at the front, if there is one, and the parts after it.
 pub fn suffix(parts: &[Part]) -> Result<(Option<Span>, &[Part]), Refusal>
     ensures is { MatchResult result (λ r. operands.suffix parts.now ≡ Ok (r.0, r.1.now)) (λ e. operands.suffix parts.now ≡ Err e) }
     ensures never { IfErr result (λ e. e ≢ refusals.Memory) }
@@ -270,7 +270,7 @@ pub fn suffix(parts: &[Part]) -> Result<(Option<Span>, &[Part]), Refusal>
     }
 }
 
-/// The path at the front, if there is one, and the parts behind it.
+/// The path at the front, if there is one, and the parts after it.
 pub fn other_path(parts: &[Part]) -> Result<(Option<u32>, &[Part]), Refusal>
     ensures is { MatchResult result (λ r. operands.other_path parts.now ≡ Ok (r.0, r.1.now)) (λ e. operands.other_path parts.now ≡ Err e) }
     ensures never { IfErr result (λ e. e ≢ refusals.Memory) }

@@ -1,4 +1,4 @@
-// What a rule means, from its parts: a part, or a node that is to be added. Above each function stand the productions of
+// What a rule means, from its parts: a part, or a node that is to be added. Above each function are the productions of
 // RFC 2603, "Syntax of mangled names", whose rules it closes.
 
 ghost use Rattle.std.specs.Prelude.{◌≡◌, ◌≢◌, ℕ, List, length, slice_index, true, IfErr};
@@ -16,7 +16,7 @@ use rust_tree::node::{
 };
 use sym_core::{Refusal, Span};
 
-/// Where a rule stands: its place, the byte there, the symbol's length, and how many lifetimes are bound around it.
+/// Where a rule is: its place, the byte there, the symbol's length, and how many lifetimes are bound around it.
 #[derive(Clone, Copy)]
 pub struct Site {
     pub place: u32,
@@ -108,7 +108,7 @@ pub fn generic(parts: &[Part]) -> Result<Node, Refusal>
     Ok(Node::Path(Path::Generic { parent, arguments }))
 }
 
-/// `<generic-arg> = <lifetime>`, and the arguments behind it.
+/// `<generic-arg> = <lifetime>`, and the arguments after it.
 pub fn lifetime_argument(parts: &[Part]) -> Result<Node, Refusal>
     ensures is { of_node result ≡ semantics.lifetime_argument parts.now }
     ensures never { IfErr result (λ e. e ≢ refusals.Memory) }
@@ -118,7 +118,7 @@ pub fn lifetime_argument(parts: &[Part]) -> Result<Node, Refusal>
     Ok(Node::Arguments(Arguments::Lifetime { lifetime, rest }))
 }
 
-/// `<generic-arg> = "K" <const>`, and the arguments behind it.
+/// `<generic-arg> = "K" <const>`, and the arguments after it.
 pub fn constant_argument(parts: &[Part]) -> Result<Node, Refusal>
     ensures is { of_node result ≡ semantics.constant_argument parts.now }
     ensures never { IfErr result (λ e. e ≢ refusals.Memory) }
@@ -128,7 +128,7 @@ pub fn constant_argument(parts: &[Part]) -> Result<Node, Refusal>
     Ok(Node::Arguments(Arguments::Constant { constant, rest }))
 }
 
-/// `<generic-arg> = <type>`, and the arguments behind it.
+/// `<generic-arg> = <type>`, and the arguments after it.
 pub fn type_argument(parts: &[Part]) -> Result<Node, Refusal>
     ensures is { of_node result ≡ semantics.type_argument parts.now }
     ensures never { IfErr result (λ e. e ≢ refusals.Memory) }
@@ -238,7 +238,7 @@ pub fn dyn_type(parts: &[Part]) -> Result<Node, Refusal>
     }))
 }
 
-/// `{<type>}`: a type, and those behind it.
+/// `{<type>}`: a type, and those after it.
 pub fn more_types(parts: &[Part]) -> Result<Node, Refusal>
     ensures is { of_node result ≡ semantics.more_types parts.now }
     ensures never { IfErr result (λ e. e ≢ refusals.Memory) }
@@ -248,7 +248,7 @@ pub fn more_types(parts: &[Part]) -> Result<Node, Refusal>
     Ok(Node::Types(Types::More { first, rest }))
 }
 
-/// `<dyn-trait> = <path> {<dyn-trait-assoc-binding>}`, and the bounds behind it.
+/// `<dyn-trait> = <path> {<dyn-trait-assoc-binding>}`, and the bounds after it.
 pub fn more_bounds(parts: &[Part]) -> Result<Node, Refusal>
     ensures is { of_node result ≡ semantics.more_bounds parts.now }
     ensures never { IfErr result (λ e. e ≢ refusals.Memory) }
@@ -263,7 +263,7 @@ pub fn more_bounds(parts: &[Part]) -> Result<Node, Refusal>
     }))
 }
 
-/// `<dyn-trait-assoc-binding> = "p" <undisambiguated-identifier> <type>`, and the bindings behind it.
+/// `<dyn-trait-assoc-binding> = "p" <undisambiguated-identifier> <type>`, and the bindings after it.
 pub fn binding(parts: &[Part]) -> Result<Node, Refusal>
     ensures is { of_node result ≡ semantics.binding parts.now }
     ensures never { IfErr result (λ e. e ≢ refusals.Memory) }
@@ -320,7 +320,7 @@ fn counted(place: u32, number: Option<u64>) -> Result<u64, Refusal>
     }
 }
 
-/// `<disambiguator> = "s" <base-62-number>`, where it stands before a path: one more than the number.
+/// `<disambiguator> = "s" <base-62-number>`, where it comes before a path: one more than the number.
 pub fn disambiguator(place: u32, parts: &[Part]) -> Result<Part, Refusal>
     ensures is { of_part result ≡ semantics.disambiguator place parts.now }
     ensures never { IfErr result (λ e. e ≢ refusals.Memory) }

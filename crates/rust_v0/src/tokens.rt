@@ -54,7 +54,7 @@ pub fn sort_of(rule: u16) -> TokenSort
 /// The most digits of a number in base 62.
 const MOST_DIGITS: usize = 11;
 
-/// A number in base 62, none past 64 bits. It stays a call: where it stands in `Workspace::link`, that loop takes more instructions.
+/// A number in base 62, none past 64 bits. It stays a call: where it is in `Workspace::link`, that loop takes more instructions.
 #[inline(never)]
 fn counted_number(digits: &[u8]) -> Option<u64>
     ensures { AreDigitsOf Base62 digits.now → IsNumber result (value_of_base62 digits.now) }
@@ -94,14 +94,14 @@ fn has_minus(parts: &[Part]) -> bool
     }
 }
 
-/// Whether an integer behind a minus is below zero.
+/// Whether an integer after a minus is below zero.
 fn is_negative(minus: bool, magnitude: u128) -> bool
     ensures { result ≡ minus && nat_lt 0 magnitude }
 {
     minus && magnitude > 0
 }
 
-/// The digits behind the zeros in front.
+/// The digits after the zeros in front.
 fn without_zeros(digits: &[u8]) -> usize
     ensures within { result ≤ length digits.now }
     ensures value { value_of_hex (drop result digits.now) ≡ value_of_hex digits.now }
@@ -188,7 +188,7 @@ impl RustNodes {
         }))
     }
 
-    /// What a token is as a part of a rule at a place, behind these parts.
+    /// What a token is as a part of a rule at a place, after these parts.
     #[inline(always)]
     pub fn token_part(
         &mut self,

@@ -25,7 +25,7 @@ fn are_ends(ends: &[usize], len: usize) -> bool
     from <= len
 }
 
-/// Writes the text of one of many names to the front of what is left of the buffer.
+/// Writes the text of one name among many to the front of the rest of the buffer.
 fn told_of<D: Demangler>(
     demangler: &D,
     lists: &mut D::Lists,

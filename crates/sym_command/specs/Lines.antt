@@ -42,7 +42,7 @@ pub record IsCountsLine (are_counts : Counts → Type 0) (line : List ℕ) : Typ
   pub are : are_counts counts
   pub is : line ≡ counts_text counts.rows counts.nodes counts.steps ++ 10 ∷ []
 
--- what stands behind a word's line: the line of counts where they are asked for and the symbol is read, else nothing
+-- what follows a word's line: the line of counts where they are asked for and the symbol is read, else nothing
 abbrev pub IsBehindLine : (Counts → Type 0) → Bool → List ℕ → Type 0
 IsBehindLine are_counts true line = IsCountsLine are_counts line
 IsBehindLine are_counts false line = line ≡ []

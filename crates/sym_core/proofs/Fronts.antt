@@ -14,7 +14,7 @@ pub record ReadsNumber (kind : NumberKind) (q : List ℕ) (size : ℕ) : Type 0 
   pub size_is : length digits ≡ size
   pub longest : (bytes behind : List ℕ) → IsNumber kind bytes → q ≡ bytes ++ behind → length bytes ≤ length (digits ++ ending_of kind)
 
--- no number stands at the front of q, and this is the length of the longest front that begins one
+-- no number is at the front of q, and this is the length of the longest front that begins one
 pub record BreaksNumber (kind : NumberKind) (q : List ℕ) (size : ℕ) : Type 0 where
   pub front : List ℕ
   pub rest : List ℕ

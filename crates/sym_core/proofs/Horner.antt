@@ -39,12 +39,12 @@ pub too_large : (kind : NumberKind) (v i most : ℕ) (ds : List ℕ) → i < len
 too_large kind v i most ds h same large =
     omega (arith, value_onto-next kind v i ds h, value_onto-le kind (v * radix_of kind + digit_value kind (get_or ds i 0)) (drop (i + 1) ds))
 
--- digits behind others
+-- digits after others
 value_onto-append : (kind : NumberKind) (v : ℕ) (xs ys : List ℕ) → value_onto kind v (xs ++ ys) ≡ value_onto kind (value_onto kind v xs) ys
 value_onto-append kind v [] ys = refl
 value_onto-append kind v (x ∷ xs) ys = value_onto-append kind (v * radix_of kind + digit_value kind x) xs ys
 
--- one digit more behind those of a front
+-- one digit more after those of a front
 pub value_of-more : (kind : NumberKind) (ds : List ℕ) (i : ℕ) → i < length ds → value_of kind (take (i + 1) ds) ≡ value_of kind (take i ds) * radix_of kind + digit_value kind (get_or ds i 0)
 value_of-more kind ds i lt = ap (value_of kind) (take_more ds i 0 lt) ∙ value_onto-append kind 0 (take i ds) (get_or ds i 0 ∷ [])
 

@@ -30,7 +30,7 @@ own_found names bytes most end high few each stops = record {
       ap (is_name_byte names) (sym same) ∙ stops lt more);
 }
 
--- What stands behind a name's length: a separator or none, its bytes so far, and what follows.
+-- What comes after a name's length: a separator or none, its bytes so far, and what follows.
 pub record IsFront (names : NameClass) (digits sep part rest : List ℕ) (most : ℕ) : Type 0 where
   pub length_is : AreDigitsOf Length digits
   pub most_is : most ≡ value_of Length digits
@@ -39,7 +39,7 @@ pub record IsFront (names : NameClass) (digits sep part rest : List ℕ) (most :
   pub few : length part ≤ most
   pub bare : sep ≡ [] → 0 < most → StopsAt is_decimal_digit part
 
--- a separator fits what stands behind it
+-- a separator fits what follows it
 separated : (names : NameClass) (digits sep part rest : List ℕ) (most : ℕ) → IsFront names digits sep part rest most → (IsNameless names most → ⊥) → length part ≡ most → IsSeparator names sep part
 separated Cpp digits [] [] rest most f named full = named (sym full)
 separated Cpp digits [] (b ∷ part) rest most f named full = f.bare refl (omega (arith, full))
@@ -55,7 +55,7 @@ separated Rust digits (c ∷ d ∷ sep) part rest most f named full =
 abbrev token_of : List ℕ → List ℕ → List ℕ → Token
 token_of digits sep part = record { before = digits ++ sep; own = part; behind = [] }
 
--- a mark doesn't come behind an unmarked length
+-- a mark doesn't come after an unmarked length
 no_mark : (names : NameClass) (sep part rest : List ℕ) (b : ℕ) → ends_name names b ≡ false → IsSeparated names (sep ++ (part ++ rest)) (length sep) → sep ≡ [] → part ≡ [] → (r : List ℕ) → rest ≡ b ∷ r → b ≡ 95 → ⊥
 no_mark Cpp sep part rest b clash mark p q r e is = cc
 no_mark Rust sep part rest b clash mark p q r e is = elim mark [
@@ -63,7 +63,7 @@ no_mark Rust sep part rest b clash mark p q r e is = elim mark [
   | inr none ↦ none.1 r (ap (λ v. v ++ (part ++ rest)) p ∙ ap (λ v. v ++ rest) q ∙ e ∙ ap (λ c. c ∷ r) is)
 ]
 
--- these bytes don't go on with a name: the first may not stand in it here
+-- these bytes don't go on with a name: the first may not be in it here
 abbrev pub IsForeign : NameClass → List ℕ → List ℕ → List ℕ → Type 0
 IsForeign names sep part w = (b : ℕ) (r : List ℕ) → w ≡ b ∷ r → (is_name_byte names b ≡ false) ⊎ ((sep ≡ []) × (part ≡ []) × (is_decimal_digit b ≡ true))
 
@@ -93,7 +93,7 @@ own_same Rust (d ∷ []) part w (c ∷ []) own v mark is some e = (cc, λ nil. c
 own_same Rust (d ∷ x ∷ sep) part w t_sep own v mark is some e = elim mark [ inl one ↦ absurd (omega (arith, one.0)) | inr none ↦ absurd (omega (arith, none.0)) ]
 own_same Rust sep part w (c ∷ d ∷ t_sep) own v mark is some e = absurd is
 
--- no name stands where one breaks off
+-- no name is where one breaks off
 pub not_name : (names : NameClass) (digits sep part rest w : List ℕ) (most : ℕ) → IsFront names digits sep part rest most → IsSeparated names (sep ++ (part ++ w)) (length sep) → length part < most → IsForeign names sep part w → IsLongest digits sep part w → (t : Token) (v : List ℕ) → IsName names t → bytes_of t ++ v ≡ digits ++ (sep ++ (part ++ w)) → ⊥
 not_name names digits sep part rest w most f mark short foreign longest t v h e =
     elim (compared h.digits digits ((h.separator ++ t.own) ++ v) (sep ++ (part ++ w)) whole) [
@@ -384,7 +384,7 @@ unbegun names q size k =
 pub name_unbegun : (names : NameClass) (q : List ℕ) (size : ℕ) → HasNoNumber Length q size → HasNoToken (IsName names) q size
 name_unbegun names q size h = unbegun names q size (breaks_number Length q size h)
 
--- what stands behind the digits of a length
+-- what follows the digits of a length
 pub record Behind (names : NameClass) (s : List ℕ) (at to skipped most : ℕ) (part rest : List ℕ) : Type 0 where
   pub digits : List ℕ
   pub sep : List ℕ

@@ -165,7 +165,7 @@ form_filled Base62 none [] form e = cc
 form_filled Hex none [] form e = cc
 form_filled kind none (d ∷ ds) form e = cc
 
--- no digit stands here
+-- no digit is here
 pub breaks_bare : (kind : NumberKind) (q : List ℕ) (most : ℕ) → ending_of kind ≡ [] → IsRun kind q most 0 → IsLimit kind q most → BreaksNumber kind q 0
 breaks_bare kind q most none run limit = record {
   front = [];

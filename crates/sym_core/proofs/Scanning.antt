@@ -111,7 +111,7 @@ number_found kind s at = elim (scan_at kind s at) [
   | inr breaks ↦ (Err breaks.0, (breaks.1.0, number_breaks kind s at breaks.0 breaks.1))
 ]
 
--- the bytes of a separator in front of a list
+-- the bytes of a separator before a list
 separator : (names : NameClass) (tail : List ℕ) → (n : ℕ) × (n ≤ length tail) × IsSeparated names tail n
 separator Cpp tail = (0, omega arith, refl)
 separator Rust tail = elim (begins_mark tail) [
@@ -149,7 +149,7 @@ nameless Rust most = inr (λ none. none)
 abbrev NameFound : NameClass → List ℕ → ℕ → Type 0
 NameFound names s at = (found : Result TokenPlace ℕ) × FindsToken (IsName names) s at found
 
--- a name's own bytes behind its length
+-- a name's own bytes after its length
 own_found_at : (names : NameClass) (s : List ℕ) (at to : ℕ) → IsNumberSpan Length s at (record { from = at; to = to }) → NameFound names s at
 own_found_at names s at to is = elim (nameless names most) [
   | inl none ↦ (Err at, (omega arith, own_zero names s span most is refl none))

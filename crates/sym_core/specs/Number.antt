@@ -48,7 +48,7 @@ AreDigits kind ds = AllByRecursion (λ b. is_digit_of kind b ≡ true) ds
 abbrev pub AreDigitsOf : NumberKind → List ℕ → Type 0
 AreDigitsOf kind ds = AreDigits kind ds × IsFormOf kind ds
 
--- what a number has behind its digits: an '_' or nothing
+-- what a number has after its digits: an '_' or nothing
 abbrev pub ending_of : NumberKind → List ℕ
 ending_of Length = []
 ending_of Digits = []
@@ -73,7 +73,7 @@ BeginsNumber kind bytes = (more : List ℕ) × IsNumber kind (bytes ++ more)
 abbrev pub HasNumber : NumberKind → List ℕ → ℕ → Type 0
 HasNumber kind s size = IsLongestFront (IsNumber kind) s (size + length (ending_of kind))
 
--- no number stands at the front, and the longest front that begins one has so many bytes
+-- no number is at the front, and the longest front that begins one has so many bytes
 abbrev pub HasNoNumber : NumberKind → List ℕ → ℕ → Type 0
 HasNoNumber kind s size = ((n : ℕ) → n ≤ length s → ¬ (IsNumber kind (take n s))) × IsLongestFront (BeginsNumber kind) s size
 

@@ -8,7 +8,7 @@ use Rattle.unicode_ident.specs.Ident.{is_xid_continue}
 abbrev pub signed_text : Bool → ℕ → List ℕ
 signed_text minus value = (if minus then 45 ∷ [] else []) ++ decimal value
 
--- an underscore stands in the bytes
+-- an underscore is in the bytes
 abbrev pub has_underscore : List ℕ → Bool
 has_underscore [] = false
 has_underscore (byte ∷ rest) = (byte == 95) || has_underscore rest
@@ -20,7 +20,7 @@ hyphenated (byte ∷ rest) =
     if has_underscore rest then byte ∷ hyphenated rest
     else (if byte == 95 then 45 ∷ rest else byte ∷ rest)
 
--- the characters, where each may stand in an identifier
+-- the characters, where each may be in an identifier
 abbrev pub identifier_text : List ℕ → Option (List ℕ)
 identifier_text chars = if list_all is_xid_continue chars then Some (encode_utf8_all chars) else None
 

@@ -40,17 +40,17 @@ is_marked Seq36 = true
 is_marked Base62 = true
 is_marked Hex = true
 
--- so many bytes of a separator stand in front of these
+-- so many bytes of a separator come before these
 abbrev pub IsSeparated : NameClass → List ℕ → ℕ → Type 0
 IsSeparated Cpp tail n = n ≡ 0
 IsSeparated Rust tail n = ((n ≡ 1) × ((r : List ℕ) × (tail ≡ 95 ∷ r))) ⊎ ((n ≡ 0) × ((r : List ℕ) → tail ≡ 95 ∷ r → ⊥))
 
--- a name of so many bytes would begin with a digit straight behind its length
+-- a name of so many bytes would begin with a digit straight after its length
 abbrev pub is_bare_digit : ℕ → ℕ → List ℕ → Bool
 is_bare_digit most skipped [] = false
 is_bare_digit most skipped (b ∷ own) = nat_lt 0 most && skipped == 0 && is_decimal_digit b
 
--- the bytes in front of a place may stand in a name
+-- the bytes before a place may be in a name
 abbrev pub ReachesNameBytes : NameClass → List ℕ → ℕ → Type 0
 ReachesNameBytes names bytes end = (k : ℕ) → k < end → is_name_byte names (get_or bytes k 0) ≡ true
 

@@ -1,4 +1,4 @@
--- Tokens: names and numbers as they stand in a symbol.
+-- Tokens: names and numbers as they are in a symbol.
 use Rattle.std.specs.Prelude.{◌≡◌, ◌≢◌, ℕ, ◌+◌, ◌-◌, ◌≤◌, List, [], ◌∷◌, ◌++◌, length, drop, Bool, true, false, not, ◌&&◌, ◌||◌, ◌==◌, nat_le, Result, Ok, Err, ⊤}
 use Rattle.std.specs.List.{AllByRecursion}
 use Rattle.sym_core.specs.Number.{is_decimal_digit, is_upper_letter, is_lower_letter, is_digit_of, AreDigitsOf, ending_of}
@@ -14,7 +14,7 @@ abbrev pub is_name_byte : NameClass → ℕ → Bool
 is_name_byte Cpp b = nat_le 33 b && nat_le b 255 && not (b == 127)
 is_name_byte Rust b = is_decimal_digit b || is_upper_letter b || is_lower_letter b || b == 95
 
--- each byte may stand in a name
+-- each byte may be in a name
 abbrev pub AreNameBytes : NameClass → List ℕ → Type 0
 AreNameBytes names bytes = AllByRecursion (λ b. is_name_byte names b ≡ true) bytes
 
@@ -30,7 +30,7 @@ IsSeparator Rust [] (b ∷ bs) = (is_decimal_digit b ≡ false) × (b ≢ 95)
 IsSeparator Rust (c ∷ []) bs = c ≡ 95
 IsSeparator Rust (c ∷ d ∷ cs) bs = ⊥
 
--- A token: what stands before its own bytes (a name's length and separator), these, and what ends a number.
+-- A token: what comes before its own bytes (a name's length and separator), these, and what ends a number.
 pub record Token : Type 0 where
   pub before : List ℕ
   pub own : List ℕ
@@ -88,7 +88,7 @@ pub record HasToken (Is : Token → Type 0) (q : List ℕ) (at : ℕ) (place : T
   pub end : place.end ≡ at + length (bytes_of token)
   pub longest : (other : Token) (behind : List ℕ) → Is other → q ≡ bytes_of other ++ behind → length (bytes_of other) ≤ length (bytes_of token)
 
--- no token stands at the front of q, and this is the length of the longest front that begins one
+-- no token is at the front of q, and this is the length of the longest front that begins one
 pub record HasNoToken (Is : Token → Type 0) (q : List ℕ) (size : ℕ) : Type 0 where
   pub front : List ℕ
   pub rest : List ℕ

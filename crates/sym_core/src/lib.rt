@@ -45,12 +45,12 @@ pub enum NumberKind {
     Digits,
 }
 
-/// How names are spelled behind their length.
+/// How names are spelled after their length.
 #[derive(Clone, Copy, Debug, PartialEq, Eq)]
 pub enum NameClass {
     /// At least one byte, none of them blank or a control; the first is no digit (Itanium C++ ABI 5.1, `<source-name>`).
     Cpp,
-    /// Letters, digits and `_`, maybe none, behind an optional `_` that isn't counted (RFC 2603, `<undisambiguated-identifier>`).
+    /// Letters, digits and `_`, maybe none, after an optional `_` that isn't counted (RFC 2603, `<undisambiguated-identifier>`).
     Rust,
 }
 

@@ -38,7 +38,7 @@ fn append(out: &mut Vec<u8>, front: &[u8], text: &[u8], back: &[u8]) -> Result<S
     })
 }
 
-/// Appends a decimal, behind a minus where that is asked for, and answers its span in the list.
+/// Appends a decimal, after a minus where that is asked for, and answers its span in the list.
 ///
 /// # Errors
 ///
@@ -84,7 +84,7 @@ fn coded_name(alloc: Global, bytes: &[u8]) -> Result<Vec<u8>, Refusal>
     Ok(coded)
 }
 
-/// Whether each character may stand in an identifier.
+/// Whether each character may be in an identifier.
 fn is_identifier(text: &str) -> bool
     ensures { result ≡ list_all is_xid_continue (chars text.now) }
 {
@@ -120,7 +120,7 @@ fn decoded(alloc: Global, bytes: &[u8]) -> Result<Option<String>, Refusal>
 /// Appends what a Rust name prints, and answers its span in the list.
 ///
 /// A name with a `u` mark (`puny`) is decoded by RFC 3492, its last `_` read as the delimiter. Where that fails, or gives
-/// a character that can't stand in an identifier, or the name is longer than 2,000 bytes, `punycode{bytes}` is printed.
+/// a character that can't be in an identifier, or the name is longer than 2,000 bytes, `punycode{bytes}` is printed.
 ///
 /// # Errors
 ///

@@ -78,7 +78,7 @@ fn most_digits(s: &[u8], at: usize, kind: NumberKind) -> usize
     }
 }
 
-/// The place so many bytes behind another, or the end of the bytes where there are fewer.
+/// The place so many bytes after another, or the end of the bytes where there are fewer.
 pub fn reach(s: &[u8], at: usize, most: usize) -> usize
     requires { at ≤ length s.now }
     ensures low { at ≤ result }
@@ -104,7 +104,7 @@ fn digits_end(s: &[u8], at: usize, kind: NumberKind, most: usize) -> usize
     end
 }
 
-/// Digits of a Length: the place behind them, and what they stand for.
+/// Digits of a Length: the place after them, and what they stand for.
 #[derive(Clone, Copy)]
 pub struct CountedLength {
     pub to: usize,
@@ -147,7 +147,7 @@ pub fn find_length(s: &[u8], at: usize) -> Result<CountedLength, usize>
     }
 }
 
-/// Whether an `_` stands at a place.
+/// Whether an `_` is at a place.
 fn is_mark(s: &[u8], at: usize) -> bool
     requires { at ≤ length s.now }
     ensures yes { OnTrue result (drop at s.now ≡ 95 ∷ drop (at + 1) s.now) }

@@ -1,4 +1,4 @@
-// Tokens: names and numbers as they stand in a symbol.
+// Tokens: names and numbers as they are in a symbol.
 #![tactic(auto)]
 
 ghost use Rattle.std.specs.Prelude.{◌≡◌, ◌≤◌, ◌+◌, ◌-◌, ◌↔◌, length, take, drop, true, IsTrue};
@@ -12,14 +12,14 @@ ghost use Rattle.sym_core.specs.Token.{is_name_byte as name_byte};
 use crate::numbers::{find_length, has_mark, number, reach};
 use crate::{NameClass, NumberKind, Span};
 
-/// Where a token was found: its own bytes, and the place behind it.
+/// Where a token was found: its own bytes, and the place after it.
 #[derive(Clone, Copy, Debug, PartialEq, Eq)]
 pub struct TokenPlace {
     /// The first byte of the name itself, or of the number's digits.
     pub from: usize,
-    /// The place behind the own bytes.
+    /// The place after the own bytes.
     pub to: usize,
-    /// The place behind the whole token: behind a number's `_` too.
+    /// The place after the whole token: after a number's `_` too.
     pub end: usize,
 }
 
@@ -40,14 +40,14 @@ pub fn find_number(bytes: &[u8], at: usize, kind: NumberKind) -> Result<TokenPla
     }
 }
 
-/// The place behind a number whose digits end at a place.
+/// The place after a number whose digits end at a place.
 fn behind_number(to: u32, kind: NumberKind) -> usize
     ensures { result ≡ to + length (ending_of kind) }
 {
     to as usize + has_mark(kind) as usize
 }
 
-// For each byte whether it may stand in a Rust name: letters, digits and `_`.
+// For each byte whether it may be in a Rust name: letters, digits and `_`.
 static RUST_NAME_BYTES: [u8; 256] = *b"\
     00000000000000000000000000000000\
     00000000000000001111111111000000\
@@ -58,7 +58,7 @@ static RUST_NAME_BYTES: [u8; 256] = *b"\
     00000000000000000000000000000000\
     00000000000000000000000000000000";
 
-/// Whether the byte may stand in a name.
+/// Whether the byte may be in a name.
 fn is_name_byte(names: NameClass, byte: u8) -> bool
     ensures { result ≡ name_byte names byte }
 {
@@ -68,7 +68,7 @@ fn is_name_byte(names: NameClass, byte: u8) -> bool
     }
 }
 
-/// Whether each byte may stand in a name.
+/// Whether each byte may be in a name.
 pub fn are_name_bytes(names: NameClass, bytes: &[u8]) -> bool
     ensures only { result ≡ true → AreNameBytes names bytes.now }
     ensures all { AreNameBytes names bytes.now → result ≡ true }
@@ -86,7 +86,7 @@ fn is_nameless(most: usize, names: NameClass) -> bool
     }
 }
 
-/// How many bytes of a separator stand in front of a name's own bytes.
+/// How many bytes of a separator come before a name's own bytes.
 fn separator_len(tail: &[u8], names: NameClass) -> usize
     ensures within { result ≤ length tail.now }
     ensures separated { IsSeparated names tail.now result }
@@ -103,7 +103,7 @@ fn separator_len(tail: &[u8], names: NameClass) -> usize
     }
 }
 
-/// How many of the first bytes, up to so many and by fours, may stand in a name.
+/// How many of the first bytes, up to so many and by fours, may be in a name.
 fn own_fours(bytes: &[u8], most: usize, names: NameClass) -> usize
     ensures within { result ≤ length bytes.now }
     ensures few { result ≤ most }
@@ -134,7 +134,7 @@ fn own_len(bytes: &[u8], most: usize, names: NameClass) -> usize
     end
 }
 
-/// Whether a name of so many bytes would begin with a digit straight behind its length.
+/// Whether a name of so many bytes would begin with a digit straight after its length.
 fn is_bare_digit(own: &[u8], most: usize, skipped: usize) -> bool
     ensures { result ≡ bare_digit most skipped own.now }
 {
@@ -163,7 +163,7 @@ pub fn find_name(bytes: &[u8], at: usize, names: NameClass) -> Result<TokenPlace
     }
 }
 
-/// Finds a name's own bytes behind its length, which says how many they are.
+/// Finds a name's own bytes after its length, which says how many they are.
 fn find_own(bytes: &[u8], digits: Span, most: usize, names: NameClass) -> Result<TokenPlace, usize>
     requires fits { FitsSymbol bytes.now }
     requires span { IsNumberSpan NumberKind.Length bytes.now digits.from digits }

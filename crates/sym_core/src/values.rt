@@ -151,7 +151,7 @@ pub fn value36(digits: &[u8]) -> Option<u64>
     base36_value(digits)?.checked_add(1)
 }
 
-/// The value of a Base62 number by its digits: 0 where there are none, else one more than they stand for.
+/// The value of a Base62 number by its digits, which are tested as they are counted: 0 where there are none, else one more than they stand for.
 /// None past 64 bits, and where a byte is no digit.
 pub fn value62(digits: &[u8]) -> Option<u64>
     ensures value { AreDigits NumberKind.Base62 digits.now → MatchOption result (2 ^ 64 ≤ counted_value NumberKind.Base62 digits.now) (λ v. v ≡ counted_value NumberKind.Base62 digits.now) }

@@ -22,7 +22,7 @@ use Rattle.sym_link.proofs.Driving.{driving_on}
 use Rattle.sym_demangle.specs.Mangled.{Mangled, IsRefused}
 use Rattle.sym_demangle.specs.Standing.{Begins, IsLinker, IsLinked, CountsNodes, AreLinkSteps, AreNodesOf}
 
--- a linker in front of the first row
+-- a linker before the first row
 pub begun : {N P K V S C : Type 0} (view : View N P K V S C) (g : Table) (s : List ℕ) (rows : List Row) (read : ℕ) (nodes : N) → GrowsInto g view.table
     → FitsSymbol s → AreRowsOf g s rows → AreFew read (length rows) (length s) → Begins view nodes → IsLinker g view s rows read nodes 0 None 0 [] [] false
 begun view g s rows read nodes grows fits are few begins = record {

@@ -58,7 +58,7 @@ fn feed_more<M: Mangling>(reader: &mut Reader<M>, more: &[u8]) -> Result<(), Ref
     reader.feed(more)
 }
 
-/// Gives up what was fed to a reader that refuses for want of memory: what there is no room for now isn't refused later.
+/// Resets a reader that ran out of memory, so that a later attempt starts afresh.
 fn forget_memory<M: Mangling>(reader: &mut Reader<M>, refusal: Refusal)
     requires open { reader.old.ended ≡ false }
     requires kept { reader.old.refused ≡ Some refusal }
@@ -105,7 +105,7 @@ fn read_rest<M: Mangling>(reader: &mut Reader<M>, rest: &[u8]) -> Result<(), Ref
 }
 
 impl<M: Mangling> Workspace<M> {
-    /// Lists that have no memory yet.
+    /// Empty lists: nothing is allocated yet.
     pub fn new(alloc: Global) -> Workspace<M> {
         Workspace {
             alloc,

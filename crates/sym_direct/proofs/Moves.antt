@@ -16,18 +16,18 @@ use Rattle.sym_direct.specs.Holes.{Language, Opened, opened, Reads, ReadsRest, S
 drop-more : (at : ℕ) (s a rest : List ℕ) → drop at s ≡ a ++ rest → drop (at + length a) s ≡ rest
 drop-more at s a rest e = sym (drop-drop (length a) at s) ∙ ap (λ l. drop (length a) l) e ∙ drop-append_seam a rest
 
--- what stands in two pieces stands as one
+-- what is there in two pieces is there as one
 pub stands-join : (s : List ℕ) (at : ℕ) (a b : List ℕ) → StandsAt s at a → StandsAt s (at + length a) b → StandsAt s at (a ++ b)
 stands-join s at a b first second =
     (second.0, first.1 ∙ ap (λ l. a ++ l) (sym (drop-more at s a first.0 first.1) ∙ second.1) ∙ sym (append_assoc a b second.0))
 
--- what stands as one stands in two pieces
+-- what is there as one is there in two pieces
 pub stands-split : (s : List ℕ) (at : ℕ) (a b : List ℕ) → StandsAt s at (a ++ b) → StandsAt s at a × StandsAt s (at + length a) b
 stands-split s at a b whole =
     let e = whole.1 ∙ append_assoc a b whole.0 in
     ((b ++ whole.0, e), (whole.0, drop-more at s a (b ++ whole.0) e))
 
--- nothing stands anywhere
+-- nothing is anywhere
 pub stands-none : (s : List ℕ) (at : ℕ) → StandsAt s at []
 stands-none s at = (drop at s, refl)
 
@@ -52,7 +52,7 @@ reads-rule l s kind rule taken context at st begun inner after bytes vs w takes 
   unfolds = rw (begins, rest.unfolds, closes) refl;
 }
 
--- a kind takes a rule, which may begin with whatever parts stand in the symbol: it stands open
+-- a kind takes a rule, which may begin with whatever parts are in the symbol: it is open
 pub opens-where : {V S C : Type 0} (l : Language V S C) (s : List ℕ) (kind : ℕ) (rule : Rule) (taken : List ℕ) (context : C)
     (os : List (Opened V S C)) (at : ℕ) (st begun : S)
     → TakesRule l.table kind rule taken
@@ -68,7 +68,7 @@ opens-where l s kind rule taken context os at st begun takes begins expects stan
     (begins rest.forest rest.shaped (subst (λ b. StandsAt s (at + length taken) b) (sym rest.spelled) there)) closes)
     (stands-join s at taken bytes stands there))
 
--- a kind takes a rule: it stands open
+-- a kind takes a rule: it is open
 pub opens : {V S C : Type 0} (l : Language V S C) (s : List ℕ) (kind : ℕ) (rule : Rule) (taken : List ℕ) (context : C)
     (os : List (Opened V S C)) (at : ℕ) (st begun : S)
     → TakesRule l.table kind rule taken
@@ -78,7 +78,7 @@ pub opens : {V S C : Type 0} (l : Language V S C) (s : List ℕ) (kind : ℕ) (r
 opens l s kind rule taken context os at st begun takes begins expects stands =
     opens-where l s kind rule taken context os at st begun takes (λ f shaped there. begins f) expects stands
 
--- a part is read, and those behind it
+-- a part is read, and those after it
 unfoldable pub joins : {V S C : Type 0} (l : Language V S C) (s : List ℕ) (rule : Open S C) (known : List V) (x : Sym) (todo : List Sym) (at : ℕ) (st : S)
     (next : Next V S C) (after inner : S) (v : List V) (first more : List ℕ) (vs : List V)
     → (l.reading s).between rule known st ≡ Ok next

@@ -16,7 +16,8 @@ const BYTES_AT_ONCE: usize = 128;
 pub struct Bounded<T> {
     list: Vec<T>,
     room: usize,
-    // So many entries need no more memory.
+    // So many entries need no more memory. So to add one is a comparison and a store; a call of `Vec::push` for each byte took 6 % of a
+    // symbol's instructions.
     ready: usize,
     pub ghost fits: { length list.items ≤ room },
     pub ghost is_small: { room < 2 ^ 32 },
@@ -67,7 +68,7 @@ impl<T: Copy> Bounded<T> {
         self.list.len()
     }
 
-    /// The place behind its entries.
+    /// The place after its entries.
     #[inline(always)]
     pub fn end(&self) -> u32
         ensures { result ≡ length self.now.list.items }
@@ -134,7 +135,7 @@ impl Bounded<u8> {
         Some(())
     }
 
-    /// Adds bytes that stand in it, if there is room for them.
+    /// Adds bytes that are in it, if there is room for them.
     pub fn repeat(&mut self, from: usize, to: usize) -> Option<()>
         requires from { from ≤ to }
         requires to { to ≤ length self.old.list.items }
@@ -147,7 +148,8 @@ impl Bounded<u8> {
         copy_to_end(&mut self.list, from, to)
     }
 
-    /// Takes its first bytes away.
+    /// Takes its first bytes away.␤    // `rotate_left` would clear kilobytes of the stack for the bytes that go to the end.
+    // `rotate_left` would clear kilobytes of the stack for the bytes that go to the end.
     pub fn drop_first(&mut self, count: usize)
         requires within { count ≤ length self.old.list.items }
         ensures items { self.new.list.items ≡ drop count self.old.list.items }

@@ -3,7 +3,7 @@
 ghost use Rattle.std.specs.Prelude.{◌≢◌, ◌∷◌, []};
 ghost use Rattle.sym_direct.specs.Holes.{StandsAt};
 
-/// The byte at a place, or 0 behind the end.
+/// The byte at a place, or 0 after the end.
 #[inline(always)]
 pub fn byte_at(s: &[u8], at: usize) -> u8
     ensures { result ≢ 0 → StandsAt s.now at (result ∷ []) }

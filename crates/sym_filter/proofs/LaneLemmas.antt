@@ -68,7 +68,7 @@ module _ (q : ℕ → Bool) (d : List ℕ) (i r : ℕ) (z : List ℕ) (room : i 
   pub front_is_of : agree_below (λ x. stops x || q x) (λ _. true) 256 ≡ true → (r ≤ 16) × (list_all q (take r (drop i d)) ≡ true)
   front_is_of all = (front-within, front-passes all)
 
--- a front, and what passes behind it
+-- a front, and what passes after it
 pub all-longer : (q : ℕ → Bool) (text : List ℕ) (i r : ℕ) → list_all q (take i text) ≡ true → list_all q (take r (drop i text)) ≡ true → list_all q (take (i + r) text) ≡ true
 all-longer q text i r front more = ap (list_all q) (take-add i r text) ∙ list_all-append q (take i text) (take r (drop i text)) ∙ and_from _ _ front more
 

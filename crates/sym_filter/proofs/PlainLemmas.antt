@@ -55,7 +55,7 @@ is_plain-append letters closed (first ∷ front) others plain h =
 pub is_plain-longer : (letters : Letters) (closed : Bool) (text : List ℕ) (i r : ℕ) → is_plain letters closed (take i text) ≡ true → list_all is_no_mark (take r (drop i text)) ≡ true → is_plain letters closed (take (i + r) text) ≡ true
 is_plain-longer letters closed text i r plain others = ap (is_plain letters closed) (take-add i r text) ∙ is_plain-append letters closed (take i text) (take r (drop i text)) plain others
 
--- the word of a part ends behind its last byte that is no dot
+-- the word of a part ends after its last byte that is no dot
 word_of-front : (part : List ℕ) (end : ℕ) → list_all is_dot (drop end part) ≡ true → word_of part ≡ word_of (take end part)
 word_of-front part end h = ap word_of (sym (take-append-drop end part)) ∙ word_of-append_dots (take end part) (drop end part) h
 

@@ -26,7 +26,7 @@ first_run-append letters (byte ∷ run) more h =
     let parts = and_parts (is_byte_of letters byte) (list_all (is_byte_of letters) run) h in
     cond-true (is_byte_of letters byte) _ _ parts.0 ∙ ap (λ (t : List ℕ). byte ∷ t) (first_run-append letters run more parts.1)
 
--- and it changes nothing behind
+-- and it changes nothing after it
 pub with_later_runs-append : (letters : Letters) (change : List ℕ → List ℕ) (run more : List ℕ) → list_all (is_byte_of letters) run ≡ true → with_later_runs letters change (run ++ more) ≡ with_later_runs letters change more
 with_later_runs-append letters change [] more h = refl
 with_later_runs-append letters change (byte ∷ run) more h =
@@ -60,7 +60,7 @@ filter-step run rest false = refl
 pub filter-front : (run : List ℕ) (rest : List (List ℕ)) → cond (is_named run) (run ∷ rest) rest ≡ filter is_named (run ∷ []) ++ rest
 filter-front run rest = filter-step run rest (is_named run)
 
--- a word is what stands before the trailing dots
+-- a word is what comes before the trailing dots
 pub word_of-dots : (dots : List ℕ) → list_all is_dot dots ≡ true → word_of dots ≡ []
 word_of-dots [] h = refl
 word_of-dots (dot ∷ dots) h = cond-true (list_all is_dot (dot ∷ dots)) _ _ h
@@ -88,7 +88,7 @@ pub replaced-unnamed : (answers : Answering) (run : List ℕ) → kind_of (word_
 unfolding replaced
 replaced-unnamed answers run h = ap (λ t. t ++ dots_behind run) (word_or_text-unnamed answers (word_of run) h) ∙ word_of-splits run
 
--- what is held of a run, and the dots behind it
+-- what is held of a run, and the dots after it
 pub list_all-dots : (n : ℕ) → list_all is_dot (replicate n 46) ≡ true
 list_all-dots zero = refl
 list_all-dots (suc n) = list_all-dots n
@@ -120,7 +120,7 @@ pub is_named-held : (held : List ℕ) (dots : ℕ) → word_of held ≡ held →
 unfolding is_named
 is_named-held held dots h = ap (λ (w : List ℕ). is_some (kind_of w)) (word_of-held held dots h ∙ sym h)
 
--- a part that is not dots alone stays behind a run, up to its last byte that is no dot
+-- a part that is not dots alone stays after a run, up to its last byte that is no dot
 pub word_of-part : (run part : List ℕ) → list_all is_dot part ≡ false → word_of (run ++ part) ≡ run ++ word_of part
 word_of-part [] part h = refl
 word_of-part (byte ∷ run) part h =

@@ -41,7 +41,7 @@ Consumes-keeps (Some xs') None c xs h i = absurd h
 Consumes-keeps (Some xs') (Some bs) None xs h i = absurd i
 Consumes-keeps (Some xs') (Some bs) (Some cs) xs h i = h ∙ ap (λ (t : List ℕ). xs ++ t) (sym i)
 
--- a write from a place on takes what stands there
+-- a write from a place on takes what is there
 pub Appends-part : (a b c : Option (List ℕ)) (xs : List ℕ) (i n : ℕ) → Appends a b (take i xs) → Appends b c (take n (take (length xs - i) (drop i xs))) → Appends a c (take (i + n) xs)
 Appends-part a b c xs i n h j =
     let rest : take (length xs - i) (drop i xs) ≡ drop i xs = ap (λ k. take k (drop i xs)) (sym (length-drop i xs)) ∙ take-length (drop i xs) in
@@ -90,7 +90,7 @@ pub dots-step : (dots dots' left left' count : ℕ) (bytes piece : List ℕ) →
 dots-step dots dots' left left' count bytes piece room fewer more same whole =
     let short : length piece ≡ min count (length bytes) = ap length (sym same) ∙ length-take count bytes in omega arith
 
--- bytes that are put behind those that wait
+-- bytes that are put after those that wait
 pub Puts-push : (known : Option (List ℕ)) (out out' bytes : List ℕ) → out' ≡ out ++ bytes → Puts known known out out' bytes
 Puts-push known out out' bytes pushed = record { gone = []; writes = Appends-none known; keeps = sym pushed }
 
@@ -157,7 +157,7 @@ dots-none a b out mid n dots h fewer =
     let count : n + (dots - n) ≡ dots = omega arith in
     PutsFront-same a b out (replicate n 46 ++ rest) (replicate dots 46) (replicate-append-replicate n (dots - n) 46 ∙ ap (λ (k : ℕ). replicate {A = ℕ} k 46) count) (PutsFront-of a b out mid (replicate n 46) rest h)
 
--- what stays is put behind what was put
+-- what stays is put after what was put
 pub stays-more : (a b c : Option (List ℕ)) (out mid mid' out' dots bytes : List ℕ) (stay : Bool) → stay ≡ true → Puts a b out mid dots → mid' ≡ mid ++ bytes → Puts b c mid' out' [] → Puts a c out out' (dots ++ cond stay bytes [])
 stays-more a b c out mid mid' out' dots bytes stay e h pushed i =
     let all = Puts-join a b b out mid mid' dots bytes h (Puts-push b mid mid' bytes pushed) in

@@ -37,7 +37,7 @@ named_of-front letters front more h begun unnamed =
     let run = front ++ first_run letters more in
     named_runs-append letters front more h ∙ ap (λ (t : List ℕ). filter is_named (t ∷ words_in letters (later_runs letters more))) (word_run-begun letters run (begun (first_run letters more))) ∙ named-first run (words_in letters (later_runs letters more)) (unnamed (first_run letters more))
 
--- a byte behind the run ends it
+-- a byte after the run ends it
 pub rest_of-ends : (letters : Letters) (answers : Answering) (run : List ℕ) (past passes : Bool) (byte : ℕ) (more : List ℕ) → list_all (is_byte_of letters) run ≡ true → is_byte_of letters byte ≡ false → rest_of letters answers run past passes (byte ∷ more) ≡ rest_of letters answers run past passes [] ++ (byte ∷ filtered_at letters answers more)
 rest_of-ends letters answers run true passes byte more h other =
     ap₂ (λ (a b : List ℕ). a ++ b) (cond-false (is_byte_of letters byte) _ _ other) (cond-false (is_byte_of letters byte) _ _ other)
@@ -224,7 +224,7 @@ past-ends answers old new text count same past past' passes nothing some none ot
     let ends : is_byte_of old.letters (get_or text 0 0) ≡ false = ap (λ n. is_byte_of old.letters (get_or text n 0)) (sym none) ∙ other in
     subst (λ (t : List ℕ). Takes answers old new t t) (sym first) (Takes-past_end answers old new (get_or text 0 0) same past past' passes nothing ends counted dots)
 
--- a byte behind a run is taken
+-- a byte after a run is taken
 pub Takes-ends : (answers : Answering) (old new : Words) (byte : ℕ) → new.letters ≡ old.letters → is_byte_of old.letters byte ≡ false → new.tally ≡ tally_with_word (answers_at old.letters answers) old.tally old.held.items → held_of new ≡ [] → new.dots ≡ 0 → new.past ≡ false → new.passes ≡ false → Takes answers old new (byte ∷ []) (word_or_text (answers_at old.letters answers) old.held.items ++ (replicate old.dots 46 ++ byte ∷ []))
 Takes-ends answers old new byte same other counted nothing no_dots past holds =
     let letters = old.letters in
@@ -243,7 +243,7 @@ Takes-ends answers old new byte same other counted nothing no_dots past holds =
       dots = omega arith;
     }
 
--- two parts are taken, one behind the other
+-- two parts are taken, one after the other
 pub Takes-join : (answers : Answering) (a b c : Words) (piece next bytes more_bytes : List ℕ) → Takes answers a b piece bytes → Takes answers b c next more_bytes → Takes answers a c (piece ++ next) (bytes ++ more_bytes)
 Takes-join answers a b c piece next bytes more_bytes h i = record {
   text = λ more. ap (rest_after answers a) (append_assoc piece next more) ∙ h.text (next ++ more) ∙ ap (λ (t : List ℕ). bytes ++ t) (i.text more) ∙ sym (append_assoc bytes more_bytes (rest_after answers c more));
@@ -268,7 +268,7 @@ no_items (x ∷ xs) n h e = let zero : n ≡ 0 = eqb-true n 0 e in absurd (omega
 pub has_items : (xs : List ℕ) (n : ℕ) → n ≡ length xs → eqb n 0 ≡ false → xs ≡ [] → ⊥
 has_items xs n h e nothing = let none : eqb n 0 ≡ true = ap (λ k. eqb k 0) (h ∙ ap length nothing) in true≢false (sym none ∙ e)
 
--- what is held of a run with a part more: its word, and dots behind
+-- what is held of a run with a part more: its word, and dots after
 front_in_run : (letters : Letters) (part : List ℕ) (end : ℕ) → list_all (is_byte_of letters) part ≡ true → take end part ≡ word_of part → list_all (is_byte_of letters) (take end part) ≡ true
 front_in_run letters part end h word =
     let whole : list_all (is_byte_of letters) (word_of part ++ replicate (length part - length (word_of part)) 46) ≡ true = ap (list_all (is_byte_of letters)) (sym (word_and_dots part)) ∙ h in
@@ -329,7 +329,7 @@ long-part held part dots end word some within long =
     let size = word_length part end word within in
     omega (arith, ap length (word_of-part front part (not_dots part end word some within)), length-append front (word_of part), length-append held (replicate dots 46), length-replicate {A = ℕ} dots 46)
 
--- a byte behind a run is the first of a text
+-- a byte after a run is the first of a text
 pub Takes-first : (answers : Answering) (old new : Words) (text : List ℕ) (count dots : ℕ) → new.letters ≡ old.letters → 0 < length text → count ≡ 0 → is_byte_of old.letters (get_or text count 0) ≡ false → dots ≡ old.dots → new.tally ≡ tally_with_word (answers_at old.letters answers) old.tally old.held.items → held_of new ≡ [] → new.dots ≡ 0 → new.past ≡ false → new.passes ≡ false → Takes answers old new (take 1 text) (word_or_text (answers_at old.letters answers) old.held.items ++ (replicate dots 46 ++ take 1 text))
 Takes-first answers old new text count dots letters some none other same counted nothing no_dots past holds =
     let first : take 1 text ≡ get_or text 0 0 ∷ [] = take_more text 0 0 some in

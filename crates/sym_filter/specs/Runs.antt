@@ -29,7 +29,7 @@ abbrev pub first_run : Letters → List ℕ → List ℕ
 first_run letters [] = []
 first_run letters (byte ∷ bytes) = if is_byte_of letters byte then byte ∷ first_run letters bytes else []
 
--- the runs behind the first: one, maybe of no byte, behind each byte that belongs to none
+-- the runs after the first: one, maybe of no byte, after each byte that belongs to none
 abbrev pub later_runs : Letters → List ℕ → List (List ℕ)
 later_runs letters [] = []
 later_runs letters (byte ∷ bytes) =
@@ -39,7 +39,7 @@ later_runs letters (byte ∷ bytes) =
 abbrev pub runs_of : Letters → List ℕ → List (List ℕ)
 runs_of letters text = first_run letters text ∷ later_runs letters text
 
--- what stands behind the first run, with each later run changed by a function
+-- what follows the first run, with each later run changed by a function
 abbrev pub with_later_runs : Letters → (List ℕ → List ℕ) → List ℕ → List ℕ
 with_later_runs letters change [] = []
 with_later_runs letters change (byte ∷ bytes) =
@@ -55,7 +55,7 @@ abbrev pub word_of : List ℕ → List ℕ
 word_of [] = []
 word_of (byte ∷ bytes) = if list_all (λ other. other == 46) (byte ∷ bytes) then [] else byte ∷ word_of bytes
 
--- the dots behind the word of a run
+-- the dots after the word of a run
 abbrev pub dots_behind : List ℕ → List ℕ
 dots_behind run = drop (length (word_of run)) run
 

@@ -5,7 +5,7 @@ use Rattle.sym_filter.specs.declared.kinds.Letters.{Letters}
 use Rattle.sym_filter.specs.declared.kinds.Letters.TheVariants.{Any}
 use Rattle.sym_filter.specs.Runs.{Answering, is_byte_of, replaced_at, filtered_at}
 
--- a run, maybe of no byte, and behind it other bytes, each with the run behind it
+-- a run, maybe of no byte, and after it other bytes, each with the run after it
 abbrev pub joined : List ℕ → List (ℕ × List ℕ) → List ℕ
 joined run [] = run
 joined run (next ∷ rest) = run ++ (next.0 ∷ joined next.1 rest)

@@ -37,13 +37,13 @@ writer_faults (Err Memory) = 0
 abbrev pub BeginsWith : List ℕ → List ℕ → Type 0
 BeginsWith whole front = (rest : List ℕ) × (whole ≡ front ++ rest)
 
--- bytes are put behind those that wait to be written: some of all these go out, in order, and the others wait
+-- bytes are put after those that wait to be written: some of all these go out, in order, and the others wait
 pub record Puts (taken taken' : Option (List ℕ)) (waiting waiting' bytes : List ℕ) : Type 0 where
   pub gone : List ℕ
   pub writes : Appends taken taken' gone
   pub keeps : waiting ++ bytes ≡ gone ++ waiting'
 
--- what went out is a beginning of those that waited and of the bytes behind them
+-- what went out is a beginning of those that waited and of the bytes after them
 pub record PutsFront (taken taken' : Option (List ℕ)) (waiting bytes : List ℕ) : Type 0 where
   pub gone : List ℕ
   pub writes : Appends taken taken' gone

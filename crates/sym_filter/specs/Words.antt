@@ -1,4 +1,4 @@
--- What is still to come of a filtered text, where a filter stands after a front of it.
+-- What is still to come of a filtered text, where a filter is after a front of it.
 use Rattle.std.specs.Prelude.{◌≡◌, ◌+◌, ◌≤◌, ℕ, List, [], ◌∷◌, ◌++◌, length, Bool, true, false, filter, replicate, if◌then◌else◌}
 use Rattle.sym_filter.specs.declared.kinds.Letters.{Letters}
 use Rattle.sym_filter.specs.declared.words.Taken.{Taken}

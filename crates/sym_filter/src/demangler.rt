@@ -39,7 +39,7 @@ pub trait Demangler {
     fn read_ahead(&self, lists: &mut Self::Lists, lang: Lang, front: &[u8])
         requires { FitsSymbol front.now };
 
-    /// Appends the text of the symbol of a word of a kind, where it has one, else nothing. Want of memory may refuse any symbol.
+    /// Appends the text of a word's symbol, where it has one, else nothing. Want of memory may refuse any symbol.
     fn demangle(
         &self,
         lists: &mut Self::Lists,

@@ -33,7 +33,7 @@ pub fn filter_with<R: Source, W: Sink, D: Demangler>(
 }
 
 /// The filter over any demangler, with words of these letters. What cannot be decided yet is held back: at most the
-/// longest word, and a count of dots behind it. What is decided after a read is written before the next.
+/// longest word, and a count of dots after it. What is decided after a read is written before the next.
 pub fn filter_words<R: Source, W: Sink, D: Demangler>(
     alloc: Global,
     reader: &mut R,
@@ -131,7 +131,7 @@ fn end_text<W: Sink, D: Demangler>(
     Ok(())
 }
 
-/// Puts what follows on taken bytes behind the bytes that wait to be written: dots, and the bytes where they stay.
+/// Puts what follows on taken bytes after the bytes that wait to be written: dots, and the bytes where they stay.
 #[inline(always)]
 fn put_behind<W: Sink>(
     writer: &mut W,
@@ -155,7 +155,7 @@ fn put_behind<W: Sink>(
     Ok(())
 }
 
-/// Puts dots behind the bytes that wait to be written.
+/// Puts dots after the bytes that wait to be written.
 fn write_dots<W: Sink>(writer: &mut W, out: &mut Vec<u8>, dots: u128) -> Result<(), FilterFault>
     requires failures { W.failure_count writer.old < 2 ^ 64 - 1 }
     ensures ok { OnOk result (Puts (W.taken writer.old) (W.taken writer.new) out.old.items out.new.items

@@ -25,7 +25,7 @@ pub enum Lang {
     Rust,
 }
 
-/// The mangling of a word, and how many bytes stand before its symbol.
+/// The mangling of a word, and how many bytes come before its symbol.
 #[derive(Clone, Copy, Debug, PartialEq, Eq)]
 pub struct Kind {
     pub lang: Lang,

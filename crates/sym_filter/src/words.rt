@@ -179,7 +179,7 @@ pub(crate) fn run_front(letters: Letters, text: &[u8]) -> usize
     length
 }
 
-/// How many bytes of a text were taken, and what follows on the bytes that were appended for them: dots, and behind
+/// How many bytes of a text were taken, and what follows on the bytes that were appended for them: dots, and after
 /// the dots the bytes themselves, where they stay.
 #[derive(Clone, Copy, Debug, PartialEq, Eq)]
 pub struct Taken {
@@ -188,13 +188,13 @@ pub struct Taken {
     pub stay: bool,
 }
 
-/// Where a text stands that is filtered.
+/// Where a text is that is filtered.
 #[derive(Drop)]
 pub struct Words {
     letters: Letters,
     // the run from its word on, up to its last byte that is no dot; nothing where no word has begun or the run is passed on
     held: Vec<u8>,
-    // the dots behind it
+    // the dots after it
     dots: u128,
     // no word begins at the next byte, since the one before closes
     passes: bool,
@@ -365,7 +365,7 @@ impl Words {
     }
 
     /// Ends the run that is held: appends the text for its word, or the word, and counts it where it names a symbol.
-    /// Answers how many dots stand behind it.
+    /// Answers how many dots come after it.
     pub fn end_word<D: Demangler>(
         &mut self,
         demangler: &D,
@@ -457,7 +457,7 @@ fn push_text<D: Demangler>(
     Ok(false)
 }
 
-/// The place behind the last byte of a run's part that is no dot, 0 where there is none.
+/// The place after the last byte of a run's part that is no dot, 0 where there is none.
 pub(crate) fn word_end(part: &[u8]) -> usize
     ensures within { result ≤ length part.now }
     ensures word { take result part.now ≡ word_of part.now }
@@ -472,7 +472,7 @@ pub(crate) fn word_end(part: &[u8]) -> usize
     0
 }
 
-/// Appends dots and a part of a word behind them, or nothing.
+/// Appends dots and a part of a word after them, or nothing.
 fn push_word(held: &mut Vec<u8>, dots: usize, part: &[u8]) -> Result<(), AllocError>
     requires { length held.old.items + dots + length part.now ≤ LONGEST_WORD }
     ensures ok { OnOk result (held.new.items ≡ held.old.items ++ replicate dots 46 ++ part.now) }

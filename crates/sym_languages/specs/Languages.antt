@@ -50,7 +50,7 @@ legacy_answer_of limit detail kind symbol = legacy_answer limit symbol (answer_o
 abbrev pub legacy_wide_answer_of : ℕ → Detail → Kind → List ℕ → Result (List ℕ) Refusal
 legacy_wide_answer_of limit detail kind symbol = legacy_answer limit symbol (wide_answer_of limit detail kind symbol)
 
--- what stands before an answer that isn't a refusal
+-- what comes before an answer that isn't a refusal
 abbrev pub behind_front : List ℕ → Result (List ℕ) Refusal → Result (List ℕ) Refusal
 behind_front front (Ok text) = Ok (front ++ text)
 behind_front front (Err refusal) = Err refusal
@@ -60,7 +60,7 @@ abbrev pub pressed_language : Lang → List ℕ → Result (List ℕ) Refusal
 pressed_language Cpp symbol = pressed_answer cpp_mangled cpp_spelling.pressed symbol
 pressed_language Rust symbol = pressed_answer v0_mangled rust_spelling.pressed symbol
 
--- the pressed spelling stands behind the underscore that was dropped
+-- the pressed spelling comes after the underscore that was dropped
 abbrev pub pressed_of : Kind → List ℕ → Result (List ℕ) Refusal
 pressed_of kind symbol = behind_front (underscore_of kind.skip) (pressed_language kind.lang symbol)
 

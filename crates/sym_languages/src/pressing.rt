@@ -128,7 +128,7 @@ impl Demangler for Pressing {
     }
 }
 
-/// Appends the pressed spelling of a symbol of a mangling, where it is read, behind the underscore that was dropped.
+/// Appends the pressed spelling of a symbol of a mangling, where it is read, after the underscore that was dropped.
 fn press_into<M: Pressable>(
     workspace: &mut Workspace<M>,
     skip: u32,
@@ -156,7 +156,7 @@ fn press_into<M: Pressable>(
     }
 }
 
-/// Appends bytes behind the underscore that was dropped, or nothing.
+/// Appends bytes after the underscore that was dropped, or nothing.
 fn push_behind_underscore(skip: u32, bytes: &[u8], out: &mut Vec<u8>) -> Result<(), AllocError>
     ensures pushed { OnOk result (out.new.items ≡ out.old.items ++ (underscore_of skip ++ bytes.now)) }
     ensures same { OnErr result (out.new.items ≡ out.old.items) }

@@ -16,7 +16,7 @@ advanced_none reading top frames known from (grown (fixed byte) rest) state next
 advanced_none reading top frames known from (grown (token t) rest) state next none = absurd (omega (arith, none))
 advanced_none reading top frames known from (grown (branch rule taken parts) rest) state next none = absurd (omega (arith, none))
 
--- the step behind the last row of a rule
+-- the step after the last row of a rule
 pub ended_step : {V S C : Type 0} (reading : Reading V S C) (top : Frame V S C) (frames : List (Frame V S C)) (known : List V) (state : S)
     → row_count_all top.left ≡ 0
     → step_of reading (top ∷ frames) known state

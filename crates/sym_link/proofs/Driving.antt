@@ -84,7 +84,7 @@ closed view s shape whole due old new next lower frame parts new_parts (Err e) l
 
 -- ## A row is taken
 
--- the row of a rule stands next
+-- the row of a rule comes next
 pub record RuleNext {N P K V S C : Type 0} (view : View N P K V S C) (s : List ℕ) (shape : List Row) (whole : Result (Found (List V) S) Refusal) (due : Due)
     (nodes : N) (next : ℕ) (lower : List (Frame K)) (code : Frame K) (parts : List P) (row : Row) : Type 0 where
   pub i : Innermost view s shape whole due nodes next lower code parts
@@ -98,7 +98,7 @@ pub record RuleNext {N P K V S C : Type 0} (view : View N P K V S C) (s : List �
   pub no_token : row.rule < 65535
   pub more : next < length shape
 
--- the row of a token stands next
+-- the row of a token comes next
 pub record TokenNext {N P K V S C : Type 0} (view : View N P K V S C) (s : List ℕ) (shape : List Row) (whole : Result (Found (List V) S) Refusal) (due : Due)
     (nodes : N) (next : ℕ) (lower : List (Frame K)) (code : Frame K) (parts : List P) (row : Row) : Type 0 where
   pub i : Innermost view s shape whole due nodes next lower code parts
@@ -109,7 +109,7 @@ pub record TokenNext {N P K V S C : Type 0} (view : View N P K V S C) (s : List 
   pub is_token : row.rule ≡ 65535
   pub more : next < length shape
 
--- a rule that is the next part stands in the symbol
+-- a rule that is the next part is in the symbol
 rule_stands : {N P K V S C : Type 0} (view : View N P K V S C) (s : List ℕ) (shape : List Row) (whole : Result (Found (List V) S) Refusal) (due : Due)
     (nodes : N) (next : ℕ) (lower : List (Frame K)) (code : Frame K) (parts : List P) (i : Innermost view s shape whole due nodes next lower code parts)
     (rule : Rule) (taken : List ℕ) (inner rest : Forest) → IsLinking view → skipped i.top.left ≡ grown (branch rule taken inner) rest
@@ -190,7 +190,7 @@ rule_next view s shape whole due nodes next codes code parts row d laws last fol
       | inr tok ↦ absurd (no_token tok.is_token)
     ]
 
--- some row stands next
+-- some row comes next
 pub more_rows : {N P K V S C : Type 0} (view : View N P K V S C) (s : List ℕ) (shape : List Row) (due : Due)
     (nodes : N) (next : ℕ) (codes : List (Frame K)) (code : Frame K) (parts : List P) (d : Row) → IsLinking view
     → CanTake view s shape due nodes next codes code parts → next < length shape
@@ -231,7 +231,7 @@ token_asks view s shape due nodes next codes code parts row d laws can row_is is
       );
     }
 
--- the token of the next row is one of a rule that stands in the symbol
+-- the token of the next row is one of a rule that is in the symbol
 pub token_there : {N P K V S C : Type 0} (view : View N P K V S C) (s : List ℕ) (shape : List Row) (due : Due)
     (nodes : N) (next : ℕ) (codes : List (Frame K)) (code : Frame K) (parts : List P) (row d : Row) → IsLinking view
     → CanTake view s shape due nodes next codes code parts → row ≡ slice_index_or shape next d → row.rule ≡ 65535
@@ -559,7 +559,7 @@ done_way view s shape tree taken nodes next codes parts laws is way no_frame lat
           (over.0, omega (arith, on.1, over.1)))
     ]
 
--- a driver with no open rule in front of the first row hasn't begun
+-- a driver with no open rule before the first row hasn't begun
 pub fresh_way : {N P K V S C : Type 0} (view : View N P K V S C) (s : List ℕ) (shape : List Row) (tree : Tree) (taken : ℕ) (nodes : N) (next : ℕ) (codes : List (Frame K)) (parts : List P)
     → IsLinking view → IsShape view.table s shape tree → IsOnWay view s shape tree taken nodes next codes parts → codes ≡ [] → next ≡ 0
     → IsFresh view nodes 0 codes parts × (taken ≡ 0)
@@ -635,7 +635,7 @@ none_kept (Some e) open_still = absurd (open_still e refl)
 
 -- ## Steps one after the other
 
--- less is left to do behind a move
+-- less is left to do after a move
 pub step_smaller : {N P K V S C : Type 0} (view : View N P K V S C) (s : List ℕ) (shape : List Row) (tree : Tree) (taken : ℕ) (new : N)
     (next behind : ℕ) (codes new_codes : List (Frame K)) (new_parts : List P) (result : Result (Option ℕ) Refusal) (moved : Option ℕ) → result ≡ Ok moved → moved ≡ Some behind
     → next ≤ length shape

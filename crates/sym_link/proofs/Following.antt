@@ -167,7 +167,7 @@ early_push : {V S C : Type 0} (reached : ℕ) (frames : List (machine.Frame V S 
 early_push reached [] known value = tt
 early_push reached (top ∷ frames) known value = λ none. absurd (omega (arith, none, length-append known (value ∷ [])))
 
--- A driver that closes its innermost rule behind that rule's last row stays on its way.
+-- A driver that closes its innermost rule after that rule's last row stays on its way.
 pub close_follows : {N P K V S C : Type 0} (view : View N P K V S C) (s : List ℕ) (shape : List Row) (whole : Result (Found (List V) S) Refusal) (due : Due)
     (old new : N) (next : ℕ) (lower : List (Frame K)) (code : Frame K) (parts : List P) (part : P) → IsLinking view → view.Grows old new
     → (i : Innermost view s shape whole due old next lower code parts) → row_count_all i.top.left ≡ 0

@@ -12,7 +12,7 @@ use Rattle.sym_link.specs.Linking.{next_of, Begun, begun, taken_in}
 use Rattle.sym_link.proofs.Steps.{bind_assoc, bind_same, entered_outcome, step_outcome}
 use Rattle.sym_link.proofs.Results.{bind_where, bind_ok, ok_any, ok_bind, ok_weaker}
 
--- where the parts that are left stand, past those that have no row
+-- where the parts that are left are, past those that have no row
 record IsSkipped {V S : Type 0} (from : ℕ) (left : Forest) (p : Passed V S) : Type 0 where
   left_is : p.left ≡ skipped left
   from_is : p.from ≡ skipped_from from left
@@ -33,7 +33,7 @@ passed_skips reading rule known from nothing state = record { left_is = refl; fr
 
 -- ## A rule begins
 
--- the machine behind the step in which a rule begins
+-- the machine after the step in which a rule begins
 abbrev pub machine_in : {V S C : Type 0} → Frame V S C → List (Frame V S C) → (from behind : ℕ) → (inner rest : Forest) → Begun V S C → Machine V S C
 machine_in top frames from behind inner rest b = machine (frame b.rule from inner b.values ∷ frame top.rule behind rest top.outer ∷ frames) [] b.state
 

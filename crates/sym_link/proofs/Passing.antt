@@ -22,7 +22,7 @@ use Rattle.sym_link.proofs.Following.{fails_carried}
 use Rattle.sym_link.proofs.Standing.{stands_next, tree_next}
 use Rattle.sym_link.proofs.Taking.{of_ok}
 
--- the parts behind the one that is passed, and where they stand
+-- the parts after the one that is passed, and where they are
 record Later {V S C : Type 0} (reading : Reading V S C) (rule : Open S C) (known : List V) (at : ℕ) (state : S) (left : Forest) : Type 0 where
   rest : Forest
   from : ℕ
@@ -64,7 +64,7 @@ module _ {N P K V S C : Type 0} (view : View N P K V S C) (s : List ℕ) (Surrou
   after : Later view.reading p.rule p.known p.from p.state p.left
   after = later view.reading p.rule p.known p.from p.state p.left more
 
-  -- one is passed, and what it stands for is put behind the other parts
+  -- one is passed, and what it stands for is put after the other parts
   pub passing_next : (context : K) (part : P) → GoesOn view s Surrounds old new frame parts middle (Ok context) → view.Grows old new
       → AreAll (view.IsPart new) (part ∷ []) view.reading.rowless
       → Passing view s new frame lower (middle ++ part ∷ []) to whole
@@ -105,7 +105,7 @@ module _ {N P K V S C : Type 0} (view : View N P K V S C) (s : List ℕ) (Surrou
       fails_carried e (view.reading.between p.rule p.known p.state) (λ next. passed view.reading p.rule (next.values ++ view.reading.rowless) after.from after.rest next.state) whole
       (goes p.rule p.known p.state p.at) (sym after.passes ∙ p.coming)
 
--- the rule stands open still
+-- the rule is open still
 pub open_next : {N P K V S C : Type 0} (view : View N P K V S C) (s : List ℕ) (Surrounds : N → K → C → Type 0) → IsThreading view → (old new : N) (frame : Frame K)
     (parts middle : List P) → frame.base ≤ length parts → IsOpenAt view s old frame parts
     → (context : K) (part : P) → GoesOn view s Surrounds old new frame parts middle (Ok context) → view.Grows old new
@@ -158,7 +158,7 @@ module _ {N P K V S C : Type 0} (view : View N P K V S C) (s : List ℕ) (laws :
   first_at : IsAt view s old frame (drop frame.base parts) rule known state
   first_at = record { there = there; number = is.number; place = is.place; kept = is.kept; parts = is.parts; holds = is.holds }
 
-  -- the rule stands open
+  -- the rule is open
   pub open_first : IsOpenAt view s old frame parts
   open_first = record { rule = rule; known = known; state = state; at = first_at }
 

@@ -24,12 +24,12 @@ lacked_before [] (y ∷ ys) _ ab lacks = absurd ab
 lacked_before (x ∷ xs) [] _ ab lacks = absurd ab
 lacked_before (x ∷ xs) (y ∷ ys) [] ab lacks = absurd lacks
 
--- a call behind another one
+-- a call after another one
 pub only_then : {A : Type 0} (apart : Type 0) (a b c : List Listed) (result : Result A Refusal) → KeepRoom a b
     → OnlyForRoom apart b c result → OnlyForRoom apart a c result
 only_then apart a b c result ab only is = elim (only is) [ inl lacks ↦ inl (lacked_before a b c ab lacks) | inr more ↦ inr more ]
 
--- a call whose refusal is answered, behind another one
+-- a call whose refusal is answered, after another one
 pub only_refused : {A B : Type 0} (few apart : Type 0) (a b c : List Listed) (e : Refusal) → (few → apart) → KeepRoom a b
     → OnlyForRoom {A = A} few b c (Err e) → OnlyForRoom {A = B} apart a c (Err e)
 only_refused few apart a b c e so ab only is = elim (only cc) [ inl lacks ↦ inl (lacked_before a b c ab lacks) | inr more ↦ inr (so more) ]

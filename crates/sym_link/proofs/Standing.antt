@@ -1,4 +1,4 @@
--- A rule stands in a symbol, and so do its parts.
+-- A rule is in a symbol, and so are its parts.
 use Rattle.std.proofs.Common.{◌≡◌, refl, sym, ◌∙◌, ap, subst, arith, ℕ, ◌+◌, ◌<◌, ◌≤◌, List, [], ◌∷◌, ◌++◌, length, take, drop, append_assoc, append-nil, length-append, length-drop, add-zero}
 use Rattle.std.proofs.Math.Seq.{drop-append_seam, take-append_seam}
 use Rattle.std.proofs.lemmas.List.{drop-drop}
@@ -79,7 +79,7 @@ joined_values n (grown (branch rule taken parts) a) b = omega (arith, joined_val
 joined_length : (a b : Forest) → length (spell_all (joined a b)) ≡ length (spell_all a) + length (spell_all b)
 joined_length a b = ap (λ x. length x) (joined_spell a b) ∙ length-append (spell_all a) (spell_all b)
 
--- the part behind others is a tree of one of the symbols
+-- the part after others is a tree of one of the symbols
 tree_at : (g : Table) (xs : List Sym) (front : Forest) (first : Tree) (rest : Forest) → AreSymbols g xs → AreTrees g xs (joined front (grown first rest))
     → (x : Sym) × IsSymbol g x × IsTree g x first
 tree_at g (x ∷ xs) nothing first rest symbols trees = (x, symbols.0, trees.0)
@@ -99,7 +99,7 @@ filled : (xs : List ℕ) → (xs ≡ [] → ⊥) → 0 < length xs
 filled [] full = absurd (full refl)
 filled (x ∷ xs) full = omega arith
 
--- ## How a rule stands while it passes its parts
+-- ## Where a rule is while it passes its parts
 
 -- the parts that have no row are skipped
 pub stands_skip : {S C : Type 0} (g : Table) (s : List ℕ) (n : ℕ) (rule : Open S C) (held from : ℕ) (left : Forest) → Stands g s n rule held from left
@@ -138,7 +138,7 @@ stands_take g s n rule held from first rest st one =
       spelled = subst (λ f. drop rule.place s ≡ rule.taken ++ (spell_all f ++ st.behind)) same st.spelled;
     }
 
--- what stands where the parts that are left do
+-- what is where the parts that are left are
 pub stands_left : {S C : Type 0} (g : Table) (s : List ℕ) (n : ℕ) (rule : Open S C) (held from : ℕ) (left : Forest) (st : Stands g s n rule held from left)
     → drop from s ≡ spell_all left ++ st.behind
 stands_left g s n rule held from left st =
@@ -151,7 +151,7 @@ stands_left g s n rule held from left st =
     ap (λ k. drop k s) (omega (arith, st.starts, size)) ∙ sym (drop-drop (length front) rule.place s) ∙ ap (λ x. drop (length front) x) whole
     ∙ drop-append_seam front (spell_all left ++ st.behind)
 
--- a rule that begins stands where it is the next part
+-- a rule that begins is where it is the next part
 pub stands_inner : {S C : Type 0} (g : Table) (s : List ℕ) (n : ℕ) (rule : Open S C) (held from : ℕ) (inner_rule : Rule) (taken : List ℕ) (inner rest : Forest) (context : C) (state : S)
     → IsSound g → Stands g s n rule held from (grown (branch inner_rule taken inner) rest)
     → Stands g s n (standing inner_rule taken from context state) 0 (from + length taken) inner
@@ -172,7 +172,7 @@ stands_inner g s n rule held from inner_rule taken inner rest context state soun
           ∙ append_assoc (taken ++ spell_all inner) (spell_all rest) st.behind ∙ append_assoc taken (spell_all inner) (spell_all rest ++ st.behind);
     }
 
--- what stands where the next part with a row does, which is a rule's
+-- what is where the next part with a row is, which is a rule's
 pub stands_next : {S C : Type 0} (g : Table) (s : List ℕ) (n : ℕ) (rule : Open S C) (held from : ℕ) (left : Forest) (inner_rule : Rule) (taken : List ℕ) (inner rest : Forest)
     → Stands g s n rule held from left → skipped left ≡ grown (branch inner_rule taken inner) rest
     → (behind : List ℕ) × (drop (skipped_from from left) s ≡ taken ++ (spell_all inner ++ behind))
@@ -223,7 +223,7 @@ stands_end g s n rule held from left sound st =
       joined_length st.passed left,
     )
 
--- the own bytes of a token that stands at a place
+-- the own bytes of a token that is at a place
 pub token_own : (s : List ℕ) (place : ℕ) (t : Token) (more : List ℕ) → drop place s ≡ bytes_of t ++ more
     → take (length t.own) (drop (place + length t.before) s) ≡ t.own
 token_own s place t more here =
@@ -253,7 +253,7 @@ no_rows (grown (fixed byte) rest) from number none = no_rows rest (from + 1) (nu
 no_rows (grown (token t) rest) from number none = absurd (omega (arith, none))
 no_rows (grown (branch rule taken parts) rest) from number none = absurd (omega (arith, none))
 
--- What stands next where some row is left: a rule or a token.
+-- What comes next where some row is left: a rule or a token.
 pub data NextPart : Forest → Type 0 where
   a_rule : {left : Forest} → (rule : Rule) (taken : List ℕ) (inner rest : Forest) → skipped left ≡ grown (branch rule taken inner) rest → NextPart left
   a_token : {left : Forest} → (t : Token) (rest : Forest) → skipped left ≡ grown (token t) rest → NextPart left

@@ -1,4 +1,4 @@
--- The steps that are left behind each move.
+-- The steps that are left after each move.
 use Rattle.std.proofs.Common.{◌≡◌, refl, sym, ◌∙◌, ap, arith, ℕ, ◌+◌, List, ◌∷◌, Bool, true, false, if◌then◌else◌}
 use Rattle.sym_shape.specs.declared.rule.Rule.{Rule}
 use Rattle.sym_shape.specs.Table.{Token}
@@ -55,11 +55,11 @@ none_at_once (grown (branch rule taken parts) rest) none = absurd (omega (arith,
 pub token_at_once : (left : Forest) (t : Token) (rest : Forest) → skipped left ≡ grown (token t) rest → row_count_all rest ≡ 0 → closes_at_once left ≡ true
 token_at_once left t rest left_is none = sym (skip_at_once left) ∙ ap closes_at_once left_is ∙ no_row rest none
 
--- a rule in which a rule stands next doesn't close at once
+-- a rule in which a rule comes next doesn't close at once
 pub rule_not_at_once : (left : Forest) (rule : Rule) (taken : List ℕ) (inner rest : Forest) → skipped left ≡ grown (branch rule taken inner) rest → closes_at_once left ≡ false
 rule_not_at_once left rule taken inner rest left_is = sym (skip_at_once left) ∙ ap closes_at_once left_is
 
--- nor one in which a token stands next, and others behind it
+-- nor one in which a token comes next, and others after it
 pub token_not_at_once : (left : Forest) (t : Token) (rest : Forest) → skipped left ≡ grown (token t) rest → (row_count_all rest ≡ 0 → ⊥) → closes_at_once left ≡ false
 token_not_at_once left t rest left_is some = sym (skip_at_once left) ∙ ap closes_at_once left_is ∙ some_row rest some
 

@@ -78,7 +78,7 @@ token_pending top frames from number t rest =
     let second : number + (1 + row_count_all rest) ≡ number + 1 + row_count_all rest = omega arith in
     rw second refl
 
--- so many parts stand behind the base as there are values
+-- so many parts come after the base as there are values
 own_count : {P V : Type 0} (Is : P → V → Type 0) (parts new_parts own : List P) (values : List V) (base : ℕ) → base ≤ length parts
     → new_parts ≡ take base parts ++ own → AreAll Is own values → length new_parts - base ≡ length values
 own_count Is parts new_parts own values base within are_parts are =
@@ -92,7 +92,7 @@ own_count Is parts new_parts own values base within are_parts are =
 
 -- ## A rule begins
 
--- the row of a rule that stands next
+-- the row of a rule that comes next
 pub the_rule_row : {N P K V S C : Type 0} (view : View N P K V S C) (s : List ℕ) (shape : List Row) (whole : Result (Found (List V) S) Refusal) (due : Due)
     (nodes : N) (next : ℕ) (lower : List (Frame K)) (code : Frame K) (parts : List P) (i : Innermost view s shape whole due nodes next lower code parts)
     (rule : Rule) (taken : List ℕ) (inner rest : Forest) → skipped i.top.left ≡ grown (branch rule taken inner) rest
@@ -252,7 +252,7 @@ enter_fails view s shape whole due nodes next lower code parts e i rule taken in
 
 -- ## A token is taken
 
--- the row of a token that stands next
+-- the row of a token that comes next
 pub the_token_row : {N P K V S C : Type 0} (view : View N P K V S C) (s : List ℕ) (shape : List Row) (whole : Result (Found (List V) S) Refusal) (due : Due)
     (nodes : N) (next : ℕ) (lower : List (Frame K)) (code : Frame K) (parts : List P) (i : Innermost view s shape whole due nodes next lower code parts)
     (t : Token) (rest : Forest) → skipped i.top.left ≡ grown (token t) rest
@@ -267,7 +267,7 @@ the_token_row view s shape whole due nodes next lower code parts i t rest left_i
     i.rows ∙ skipped_rows i.top i.frames next (grown (token t) rest) left_is
     ∙ token_pending i.top i.frames (skipped_from i.top.from i.top.left) next t rest
 
--- a token that is the next part stands in the symbol
+-- a token that is the next part is in the symbol
 pub token_stands : {N P K V S C : Type 0} (view : View N P K V S C) (s : List ℕ) (shape : List Row) (whole : Result (Found (List V) S) Refusal) (due : Due)
     (nodes : N) (next : ℕ) (lower : List (Frame K)) (code : Frame K) (parts : List P) (i : Innermost view s shape whole due nodes next lower code parts)
     (t : Token) (rest : Forest) → skipped i.top.left ≡ grown (token t) rest

@@ -26,7 +26,7 @@ pub record IsShape (g : Table) (s : List ℕ) (rows : List Row) (tree : Tree) : 
 abbrev pub meaning_of : {N P K V S C : Type 0} → View N P K V S C → Tree → Result (Found (List V) S) Refusal
 meaning_of view tree = unfold_tree view.reading view.around 0 tree view.first
 
--- The last frame of code is that of the innermost rule, and the parts behind its base stand for the values that are known.
+-- The last frame of code is that of the innermost rule, and the parts after its base stand for the values that are known.
 -- So many more values are awaited of the part that has begun last.
 pub record IsTop {N P K V S C : Type 0} (view : View N P K V S C) (s : List ℕ) (nodes : N) (top : machine.Frame V S C) (known : List V)
     (awaited row : ℕ) (codes : List (Frame K)) (parts : List P) : Type 0 where
@@ -52,12 +52,12 @@ HoldsAll view s nodes (top ∷ frames) known awaited row codes parts =
     (one : IsTop view s nodes top known awaited row codes parts)
     × HoldsAll view s nodes frames top.outer 1 (row + row_count_all top.left) one.lower one.below
 
--- the place where the parts stand that the innermost rule has left, and the end of the symbol where no rule is open
+-- the place where the parts are that the innermost rule has left, and the end of the symbol where no rule is open
 abbrev pub left_from : {V S C : Type 0} → (end : ℕ) → List (machine.Frame V S C) → ℕ
 left_from end [] = end
 left_from end (top ∷ frames) = top.from
 
--- each rule ends where those parts stand that the rule around it has left
+-- each rule ends where those parts are that the rule around it has left
 abbrev pub Nests : {V S C : Type 0} → (end : ℕ) → List (machine.Frame V S C) → Type 0
 Nests end [] = Unit {0}
 Nests end (top ∷ frames) = (top.from + length (spell_all top.left) ≡ left_from end frames) × Nests end frames
@@ -67,7 +67,7 @@ abbrev pub IsEarly : {V S C : Type 0} → (reached : ℕ) → List (machine.Fram
 IsEarly reached [] known = Unit {0}
 IsEarly reached (top ∷ frames) known = length known ≡ 0 → reached ≤ top.rule.place
 
--- A rule has begun in a step behind which there are at most so many nodes. If it closes in that step, it adds no more than that,
+-- A rule has begun in a step after which there are at most so many nodes. If it closes in that step, it adds no more than that,
 -- where it closes with these parts or is refused before.
 pub record BeginsWithin {N P K V S C : Type 0} (view : View N P K V S C) (nodes : N) (top : machine.Frame V S C) (known : List V) (most : ℕ) : Type 0 where
   pub none_known : known ≡ []
@@ -103,19 +103,19 @@ pub record Follows {N P K V S C : Type 0} (view : View N P K V S C) (s : List �
   pub light : IsLight view nodes due frames known
   pub paid : view.IsPaid nodes reached
 
--- behind a move the driver is on the way still, with so many steps left, or what was to come is the refusal
+-- after a move the driver is on the way still, with so many steps left, or what was to come is the refusal
 abbrev pub FollowsAfter : {N P K V S C A : Type 0} → View N P K V S C → (s : List ℕ) → (shape : List Row) → Result (Found (List V) S) Refusal → (steps : ℕ)
     → (nodes : N) → (next : ℕ) → List (Frame K) → List P → Result A Refusal → Type 0
 FollowsAfter view s shape whole steps nodes next codes parts (Ok done) = Follows view s shape whole (waiting steps) nodes next codes parts
 FollowsAfter view s shape whole steps nodes next codes parts (Err e) = Fails e whole
 
--- behind a move the driver is on the way to this row, with so many steps left, or what was to come is the refusal
+-- after a move the driver is on the way to this row, with so many steps left, or what was to come is the refusal
 abbrev pub FollowsOn : {N P K V S C : Type 0} → View N P K V S C → (s : List ℕ) → (shape : List Row) → (whole : Result (Found (List V) S) Refusal) → (steps : ℕ)
     → (nodes : N) → List (Frame K) → List P → Result ℕ Refusal → Type 0
 FollowsOn view s shape whole steps nodes codes parts (Ok next) = Follows view s shape whole (waiting steps) nodes next codes parts
 FollowsOn view s shape whole steps nodes codes parts (Err e) = Fails e whole
 
--- Behind the token that is all a rule has, and where the rule has none, the rule may close with so many steps left behind it; or it
+-- After the token that is all a rule has, and where the rule has none, the rule may close with so many steps left after it; or it
 -- has other rows, and waits for them with so many steps left.
 abbrev pub FollowsAlone : {N P K V S C : Type 0} → View N P K V S C → (s : List ℕ) → (shape : List Row) → (whole : Result (Found (List V) S) Refusal) → (left : ℕ)
     → (nodes : N) → (lower : List (Frame K)) → (frame : Frame K) → List P → Result ℕ Refusal → Type 0
@@ -133,7 +133,7 @@ pub record Fits (s : List ℕ) (shape : List Row) : Type 0 where
   pub symbol : FitsSymbol s
   pub rows : length shape ≤ 4 * length s + 4
 
--- The rule of the frame is the innermost one of a driver that is on its way, and the next row is behind it.
+-- The frame's rule is the innermost one of a driver that is on its way, and the next row is after it.
 pub record CanClose {N P K V S C : Type 0} (view : View N P K V S C) (s : List ℕ) (nodes : N) (frame : Frame K) (parts : List P) : Type 0 where
   pub whole : Result (Found (List V) S) Refusal
   pub shape : List Row
@@ -144,7 +144,7 @@ pub record CanClose {N P K V S C : Type 0} (view : View N P K V S C) (s : List �
   pub ends : frame.end ≡ next
   pub fits : Fits s shape
 
--- The rule of the frame is the innermost one of a driver that is on its way, and may end in front of the next row or behind it.
+-- The frame's rule is the innermost one of a driver that is on its way, and may end before the next row or after it.
 pub record CanSettle {N P K V S C : Type 0} (view : View N P K V S C) (s : List ℕ) (shape : List Row) (nodes : N) (next : ℕ) (lower : List (Frame K)) (frame : Frame K) (parts : List P) : Type 0 where
   pub whole : Result (Found (List V) S) Refusal
   pub steps : ℕ
@@ -152,7 +152,7 @@ pub record CanSettle {N P K V S C : Type 0} (view : View N P K V S C) (s : List 
   pub follows : Follows view s shape whole (starting steps most) nodes next (lower ++ frame ∷ []) parts
   pub fits : Fits s shape
 
--- The rule of the frame is the innermost one of a driver that is on its way, and the next row isn't behind it.
+-- The frame's rule is the innermost one of a driver that is on its way, and the next row isn't after it.
 pub record CanTake {N P K V S C : Type 0} (view : View N P K V S C) (s : List ℕ) (shape : List Row) (due : Due) (nodes : N) (next : ℕ) (codes : List (Frame K)) (frame : Frame K) (parts : List P) : Type 0 where
   pub whole : Result (Found (List V) S) Refusal
   pub follows : Follows view s shape whole due nodes next codes parts
@@ -160,7 +160,7 @@ pub record CanTake {N P K V S C : Type 0} (view : View N P K V S C) (s : List �
   pub open_still : frame.end ≢ next
   pub fits : Fits s shape
 
--- behind its token there are at most so many nodes, also where the rule closes there
+-- after its token there are at most so many nodes, also where the rule closes there
 abbrev pub StaysWithin : {N P K V S C : Type 0} → View N P K V S C → (nodes : N) → Frame K → List P → (most : ℕ) → Result ℕ Refusal → Type 0
 StaysWithin view nodes frame parts most (Ok behind) =
     (view.size nodes ≤ most) × (frame.end ≡ behind → view.size nodes + view.closes frame.rule (drop frame.base parts) ≤ most)

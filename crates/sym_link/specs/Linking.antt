@@ -25,7 +25,7 @@ use Rattle.sym_link.specs.Driving.{AreAll, Fails}
 pub record View (N P K V S C : Type 0) : Type 1 where
   pub table : Table
   pub reading : Reading V S C
-  -- the context around a whole symbol, and the state in front of it
+  -- the context around a whole symbol, and the state before it
   pub around : C
   pub first : S
   -- for which value a part stands, to which open rule what is kept belongs, and which state the language has
@@ -38,7 +38,7 @@ pub record View (N P K V S C : Type 0) : Type 1 where
   -- so many bytes may have
   pub size : N → ℕ
   pub owes : Owes
-  -- how many it may add behind these parts, where no other part with a row comes or it is refused
+  -- how many it may add after these parts, where no other part with a row comes or it is refused
   pub closes : (number : ℕ) → List P → ℕ
   pub most : (bytes : ℕ) → ℕ
   -- what the language has written beside the nodes is paid for by so many bytes of the symbol
@@ -47,11 +47,11 @@ pub record View (N P K V S C : Type 0) : Type 1 where
   pub lists : N → List Listed
   pub TakesMemory : (number : ℕ) → (own : List ℕ) → Type 0
 
--- how many nodes the rule of a frame may add still, behind these parts
+-- how many nodes the rule of a frame may add still, after these parts
 abbrev pub owed_behind : {N P K V S C : Type 0} → View N P K V S C → Frame K → List P → ℕ
 owed_behind view frame parts = view.owes frame.rule (length parts - frame.base)
 
--- how many it may add still behind the part that begins there
+-- how many it may add still after the part that begins there
 abbrev pub owed_next : {N P K V S C : Type 0} → View N P K V S C → Frame K → List P → ℕ
 owed_next view frame parts = view.owes frame.rule (length parts - frame.base + 1)
 
@@ -60,7 +60,7 @@ abbrev pub values_at_once : (rowless : ℕ) → Forest → ℕ
 values_at_once rowless parts = if no_part_has_row parts then 0 else (values_in rowless (passed_by parts) + 1)
 
 -- A rule that has these parts and closes in the step that begins it adds at most two nodes with what is added to the rule around
--- it, which may add so many before and behind: where the rule closes, and where it is refused before.
+-- it, which may add so many before and after: where the rule closes, and where it is refused before.
 pub record AddTwo {N P K V S C : Type 0} (view : View N P K V S C) (before behind number : ℕ) (parts : Forest) : Type 0 where
   pub closed : (own : List P) → length own ≡ values_at_once (length view.reading.rowless) parts
       → before + view.owes number 0 + view.closes number own ≤ behind + view.owes number (length own) + 2
@@ -105,7 +105,7 @@ pub record IsInside {N P K V S C : Type 0} (view : View N P K V S C) (s : List �
   pub holds : view.Holds nodes state
   pub stands : Stands view.table s (length view.reading.rowless) rule (length known) from left
 
--- The frame and the parts from its base on are those of a rule that stands open in the symbol.
+-- The frame and the parts from its base on are those of a rule that is open in the symbol.
 pub record IsOpen {N P K V S C : Type 0} (view : View N P K V S C) (s : List ℕ) (nodes : N) (frame : Frame K) (parts : List P) : Type 0 where
   pub rule : Open S C
   pub known : List V
@@ -114,7 +114,7 @@ pub record IsOpen {N P K V S C : Type 0} (view : View N P K V S C) (s : List ℕ
   pub state : S
   pub inside : IsInside view s nodes frame (drop frame.base parts) rule known from left state
 
--- the row is that of a rule at a place, and the rows of its parts are behind it
+-- the row is that of a rule at a place, and the rows of its parts are after it
 pub record IsRuleRow (rows : List Row) (row : Row) (rule : Rule) (taken : List ℕ) (parts : Forest) (place : ℕ) : Type 0 where
   pub number : ℕ
   pub more : List Row
@@ -140,24 +140,24 @@ pub record Begun (V S C : Type 0) : Type 0 where
   pub values : List V
   pub state : S
 
--- a rule begins, behind these values of the rule around it
+-- a rule begins, after these values of the rule around it
 abbrev pub begun : {V S C : Type 0} → Reading V S C → Rule → (taken : List ℕ) → (place : ℕ) → (parts : Forest) → Next V S C → Result (Begun V S C) Refusal
 begun reading rule taken place parts next =
     reading.begin (standing rule taken place next.context next.state) parts
     >>= λ state. Ok (record { rule = standing rule taken place next.context next.state; values = next.values; state = state })
 
--- a token behind these values
+-- a token after these values
 abbrev pub taken_in : {V S C : Type 0} → Reading V S C → Token → (place : ℕ) → Next V S C → Result (Found (List V) S) Refusal
 taken_in reading t place next = reading.token place t next.state >>= λ one. Ok (found (next.values ++ one.value ∷ []) one.state)
 
--- what is kept belongs to the rule that begins, and the parts behind the lower ones are those of the rule around it
+-- what is kept belongs to the rule that begins, and the parts after the lower ones are those of the rule around it
 abbrev pub Begins : {N P K V S C : Type 0} → View N P K V S C → (nodes : N) → (lower parts : List P) → Result K Refusal → Result (Begun V S C) Refusal → Type 0
 Begins {P = P} {V = V} {S = S} {C = C} view nodes lower parts (Ok kept) read =
     (begun : Begun V S C) × (read ≡ Ok begun) × view.IsKept nodes kept begun.rule × view.Holds nodes begun.state
     × (own : List P) × (parts ≡ lower ++ own) × AreAll (view.IsPart nodes) own begun.values
 Begins view nodes lower parts (Err e) read = Fails e read
 
--- the parts behind the lower ones stand for what is read
+-- the parts after the lower ones stand for what is read
 abbrev pub Takes : {N P K V S C : Type 0} → View N P K V S C → (nodes : N) → (lower parts : List P) → Result (Unit {0}) Refusal → Result (Found (List V) S) Refusal → Type 0
 Takes {P = P} {V = V} {S = S} view nodes lower parts (Ok done) read =
     (known : List V) × (state : S) × (read ≡ Ok (found known state)) × view.Holds nodes state
@@ -170,7 +170,7 @@ Gives {V = V} {S = S} view nodes (Ok part) read =
     (value : V) × (state : S) × (read ≡ Ok (found value state)) × view.IsPart nodes part value × view.Holds nodes state
 Gives view nodes (Err e) read = Fails e read
 
--- behind the lower parts there is one part, which stands for what is read
+-- after the lower parts there is one part, which stands for what is read
 abbrev pub Puts : {N P K V S C : Type 0} → View N P K V S C → (nodes : N) → (lower parts : List P) → Result (Unit {0}) Refusal → Result (Found V S) Refusal → Type 0
 Puts {P = P} view nodes lower parts (Ok done) read = (part : P) × (parts ≡ lower ++ part ∷ []) × Gives view nodes (Ok part) read
 Puts view nodes lower parts (Err e) read = Fails e read
@@ -181,7 +181,7 @@ OpensRoot view s rows old new row result =
     (rule : Rule) (taken : List ℕ) (parts : Forest) → IsRuleRow rows row rule taken parts 0 → view.Holds old view.first
     → Begins view new [] [] result (begun view.reading rule taken 0 parts (record { context = view.around; values = []; state = view.first }))
 
--- A rule begins in the rule of the frame, behind these parts, as the reading says.
+-- A rule begins in the frame's rule, after these parts, as the reading says.
 abbrev pub Opens : {N P K V S C : Type 0} → View N P K V S C → (s : List ℕ) → (rows : List Row) → (old new : N) → Frame K → (parts new_parts : List P) → Row → Result K Refusal → Type 0
 Opens {V = V} {S = S} {C = C} view s rows old new frame parts new_parts row result =
     (around : Open S C) (known : List V) (from : ℕ) (left : Forest) (state : S) (rule : Rule) (taken : List ℕ) (inner rest : Forest)
@@ -190,7 +190,7 @@ Opens {V = V} {S = S} {C = C} view s rows old new frame parts new_parts row resu
     → Begins view new (take frame.base parts) new_parts result
     (next_of view.reading around known from left state >>= begun view.reading rule taken (skipped_from from left) inner)
 
--- A token is taken in the rule of the frame, behind these parts, as the reading says.
+-- A token is taken in the frame's rule, after these parts, as the reading says.
 abbrev pub TakesToken : {N P K V S C : Type 0} → View N P K V S C → (s : List ℕ) → (old new : N) → Frame K → (parts new_parts : List P) → Row → Result (Unit {0}) Refusal → Type 0
 TakesToken {V = V} {S = S} {C = C} view s old new frame parts new_parts row result =
     (around : Open S C) (known : List V) (from : ℕ) (left : Forest) (state : S) (t : Token) (rest : Forest)
@@ -199,7 +199,7 @@ TakesToken {V = V} {S = S} {C = C} view s old new frame parts new_parts row resu
     → Takes view new (take frame.base parts) new_parts result
     (next_of view.reading around known from left state >>= taken_in view.reading t (skipped_from from left))
 
--- The rule of the frame closes over its parts as the reading says: one part, which stands for what it means, takes their place.
+-- The frame's rule closes over its parts as the reading says: one part, which stands for what it means, takes their place.
 abbrev pub ClosesRule : {N P K V S C : Type 0} → View N P K V S C → (s : List ℕ) → (old new : N) → Frame K → (parts new_parts : List P) → Result (Unit {0}) Refusal → Type 0
 ClosesRule {V = V} {S = S} {C = C} view s old new frame parts new_parts result =
     (rule : Open S C) (known : List V) (from : ℕ) (left : Forest) (state : S)
@@ -210,7 +210,7 @@ ClosesRule {V = V} {S = S} {C = C} view s old new frame parts new_parts result =
 abbrev pub Adds : {N P K V S C : Type 0} → View N P K V S C → (old new : N) → (before after : ℕ) → Type 0
 Adds view old new before after = view.Grows old new × (view.size new + after ≤ view.size old + before)
 
--- A call that is refused, or closes the rule of the frame, adds at most as many nodes as that rule may add behind these parts.
+-- A call that is refused, or closes the frame's rule, adds at most as many nodes as that rule may add after these parts.
 abbrev pub AddsFew : {N P K V S C : Type 0} → View N P K V S C → (old new : N) → Frame K → List P → Type 0
 AddsFew view old new frame parts = view.size new ≤ view.size old + view.closes frame.rule (drop frame.base parts)
 
@@ -222,7 +222,7 @@ Pays view old new at to = view.IsPaid old at → view.IsPaid new to
 abbrev pub lists_with : {N P K V S C : Type 0} → View N P K V S C → N → Vec P Global → List Listed
 lists_with view nodes parts = one_by_one parts ∷ view.lists nodes
 
--- A call has as much room behind it as before.
+-- A call has as much room after it as before.
 abbrev pub KeepsRoom : {N P K V S C : Type 0} → View N P K V S C → (old new : N) → (parts new_parts : Vec P Global) → Type 0
 KeepsRoom view old new parts new_parts = KeepRoom (lists_with view old parts) (lists_with view new new_parts)
 
@@ -231,14 +231,14 @@ abbrev pub NeedsRoom : {N P K V S C A : Type 0} → View N P K V S C → (old ne
     → Type 0
 NeedsRoom view old new parts new_parts result = OnlyForRoom ⊥ (lists_with view old parts) (lists_with view new new_parts) result
 
--- Where a token is taken in the rule of the frame, `Memory` is answered only where a list had no room, or its bytes take memory.
+-- Where a token is taken in the frame's rule, `Memory` is answered only where a list had no room, or its bytes take memory.
 abbrev pub TokenNeedsRoom : {N P K V S C : Type 0} → View N P K V S C → (s : List ℕ) → (old new : N) → Frame K
     → (parts new_parts : Vec P Global) → Row → Result (Unit {0}) Refusal → Type 0
 TokenNeedsRoom view s old new frame parts new_parts row result =
     OnlyForRoom (view.TakesMemory frame.rule (take (row.to - row.from) (drop row.from s)))
     (lists_with view old parts) (lists_with view new new_parts) result
 
--- A rule stands in the symbol whose next part with a row is a token that takes memory of its own.
+-- A rule is in the symbol whose next part with a row is a token that takes memory of its own.
 pub record TokenTakesMemory {N P K V S C : Type 0} (view : View N P K V S C) (s : List ℕ) : Type 0 where
   pub rule : Open S C
   pub held : ℕ
@@ -254,7 +254,7 @@ pub record TokenTakesMemory {N P K V S C : Type 0} (view : View N P K V S C) (s 
 abbrev pub all_lists : {N P K V S C : Type 0} → View N P K V S C → N → Vec (Frame K) Global → Vec P Global → List Listed
 all_lists view nodes frames parts = one_by_one frames ∷ lists_with view nodes parts
 
--- A move has as much room behind it as before.
+-- A move has as much room after it as before.
 abbrev pub KeepsAllRoom : {N P K V S C : Type 0} → View N P K V S C → (old new : N) → (frames new_frames : Vec (Frame K) Global)
     → (parts new_parts : Vec P Global) → Type 0
 KeepsAllRoom view old new frames new_frames parts new_parts = KeepRoom (all_lists view old frames parts) (all_lists view new new_frames new_parts)

@@ -6,7 +6,7 @@ use Rattle.sym_shape.specs.Tree.{Tree, Forest, branch, empty, token, fixed, noth
 use Rattle.sym_link.specs.Reading.{Found, Open, Reading, ◌>>=◌}
 use Rattle.sym_link.specs.Unfold.{found, standing, unfold_forest}
 
--- An open rule: the parts that are left, the place from which they stand, and the values of the parts so far of the rule
+-- An open rule: the parts that are left, the place from which they are, and the values of the parts so far of the rule
 -- around it.
 pub record Frame (V S C : Type 0) : Type 0 where
   pub rule : Open S C
@@ -37,7 +37,7 @@ outcome_of reading (top ∷ frames) known state =
 abbrev pub outcome : {V S C : Type 0} → Reading V S C → Machine V S C → Result (Found (List V) S) Refusal
 outcome reading m = outcome_of reading m.frames m.known m.state
 
--- A tree begins behind these values: its rule opens, or its value is there at once.
+-- A tree begins after these values: its rule opens, or its value is there at once.
 abbrev pub entered : {V S C : Type 0} → Reading V S C → C → (place : ℕ) → Tree → List (Frame V S C) → (known : List V) → S → Result (Machine V S C) Refusal
 entered reading context place (branch rule taken parts) frames known state =
     reading.begin (standing rule taken place context state) parts
@@ -47,7 +47,7 @@ entered reading context place (fixed byte) frames known state = Ok (machine fram
 entered reading context place (token t) frames known state =
     reading.token place t state >>= λ one. Ok (machine frames (known ++ one.value ∷ []) one.state)
 
--- the parts of a rule that are left behind the next ones that have no row, where they stand, and what is known and the state there
+-- the parts of a rule that are left after the next ones that have no row, where they are, and what is known and the state there
 pub record Passed (V S : Type 0) : Type 0 where
   pub known : List V
   pub from : ℕ
@@ -86,7 +86,7 @@ abbrev pub pending : {V S C : Type 0} → List (Frame V S C) → (number : ℕ) 
 pending [] number = []
 pending (top ∷ frames) number = rows_of_all top.left top.from number ++ pending frames (number + row_count_all top.left)
 
--- no part without a row stands next
+-- no part without a row comes next
 abbrev pub HasRowNext : Forest → Type 0
 HasRowNext (grown empty rest) = ⊥
 HasRowNext (grown (fixed byte) rest) = ⊥

@@ -16,13 +16,13 @@ passed_by (grown empty rest) = grown empty (passed_by rest)
 passed_by (grown (fixed byte) rest) = grown (fixed byte) (passed_by rest)
 passed_by left = nothing
 
--- the place where these stand, if all stand from a place on
+-- the place where these are, if all are from a place on
 abbrev pub skipped_from : (from : ℕ) → Forest → ℕ
 skipped_from from (grown empty rest) = skipped_from from rest
 skipped_from from (grown (fixed byte) rest) = skipped_from (from + 1) rest
 skipped_from from left = from
 
--- some parts, and others behind them
+-- some parts, and others after them
 abbrev pub joined : Forest → Forest → Forest
 joined nothing others = others
 joined (grown first rest) others = grown first (joined rest others)
@@ -35,8 +35,8 @@ values_in rowless (grown (fixed byte) rest) = rowless + values_in rowless rest
 values_in rowless (grown (token t) rest) = 1 + values_in rowless rest
 values_in rowless (grown (branch rule taken parts) rest) = 1 + values_in rowless rest
 
--- A rule of the grammar stands in a symbol. So many values are known of the parts that it has passed, and `left` are the
--- other ones, which stand from a place on.
+-- A rule of the grammar is in a symbol. So many values are known of the parts that it has passed, and `left` are the
+-- other ones, which are from a place on.
 pub record Stands {S C : Type 0} (g : Table) (s : List ℕ) (rowless : ℕ) (rule : Open S C) (held from : ℕ) (left : Forest) : Type 0 where
   pub kind : ℕ
   pub is_kind : kind < g.kinds

@@ -31,7 +31,7 @@ abbrev mutual
   link_steps_all nothing = 0
   link_steps_all (grown tree rest) = link_steps tree + link_steps_all rest
 
--- the steps that are left: between two steps, or within the one in which the innermost rule begins, behind which there are at most so
+-- the steps that are left: between two steps, or within the one in which the innermost rule begins, after which there are at most so
 -- many nodes
 pub data Due : Type 0 where
   waiting : ℕ → Due
@@ -48,12 +48,12 @@ IsDue (waiting n) frames = steps_ahead frames ≡ n
 IsDue (starting n most) [] = ⊥
 IsDue (starting n most) (top ∷ frames) = (if closes_at_once top.left then 0 else (link_steps_all top.left + 1)) + steps_ahead frames ≡ n
 
--- where a rule closes, so many steps are left behind it
+-- where a rule closes, so many steps are left after it
 abbrev pub CountsClose : Due → ℕ → Type 0
 CountsClose (waiting m) n = m ≡ n + 1
 CountsClose (starting m most) n = m ≡ n
 
--- Where a token is taken, behind which so many rows stand in its rule, so many steps are left. One that is alone in a rule that
+-- Where a token is taken, after which so many rows are in its rule, so many steps are left. One that is alone in a rule that
 -- begins takes none, and the rule is then still to close.
 abbrev pub CountsToken : Due → (behind : ℕ) → ℕ → Type 0
 CountsToken (waiting m) behind n = m ≡ n + 1

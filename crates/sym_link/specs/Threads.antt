@@ -14,13 +14,13 @@ use Rattle.sym_link.specs.Parts.{skipped, skipped_from}
 use Rattle.sym_link.specs.Driving.{AreAll, Fails}
 use Rattle.sym_link.specs.Linking.{View, IsLinking, IsInside, IsRuleRow, IsTokenRow, Gives, Puts, AddsFew}
 
--- how many parts without a row stand first
+-- how many parts without a row come first
 abbrev pub skips : Forest → ℕ
 skips (grown empty rest) = 1 + skips rest
 skips (grown (fixed byte) rest) = 1 + skips rest
 skips left = 0
 
--- A rule of the grammar stands at its place in the symbol, where the byte is that it takes.
+-- A rule of the grammar is at its place in the symbol, where the byte is that it takes.
 pub record IsThere {S C : Type 0} (g : Table) (s : List ℕ) (rule : Open S C) : Type 0 where
   pub kind : ℕ
   pub is_kind : kind < g.kinds
@@ -53,19 +53,19 @@ Goes {P = P} {V = V} {S = S} {C = C} view IsContext nodes lower parts (Ok contex
     × (own : List P) × (parts ≡ lower ++ own) × AreAll (view.IsPart nodes) own next.values
 Goes view IsContext nodes lower parts (Err e) read = Fails e read
 
--- In front of the next part of the rule of the frame at most so many nodes are added as it may add less behind those parts.
+-- Before the next part of the frame's rule at most so many nodes are added as it may add less after those parts.
 abbrev pub AddsBefore : {N P K V S C A : Type 0} → View N P K V S C → (old new : N) → Frame K → (parts own : List P) → Result A Refusal → Type 0
 AddsBefore view old new frame parts own (Ok done) = view.size new + view.closes frame.rule own ≤ view.size old + view.closes frame.rule (drop frame.base parts)
 AddsBefore view old new frame parts own (Err e) = AddsFew view old new frame parts
 
--- What is done before the next part of the rule of the frame is what the reading says.
+-- What is done before the next part of the frame's rule is what the reading says.
 abbrev pub GoesOn : {N P K V S C : Type 0} → View N P K V S C → (s : List ℕ) → (IsContext : N → K → C → Type 0) → (old new : N) → Frame K → (parts new_parts : List P)
     → Result K Refusal → Type 0
 GoesOn {V = V} {S = S} {C = C} view s IsContext old new frame parts new_parts result =
     (rule : Open S C) (known : List V) (state : S) → IsAt view s old frame (drop frame.base parts) rule known state
     → Goes view IsContext new (take frame.base parts) new_parts result (view.reading.between rule known state)
 
--- Some parts without a row of the rule of the frame are passed, of those in front of the part with this number. What comes of
+-- Some parts without a row of the frame's rule are passed, of those before the part with this number. What comes of
 -- them all is known.
 pub record Passing {N P K V S C : Type 0} (view : View N P K V S C) (s : List ℕ) (nodes : N) (frame : Frame K) (lower parts : List P) (to : ℕ)
     (whole : Result (Passed V S) Refusal) : Type 0 where
@@ -113,13 +113,13 @@ BeginsIn {S = S} {C = C} view s Surrounds rows old new context row result =
     → (behind : List ℕ) → drop place s ≡ taken ++ (spell_all inner ++ behind) → Surrounds old context around → view.Holds old state
     → BeginsAs view new (standing rule taken place around state) result (view.reading.begin (standing rule taken place around state) inner)
 
--- The rule of the frame closes over all its parts as the reading says.
+-- The frame's rule closes over all its parts as the reading says.
 abbrev pub ClosesAll : {N P K V S C : Type 0} → View N P K V S C → (s : List ℕ) → (old new : N) → Frame K → (parts new_parts : List P) → Result (Unit {0}) Refusal → Type 0
 ClosesAll {V = V} {S = S} {C = C} view s old new frame parts new_parts result =
     (rule : Open S C) (known : List V) (state : S) → IsAt view s old frame (drop frame.base parts) rule known state
     → Puts view new (take frame.base parts) new_parts result (view.reading.close rule known state)
 
--- A token in the rule of the frame is what the reading says.
+-- A token in the frame's rule is what the reading says.
 abbrev pub IsTaken : {N P K V S C : Type 0} → View N P K V S C → (s : List ℕ) → (old new : N) → Row → Result P Refusal → Type 0
 IsTaken {S = S} view s old new row result =
     (state : S) (t : Token) (place : ℕ) → IsTokenRow s row t place → view.Holds old state → Gives view new result (view.reading.token place t state)

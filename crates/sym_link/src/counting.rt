@@ -153,7 +153,7 @@ fn number_of(nodes: &Counts, part: Part) -> usize
     }
 }
 
-/// The number of parts of the rule of a whole symbol, from the rows of its shape.
+/// How many parts the rule of a whole symbol has, from the rows of its shape.
 pub fn count(alloc: Global, symbol: &[u8], rows: &[Row]) -> Result<usize, Refusal>
     requires fits { Fits symbol.now rows.now }
     requires shape { (tree : Tree) × IsShape (counting symbol.now).table symbol.now rows.now tree }

@@ -90,7 +90,7 @@ fn take_alone<L: Linking>(
     Ok(next)
 }
 
-/// Puts the frame of a rule that has begun on the others. A rule that has no row of its own closes at once, and one that has
+/// Pushes the new rule's frame. A rule that has no row of its own closes at once, and one that has
 /// a token alone takes it and closes. It answers the number of the next row.
 // Closes in one place: `#[inline(always)]` holds only up to a size that counts what is inlined in turn. With two places this
 // stayed a call with four productions more in Rust's loop, and the filter took 19 % more instructions.
@@ -124,7 +124,7 @@ fn settle<L: Linking>(
     Ok(behind)
 }
 
-/// Takes the row of a token or a rule, which stands in the innermost rule. It answers the number of the next row.
+/// Takes the row of a token or a rule, which is in the innermost rule. It answers the number of the next row.
 fn take<L: Linking>(
     language: &mut L,
     symbol: &[u8],
@@ -191,7 +191,7 @@ fn begin<L: Linking>(
     settle(language, symbol, rows, 1, frames, parts, opened)
 }
 
-/// Takes the next row, with what `settle` adds to it, or closes the innermost rule behind its last row. It answers the number
+/// Takes the next row, with what `settle` adds to it, or closes the innermost rule after its last row. It answers the number
 /// of the next row, or none where nothing is left to do.
 fn advance<L: Linking>(
     language: &mut L,
@@ -244,7 +244,7 @@ pub struct Driver<L: Linking> {
 }
 
 impl<L: Linking> Driver<L> {
-    /// A driver in front of the first row.
+    /// A driver before the first row.
     pub fn new(alloc: Global) -> Driver<L>
         ensures frames { result.frames.items ≡ [] }
         ensures parts { result.parts.items ≡ [] }

@@ -3,11 +3,11 @@
 // A language has a reading (`specs/Reading.antt`), which says what a tree means with no word of rows, frames or nodes. The
 // driver goes over the rows, and the language makes nodes at four moments: the root begins, a rule begins in another
 // one, a token is taken, and a rule closes. An instance gives a `view` (`specs/Linking.antt`), and shows of each moment
-// (`opens`, `takes`, `closes`): if the frame, the parts behind `frame.base` and the nodes stand for an open rule of the
-// reading, for the values of its parts so far and for the state, then behind the call they stand for what the reading
+// (`opens`, `takes`, `closes`): if the frame, the parts after `frame.base` and the nodes stand for an open rule of the
+// reading, for the values of its parts so far and for the state, then after the call they stand for what the reading
 // says, or the refusal is the reading's. A refusal for want of memory says nothing of the symbol.
 //
-// - At each moment but the root's a rule stands open at the frame (`IsOpen`), so the language may go by what the frame and its
+// - At each moment but the root's a rule is open at the frame (`IsOpen`), so the language may go by what the frame and its
 //   parts stand for.
 // - The premises of a moment are one record, `IsInside`. A language that gives no value to parts without a row uses of it
 //   `kept`, `parts`, `holds` and `place` alone. Where the language is one by meaning (`specs/Cases.antt`), `plain_next` and
@@ -17,9 +17,9 @@
 //   for what they stood for (the laws `part_stays`, `kept_stays`). `few`: so it is of a call that is refused, too. With the laws
 //   `two` and `two_at_once` a step of the driver adds at most two nodes.
 // - `pays`: what the language writes beside its nodes is paid for by bytes of the symbol. Bytes up to `at` have paid so far,
-//   where `at` is a place that no row so far lies behind. A token pays with the bytes up to its end; as the first part with a
+//   where `at` is a place that no row so far lies after. A token pays with the bytes up to its end; as the first part with a
 //   row of its rule (then the frame has no parts, if parts without a row have no value) with those from the rule's place on.
-//   In front of each call the bytes of the whole symbol have paid (`room`), so `IsPaid` may hold other invariants, too.
+//   Before each call the bytes of the whole symbol have paid (`room`), so `IsPaid` may hold other invariants, too.
 // - `full`: `Memory` is answered only where a list, the language's or that of the parts, had no room for what was put on it
 //   (`lists`), or for a token that takes memory of its own (`TakesMemory`). With `keeps` this goes on over calls.
 // - `laws`: see `IsLinking`.
@@ -33,7 +33,7 @@ ghost use Rattle.sym_link.specs.Room.{KeepRoom, OnlyForRoom};
 use sym_core::Refusal;
 use sym_shape::rule::Row;
 
-/// A rule that is open: where its parts begin, its place, the row behind it, what the language keeps for it, and its number.
+/// A rule that is open: where its parts begin, its place, the row after it, what the language keeps for it, and its number.
 ///
 /// The moments of a language have it by reference. By value it was taken apart and put together again at each call, which took
 /// 8 % of the instructions over real C++ symbols. Its fields leave no gap in memory where what is kept leaves none: 40 bytes
@@ -75,7 +75,7 @@ pub trait Linking {
         ensures keeps { KeepRoom ((view symbol.now).lists self.old) ((view symbol.now).lists self.new) }
         ensures full { OnlyForRoom ⊥ ((view symbol.now).lists self.old) ((view symbol.now).lists self.new) result };
 
-    /// A rule begins in the rule of the frame.
+    /// A rule begins in the frame's rule.
     fn enter(
         &mut self,
         symbol: &[u8],
@@ -96,7 +96,7 @@ pub trait Linking {
         ensures keeps { KeepsRoom (view symbol.now) self.old self.new parts.old parts.new }
         ensures full { NeedsRoom (view symbol.now) self.old self.new parts.old parts.new result };
 
-    /// A token is taken in the rule of the frame.
+    /// A token is taken in the frame's rule.
     fn token(
         &mut self,
         symbol: &[u8],
@@ -117,7 +117,7 @@ pub trait Linking {
         ensures keeps { KeepsRoom (view symbol.now) self.old self.new parts.old parts.new }
         ensures full { TokenNeedsRoom (view symbol.now) symbol.now self.old self.new frame.now parts.old parts.new row result };
 
-    /// The rule of the frame closes: what it means takes the place of its parts.
+    /// The frame's rule closes: what it means takes the place of its parts.
     fn close(
         &mut self,
         symbol: &[u8],

@@ -1,4 +1,4 @@
-// From the rows of a shape to what the symbol means, for any language.
+//! From the rows of a shape to what the symbol means, for any language.
 #![tactic(auto)]
 
 pub mod counting;

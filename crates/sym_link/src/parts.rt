@@ -5,7 +5,7 @@ ghost use Rattle.sym_core.specs.declared.refusal.Refusal.TheVariants as refusals
 
 use sym_core::Refusal;
 
-/// Puts a part behind the others.
+/// Puts a part after the others.
 ///
 /// # Errors
 ///

@@ -1,7 +1,7 @@
 // A language in which each part has one value, also one with no row, and something is done before each part.
 //
 // Such a language says what is done before a part, whatever part that is, and its code need not know of parts without a
-// row: `pass` does what stands before each of those, as soon as a part with a row is there, or the rule closes.
+// row: `pass` does what comes before each of those, as soon as a part with a row is there, or the rule closes.
 //
 // Where something is done before a part, or a rule closes, the frame and the parts are those of an open rule (`IsOpenAt`).
 
@@ -43,7 +43,7 @@ pub trait Threading {
         ensures is { result ≡ absent }
         ensures stands { (s : List ℕ) → AreAll ((view s).IsPart self.now) (result ∷ []) (view s).reading.rowless };
 
-    /// What is done before the next part of the rule of the frame.
+    /// What is done before the next part of the frame's rule.
     fn between(
         &mut self,
         symbol: &[u8],
@@ -78,7 +78,7 @@ pub trait Threading {
         ensures keeps { KeepRoom ((view symbol.now).lists self.old) ((view symbol.now).lists self.new) }
         ensures full { OnlyForRoom ⊥ ((view symbol.now).lists self.old) ((view symbol.now).lists self.new) result };
 
-    /// The rule of the frame closes over all its parts.
+    /// The frame's rule closes over all its parts.
     fn finish(
         &mut self,
         symbol: &[u8],
@@ -96,7 +96,7 @@ pub trait Threading {
         ensures keeps { KeepsRoom (view symbol.now) self.old self.new parts.old parts.new }
         ensures full { NeedsRoom (view symbol.now) self.old self.new parts.old parts.new result };
 
-    /// The number of the next part of the rule of the frame that has a row: a rule's, of which so many parts have begun.
+    /// The number of the next part with a row in the frame's rule: a rule's, of which so many parts have begun.
     fn ahead(
         &self,
         symbol: &[u8],
@@ -119,18 +119,18 @@ pub trait Threading {
         ensures keeps { KeepRoom ((view symbol.now).lists self.old) ((view symbol.now).lists self.new) }
         ensures full { OnlyForRoom ⊥ ((view symbol.now).lists self.old) ((view symbol.now).lists self.new) result };
 
-    /// The number of the next part of the rule of the frame that has a row: a token's, of which so many parts have begun.
+    /// The number of the next part with a row in the frame's rule: a token's, of which so many parts have begun.
     fn ahead_token(&self, symbol: &[u8], frame: &Frame<Self::Kept>, held: usize) -> usize
         ensures { IsAheadToken (view symbol.now) symbol.now self.now frame.now held result };
 
-    /// The number of the parts of the rule of the frame, where no row is left.
+    /// How many parts the frame's rule has, once no rows remain.
     fn count(&self, symbol: &[u8], frame: &Frame<Self::Kept>, held: usize) -> usize
         ensures { IsCount (view symbol.now) symbol.now self.now frame.now held result };
 
     ghost laws: { (s : List ℕ) → IsThreading (view s) };
 }
 
-/// Passes a part without a row of the rule of the frame.
+/// Passes a part without a row of the frame's rule.
 #[inline(always)]
 fn pass_one<L: Threading>(
     language: &mut L,
@@ -157,7 +157,7 @@ fn pass_one<L: Threading>(
     Ok(())
 }
 
-/// Passes the parts without a row of the rule of the frame that stand in front of the part with this number.
+/// Passes the parts without a row of the frame's rule that come before the part with this number.
 #[inline(always)]
 pub fn pass<L: Threading>(
     language: &mut L,
@@ -186,7 +186,7 @@ pub fn pass<L: Threading>(
     Ok(())
 }
 
-/// A rule begins in the rule of the frame.
+/// A rule begins in the frame's rule.
 pub fn enter_by<L: Threading>(
     language: &mut L,
     symbol: &[u8],
@@ -214,7 +214,7 @@ pub fn enter_by<L: Threading>(
     Ok(kept)
 }
 
-/// The rule of the frame closes: what it means takes the place of its parts.
+/// The frame's rule closes: what it means takes the place of its parts.
 #[inline(always)]
 pub fn close_by<L: Threading>(
     language: &mut L,
@@ -239,7 +239,7 @@ pub fn close_by<L: Threading>(
     Ok(())
 }
 
-/// A token is taken in the rule of the frame.
+/// A token is taken in the frame's rule.
 pub fn token_by<L: Threading>(
     language: &mut L,
     symbol: &[u8],

@@ -3,7 +3,7 @@ use Rattle.std.proofs.Common.{◌≡◌, ℕ, suc, ◌+◌, ◌<◌, List, [], �
 use Rattle.std.proofs.lemmas.List.{reverse-append}
 use Rattle.std.proofs.Math.Seq.{drop-cons}
 
--- what is left of a list from a place on is that place's element, and what is left behind it
+-- what is left of a list from a place on is that place's element, and what is left after it
 pub drop-next : {X : Type 0} (xs : List X) (k : ℕ) (x : X) → k < length xs → x ≡ get_or xs k x → drop k xs ≡ x ∷ drop (k + 1) xs
 drop-next xs k x h e =
     let more : suc k ≡ k + 1 = omega arith in

@@ -13,7 +13,7 @@ use Rattle.sym_print.specs.Unshared.{Unshared, text_of, cost_of_parts, steps_of_
 use Rattle.sym_print.specs.Joined.{joined, with_parts, IsNext, IsText, text_of_part, cost_of_part, steps_of_part, text_of_stack, cost_of_stack, steps_of_stack, spends}
 
 module _ {C : Type 0} where
-  -- the next entry stands last
+  -- the next entry comes last
   pub next_is_last : (stack : List (Part C)) (next : Part C) → IsNext stack next → stack ≡ take (length stack - 1) stack ++ next ∷ []
   next_is_last stack next h =
       let within : length stack - 1 < length stack = slice_get_within stack (length stack - 1) next h in
@@ -23,7 +23,7 @@ module _ {C : Type 0} where
       let split : take (suc (length stack - 1)) stack ≡ take (length stack - 1) stack ++ get_or stack (length stack - 1) next ∷ [] = take-suc stack (length stack - 1) next within in
       sym all ∙ ap (λ n. take n stack) (sym one) ∙ split ∙ ap (λ p. take (length stack - 1) stack ++ p ∷ []) here
 
-  -- taken from the stack into a list of its own, an entry stands above what is left
+  -- taken from the stack into a list of its own, an entry is above what is left
   pub top_is : (stack left none parts : List (Part C)) (next : Part C) → stack ≡ left ++ next ∷ [] → none ≡ [] → parts ≡ none ++ next ∷ [] → with_parts left parts ≡ stack
   top_is stack left none parts next popped empty put =
       let one : parts ≡ next ∷ [] = put ∙ ap (λ xs. xs ++ next ∷ []) empty in
@@ -41,7 +41,7 @@ module _ {C : Type 0} where
       subst (All P) (sym (reverse-append (x ∷ []) xs))
       (All-push P (reverse xs) x (All-reverse P xs (All-tail P x xs all)) (All-head P x xs all))
 
-  -- all that stands on the stack may come, once an item's parts stand in its place
+  -- all that stands on the stack may come, once an item's parts are in its place
   pub All-visit : (P : Part C → Type 0) (stack parts : List (Part C)) → All P stack → All P parts → All P (take (length stack - 1) stack ++ reverse parts)
   All-visit P stack parts old new = All-append P (take (length stack - 1) stack) (reverse parts) (All-take P (length stack - 1) stack old) (All-reverse P parts new)
 
@@ -51,23 +51,23 @@ module _ {C : Type 0} where
   All-turn P held below after left i was is old new =
       All-same P after (below ++ reverse left) is (All-append P below (reverse left) ((All-pop P held below (Some (Sub i)) was old).0) (All-reverse P left new))
 
-  -- a part that was read where it stands
+  -- a part that was read where it is
   pub here_is : (seen parts : List (Part C)) (n k : ℕ) (part : Part C) → seen ≡ parts → n ≡ length parts → k < n → part ≡ get_or seen k part → slice_get parts k ≡ Some part
   here_is seen parts n k part same count within read = ap (λ xs. slice_get xs k) (sym same) ∙ slice_get_read seen n k part (count ∙ ap length (sym same)) within read
 
-  -- the next of the parts above a stack stands last
+  -- the next of the parts above a stack comes last
   pub above_is : (stack parts : List (Part C)) (k : ℕ) (part : Part C) → slice_get parts k ≡ Some part
       → with_parts stack (drop k parts) ≡ with_parts stack (drop (k + 1) parts) ++ part ∷ []
   above_is stack parts k part h =
       let last = reverse-next parts k part (slice_get_within parts k part h) (sym (get_or_from_slice_get parts k part part h)) in
       ap (λ r. stack ++ r) last ∙ sym (append_assoc stack (reverse (drop (k + 1) parts)) (part ∷ []))
 
-  -- the parts behind it were moved to the stack
+  -- the parts after it were moved to the stack
   pub above_moved : (stack moved now parts : List (Part C)) (k : ℕ) (part : Part C) → slice_get parts k ≡ Some part → moved ≡ with_parts stack (drop (k + 1) parts) → now ≡ moved
       → with_parts stack (drop k parts) ≡ now ++ part ∷ []
   above_moved stack moved now parts k part h put same = above_is stack parts k part h ∙ ap (λ s. s ++ part ∷ []) (sym (same ∙ put))
 
-  -- and it stands above them
+  -- and it is above them
   pub moved_is : (stack moved parts left : List (Part C)) (k : ℕ) (part : Part C) → slice_get parts k ≡ Some part → moved ≡ with_parts stack (drop (k + 1) parts) → left ≡ take (k + 1) parts
       → with_parts moved (drop k left) ≡ with_parts stack (drop k parts)
   moved_is stack moved parts left k part h put kept =
@@ -75,7 +75,7 @@ module _ {C : Type 0} where
       let one : drop k left ≡ part ∷ [] = ap (λ xs. drop k xs) kept ∙ drop-take k 1 parts ∙ ap (λ xs. take 1 xs) here in
       ap (λ xs. moved ++ reverse xs) one ∙ ap (λ xs. xs ++ part ∷ []) put ∙ sym (above_is stack parts k part h)
 
-  -- how long the stack is, with what was taken from it, once parts stand in that one's place
+  -- how long the stack is, with what was taken from it, once parts are in that one's place
   pub length_of_turn : (held below after left : List (Part C)) (i : Item C) → held ≡ below ++ Sub i ∷ [] → after ≡ below ++ reverse left
       → (length held ≡ length below + 1) × (length after ≡ length below + length left)
   length_of_turn held below after left i was is = (
@@ -110,7 +110,7 @@ module _ {C : Type 0} (unshared : Item C → Unshared) (bytes_of : Part C → Li
   count : List (Part C) → ℕ
   count = steps_of_stack unshared bytes_of
 
-  -- what stands above is printed first
+  -- what is above is printed first
   pub text_of_stack-append : (below above : List (Part C)) → text_of_stack unshared bytes_of (below ++ above) ≡ text_of_stack unshared bytes_of above ++ text_of_stack unshared bytes_of below
   unfolding shown one
   text_of_stack-append [] above = sym (append-nil (shown above))
@@ -161,7 +161,7 @@ module _ {C : Type 0} (unshared : Item C → Unshared) (bytes_of : Part C → Li
   steps_of_stack-reverse (next ∷ rest) =
       omega (arith, ap count (reverse-append (next ∷ []) rest), steps_of_stack-append (reverse rest) (next ∷ []), steps_of_stack-reverse rest, steps_of_joined next rest)
 
-  -- the stack without its next entry prints what is left behind it
+  -- the stack without its next entry prints what is left after it
   pub text_of_next : (stack : List (Part C)) (next : Part C) → IsNext stack next
       → text_of_stack unshared bytes_of stack ≡ text_of_part unshared bytes_of next ++ text_of_stack unshared bytes_of (take (length stack - 1) stack)
   unfolding shown
@@ -268,7 +268,7 @@ module _ {C : Type 0} (unshared : Item C → Unshared) (bytes_of : Part C → Li
   steps_of_text (Sub i) h = elim h [ ]
   steps_of_text _ h = refl
 
-  -- a byte text that is written stands in the text and no more above the stack
+  -- a byte text that is written is in the text and no more above the stack
   pub text_of_put : (held below : List (Part C)) (part : Part C) (old new whole : List ℕ) → held ≡ below ++ part ∷ [] → IsText part → new ≡ old ++ bytes_of part
       → old ++ text_of_stack unshared bytes_of held ≡ whole → new ++ text_of_stack unshared bytes_of below ≡ whole
   unfolding shown one
@@ -307,7 +307,7 @@ module _ {C : Type 0} (unshared : Item C → Unshared) (bytes_of : Part C → Li
   unfolding price
   part_too_dear held below part limit spent was dear = omega (arith, ap price was, cost_of_stack-append below (part ∷ []), spends-le part, dear)
 
-  -- a byte text, once written, stands in the text and no more on the stack
+  -- a byte text, once written, is in the text and no more on the stack
   pub text_of_write : (stack left : List (Part C)) (next : Part C) (text written own : List ℕ)
       → IsNext stack next → IsText next → left ≡ take (length stack - 1) stack → own ≡ bytes_of next → written ≡ text ++ own
       → written ++ text_of_stack unshared bytes_of left ≡ text ++ text_of_stack unshared bytes_of stack

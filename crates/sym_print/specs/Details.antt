@@ -10,7 +10,7 @@ has_arguments Brief = false
 has_arguments NoParameters = true
 has_arguments BriefNoParameters = false
 
--- whether functions have their parameters, and what stands around them
+-- whether functions have their parameters, and what is around them
 abbrev pub has_parameters : Detail → Bool
 has_parameters Full = true
 has_parameters Brief = true

@@ -12,7 +12,7 @@ pub enum Detail {
     /// Names without their template or generic arguments.
     Brief,
     /// Each C++ function by its name alone, with its template arguments: without its return type, its parameters and the
-    /// qualifiers behind them. So are an enclosing function, what a thunk leads to and a function in template arguments; types
+    /// qualifiers after them. So are an enclosing function, what a thunk leads to and a function in template arguments; types
     /// of functions are whole, and so is anything else.
     NoParameters,
     /// The same, and names without their template or generic arguments.
@@ -33,7 +33,7 @@ impl Detail {
         }
     }
 
-    /// Whether functions have their parameters, and what stands around them.
+    /// Whether functions have their parameters, and what is around them.
     #[inline(always)]
     pub fn has_parameters(self) -> bool
         ensures { result ≡ has_parameters self }

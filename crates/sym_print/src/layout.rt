@@ -85,6 +85,8 @@ pub trait Layout {
     ///
     /// This is what a printer asks for. A layout builds them there, the last part first, or moves what `fill` answers by
     /// `push_reversed`.
+    // With a list between layout and stack the printer takes a third more instructions. To hand the first part back, so that it needn't be
+    // read again, is slower too: a part is too large to be returned in registers.
     fn push_parts(&self, item: Item<Self::Ctx>, stack: &mut Vec<Part<Self::Ctx>>)
         requires may_come { may_come self.now (Part.Sub item) }
         requires room { vec_len stack.old + 8 ≤ vec_capacity stack.old }

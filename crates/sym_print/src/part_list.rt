@@ -18,7 +18,7 @@ pub trait PartList<C: Copy> {
     // how many more there can be
     ghost room: { Self → ℕ };
 
-    /// Adds a part behind the others.
+    /// Adds a part after the others.
     fn push_part(&mut self, part: Part<C>)
         requires { 0 < room self.old }
         ensures held { held self.new ≡ with_part (held self.old) part }

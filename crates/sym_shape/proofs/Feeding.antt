@@ -65,7 +65,7 @@ told g bytes steps at stack rows h = record {
   counted = h.counted;
 }
 
--- a refusal before the end holds for whatever comes behind
+-- a refusal before the end holds for whatever comes after
 pub so_far : (g : Table) (ended : Bool) (bytes : List ℕ) (at : ℕ) → IsMalformed g bytes at → IsKnown ended bytes at → IsMalformedSoFar g ended bytes at
 so_far g true bytes at h known = h
 so_far g false bytes at h (inr told) = absurd (true≢false (sym told))

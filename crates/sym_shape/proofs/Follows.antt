@@ -24,7 +24,7 @@ next_from_first g k (x ∷ xs) ys b after h =
           or_right _ _ (and_from _ _ both.0 (next_from_first g k xs ys b after both.1)))
     ]
 
--- the symbols of a rule stand in their kind's place
+-- the symbols of a rule are in their kind's place
 pub followed_pushed : (g : Table) (k : ℕ) (xs ys : List Sym) → KeepsAfter g k xs → IsFollowed g (Kind k ∷ ys) → IsFollowed g (xs ++ ys)
 followed_pushed g k [] ys keeps h = h.1
 followed_pushed g k (x ∷ xs) ys keeps h =
@@ -36,6 +36,6 @@ follow_at g lawful x xs f (b ∷ w) known followed h e =
     let first = forest_first g lawful xs f b w known h e in
     followed.0 b first.0 first.1
 
--- what the symbols behind it spell may come after a symbol
+-- what the symbols after it spell may come after a symbol
 pub forest_follows : (g : Table) (lawful : IsLawful g) (x : Sym) (xs : List Sym) (f : Forest) → AreSymbols g xs → IsFollowed g (x ∷ xs) → AreTrees g xs f → MayFollow g x (spell_all f)
 forest_follows g lawful x xs f known followed h = follow_at g lawful x xs f (spell_all f) known followed h refl

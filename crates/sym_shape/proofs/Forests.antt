@@ -4,7 +4,7 @@ use Rattle.sym_shape.specs.declared.rule.Sym.{Sym}
 use Rattle.sym_shape.specs.Table.{Table}
 use Rattle.sym_shape.specs.Tree.{Tree, branch, empty, token, fixed, Forest, nothing, grown, spell, spell_all, AreTrees, row_count, row_count_all, rows_of, rows_of_all}
 
--- one forest behind another
+-- one forest after another
 abbrev pub joined : Forest → Forest → Forest
 joined nothing f = f
 joined (grown t rest) f = grown t (joined rest f)

@@ -6,7 +6,7 @@ use Rattle.std.proofs.lemmas.Option.{slice_get_past, slice_get-get_or}
 use Rattle.std.specs.List.{range_with_len}
 use Rattle.sym_shape.specs.Listing.{letter_below, unless_blank}
 
--- no letter stands before a row or behind it
+-- no letter comes before a row or after it
 pub no_letter_before : (row : List ℕ) (byte : ℕ) → byte < 36 → letter_below row byte ≡ None
 unfolding letter_below
 no_letter_before row byte lt = ap (λ b. cond b None (unless_blank (slice_get row (byte - 36)))) (lt-ltb byte 36 lt)
@@ -20,7 +20,7 @@ unfolding unless_blank
 no_letter_behind row byte long gt =
     letter_inside row byte (omega (arith, gt)) ∙ ap unless_blank (slice_get_past row (byte - 36) (omega (arith, long, gt)))
 
--- what stands below a byte, by whether it is a blank
+-- what is below a byte, by whether it is a blank
 letter_there : (row : List ℕ) (byte d : ℕ) → length row ≡ 87 → 36 ≤ byte → byte ≤ 122 → letter_below row byte ≡ unless_blank (Some (get_or row (byte - 36) d))
 letter_there row byte d long low high =
     letter_inside row byte low ∙ ap unless_blank (slice_get-get_or row (byte - 36) d (omega (arith, long, low, high)))

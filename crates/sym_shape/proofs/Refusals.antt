@@ -77,7 +77,7 @@ token_front g lawful ended p q c x es rows r begun =
     tree_of (Kind k) h = absurd h
     tree_of (Byte b) h = absurd h
 
--- a token breaks off behind c
+-- a token breaks off after c
 pub refused_token : {n : ℕ} (g : Table) (lawful : IsLawful g) (ended : Bool) (p c q : List ℕ) (x : Sym) (es : List Entry) (rows : List Row) → IsReading g n ended p (c ++ q) (Symbol x ∷ es) rows → BeginsToken g x c → IsNoToken g ended x c q → (q ≡ [] → ended ≡ true) → IsMalformed g ((p ++ c) ++ q) (length (p ++ c))
 refused_token g lawful ended p c q x es rows r begun none told = malformed g ended (p ++ c) q (token_front g lawful ended p (c ++ q) c x es rows r begun) never told
   where
@@ -86,7 +86,7 @@ refused_token g lawful ended p c q x es rows r begun none told = malformed g end
         let old = r.complete (c ++ w) (agrees_behind ended c q w agrees) (subst (λ u. IsWellShaped g u) (append_assoc p c w) whole) in
         no_spelling g ended x (symbols_in es) old.0 c q w begun.0 begun.2 none agrees old.1 old.2
 
--- the end of the stack, and bytes behind it
+-- the end of the stack, and bytes after it
 pub refused_behind : {n : ℕ} (g : Table) (lawful : IsLawful g) (ended : Bool) (p : List ℕ) (b : ℕ) (q : List ℕ) (rows : List Row) → IsReading g n ended p (b ∷ q) [] rows → IsMalformed g (p ++ b ∷ q) (length p)
 refused_behind g lawful ended p b q rows r = refused_here g lawful ended p (b ∷ q) [] rows r none (λ e. cc)
   where

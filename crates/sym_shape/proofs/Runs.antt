@@ -16,7 +16,7 @@ few_more listed g ended bytes old steps rows h s r each =
     let most_rows = at_most_rows g old.steps old.at (to_do listed old) (length old.rows.items) h.counted in
     record { steps_few = omega (arith, most_steps, h.within); rows_few = omega (arith, most_rows, h.within); each = each }
 
--- the counts behind a step that is counted
+-- the counts after a step that is counted
 pub few_stepped : (listed : ℕ → List Sym) (g : Table) (ended : Bool) (bytes : List ℕ) (old new : Parse) → IsParsing listed g ended bytes old → new.steps ≡ old.steps + 1 → length new.rows.items ≤ length old.rows.items + 1 → AreFew new.steps (length new.rows.items) (length bytes)
 few_stepped listed g ended bytes old new h s r = few_more listed g ended bytes old new.steps (length new.rows.items) h (omega arith) r (omega (arith, h.counted.each))
 

@@ -92,7 +92,7 @@ step_close g ended bytes steps at i stack rows h =
       counted = subst (λ n. IsCounted g (steps + 1) at stack n) (sym (length-closed rows i at (length rows))) (drop_entry g steps at (Close i) stack (length rows) counted (no_chains_closed g counted.chains i stack counted.stands));
     }
 
--- reading goes on behind the next bytes
+-- reading goes on after the next bytes
 goes_on : {count : ℕ} (g : Table) (ended : Bool) (bytes : List ℕ) (at : ℕ) (c rest : List ℕ) (es : List Entry) (rows : List Row) → Cut bytes at c rest → IsReading g count ended (take at bytes ++ c) rest es rows → IsReading g count ended (take (at + length c) bytes) (drop (at + length c) bytes) es rows
 goes_on {count = count} g ended bytes at c rest es rows k r =
     subst (λ u. IsReading g count ended u (drop (at + length c) bytes) es rows) (sym k.front) (subst (λ u. IsReading g count ended (take at bytes ++ c) u es rows) (sym k.back) r)
@@ -398,7 +398,7 @@ pub all_begins : (g : Table) (lawful : IsLawful g) (ended : Bool) (bytes : List 
 all_begins g lawful ended bytes steps at stack rows h le =
     subst (λ u. BeginsWellShaped g u) (take_all at bytes le) (begins_here g lawful ended (take at bytes) (drop at bytes) stack rows h.reading)
 
--- all bytes behind those that are read begin a token
+-- all bytes after those that are read begin a token
 pub token_waits : (g : Table) (lawful : IsLawful g) (ended : Bool) (bytes : List ℕ) (steps at : ℕ) (x : Sym) (stack : List Entry) (rows : List Row) (c rest : List ℕ) → IsParse g ended bytes steps at (Symbol x ∷ stack) rows → BeginsToken g x c → drop at bytes ≡ c ++ rest → length bytes ≤ at + length c → BeginsWellShaped g bytes
 token_waits g lawful ended bytes steps at x stack rows c rest h begun split le =
     let piece = cut bytes at c rest h.within split in

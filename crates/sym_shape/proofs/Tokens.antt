@@ -65,7 +65,7 @@ one_token g x s t v w p q after_s after_t e =
         let follows = follows_not g x w after_t h in
         cc (clash, follows))
 
--- the longest token that stands here is the only one, whatever comes behind what is known
+-- the longest token that is here is the only one, whatever comes after what is known
 pub settled : (g : Table) (ended : Bool) (x : Sym) (t : Token) (q : List ℕ) → IsToken g.names x t → (q ≡ [] → ended ≡ true) → ((other : Token) (behind : List ℕ) → IsToken g.names x other → bytes_of t ++ q ≡ bytes_of other ++ behind → length (bytes_of other) ≤ length (bytes_of t)) → (w v : List ℕ) (other : Token) → Agrees ended q w → IsToken g.names x other → MayFollow g x v → bytes_of other ++ v ≡ bytes_of t ++ w → other ≡ t
 settled g ended x t q is told longest w v other agrees is_other after e =
     elim (compared (bytes_of other) (bytes_of t) v w e) [

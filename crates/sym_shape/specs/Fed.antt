@@ -50,7 +50,7 @@ abbrev pub is_answer : Result Bool Refusal → Bool
 is_answer (Ok more) = more
 is_answer (Err refusal) = true
 
--- the first bad byte is known: of these bytes once the end is told, before that whatever comes behind them
+-- the first bad byte is known: of these bytes once the end is told, before that whatever comes after them
 abbrev pub IsMalformedSoFar : Table → Bool → List ℕ → ℕ → Type 0
 IsMalformedSoFar g true bytes at = IsMalformed g bytes at
 IsMalformedSoFar g false bytes at = (more : List ℕ) → IsMalformed g (bytes ++ more) at

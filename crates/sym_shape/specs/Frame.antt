@@ -8,7 +8,7 @@ use Rattle.sym_shape.specs.Listing.{StandsAt}
 use Rattle.sym_shape.specs.Table.{symbols_of}
 use Rattle.sym_shape.specs.Reading.{Entry, Close, entries_of, open_row, place_behind}
 
--- the frame behind its next symbol
+-- the frame after its next symbol
 abbrev pub passed : Frame → Frame
 passed frame = record frame { place = frame.place + 1 }
 
@@ -29,7 +29,7 @@ unfolded listed frame (f ∷ fs) = entries_of (listed frame.place) ++ Close fram
 abbrev pub HasLast : List Frame → Frame → Type 0
 HasLast frames frame = (front : List Frame) × (frames ≡ front ++ frame ∷ [])
 
--- A rule is taken behind whose kind the top frame goes on: its frame is then on top, or it is a leaf, whose row has ended.
+-- A rule is taken after whose kind the top frame goes on: its frame is then on top, or it is a leaf, whose row has ended.
 abbrev pub IsTaken : Rule → ℕ → Frame → ℕ → List Frame → List Row → Frame → List Frame → List Row → Type 0
 IsTaken rule place top at below rows frame deeper made =
     ((deeper ≡ below ++ top ∷ []) × (frame ≡ rule_frame place (length rows)) × (made ≡ rows ++ open_row rule at at 0 ∷ []) × (0 < length (symbols_of rule)))

@@ -33,7 +33,7 @@ abbrev pub comes_next : Table → ℕ → List Sym → ℕ → Bool
 comes_next g k [] b = g.after k b
 comes_next g k (x ∷ xs) b = begins g x b || (can_be_empty g x && comes_next g k xs b)
 
--- behind each symbol of a rule of kind k there comes only what may
+-- after each symbol of a rule of kind k there comes only what may
 abbrev pub KeepsAfter : Table → ℕ → List Sym → Type 0
 KeepsAfter g k [] = ⊤
 KeepsAfter g k (x ∷ xs) = ((b : ℕ) → b < 256 → comes_next g k xs b ≡ true → may_follow g x b ≡ true) × KeepsAfter g k xs

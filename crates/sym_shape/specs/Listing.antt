@@ -5,8 +5,8 @@ use Rattle.sym_shape.specs.declared.listing.TheConstants.{FIRST, BLANK}
 use Rattle.sym_shape.specs.declared.rule.Sym.{Sym}
 use Rattle.sym_shape.specs.declared.rule.Sym.TheVariants.{Kind, Name, Number, Byte}
 
--- Where `listed` are those symbols that stand from a place on, to the end of their rule: the symbol stands there, and
--- behind it the others.
+-- Where `listed` are those symbols that are from a place on, to the end of their rule: the symbol is there, and
+-- after it the others.
 pub record StandsAt (listed : ℕ → List Sym) (place : ℕ) (x : Sym) : Type 0 where
   pub left : listed place ≡ x ∷ listed (place + 1)
   pub room : place < 65535
@@ -24,11 +24,11 @@ up_to_end (Number kind ∷ xs) = Number kind ∷ up_to_end xs
 abbrev pub listed_in : List Sym → ℕ → List Sym
 listed_in symbols place = up_to_end (drop place symbols)
 
--- the letter that stands at a place of a row, if one does
+-- the letter that is at a place of a row, if one is
 unfoldable pub unless_blank : Option ℕ → Option ℕ
 unless_blank None = None
 unless_blank (Some letter) = cond (nat_eq letter BLANK) None (Some letter)
 
--- the letter of a row that stands below a byte: a row begins at `$`
+-- the letter of a row that is below a byte: a row begins at `$`
 unfoldable pub letter_below : List ℕ → ℕ → Option ℕ
 letter_below row byte = cond (nat_lt byte FIRST) None (unless_blank (slice_get row (byte - FIRST)))

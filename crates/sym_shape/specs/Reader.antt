@@ -19,7 +19,7 @@ use Rattle.sym_shape.specs.Frame.{unfolded}
 abbrev pub ReadsToken : NameClass → Sym → List ℕ → ℕ → TokenPlace → Type 0
 ReadsToken names x q at place = HasToken (IsToken names x) q at place
 
--- no token of the symbol stands at the front of q, and this is the length of the longest front that begins one
+-- no token of the symbol is at the front of q, and this is the length of the longest front that begins one
 abbrev pub BreaksToken : NameClass → Sym → List ℕ → ℕ → Type 0
 BreaksToken names x q size = HasNoToken (IsToken names x) q size
 
@@ -27,17 +27,17 @@ BreaksToken names x q size = HasNoToken (IsToken names x) q size
 abbrev pub FindsToken : NameClass → Sym → List ℕ → ℕ → Result TokenPlace ℕ → Type 0
 FindsToken names x bytes at found = Finds (IsToken names x) bytes at found
 
--- a token of the symbol stands at a place, and what comes behind it is known
+-- a token of the symbol is at a place, and what comes after it is known
 abbrev pub IsWholeToken : NameClass → Sym → Bool → List ℕ → ℕ → TokenPlace → Type 0
 IsWholeToken names x ended bytes at place = ReadsToken names x (drop at bytes) at place × IsKnown ended bytes place.end
 
--- the kind takes the rule at the byte that stands at the place
+-- the kind takes the rule at the byte that is at the place
 pub record HasRule (g : Table) (k : ℕ) (bytes : List ℕ) (at : ℕ) (rule : Rule) : Type 0 where
   pub byte : ℕ
   pub stands : IsByteAt bytes at byte
   pub chosen : g.rule k byte ≡ Some rule
 
--- the kind takes no rule at the byte that stands at the place, if one does
+-- the kind takes no rule at the byte that is at the place, if one is
 abbrev pub HasNoRule : Table → ℕ → List ℕ → ℕ → Type 0
 HasNoRule g k bytes at = at < length bytes → g.rule k (get_or bytes at 0) ≡ None
 

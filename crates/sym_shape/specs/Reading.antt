@@ -36,7 +36,7 @@ closed (row ∷ rows) (suc i) at end = row ∷ closed rows i at end
 abbrev pub open_row : Rule → ℕ → ℕ → ℕ → Row
 open_row rule at to end = record { rule = rule.number; from = at; to = to; end = end }
 
--- behind the byte that a rule takes, or at the same place
+-- after the byte that a rule takes, or at the same place
 abbrev pub place_behind : Rule → ℕ → ℕ
 place_behind rule at = if rule.eats then at + 1 else at
 
@@ -77,7 +77,7 @@ abbrev pub first_of : Table → List Sym → ℕ → Bool
 first_of g [] b = false
 first_of g (x ∷ xs) b = begins g x b || (can_be_empty g x && first_of g xs b)
 
--- behind each symbol there comes only what may
+-- after each symbol there comes only what may
 abbrev pub IsFollowed : Table → List Sym → Type 0
 IsFollowed g [] = ⊤
 IsFollowed g (x ∷ xs) = ((b : ℕ) → b < 256 → first_of g xs b ≡ true → may_follow g x b ≡ true) × IsFollowed g xs
@@ -95,7 +95,7 @@ IsCompleted g p w rows steps = (tree : Tree) × IsTree g (Kind 0) tree × (spell
 abbrev pub Spell : Table → List Sym → List ℕ → Type 0
 Spell g xs w = (f : Forest) × AreTrees g xs f × (spell_all f ≡ w)
 
--- the byte stands at the place
+-- the byte is at the place
 pub record IsByteAt (bytes : List ℕ) (at byte : ℕ) : Type 0 where
   pub within : at < length bytes
   pub is : get_or bytes at 0 ≡ byte

@@ -19,6 +19,6 @@ room_of parse = record { rows = vec_capacity parse.rows; rules = vec_capacity pa
 abbrev pub KeepsRoom : (old new : Room) → Type 0
 KeepsRoom old new = (old.rows ≤ new.rows) × (old.rules ≤ new.rules)
 
--- behind so many rows and rules there was no room for so many more rows, or for one more rule
+-- after so many rows and rules there was no room for so many more rows, or for one more rule
 abbrev pub LacksRoom : (more : ℕ) → Room → (rows rules : ℕ) → Type 0
 LacksRoom more room rows rules = (room.rows < rows + more) ⊎ (room.rules < rules + 1)

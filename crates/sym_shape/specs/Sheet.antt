@@ -143,7 +143,7 @@ module _ (blank : KindSheet) (sheet : List KindSheet) (names : NameClass) where
   is_lawful_choice kind c =
       nat_le c.rule.count 5 && nat_lt c.rule.number TOKEN && are_known (symbols_of c.rule) && keeps_after kind (symbols_of c.rule) && (c.rule.eats || is_chain kind c (symbols_of c.rule))
 
-  -- each choice is lawful, and shares no byte with those behind it
+  -- each choice is lawful, and shares no byte with those after it
   abbrev pub are_lawful_choices : KindSheet → List Choice → Bool
   are_lawful_choices kind [] = true
   are_lawful_choices kind (c ∷ cs) = is_lawful_choice kind c && are_apart (classes_of c) (begin_ranges cs) && are_lawful_choices kind cs

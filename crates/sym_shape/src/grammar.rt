@@ -18,10 +18,10 @@ pub trait Grammar {
     /// The grammar, which depends on the type alone.
     ghost table: { Table };
 
-    /// For each place of the list those symbols that stand from there on, to the end of their rule.
+    /// For each place of the list those symbols that are from there on, to the end of their rule.
     ghost listed: { ℕ → List Sym };
 
-    /// At the first place stands the start kind alone.
+    /// At the first place is the start kind alone.
     ghost start: { listed 0 ≡ Kind 0 ∷ [] };
 
     /// The rule that a kind takes at a byte.
@@ -29,7 +29,7 @@ pub trait Grammar {
         requires { kind < table.kinds }
         ensures { result ≡ table.rule kind byte };
 
-    /// Where the symbols of that rule stand in the grammar's list of symbols.
+    /// Where the symbols of that rule are in the grammar's list of symbols.
     fn place(&self, kind: u16, byte: u8) -> u32
         requires { kind < table.kinds }
         ensures { IfSome (table.rule kind byte) (λ rule. listed result ≡ symbols_of rule) };

@@ -10,10 +10,10 @@ const FIRST: u8 = b'$';
 /// The byte at which it ends.
 const LAST: u8 = b'z';
 
-/// What stands in a row where no rule is taken.
+/// What is in a row where no rule is taken.
 const BLANK: u8 = b' ';
 
-/// What stands in a list of symbols behind those of a rule. So no rule of a list has a byte 0 among its symbols.
+/// What is in a list of symbols after those of a rule. So no rule of a list has a byte 0 among its symbols.
 pub const END: Sym = Sym::Byte(0);
 
 /// The symbols of rules in one list: each rule's in six places, of which the last ones are ends, and before them the start
@@ -28,7 +28,7 @@ macro_rules! symbols_listed {
     };
 }
 
-/// The letter of a row that stands below a byte: rows go from `$` to `z`, and no rule is taken at another byte.
+/// The letter of a row that is below a byte: rows go from `$` to `z`, and no rule is taken at another byte.
 #[inline(always)]
 pub fn letter_in(row: &[u8; 87], byte: u8) -> Option<u8>
     ensures { result ≡ letter_below row.now byte }
@@ -52,7 +52,7 @@ pub fn place_of(number: usize) -> usize
     number * 6 + 6
 }
 
-/// The five symbols that stand in a list from a place on.
+/// The five symbols that are in a list from a place on.
 #[inline(always)]
 pub fn symbols_from(symbols: &[Sym], place: usize) -> [Sym; 5]
     requires { place + 5 ≤ length symbols.now }

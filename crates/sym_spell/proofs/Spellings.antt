@@ -10,7 +10,7 @@ joined : {C : Type 0} (xs ys : List ℕ) (h : Pressing C) (cs : List C) (p q : �
     → ◌≡◌ {A = Pressed C} (record { bytes = (xs ++ ys) ++ (h p cs).bytes; components = (h p cs).components }) (record { bytes = xs ++ (ys ++ (h q cs).bytes); components = (h q cs).components })
 joined xs ys h cs p q same = rw (same, append_assoc xs ys (h q cs).bytes) refl
 
--- one behind the other, at a place
+-- one after the other, at a place
 pub and-assoc-at : {C : Type 0} (f g h : Pressing C) (place : ℕ) (cs : List C) → ((f and g) and h) place cs ≡ (f and (g and h)) place cs
 and-assoc-at f g h place cs =
     let a = f place cs in

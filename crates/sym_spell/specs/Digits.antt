@@ -35,7 +35,7 @@ digits_of base value = digits_in base (digit_in base) 40 value
 abbrev pub IsBase : ℕ → Type 0
 IsBase base = (base ≡ 10) ⊎ ((base ≡ 16) ⊎ ((base ≡ 36) ⊎ (base ≡ 62)))
 
--- The digits of what is left, and those that are written behind them, are the digits of the number.
+-- The digits of what is left, and those that are written after them, are the digits of the number.
 pub record AreWritten (base value rest from : ℕ) (digits : List ℕ) : Type 0 where
   pub long : length digits ≡ 20
   pub within : from ≤ 20

@@ -6,7 +6,7 @@ pub record Pressed (C : Type 0) : Type 0 where
   pub bytes : List ℕ
   pub components : List C
 
--- a spelling from a place on, behind these components
+-- a spelling from a place on, after these components
 abbrev pub Pressing : Type 0 → Type 0
 Pressing C = (place : ℕ) → List C → Pressed C
 

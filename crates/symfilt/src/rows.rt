@@ -4,7 +4,7 @@ use std::test::Fail;
 use sym_command::Run;
 use symfilt_command::run;
 
-/// Options and symbols, with the line that is answered and what is complained of. What symbols are answered stands in the
+/// Options and symbols, with the line that is answered and what is complained of. What symbols are answered is in the
 /// rows of crates/check_rows; these show that options come to the calls.
 static ROWS: [(&str, &str, &str, &str); 21] = [
     ("--limit=6", "_Z1fv", "f()", ""),

@@ -69,7 +69,7 @@ fn cuts_once_at_each_byte(rt: HostRuntime) {
     }
 }
 
-/// A beginning, and behind it `i` up to a length.
+/// A beginning, and after it `i` up to a length.
 fn long(alloc: Global, begins: &[u8], length: usize) -> Result<Vec<u8>, AllocError> {
     let mut text = Vec::from_slice(alloc, begins)?;
     text.resize(length, b'i')?;
@@ -153,7 +153,7 @@ fn answers_words(rt: HostRuntime) -> Result<(), Fail> {
     Ok(())
 }
 
-/// The calls of which one fails behind so many that move at most a thousand bytes.
+/// The calls of which one fails after so many that move at most a thousand bytes.
 fn calls_with(good: usize, failure: Call) -> [Call; 16] {
     let mut calls = [Call::Moves(1_000); 16];
     if good < 16 {

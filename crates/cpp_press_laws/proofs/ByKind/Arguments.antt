@@ -148,7 +148,7 @@ address-branch rule taken parts all around at old v new front is e =
     go (inl o) = address around at old v new o
     go (inr none) = absurd none
 
--- as an argument, behind the X
+-- as an argument, after the X
 address-expression : (around : Around) (at : ℕ) (old : State) (v : Value) (new : State) → around.prefix ≡ outermost
     → OpenedRead Kind.ExpressionRest around at old v new Production.AddressExpression → KindFits Kind.ExpressionRest around v old new
 unfolding parts_of between meaning part unfolding_.behind number_of_kind

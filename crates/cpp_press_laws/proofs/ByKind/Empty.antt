@@ -1,4 +1,4 @@
--- What is read where nothing stands, as a kind that may be empty.
+-- What is read where nothing is, as a kind that may be empty.
 use Rattle.std.proofs.Common.{◌≡◌, [], ◌∷◌, inl, true, false, refl, subst, sym, ◌∙◌}
 use Rattle.std.proofs.lemmas.Bool.{false≢true}
 use Rattle.sym_shape.specs.Tree.{empty}

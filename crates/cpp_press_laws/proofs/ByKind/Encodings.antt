@@ -62,7 +62,7 @@ after-append : (encoding : ℕ) (cs ds : List Candidate) → AllAfter encoding c
 after-append encoding [] ds one other = other
 after-append encoding (c ∷ cs) ds one other = (one.0, after-append encoding cs ds one.1 other)
 
--- what was read inside an encoding stays behind where it begins
+-- what was read inside an encoding stays after where it begins
 stays-behind : (around inner : Around) (at end : ℕ) (old new : State) → around.encoding < at → inner.encoding ≡ at
     → AllOld false around at old.candidates → Grows false inner end old new → StaysBehind around at old new
 stays-behind around inner at end old new less is before grows = record {
@@ -84,7 +84,7 @@ stays-further around inner at end old mid new less is one grows = record {
 
 -- ## Parts of an encoding
 
--- in front of a part of an encoding's name
+-- before a part of an encoding's name
 name-front : (x : Sym) (around : Around) (at from : ℕ) (state : State) → around.encoding < at → at ≤ from → holds_encoding x ≡ false
     → AllOld false around at state.candidates → InFront x (in_name at) from state
 unfolding in_name
@@ -123,7 +123,7 @@ part-came x around from state shape v new small front is e =
       old = old_grows false around from later state new (omega arith) front.placed.old came.grows;
     }
 
--- what holds of a production's meaning, and the state behind it, holds of what it came to
+-- what holds of a production's meaning, and the state after it, holds of what it came to
 ended-read : (P : Value → State → Type 0) (p : Production) (byte : ℕ) (around : Around) (old : State) (vs : List Value) (mid : State)
     (v : Value) (new : State) → Ended p byte around old vs mid v new → P (Meant p byte around vs) (Later p byte around old vs mid) → P v new
 ended-read P p byte around old vs mid v new e one = subst (λ w. P w new) (sym e.comes) (subst (P (Meant p byte around vs)) (sym e.ends) one)
@@ -221,7 +221,7 @@ guard-read around at old v new front o =
     o.comes)
     (subst (λ w. EncodingRead around w old h.after) (sym guard.1) (record { is = refl; value = refl; fits = whole }))
 
--- what stands behind a T is an encoding
+-- what follows a T is an encoding
 special-encoding : (around : Around) (at : ℕ) (v : Value) (old new : State) → StaysBehind around at old new
     → SpecialRead (in_name at) v old new → EncodingRead around v old new
 unfolding is_encoding tree_of
@@ -261,7 +261,7 @@ encoding-branch rule taken parts all around at old v new front is e =
     go (inr (inr (inl o))) = function-read around at old v new front o
     go (inr (inr (inr none))) = absurd none
 
--- ## What stands behind a G
+-- ## What comes after a G
 
 only-v : (byte : ℕ) → choose Kind.SpecialAfterG byte ≡ Some Production.SpecialName → byte ≡ 86
 unfolding choose alternatives pick is_in in_ranges among
@@ -294,7 +294,7 @@ special-after-g-branch rule taken parts all around at old v new front is e =
     go (inl o) = special-name-read around at old v new o
     go (inr none) = absurd none
 
--- ## What stands behind a T
+-- ## What comes after a T
 
 -- a type's table and the like
 special-type-read : (around : Around) (at : ℕ) (old : State) (v : Value) (new : State)
@@ -314,7 +314,7 @@ special-type-read around at old v new o outer =
       g.read Kind.Type refl out,
     )) outer
 
--- an encoding behind offsets, which leave the state as it is
+-- an encoding after offsets, which leave the state as it is
 thunk-read : (around : Around) (kind : Thunk) (v : Value) (old mid new : State) → IsSpellableThunk kind → mid ≡ old
     → EncodingRead around v mid new → SpecialRead around (tree (thunk kind (tree_of v)) true) old new
 thunk-read around kind v old mid new good same one =
@@ -363,7 +363,7 @@ covariant-read around at old v new o outer =
     (λ out. thunk-read around (covariant (adjustment_of a.value) (adjustment_of b.value)) e.value old b.after e.after (this.1, result.1)
     (result.0 ∙ this.0) (e.read Kind.Encoding refl)) outer
 
--- what stands behind a T, where its parts were read so
+-- what follows a T, where its parts were read so
 pub special-branch : BranchRead Kind.Special
 unfolding alternatives
 special-branch rule taken parts all around at old v new front is e =

@@ -28,7 +28,7 @@ use Rattle.cpp_press_laws.proofs.ByKind.Pieced.{PieceRead, renamed, source-comes
 
 -- ## Entities and their discriminators
 
--- an entity behind its encoding, with a discriminator or none, which leave the state as it is
+-- an entity after its encoding, with a discriminator or none, which leave the state as it is
 local-name : (around : Around) (e entity d : Value) (old mid from late new : State) → EncodingRead around e old mid → from ≡ mid
     → EntityFits (after (tree_of e) true around) (tree_of entity) (in_name_with (qualifiers_of entity) (ref_of entity)) from late
     → new ≡ late → IsSpellableDiscriminator (discriminator_of d)
@@ -149,7 +149,7 @@ string-read around at old v new o e is scoped =
 
 -- ## Entities of one piece
 
--- a role in which names of one piece stand
+-- a role in which names of one piece appear
 record TakesPieces (role : Role) : Type 0 where
   pub none : letters_of role ≡ []
   pub takes : (p : Term) → begins_name p ≡ true → names_in role p ≡ true

@@ -53,7 +53,7 @@ abbrev pub MarkRead : Kind → Value → (old new : State) → Type 0
 MarkRead kind v old new =
     (new ≡ old) × (v ≡ letter (letter_of v)) × (letter_of v < 256) × (choose kind (letter_of v) ≡ Some Production.Mark)
 
--- behind an l: a letter, or the name of a literal operator
+-- after an l: a letter, or the name of a literal operator
 abbrev pub LiteralOperatorRead : Value → (old new : State) → Type 0
 LiteralOperatorRead v old new =
     MarkRead Kind.OperatorAfterL v old new
@@ -65,7 +65,7 @@ pub record EncodingRead (around : Around) (v : Value) (old new : State) : Type 0
   pub value : v ≡ tree (tree_of v) true
   pub fits : WholeFits around (tree_of v) old new
 
--- an encoding behind a T, but for the T
+-- an encoding after a T, but for the T
 abbrev pub SpecialRead : Around → Value → (old new : State) → Type 0
 SpecialRead around v old new =
     ((l : ℕ) × (type : Term) × (v ≡ tree (special l type) true) × (l < 256) × (choose Kind.Special l ≡ Some Production.SpecialType)
@@ -81,8 +81,8 @@ abbrev pub GuardRead : Around → Value → (old new : State) → Type 0
 GuardRead around v old new =
     (name : Value) × (v ≡ tree (of_name 86 (tree_of name) (qualifiers_of name) (ref_of name)) true) × OwnNameRead around name old new
 
--- What is known of what was read as a kind. Types and lists begin where nothing is named so far; each further part of a name stands
--- behind the name so far, which began at `start`.
+-- What is known of what was read as a kind. Types and lists begin where nothing is named so far; each further part of a name comes
+-- after the name so far, which began at `start`.
 abbrev pub KindRead : Kind → Around → Value → (old new : State) → Type 0
 KindRead Kind.Symbol around v old new = Unit {0}
 KindRead Kind.MaybeSuffix around v old new = (new ≡ old) × IsSpellableSuffix (text_of v)
@@ -163,7 +163,7 @@ KindRead kind around v old new = around.prefix ≡ outermost → KindFits kind a
 
 -- ## Where it was read
 
--- what is known in front of a part
+-- what is known before a part
 pub record InFront (x : Sym) (around : Around) (at : ℕ) (state : State) : Type 0 where
   pub placed : Placed around at state
   pub opening : holds_encoding x ≡ true → around.encoding < at
@@ -183,7 +183,7 @@ SymbolRead Name around v old new = (new ≡ old) × (v ≡ text (text_of v)) × 
 SymbolRead (Number kind) around v old new = (new ≡ old) × (v ≡ text (text_of v)) × AreDigitsOf kind (text_of v)
 SymbolRead (Byte b) around v old new = (new ≡ old) × (v ≡ nothing_there)
 
--- a part that was read in its surroundings, and what follows behind its value
+-- a part that was read in its surroundings, and what follows after its value
 pub record PartRead (x : Sym) (f : Forest) (from : ℕ) (next : Next Value State Around) (rest : Forest → List Value → ℕ → State → Type 0) :
     Type 0 where
   pub shape : Shape
@@ -197,7 +197,7 @@ pub record PartRead (x : Sym) (f : Forest) (from : ℕ) (next : Next Value State
   pub read : SymbolRead x next.context value next.state after
   pub onward : rest others (next.values ++ value ∷ []) (from + length (spell shape)) after
 
--- the parts of a production that begins at a place, behind parts with these values; they come to this value
+-- the parts of a production that begins at a place, after parts with these values; they come to this value
 abbrev pub PartsRead : Production → (byte : ℕ) → Around → (place : ℕ) → (old : State) → Value → (new : State) → List Sym → Forest
     → List Value → (from : ℕ) → State → Type 0
 PartsRead p byte around place old v new [] f vs from state = close p byte around place old vs state ≡ Ok (found v new)
@@ -249,7 +249,7 @@ unfolding are_small
 small-symbols [] h = tt
 small-symbols (x ∷ xs) h = let both = and_parts (is_small x) (are_small xs) h in (small-symbol x both.0, small-symbols xs both.1)
 
--- an encoding stands behind a byte
+-- an encoding comes after a byte
 behind-a-byte : (p : Production) → is_chain p && has_encoding (parts_of p) ≡ false
 unfolding is_chain parts_of has_encoding holds_encoding number_of_kind
 behind-a-byte Production.Mark = refl
@@ -279,7 +279,7 @@ bare-argument around place k state n bare e =
     let b = behind_bind (parameter_named around place k state) (argument-next around k state) n e in
     bare-next around (tree (parameter k) true ∷ []) (record b.value { candidates = state.candidates }) n bare b.next
 
--- a lambda's signature has no scope, nor has what stands in one
+-- a lambda's signature has no scope, nor has what is in one
 lambdas-go : (p : Production) (around : Around) (place : ℕ) (vs : List Value) (state : State) (n : Next Value State Around)
     → LambdasAreBare around → between p around place vs state ≡ Ok n → LambdasAreBare n.context
 unfolding between piece_so_far named_so_far listed_so_far tag_so_far after inside in_signature in_name in_types under_expansion
@@ -353,7 +353,7 @@ symbol-read (Number kind) t holds around at state v new front is e =
     let r = number-read kind t around at state new v is e in (r.0, r.1.0, r.1.1)
 symbol-read (Byte b) t holds around at state v new front is e = byte-read b t around at state new v is e
 
--- what follows behind each part is known as the part is
+-- what follows after each part is known as the part is
 parts-read : (p : Production) (byte : ℕ) (around : Around) (place : ℕ) (old : State) (v : Value) (new : State) → StaysInside p
     → LambdasAreBare around → GoodPrefix (Bare false around) around.prefix → (inner : Found (List Value) State)
     → close p byte around place old inner.value inner.state ≡ Ok (found v new)
@@ -441,7 +441,7 @@ empty-byte : (taken : List ℕ) (chains : Bool) (byte : ℕ) → taken ≡ cond 
 empty-byte taken true byte takes is = absurd (true≢false is)
 empty-byte taken false byte takes is = omega (arith, ap length takes)
 
--- a part that is an encoding stands behind the byte of its production
+-- a part that is an encoding comes after the byte of its production
 behind-taken : (p : Production) (taken : List ℕ) (byte : ℕ) → taken ≡ cond (is_chain p) [] (byte ∷ []) → has_encoding (parts_of p) ≡ true
     → 0 < length taken
 behind-taken p taken byte takes has = go (is_chain p) refl (behind-a-byte p)
@@ -517,7 +517,7 @@ unfolding close
 closes-plain Production.Substitution plain byte around at old vs mid = absurd plain
 closes-plain _ plain byte around at old vs mid = refl
 
--- what holds of a production's meaning, and the state behind it, holds of what it came to
+-- what holds of a production's meaning, and the state after it, holds of what it came to
 pub comes-as : (P : Value → State → Type 0) (p : Production) → IsPlain p
     → (byte : ℕ) (around : Around) (at : ℕ) (old : State) (vs : List Value)
     (mid : State) (v : Value) (new : State) → close p byte around at old vs mid ≡ Ok (found v new)

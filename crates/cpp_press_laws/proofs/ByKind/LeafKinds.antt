@@ -99,7 +99,7 @@ letter-read kind only full =
 
 -- ## Tokens and fixed bytes
 
--- a byte that always stands there
+-- a byte that is always there
 pub byte-read : (byte : ℕ) (t : Shape) → LeafAs (Byte byte) (λ v. v ≡ nothing_there) t
 unfolding cpp
 byte-read byte (fixed b) around at state after v is e =
@@ -321,7 +321,7 @@ discriminator-read empty around at state after v is e =
 discriminator-read (token t) around at state after v is e = absurd is
 discriminator-read (fixed b) around at state after v is e = absurd is
 
--- ## Behind an l
+-- ## After an l
 
 -- a letter, or the name of a literal operator
 abbrev pub LiteralLetterRead : Value → Type 0

@@ -39,7 +39,7 @@ leaf-same Q v w state s e q = (ap (λ r. r.state) e, subst Q (sym (ap (first-or 
 digit-small : (b : ℕ) → is_digit_of Length b ≡ true → b ≤ 57
 digit-small b h = grind (arith, nat_tests)
 
--- one more than what so many digits stand for at most, behind a number below k
+-- one more than what so many digits stand for at most, after a number below k
 unfoldable grown_by : ℕ → List ℕ → ℕ
 grown_by k [] = k
 grown_by k (d ∷ ds) = grown_by (k * 10) ds

@@ -75,7 +75,7 @@ arguments-alone-branch rule taken parts all around at old v new front is e =
     go (inl o) = inr (arguments-come Kind.ArgumentsAlone around at old v new o)
     go (inr none) = absurd none
 
--- ## Types behind an S
+-- ## Types after an S
 
 std-name : (around : Around) (p : Term) (old new : State) → names_function p ≡ true → PieceFits around p old new
     → NameRead around (tree (in_std p) false) old new
@@ -87,7 +87,7 @@ std-name around p old new names one =
       before = λ a now other. (std-template around p old new between_).before true a now other;
     }
 
--- no tag stands behind it
+-- no tag comes after it
 std-type : (around : Around) (at : ℕ) (old : State) (v : Value) (new : State)
     → OpenedRead Kind.TypeInStd around at old v new Production.TaggedStdType → NameRead around v old new
 unfolding parts_of number_of_kind between named_so_far applied is_there tree_of meaning part unfolding_.behind
@@ -174,7 +174,7 @@ parameter-solid takes kind around at old v new front outer o =
     (b.read Kind.ArgumentsAlone refl)))
     a.onward
 
--- a parameter as an argument, behind the T
+-- a parameter as an argument, after the T
 parameter-argument : (around : Around) (at : ℕ) (old : State) (v : Value) (new : State)
     → InFront (OfKind (number_of_kind Kind.ArgumentAfterT)) around at old
     → OpenedRead Kind.ArgumentAfterT around at old v new Production.ParameterArgument → SolidFits takes_all around v old new
@@ -278,7 +278,7 @@ with-s-own around at old v new outer o =
     a.onward
     (a.read Kind.NameAfterS refl outer)
 
--- behind an S
+-- after an S
 std-name-own : (around : Around) (at : ℕ) (old : State) (v : Value) (new : State)
     → OpenedRead Kind.NameAfterS around at old v new Production.StdName → OwnNameRead around v old new
 unfolding parts_of number_of_kind between named_so_far tree_of qualifiers_of ref_of meaning part unfolding_.behind

@@ -1,4 +1,4 @@
--- Names between N and E that were read, part by part: what is read behind the name so far makes a name that fits in each of its ways.
+-- Names between N and E that were read, part by part: what is read after the name so far makes a name that fits in each of its ways.
 use Rattle.std.proofs.Common.{◌≡◌, ℕ, ◌+◌, inl, inr, length, [], ◌∷◌, Bool, true, false, Result, Ok, Err, refl, sym, subst}
 use Rattle.sym_core.specs.declared.refusal.Refusal.{Refusal}
 use Rattle.sym_shape.specs.declared.rule.Sym.TheVariants.{Kind as OfKind}
@@ -28,7 +28,7 @@ use Rattle.cpp_press_laws.proofs.ByKind.Rules.{OneOf, OnGoing}
 use Rattle.cpp_press_laws.proofs.ByKind.Known.{KindRead, PartRead, PartsRead, OpenedRead, opened-read, comes-as, BranchRead}
 use Rattle.cpp_press_laws.proofs.ByKind.Pieced.{PieceRead, renamed, name-piece, source-comes, internal-comes, local-type-comes, other-operator-comes, operator-with-c-comes, constructor-comes, destructor-comes}
 
--- ## Behind a name
+-- ## After a name
 
 -- nothing more
 nest-end : (outer : Around) (t : Term) (start : State) (at : ℕ) (old : State) (v : Value) (new : State) → NestFits outer t start old
@@ -38,7 +38,7 @@ nest-end outer t start at old v new nest o =
     comes-as (λ w s. NestRead outer w start s) Production.NestEnd tt (byte_of o.taken) (after t false outer) at old [] old v new (o.goes tt)
     (refl, nest)
 
--- a further piece behind what fits as a prefix
+-- a further piece after what fits as a prefix
 nest-next : (kind : Kind) (outer : Around) (t : Term) (listed : Bool) (start : State) (at : ℕ) (old : State) (v : Value) (new : State)
     → Wherever outer start (is_encoding t ≡ false) → PrefixFits outer t start (with_prefix (after t listed outer) old)
     → OpenedRead kind (after t listed outer) at old v new Production.NestNext → NestRead outer v start new
@@ -141,7 +141,7 @@ nest-rest-alone-branch rule taken parts all around at old v new front is e outer
     go (inr (inl o)) = nest-next Kind.NestRestAlone outer t listed start at old v new so_far.apart so_far.prefix o
     go (inr (inr none)) = absurd none
 
--- ## A piece behind a prefix
+-- ## A piece after a prefix
 
 component-piece : (outer : Around) (t : Term) (start old : State) (v : Value) (new : State) → Wherever outer start (is_encoding t ≡ false)
     → PrefixFits outer t start old → PieceRead names_member (after t true outer) v old new → NestRead outer v start new
@@ -205,7 +205,7 @@ component-branch rule taken parts all around at old v new front is e outer t sta
 
 -- ## The first part
 
--- behind a piece: the name so far
+-- after a piece: the name so far
 nest-piece : (around : Around) (p : Term) (old mid : State) (w : Value) (new : State) → BeginsName around → begins_name p ≡ true
     → PieceFits around p old mid → KindRead Kind.NestRest (after (extended around.prefix p) false around) w mid new
     → NestRead around w old new
@@ -256,7 +256,7 @@ nest-local-type around at old v new begins o =
     (tree (extended around.prefix p) false ∷ b.value ∷ []) b.after v new b.onward
     (nest-piece around p old a.after b.value b.after begins one.1 one.2 (b.read Kind.NestRest refl))
 
--- what follows behind a parameter, which was named
+-- what follows after a parameter, which was named
 pub parameter-goes : (around : Around) (at k : ℕ) (state : State) (rest : Next Value State Around → Type 0) (R : Type 0)
     → ((s : State) → ParameterNamed around k state s
     → rest (record { values = tree (parameter k) true ∷ []; context = after (parameter k) true around; state = s }) → R)
@@ -297,7 +297,7 @@ nest-branch rule taken parts all around at old v new front is e begins =
     go (inr (inr (inr (inr (inl o))))) = nest-source around at old v new begins o
     go (inr (inr (inr (inr (inr none))))) = absurd none
 
--- ## Behind an S
+-- ## After an S
 
 nest-std : (around : Around) (at : ℕ) (old : State) (v : Value) (new : State)
     → OpenedRead Kind.NestAfterS around at old v new Production.NestStd → NestRead around v old new

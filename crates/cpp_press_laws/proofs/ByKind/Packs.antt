@@ -101,7 +101,7 @@ parameter-kept around place k state new outside e = go around.scope e
 
 -- ## Parts
 
--- what goes into the next part stands outside of expansions as well
+-- what goes into the next part is outside of expansions as well
 record Outside (state : State) (next : Next Value State Around) : Type 0 where
   expands : next.context.in_expansion ≡ false
   packs : next.state.packs ≡ state.packs

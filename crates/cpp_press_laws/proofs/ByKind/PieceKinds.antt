@@ -33,7 +33,7 @@ use Rattle.cpp_press_laws.proofs.ByKind.LeafKinds.{own-byte, LetterRead, mark-re
 use Rattle.cpp_grammar.proofs.Growing.{same_choice, each_below}
 use Rattle.cpp_press_laws.proofs.ByKind.Known.{MarkRead, OpenedRead, opened-read, taken-as, comes-as, BranchRead}
 
--- a piece of a name, of the sort that stands there
+-- a piece of a name, of the sort that is there
 abbrev PieceAs : (names : Term → Bool) → Around → Value → (old new : State) → Type 0
 PieceAs names around v old new = (names (piece_of v) ≡ true) × PieceFits around (piece_of v) old new
 
@@ -154,7 +154,7 @@ letters-come p kind two around at old v new o w mid mark e =
     (operator-fits around first second old (omega (arith, eaten, o.small)) mark.2 is) in
     subst (λ r. PieceAs names_function around r.value old r.state) means (refl, fits)
 
--- behind an l a literal operator may stand
+-- after an l a literal operator may be
 operator-l : (around : Around) (at : ℕ) (old : State) (v : Value) (new : State)
     → OpenedRead Kind.Operator around at old v new Production.OperatorL
     → PieceAs names_function around v old new
@@ -327,7 +327,7 @@ digits-behind (branch rule taken parts) f own last digits = last digits
 digits-behind empty f own last digits = last digits
 digits-behind (fixed b) f own last digits = last digits
 
--- the same of the parts as they stand in front of the rest
+-- the same of the parts as they come before the rest
 digits-split : (f : Forest) (t : Shape) (others : Forest) (own : List ℕ) → f ≡ grown t others
     → ((digits : List ℕ) → last_token (grown t others) digits ≡ own) → (digits : List ℕ) → last_token f digits ≡ own
 digits-split f t others own same last digits = ap (λ g. last_token g digits) same ∙ last digits

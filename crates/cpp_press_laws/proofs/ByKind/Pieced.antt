@@ -1,4 +1,4 @@
--- What is read as a further piece of a name, with or without arguments behind it.
+-- What is read as a further piece of a name, with or without arguments after it.
 use Rattle.std.proofs.Common.{◌≡◌, ℕ, [], ◌∷◌, Bool, true, false, refl, sym, subst}
 use Rattle.sym_shape.specs.declared.rule.Sym.TheVariants.{Name}
 use Rattle.cpp_grammar.specs.declared.kind.Kind.{Kind}
@@ -17,7 +17,7 @@ use Rattle.cpp_press_laws.proofs.ByKind.Pieces.{source-fits, constructor-fits, d
 use Rattle.cpp_press_laws.proofs.ByKind.PieceKinds.{c-operator-fits}
 use Rattle.cpp_press_laws.proofs.ByKind.Known.{SymbolRead, OpenedRead, comes-as}
 
--- a piece of this sort behind the name so far, and what stands behind it
+-- a piece of this sort after the name so far, and what follows it
 pub record PieceRead (names : Term → Bool) (around : Around) (v : Value) (old new : State) : Type 0 where
   pub piece : Term
   pub named : names piece ≡ true
@@ -141,7 +141,7 @@ other-operator-comes kind around at old v new o =
       later = b.read Kind.MaybeArguments refl;
     })
 
--- an operator, behind its c
+-- an operator, after its c
 pub operator-with-c-comes : (kind : Kind) (around : Around) (at : ℕ) (old : State) (v : Value) (new : State)
     → OpenedRead kind around at old v new Production.OperatorNameWithC → PieceRead names_function around v old new
 unfolding parts_of number_of_kind between piece_so_far named_so_far names_function tree_of meaning part unfolding_.behind

@@ -99,7 +99,7 @@ and-true : (b : Bool) → b && true ≡ false → b ≡ false
 and-true false h = refl
 and-true true h = h
 
--- what stands in the signature of a lambda has no free parameters, and nothing open is made there
+-- what is in the signature of a lambda has no free parameters, and nothing open is made there
 pub signature-fitted : (around : Around) (F : Fitting) (s : ℕ → Spelling) (t whole : Term) (old new : State) (more : List Candidate)
     → is_open whole ≡ is_open t → new.candidates ≡ old.candidates ++ more → ShutOrInside around.encoding more
     → Fitted (in_signature around) F s t old new → Fitted around (λ inner. F (in_signature inner)) s whole old new
@@ -139,7 +139,7 @@ lambda-fits around t k old new more grows shut good one =
     (fitted-bytes around F s end whole old new
     (signature-fitted around ((fits_of t).as_parameters item_type) s t whole old new more refl grows shut one)))
 
--- ## Which pieces stand where
+-- ## Which pieces are where
 
 pub type-begins : (p : Term) → names_type p ≡ true → begins_name p ≡ true
 unfolding names_type begins_name

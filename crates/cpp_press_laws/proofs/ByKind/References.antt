@@ -1,4 +1,4 @@
--- What is read behind an S: an abbreviation, or what a substitution names.
+-- What is read after an S: an abbreviation, or what a substitution names.
 use Rattle.std.proofs.Common.{ℕ, ◌-◌, inl, inr, [], refl, sym, subst}
 use Rattle.sym_core.specs.declared.NumberKind.TheVariants.{Seq36}
 use Rattle.sym_core.specs.Value.{counted_value}

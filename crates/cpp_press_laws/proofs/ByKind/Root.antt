@@ -25,7 +25,7 @@ use Rattle.cpp_press_laws.proofs.Fits.Rests.{symbol-fits}
 use Rattle.cpp_press_laws.proofs.Fits.Symbols.{WholeFits}
 use Rattle.cpp_press_laws.proofs.ByKind.Known.{InFront, ShapeRead, OpenedRead, opened-read, comes-as}
 
--- in front of the first byte
+-- before the first byte
 pub first-front : InFront (OfKind (number_of_kind Kind.Symbol)) first_around 0 first_state
 unfolding first_around first_state number_of_kind holds_encoding
 first-front = record {

@@ -33,7 +33,7 @@ abbrev pub AllOf : (P : Shape → Type 0) → Forest → Type 0
 AllOf P nothing = Unit {0}
 AllOf P (grown t f) = P t × AllOf P f
 
--- the first part of a forest, which was unfolded in its surroundings, and what follows behind its value
+-- the first part of a forest, which was unfolded in its surroundings, and what follows after its value
 pub record PartGoes (P : Shape → Type 0) (x : Sym) (f : Forest) (from : ℕ) (next : Next Value State Around)
     (rest : Forest → List Value → ℕ → State → Type 0) : Type 0 where
   pub shape : Shape
@@ -50,7 +50,7 @@ abbrev pub OnGoing : Going → (Next Value State Around → Type 0) → Type 0
 OnGoing (Ok next) G = G next
 OnGoing (Err e) G = ⊥
 
--- the parts of a production that begins at a place, behind parts with these values
+-- the parts of a production that begins at a place, after parts with these values
 abbrev pub PartsGo : (P : Shape → Type 0) → Production → Around → (place : ℕ) → Found (List Value) State → List Sym → Forest → List Value
     → (from : ℕ) → State → Type 0
 PartsGo P p around place inner [] f vs from state = found vs state ≡ inner
@@ -227,7 +227,7 @@ mutual
 
 -- ## Values
 
--- what a production comes to behind parts that came to this
+-- what a production comes to after parts that came to this
 pub closed-as : (p : Production) (byte : ℕ) (around : Around) (at : ℕ) (began : State) (vs : List Value) (s : State)
     (inner r : Found (List Value) State) (one : Found Value State) (m : Value) (new : State) → found vs s ≡ inner
     → close p byte around at began vs s ≡ Ok (found m new) → close p byte around at began inner.value inner.state ≡ Ok one

@@ -56,7 +56,7 @@ solid-branch : BranchRead Kind.Solid
 solid-branch rule taken parts all around at old v new front is e outer =
     solid-read around at old v new front outer (opened-read Kind.Solid rule taken parts all around at old v new front is e)
 
--- and behind no T
+-- and after no T
 solid-front : (around : Around) (at : ℕ) (old : State) → InFront (OfKind (number_of_kind Kind.SolidButT)) around at old
     → InFront (OfKind (number_of_kind Kind.Solid)) around at old
 unfolding number_of_kind holds_encoding

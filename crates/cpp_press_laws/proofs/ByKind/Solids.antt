@@ -200,7 +200,7 @@ function-rest-branch rule taken parts all around at old v new front is e outer =
     go (inr (inr (inr (inl o)))) = rest-item-arm around at old v new outer o
     go (inr (inr (inr (inr none)))) = absurd none
 
--- behind the mark R or O there are no parameters
+-- after the mark R or O there are no parameters
 lvalue-end-arm : (around : Around) (at : ℕ) (old : State) (v : Value) (new : State)
     → OpenedRead Kind.AfterR around at old v new Production.RefEnd → KindFits Kind.AfterR around v old new
 unfolding parts_of

@@ -21,7 +21,7 @@ use Rattle.cpp_press_laws.specs.Spellable.{AreSuffixBytes}
 use Rattle.cpp_press_laws.proofs.ByKind.Rules.{AllOf, all-of, Opened, opened, closed-as, every-shape}
 use Rattle.cpp_press_laws.proofs.ByKind.Leaves.{LeafAs, leaf-same}
 
--- the bytes behind the first
+-- the bytes after the first
 abbrev pub MoreRead : Shape → Type 0
 MoreRead t = LeafAs (OfKind SUFFIX_MORE) (λ v. AreSuffixBytes (text_of v)) t
 
@@ -45,7 +45,7 @@ more-branch rule taken parts all around at state after v is e =
         (both.0 ∙ more.0, both.1)
     go (inr none) = absurd none
 
--- the bytes of a suffix behind the first
+-- the bytes of a suffix after the first
 pub more-read : (t : Shape) → MoreRead t
 unfolding cpp text_of
 more-read = every-shape MoreRead more-branch

@@ -233,7 +233,7 @@ plain-branch rule taken parts all around at old v new front is e outer =
     go (inr (inr (inl o))) = qualified-arm around at old v new outer o
     go (inr (inr (inr none))) = absurd none
 
--- ## Behind a D
+-- ## After a D
 
 expansion-arm : (around : Around) (at : ℕ) (old : State) (v : Value) (new : State) → around.prefix ≡ outermost
     → OpenedRead Kind.ItemAfterD around at old v new Production.Expansion → KindFits Kind.ItemAfterD around v old new

@@ -163,7 +163,7 @@ is-not false never = refl
 pub at-none : (G : Standing) (place : ℕ) (cs : List Component) → G place cs → G (place + 0) cs
 at-none G place cs fits = let same : place ≡ place + 0 = omega arith in subst (λ p. G p cs) same fits
 
--- a name that stands between N and E with letters or without
+-- a name that is between N and E with letters or without
 pub nested-letters-add : (letters : List ℕ) (n : ℕ) (P : Term → Type 0) (F : Standing) (between : Spelling) → Adds n P F between
     → Adds n P (λ place cs. F (place + length (codes "N" ++ letters)) cs) (with_letters letters (in_N_and_E [] between) between)
 unfolding with_letters in_N_and_E

@@ -23,7 +23,7 @@ abbrev pub AtSlot : Slot → Term → (x : Term) → Type 0
 AtSlot bare_type t x = Unqualified t x
 AtSlot _ t x = Whole t x
 
--- no item of a list stands right under qualifiers
+-- no item of a list is right under qualifiers
 abbrev pub IsNotBare : Slot → Type 0
 IsNotBare bare_type = ⊥
 IsNotBare _ = Unit {0}
@@ -95,7 +95,7 @@ abbrev followed_by : Spelling → (place : ℕ) → spell.Pressed Component → 
 followed_by rest place w =
     let g = rest (place + length w.bytes) w.components in record { bytes = w.bytes ++ g.bytes; components = g.components }
 
--- a template name that stands before, and its arguments
+-- a template name that comes before, and its arguments
 pub found-and-adds : (around : Around) (allowed : Option ℕ) (own : Term) (front : ℕ → Spelling) (G : Fitting) (s arguments : Spelling)
     (Q : Term → Type 0) → Adds around.encoding Q (G around allowed) arguments
     → Adds around.encoding (Either (Whole own) Q) (as_template own nowhere front G around allowed)
@@ -243,7 +243,7 @@ encoding-ways-add t standing s raw same one = record {
   as_elements = λ in_pack around allowed place cs fits complete. absurd fits;
 }
 
--- what stands nowhere
+-- what is nowhere
 pub nowhere-ways-add : (t : Term) (w : ℕ → Ways) → WaysAdd t fits_nowhere w
 unfolding fits_nowhere
 nowhere-ways-add t w = record {

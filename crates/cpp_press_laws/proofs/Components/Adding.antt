@@ -12,7 +12,7 @@ use Rattle.cpp_press_laws.proofs.Components.KnownTrees.{In}
 use Rattle.cpp_press_laws.proofs.Components.Complete.{Complete, complete-ended, complete-has}
 use Rattle.cpp_press_laws.specs.Fits.{Standing, Fitting, Behind, IsWithoutLetters, by_letters}
 
--- from these components to others, among which these trees stand
+-- from these components to others, among which these trees are
 pub record AddsParts (n : ℕ) (P : Term → Type 0) (cs ds : List Component) : Type 0 where
   pub complete : Complete ds
   pub has : (x : Term) → P x → Has n x ds
@@ -165,7 +165,7 @@ nested-template-adds n own Q F G between arguments one more place cs (found, new
         (behind-and (text (codes "N")) between (Behind (ended n own) G) place cs
         (behind-and (text (codes "N") and between) (ended n own) G place cs (new is).1)) complete
 
--- a name that stands without letters or with them
+-- a name that is without letters or with them
 pub letters-add : (letters : List ℕ) (n : ℕ) (P : Term
     → Type 0) (around : Around) (allowed : Option ℕ) (F G : Fitting) (own between : Spelling)
     → Adds n P (F around allowed) own → Adds n P (G around allowed) between

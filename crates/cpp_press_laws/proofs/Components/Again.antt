@@ -1,5 +1,5 @@
--- A function type right under qualifiers is spelled out even where it stands among the components: there it fits, since its parts
--- stand there too.
+-- A function type right under qualifiers is spelled out even where it is among the components: there it fits, since its parts
+-- are there too.
 use Rattle.std.proofs.Common.{◌≡◌, ℕ, ◌+◌, ◌⊎◌, inl, inr, length, List, [], ◌++◌, Option, None, Bool, true, false, refl, subst, sym}
 use Rattle.std.specs.Prelude.{◌&&◌, ◌||◌, codes, cond}
 use Rattle.sym_spell.specs.Pressing as spell
@@ -42,7 +42,7 @@ FunctionStands scope (function_type c_linkage noexcept ref returned parameters) 
     × IsNoVoid parameters
 FunctionStands scope _ = Unit {0}
 
--- ## Types that stand
+-- ## Types that are there
 
 same-packs : (around : Around) (allowed packs own : Option ℕ) → PacksFit around allowed packs → (own ≡ None) ⊎ (own ≡ packs)
     → PacksFit around allowed own
@@ -59,7 +59,7 @@ stands-again t around allowed packs fits shut own = record { lambda = shut; pack
 never-first : (t : Term) (around : Around) (cs : List Component) → In (Whole t) (λ x. Has around.encoding x cs) → IsComponent t → first_equal around.encoding t 0 cs ≡ None → ⊥
 never-first t around cs has is first = stands-found around.encoding t 0 cs (has t (inl (is, refl))) first
 
--- a type that stands may be referred to
+-- a type that is there may be referred to
 pub item-again : (t : Term) (slot : Slot) → IsNotBare slot → (around : Around) (allowed packs : Option ℕ)
     → ItemStands slot around.scope packs t
     → PacksFit around allowed packs → is_open t && around.in_lambda ≡ false → (place : ℕ) (cs : List Component)
@@ -94,7 +94,7 @@ right-shut true true c h = h
 right-shut true false c h = refl
 right-shut false b c h = h
 
--- parameters that stand
+-- parameters that are there
 items-again : (t : Term) (around : Around) (allowed packs : Option ℕ) → ItemsStand around.scope packs t → PacksFit around allowed packs
     → is_open t && around.in_lambda ≡ false → (place : ℕ) (cs : List Component) → Complete cs → In (Inside t) (λ x. Has around.encoding x cs)
     → (fits_of t).as_more_parameters parameter_type around allowed place cs
@@ -124,7 +124,7 @@ parameters-again (list first rest) around allowed packs items void fits shut pla
 parameters-again (symbol e suffix) around allowed packs items void fits shut place cs complete has = absurd items
 parameters-again _ around allowed packs items void fits shut place cs complete has = absurd items
 
--- A function type that may be referred to and stands among complete components fits under qualifiers.
+-- A function type that may be referred to and is among complete components fits under qualifiers.
 pub function-again : (c_linkage noexcept : Bool) (ref : RefQualifier) (returned parameters : Term) (around : Around) (allowed : Option ℕ)
     → FunctionStands around.scope (function_type c_linkage noexcept ref returned parameters)
     → MayBeReferred around allowed (function_type c_linkage noexcept ref returned parameters)

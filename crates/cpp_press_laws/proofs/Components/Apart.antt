@@ -11,7 +11,7 @@ use Rattle.cpp_press_laws.specs.MarkedPressing as marked
 use Rattle.cpp_press_laws.specs.Apart.{IsTemplateOf, IsTemplateBehindLetters, IsNeverReferred, ComponentsAreMarked, ComponentsAreApart, spelled_components, marked_components}
 use Rattle.cpp_press_laws.proofs.Components.Growing.{size, Grows, and-grows, text-grows, nothing-grows, more-grows, front, back, never-referred-grows, component-grows, before-grows}
 
--- what a tree spelled in its ways adds, with marks and without, in a whole in which it stands
+-- what a tree spelled in its ways adds, with marks and without, in a whole in which it is
 pub record WaysGrow (whole t : Term) (w : marked.Ways) (p : Ways) : Type 0 where
   pub as_type : Grows whole (suc (size t)) w.as_type p.as_type
   pub under_qualifiers : Grows whole (suc (size t)) w.under_qualifiers p.under_qualifiers

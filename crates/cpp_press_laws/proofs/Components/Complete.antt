@@ -1,4 +1,4 @@
--- Lists of components in which each stands with the components in it, and the candidates of a reader that stand in such a list.
+-- Lists of components in which each is with the components in it, and the candidates of a reader that are in such a list.
 use Rattle.std.proofs.Common.{◌≡◌, ℕ, ◌<◌, ◌≤◌, ◌⊎◌, inl, inr, length, List, [], ◌∷◌, ◌++◌, Bool, true, false, refl, ap, arith, sym, subst, ◌∙◌, length-append}
 use Rattle.std.specs.Prelude.{◌||◌}
 use Rattle.std.proofs.lemmas.Bool.{true≢false}
@@ -84,7 +84,7 @@ inside-shut _ x closed i = first_of (assumption i, search i)
 
 -- ## Complete lists
 
--- of each of these components, the components in it stand among others
+-- of each of these components, the components in it are among others
 abbrev pub AllStand : (some others : List Component) → Type 0
 AllStand [] others = Unit {0}
 AllStand (c ∷ cs) others = ((x : Term) → Inside c.tree x → Has c.encoding x others) × AllStand cs others
@@ -100,7 +100,7 @@ stand-append : (cs ds others : List Component) → AllStand cs others → AllSta
 stand-append [] ds others one other = other
 stand-append (c ∷ cs) ds others one other = (one.0, stand-append cs ds others one.1 other)
 
--- a tree becomes a component behind those in it
+-- a tree becomes a component after those in it
 pub complete-ended : (n : ℕ) (t : Term) (cs : List Component) → Complete cs → ((x : Term) → Inside t x → Has n x cs)
     → Complete (cs ++ record { tree = t; encoding = n } ∷ [])
 complete-ended n t cs complete inside =
@@ -117,12 +117,12 @@ all-has n t (c ∷ cs) others each (inl same) x i = go (same-means n t c same)
         has-closed c.encoding n x others (inside-shut t x closed i) (each.0 x (subst (λ u. Inside u x) equal i))
     go (equal, inr here) = subst (λ m. Has m x others) here (each.0 x (subst (λ u. Inside u x) equal i))
 
--- where a tree stands, so do the components in it
+-- where a tree is there, so are the components in it
 pub complete-has : (n : ℕ) (t : Term) (cs : List Component) → Complete cs → Has n t cs → (x : Term) → Whole t x → Has n x cs
 complete-has n t cs complete has x (inl same) = subst (λ u. Has n u cs) (sym same.1) has
 complete-has n t cs complete has x (inr i) = all-has n t cs cs complete has x i
 
--- Where a tree stands, its spelling adds nothing that may be referred to and doesn't stand there.
+-- Where a tree is there, its spelling adds nothing that may be referred to and isn't there.
 pub nothing-new : (n : ℕ) (R : Term → Type 0) (spelling : Spelling) → KeepsTo Unit n R spelling → (place : ℕ) (cs : List Component)
     → n ≤ place
     → ((x : Term) → R x → Has n x cs) → (x : Term) → IsComponent x → Has n x (spelling place cs).components → Has n x cs
@@ -135,7 +135,7 @@ nothing-new n R spelling keeps place cs le stands x is has =
 
 -- ## A reader's candidates
 
--- Each candidate without free parameters stands among the components, and each other one of the reader's encoding.
+-- Each candidate without free parameters is among the components, and each other one of the reader's encoding.
 abbrev pub EachStands : (read pressed : ℕ) → (candidates : List Candidate) → (components : List Component) → Type 0
 EachStands read pressed [] components = Unit {0}
 EachStands read pressed (c ∷ cs) components =
@@ -151,7 +151,7 @@ pub each-append : (read pressed : ℕ) (cs ds : List Candidate) (components : Li
 each-append read pressed [] ds components one other = other
 each-append read pressed (c ∷ cs) ds components one other = (one.0, each-append read pressed cs ds components one.1 other)
 
--- among others, where each component that may be referred to stands
+-- among others, where each component that may be referred to is there
 pub each-others : (read pressed : ℕ) (cs : List Candidate) (components others : List Component)
     → ((x : Term) → IsComponent x → Has pressed x components → Has pressed x others) → EachStands read pressed cs components
     → EachStands read pressed cs others
@@ -173,7 +173,7 @@ among-ended read pressed in_lambda t cs components is among =
       omega (arith, among.1, length-append cs named, length-append components own),
     )
 
--- one more candidate that stands already
+-- one more candidate that is there already
 pub among-known : (read pressed : ℕ) (in_lambda : Bool) (t : Term) (cs : List Candidate) (components : List Component) → IsComponent t → Has pressed t components
     → StandAmong read pressed cs components → StandAmong read pressed (cs ++ record { tree = t; encoding = read; in_lambda = in_lambda; is_held = false } ∷ []) components
 among-known read pressed in_lambda t cs components is has among =
@@ -185,7 +185,7 @@ abbrev pub AllBefore : ℕ → List Candidate → Type 0
 AllBefore place [] = Unit {0}
 AllBefore place (c ∷ cs) = (c.encoding < place) × AllBefore place cs
 
--- in an encoding of its own, of which no candidate is: those without free parameters stand
+-- in an encoding of its own, of which no candidate is: those without free parameters are
 each-inner : (read pressed inner own : ℕ) (cs : List Candidate) (components : List Component) → AllBefore inner cs → EachStands read pressed cs components
     → EachStands inner own cs components
 each-inner read pressed inner own [] components before among = tt

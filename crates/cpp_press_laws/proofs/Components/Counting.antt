@@ -88,7 +88,7 @@ elements-write : (m : ℕ) (elements : Spelling) (place : ℕ) (cs : List Compon
     → Writes (m + 2) (of_elements elements place cs)
 elements-write m elements place cs one = omega (arith, one, length-append (elements (place + 1) cs).bytes (69 ∷ []))
 
--- behind a name that is spelled out
+-- after a name that is spelled out
 behind-writes : (m : ℕ) (around : Around) (allowed : Option ℕ) (own : Term) (arguments : Fitting) (elements : Spelling)
     (place at : ℕ) (w : Written) → ArgumentsWrite m around allowed arguments elements
     → at ≡ place + length w.bytes → arguments around allowed at (w.components ++ record { tree = own; encoding = around.encoding } ∷ [])
@@ -119,7 +119,7 @@ referred-writes m around allowed own arguments elements other place cs write fit
         (write (place + length (reference number place cs).bytes) cs (fits number is)))
     go None is = out is
 
--- a component, of which only a reference stands there
+-- a component, of which only a reference is there
 component-before-writes : (m : ℕ) (around : Around) (allowed : Option ℕ) (own : Term) (spelling : Spelling) (arguments : Fitting)
     (elements : Spelling) (place : ℕ) (cs : List Component) → ArgumentsWrite m around allowed arguments elements
     → as_template own nowhere (λ n. text []) arguments around allowed place cs

@@ -169,7 +169,7 @@ few-parameter k = record {
     as_types parameter_type around allowed place cs h = whole around place cs
     as_types literal_type around allowed place cs h = whole around place cs
 
--- behind St
+-- after St
 few-std : (p : Term) → Counts p → (around : Around) (allowed : Option ℕ) (place : ℕ) (cs : List Component)
     → (fits_of p).as_piece around allowed (place + 2) cs → FewBy 1 cs (std_spelling around.encoding p place cs)
 few-std p r around allowed place cs h =
@@ -343,7 +343,7 @@ few-function-type c x ref a ps ra rp = record {
     as_types literal_type = λ around allowed place cs h.
         few-component around.encoding (function_type c x ref a ps) (whole_text around.encoding) place cs (λ none. absurd (h.1 none))
 
--- ## Behind a prefix
+-- ## After a prefix
 
 few-joined : (x p : Term) → Counts x → Counts p → (around : Around) (allowed : Option ℕ) (place : ℕ) (cs : List Component)
     → joined_fits x p around allowed place cs → FewBy 1 cs (joined_spelling around.encoding x p place cs)

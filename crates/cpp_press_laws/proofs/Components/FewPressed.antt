@@ -26,7 +26,7 @@ use Rattle.cpp_press_laws.proofs.ByKind.Root.{first-front}
 use Rattle.cpp_press_laws.proofs.ByKind.Shapes.{shape-read}
 use Rattle.cpp_press_laws.proofs.ByKind.Known.{ShapeRead, OpenedRead, opened-read, comes-as}
 
--- behind the first two bytes, where the encoding fits
+-- after the first two bytes, where the encoding fits
 symbol-few : (e : Term) (suffix : List ℕ) (new : State) → WholeFits first_around e first_state new → new.packs ≡ None
     → length (spelled_components (symbol e suffix)) ≤ length new.candidates
 unfolding first_around first_state spelled_components ways_of no_ways

@@ -39,7 +39,7 @@ few-component n own spelling place cs one = go (first_equal n own 0 cs) refl
         let w : Written = spelling place cs in
         omega (arith, one is, length-append w.bytes [], length-append w.components (record { tree = own; encoding = n } ∷ []))
 
--- behind fixed bytes, and before them
+-- after fixed bytes, and before them
 pub few-behind : (k m : ℕ) (bytes : List ℕ) (spelling : Spelling) (place : ℕ) (cs : List Component) → m ≤ length bytes
     → FewBy k cs (spelling (place + length bytes) cs) → FewBy (m + k) cs ((text bytes and spelling) place cs)
 few-behind k m bytes spelling place cs long one = omega (arith, one, long, length-append bytes (spelling (place + length bytes) cs).bytes)
@@ -68,7 +68,7 @@ pub few-elements : (elements : Spelling) (place : ℕ) (cs : List Component) →
     → FewBy 2 cs (of_elements elements place cs)
 few-elements elements place cs one = omega (arith, one, length-append (elements (place + 1) cs).bytes (69 ∷ []))
 
--- behind a name that becomes a component
+-- after a name that becomes a component
 pub few-made : (around : Around) (allowed : Option ℕ) (own : Term) (arguments : Fitting) (elements : Spelling) (place at : ℕ) (w : Written)
     → ArgumentsFew around allowed arguments elements → at ≡ place + length w.bytes
     → arguments around allowed at (w.components ++ record { tree = own; encoding = around.encoding } ∷ [])

@@ -110,7 +110,7 @@ none-equal encoding own from (c ∷ cs) none = go (is_same encoding own c) refl 
 
 -- ## What spellings add
 
--- components below a size behind those before, all of which are apart in a tree if those before are; the same bytes and components as
+-- components below a size after those before, all of which are apart in a tree if those before are; the same bytes and components as
 -- without marks
 pub record Adds (whole : Term) (m : ℕ) (components : List Marked) (pressed : spell.Pressed Marked) (plain : spell.Pressed Component) : Type 0 where
   pub added : List Marked
@@ -123,14 +123,14 @@ pub record Adds (whole : Term) (m : ℕ) (components : List Marked) (pressed : s
 pub record Grows (whole : Term) (m : ℕ) (spelling : marks.Spelling) (plain : Spelling) : Type 0 where
   pub adds : (place : ℕ) (components : List Marked) → Adds whole m components (spelling place components) (plain place (unmarked components))
 
--- behind what is equal without marks
+-- after what is equal without marks
 moved : {whole : Term} {m place other : ℕ} {components : List Marked} {others : List Component} {pressed : spell.Pressed Marked} (plain : Spelling)
     → place ≡ other → unmarked components ≡ others → Adds whole m components pressed (plain place (unmarked components))
     → Adds whole m components pressed (plain other others)
 moved {whole} {m} {place} {other} {components} {others} {pressed} plain e f a =
     subst (λ p. Adds whole m components pressed (plain p others)) e (subst (λ l. Adds whole m components pressed (plain place l)) f a)
 
--- one spelling behind another
+-- one spelling after another
 abbrev behind : {C : Type 0} → spell.Pressed C → spell.Pressing C → (place : ℕ) → spell.Pressed C
 behind first rest place =
     record { bytes = first.bytes ++ (rest place first.components).bytes; components = (rest place first.components).components }
@@ -188,7 +188,7 @@ more-grows {whole} {n} {m} one le = record {
       };
 }
 
--- bytes in front, and bytes behind
+-- bytes before, and bytes after
 pub front : {whole : Term} {m : ℕ} {spelling : marks.Spelling} {plain : Spelling} (bytes : List ℕ) → Grows whole m spelling plain
     → Grows whole m (text bytes and spelling) (text bytes and plain)
 front bytes one = and-grows (text-grows bytes) one
@@ -197,7 +197,7 @@ pub back : {whole : Term} {m : ℕ} {spelling : marks.Spelling} {plain : Spellin
     → Grows whole m (spelling and text bytes) (plain and text bytes)
 back one bytes = and-grows one (text-grows bytes)
 
--- a tree becomes a component that is never referred to where it stands
+-- a tree becomes a component that is never referred to where it is
 pub never-referred-grows : {whole : Term} {m : ℕ} (encoding : ℕ) (own : Term) → size own < m → IsNeverReferred own whole
     → Grows whole m (marks.not_compared encoding own) (ended encoding own)
 unfolding marks.ended ended
@@ -216,7 +216,7 @@ never-referred-grows {whole} encoding own low never =
 abbrev one_more : {C : Type 0} → spell.Pressed C → C → spell.Pressed C
 one_more pressed c = record { bytes = pressed.bytes; components = pressed.components ++ c ∷ [] }
 
--- a tree that is new becomes a component behind its spelling
+-- a tree that is new becomes a component after its spelling
 newly-adds : {whole : Term} {m : ℕ} {spelling : marks.Spelling} {plain : Spelling} (encoding : ℕ) (own : Term) → size own < m
     → Grows whole (size own) spelling plain → (place : ℕ) (components : List Marked) → IsNew encoding own (unmarked components)
     → Adds whole m components

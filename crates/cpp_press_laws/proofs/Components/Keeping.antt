@@ -63,7 +63,7 @@ unfolding in_N_and_E
 keeps-N-and-E letters name one =
     keeps-and (text (codes "N" ++ letters)) (name and text (codes "E")) (keeps-text _) (keeps-and name (text (codes "E")) one (keeps-text _))
 
--- bytes in front, and bytes behind
+-- bytes before, and bytes after
 pub keeps-front : (bytes : List ℕ) (spelling : Spelling) → Keeps spelling → Keeps (text bytes and spelling)
 keeps-front bytes spelling one = keeps-and (text bytes) spelling (keeps-text bytes) one
 
@@ -151,7 +151,7 @@ keeps t n =
       as_elements = grown_keeps w.as_elements;
     }
 
--- a template name with the arguments behind it
+-- a template name with the arguments after it
 pub keeps_before : (template arguments : Term) (n : ℕ) (in_type : Bool)
     → Keeps ((ways_of n template).before in_type (text (codes "I") and (ways_of n arguments).as_elements and text (codes "E")))
 keeps_before template arguments n in_type =

@@ -1,4 +1,4 @@
--- Spellings that add only what stands among the components, where the components that they are spelled from stand there.
+-- Spellings that add only what is among the components, where the components that they are spelled from are there.
 use Rattle.std.proofs.Common.{◌≡◌, ℕ, ◌+◌, ◌<◌, ◌≤◌, ◌⊎◌, inl, inr, length, List, [], ◌∷◌, ◌++◌, Option, Some, None, Bool, true, false, refl, ap, arith, sym, subst, ◌∙◌, append_assoc, append-nil}
 use Rattle.std.specs.Prelude.{codes}
 use Rattle.std.proofs.lemmas.Bool.{true≢false}
@@ -10,11 +10,11 @@ use Rattle.cpp_press_laws.specs.Components.{Component, Spelling, first_equal, re
 use Rattle.cpp_press_laws.specs.Pressing.{in_N_and_E, template_before, begun}
 use Rattle.cpp_press_laws.proofs.Components.Parts.{IsComponent, Has, has-before, has-either, has-closed, same-means}
 
--- Of these trees each without free parameters stands among the components, and if that is so of the others, each other one.
+-- Of these trees each without free parameters is among the components, and if that is so of the others, each other one.
 abbrev pub Stands : (open_ : Type 0) → (encoding : ℕ) → (R : Term → Type 0) → List Component → Type 0
 Stands open_ n R cs = (x : Term) → R x → (is_open x ≡ false) ⊎ open_ → Has n x cs
 
--- What is added in an encoding, or in a later one in it, stands among the components.
+-- What is added in an encoding, or in a later one in it, is among the components.
 pub record IsKnown (open_ : Type 0) (n start : ℕ) (components : List Component) (c : Component) : Type 0 where
   pub known : IsComponent c.tree → (is_open c.tree ≡ false) ⊎ (open_ × (c.encoding ≡ n)) → Has n c.tree components
   pub place : (c.encoding ≡ n) ⊎ (start ≤ c.encoding)
@@ -28,7 +28,7 @@ pub record AddsKnown (open_ : Type 0) (n start : ℕ) (components : List Compone
   pub split : pressed.components ≡ components ++ added
   pub each : AreKnown open_ n start components added
 
--- a spelling in an encoding, and one behind at least a byte of it
+-- a spelling in an encoding, and one after at least a byte of it
 abbrev pub KeepsTo : (open_ : Type 0) → (n : ℕ) → (R : Term → Type 0) → Spelling → Type 0
 KeepsTo open_ n R spelling =
     (place : ℕ) (components : List Component) → n ≤ place → Stands open_ n R components
@@ -44,7 +44,7 @@ KeepsBehind open_ n R spelling =
 stands-more : (open_ : Type 0) (n : ℕ) (R : Term → Type 0) (cs ds : List Component) → Stands open_ n R cs → Stands open_ n R (cs ++ ds)
 stands-more open_ n R cs ds stands x is may = has-before n x cs ds (stands x is may)
 
--- what is found among the added stands before them
+-- what is found among the added comes before them
 pub known-has : (open_ : Type 0) (n start : ℕ) (cs ds : List Component) (x : Term) → AreKnown open_ n start cs ds → IsComponent x
     → (is_open x ≡ false) ⊎ open_ → Has n x ds → Has n x cs
 known-has open_ n start cs [] x each is may has = absurd has

@@ -1,4 +1,4 @@
--- Pressing a tree again adds nothing: where the components that it is spelled from stand among the components, what is added stands
+-- Pressing a tree again adds nothing: where the components that it is spelled from are among the components, what is added is
 -- among them too, but for what is open in an encoding of its own.
 use Rattle.std.proofs.Common.{◌≡◌, ℕ, ◌-◌, ◌<◌, ◌⊎◌, inl, inr, length, List, [], ◌∷◌, ◌++◌, Option, Bool, true, false, refl, arith}
 use Rattle.std.specs.Prelude.{◌&&◌, codes, cond}

@@ -1,4 +1,4 @@
--- The components in a tree, and what stands among components.
+-- The components in a tree, and what is among components.
 use Rattle.std.proofs.Common.{◌≡◌, ℕ, ◌+◌, ◌⊎◌, inl, inr, List, [], ◌∷◌, ◌++◌, Option, Some, None, Bool, true, false, refl, sym, ◌∙◌}
 use Rattle.std.specs.Prelude.{not, ◌&&◌, ◌||◌, nat_eq}
 use Rattle.std.proofs.lemmas.Bool.{eq-eqb, eqb-true, and_parts, false≢true}
@@ -111,9 +111,9 @@ pub prefix-whole : (t x : Term) (inside : Type 0) → PrefixOr t inside x → It
 prefix-whole (symbol e suffix) x inside w = w
 prefix-whole _ x inside w = first_of (assumption w, search w)
 
--- ## What stands among components
+-- ## What is among components
 
--- an equal one stands among them, as one in an encoding is compared
+-- an equal one is among them, as one in an encoding is compared
 abbrev pub Has : (encoding : ℕ) → Term → List Component → Type 0
 Has encoding own [] = ⊥
 Has encoding own (c ∷ cs) = (is_same encoding own c ≡ true) ⊎ Has encoding own cs
@@ -171,7 +171,7 @@ has-closed n m x [] closed has = has
 has-closed n m x (c ∷ cs) closed (inr later) = inr (has-closed n m x cs closed later)
 has-closed n m x (c ∷ cs) closed (inl same) = inl (same-closed m x c closed ∙ sym (same-closed n x c closed) ∙ same)
 
--- the first equal one is found exactly where one stands
+-- the first equal one is found exactly where there is one
 pub found-stands : (n : ℕ) (x : Term) (from number : ℕ) (cs : List Component) → first_equal n x from cs ≡ Some number → Has n x cs
 unfolding first_equal
 found-stands n x from number [] is = cc

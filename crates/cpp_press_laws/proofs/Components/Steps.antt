@@ -1,4 +1,4 @@
--- How a reader's candidates go on standing among the components, step by step, where what was read is pressed.
+-- How a reader's candidates stay among the components, step by step, where what was read is pressed.
 use Rattle.std.proofs.Common.{◌≡◌, ℕ, zero, suc, ◌≤◌, ◌⊎◌, length, List, [], ◌∷◌, ◌++◌, Option, Some, None, Bool, false, refl, ap, arith, subst, length-append}
 use Rattle.std.specs.Prelude.{slice_get}
 use Rattle.sym_spell.specs.Pressing as spell
@@ -11,8 +11,8 @@ use Rattle.cpp_press_laws.proofs.Components.Parts.{IsComponent, Whole, Has, foun
 use Rattle.cpp_press_laws.proofs.Components.Known.{KeepsTo}
 use Rattle.cpp_press_laws.proofs.Components.Complete.{Complete, complete-has, nothing-new, EachStands, StandAmong, each-others, among-ended, among-known}
 
--- What was read becomes a candidate: its parts' candidates stand among the components behind its spelling, so with it they stand
--- among those behind the component that it is.
+-- What was read becomes a candidate: its parts' candidates are among the components after its spelling, so with it they are
+-- among those after the component that it is.
 pub component-among : (read n : ℕ) (in_lambda : Bool) (t : Term) (spelling : Spelling) → IsComponent t → KeepsTo Unit n (Whole t) spelling → (place : ℕ)
     (cs : List Component) (candidates : List Candidate) → n ≤ place → Complete cs → StandAmong read n candidates (spelling place cs).components
     → StandAmong read n (candidates ++ record { tree = t; encoding = read; in_lambda = in_lambda; is_held = false } ∷ []) (component n t spelling place cs).components
@@ -43,7 +43,7 @@ each-named read n zero c (d ∷ ds) components among at may =
     (λ m. (among.0.0, among.0.1 m)) may
 each-named read n (suc number) c (d ∷ ds) components among at may = each-named read n number c ds components among.1 at may
 
--- What a reference may name stands among the components: it's a candidate that is closed, or of the same encoding.
+-- What a reference may name is among the components: it's a candidate that is closed, or of the same encoding.
 pub named-stands : (read n number : ℕ) (c : Candidate) (candidates : List Candidate) (components : List Component) → StandAmong read n candidates components
     → slice_get candidates number ≡ Some c → (is_open c.tree ≡ false) ⊎ (c.encoding ≡ read) → IsComponent c.tree × Has n c.tree components
 named-stands read n number c candidates components among at may = each-named read n number c candidates components among.0 at may

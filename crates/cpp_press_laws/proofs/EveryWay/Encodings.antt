@@ -216,7 +216,7 @@ CountsArguments =
     → (fits_of t).as_name q ref around allowed place cs → (arguments : Term) → arguments_of t ≡ Some arguments
     → count arguments ≤ length ((ways_of around.encoding t).as_name (name_letters q ref) place cs).bytes
 
--- items behind a function's name, as they are read
+-- items after a function's name, as they are read
 record FunctionItems (around : Around) (allowed : Option ℕ) (v : Value) (t : Term) (place : ℕ) (cs : List Component)
     (w : Written) : Type 0 where
   last : Value
@@ -268,7 +268,7 @@ items-whole around allowed ps place cs w i =
     (subst (λ q. ReadsAt around allowed (OfKind ITEM) (Is (tree i.first true)) q cs i.one) (omega arith) i.reads_one)
     (subst (λ q. ReadsAt around allowed (OfKind ITEMS) (Is i.last) q i.one.components i.rest) (omega arith) i.reads_rest)))
 
--- with a return type in front of the parameters
+-- with a return type before the parameters
 returned-items : (name r ps : Term) (q : Qualifiers) (ref : RefQualifier) → Reading r → Reading ps → (around : Around) (allowed : Option ℕ)
     (v : Value) (place : ℕ) (cs : List Component) → IsSmall around
     → (let n = around.encoding in

@@ -58,7 +58,7 @@ abbrev pub list_kind : (in_pack : Bool) → ℕ
 list_kind true = 45
 list_kind false = 44
 
--- as one more element in front of others
+-- as one more element before others
 abbrev pub ArgumentReads : Bool → Around → Option ℕ → Term → (place : ℕ) → List Component → Written → Type 0
 ArgumentReads in_pack around allowed t place cs w =
     (items : Term) (last : Value) (rest : Written) → no_items last ≡ items
@@ -241,7 +241,7 @@ typed-argument false around allowed t place cs w one items last rest are two =
     (subst (λ q. ReadsAt around allowed (OfKind ITEM) (Is (tree t true)) q cs w) (omega arith) one)
     (subst (λ q. ReadsAt around allowed (OfKind ARGUMENT_LIST) (Is last) q w.components rest) (omega arith) two)
 
--- a component before its arguments, of which only a reference stands there
+-- a component before its arguments, of which only a reference is there
 pub referred-before : (typed : Bool) (k : ℕ) (around : Around) (allowed : Option ℕ) (t : Term) → TemplateKind typed k → (place : ℕ)
     (cs : List Component) (spelling : Spelling) (arguments : Fitting) (elements : Spelling) (items : Term) (last : Value)
     → no_items last ≡ items

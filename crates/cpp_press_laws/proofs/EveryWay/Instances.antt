@@ -60,7 +60,7 @@ instance_joined t a around allowed place cs =
 keeps-rest : (n : ℕ) (t a : Term) → Keeps (ended n t and spelled_arguments n a)
 keeps-rest n t a = keeps-and (ended n t) (spelled_arguments n a) (keeps-ended n t) (keeps-arguments n a)
 
--- the elements behind a name that has become a component
+-- the elements after a name that has become a component
 behind-name : (t a : Term) → Reading a → (around : Around) (allowed : Option ℕ) (place : ℕ) (cs : List Component) → IsSmall around
     → HasRoom (instance_between around.encoding t a place cs)
     → Behind ((ways_of around.encoding t).between_N_and_E and ended around.encoding t) (elements_of a around allowed) place cs
@@ -92,7 +92,7 @@ instance-nested t a rt ra around allowed place cs small room h =
 
 -- ## As the entity of a local name
 
--- what stands between N and E isn't one piece
+-- what is between N and E isn't one piece
 pub not-one-piece : (t a : Term) (around : Around) (allowed : Option ℕ) (place : ℕ) (cs : List Component)
     → (fits_of t).between_template around allowed place cs → is_one_piece (instance t a) ≡ false
 unfolding fits_of is_one_piece encoding_fits piece_fits argument_fits type_fits fits_nowhere

@@ -234,7 +234,7 @@ function-parts c_linkage noexcept ref a ps ra rp around allowed place cs small r
       reads_rest = p.2;
     }
 
--- what is read behind no byte, or behind the D of a noexcept
+-- what is read after no byte, or after the D of a noexcept
 abbrev FunctionReads : (noexcept : Bool) → Around → Option ℕ → Term → ℕ → List Component → Written → Type 0
 FunctionReads false around allowed t place cs w = ReadsAt around allowed (OfKind SOLID) (Is (tree t false)) place cs w
 FunctionReads true around allowed t place cs w =

@@ -1,4 +1,4 @@
--- Names of a piece, alone and behind St, are read in each of their ways.
+-- Names of a piece, alone and after St, are read in each of their ways.
 use Rattle.std.proofs.Common.{◌≡◌, ℕ, ◌+◌, length, List, [], ◌∷◌, ◌++◌, Option, Bool, true, false, refl, ap, arith, sym, subst, ◌∙◌, append-nil, append_assoc, length-append}
 use Rattle.std.specs.Prelude.{cond, codes}
 use Rattle.sym_shape.specs.declared.rule.Sym.TheVariants.{Kind as OfKind}
@@ -58,7 +58,7 @@ letters-are q ref x =
     ∙ ap (λ l. ((cond q.restrict (114 ∷ []) [] ++ cond q.volatile (86 ∷ []) [] ++ l) ++ ref_bytes ref) ++ x) (mark-letters q.const 75)
     ∙ ap (λ l. ((cond q.restrict (114 ∷ []) [] ++ cond q.volatile (86 ∷ []) [] ++ cond q.const (75 ∷ []) []) ++ l) ++ x) (ref-letters ref)
 
--- a name between N and E, behind the letters of its encoding
+-- a name between N and E, after the letters of its encoding
 pub letters-nested : (k : ℕ) (around : Around) (allowed : Option ℕ) (t : Term) (q : Qualifiers) (ref : RefQualifier) (place : ℕ)
     (cs : List Component) (w : Written) → TakesRule abi k (rule_of Production.NestedName) (78 ∷ [])
     → SoFar around allowed t false 18 (place + length (78 ∷ name_letters q ref)) cs w
@@ -139,7 +139,7 @@ takes-nested-name : TakesRule abi 8 (rule_of Production.NestedName) (78 ∷ [])
 unfolding choose alternatives pick is_in in_ranges among kinds is_chain
 takes-nested-name = takes-byte COMPLETE_NAME Kind.CompleteName Production.NestedName 78 refl refl (omega arith) refl
 
--- the room of a name behind letters
+-- the room of a name after letters
 pub nested-room : (letters : List ℕ) (name : Spelling) (place : ℕ) (cs : List Component) → HasRoom (in_N_and_E letters name place cs)
     → HasRoom (name (place + length (codes "N" ++ letters)) cs)
 unfolding in_N_and_E
@@ -147,7 +147,7 @@ nested-room letters name place cs room =
     room-first name (text (codes "E")) (place + length (codes "N" ++ letters)) cs (keeps-text _)
     (room-rest (text (codes "N" ++ letters)) (name and text (codes "E")) place cs room)
 
--- an encoding's own name: without letters it is spelled out, and behind letters between N and E
+-- an encoding's own name: without letters it is spelled out, and after letters between N and E
 pub name-by-letters : (around : Around) (allowed : Option ℕ) (t : Term) (q : Qualifiers) (ref : RefQualifier) (place : ℕ)
     (cs : List Component)
     (own between : Spelling) (fit_own fit_between : Fitting) → HasRoom (with_letters (name_letters q ref) own between place cs)
@@ -182,7 +182,7 @@ alone-rule : (typed : Bool) (k : ℕ) (p : Term) → TemplateKind typed k
 alone-rule true k p rules h = rules.names p h
 alone-rule false k p eight h = subst (λ j. NameRule j p) (sym eight) (own-rule p h)
 
--- arguments behind a name of which a component is made, at the place where they are spelled
+-- arguments after a name of which a component is made, at the place where they are spelled
 pub elements-behind : (around : Around) (allowed : Option ℕ) (last : Value) (arguments : Fitting) (elements : Spelling) (own : Term)
     (w : Written)
     (place at : ℕ) → ReadElements around allowed last arguments elements

@@ -85,7 +85,7 @@ reads-lambda ps k r =
 
 -- ## Letters
 
--- a builtin type behind a D
+-- a builtin type after a D
 with-d : (slot : Slot) (around : Around) (allowed : Option ℕ) (d b place : ℕ) (cs : List Component) → takes_all slot ≡ true
     → (d ≡ 68) × (b < 256) × (choose Kind.AfterD b ≡ Some Production.BuiltinWithD)
     → ReadsAs slot around allowed (builtin (d ∷ b ∷ [])) place cs (written (d ∷ b ∷ []) cs)
@@ -164,7 +164,7 @@ reads-builtin code = record {
     as_types parameter_type around allowed place cs small room h = builtin-in parameter_type around allowed code place cs h
     as_types literal_type around allowed place cs small room h = builtin-in literal_type around allowed code place cs h
 
--- an abbreviation, wherever it stands
+-- an abbreviation, wherever it is
 pub reads-abbreviation : (l : ℕ) → Reading (abbreviation l)
 unfolding ways_of fits_of fits_nowhere type_ways no_ways is_function_type
 reads-abbreviation l = record {

@@ -1,4 +1,4 @@
--- Names of a piece behind St are read in each of their ways.
+-- Names of a piece after St are read in each of their ways.
 use Rattle.std.proofs.Common.{◌≡◌, ℕ, ◌+◌, length, List, [], ◌∷◌, ◌++◌, Option, Bool, true, false, refl, arith, sym, subst, length-append}
 use Rattle.std.specs.Prelude.{codes, ◌&&◌}
 use Rattle.sym_shape.specs.declared.rule.Sym.TheVariants.{Kind as OfKind}
@@ -61,7 +61,7 @@ template-nested false k around allowed t eight place cs w so_far =
     (takes-byte COMPLETE_NAME Kind.CompleteName Production.NestedName 78 refl refl (omega arith) refl)
     (subst (λ ls. SoFar around allowed t false 18 (place + length (78 ∷ ls)) cs w) (sym no-letters-at-all) so_far)))
 
--- ## Behind St
+-- ## After St
 
 begins-unless : (p : Term) → names_function p ≡ true → is_operator p ≡ false → begins_name p ≡ true
 unfolding names_function is_operator begins_name
@@ -127,7 +127,7 @@ std-type-reads p r true is k rules around allowed place cs small room h =
 std-type-reads p r false is k rules around allowed place cs small room h =
     (std-typed p r k rules around allowed place cs is small room (subst (λ q. std_fits p around allowed q cs) (omega arith) h)).bare
 
--- what stands before arguments, with an N or without
+-- what comes before arguments, with an N or without
 std-before : (typed b : Bool) (p : Term) → Reading p → is_operator p ≡ b → (k : ℕ) → TemplateKind typed k
     → (around : Around) (allowed : Option ℕ)
     (place : ℕ) (cs : List Component) (arguments : Fitting) (elements : Spelling) (items : Term) (last : Value) → no_items last ≡ items

@@ -49,7 +49,7 @@ solid-in-all item_type around allowed t place cs w all bare one = (in-slot item_
 solid-in-all parameter_type around allowed t place cs w all bare one = (in-slot parameter_type around allowed t bare).adds place cs w one
 solid-in-all literal_type around allowed t place cs w all bare one = absurd (no-slot all)
 
--- what stands behind a D
+-- what follows a D
 pub with-d-in-all : (slot : Slot) (around : Around) (allowed : Option ℕ) (t : Term) (place : ℕ) (cs : List Component) (w : Written)
     → takes_all slot ≡ true → is_function_type t && is_bare slot ≡ false
     → ReadsAt around allowed (OfKind AFTER_D) (Is (tree t false)) (place + 1) cs w
@@ -68,7 +68,7 @@ with-d-in-all parameter_type around allowed t place cs w all bare one =
     ((types-31 around allowed t).with_d.adds place cs w one)
 with-d-in-all literal_type around allowed t place cs w all bare one = absurd (no-slot all)
 
--- and builtin types behind a D
+-- and builtin types after a D
 pub with-d-kept : (slot : Slot) (around : Around) (allowed : Option ℕ) (t : Term) (place : ℕ) (cs : List Component) (w : Written)
     → takes_all slot ≡ true → is_function_type t ≡ false
     → ReadsAt around allowed (OfKind AFTER_D) (Is (tree t true)) (place + 1) cs w
@@ -101,7 +101,7 @@ expansion-in any_type around allowed t place cs w all one = absurd (no-slot all)
 expansion-in bare_type around allowed t place cs w all one = absurd (no-slot all)
 expansion-in literal_type around allowed t place cs w all one = absurd (no-slot all)
 
--- references; as a parameter of a function type each becomes a component before those behind it
+-- references; as a parameter of a function type each becomes a component before those after it
 lvalue-in : (slot : Slot) (around : Around) (allowed : Option ℕ) (t : Term) (place : ℕ) (cs : List Component) (w : Written)
     → takes_all slot ≡ true
     → ReadsAt around allowed (OfKind TYPE) (Is (tree t true)) (place + 1) cs w

@@ -36,7 +36,7 @@ within-scope : (around : Around) (x p : Term) → around.prefix ≡ behind x tru
 unfolding extended
 within-scope around x p is = ap (λ y. extended y p) is
 
--- ## Behind a prefix
+-- ## After a prefix
 
 abbrev pub joined_spelling : ℕ → (x p : Term) → Spelling
 joined_spelling n x p = (ways_of n x).as_prefix and (ways_of n p).as_piece

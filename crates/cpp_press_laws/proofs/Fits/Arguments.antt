@@ -89,7 +89,7 @@ arguments-fit around in_pack a b old mid new one other =
     (λ n. (ways_of n b).as_elements) a b (list a b) old mid new
     (λ n allowed. may-as-two (pressed_at n around) allowed a b (list a b) refl (λ arguments. refl)) one other
 
--- a pack of arguments, which stands in no pack
+-- a pack of arguments, which is in no pack
 pub pack-fits : (around : Around) (a : Term) (old new : State) → ArgumentsFit around true a old new → ArgumentFits around false (pack a) old new
 unfolding fits_of argument_fits fits_nowhere ways_of argument_ways no_ways is_open pack_length
 pack-fits around a old new one =
@@ -125,7 +125,7 @@ null-fits around in_pack state =
     text-fitted around ((fits_of null_pointer).as_argument in_pack) (codes "LDnE") null_pointer state
     (λ n allowed place cs. tt) (λ n allowed. may-closed (pressed_at n around) allowed null_pointer refl)
 
--- An encoding inside another, which stands behind bytes of it.
+-- An encoding inside another, which follows bytes of it.
 abbrev pub EncodingFits : (around : Around) → Term → (old new : State) → Type 0
 EncodingFits around e old new =
     (bytes : List ℕ) → 0 < length bytes → Fitted around (λ inner allowed place cs. (fits_of e).as_encoding allowed (place + length bytes) cs)
@@ -161,7 +161,7 @@ address-fits around in_pack e old new one =
 
 -- ## Expansions
 
--- under an expansion packs have a length of their own, behind it the one before
+-- under an expansion packs have a length of their own, after it the one before
 pub expansion-fits : (around : Around) (a : Term) (old mid : State)
     → TypeFits (under_expansion around) any_type a (record old { packs = None }) mid
     → SolidFits takes_expansions around (tree (expansion a) false) old (record mid { packs = old.packs })
@@ -196,7 +196,7 @@ expansion-fits around a old mid one =
           });
     })
 
--- other types fit there as well, where only items stand
+-- other types fit there as well, where there are only items
 pub fewer-slots : (takes less : Slot → Bool) (around : Around) (v : Value) (old new : State)
     → ((slot : Slot) → less slot ≡ true → takes slot ≡ true) → SolidFits takes around v old new → SolidFits less around v old new
 fewer-slots takes less around v old new more one = record {

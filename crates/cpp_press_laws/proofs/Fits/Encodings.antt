@@ -1,4 +1,4 @@
--- An encoding that was read fits where it stands: its parts fit in surroundings of its own, and nothing open in it is named outside.
+-- An encoding that was read fits where it is: its parts fit in surroundings of its own, and nothing open in it is named outside.
 use Rattle.std.proofs.Common.{◌≡◌, ℕ, ◌<◌, ◌⊎◌, inl, inr, List, [], ◌∷◌, ◌++◌, Option, Some, None, Bool, true, false, refl, sym, subst, arith}
 use Rattle.std.specs.Prelude.{◌||◌}
 use Rattle.std.proofs.lemmas.Bool.{true≢false}
@@ -71,7 +71,7 @@ stands-moved scope other t none stands = tt
 
 -- ## Into an encoding and out of it
 
--- each was made in an encoding that begins behind a place
+-- each was made in an encoding that begins after a place
 abbrev pub AllAfter : ℕ → List Candidate → Type 0
 AllAfter place [] = Unit {0}
 AllAfter place (c ∷ cs) = (place < c.encoding) × AllAfter place cs
@@ -119,7 +119,7 @@ among-last : (read n : ℕ) (olds more : List Candidate) (ds : List Component) �
 among-last read n [] more ds among = among
 among-last read n (c ∷ cs) more ds among = among-last read n cs more ds among.1
 
--- behind an encoding the candidates from before stand as they did, and of those from within the closed ones
+-- after an encoding the candidates from before are there as they were, and of those from within the closed ones
 among-outer : (read n at place : ℕ) (olds more : List Candidate) (cs ds : List Component) → ((m : ℕ) (x : Term) → Has m x cs → Has m x ds) → AllAfter read more
     → StandAmong read n olds cs → StandAmong at place (olds ++ more) ds → StandAmong read n (olds ++ more) ds
 among-outer read n at place olds more cs ds keeps later before inner = (
@@ -186,7 +186,7 @@ functions-bare scope at (c ∷ cs) stand = (
   functions-bare scope at cs stand.1,
 )
 
--- what stands in the types of an encoding, in front of which nothing open was made in the encoding
+-- what is in the types of an encoding, before which nothing open was made in the encoding
 pub types-fitted : (at : ℕ) (name e t : Term) (F : Fitting) (s : ℕ → Spelling) (mid new : State) → is_open e ≡ false
     → AllShut at mid.candidates → Fitted (in_types at name) F s t mid new
     → Fitted (in_name at) (λ inner. F (in_types inner.encoding name)) s e mid new

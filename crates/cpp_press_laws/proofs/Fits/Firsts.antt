@@ -1,4 +1,4 @@
--- The name so far between N and E fits behind its first part: a piece, a parameter, an abbreviation or what a reference names.
+-- The name so far between N and E fits after its first part: a piece, a parameter, an abbreviation or what a reference names.
 use Rattle.std.proofs.Common.{◌≡◌, ℕ, ◌⊎◌, inl, inr, List, Option, Bool, true, false, refl, sym, subst}
 use Rattle.cpp_grammar.specs.declared.kind.Kind.{Kind}
 use Rattle.cpp_grammar.specs.Term.{Term, symbol, instance, abbreviation, parameter}
@@ -31,7 +31,7 @@ component-apart _ is = first_of (cc, search is)
 twice : {may stands : Type 0} {one other : Type 0} → may → (stands → ⊥) → (may × (stands → one)) × (may × (stands → other))
 twice may never = ((may, λ stands. absurd (never stands)), (may, λ stands. absurd (never stands)))
 
--- a component that stands before fits as a prefix, and before arguments that end one
+-- a component that comes before fits as a prefix, and before arguments that end one
 prefix-again : (t : Term) → IsComponent t → (around : Around) (allowed : Option ℕ) → MayBeReferred around allowed t → (place : ℕ)
     (cs : List Component) → Has around.encoding t cs
     → (fits_of t).as_prefix around allowed place cs × (fits_of t).as_prefix_template around allowed place cs
@@ -63,7 +63,7 @@ abbreviation-so-far outer l state is =
     let one = (abbreviation-fits (λ slot. true) outer l state is).types any_type tt refl in
     record { apart = λ n place cs front. refl; prefix = one; template = one }
 
--- behind an S
+-- after an S
 pub named-so-far : (outer : Around) (v : Value) (old new : State) → KindFits Kind.Abbreviation outer v old new
     → SoFarFits outer (tree_of v) true old new
 unfolding tree_of
@@ -81,7 +81,7 @@ parameter-so-far outer k old new named bare =
     let one = (parameter-fits (λ slot. true) outer k old new named bare).types any_type tt refl in
     record { apart = λ n place cs front. refl; prefix = one; template = one }
 
--- where a name between N and E begins: nothing is named so far, or the encoding in whose scope it stands
+-- where a name between N and E begins: nothing is named so far, or the encoding in whose scope it is
 abbrev pub BeginsName : Around → Type 0
 BeginsName around = (around.prefix ≡ outermost) ⊎ ((e : Term) × (is_encoding e ≡ true) × (around.prefix ≡ behind e true))
 
@@ -104,7 +104,7 @@ piece-so-far outer p old new (inr (e, is, scoped)) begins one =
       template = local-prefix-template outer e p old new is scoped begins one;
     })
 
--- arguments behind the name so far
+-- arguments after the name so far
 pub arguments-so-far : (outer : Around) (t : Term) (listed : Bool) (v : Value) (start old mid : State) → SoFarFits outer t listed start old
     → ArgumentsFit (inside (after t listed outer)) false (no_items v) (with_prefix (after t listed outer) old) mid
     → PrefixFits outer (instance t (no_items v)) start (appended (after t listed outer) (instance t (no_items v)) mid)

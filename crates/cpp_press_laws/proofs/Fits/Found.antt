@@ -1,4 +1,4 @@
--- A template name that was named by a reference fits before its arguments, which stand behind the reference.
+-- A template name that was named by a reference fits before its arguments, which follow the reference.
 use Rattle.std.proofs.Common.{◌≡◌, ℕ, ◌+◌, length, List, Option, Some, None, Bool, refl, ap, arith, sym, subst, ◌∙◌}
 use Rattle.sym_spell.specs.Pressing as spell
 use Rattle.sym_spell.specs.Pressing.{◌and◌}
@@ -20,7 +20,7 @@ unfolding referred
 referred-found n number own behind other place cs is =
     ap (λ o. elim o as (λ _. spell.Pressed Component) [ Some k ↦ (reference k and behind) place cs | None ↦ other place cs ]) is
 
--- a component that stands before is a reference
+-- a component that comes before is a reference
 component-is : (n number : ℕ) (own : Term) (s : Spelling) (place : ℕ) (cs : List Component) → first_equal n own 0 cs ≡ Some number
     → component n own s place cs ≡ reference number place cs
 unfolding component
@@ -33,7 +33,7 @@ component-found n number own s behind place cs is =
     let first : spell.Pressed Component → Spelling = λ w later ds. w in
     ap (λ w. (first w and behind) place cs) (component-is n number own s place cs is)
 
--- behind a component that stands before, as behind the reference to it
+-- after a component that comes before, as after the reference to it
 named-behind : (n number : ℕ) (own : Term) (s : Spelling) (G : Standing) (place : ℕ) (cs : List Component) → first_equal n own 0 cs ≡ Some number
     → Behind (reference number) G place cs → Behind (component n own s) G place cs
 named-behind n number own s G place cs is fits =
@@ -46,7 +46,7 @@ same-reference : (number other : ℕ) (G : Standing) (place : ℕ) (cs : List Co
     → Behind (reference number) G place cs → Behind (reference other) G place cs
 same-reference number other G place cs same fits = subst (λ k. Behind (reference k) G place cs) (some-one same) fits
 
--- the number of what stands
+-- the number of what is there
 record FoundAt (n : ℕ) (own : Term) (cs : List Component) : Type 0 where
   pub number : ℕ
   pub is : first_equal n own 0 cs ≡ Some number
@@ -58,7 +58,7 @@ found-number n own cs has = go (first_equal n own 0 cs) refl
     go (Some number) is = record { number = number; is = is }
     go None is = absurd (stands-found n own 0 cs has is)
 
--- where a template name stands, a reference to it is spelled before its arguments
+-- where a template name is, a reference to it is spelled before its arguments
 before-spelled : (t : Term) → IsComponent t → (n number : ℕ) (typed : Bool) (arguments : Spelling) (place : ℕ) (cs : List Component)
     → first_equal n t 0 cs ≡ Some number → (ways_of n t).before typed arguments place cs ≡ (reference number and arguments) place cs
 unfolding ways_of type_ways name_ways no_ways template_before

@@ -1,4 +1,4 @@
--- Names that were read piece by piece fit: where what stands before a piece fits, and the piece behind it, so does the longer name.
+-- Names that were read piece by piece fit: where what comes before a piece fits, and the piece after it, so does the longer name.
 use Rattle.std.proofs.Common.{◌≡◌, ℕ, ◌+◌, inl, inr, List, [], ◌∷◌, Option, true, false, refl, subst}
 use Rattle.std.specs.Prelude.{codes}
 use Rattle.sym_spell.specs.Pressing as spell
@@ -24,7 +24,7 @@ use Rattle.cpp_press_laws.proofs.Fits.Types.{may-as, may-as-two}
 
 -- ## Surroundings and spellings
 
--- the same surroundings behind another prefix
+-- the same surroundings after another prefix
 abbrev pub having : Prefix → Around → Around
 having prefix around = record {
   scope = around.scope;
@@ -34,7 +34,7 @@ having prefix around = record {
   prefix = prefix;
 }
 
--- what fits behind another prefix
+-- what fits after another prefix
 pub moved : (around : Around) (prefix : Prefix) (F : Fitting) (s : ℕ → Spelling) (t : Term) (old new : State)
     → Fitted (having prefix around) F s t old new → Fitted around (λ inner. F (having prefix inner)) s t old new
 moved around prefix F s t old new one = record {
@@ -131,7 +131,7 @@ arguments-fitted around a old now one =
     (fitted-bytes around F (λ n. (ways_of n a).as_elements) (codes "E") a old now
     (moved around outermost ((fits_of a).as_elements false) (λ n. (ways_of n a).as_elements) a old now one))
 
--- ## A piece behind a prefix
+-- ## A piece after a prefix
 
 pub within-may : (around : Around) (t p : Term) (n : ℕ) (allowed : Option ℕ) → MayBeReferred (pressed_at n around) allowed t
     → MayBeReferred (pressed_at n around) allowed p → MayBeReferred (pressed_at n around) allowed (within t p)
@@ -139,7 +139,7 @@ unfolding is_open pack_length
 within-may around t p n allowed one other =
     may-as-two (pressed_at n around) allowed t p (within t p) refl (λ arguments. refl) one other
 
--- a piece behind a prefix
+-- a piece after a prefix
 pub within-joined : (around : Around) (t p : Term) (old mid now : State) → names_member p ≡ true → PrefixFits around t old mid
     → PieceFits (after t true around) p mid now → BetweenFits around (within t p) old now
 unfolding after fits_of ways_of name_ways no_ways
@@ -182,7 +182,7 @@ within-prefix-template around t p old now one =
     prefix-component around (within t p) (fits_of (within t p)).between _ old now tt tt (λ n allowed place cs joined. inr joined)
     (λ n allowed place cs fits complete. ((adds (within t p)).as_prefix_template (pressed_at n around) allowed place cs fits complete).complete) one
 
--- ## A piece behind St
+-- ## A piece after St
 
 pub std-between : (around : Around) (p : Term) (old now : State) → names_function p ≡ true → PieceFits around p old now
     → BetweenFits around (in_std p) old now
@@ -200,7 +200,7 @@ std-prefix around p old now one =
     prefix-component around (in_std p) (fits_of (in_std p)).between _ old now tt tt (λ n allowed place cs fits. fits)
     (λ n allowed place cs fits complete. ((adds (in_std p)).as_prefix (pressed_at n around) allowed place cs fits complete).complete) one
 
--- ## Arguments behind a template name
+-- ## Arguments after a template name
 
 pub instance-may : (around : Around) (t a : Term) (n : ℕ) (allowed : Option ℕ) → MayBeReferred (pressed_at n around) allowed t
     → MayBeReferred (pressed_at n around) allowed a → MayBeReferred (pressed_at n around) allowed (instance t a)

@@ -80,7 +80,7 @@ nested-entity around t role old now apart more one =
 
 -- ## Names
 
--- a piece behind a prefix
+-- a piece after a prefix
 pub within-nest : (around : Around) (t p : Term) (old now : State) → Wherever around old (is_encoding t ≡ false)
     → BetweenFits around (within t p) old now → NestFits around (within t p) old now
 unfolding fits_of ways_of name_ways no_ways is_encoding is_function_type is_one_piece with_letters
@@ -113,7 +113,7 @@ within-nest around t p old now apart one = record {
     by [] = nested-fitted around [] (fits_of own).between between own old now one
     by (l ∷ ls) = nested-fitted around (l ∷ ls) (fits_of own).between between own old now one
 
--- a piece behind St
+-- a piece after St
 pub std-nest : (around : Around) (p : Term) (old now : State) → BetweenFits around (in_std p) old now → NestFits around (in_std p) old now
 unfolding fits_of ways_of name_ways no_ways is_encoding is_function_type is_one_piece
 std-nest around p old now one = record {

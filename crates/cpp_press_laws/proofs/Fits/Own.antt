@@ -1,4 +1,4 @@
--- Names that were read fit where they stand: as types, as an encoding's own name and as local entities, with arguments or without.
+-- Names that were read fit where they are: as types, as an encoding's own name and as local entities, with arguments or without.
 use Rattle.std.proofs.Common.{◌≡◌, ℕ, inl, inr, [], Bool, true, false, refl, ap, sym, subst}
 use Rattle.cpp_grammar.specs.declared.kind.Kind.{Kind}
 use Rattle.cpp_grammar.specs.Term.{any_value, Term, alone, in_std, within, instance, abbreviation}
@@ -81,9 +81,9 @@ nest-solid takes around v old new read =
     nest : NestFits around (tree_of v) old new
     nest = read.1
 
--- ## Names behind an S
+-- ## Names after an S
 
--- a piece behind St
+-- a piece after St
 pub std-own : (around : Around) (p : Term) (w : Value) (old mid new : State) → names_function p ≡ true → PieceFits around p old mid
     → KindFits Kind.MaybeArguments (after (in_std p) false around) w mid new
     → OwnNameFits around (applied (in_std p) w) unqualified any_value old new

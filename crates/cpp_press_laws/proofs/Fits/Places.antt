@@ -1,4 +1,4 @@
--- Where a part is read: what is known of the candidates in front of it; and what a production comes to behind its parts.
+-- Where a part is read: what is known of the candidates before it; and what a production comes to after its parts.
 use Rattle.std.proofs.Common.{◌≡◌, ℕ, ◌≤◌, List, [], ◌∷◌, false, ap, sym, ◌∙◌}
 use Rattle.sym_link.specs.Reading.{Found}
 use Rattle.sym_link.specs.Unfold.{found}
@@ -16,7 +16,7 @@ use Rattle.cpp_press_laws.proofs.Fits.Sorts.{Meant, Later}
 
 -- ## Places
 
--- in front of a part
+-- before a part
 pub record Placed (around : Around) (at : ℕ) (state : State) : Type 0 where
   pub lambda : LambdasAreBare around
   pub encoding : around.encoding ≤ at
@@ -31,7 +31,7 @@ first-value r d = go r.value
     go [] = d
     go (v ∷ vs) = v
 
--- what a production comes to, and the state behind it
+-- what a production comes to, and the state after it
 pub record Ended (p : Production) (byte : ℕ) (around : Around) (old : State) (vs : List Value) (mid : State) (v : Value) (new : State) :
     Type 0 where
   pub comes : v ≡ Meant p byte around vs
@@ -52,7 +52,7 @@ ended-as p byte around old inner one vs mid v new closes goes comes =
 
 -- ## Encodings
 
--- an encoding that fits does so behind bytes
+-- an encoding that fits does so after bytes
 pub behind-bytes : (around : Around) (e : Term) (old new : State) → WholeFits around e old new → EncodingFits around e old new
 behind-bytes around e old new one bytes some =
     bytes-fitted around (λ inner allowed place cs. (fits_of e).as_encoding allowed place cs) bytes (λ n. (ways_of n e).as_encoding) e old new one

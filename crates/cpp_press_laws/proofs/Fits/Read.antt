@@ -1,4 +1,4 @@
--- What it means that what a reader reads is fit: it fits, and is spelled, wherever the reader's candidates stand among components.
+-- What it means that what a reader reads is fit: it fits, and is spelled, wherever the reader's candidates are among components.
 use Rattle.std.proofs.Common.{◌≡◌, ℕ, ◌+◌, ◌≤◌, ◌⊎◌, length, List, [], ◌∷◌, ◌++◌, Option, false, arith, subst, length-append}
 use Rattle.sym_spell.specs.Pressing as spell
 use Rattle.sym_spell.specs.Pressing.{◌and◌, text}
@@ -31,14 +31,14 @@ FunctionsStand scope read [] = Unit {0}
 FunctionsStand scope read (c ∷ cs) =
     ((is_open c.tree ≡ false) ⊎ (c.encoding ≡ read) → FunctionStands scope c.tree) × FunctionsStand scope read cs
 
--- complete components in an encoding, among which the candidates stand in front of a part
+-- complete components in an encoding, among which are the candidates before a part
 pub record Front (around : Around) (n place : ℕ) (cs : List Component) (old : State) : Type 0 where
   pub later : n ≤ place
   pub complete : Complete cs
   pub among : StandAmong around.encoding n old.candidates cs
   pub functions : FunctionsStand around.scope around.encoding old.candidates
 
--- a part with this tree fits there, and behind its spelling the candidates stand among the components
+-- a part with this tree fits there, and after its spelling the candidates are among the components
 pub record PartFits (around : Around) (F : Fitting) (spelled : ℕ → Spelling) (t : Term) (n : ℕ) (allowed : Option ℕ) (place : ℕ)
     (cs : List Component) (new : State) : Type 0 where
   pub fits : F (pressed_at n around) allowed place cs
@@ -53,7 +53,7 @@ pub record Fitted (around : Around) (F : Fitting) (spelled : ℕ → Spelling) (
   pub fits : (n place : ℕ) (cs : List Component) (allowed : Option ℕ) → Front around n place cs old → Allows allowed new.packs
       → PartFits around F spelled t n allowed place cs new
 
--- what is so wherever components stand in front of what was read from this state
+-- what is so wherever components come before what was read from this state
 abbrev pub Wherever : Around → State → Type 0 → Type 0
 Wherever around old So = (n place : ℕ) (cs : List Component) → Front around n place cs old → So
 
@@ -73,7 +73,7 @@ functions-append scope read (c ∷ cs) ds one other = (one.0, functions-append s
 
 -- ## Surroundings of parts
 
--- behind a part that fits
+-- after a part that fits
 pub front-behind : (around : Around) (F : Fitting) (s : ℕ → Spelling) (t : Term) (n : ℕ) (allowed : Option ℕ) (place : ℕ)
     (cs : List Component) (old new : State) → Front around n place cs old → PartFits around F s t n allowed place cs new
     → Front around n (place + length (s n place cs).bytes) (s n place cs).components new
@@ -90,7 +90,7 @@ allows-before allowed old new stay allows m is = allows m (stay m is)
 
 -- ## What is read in turn
 
--- a place behind two spellings
+-- a place after two spellings
 pub behind-both : (first rest : Spelling) (G : Standing) (place : ℕ) (cs : List Component) → Behind first (Behind rest G) place cs
     → Behind (first and rest) G place cs
 behind-both first rest G place cs fits =
@@ -135,7 +135,7 @@ text-fitted around F bytes t state fits may = record {
   };
 }
 
--- one part behind another
+-- one part after another
 pub and-fitted : (around : Around) (F G : Fitting) (s r : ℕ → Spelling) (a b t : Term) (old mid new : State)
     → ((n : ℕ) (allowed : Option ℕ) → MayBeReferred (pressed_at n around) allowed a → MayBeReferred (pressed_at n around) allowed b
     → MayBeReferred (pressed_at n around) allowed t)
@@ -157,7 +157,7 @@ and-fitted around F G s r a b t old mid new may one other = record {
       });
 }
 
--- behind bytes that name nothing
+-- after bytes that name nothing
 pub bytes-fitted : (around : Around) (F : Fitting) (bytes : List ℕ) (s : ℕ → Spelling) (t : Term) (old new : State)
     → Fitted around F s t old new
     → Fitted around (λ inner allowed place cs. F inner allowed (place + length bytes) cs) (λ n. text bytes and s n) t old new

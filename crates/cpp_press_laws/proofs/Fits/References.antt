@@ -1,4 +1,4 @@
--- What a reader names by a reference fits, since it stands among the components, and what has no parts fits as it was read.
+-- What a reader names by a reference fits, since it is among the components, and what has no parts fits as it was read.
 use Rattle.std.proofs.Common.{◌≡◌, ℕ, zero, suc, ◌⊎◌, inl, inr, List, [], ◌∷◌, Option, Some, None, Bool, true, false, Result, Ok, Err, refl, ap, sym, subst, ◌∙◌}
 use Rattle.std.specs.Prelude.{◌&&◌, ◌||◌, not, nat_eq, slice_get}
 use Rattle.std.proofs.lemmas.Bool.{eqb-true}
@@ -28,7 +28,7 @@ use Rattle.cpp_press_laws.proofs.Fits.Types.{BareFits, SolidFits}
 
 -- ## What a substitution stands for
 
--- a candidate that was named: where it may be named, its packs, and the state behind it
+-- a candidate that was named: where it may be named, its packs, and the state after it
 pub record Referred (around : Around) (old new : State) (c : Candidate) : Type 0 where
   pub number : ℕ
   pub there : slice_get old.candidates number ≡ Some c
@@ -71,7 +71,7 @@ component-stands (abbreviation l) slot scope is = absurd is
 component-stands (symbol e suffix) slot scope is = absurd is
 component-stands t slot scope is = (is, inr refl)
 
--- a component that stands among complete ones fits as a type
+-- a component that is among complete ones fits as a type
 pub type-again : (t : Term) (slot : Slot) → IsNotBare slot → IsComponent t → (around : Around) (allowed : Option ℕ)
     → MayBeReferred around allowed t → (place : ℕ) (cs : List Component) → Complete cs → Has around.encoding t cs
     → (fits_of t).as_type slot around allowed place cs
@@ -92,7 +92,7 @@ bare-again t is around allowed stands may place cs complete has =
 
 -- ## References
 
--- What was named is spelled where it stands: nothing is added.
+-- What was named is spelled where it is: nothing is added.
 pub referred-fitted : (around : Around) (F : Fitting) (s : ℕ → Spelling) (old new : State) (c : Candidate) (P : Term → Type 0)
     → Referred around old new c
     → ((n : ℕ) (allowed : Option ℕ) → Adds n P (F (pressed_at n around) allowed) (s n))

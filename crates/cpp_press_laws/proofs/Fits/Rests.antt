@@ -19,7 +19,7 @@ use Rattle.cpp_press_laws.proofs.Fits.Sorts.{KindFits, ArgumentsRead}
 abbrev pub NestRead : Around → Value → (start new : State) → Type 0
 NestRead outer v start new = (v ≡ tree (tree_of v) false) × NestFits outer (tree_of v) start new
 
--- The name so far, in front of arguments or of a further piece (kind NestRest). `outer` surrounds the name, which began at `start`.
+-- The name so far, before arguments or of a further piece (kind NestRest). `outer` surrounds the name, which began at `start`.
 pub record SoFarFits (outer : Around) (t : Term) (listed : Bool) (start old : State) : Type 0 where
   pub apart : Wherever outer start (is_encoding t ≡ false)
   pub prefix : PrefixFits outer t start (with_prefix (after t listed outer) old)
@@ -27,7 +27,7 @@ pub record SoFarFits (outer : Around) (t : Term) (listed : Bool) (start old : St
 
 -- ## A template name or its instance
 
--- a name without arguments, or with those behind it
+-- a name without arguments, or with those after it
 pub applied-as : (P : Term → State → Type 0) (around : Around) (t : Term) (v : Value) (mid new : State) → P t mid
     → (ArgumentsRead (after t false around) v mid new → P (instance t (tree_of v)) new)
     → KindFits Kind.MaybeArguments (after t false around) v mid new → P (applied t v) new
@@ -51,9 +51,9 @@ applied-nest outer around t v start mid new template nest here arguments = (
       (λ h. instance-nest outer t (tree_of v) start mid new template (here h)) arguments,
 )
 
--- ## Components and pieces behind St
+-- ## Components and pieces after St
 
--- a piece behind a prefix, with or without arguments (kind Component)
+-- a piece after a prefix, with or without arguments (kind Component)
 pub component-read : (outer : Around) (t p : Term) (v : Value) (start old mid new : State) → Wherever outer start (is_encoding t ≡ false)
     → names_member p ≡ true
     → PrefixFits outer t start old → PieceFits (after t true outer) p old mid
@@ -65,7 +65,7 @@ component-read outer t p v start old mid new apart names one piece arguments =
     applied-nest outer (after t true outer) (within t p) v start mid new (within-template outer t p start mid apart between)
     (within-nest outer t p start mid apart between) (λ h. h) arguments
 
--- a piece behind St, with or without arguments (production NestStd)
+-- a piece after St, with or without arguments (production NestStd)
 pub std-read : (outer : Around) (p : Term) (v : Value) (start mid new : State) → names_function p ≡ true → PieceFits outer p start mid
     → KindFits Kind.MaybeArguments (after (in_std p) false outer) v mid new → NestRead outer (tree (applied (in_std p) v) false) start new
 unfolding after inside with_prefix prefix_listed prefix_tree appended
@@ -76,7 +76,7 @@ std-read outer p v start mid new names piece arguments =
 
 -- ## The root
 
--- a symbol whose encoding fits behind its first two bytes
+-- a symbol whose encoding fits after its first two bytes
 pub symbol-fits : (e : Term) (suffix : List ℕ) (new : State) → WholeFits first_around e first_state new → new.packs ≡ None
     → IsSpellableSuffix suffix → SymbolFits (symbol e suffix)
 unfolding first_around first_state

@@ -68,7 +68,7 @@ vendor-fits around name state is =
     }) (λ slot take. text-fitted around (G slot) bytes t state (λ n allowed place cs. (take, is))
     (λ n allowed. may-closed (pressed_at n around) allowed t refl))
 
--- a builtin type by its letter, where any type but one of a literal stands
+-- a builtin type by its letter, where any type but one of a literal is
 pub builtin-solid : (around : Around) (byte : ℕ) (state : State) → byte < 256 → choose Kind.Solid byte ≡ Some Production.Builtin
     → SolidFits takes_all around (tree (builtin (byte ∷ [])) true) state state
 unfolding takes_all
@@ -81,7 +81,7 @@ builtin-solid around byte state small is = builtin-fits takes_all around (byte �
     slots parameter_type take = (small, is)
     slots literal_type take = absurd (false≢true take)
 
--- the same behind a D
+-- the same after a D
 pub builtin-with-d : (around : Around) (byte : ℕ) (state : State) → byte < 256 → choose Kind.AfterD byte ≡ Some Production.BuiltinWithD
     → SolidFits takes_all around (tree (builtin (68 ∷ byte ∷ [])) true) state state
 unfolding takes_all

@@ -26,13 +26,13 @@ unfoldable pub takes_literals : Slot → Bool
 takes_literals literal_type = true
 takes_literals _ = false
 
--- what stands behind an S: an abbreviation, or what a reference names
+-- what follows an S: an abbreviation, or what a reference names
 abbrev pub AbbreviationRead : Around → Value → (old new : State) → Type 0
 AbbreviationRead around v old new =
     ((l : ℕ) × (v ≡ tree (abbreviation l) true) × IsAbbreviation l × (new ≡ old))
     ⊎ ((c : Candidate) × (v ≡ tree c.tree true) × Referred around old new c)
 
--- the arguments behind a name, which becomes a candidate before them if it isn't one
+-- the arguments after a name, which becomes a candidate before them if it isn't one
 abbrev pub ArgumentsRead : Around → Value → (old new : State) → Type 0
 ArgumentsRead around v old new = ElementsFit around (tree_of v) (with_prefix around old) new
 
@@ -79,7 +79,7 @@ KindFits _ around v old new = Unit {0}
 
 -- ## Types become candidates
 
--- what a production comes to behind parts with these values
+-- what a production comes to after parts with these values
 abbrev pub Meant : Production → (byte : ℕ) → Around → List Value → Value
 Meant p byte around vs = meaning p byte around vs
 
@@ -288,7 +288,7 @@ unfolding meaning no_items tree_of part unfolding_.behind
 items around byte began v rest old mid new one other =
     (tt, list-fits around item_type (tree_of v) (no_items rest) old mid new one other.1)
 
--- no parameters behind a mark
+-- no parameters after a mark
 pub ref-end-lvalue : (around : Around) (byte : ℕ) (began state : State)
     → KindFits Kind.AfterR around (Meant Production.RefEnd byte around []) state (Later Production.RefEnd byte around began [] state)
 unfolding meaning signature_or tree_of unfolding_.behind

@@ -23,9 +23,9 @@ use Rattle.cpp_press_laws.proofs.Fits.Lists.{ListFits, void-adds-none}
 use Rattle.cpp_press_laws.proofs.Fits.Nests.{OwnNameFits}
 use Rattle.cpp_press_laws.proofs.Fits.Encodings.{AllAfter, AllShut, encoding-fitted, types-fitted}
 
--- ## Where encodings stand
+-- ## Where encodings are
 
--- what was read from one state to another stands between the places of two encodings
+-- what was read from one state to another is between the places of two encodings
 pub record StaysBehind (around : Around) (at : ℕ) (old new : State) : Type 0 where
   pub more : List Candidate
   pub grows : new.candidates ≡ old.candidates ++ more

@@ -18,7 +18,7 @@ use Rattle.cpp_press_laws.specs.Fits.{Standing, Fitting, Behind, as_component, a
 use Rattle.cpp_press_laws.proofs.Fits.Read.{pressed_at, Fitted, Wherever, refitted, behind-both, and-fitted, bytes-fitted, fitted-bytes}
 use Rattle.cpp_press_laws.proofs.Fits.Names.{respelled, ended-fitted, BetweenFits, TemplateBetweenFits, TemplatePrefixFits, within-prefix, within-prefix-template, std-prefix, ElementsFit, arguments_standing, arguments_text, arguments-fitted, instance-may}
 
--- a component and what stands behind it, where an equal one stands before
+-- a component and what follows it, where an equal one comes before
 behind-found : (n number : ℕ) (own : Term) (s : Spelling) (G : Standing) (place : ℕ) (cs : List Component) → first_equal n own 0 cs ≡ Some number
     → Behind (component n own s) G place cs → Behind (reference number) G place cs
 unfolding component
@@ -31,7 +31,7 @@ behind-found n number own s G place cs is fits = go (first_equal n own 0 cs) is 
     go (Some k) same h = let equal : k ≡ number = cc in subst (λ j. Behind (reference j) G place cs) equal h
     go None same h = absurd cc
 
--- where an equal one stands before, the components are those behind a reference, or else those behind the whole spelling
+-- where an equal one comes before, the components are those after a reference, or else those after the whole spelling
 components-before : (n : ℕ) (own : Term) (needs_N : Bool) (s between arguments : Spelling) (place : ℕ) (cs : List Component)
     (P : List Component → Type 0) → P ((component n own s and arguments) place cs).components
     → P ((elim needs_N as (λ _. Spelling) [
@@ -156,7 +156,7 @@ pub record TemplateFits (around : Around) (t : Term) (old mid : State) : Type 0 
       → Fitted around ((fits_of t).before typed (arguments_standing a)) (λ n. (ways_of n t).before typed (arguments_text a n)) (instance t a) old
       now
 
--- a piece behind a prefix that isn't an encoding
+-- a piece after a prefix that isn't an encoding
 pub within-template : (around : Around) (t p : Term) (old mid : State) → Wherever around old (is_encoding t ≡ false)
     → BetweenFits around (within t p) old mid → TemplateFits around (within t p) old mid
 unfolding fits_of ways_of name_ways no_ways is_one_piece
@@ -177,7 +177,7 @@ within-template around t p old mid apart one = record {
       other);
 }
 
--- a piece behind St, which an N stands before where it is an operator of a type
+-- a piece after St, with an N before it where it is an operator of a type
 pub std-template : (around : Around) (p : Term) (old mid : State) → BetweenFits around (in_std p) old mid
     → TemplateFits around (in_std p) old mid
 unfolding fits_of ways_of name_ways no_ways is_one_piece

@@ -38,7 +38,7 @@ referred-name around old new c r = record {
   before = λ a now other. referred-before around true c a old new now r other;
 }
 
--- behind an S
+-- after an S
 pub abbreviated-type : (around : Around) (byte : ℕ) (began : State) (v : Value) (old new : State) → KindFits Kind.Abbreviation around v old new
     → KindFits Kind.TypeAfterS around (Meant Production.AbbreviatedType byte around (v ∷ [])) old
     (Later Production.AbbreviatedType byte around began (v ∷ []) new)
@@ -154,7 +154,7 @@ unfolding meaning no_items tree_of part unfolding_.behind
 literal-element around byte began v mark rest old mid new one other =
     arguments-fit around true (tree_of v) (no_items rest) old mid new (one true) other
 
--- the pack is made before the arguments behind it
+-- the pack is made before the arguments after it
 pub pack-argument : (around : Around) (byte : ℕ) (began : State) (t : Term) (mark rest : Value) (old mid new : State)
     → ArgumentsFit around true t old mid → KindFits Kind.ArgumentList around rest mid new
     → KindFits Kind.ArgumentList around (Meant Production.PackArgument byte around (tree (pack t) true ∷ mark ∷ rest ∷ [])) old
@@ -168,7 +168,7 @@ pub no-arguments : (around : Around) (in_pack : Bool) (state : State) → Argume
 unfolding no_items
 no-arguments around in_pack state = no-arguments-fit around in_pack state
 
--- with their I and E; the name in front of them is a candidate before they begin
+-- with their I and E; the name before them is a candidate before they begin
 pub arguments-read : (around : Around) (byte : ℕ) (began : State) (v mark : Value) (old new : State)
     → KindFits Kind.ArgumentList (inside around) v (with_prefix around old) new
     → KindFits Kind.Arguments around (Meant Production.Arguments byte around (v ∷ mark ∷ [])) old
@@ -247,7 +247,7 @@ builtin-literal around byte state small is = builtin-fits takes_literals around 
     slots item_type take = absurd (false≢true take)
     slots parameter_type take = absurd (false≢true take)
 
--- ## Behind an S, and types of vendors
+-- ## After an S, and types of vendors
 
 pub abbreviation-read : (around : Around) (byte : ℕ) (began state : State) → byte < 256
     → choose Kind.Abbreviation byte ≡ Some Production.Abbreviation

@@ -1,4 +1,4 @@
--- Types that were read fit, before they are candidates and behind that.
+-- Types that were read fit, before they are candidates and after that.
 use Rattle.std.proofs.Common.{◌≡◌, ℕ, ◌+◌, inl, inr, length, List, ◌++◌, Option, Some, None, Bool, true, false, refl, ap, sym, subst, ◌∙◌}
 use Rattle.std.specs.Prelude.{◌&&◌, ◌||◌, codes}
 use Rattle.sym_core.specs.declared.NumberKind.TheVariants.{Decimal, Digits}
@@ -73,7 +73,7 @@ may-closed around allowed t closed = record {
   packs = inl (packs-none around.scope t (λ arguments. closed-packs arguments t closed));
 }
 
--- ## Types where they stand
+-- ## Types where they are
 
 abbrev pub TypeFits : (around : Around) → Slot → Term → (old new : State) → Type 0
 TypeFits around slot t old new = Fitted around ((fits_of t).as_type slot) (λ n. (ways_of n t).as_type) t old new
@@ -94,7 +94,7 @@ SolidFits takes around v old new =
     SolidAs takes around (tree_of v) (fits_of (tree_of v)).as_type (λ n. (ways_of n (tree_of v)).as_type)
     (λ n. (ways_of n (tree_of v)).under_qualifiers) old (with_type around v new) (with_unqualified around v new)
 
--- ## Components that are spelled alike wherever they stand
+-- ## Components that are spelled alike wherever they are
 
 pub typed-complete : (t : Term) → ((n : ℕ) → (ways_of n t).under_qualifiers ≡ (ways_of n t).as_type) → (slot : Slot) (around : Around)
     (allowed : Option ℕ) (place : ℕ) (cs : List Component) → (fits_of t).as_type slot around allowed place cs → Complete cs
@@ -135,12 +135,12 @@ spelled-solid takes around t G s old new spelled one = record {
   bare = λ take. spelled-fitted around t G s bare_type old new spelled (one bare_type take);
 }
 
--- behind bytes, a type that adds nothing else
+-- after bytes, a type that adds nothing else
 pub bytes-keep : (n : ℕ) (t a : Term) (bytes : List ℕ) → In (Whole a) (Whole t) → KeepsTo Unit n (Whole t) (text bytes and (ways_of n a).as_type)
 bytes-keep n t a bytes inside =
     and-keeps Unit n (Whole t) (text bytes) (ways_of n a).as_type (text-keeps Unit n (Whole t) bytes) ((keeps a Unit n (Whole t)).as_type inside)
 
--- a component of one type behind bytes
+-- a component of one type after bytes
 pub one-part : (takes : Slot → Bool) (around : Around) (t a : Term) (bytes : List ℕ) (G : Slot → Fitting) (old new : State)
     → Spelled around t G (λ n. text bytes and (ways_of n a).as_type) → is_open t ≡ is_open a
     → ((arguments : Term) → pack_length arguments t ≡ pack_length arguments a)
@@ -268,7 +268,7 @@ member-pointer-fits takes around a b old mid new one other =
 
 -- ## Qualified types
 
--- behind letters a type that is bare
+-- after letters a type that is bare
 pub qualified-fits : (around : Around) (q : Qualifiers) (a : Term) (slot : Slot) (old new : State) → takes_qualified slot ≡ true
     → has_letters q ≡ true → BareFits around a old new → TypeFits around slot (qualified q a) old (appended around (qualified q a) new)
 unfolding fits_of type_fits fits_nowhere ways_of type_ways no_ways is_open pack_length

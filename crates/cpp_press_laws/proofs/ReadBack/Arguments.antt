@@ -126,7 +126,7 @@ arguments-read around allowed k items last place cs middle w takes are passes on
 
 -- ## Expansions
 
--- What stands under an expansion names packs of one length, whichever they may have around it.
+-- What is under an expansion names packs of one length, whichever they may have around it.
 pub expansion-reads : (around : Around) (allowed inner : Option ℕ) (t : Term) (place : ℕ) (cs : List Component) (w : Written)
     → ReadsAt (under_expansion around) inner (OfKind TYPE) (Is (tree t true)) (place + 1) cs w
     → ReadsAt around allowed (OfKind ITEM_AFTER_D) (Is (tree (expansion t) false)) place cs (written (112 ∷ w.bytes) w.components)

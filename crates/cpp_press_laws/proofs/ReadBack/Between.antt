@@ -1,4 +1,4 @@
--- Names are read from their pieces: alone and behind St, as prefixes and between N and E, with arguments and without.
+-- Names are read from their pieces: alone and after St, as prefixes and between N and E, with arguments and without.
 use Rattle.std.proofs.Common.{◌≡◌, ℕ, ◌+◌, length, List, [], ◌∷◌, ◌++◌, Option, true, false, ap, arith, sym, subst, append-nil, append_assoc, length-append}
 use Rattle.sym_shape.specs.declared.rule.Sym.TheVariants.{Kind as OfKind}
 use Rattle.sym_shape.specs.Tree.{TakesRule}
@@ -25,7 +25,7 @@ use Rattle.cpp_press_laws.proofs.ReadBack.Named.{NameRule, PieceReads}
 abbrev pub in_I_and_E : List ℕ → List ℕ
 in_I_and_E bytes = 73 ∷ (bytes ++ (69 ∷ []))
 
--- elements behind a template name that has become a component
+-- elements after a template name that has become a component
 abbrev pub ElementsRead : Around → Option ℕ → (last : Value) → (place : ℕ) → List Component → Written → Type 0
 ElementsRead around allowed last place cs args = ReadsAt (inside around) allowed (OfKind ARGUMENT_LIST) (Is last) (place + 1) cs args
 
@@ -55,7 +55,7 @@ named-piece around allowed k p t place cs w one rule is = record {
       (subst (λ x. ElementsRead around allowed last (place + length w.bytes) (more around w.components x) args) (sym is) two)));
 }
 
--- a piece behind St, as an encoding's own name
+-- a piece after St, as an encoding's own name
 pub named-std : (around : Around) (allowed : Option ℕ) (p : Term) (place : ℕ) (cs : List Component) (w : Written)
     → ReadsAt around allowed (OfKind UNQUALIFIED) (Is (piece p)) (place + 2) cs w
     → Named around allowed 8 (in_std p) place cs (written (83 ∷ 116 ∷ w.bytes) w.components)
@@ -96,7 +96,7 @@ named-std-type k around allowed p place cs w takes one =
 
 -- ## Between N and E
 
--- a name so far with its arguments, in front of which it becomes a component
+-- a name so far with its arguments, before which it becomes a component
 abbrev pub SoFarWith : Around → Option ℕ → (t : Term) → (place : ℕ) → List Component → Written → Type 0
 SoFarWith around allowed t place cs w =
     (items : Term) (last : Value) (args : Written) → no_items last ≡ items
@@ -107,7 +107,7 @@ pub record Nested (around : Around) (allowed : Option ℕ) (t : Term) (place : �
   pub bare : SoFar around allowed t false 18 place cs w
   pub instanced : SoFarWith around allowed t place cs w
 
--- a piece behind St
+-- a piece after St
 pub nested-std : (around : Around) (allowed : Option ℕ) (p : Term) (place : ℕ) (cs : List Component) (w : Written)
     → ReadsAt around allowed (OfKind UNQUALIFIED) (Is (piece p)) (place + 2) cs w
     → Nested around allowed (in_std p) place cs (written (83 ∷ 116 ∷ w.bytes) w.components)
@@ -126,7 +126,7 @@ nested-std around allowed p place cs w one =
           (omega arith) two));
     }
 
--- a piece behind a prefix
+-- a piece after a prefix
 pub nested-within : (around : Around) (allowed : Option ℕ) (x p : Term) (place : ℕ) (cs : List Component) (w one : Written)
     → Extends around allowed x place cs w
     → Named (after x true around) allowed 19 (within x p) (place + length w.bytes) w.components one
@@ -205,7 +205,7 @@ prefix-with-piece around allowed p t place cs w so_far is =
     subst (λ x. ExtendsWith around allowed x place cs (written w.bytes (more around w.components x))) is
     (λ items last args are two. nest-arguments around allowed (extended around.prefix p) items false last place cs w args are so_far two)
 
--- what stands between N and E becomes a component
+-- what is between N and E becomes a component
 pub prefix-nested : (around : Around) (allowed : Option ℕ) (t : Term) (place : ℕ) (cs : List Component) (w : Written)
     → SoFar around allowed t false 18 place cs w → Extends around allowed t place cs (written w.bytes (more around w.components t))
 prefix-nested around allowed t place cs w so_far = extends-more NEST_TAIL around allowed t place cs w next-18 so_far

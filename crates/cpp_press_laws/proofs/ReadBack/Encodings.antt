@@ -175,7 +175,7 @@ std-type around allowed p place cs w one =
     (subst (λ q. ReadsAt around allowed (OfKind SOURCE_OR_LOCAL) (Is (piece p)) q cs w) (omega arith) one)
     (empty-reads (after (in_std p) false around) allowed MAYBE_TAGS Kind.MaybeTags (place + 0 + 1 + length w.bytes) w.components refl refl)))
 
--- what stands behind an S as a type, and its arguments
+-- what follows an S as a type, and its arguments
 pub type-with-arguments : (k : ℕ) (around : Around) (allowed : Option ℕ) (t items : Term) (listed : Bool) (place : ℕ) (cs : List Component)
     (first args : Written) → TakesRule abi k (rule_of Production.TypeWithS) (83 ∷ [])
     → ReadsAt around allowed (OfKind TYPE_AFTER_S) (Is (tree t listed)) (place + 1) cs first

@@ -1,4 +1,4 @@
--- Parameters, qualified types, function types and what stands behind Dv are read as what was pressed, from their parts.
+-- Parameters, qualified types, function types and what follows Dv are read as what was pressed, from their parts.
 use Rattle.std.proofs.Common.{◌≡◌, ℕ, ◌+◌, ◌<◌, ◌≤◌, length, List, [], ◌∷◌, ◌++◌, Option, Some, None, Bool, true, false, Ok, refl, ap, arith, ◌∙◌, append-nil}
 use Rattle.std.specs.Prelude.{nat_lt, Result, Err, slice_get}
 use Rattle.sym_core.specs.declared.refusal.Refusal.{Refusal}
@@ -35,7 +35,7 @@ use Rattle.cpp_press_laws.proofs.ReadBack.Solids.{two-parts}
 
 -- ## Parameters
 
--- a parameter that may stand where it stands: it names an argument of the scope, of the packs that are allowed
+-- a parameter that may be where it is: it names an argument of the scope, of the packs that are allowed
 pub record IsInScope (around : Around) (allowed : Option ℕ) (k : ℕ) : Type 0 where
   pub arguments : Term
   pub scoped : around.scope ≡ Some arguments
@@ -61,7 +61,7 @@ named-in around place k s new arguments scoped below goes =
     ]) below
     ∙ ap (λ r. r >>= λ t. Ok (appended around (parameter k) t)) goes
 
--- what is known of a parameter behind its number
+-- what is known of a parameter after its number
 pub parameter-passes : (p : Production) (around : Around) (allowed : Option ℕ) (at k : ℕ) (cs : List Component) → IsInScope around allowed k
     → ((s : State) → between p around at (value.text (ordinal_digits k) ∷ []) s ≡ parameter_so_far around at
     (index_of (value.text (ordinal_digits k))) [] s)
@@ -199,7 +199,7 @@ restrict-reads around allowed k volatile const t place cs w takes one =
     means false true began s = refl
     means false false began s = refl
 
--- ## Behind Dv
+-- ## After Dv
 
 pub vector-behind-d : (around : Around) (allowed : Option ℕ) (digits : List ℕ) (t : Term) (place : ℕ) (cs : List Component) (w : Written)
     → AreSpellableDigits Digits digits
@@ -261,7 +261,7 @@ rest-item around allowed t items ref place cs first rest one two =
     (takes-none FUNCTION_REST Kind.FunctionRest Production.RestItem 80 refl refl (omega arith) refl) refl (λ s. refl) (λ s. refl) (λ f s. refl)
     (λ began s. refl) one two
 
--- a parameter that is a reference which is spelled out becomes a component before those behind it
+-- a parameter that is a reference which is spelled out becomes a component before those after it
 pub rest-lvalue : (around : Around) (allowed : Option ℕ) (t items : Term) (ref : RefQualifier) (place : ℕ) (cs : List Component)
     (first rest : Written)
     → ReadsAt around allowed (OfKind TYPE) (Is (tree t true)) (place + 1 + 0) cs first

@@ -62,7 +62,7 @@ char-literal around allowed byte n place cs small chosen good w one =
     (tree (integer (builtin (68 ∷ byte ∷ [])) n) true) cs w
     (takes-byte LITERAL_AFTER_D Kind.LiteralAfterD Production.CharLiteral byte refl chosen small refl) refl (λ s. refl) (λ f s. refl) (λ began s. refl) one)
 
--- an integer whose type becomes a component in front of its number
+-- an integer whose type becomes a component before its number
 pub integer-literal : (around : Around) (allowed : Option ℕ) (t : Term) (n : Signed) (place : ℕ) (cs : List Component) (first rest : Written)
     → ReadsAt around allowed (OfKind LITERAL_TYPE) (Is (tree t false)) (place + 0) cs first
     → ReadsAt around allowed (OfKind INTEGER) (Is (signed n)) (place + 0 + length first.bytes) (more around first.components t) rest
@@ -104,7 +104,7 @@ encoding-literal around allowed e place cs w one =
 
 -- ## Literals in a list
 
--- a literal between L and E, and the arguments behind it
+-- a literal between L and E, and the arguments after it
 pub literal-argument : (around : Around) (allowed : Option ℕ) (t items : Term) (last : Value) (place : ℕ) (cs : List Component)
     (first rest : Written) → no_items last ≡ items
     → ReadsAt around allowed (OfKind LITERAL) (Is (tree t true)) (place + 1) cs first
@@ -145,7 +145,7 @@ literal-element around allowed t items last place cs first rest are one two =
     (then-last Production.LiteralElement (76 ∷ []) around allowed place (OfKind PACK_LIST) (tree t true ∷ nothing_there ∷ []) last
     (place + 1 + length first.bytes + 1) first.components rest (λ s. refl) two)))
 
--- a pack between J and E, and the arguments behind it
+-- a pack between J and E, and the arguments after it
 pub pack-argument : (around : Around) (allowed : Option ℕ) (elements items : Term) (inside_ last : Value) (place : ℕ) (cs : List Component)
     (first rest : Written) → no_items inside_ ≡ elements → no_items last ≡ items
     → ReadsAt around allowed (OfKind PACK_LIST) (Is inside_) (place + 1) cs first
@@ -203,7 +203,7 @@ address-reads around allowed e place cs w one =
     nothing_there (end + 1) w.components (written (69 ∷ []) w.components) (λ s. refl)
     (fixed-reads around allowed 69 (end + 1) w.components))))))
 
--- as an argument, behind an X
+-- as an argument, after an X
 address-expression : (around : Around) (allowed : Option ℕ) (t : Term) (place : ℕ) (cs : List Component) (first : Written)
     → ReadsAt around allowed (OfKind ADDRESS) (Is (tree t true)) (place + 1 + 1 + 1) cs first
     → ReadsAt around allowed (OfKind ARGUMENT) (Is (tree t true)) place cs (written (88 ∷ 97 ∷ 100 ∷ first.bytes) first.components)

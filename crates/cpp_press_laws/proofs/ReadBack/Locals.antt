@@ -38,7 +38,7 @@ tested j place s small below =
     ap (λ n. elim (nat_lt n (2 ^ 64)) as (λ _. Result State Refusal) [ true ↦ Ok s | false ↦ Err (BadValue place) ]) (number-kept j small)
     ∙ ap (λ b. elim b as (λ _. Result State Refusal) [ true ↦ Ok s | false ↦ Err (BadValue place) ]) below
 
--- the digits of a token behind two parts and a byte
+-- the digits of a token after two parts and a byte
 last-digits : (a b : Shape) (byte : ℕ) (t : Token) (digits : List ℕ)
     → last_token (grown a (grown b (grown (fixed byte) (grown (token t) shape.nothing)))) digits ≡ t.own
 unfolding last_token

@@ -1,4 +1,4 @@
--- Pieces of names are read wherever names stand: as a name with arguments or without, behind St, and as the first of a name between N and E.
+-- Pieces of names are read wherever names are: as a name with arguments or without, after St, and as the first of a name between N and E.
 use Rattle.std.proofs.Common.{◌≡◌, ℕ, ◌+◌, ◌-◌, ◌<◌, length, List, [], ◌∷◌, ◌++◌, Option, Some, Bool, true, false, ◌⊎◌, inl, inr, refl, ap, arith, sym, subst, ◌∙◌, append_assoc}
 use Rattle.std.proofs.lemmas.Bool.{ltb-true}
 use Rattle.std.specs.Prelude.{cond, codes, nat_lt, ◌^◌}
@@ -44,7 +44,7 @@ NameRule k (lambda parameters j) = TakesRule abi k (rule_of Production.LocalType
 NameRule k (unnamed j) = TakesRule abi k (rule_of Production.LocalTypeName) (85 ∷ [])
 NameRule k _ = ⊥
 
--- a kind of a piece behind St
+-- a kind of a piece after St
 abbrev pub PieceRule : ℕ → Term → Type 0
 PieceRule k (source true name) = TakesRule abi k (rule_of Production.InternalPiece) (76 ∷ [])
 PieceRule k (source false name) = TakesRule abi k (rule_of Production.SourcePiece) []
@@ -82,7 +82,7 @@ own-rule (lambda parameters j) h = takes-byte COMPLETE_NAME Kind.CompleteName Pr
 own-rule (unnamed j) h = takes-byte COMPLETE_NAME Kind.CompleteName Production.LocalTypeName 85 refl refl (omega arith) refl
 own-rule _ h = absurd (let e : false ≡ true = h in cc)
 
--- behind a prefix
+-- after a prefix
 pub member-rule : (p : Term) → names_member p ≡ true → NameRule 19 p
 unfolding names_member names_function begins_name choose alternatives pick is_in in_ranges among kinds is_chain
 member-rule (source true name) h = takes-byte COMPONENT Kind.Component Production.InternalName 76 refl refl (omega arith) refl
@@ -112,7 +112,7 @@ type-entity-rule (lambda parameters j) h = takes-byte TYPE_ENTITY Kind.TypeEntit
 type-entity-rule (unnamed j) h = takes-byte TYPE_ENTITY Kind.TypeEntity Production.LocalTypeName 85 refl refl (omega arith) refl
 type-entity-rule _ h = absurd (let e : false ≡ true = h in cc)
 
--- behind St in a name, and in a type
+-- after St in a name, and in a type
 pub std-rule : (p : Term) → names_function p ≡ true → PieceRule 14 p
 unfolding names_function begins_name choose alternatives pick is_in in_ranges among kinds is_chain
 std-rule (source true name) h = takes-byte UNQUALIFIED Kind.Unqualified Production.InternalPiece 76 refl refl (omega arith) refl
@@ -133,7 +133,7 @@ std-type-rule _ h = absurd (let e : false ≡ true = h in cc)
 
 -- ## What a piece is read as
 
--- a name of a piece and what stands behind it
+-- a name of a piece and what follows it
 abbrev pub NamesAt : Around → Option ℕ → (k : ℕ) → (p : Term) → (place : ℕ) → List Component → Written → Type 0
 NamesAt around allowed k p place cs w =
     (last : Value) (rest : Written)
@@ -250,7 +250,7 @@ destructor-piece-reads around allowed digit place cs small chosen = record {
 
 -- ## Lambdas and unnamed types
 
--- a local type's name, from its reading behind the U
+-- a local type's name, from its reading after the U
 local-type-reads : (around : Around) (allowed : Option ℕ) (p : Term) (place : ℕ) (cs : List Component) (w : Written)
     → ((k : ℕ) → NameRule k p → TakesRule abi k (rule_of Production.LocalTypeName) (85 ∷ []))
     → ((k : ℕ) → PieceRule k p → TakesRule abi k (rule_of Production.LocalTypePiece) (85 ∷ []))

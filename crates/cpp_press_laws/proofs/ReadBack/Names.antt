@@ -30,7 +30,7 @@ use Rattle.cpp_press_laws.proofs.ReadBack.Arguments.{arguments-read}
 
 -- ## A piece and its arguments
 
--- a name that has been made from a piece, and the arguments behind it
+-- a name that has been made from a piece, and the arguments after it
 pub name-before : (p : Production) (k j : ℕ) (taken : List ℕ) (around : Around) (allowed : Option ℕ) (place : ℕ) (x : Sym) (u : Value) (t : Term)
     (last : Value) (cs : List Component) (first rest : Written)
     → TakesRule abi k (rule_of p) taken → parts_of p ≡ x ∷ OfKind j ∷ []
@@ -79,7 +79,7 @@ pub no-arguments : (around : Around) (allowed : Option ℕ) (place : ℕ) (cs : 
 unfolding kinds may_be_empty
 no-arguments around allowed place cs = empty-reads around allowed MAYBE_ARGUMENTS Kind.MaybeArguments place cs refl refl
 
--- what is read behind a name is read where no tags may come, too
+-- what is read after a name is read where no tags may come, too
 kind-reads : (around : Around) (allowed : Option ℕ) (x y : Sym) (Q : Value → Type 0) (place : ℕ) (cs : List Component) (w : Written)
     → ((t : Shape) → IsTree abi x t → IsTree abi y t) → ReadsAt around allowed x Q place cs w → ReadsAt around allowed y Q place cs w
 kind-reads around allowed x y Q place cs w is one s same packs =
@@ -103,7 +103,7 @@ pub alone-rest : (around : Around) (allowed : Option ℕ) (Q : Value → Type 0)
     → ReadsAt around allowed (OfKind NEST_REST) Q place cs w → ReadsAt around allowed (OfKind NEST_REST_ALONE) Q place cs w
 alone-rest around allowed Q place cs w one = kind-reads around allowed (OfKind NEST_REST) (OfKind NEST_REST_ALONE) Q place cs w rest_alone one
 
--- what is read behind a name is read behind one that an S stands for, too
+-- what is read after a name is read after one that an S stands for, too
 pub rest-or-end : (around : Around) (allowed : Option ℕ) (Q : Value → Type 0) (place : ℕ) (cs : List Component) (w : Written)
     → ReadsAt around allowed (OfKind NEST_REST) Q place cs w → ReadsAt around allowed (OfKind NEST_REST_OR_END) Q place cs w
 rest-or-end around allowed Q place cs w one s same packs =
@@ -120,7 +120,7 @@ rest-or-end around allowed Q place cs w one s same packs =
       packs = r.packs;
     }
 
--- the name so far becomes a component in front of its arguments
+-- the name so far becomes a component before its arguments
 pub some-arguments : (around : Around) (allowed : Option ℕ) (t items : Term) (last : Value) (place : ℕ) (cs : List Component) (w : Written)
     → no_items last ≡ items
     → ReadsAt (inside around) allowed (OfKind ARGUMENT_LIST) (Is last) (place + 1) (more around cs t) w
@@ -131,7 +131,7 @@ some-arguments around allowed t items last place cs w are one =
     (takes-byte MAYBE_ARGUMENTS Kind.MaybeArguments Production.Arguments 73 refl refl (omega arith) refl) are
     (λ s same packs. record { state = appended around t s; goes = refl; candidates = appended-same around t s same; packs = packs }) one
 
--- a name of a source piece, with what is behind it
+-- a name of a source piece, with what is after it
 pub source-name : (k : ℕ) (around : Around) (allowed : Option ℕ) (name : List ℕ) (last : Value) (place : ℕ) (cs : List Component)
     (rest : Written) → TakesRule abi k (rule_of Production.SourceName) [] → IsSpellableName name
     → ReadsAt (after (extended around.prefix (source false name)) false around) allowed (OfKind MAYBE_ARGUMENTS) (Is last) (place + 0 + length (counted name))
@@ -240,13 +240,13 @@ destructor-name around allowed digit last place cs first rest one two =
 
 -- ## Between N and E
 
--- A name so far, between N and E: whatever is read behind it in its scope, is read as the whole from the N on.
+-- A name so far, between N and E: whatever is read after it in its scope, is read as the whole from the N on.
 abbrev pub SoFar : Around → Option ℕ → (t : Term) → (listed : Bool) → (k : ℕ) → (place : ℕ) → List Component → Written → Type 0
 SoFar around allowed t listed k place cs w =
     (v : Value) (rest : Written) → ReadsAt (after t listed around) allowed (OfKind k) (Is v) (place + length w.bytes) w.components rest
     → ReadsAt around allowed (OfKind NEST) (Is v) place cs (written (w.bytes ++ rest.bytes) rest.components)
 
--- A prefix, which is a component: a piece is read behind it as a longer name, and then what is left.
+-- A prefix, which is a component: a piece is read after it as a longer name, and then what is left.
 abbrev pub Extends : Around → Option ℕ → (t : Term) → (place : ℕ) → List Component → Written → Type 0
 Extends around allowed t place cs w =
     (u : Term) (v : Value) (one rest : Written) → ReadsAt (after t true around) allowed (OfKind COMPONENT) (Is (tree u false)) (place + length w.bytes)
@@ -262,7 +262,7 @@ nest-ends around allowed t listed place cs =
     no-part Production.NestEnd NEST_TAIL (69 ∷ []) (after t listed around) allowed place (tree t listed) cs
     (takes-byte NEST_TAIL Kind.NestTail Production.NestEnd 69 refl refl (omega arith) refl) refl (λ f s. refl) (λ began s. refl)
 
--- one more piece, in front of which the name so far becomes a component
+-- one more piece, before which the name so far becomes a component
 pub nest-next : (k : ℕ) (around : Around) (allowed : Option ℕ) (t u : Term) (v : Value) (place : ℕ) (cs : List Component) (one rest : Written)
     → TakesRule abi k (rule_of Production.NestNext) []
     → ReadsAt (after t true around) allowed (OfKind COMPONENT) (Is (tree u false)) (place + 0) (more around cs t) one
@@ -283,7 +283,7 @@ nest-next k around allowed t u v place cs one rest takes first second =
     (passes-by Production.NestNext (after t false around) allowed place (tree u false ∷ []) one.components (after u false around)
     (tree u false ∷ []) (λ s. refl)) second (λ y i. ap (λ q. tree u false ∷ q ∷ []) i))))
 
--- behind a name that is a component already, or never is one
+-- after a name that is a component already, or never is one
 pub nest-next-same : (k : ℕ) (around : Around) (allowed : Option ℕ) (t u : Term) (v : Value) (place : ℕ) (cs : List Component)
     (one rest : Written) → TakesRule abi k (rule_of Production.NestNext) []
     → ReadsAt (after t true around) allowed (OfKind COMPONENT) (Is (tree u false)) (place + 0) cs one

@@ -30,7 +30,7 @@ use Rattle.cpp_press_laws.proofs.ReadBack.Names.{alone-rest, rest-or-end, SoFar,
 
 -- ## The first part of a name
 
--- a first part, of which the name so far is made, and what is read behind it
+-- a first part, of which the name so far is made, and what is read after it
 pub first-with : (p : Production) (k m : ℕ) (taken : List ℕ) (around : Around) (allowed : Option ℕ) (place : ℕ) (x : Sym) (u : Value) (t : Term)
     (listed : Bool) (v : Value) (cs middle : List Component) (first rest : Written)
     → TakesRule abi k (rule_of p) taken → parts_of p ≡ x ∷ OfKind m ∷ []
@@ -107,7 +107,7 @@ nest-parameter around allowed k place cs is v rest second =
     (alone-rest (after (parameter k) true around) allowed (Is v) _ (more around cs (parameter k)) rest
     (subst (λ q. ReadsAt (after (parameter k) true around) allowed (OfKind NEST_REST) (Is v) q (more around cs (parameter k)) rest) (omega arith) second))
 
--- an abbreviation or a reference behind an S
+-- an abbreviation or a reference after an S
 pub nest-behind-s : (around : Around) (allowed : Option ℕ) (t : Term) (place : ℕ) (cs : List Component) (first : Written)
     → ReadsAt around allowed (OfKind ABBREVIATION) (Is (tree t true)) (place + 1 + 0) cs first
     → SoFar around allowed t true 17 place cs (written (83 ∷ first.bytes) first.components)
@@ -159,14 +159,14 @@ nest-std around allowed p last place cs first args one two v rest third =
     (omega (arith, length-append first.bytes args.bytes)) third)
     (λ y i. ap (λ q. tree whole false ∷ last ∷ q ∷ []) i)))))))
 
--- ## Arguments behind a first part
+-- ## Arguments after a first part
 
--- what a name so far becomes in front of its arguments
+-- what a name so far becomes before its arguments
 abbrev pub listed_now : Around → Bool → List Component → Term → List Component
 listed_now around true cs t = cs
 listed_now around false cs t = more around cs t
 
--- arguments, in front of which the name so far becomes a component, and a piece behind them, in front of which the instance does
+-- arguments, before which the name so far becomes a component, and a piece after them, before which the instance does
 pub nest-arguments : (around : Around) (allowed : Option ℕ) (t items : Term) (listed : Bool) (last : Value) (place : ℕ) (cs : List Component)
     (w args : Written) → no_items last ≡ items
     → SoFar around allowed t listed 17 place cs w

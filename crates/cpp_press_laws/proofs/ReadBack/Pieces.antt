@@ -98,7 +98,7 @@ operators-other : each_below 256 (λ b. nat_eq b 99 || same_choice (choose Kind.
 unfolding choose alternatives pick is_in in_ranges among same_choice each_below number_of
 operators-other = refl
 
--- the kind behind a c
+-- the kind after a c
 behind-c : (p : Production) (number : ℕ) (kind : Kind) (b : ℕ) → choose Kind.Operator 99 ≡ Some p → parts_of p ≡ OfKind number ∷ [] → slice_get kinds number ≡ Some kind
     → choose kind b ≡ Some Production.Mark → choose Kind.OperatorAfterC b ≡ Some Production.Mark
 unfolding choose alternatives pick is_in in_ranges among kinds parts_of number_of_kind

@@ -15,7 +15,7 @@ use Rattle.cpp_press_laws.proofs.ReadBack.Reading.{takes-none}
 use Rattle.cpp_press_laws.proofs.ReadBack.Names.{Extends, extends-same}
 use Rattle.cpp_press_laws.proofs.ReadBack.Nests.{nest-behind-s}
 
--- one more piece may follow the first part of a name, or a piece behind it
+-- one more piece may follow the first part of a name, or a piece after it
 pub next-17 : TakesRule abi 17 (rule_of Production.NestNext) []
 unfolding choose alternatives pick is_in in_ranges among kinds is_chain
 next-17 = takes-none NEST_REST Kind.NestRest Production.NestNext 48 refl refl (omega arith) refl

@@ -25,7 +25,7 @@ use Rattle.cpp_grammar.proofs.ClosedTrees.{at_number, its_symbols}
 use Rattle.cpp_press_laws.specs.Components.{Component, components_of}
 use Rattle.cpp_press_laws.specs.Subtrees.{Written, written, IsAllowed, Reads, ReadsAt}
 
--- the same for the parts that are left of a production that began at a place in a state, behind parts that are known
+-- the same for the parts that are left of a production that began at a place in a state, after parts that are known
 pub record ReadsRow (p : Production) (taken : List ℕ) (around : Around) (allowed : Option ℕ) (at : ℕ) (began : State) (symbols : List Sym)
     (known : List Value) (Q : List Value → Type 0) (place : ℕ) (start : State) (w : Written) : Type 0 where
   pub forest : Forest

@@ -163,7 +163,7 @@ reference-state around allowed place own c s may same scoped before =
     go true false d h k = k
     go false b d h k = refl
 
--- behind the S
+-- after the S
 pub number-refers : (around : Around) (allowed : Option ℕ) (own : Term) (number place : ℕ) (cs : List Component) → length cs ≤ greatest
     → MayBeReferred around allowed own
     → IsFirst around.encoding own cs number

@@ -1,4 +1,4 @@
--- Types are read wherever types stand, as references and spelled out.
+-- Types are read wherever types are, as references and spelled out.
 use Rattle.std.proofs.Common.{◌≡◌, ℕ, ◌+◌, ◌≤◌, length, List, [], ◌∷◌, ◌++◌, Option, Some, None, Bool, true, false, refl, arith, sym, subst, append-nil, length-append}
 use Rattle.std.specs.Prelude.{◌&&◌}
 use Rattle.sym_shape.specs.declared.rule.Sym.TheVariants.{Kind as OfKind}
@@ -73,9 +73,9 @@ room-component n own spelling place cs none room =
       | None ↦ spelled_out n own spelling place cs
     ])) none room)
 
--- ## Where types stand
+-- ## Where types are
 
--- What is written is read as a type: as a parameter of a function type with those behind it, and as a literal's with its number.
+-- What is written is read as a type: as a parameter of a function type with those after it, and as a literal's with its number.
 abbrev pub ReadsAs : Slot → Around → Option ℕ → Term → (place : ℕ) → List Component → Written → Type 0
 ReadsAs any_type around allowed t place cs w = ReadsAt around allowed (OfKind TYPE) (Is (tree t true)) place cs w
 ReadsAs bare_type around allowed t place cs w = ReadsAt around allowed (OfKind PLAIN) (Is (tree t true)) place cs w
@@ -92,7 +92,7 @@ abbrev pub solid_kind : Slot → ℕ
 solid_kind literal_type = 51
 solid_kind _ = 34
 
--- how types become what is read: a component or an abbreviation behind an S, and what is spelled out
+-- how types become what is read: a component or an abbreviation after an S, and what is spelled out
 pub record InSlot (around : Around) (allowed : Option ℕ) (t : Term) (solid : ℕ) (reads : ℕ → List Component → Written → Type 0) : Type 0 where
   pub behind_s : (place : ℕ) (cs : List Component) (w : Written) → ReadsAt around allowed (OfKind ABBREVIATION) (Is (tree t true)) (place + 1) cs w
       → reads place cs (written (83 ∷ w.bytes) w.components)
@@ -137,7 +137,7 @@ literal-keeps around allowed t place cs w one n good =
     (subst (λ q. ReadsAt around allowed (OfKind LITERAL_TYPE) (Is (tree t true)) q cs w) (omega arith) one)
     (integer-reads around allowed n (place + 0 + length w.bytes) w.components good)
 
--- an abbreviation or a reference as a type behind an S
+-- an abbreviation or a reference as a type after an S
 pub behind-s : (around : Around) (allowed : Option ℕ) (t : Term) (place : ℕ) (cs : List Component) (w : Written)
     → ReadsAt around allowed (OfKind ABBREVIATION) (Is (tree t true)) place cs w → ReadsAt around allowed (OfKind TYPE_AFTER_S) (Is (tree t true)) place cs w
 unfolding choose alternatives pick is_in in_ranges among kinds is_chain parts_of number_of_kind between opening close unfolding_.behind meaning part
@@ -183,13 +183,13 @@ in-slot literal_type around allowed t h = in-literal around allowed t
 
 -- ## Components
 
--- what a reference, or an abbreviation, becomes behind an S
+-- what a reference, or an abbreviation, becomes after an S
 abbrev pub BehindS : Around → Option ℕ → Term → (ℕ → List Component → Written → Type 0) → Type 0
 BehindS around allowed t reads =
     (place : ℕ) (cs : List Component) (w : Written) → ReadsAt around allowed (OfKind ABBREVIATION) (Is (tree t true)) (place + 1) cs w
     → reads place cs (written (83 ∷ w.bytes) w.components)
 
--- a component: a reference where an equal one stands before, or else its own spelling
+-- a component: a reference where an equal one comes before, or else its own spelling
 pub component-in : (around : Around) (allowed : Option ℕ) (own : Term) (reads : ℕ → List Component → Written → Type 0) (place : ℕ)
     (cs : List Component) (spelling : Spelling) → BehindS around allowed own reads → length cs ≤ greatest → MayBeReferred around allowed own
     → (IsFirst around own cs → reads place cs (written (spelling place cs).bytes (more around (spelling place cs).components own)))

@@ -36,7 +36,7 @@ unfolding parts_of opening close unfolding_.behind meaning byte_of
 builtin-solid k around allowed byte place cs takes =
     no-part Production.Builtin k (byte ∷ []) around allowed place (tree (builtin (byte ∷ [])) true) cs takes refl (λ f s. refl) (λ began s. refl)
 
--- behind a D
+-- after a D
 pub builtin-behind-d : (around : Around) (allowed : Option ℕ) (byte place : ℕ) (cs : List Component) → byte < 256
     → choose Kind.AfterD byte ≡ Some Production.BuiltinWithD
     → ReadsAt around allowed (OfKind AFTER_D) (Is (tree (builtin (68 ∷ byte ∷ [])) true)) place cs (written (byte ∷ []) cs)
@@ -46,7 +46,7 @@ builtin-behind-d around allowed byte place cs small chosen =
     (takes-byte AFTER_D Kind.AfterD Production.BuiltinWithD byte refl chosen small refl) refl
     (λ f s. refl) (λ began s. refl)
 
--- behind an S
+-- after an S
 pub abbreviation-behind-s : (around : Around) (allowed : Option ℕ) (letter place : ℕ) (cs : List Component) → letter < 256
     → choose Kind.Abbreviation letter ≡ Some Production.Abbreviation
     → ReadsAt around allowed (OfKind ABBREVIATION) (Is (tree (abbreviation letter) true)) place cs (written (letter ∷ []) cs)

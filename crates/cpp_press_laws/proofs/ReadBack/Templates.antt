@@ -1,4 +1,4 @@
--- Template names before their arguments are read, in types and in encodings' own names: behind an S, and spelled out.
+-- Template names before their arguments are read, in types and in encodings' own names: after an S, and spelled out.
 use Rattle.std.proofs.Common.{◌≡◌, ℕ, ◌+◌, ◌≤◌, length, List, [], ◌∷◌, ◌++◌, Option, Some, None, Bool, true, false, refl, ap, arith, sym, subst, length-append}
 use Rattle.sym_core.specs.declared.NumberKind.TheVariants.{Decimal}
 use Rattle.sym_shape.specs.declared.rule.Sym.TheVariants.{Kind as OfKind, Number}
@@ -76,14 +76,14 @@ slot-rules bare_type = solid-rules
 slot-rules item_type = solid-rules
 slot-rules parameter_type = solid-rules
 
--- a kind in which a template name stands before its arguments: of a type, or an encoding's own name
+-- a kind in which a template name comes before its arguments: of a type, or an encoding's own name
 abbrev pub TemplateKind : (typed : Bool) → ℕ → Type 0
 TemplateKind true k = TypeRules k
 TemplateKind false k = k ≡ 8
 
--- ## Behind an S
+-- ## After an S
 
--- arguments behind what is written are read as an instance with them
+-- arguments after what is written are read as an instance with them
 abbrev pub InstancedAt : Around → Option ℕ → (k : ℕ) → (t : Term) → (place : ℕ) → List Component → Written → Type 0
 InstancedAt around allowed k t place cs w =
     (items : Term) (last : Value) (args : Written) → no_items last ≡ items
@@ -156,7 +156,7 @@ ReadElements around allowed last arguments elements =
     (place : ℕ) (cs : List Component) → arguments around allowed place cs → HasRoom (elements (place + 1) cs)
     → ElementsRead around allowed last place cs (elements (place + 1) cs)
 
--- the arguments have room behind whatever is written
+-- the arguments have room after whatever is written
 pub elements-room : (first elements : Spelling) (place : ℕ) (cs : List Component) → HasRoom ((first and of_elements elements) place cs)
     → HasRoom (elements (place + length (first place cs).bytes + 1) (first place cs).components)
 elements-room first elements place cs room =
@@ -169,7 +169,7 @@ elements-room first elements place cs room =
       few = behind.few;
     }
 
--- A template name that fits before arguments: they stand behind a reference, or behind its spelling.
+-- A template name that fits before arguments: they come after a reference, or after its spelling.
 pub template-reads : (typed : Bool) (k : ℕ) (around : Around) (allowed : Option ℕ) (t : Term) → TemplateKind typed k → (place : ℕ)
     (cs : List Component) (spelled : Fitting) (front : ℕ → Spelling) (arguments : Fitting) (elements other : Spelling) (items : Term)
     (last : Value)

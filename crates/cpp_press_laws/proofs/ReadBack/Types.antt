@@ -140,7 +140,7 @@ pub record Wraps (around : Around) (allowed : Option ℕ) (k inner : ℕ) (taken
   pub keeps : (place : ℕ) (cs : List Component) (w : Written) → ReadsAt around allowed (OfKind inner) (Is (tree t true)) (place + length taken) cs w
       → ReadsAt around allowed (OfKind k) (Is (tree t true)) place cs (written (taken ++ w.bytes) w.components)
 
--- The kinds of types: they have a solid type behind no byte of its own, and what begins with a D.
+-- The kinds of types: they have a solid type after no byte of its own, and what begins with a D.
 pub record HasTypes (around : Around) (allowed : Option ℕ) (k : ℕ) (t : Term) : Type 0 where
   pub solid : Wraps around allowed k 34 [] t
   pub with_d : Wraps around allowed k 33 (68 ∷ []) t
@@ -260,7 +260,7 @@ noexcept-under-qualifiers around allowed t place cs w is one =
 
 -- ## What begins with an S
 
--- a name behind S, without arguments
+-- a name after S, without arguments
 pub solid-with-s : (k : ℕ) (around : Around) (allowed : Option ℕ) (place : ℕ) (t : Term) (listed : Bool) (cs : List Component) (w : Written)
     → TakesRule abi k (rule_of Production.TypeWithS) (83 ∷ [])
     → ReadsAt around allowed (OfKind TYPE_AFTER_S) (Is (tree t listed)) (place + 1) cs w
@@ -291,7 +291,7 @@ solid-with-s k around allowed place t listed cs w takes one =
     listed-kept true s = refl
     listed-kept false s = refl
 
--- an abbreviation or a reference behind S, as a type
+-- an abbreviation or a reference after S, as a type
 pub type-behind-s : (k : ℕ) (around : Around) (allowed : Option ℕ) (place : ℕ) (t : Term) (cs : List Component) (w : Written)
     → HasTypes around allowed k t
     → ReadsAt around allowed (OfKind ABBREVIATION) (Is (tree t true)) (place + 0 + 1 + 0) cs w

@@ -1,4 +1,4 @@
--- Which of its components pressing a symbol compares where they stand, computed.
+-- Which of its components pressing a symbol compares where they are, computed.
 use Rattle.std.specs.Prelude.{◌≡◌, refl, ℕ, Bool, true, cond, ◌&&◌, List, [], ◌∷◌, codes, Some, None, Result, Ok, Err}
 use Prim.Native.String.{String}
 use Rattle.sym_core.specs.declared.refusal.Refusal.{Refusal}

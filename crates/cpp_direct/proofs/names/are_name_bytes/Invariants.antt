@@ -1,4 +1,4 @@
--- where none of the bytes so far is out of bounds, they may stand in a name
+-- where none of the bytes so far is out of bounds, they may be in a name
 use Rattle.std.proofs.Common.{◌≡◌, ◌≤◌, ◌-◌, length, true}
 use Rattle.sym_core.specs.Scan.{ReachesNameBytes}
 use Rattle.sym_core.specs.declared.NameClass.TheVariants.{Cpp}

@@ -5,7 +5,7 @@ use Rattle.cpp_layout.specs.Texts.{fixed_text, texts}
 use Rattle.cpp_layout.specs.declared.texts.TheConstants.{COUNT}
 use Rattle.cpp_layout.proofs.texts.remaining_text.Goals as goal
 
--- behind the last text there is none
+-- after the last text there is none
 past : (n : ℕ) → COUNT ≤ n → [] ≡ fixed_text n
 unfolding builtin_texts operator_texts abbreviation_texts special_texts named_special_texts literal_endings
 past n h = rw (slice_get_past texts n h) refl

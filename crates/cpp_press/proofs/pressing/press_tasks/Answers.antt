@@ -143,7 +143,7 @@ tasks-preserved c =
       c.tasks.invariant.1,
     )
 
--- ## Behind the last turn
+-- ## After the last turn
 
 pub returns-clause-pressed : goal.returns-clause-pressed
 returns-clause-pressed c = last-goes c.tasks.invariant.0 (search rules)

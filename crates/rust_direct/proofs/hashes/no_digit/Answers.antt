@@ -7,7 +7,7 @@ use Rattle.sym_core.specs.declared.NumberKind.TheVariants.{Base62}
 use Rattle.rust_direct.specs.declared.hashes.TheConstants.{NO_DIGITS}
 use Rattle.rust_direct.proofs.hashes.no_digit.Goals as goal
 
--- what stands in the table for a byte that is a digit, or none
+-- what is in the table for a byte that is a digit, or none
 unfoldable entry : Bool → ℕ
 entry b = cond b 0 1
 

@@ -7,7 +7,7 @@ use Rattle.sym_core.specs.declared.NameClass.TheVariants.{Rust}
 use Rattle.rust_direct.specs.declared.names.TheConstants.{BARRED}
 use Rattle.rust_direct.proofs.names.barred.Goals as goal
 
--- what stands in the table for a byte that may, or may not, stand in a name
+-- what is in the table for a byte that may, or may not, be in a name
 unfoldable entry : Bool → ℕ
 entry b = cond b 0 1
 

@@ -1,4 +1,4 @@
--- the bytes so far may stand in a name
+-- the bytes so far may be in a name
 use Rattle.std.proofs.Common.{◌≤◌, ◌-◌, length}
 use Rattle.sym_core.specs.Scan.{ReachesNameBytes}
 use Rattle.sym_core.specs.declared.NameClass.TheVariants.{Rust}

@@ -1,4 +1,4 @@
--- the bytes so far may stand in a name
+-- the bytes so far may be in a name
 use Rattle.std.proofs.Common.{◌≡◌, ℕ, ◌<◌, ◌≤◌, ◌-◌, length, get_or, true}
 use Rattle.sym_core.specs.Token.{is_name_byte}
 use Rattle.sym_core.proofs.tokens.own_len.Given as goal

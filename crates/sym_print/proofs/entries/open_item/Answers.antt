@@ -9,7 +9,7 @@ use Rattle.sym_print.proofs.entries.open_item.Goals as goal
 pub push_parts-requires-clause-may_come : goal.push_parts-requires-clause-may_come
 push_parts-requires-clause-may_come g c = next_may_come (g.Y.Layout.may_come c.args.y.now) c.args.stack.now.items (Sub c.args.item) c.requires.may_come c.requires.next
 
--- the parts stand in the item's place
+-- the parts are in the item's place
 there : (g : given.Over) → (c : goal.After-push_parts g) → c.push_parts.new.stack.items ≡ take (length c.args.stack.now.items - 1) c.args.stack.now.items ++ reverse c.push_parts.ensures.parts.added
 there g c =
     replaced c.args.stack.now.items c.take_item.new.stack.items c.push_parts.new.stack.items c.push_parts.ensures.parts.added c.in_ok-take_item.ensures.items c.push_parts.ensures.parts.is
