@@ -26,7 +26,7 @@ def marked(crates):
 
 def paragraphs(crates):
     """the faults of the declarations that trees.py writes into hand-written files"""
-    mark = f"-- {trees.WRITTEN}"
+    mark = trees.WRITTEN
     written = trees.files(crates)
     for path, text in written.items():
         with open(f"{crates}/{path}", encoding="utf-8") as f:

@@ -413,6 +413,11 @@ def build(extended=True, widened=False):
     # after the arguments of a substitution in a nested name: by the ABI the name doesn't end there
     kind("NestMoreOrEnd", wide(eats("E", "NestEnd")), chain("NestNext", "Component", "NestTail"))
 
+def rows():
+    """what each production does"""
+    if not ROWS: build()
+    return meanings.rows({p: ROWS[p] for p in P})
+
 def is_kind(s): return s in KS
 def begins_symbol(s):
     if s[0] == "'": return set(s[1])
@@ -841,8 +846,8 @@ def files():
     yield "cpp_grammar/src/table.rt", rust_table()
     yield "cpp_grammar/specs/Grammar.antt", antt_grammar()
     yield "cpp_grammar/specs/KindNumbers.antt", antt_kind_numbers()
-    yield from written_words.files({p: symbols for p, (ate, symbols) in P.items()})
-    yield from meanings.files(ROWS)
+    yield from written_words.files({p: symbols for p, (ate, symbols) in P.items()}, rows())
+    yield from meanings.files(rows())
 
 def write(crates):
     for path, text in files():

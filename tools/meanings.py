@@ -222,9 +222,8 @@ def antt_rows(table):
     assert not [n for n in names if not re.search(rf"\b{n}\b", ROWS_HEAD + "\n".join(lines))]
     return ROWS_HEAD.replace("{MAKERS}", "{" + ", ".join("new_" + tree[0] for tree in makers(table)) + "}").replace("{ROW}", "{" + ", ".join(names) + "}") + "\n".join(lines) + "\n"
 
-def files(texts):
-    """what is written: each file's path in the folder of the crates, and its text"""
-    table = rows(texts)
+def files(table):
+    """what is written of these rows: each file's path in the folder of the crates, and its text"""
     yield "cpp_rows/specs/Makers.antt", antt_makers(table)
     yield "cpp_rows/specs/Builders.antt", antt_builders(table)
     yield "cpp_rows/specs/Rows.antt", antt_rows(table)

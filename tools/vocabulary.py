@@ -182,63 +182,10 @@ PLAIN_TEXTS = [
     ("DECLTYPE_AUTO", " decltype(auto)"),
 ]
 
-# before how many of its parts nothing is done in a production: before all where it isn't named here
-QUIET = {
-    "Encoding": 0, "Special": 0, "NestArguments": 0, "NestInstance": 0, "NestNext": 0,
-    "Arguments": 0, "Lambda": 0, "Expansion": 0, "Conversion": 0, "OtherSpecial": 0,
-    "LocalName": 1, "LocalType": 1, "InternalName": 1, "SourceName": 1, "LocalTypeName": 1, "OperatorName": 1, "Constructor": 1,
-    "Destructor": 1, "StdName": 1, "AbbreviatedName": 1, "NestStd": 1, "NestTemplate": 1, "NestParameter": 1,
-    "NestInternal": 1, "NestSource": 1, "NestLocalType": 1, "PackArgument": 1, "Parameter": 1, "TypeWithS": 1, "LvalueItem": 1,
-    "RvalueItem": 1, "IntegerLiteral": 1, "Holder": 1, "NestTag": 1, "Tag": 1, "OtherOperatorName": 1, "OperatorNameWithC": 1,
-    "TaggedStdType": 1, "TypeTag": 1, "ParameterExpression": 1, "BoundedArray": 1,
-    "ParameterArgument": 1, "ValueOf": 0, "OfConcept": 0,
-}
-
 # the productions in which parts without a row may be between those with one
 SKIPS = """Symbol EncodingLiteral Address NonVirtualThunk VirtualThunk VirtualOffset
     LocalName LocalType Vector LiteralArgument LiteralElement NestedName RestrictType VolatileType NestStd NestArguments
     NestInstance NoexceptFunction Function PackArgument ConstructionVtable AddressExpression BoundedArray PackOf""".split()
-
-# how many nodes a production makes before each of its parts, as far as it makes some, and at its end
-MADE_BEFORE = {
-    "InternalName": [0, 1],
-    "LocalTypeName": [0, 1],
-    "SourceName": [0, 1],
-    "OperatorName": [0, 1],
-    "StdName": [0, 1],
-    "NestParameter": [0, 1],
-    "NestInternal": [0, 1],
-    "NestLocalType": [0, 1],
-    "NestSource": [0, 1],
-    "NestStd": [0, 1, 1],
-    "NestArguments": [0, 0, 1],
-    "NestInstance": [0, 0, 1],
-    "Constructor": [0, 1],
-    "Destructor": [0, 1],
-    "Parameter": [0, 1],
-    "LvalueItem": [0, 1],
-    "RvalueItem": [0, 1],
-    "PackArgument": [0, 1],
-    "Holder": [0, 1],
-    "NestTag": [0, 1],
-    "Tag": [0, 1],
-    "OtherOperatorName": [0, 1],
-    "OperatorNameWithC": [0, 1],
-    "TaggedStdType": [0, 1],
-    "TypeTag": [0, 1],
-    "ParameterExpression": [0, 1],
-    "BoundedArray": [0, 1],
-    "ParameterArgument": [0, 1],
-}
-MADE_AT_END = {p: 1 for p in """InternalName LocalTypeName SourceName OperatorName Symbol Encoding SpecialType NonVirtualThunk VirtualThunk
-    CovariantThunk LocalName StdName AbbreviatedName Constructor Destructor Abbreviation StringLiteral Lambda RestrictType
-    VolatileType ConstType ReferenceType Expansion BuiltinWithD Vector NoexceptFunction Pointer MemberPointer Parameter
-    TypeWithS LocalType Builtin Vendor Function Complex RestItem LvalueItem RvalueItem Items PackArgument
-    LiteralArgument LiteralElement Address EncodingLiteral
-    BoolLiteral IntegerLiteral NullLiteral SpecialName ConstructionVtable SizedFloat Tag DefaultEntity DefaultTypeEntity Conversion OtherOperatorName
-    OperatorNameWithC Clone TaggedStdType TypeTag AnyArgument AnyElement LengthArray BoundedArray ParameterArgument OnePack ConstrainedAuto""".split()}
-MADE_AT_END["CharLiteral"] = 2
-MADE_AT_END["Substitution"] = 2
 
 # the productions that may leave a tree that is no candidate yet
 LEAVES = """NestWithS NestParameter NestInternal NestLocalType NestSource NestStd NestTemplate NestArguments NestInstance
@@ -247,6 +194,13 @@ LEAVES = """NestWithS NestParameter NestInternal NestLocalType NestSource NestSt
     Parameter TypeWithS LocalType Builtin Vendor Function Complex AbbreviatedType SizedFloat
     TaggedStdType TypeInStd ArrayType AnyArray LengthArray BoundedArray
     ParameterArgument DeclaredArgument ConstrainedAuto""".split()
+
+# The productions that are common in real symbols: where they close, and before the parts of some, they have code of their own, in which
+# what is done for a production is a constant. All others share theirs.
+COMMON = """NestNext SourceName PlainType NestEnd Items Builtin AnyArgument NestSource Substitution Symbol NestedType Encoding NestedName NestWithS
+    Arguments NestTemplate TypeWithS AbbreviatedType ReferenceType Pointer ConstType QualifiedPlain Mark SourcePiece PlainArgument TypeInStd
+    TaggedStdType Special""".split()
+COMMON_BEFORE = "NestNext SourceName NestSource Encoding Arguments NestTemplate TypeWithS TaggedStdType".split()
 
 # ## The trees
 

@@ -53,44 +53,68 @@ state_behind s old mid last p byte kept parts candidate packs began stays kept_t
     ∙ comes (candidates_of (trees_in s mid.nodes) mid.candidates.items) ∙ appended
     ∙ rw (nodes, after) refl
 
--- a production that is none of the commonest is rare
-pub is_rare : (p : Production)
-    → (p ≡ Production.NestNext → ⊥) → (p ≡ Production.SourceName → ⊥) → (p ≡ Production.PlainType → ⊥) → (p ≡ Production.NestEnd → ⊥)
-    → (p ≡ Production.Items → ⊥) → (p ≡ Production.NestSource → ⊥) → (p ≡ Production.Builtin → ⊥) → (p ≡ Production.AnyArgument → ⊥)
-    → (p ≡ Production.Symbol → ⊥) → (p ≡ Production.NestedType → ⊥) → (p ≡ Production.Encoding → ⊥) → (p ≡ Production.NestedName → ⊥)
-    → (p ≡ Production.Arguments → ⊥) → (p ≡ Production.NestWithS → ⊥) → (p ≡ Production.NestTemplate → ⊥) → (p ≡ Production.TypeWithS → ⊥)
-    → (p ≡ Production.AbbreviatedType → ⊥) → (p ≡ Production.ReferenceType → ⊥) → (p ≡ Production.Pointer → ⊥) → (p ≡ Production.ConstType → ⊥)
-    → (p ≡ Production.QualifiedPlain → ⊥) → (p ≡ Production.Mark → ⊥) → (p ≡ Production.SourcePiece → ⊥) → (p ≡ Production.PlainArgument → ⊥)
-    → (p ≡ Production.TypeInStd → ⊥) → (p ≡ Production.TaggedStdType → ⊥) → (p ≡ Production.Special → ⊥) → (p ≡ Production.Substitution → ⊥) → IsRare p
-is_rare Production.NestNext h0 h1 h2 h3 h4 h5 h6 h7 h8 h9 h10 h11 h12 h13 h14 h15 h16 h17 h18 h19 h20 h21 h22 h23 h24 h25 h26 h27 = absurd (h0 refl)
-is_rare Production.SourceName h0 h1 h2 h3 h4 h5 h6 h7 h8 h9 h10 h11 h12 h13 h14 h15 h16 h17 h18 h19 h20 h21 h22 h23 h24 h25 h26 h27 = absurd (h1 refl)
-is_rare Production.PlainType h0 h1 h2 h3 h4 h5 h6 h7 h8 h9 h10 h11 h12 h13 h14 h15 h16 h17 h18 h19 h20 h21 h22 h23 h24 h25 h26 h27 = absurd (h2 refl)
-is_rare Production.NestEnd h0 h1 h2 h3 h4 h5 h6 h7 h8 h9 h10 h11 h12 h13 h14 h15 h16 h17 h18 h19 h20 h21 h22 h23 h24 h25 h26 h27 = absurd (h3 refl)
-is_rare Production.Items h0 h1 h2 h3 h4 h5 h6 h7 h8 h9 h10 h11 h12 h13 h14 h15 h16 h17 h18 h19 h20 h21 h22 h23 h24 h25 h26 h27 = absurd (h4 refl)
-is_rare Production.NestSource h0 h1 h2 h3 h4 h5 h6 h7 h8 h9 h10 h11 h12 h13 h14 h15 h16 h17 h18 h19 h20 h21 h22 h23 h24 h25 h26 h27 = absurd (h5 refl)
-is_rare Production.Builtin h0 h1 h2 h3 h4 h5 h6 h7 h8 h9 h10 h11 h12 h13 h14 h15 h16 h17 h18 h19 h20 h21 h22 h23 h24 h25 h26 h27 = absurd (h6 refl)
-is_rare Production.AnyArgument h0 h1 h2 h3 h4 h5 h6 h7 h8 h9 h10 h11 h12 h13 h14 h15 h16 h17 h18 h19 h20 h21 h22 h23 h24 h25 h26 h27 = absurd (h7 refl)
-is_rare Production.Symbol h0 h1 h2 h3 h4 h5 h6 h7 h8 h9 h10 h11 h12 h13 h14 h15 h16 h17 h18 h19 h20 h21 h22 h23 h24 h25 h26 h27 = absurd (h8 refl)
-is_rare Production.NestedType h0 h1 h2 h3 h4 h5 h6 h7 h8 h9 h10 h11 h12 h13 h14 h15 h16 h17 h18 h19 h20 h21 h22 h23 h24 h25 h26 h27 = absurd (h9 refl)
-is_rare Production.Encoding h0 h1 h2 h3 h4 h5 h6 h7 h8 h9 h10 h11 h12 h13 h14 h15 h16 h17 h18 h19 h20 h21 h22 h23 h24 h25 h26 h27 = absurd (h10 refl)
-is_rare Production.NestedName h0 h1 h2 h3 h4 h5 h6 h7 h8 h9 h10 h11 h12 h13 h14 h15 h16 h17 h18 h19 h20 h21 h22 h23 h24 h25 h26 h27 = absurd (h11 refl)
-is_rare Production.Arguments h0 h1 h2 h3 h4 h5 h6 h7 h8 h9 h10 h11 h12 h13 h14 h15 h16 h17 h18 h19 h20 h21 h22 h23 h24 h25 h26 h27 = absurd (h12 refl)
-is_rare Production.NestWithS h0 h1 h2 h3 h4 h5 h6 h7 h8 h9 h10 h11 h12 h13 h14 h15 h16 h17 h18 h19 h20 h21 h22 h23 h24 h25 h26 h27 = absurd (h13 refl)
-is_rare Production.NestTemplate h0 h1 h2 h3 h4 h5 h6 h7 h8 h9 h10 h11 h12 h13 h14 h15 h16 h17 h18 h19 h20 h21 h22 h23 h24 h25 h26 h27 = absurd (h14 refl)
-is_rare Production.TypeWithS h0 h1 h2 h3 h4 h5 h6 h7 h8 h9 h10 h11 h12 h13 h14 h15 h16 h17 h18 h19 h20 h21 h22 h23 h24 h25 h26 h27 = absurd (h15 refl)
-is_rare Production.AbbreviatedType h0 h1 h2 h3 h4 h5 h6 h7 h8 h9 h10 h11 h12 h13 h14 h15 h16 h17 h18 h19 h20 h21 h22 h23 h24 h25 h26 h27 = absurd (h16 refl)
-is_rare Production.ReferenceType h0 h1 h2 h3 h4 h5 h6 h7 h8 h9 h10 h11 h12 h13 h14 h15 h16 h17 h18 h19 h20 h21 h22 h23 h24 h25 h26 h27 = absurd (h17 refl)
-is_rare Production.Pointer h0 h1 h2 h3 h4 h5 h6 h7 h8 h9 h10 h11 h12 h13 h14 h15 h16 h17 h18 h19 h20 h21 h22 h23 h24 h25 h26 h27 = absurd (h18 refl)
-is_rare Production.ConstType h0 h1 h2 h3 h4 h5 h6 h7 h8 h9 h10 h11 h12 h13 h14 h15 h16 h17 h18 h19 h20 h21 h22 h23 h24 h25 h26 h27 = absurd (h19 refl)
-is_rare Production.QualifiedPlain h0 h1 h2 h3 h4 h5 h6 h7 h8 h9 h10 h11 h12 h13 h14 h15 h16 h17 h18 h19 h20 h21 h22 h23 h24 h25 h26 h27 = absurd (h20 refl)
-is_rare Production.Mark h0 h1 h2 h3 h4 h5 h6 h7 h8 h9 h10 h11 h12 h13 h14 h15 h16 h17 h18 h19 h20 h21 h22 h23 h24 h25 h26 h27 = absurd (h21 refl)
-is_rare Production.SourcePiece h0 h1 h2 h3 h4 h5 h6 h7 h8 h9 h10 h11 h12 h13 h14 h15 h16 h17 h18 h19 h20 h21 h22 h23 h24 h25 h26 h27 = absurd (h22 refl)
-is_rare Production.PlainArgument h0 h1 h2 h3 h4 h5 h6 h7 h8 h9 h10 h11 h12 h13 h14 h15 h16 h17 h18 h19 h20 h21 h22 h23 h24 h25 h26 h27 = absurd (h23 refl)
-is_rare Production.TypeInStd h0 h1 h2 h3 h4 h5 h6 h7 h8 h9 h10 h11 h12 h13 h14 h15 h16 h17 h18 h19 h20 h21 h22 h23 h24 h25 h26 h27 = absurd (h24 refl)
-is_rare Production.TaggedStdType h0 h1 h2 h3 h4 h5 h6 h7 h8 h9 h10 h11 h12 h13 h14 h15 h16 h17 h18 h19 h20 h21 h22 h23 h24 h25 h26 h27 = absurd (h25 refl)
-is_rare Production.Special h0 h1 h2 h3 h4 h5 h6 h7 h8 h9 h10 h11 h12 h13 h14 h15 h16 h17 h18 h19 h20 h21 h22 h23 h24 h25 h26 h27 = absurd (h26 refl)
-is_rare Production.Substitution h0 h1 h2 h3 h4 h5 h6 h7 h8 h9 h10 h11 h12 h13 h14 h15 h16 h17 h18 h19 h20 h21 h22 h23 h24 h25 h26 h27 = absurd (h27 refl)
-is_rare _ h0 h1 h2 h3 h4 h5 h6 h7 h8 h9 h10 h11 h12 h13 h14 h15 h16 h17 h18 h19 h20 h21 h22 h23 h24 h25 h26 h27 = tt
+-- Generated by tools/trees.py. A production that is none of those that are common
+pub record IsNoneOfThem (p : Production) : Type 0 where
+  pub not_nest_next : p ≡ Production.NestNext → ⊥
+  pub not_source_name : p ≡ Production.SourceName → ⊥
+  pub not_plain_type : p ≡ Production.PlainType → ⊥
+  pub not_nest_end : p ≡ Production.NestEnd → ⊥
+  pub not_items : p ≡ Production.Items → ⊥
+  pub not_builtin : p ≡ Production.Builtin → ⊥
+  pub not_any_argument : p ≡ Production.AnyArgument → ⊥
+  pub not_nest_source : p ≡ Production.NestSource → ⊥
+  pub not_substitution : p ≡ Production.Substitution → ⊥
+  pub not_symbol : p ≡ Production.Symbol → ⊥
+  pub not_nested_type : p ≡ Production.NestedType → ⊥
+  pub not_encoding : p ≡ Production.Encoding → ⊥
+  pub not_nested_name : p ≡ Production.NestedName → ⊥
+  pub not_nest_with_s : p ≡ Production.NestWithS → ⊥
+  pub not_arguments : p ≡ Production.Arguments → ⊥
+  pub not_nest_template : p ≡ Production.NestTemplate → ⊥
+  pub not_type_with_s : p ≡ Production.TypeWithS → ⊥
+  pub not_abbreviated_type : p ≡ Production.AbbreviatedType → ⊥
+  pub not_reference_type : p ≡ Production.ReferenceType → ⊥
+  pub not_pointer : p ≡ Production.Pointer → ⊥
+  pub not_const_type : p ≡ Production.ConstType → ⊥
+  pub not_qualified_plain : p ≡ Production.QualifiedPlain → ⊥
+  pub not_mark : p ≡ Production.Mark → ⊥
+  pub not_source_piece : p ≡ Production.SourcePiece → ⊥
+  pub not_plain_argument : p ≡ Production.PlainArgument → ⊥
+  pub not_type_in_std : p ≡ Production.TypeInStd → ⊥
+  pub not_tagged_std_type : p ≡ Production.TaggedStdType → ⊥
+  pub not_special : p ≡ Production.Special → ⊥
+
+-- Generated by tools/trees.py. Such a one is rare
+pub is_rare : (p : Production) → IsNoneOfThem p → IsRare p
+is_rare Production.NestNext other = absurd (other.not_nest_next refl)
+is_rare Production.SourceName other = absurd (other.not_source_name refl)
+is_rare Production.PlainType other = absurd (other.not_plain_type refl)
+is_rare Production.NestEnd other = absurd (other.not_nest_end refl)
+is_rare Production.Items other = absurd (other.not_items refl)
+is_rare Production.Builtin other = absurd (other.not_builtin refl)
+is_rare Production.AnyArgument other = absurd (other.not_any_argument refl)
+is_rare Production.NestSource other = absurd (other.not_nest_source refl)
+is_rare Production.Substitution other = absurd (other.not_substitution refl)
+is_rare Production.Symbol other = absurd (other.not_symbol refl)
+is_rare Production.NestedType other = absurd (other.not_nested_type refl)
+is_rare Production.Encoding other = absurd (other.not_encoding refl)
+is_rare Production.NestedName other = absurd (other.not_nested_name refl)
+is_rare Production.NestWithS other = absurd (other.not_nest_with_s refl)
+is_rare Production.Arguments other = absurd (other.not_arguments refl)
+is_rare Production.NestTemplate other = absurd (other.not_nest_template refl)
+is_rare Production.TypeWithS other = absurd (other.not_type_with_s refl)
+is_rare Production.AbbreviatedType other = absurd (other.not_abbreviated_type refl)
+is_rare Production.ReferenceType other = absurd (other.not_reference_type refl)
+is_rare Production.Pointer other = absurd (other.not_pointer refl)
+is_rare Production.ConstType other = absurd (other.not_const_type refl)
+is_rare Production.QualifiedPlain other = absurd (other.not_qualified_plain refl)
+is_rare Production.Mark other = absurd (other.not_mark refl)
+is_rare Production.SourcePiece other = absurd (other.not_source_piece refl)
+is_rare Production.PlainArgument other = absurd (other.not_plain_argument refl)
+is_rare Production.TypeInStd other = absurd (other.not_type_in_std refl)
+is_rare Production.TaggedStdType other = absurd (other.not_tagged_std_type refl)
+is_rare Production.Special other = absurd (other.not_special refl)
+is_rare _ other = tt
 
 -- what is common is no suffix, no lambda and no unnamed type
 pub common_meaning : (s : List ℕ) (p : Production) (byte place : ℕ) (around : Around) (vs : List Value) → IsCommon p
