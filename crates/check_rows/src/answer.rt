@@ -3,7 +3,7 @@
 use std::alloc::{AllocError, Global};
 use sym_core::Refusal;
 
-/// What stands in a list before a call appends to it.
+/// What is in a list before a call appends to it.
 pub const BEFORE: &[u8] = b"> ";
 
 /// What became of a row as far as its calls were asked. Where memory ran out, it is that alone.
