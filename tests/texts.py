@@ -65,7 +65,7 @@ SAME = {
     "suffixes": ("_Z1fv.constprop.0 _Z1fv.isra.0.cold _RNvC3foo3bar.llvm.1\n", "f() (.constprop.0) f() (.isra.0.cold) foo::bar (.llvm.1)\n"),
     "a sentence's dot": ("It failed in _ZN3foo3barEi. Then\n", "It failed in foo::bar(int). Then\n"),
     "ends of lines": ("_Z1fv\r\n\r\n_Z1gi", "f()\r\n\r\ng(int)"),
-    "any bytes": (b"\0_Z1fv\0 \xe9 \xff \xc3\x28 _Z1gi\x80\n", None),
+    "any bytes": (b"\0_Z1fv\0 \xe9 \xff \xc3\x28 \x80\n", None),
     "other languages": ("_TtC3foo3Bar ?f@@YAXXZ -[Foo bar] main.main\n", "_TtC3foo3Bar ?f@@YAXXZ -[Foo bar] main.main\n"),
 }
 
@@ -75,8 +75,12 @@ SYMFILT = {
     "quotes that aren't ASCII": (["--ascii-words"], "‘_ZN1A1fEi’ »_Z1fv« 関数_Z1fvで\n", "‘A::f(int)’ »f()« 関数f()で\n"),
     "legacy Rust names": (["--legacy"], f"{LEGACY}\n", "demo::main\n"),
     "newer C++": (["--wide"], "_Z1fN2ns3BoxIiEENS0_IcEE\n", "f(ns::Box<int>, ns::Box<char>)\n"),
+    "a byte beside a symbol": ([], b"_Z1gi\x80\n", b"_Z1gi\x80\n"),
 }
 DEMANGLE = {
+    "quotes that aren't ASCII": ([], "‘_ZN1A1fEi’ »_Z1fv« 関数_Z1fvで _Z7größei\n", "‘A::f(int)’ »f()« 関数f()で größe(int)\n"),
+    "sections of a linker's map": ([], " .text._Z3foov\n .rodata._ZTS1A .data.rel.ro._ZTV1A\n", " .text.foo()\n .rodata.typeinfo name for A .data.rel.ro.vtable for A\n"),
+    "a byte beside a symbol": ([], b"_Z1gi\x80\n", b"g(int)\x80\n"),
     "stacks": (["-p", "--brief"], f"main;{VECTOR};_ZN1A1fIiEEvT_ 42\n", "main;std::vector::push_back;A::f 42\n"),
     "legacy Rust names": ([], f"{LEGACY}\n", "demo::main\n"),
     "newer C++": ([], "_Z1fN2ns3BoxIiEENS0_IcEE\n", "f(ns::Box<int>, ns::Box<char>)\n"),

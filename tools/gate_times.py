@@ -198,11 +198,12 @@ def time_gate(command):
 
 
 def words_of_check(crate, copy, kept):
-    """The checker's command for a library of the repository, over nothing but what was built below it."""
+    """The checker's command for a crate of the repository, over nothing but what was built below it."""
     kit = pathlib.Path(subprocess.run(["rt", "doc"], stdout=subprocess.PIPE, text=True).stdout.strip()).parent
     uses = lines_of_crates()[crate].partition("#")[0].partition(":")[2].split()
     rlibs = {it: copy / "crates" / it / "out/rlib" / f"{it}.rlib" for it in below(crate)}
-    words = ["rattle", "check", "--crate-name", crate, "src/lib.rt", "--jobs", "1", "--progress", "--incremental", kept]
+    source = "src/main.rt" if (copy / "crates" / crate / "src/main.rt").is_file() else "src/lib.rt"
+    words = ["rattle", "check", "--crate-name", crate, source, "--jobs", "1", "--progress", "--incremental", kept]
     for name in ["std", *uses]:
         words += ["--extern", f"{name}={rlibs.get(name, kit / 'rlibs' / f'{name}.rlib')}"]
     for folder in [kit / "rlibs", *(it.parent for it in rlibs.values())]:

@@ -398,7 +398,7 @@ impl<'a> Block<'a> {
 }
 
 /// The texts of many names, in order: each is lent to `each` with its name. Some hundred names at a time are taken from the
-/// iterator and given to one call of the library, which makes its lists once for all of them: two thirds of the work of
+/// iterator and given to one call of the library, which makes its lists once for all of them: three quarters of the work of
 /// [`demangle_into`] for each.
 pub fn for_each_text<'a>(
     names: impl IntoIterator<Item = &'a [u8]>,

@@ -1,7 +1,89 @@
-// What a call answers, in the words of a row.
+// What calls answer, in the words of a row, and whether each answers what stands there.
 
 use std::alloc::{AllocError, Global};
 use sym_core::Refusal;
+
+/// What is in a list before a call appends to it.
+pub const BEFORE: &[u8] = b"> ";
+
+/// What became of a row as far as its calls were asked. Where memory ran out, it is that alone.
+#[derive(Clone, Copy)]
+pub struct Verdict {
+    pub alloc: Global,
+    pub failed: bool,
+    pub lacked: bool,
+}
+
+impl Verdict {
+    /// The verdict before any call.
+    pub fn new(alloc: Global) -> Verdict {
+        Verdict {
+            alloc,
+            failed: false,
+            lacked: false,
+        }
+    }
+
+    /// Notes whether what has to hold does.
+    pub fn require(&mut self, holds: bool) {
+        if !holds {
+            self.failed = true;
+        }
+    }
+
+    /// Notes that memory ran out.
+    pub fn lack(&mut self) {
+        self.lacked = true;
+    }
+
+    /// Notes whether a text is the one in a row.
+    pub fn text(&mut self, text: &[u8], wanted: &[u8]) {
+        match spelled(self.alloc, text) {
+            Ok(text) => self.require(text.as_slice() == wanted),
+            Err(_) => self.lack(),
+        }
+    }
+
+    /// Notes whether a symbol is refused for the reason in a row.
+    pub fn refusal(&mut self, refusal: Refusal, wanted: &[u8]) {
+        match reason(self.alloc, refusal) {
+            Ok(reason) => self.require(reason.as_bytes() == wanted),
+            Err(_) => self.lack(),
+        }
+    }
+
+    /// Notes whether a call answers what stands in a row.
+    pub fn says(&mut self, answer: Result<Vec<u8>, Refusal>, wanted: &[u8]) {
+        match answer {
+            Ok(text) => self.text(&text, wanted),
+            Err(refusal) => self.refusal(refusal, wanted),
+        }
+    }
+
+    /// The same, of a call that has no answer where it doesn't keep to what it promises beside that.
+    pub fn soundly_says(&mut self, answer: Result<Option<Vec<u8>>, Refusal>, wanted: &[u8]) {
+        match answer {
+            Ok(Some(text)) => self.text(&text, wanted),
+            Ok(None) => self.require(false),
+            Err(refusal) => self.refusal(refusal, wanted),
+        }
+    }
+
+    /// Notes whether a call appended to a list what stands in a row. One that refuses leaves the list as it was.
+    pub fn appended(&mut self, answer: Result<(), Refusal>, list: &[u8], wanted: &[u8]) {
+        let Some(text) = list.strip_prefix(BEFORE) else {
+            self.require(false);
+            return;
+        };
+        match answer {
+            Ok(()) => self.text(text, wanted),
+            Err(refusal) => {
+                self.require(text.is_empty());
+                self.refusal(refusal, wanted);
+            }
+        }
+    }
+}
 
 /// Bytes as a row spells them: a backslash, a tab, a line's end and the byte 0xFF as two bytes each.
 pub fn spelled(alloc: Global, bytes: &[u8]) -> Result<Vec<u8>, AllocError> {
@@ -35,7 +117,7 @@ pub fn unspelled(alloc: Global, field: &[u8]) -> Result<Vec<u8>, AllocError> {
     Ok(bytes)
 }
 
-/// Why a symbol has no text.
+/// Why a symbol has no text. Want of memory is no reason.
 fn reason(alloc: Global, refusal: Refusal) -> Result<String, AllocError> {
     match refusal {
         Refusal::Malformed { at } => format!(in alloc; "malformed at {at}"),
@@ -43,27 +125,5 @@ fn reason(alloc: Global, refusal: Refusal) -> Result<String, AllocError> {
         Refusal::BadValue { at } => format!(in alloc; "bad value at {at}"),
         Refusal::TooLong => format!(in alloc; "too long"),
         Refusal::Memory => Err(AllocError),
-    }
-}
-
-/// Whether a call answers what is in a row.
-///
-/// # Errors
-///
-/// `Memory` where the call answers that, or there is none for the comparison.
-pub fn says(
-    alloc: Global,
-    answer: &Result<Vec<u8>, Refusal>,
-    wanted: &[u8],
-) -> Result<bool, Refusal> {
-    match answer {
-        Ok(text) => {
-            let text = spelled(alloc, text)?;
-            Ok(text.as_slice() == wanted)
-        }
-        Err(refusal) => {
-            let reason = reason(alloc, *refusal)?;
-            Ok(reason.as_bytes() == wanted)
-        }
     }
 }

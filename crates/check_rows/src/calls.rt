@@ -2,24 +2,17 @@
 
 ghost use Rattle.sym_core.specs.Number.{FitsSymbol};
 
-use crate::answer::says;
+use crate::answer::{BEFORE, Verdict};
 use crate::feeding::most_steps;
-use crate::linking::linked_in_steps;
+use crate::linking::{linked_in_steps, linker_of};
 use crate::mangling::{Calls, PressCalls};
 use crate::printing::{printed_in_steps, put_together};
+use crate::row::Row;
 use std::alloc::Global;
 use sym_core::{Counts, Refusal, fits};
-use sym_demangle::{Linker, Workspace};
-use sym_filter::{Demangled, Demangler, Kind};
+use sym_demangle::Workspace;
+use sym_filter::{Demangled, Demangler};
 use sym_print::Detail;
-
-/// What is in a list before a call appends to it.
-const BEFORE: &[u8] = b"> ";
-
-/// An answer that no row has, where a call doesn't keep to what it promises beside its answer.
-pub fn broken(alloc: Global, promise: &[u8]) -> Result<Vec<u8>, Refusal> {
-    Ok(Vec::from_slice(alloc, promise)?)
-}
 
 /// Whether a symbol of so many bytes may have these counts.
 fn are_few(counts: Counts, len: usize) -> bool {
@@ -30,278 +23,189 @@ fn are_few(counts: Counts, len: usize) -> bool {
         && steps as usize <= most_steps(len)
 }
 
-/// What a demangler answered for a symbol of so many bytes, with what a list then has.
-fn answered(alloc: Global, answer: Demangled, len: usize, out: &[u8]) -> Result<Vec<u8>, Refusal> {
-    let Some(text) = out.strip_prefix(BEFORE) else {
-        return broken(alloc, b"(the list was changed)");
-    };
+/// Notes whether a demangler that counts answered this, with what a list then has.
+fn counted(verdict: &mut Verdict, answer: Demangled, list: &[u8], row: Row<'_>) {
     match answer {
         Demangled::Text(counts) => {
-            if !are_few(counts, len) {
-                return broken(alloc, b"(the counts are too great)");
-            }
-            Ok(Vec::from_slice(alloc, text)?)
+            verdict.require(are_few(counts, row.s.len()));
+            verdict.appended(Ok(()), list, row.wanted);
         }
-        Demangled::TooLong(_counts) => refused(alloc, Refusal::TooLong, text),
-        Demangled::Refused(refusal) => refused(alloc, refusal, text),
+        Demangled::TooLong(counts) => {
+            verdict.require(are_few(counts, row.s.len()));
+            verdict.appended(Err(Refusal::TooLong), list, row.wanted);
+        }
+        Demangled::Refused(refusal) => verdict.appended(Err(refusal), list, row.wanted),
     }
 }
 
-/// A refusal, after which a list has to be as before.
-fn refused(alloc: Global, refusal: Refusal, appended: &[u8]) -> Result<Vec<u8>, Refusal> {
-    if appended.is_empty() {
-        Err(refusal)
-    } else {
-        broken(alloc, b"(the list was changed)")
-    }
-}
-
-/// The answer of a demangler, which appends it to a list and counts.
-pub fn by_demangler<D: Demangler>(
-    alloc: Global,
+/// Asks a demangler for a symbol's text in a list, and for its counts, which are the answer.
+fn ask_counting<D: Demangler>(
+    verdict: &mut Verdict,
     demangler: &D,
     lists: &mut D::Lists,
-    kind: Kind,
-    s: &[u8],
-) -> Result<Vec<u8>, Refusal>
-    requires { FitsSymbol s.now }
+    row: Row<'_>,
+) -> Demangled
+    requires { FitsSymbol row.s.now }
 {
-    let mut out = Vec::from_slice(alloc, BEFORE)?;
-    let answer = demangler.demangle(lists, kind, s, &mut out);
-    answered(alloc, answer, s.len(), &out)
+    let Ok(mut list) = Vec::from_slice(verdict.alloc, BEFORE) else {
+        return Demangled::Refused(Refusal::Memory);
+    };
+    let answer = demangler.demangle(lists, row.kind, row.s, &mut list);
+    counted(verdict, answer, &list, row);
+    answer
 }
 
-/// What was appended to a list, or why nothing was.
-fn appended(alloc: Global, answer: Result<(), Refusal>, out: &[u8]) -> Result<Vec<u8>, Refusal> {
-    match (answer, out.strip_prefix(BEFORE)) {
-        (Ok(()), Some(text)) => Ok(Vec::from_slice(alloc, text)?),
-        (Err(refusal), Some(b"")) => Err(refusal),
-        _ => broken(alloc, b"(the list was changed)"),
+/// Asks a demangler for a symbol's text in a list.
+fn ask_appending<D: Demangler>(
+    verdict: &mut Verdict,
+    demangler: &D,
+    lists: &mut D::Lists,
+    row: Row<'_>,
+) -> Result<(), Refusal>
+    requires { FitsSymbol row.s.now }
+{
+    let mut list = Vec::from_slice(verdict.alloc, BEFORE)?;
+    let answer = demangler.append(lists, row.kind, row.s, &mut list);
+    verdict.appended(answer, &list, row.wanted);
+    answer
+}
+
+/// Asks both calls of a demangler for a symbol's text, and answers what the one that counts does.
+pub fn ask<D: Demangler>(
+    verdict: &mut Verdict,
+    demangler: &D,
+    lists: &mut D::Lists,
+    row: Row<'_>,
+) -> Demangled
+    requires { FitsSymbol row.s.now }
+{
+    let counted = ask_counting(verdict, demangler, lists, row);
+    let appended = ask_appending(verdict, demangler, lists, row);
+    if counted == Demangled::Refused(Refusal::Memory) || appended == Err(Refusal::Memory) {
+        verdict.lack();
+    }
+    counted
+}
+
+/// Asks for the text of a symbol that is read, by each call that prints one.
+fn ask_symbol<M: Calls>(verdict: &mut Verdict, symbol: &M::Symbol, row: Row<'_>) {
+    let Row {
+        s,
+        limit,
+        detail,
+        wanted,
+        ..
+    } = row;
+    let alloc = verdict.alloc;
+    verdict.require(are_few(M::counts(symbol), s.len()));
+    verdict.says(M::text_as(symbol, limit, detail), wanted);
+    if detail == Detail::Full {
+        verdict.says(<M as Calls>::text(symbol, limit), wanted);
+    }
+    let root = M::root(symbol, detail);
+    verdict.soundly_says(printed_in_steps(alloc, symbol, root, limit), wanted);
+    let root = M::root(symbol, detail);
+    verdict.soundly_says(put_together(alloc, symbol, root, limit), wanted);
+}
+
+/// Reads a symbol whole, and asks for its text.
+fn ask_read<M: Calls>(verdict: &mut Verdict, row: Row<'_>)
+    requires { FitsSymbol row.s.now }
+{
+    match M::read(verdict.alloc, row.s) {
+        Ok(symbol) => ask_symbol::<M>(verdict, &symbol, row),
+        Err(refusal) => verdict.refusal(refusal, row.wanted),
     }
 }
 
-/// The answer of a demangler, which appends it to a list and counts nothing.
-fn by_append<D: Demangler>(
-    alloc: Global,
-    demangler: &D,
-    lists: &mut D::Lists,
-    kind: Kind,
-    s: &[u8],
-) -> Result<Vec<u8>, Refusal>
-    requires { FitsSymbol s.now }
+/// Reads and links a symbol step by step, and asks for its text.
+fn ask_linked_in_steps<M: Calls>(verdict: &mut Verdict, row: Row<'_>)
+    requires { FitsSymbol row.s.now }
 {
-    let mut out = Vec::from_slice(alloc, BEFORE)?;
-    let answer = demangler.append(lists, kind, s, &mut out);
-    appended(alloc, answer, &out)
-}
-
-/// Whether both calls of a demangler answer this for a symbol.
-pub fn demangler_says<D: Demangler>(
-    alloc: Global,
-    demangler: &D,
-    lists: &mut D::Lists,
-    kind: Kind,
-    s: &[u8],
-    wanted: &[u8],
-) -> Result<bool, Refusal>
-    requires { FitsSymbol s.now }
-{
-    let counted = by_demangler(alloc, demangler, lists, kind, s);
-    if !says(alloc, &counted, wanted)? {
-        return Ok(false);
+    match linked_in_steps::<M>(verdict.alloc, row.s) {
+        Ok(Some(symbol)) => ask_symbol::<M>(verdict, &symbol, row),
+        Ok(None) => verdict.require(false),
+        Err(refusal) => verdict.refusal(refusal, row.wanted),
     }
-    let answer = by_append(alloc, demangler, lists, kind, s);
-    says(alloc, &answer, wanted)
 }
 
-/// A symbol that is fed in pieces.
+/// The text of a symbol that is linked at once.
+fn linked_at_once<M: Calls>(alloc: Global, row: Row<'_>) -> Result<Vec<u8>, Refusal>
+    requires { FitsSymbol row.s.now }
+{
+    let mut linker = linker_of::<M>(alloc, row.s)?;
+    linker.run()?;
+    let symbol = linker.finish();
+    M::text_as(&symbol, row.limit, row.detail)
+}
+
+/// The text of a symbol that is fed in pieces, or none where the reader stepped otherwise than it has to.
 fn in_pieces<M: Calls>(
     alloc: Global,
     pieces: &[&[u8]],
-    limit: u32,
-    detail: Detail,
-) -> Result<Vec<u8>, Refusal> {
+    row: Row<'_>,
+) -> Result<Option<Vec<u8>>, Refusal> {
     match M::read_fed(alloc, pieces)? {
-        Some(symbol) => M::text_as(&symbol, limit, detail),
-        None => broken(alloc, b"(a reader stepped otherwise)"),
+        Some(symbol) => Ok(Some(M::text_as(&symbol, row.limit, row.detail)?)),
+        None => Ok(None),
     }
 }
 
-/// A linker of a symbol.
-fn linker_of<M: Calls>(alloc: Global, s: &[u8]) -> Result<Linker<M>, Refusal>
-    requires { FitsSymbol s.now }
-{
-    let shape = sym_shape::read(alloc, &M::grammar(), s)?;
-    let bytes = Vec::from_slice(alloc, s)?;
-    Linker::<M>::new(alloc, bytes, shape)
+/// The text of a symbol that is fed byte by byte.
+fn byte_by_byte<M: Calls>(alloc: Global, row: Row<'_>) -> Result<Option<Vec<u8>>, Refusal> {
+    let bytes: Vec<&[u8]> = row.s.chunks(1).collect(alloc)?;
+    in_pieces::<M>(alloc, &bytes, row)
 }
 
-/// A symbol that is read, linked and printed step by step, each of which is counted.
-fn step_by_step<M: Calls>(
-    alloc: Global,
-    s: &[u8],
-    limit: u32,
-    detail: Detail,
-) -> Result<Vec<u8>, Refusal>
-    requires { FitsSymbol s.now }
+/// Asks a workspace, which has read ahead, for a symbol's text in a list.
+fn ask_workspace<M: Calls>(verdict: &mut Verdict, workspace: &mut Workspace<M>, row: Row<'_>)
+    requires { FitsSymbol row.s.now }
 {
-    let Some(symbol) = linked_in_steps::<M>(alloc, s)? else {
-        return broken(alloc, b"(a reader or linker stepped otherwise)");
+    let Ok(mut list) = Vec::from_slice(verdict.alloc, BEFORE) else {
+        verdict.lack();
+        return;
     };
-    if !are_few(M::counts(&symbol), s.len()) {
-        return broken(alloc, b"(the counts are too great)");
-    }
-    match printed_in_steps(alloc, &symbol, M::root(&symbol, detail), limit)? {
-        Some(text) => Ok(text),
-        None => broken(alloc, b"(a printer stepped otherwise)"),
-    }
-}
-
-/// A symbol whose text is put together part by part.
-fn part_by_part<M: Calls>(
-    alloc: Global,
-    s: &[u8],
-    limit: u32,
-    detail: Detail,
-) -> Result<Vec<u8>, Refusal>
-    requires { FitsSymbol s.now }
-{
-    let symbol = M::read(alloc, s)?;
-    match put_together(alloc, &symbol, M::root(&symbol, detail), limit)? {
-        Some(text) => Ok(text),
-        None => broken(alloc, b"(the parts are too many)"),
-    }
-}
-
-/// A symbol that is read whole, and printed.
-fn read_and_printed<M: Calls>(
-    alloc: Global,
-    s: &[u8],
-    limit: u32,
-    detail: Detail,
-) -> Result<Vec<u8>, Refusal>
-    requires { FitsSymbol s.now }
-{
-    let symbol = M::read(alloc, s)?;
-    if !are_few(M::counts(&symbol), s.len()) {
-        return broken(alloc, b"(the counts are too great)");
-    }
-    M::text_as(&symbol, limit, detail)
-}
-
-/// A symbol that is read whole, and printed in full.
-fn read_and_printed_in_full<M: Calls>(
-    alloc: Global,
-    s: &[u8],
-    limit: u32,
-) -> Result<Vec<u8>, Refusal>
-    requires { FitsSymbol s.now }
-{
-    let symbol = M::read(alloc, s)?;
-    <M as Calls>::text(&symbol, limit)
-}
-
-/// A symbol that is linked at once.
-fn linked_at_once<M: Calls>(
-    alloc: Global,
-    s: &[u8],
-    limit: u32,
-    detail: Detail,
-) -> Result<Vec<u8>, Refusal>
-    requires { FitsSymbol s.now }
-{
-    let mut linker = linker_of::<M>(alloc, s)?;
-    linker.run()?;
-    let symbol = linker.finish();
-    M::text_as(&symbol, limit, detail)
-}
-
-/// The text that a workspace, which has read ahead, appends to a list.
-fn kept<M: Calls>(
-    alloc: Global,
-    workspace: &mut Workspace<M>,
-    s: &[u8],
-    limit: u32,
-    detail: Detail,
-) -> Result<Vec<u8>, Refusal>
-    requires { FitsSymbol s.now }
-{
-    let mut out = Vec::from_slice(alloc, BEFORE)?;
+    let s = row.s;
     for len in [0, 1, s.len() / 2, s.len()] {
         let front = &s[..len.min(s.len())];
         if fits(front) {
             workspace.read_ahead(front);
         }
     }
-    let answer = workspace.demangle_into(s, limit, detail, &mut out);
-    appended(alloc, answer, &out)
+    let answer = workspace.demangle_into(s, row.limit, row.detail, &mut list);
+    verdict.appended(answer, &list, row.wanted);
 }
 
-/// Whether each call answers this for a symbol.
-pub fn calls_say<M: Calls>(
-    alloc: Global,
-    workspace: &mut Workspace<M>,
-    s: &[u8],
-    limit: u32,
-    detail: Detail,
-    wanted: &[u8],
-) -> Result<bool, Refusal>
-    requires { FitsSymbol s.now }
+/// Asks each call of a mangling for a symbol's text.
+pub fn ask_mangling<M: Calls>(verdict: &mut Verdict, workspace: &mut Workspace<M>, row: Row<'_>)
+    requires { FitsSymbol row.s.now }
 {
-    let at_once = M::demangle_as(alloc, s, limit, detail);
-    if !says(alloc, &at_once, wanted)? {
-        return Ok(false);
-    }
+    let Row {
+        s,
+        limit,
+        detail,
+        wanted,
+        ..
+    } = row;
+    let alloc = verdict.alloc;
+    verdict.says(M::demangle_as(alloc, s, limit, detail), wanted);
     if detail == Detail::Full {
-        let in_full = M::demangle(alloc, s, limit);
-        if !says(alloc, &in_full, wanted)? {
-            return Ok(false);
-        }
-        let printed = read_and_printed_in_full::<M>(alloc, s, limit);
-        if !says(alloc, &printed, wanted)? {
-            return Ok(false);
-        }
+        verdict.says(M::demangle(alloc, s, limit), wanted);
     }
-    let printed = read_and_printed::<M>(alloc, s, limit, detail);
-    if !says(alloc, &printed, wanted)? {
-        return Ok(false);
-    }
-    let linked = linked_at_once::<M>(alloc, s, limit, detail);
-    if !says(alloc, &linked, wanted)? {
-        return Ok(false);
-    }
-    let stepped = step_by_step::<M>(alloc, s, limit, detail);
-    if !says(alloc, &stepped, wanted)? {
-        return Ok(false);
-    }
-    let put_together = part_by_part::<M>(alloc, s, limit, detail);
-    if !says(alloc, &put_together, wanted)? {
-        return Ok(false);
-    }
-    let kept = kept(alloc, workspace, s, limit, detail);
-    if !says(alloc, &kept, wanted)? {
-        return Ok(false);
-    }
-    let bytes: Vec<&[u8]> = s.chunks(1).collect(alloc)?;
-    let byte_by_byte = in_pieces::<M>(alloc, &bytes, limit, detail);
-    says(alloc, &byte_by_byte, wanted)
+    ask_read::<M>(verdict, row);
+    ask_linked_in_steps::<M>(verdict, row);
+    verdict.says(linked_at_once::<M>(alloc, row), wanted);
+    ask_workspace(verdict, workspace, row);
+    verdict.soundly_says(byte_by_byte::<M>(alloc, row), wanted);
 }
 
-/// Whether a symbol that is cut at each place in turn has this answer.
-pub fn pieces_say<M: Calls>(
-    alloc: Global,
-    s: &[u8],
-    limit: u32,
-    detail: Detail,
-    wanted: &[u8],
-) -> Result<bool, Refusal> {
+/// Asks for the text of a symbol that is fed in two pieces, cut at each place in turn.
+pub fn ask_in_pieces<M: Calls>(verdict: &mut Verdict, row: Row<'_>) {
+    let s = row.s;
     for cut in 0..s.len() {
-        let answer = in_pieces::<M>(alloc, &[&s[..cut], &s[cut..]], limit, detail);
-        if !says(alloc, &answer, wanted)? {
-            return Ok(false);
-        }
+        let text = in_pieces::<M>(verdict.alloc, &[&s[..cut], &s[cut..]], row);
+        verdict.soundly_says(text, row.wanted);
     }
-    Ok(true)
 }
 
 /// A symbol that is read whole, and pressed.
@@ -312,23 +216,19 @@ fn read_and_pressed<M: PressCalls>(alloc: Global, s: &[u8]) -> Result<Vec<u8>, R
     M::press(alloc, &symbol)
 }
 
-/// A symbol that is fed byte by byte, and pressed.
-fn fed_and_pressed<M: PressCalls>(alloc: Global, s: &[u8]) -> Result<Vec<u8>, Refusal> {
+/// A symbol that is fed byte by byte, and pressed, or none where the reader stepped otherwise than it has to.
+fn fed_and_pressed<M: PressCalls>(alloc: Global, s: &[u8]) -> Result<Option<Vec<u8>>, Refusal> {
     let bytes: Vec<&[u8]> = s.chunks(1).collect(alloc)?;
     match M::read_fed(alloc, &bytes)? {
-        Some(symbol) => M::press(alloc, &symbol),
-        None => broken(alloc, b"(a reader stepped otherwise)"),
+        Some(symbol) => Ok(Some(M::press(alloc, &symbol)?)),
+        None => Ok(None),
     }
 }
 
-/// Whether a mangling's call that presses answers this for a symbol.
-pub fn presses_say<M: PressCalls>(alloc: Global, s: &[u8], wanted: &[u8]) -> Result<bool, Refusal>
+/// Asks a mangling's call that presses for a symbol's spelling.
+pub fn ask_pressing<M: PressCalls>(verdict: &mut Verdict, s: &[u8], wanted: &[u8])
     requires { FitsSymbol s.now }
 {
-    let pressed = read_and_pressed::<M>(alloc, s);
-    if !says(alloc, &pressed, wanted)? {
-        return Ok(false);
-    }
-    let pressed = fed_and_pressed::<M>(alloc, s);
-    says(alloc, &pressed, wanted)
+    verdict.says(read_and_pressed::<M>(verdict.alloc, s), wanted);
+    verdict.soundly_says(fed_and_pressed::<M>(verdict.alloc, s), wanted);
 }

@@ -1,14 +1,13 @@
 // Symbols cut and changed at each byte.
 
-use crate::calls::demangler_says;
-use std::alloc::Global;
-use sym_core::{Refusal, fits};
-use sym_filter::Kind;
-use sym_languages::languages::Lists;
-use sym_languages::{Abi, Languages};
+use crate::answer::Verdict;
+use crate::languages::{AllLists, ask_demangler};
+use crate::row::Row;
+use std::alloc::{AllocError, Global};
+use sym_core::fits;
 
 /// How a symbol is changed at a place.
-#[derive(Clone, Copy, Debug, PartialEq, Eq)]
+#[derive(Clone, Copy)]
 pub enum Change {
     /// It ends there.
     Cut,
@@ -17,7 +16,7 @@ pub enum Change {
 }
 
 /// A symbol that is changed at a place.
-fn changed(alloc: Global, s: &[u8], place: usize, change: Change) -> Result<Vec<u8>, Refusal> {
+fn changed(alloc: Global, s: &[u8], place: usize, change: Change) -> Result<Vec<u8>, AllocError> {
     let (front, rest) = s.split_at(place.min(s.len()));
     let mut changed = Vec::from_slice(alloc, front)?;
     if let Change::Put(byte) = change
@@ -29,46 +28,74 @@ fn changed(alloc: Global, s: &[u8], place: usize, change: Change) -> Result<Vec<
     Ok(changed)
 }
 
-/// The answer in a field that begins so.
-fn answer_behind<'a>(fields: &'a [&'a [u8]], number: usize, front: &[u8]) -> Option<&'a [u8]> {
-    match fields.get(number) {
-        Some(field) => field.strip_prefix(front),
-        None => None,
+/// What is answered for a symbol that is changed at a place: what a field has behind the place and a blank, where it begins so.
+fn answer_at<'a>(
+    alloc: Global,
+    field: Option<&&'a [u8]>,
+    place: usize,
+) -> Result<Option<&'a [u8]>, AllocError> {
+    let at = format!(in alloc; "{place} ")?;
+    match field {
+        Some(field) => Ok(field.strip_prefix(at.as_bytes())),
+        None => Ok(None),
     }
 }
 
-/// Whether a symbol that is changed at each place in turn is malformed there, but for the places of which a row says
-/// otherwise: the place, a blank, and the answer.
-pub fn hold(
-    alloc: Global,
-    languages: &Languages<Abi>,
-    lists: &mut Lists<Abi>,
-    kind: Kind,
-    s: &[u8],
+/// Asks for the text of a symbol that is changed, which may be longer than symbols are.
+fn ask_changed(
+    verdict: &mut Verdict,
+    lists: &mut AllLists,
+    row: Row<'_>,
+    changed: &[u8],
+    wanted: &[u8],
+) {
+    let row = Row {
+        s: changed,
+        wanted,
+        ..row
+    };
+    if fits(changed) {
+        ask_demangler(verdict, lists, row);
+    } else {
+        verdict.require(false);
+    }
+}
+
+/// Asks for the text of a symbol that is changed at a place, where it is malformed there unless another answer is said, and answers
+/// whether one is.
+fn ask_at(
+    verdict: &mut Verdict,
+    lists: &mut AllLists,
+    row: Row<'_>,
+    place: usize,
+    change: Change,
+    other: Option<&&[u8]>,
+) -> Result<bool, AllocError> {
+    let changed = changed(verdict.alloc, row.s, place, change)?;
+    if let Some(answer) = answer_at(verdict.alloc, other, place)? {
+        ask_changed(verdict, lists, row, &changed, answer);
+        return Ok(true);
+    }
+    let usual = format!(in verdict.alloc; "malformed at {place}")?;
+    ask_changed(verdict, lists, row, &changed, usual.as_bytes());
+    Ok(false)
+}
+
+/// Asks for the text of a symbol that is changed at each place in turn. It is malformed there, but for the places of which a row
+/// says otherwise: the place, a blank, and the answer.
+pub fn ask_each_place(
+    verdict: &mut Verdict,
+    lists: &mut AllLists,
+    row: Row<'_>,
     change: Change,
     others: &[&[u8]],
-) -> Result<bool, Refusal> {
+) -> Result<(), AllocError> {
     let mut said = 0_usize;
-    for place in 0..s.len() {
-        let at = format!(in alloc; "{place} ")?;
-        let mut wanted = Vec::new(alloc);
-        match answer_behind(others, said, at.as_bytes()) {
-            Some(answer) => {
-                said = said.saturating_add(1);
-                wanted.extend_from_slice(answer)?;
-            }
-            None => {
-                let usual = format!(in alloc; "malformed at {place}")?;
-                wanted.extend_from_slice(usual.as_bytes())?;
-            }
-        }
-        let changed = changed(alloc, s, place, change)?;
-        if !fits(&changed) {
-            return Ok(false);
-        }
-        if !demangler_says(alloc, languages, lists, kind, &changed, &wanted)? {
-            return Ok(false);
+    for place in 0..row.s.len() {
+        if ask_at(verdict, lists, row, place, change, others.get(said))? {
+            said = said.saturating_add(1);
         }
     }
-    Ok(said == others.len())
+    verdict.require(said == others.len());
+    Ok(())
 }

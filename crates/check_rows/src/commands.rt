@@ -1,165 +1,156 @@
-// The command line and the filter, as the programs have them.
+// The command lines and the filter, as the programs have them.
 
-use crate::answer::{says, unspelled};
-use crate::library::{flags_of, library_filters};
-use std::alloc::Global;
+use crate::answer::{Verdict, unspelled};
+use crate::library::ask_library_to_filter;
+use std::alloc::{AllocError, Global};
 use std::str;
-use sym_command::{FAULT, Filtering, Run};
-use sym_core::Refusal;
-use sym_filter::{ListSink, ReaderSource};
+use sym_command::{FAULT, Run};
+use sym_filter::{FilterFault, ListSink, ReaderSource};
 use symfilt_command::{run, run_over};
 
-/// The words of a command line, the program's name first, as blanks keep them apart; `-` is none. There is no such line where
-/// they aren't text.
+/// What a program has to write where a row says nothing of it but that there is some.
+const ANY: &[u8] = b"*";
+
+/// How a program has to end, and what it has to write.
+#[derive(Clone, Copy)]
+pub struct Ending<'a> {
+    pub status: u32,
+    pub out: &'a [u8],
+    pub err: &'a [u8],
+}
+
+/// The words of a command line, the program's name first, as blanks keep them apart; `-` is none. No row has words that aren't text.
 fn words_of<'a>(
-    alloc: Global,
+    verdict: &mut Verdict,
     program: &'a str,
     field: &'a [u8],
-) -> Result<Option<Vec<&'a str>>, Refusal> {
-    let Ok(field) = str::from_utf8(field) else {
-        return Ok(None);
-    };
-    let mut words = Vec::new(alloc);
+) -> Result<Vec<&'a str>, AllocError> {
+    let mut words = Vec::new(verdict.alloc);
     words.push(program)?;
-    if field != "-" {
-        for word in field.split(' ') {
-            words.push(word)?;
+    match str::from_utf8(field) {
+        Ok("-") => {}
+        Ok(field) => {
+            for word in field.split(' ') {
+                words.push(word)?;
+            }
         }
+        Err(_) => verdict.require(false),
     }
-    Ok(Some(words))
+    Ok(words)
 }
 
-/// Whether the static library filters a text to this one as is asked.
-fn library_says(
-    alloc: Global,
-    text: &[u8],
-    filtering: Filtering,
-    wanted: &[u8],
-) -> Result<bool, Refusal> {
-    let Filtering {
-        limit,
-        detail,
-        letters,
-        wide,
-        legacy,
-    } = filtering;
-    library_filters(
-        alloc,
-        text,
-        limit,
-        flags_of(detail, wide, legacy),
-        letters,
-        wanted,
-    )
+/// Notes whether a program wrote these bytes as a row spells them, or some where it has `*`.
+fn written(verdict: &mut Verdict, bytes: &[u8], wanted: &[u8]) {
+    if wanted == ANY {
+        verdict.require(!bytes.is_empty());
+    } else {
+        verdict.text(bytes, wanted);
+    }
 }
 
-/// Whether the program with these options filters a text to this one.
+/// Notes whether a program ended as a row says. Nothing but memory can fail here.
+fn ended(
+    verdict: &mut Verdict,
+    status: Result<u8, FilterFault>,
+    out: &[u8],
+    err: &[u8],
+    wanted: Ending<'_>,
+) {
+    match status {
+        Ok(status) if status != FAULT => verdict.require(u32::from(status) == wanted.status),
+        _ => verdict.lack(),
+    }
+    written(verdict, out, wanted.out);
+    written(verdict, err, wanted.err);
+}
+
+/// Runs symfilt over an input.
+fn run_symfilt(verdict: &mut Verdict, words: &[&str], input: &[u8], wanted: Ending<'_>) {
+    let alloc = verdict.alloc;
+    let mut reader = ReaderSource::new(input);
+    let mut out = ListSink::new(Vec::new(alloc));
+    let mut err = ListSink::new(Vec::new(alloc));
+    let status = run_over(alloc, words, &mut reader, &mut out, &mut err);
+    ended(verdict, status, &out.into_list(), &err.into_list(), wanted);
+}
+
+/// Runs demangle over an input.
+fn run_demangle(verdict: &mut Verdict, words: &[&str], input: &[u8], wanted: Ending<'_>) {
+    let alloc = verdict.alloc;
+    let mut reader = ReaderSource::new(input);
+    let mut out = ListSink::new(Vec::new(alloc));
+    let mut err = ListSink::new(Vec::new(alloc));
+    let status = demangle_command::run_over(alloc, words, &mut reader, &mut out, &mut err);
+    ended(verdict, status, &out.into_list(), &err.into_list(), wanted);
+}
+
+/// What symfilt is to do with these words; it has to end so, unless it is to filter.
+fn asked_of_symfilt(verdict: &mut Verdict, words: &[&str], wanted: Ending<'_>) -> Run {
+    let mut out = Vec::new(verdict.alloc);
+    let mut err = Vec::new(verdict.alloc);
+    let asked = run(verdict.alloc, words, &mut out, &mut err);
+    match asked {
+        Run::Done(status) => ended(verdict, Ok(status), &out, &err, wanted),
+        Run::Filter(_) => verdict.require(out.is_empty() && err.is_empty()),
+    }
+    asked
+}
+
+/// Asks the program with these options to filter a text to this one, and the static library.
 ///
 /// # Errors
 ///
-/// `Memory`, where the program's status stands for that.
-pub fn is_filtered(
-    alloc: Global,
+/// Where there is no memory for the words and the text.
+pub fn ask_to_filter(
+    verdict: &mut Verdict,
     options: &[u8],
     text: &[u8],
     wanted: &[u8],
-) -> Result<bool, Refusal> {
-    let Some(words) = words_of(alloc, "symfilt", options)? else {
-        return Ok(false);
+) -> Result<(), AllocError> {
+    let words = words_of(verdict, "symfilt", options)?;
+    let text = unspelled(verdict.alloc, text)?;
+    let ending = Ending {
+        status: 0,
+        out: wanted,
+        err: b"",
     };
-    let text = unspelled(alloc, text)?;
-    let mut out = Vec::new(alloc);
-    let mut err = Vec::new(alloc);
-    match run(alloc, &words, &mut out, &mut err) {
-        Run::Filter(filtering) => Ok(
-            out.is_empty()
-                && err.is_empty()
-                && runs_to(alloc, &words, &text, wanted)?
-                && library_says(alloc, &text, filtering, wanted)?,
-        ),
-        Run::Done(FAULT) => Err(Refusal::Memory),
-        Run::Done(_) => Ok(false),
+    match asked_of_symfilt(verdict, &words, ending) {
+        Run::Filter(filtering) => ask_library_to_filter(verdict, &text, filtering, wanted),
+        Run::Done(_) => verdict.require(false),
     }
+    run_symfilt(verdict, &words, &text, ending);
+    Ok(())
 }
 
-/// Whether the program ends with status 0 over an input, and writes this alone. Nothing but memory can fail here.
-fn runs_to(alloc: Global, words: &[&str], text: &[u8], wanted: &[u8]) -> Result<bool, Refusal> {
-    let mut input = ReaderSource::new(text);
-    let mut out = ListSink::new(Vec::new(alloc));
-    let mut err = ListSink::new(Vec::new(alloc));
-    match run_over(alloc, words, &mut input, &mut out, &mut err) {
-        Ok(status) => Ok(
-            status == 0 && says(alloc, &Ok(out.into_list()), wanted)? && err.into_list().is_empty(),
-        ),
-        Err(_) => Err(Refusal::Memory),
-    }
-}
-
-/// Whether the program ends with this status on these words, and says these lines; the errors may be `*`, any.
+/// Asks the program to end so on these words.
 ///
 /// # Errors
 ///
-/// `Memory`, where the program's status stands for that.
-pub fn is_ended(
-    alloc: Global,
-    status: u32,
+/// Where there is no memory for the words.
+pub fn ask_to_end(
+    verdict: &mut Verdict,
     words: &[u8],
-    wanted: &[u8],
-    errors: &[u8],
-) -> Result<bool, Refusal> {
-    let Some(words) = words_of(alloc, "symfilt", words)? else {
-        return Ok(false);
-    };
-    let mut out = Vec::new(alloc);
-    let mut err = Vec::new(alloc);
-    match run(alloc, &words, &mut out, &mut err) {
-        Run::Done(FAULT) => Err(Refusal::Memory),
-        Run::Done(ended) => {
-            let any = errors == b"*".as_slice() && !err.is_empty();
-            Ok(
-                u32::from(ended) == status
-                    && says(alloc, &Ok(out), wanted)?
-                    && (any || says(alloc, &Ok(err), errors)?),
-            )
-        }
-        Run::Filter { .. } => Ok(false),
-    }
+    wanted: Ending<'_>,
+) -> Result<(), AllocError> {
+    let words = words_of(verdict, "symfilt", words)?;
+    let is_done = matches!(asked_of_symfilt(verdict, &words, wanted), Run::Done(_));
+    verdict.require(is_done);
+    Ok(())
 }
 
-/// Whether a program wrote these bytes as a row spells them, or some where it has `*`.
-fn is_written(alloc: Global, bytes: Vec<u8>, wanted: &[u8]) -> Result<bool, Refusal> {
-    if wanted == b"*".as_slice() {
-        return Ok(!bytes.is_empty());
-    }
-    says(alloc, &Ok(bytes), wanted)
-}
-
-/// Whether `demangle` ends with this status on these words over an input, and writes this to its outputs; either may be `*`, any.
+/// Asks `demangle` to end so on these words over an input.
 ///
 /// # Errors
 ///
-/// `Memory`. Nothing else can fail here.
-pub fn is_demangled(
-    alloc: Global,
-    status: u32,
+/// Where there is no memory for the words and the input.
+pub fn ask_to_demangle(
+    verdict: &mut Verdict,
     words: &[u8],
     input: &[u8],
-    wanted: &[u8],
-    errors: &[u8],
-) -> Result<bool, Refusal> {
-    let Some(words) = words_of(alloc, "demangle", words)? else {
-        return Ok(false);
-    };
-    let input = unspelled(alloc, input)?;
-    let mut reader = ReaderSource::new(input.as_slice());
-    let mut out = ListSink::new(Vec::new(alloc));
-    let mut err = ListSink::new(Vec::new(alloc));
-    match demangle_command::run_over(alloc, &words, &mut reader, &mut out, &mut err) {
-        Ok(ended) => Ok(
-            u32::from(ended) == status
-                && is_written(alloc, out.into_list(), wanted)?
-                && is_written(alloc, err.into_list(), errors)?,
-        ),
-        Err(_) => Err(Refusal::Memory),
-    }
+    wanted: Ending<'_>,
+) -> Result<(), AllocError> {
+    let words = words_of(verdict, "demangle", words)?;
+    let input = unspelled(verdict.alloc, input)?;
+    run_demangle(verdict, &words, &input, wanted);
+    Ok(())
 }

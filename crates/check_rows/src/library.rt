@@ -1,9 +1,7 @@
 // The static library's calls: each into buffers of no byte, of too few, of just enough and of more, and each of their statuses.
 
-ghost use Rattle.sym_core.specs.Number.{FitsSymbol};
-
-use crate::answer::says;
-use crate::calls::broken;
+use crate::answer::Verdict;
+use crate::row::Row;
 use std::alloc::{AllocError, Global};
 use sym_calls::flags::{ASCII_WORDS, BRIEF, LEGACY, NO_PARAMETERS, UNDERSCORE, WIDE};
 use sym_calls::outcome::{
@@ -12,10 +10,9 @@ use sym_calls::outcome::{
 use sym_calls::{
     Outcome, SymbolCounts, TextTally, counts_of, filter_of, press_of, text_of, texts_of,
 };
+use sym_command::Filtering;
 use sym_core::{Counts, Refusal};
-use sym_filter::{Demangled, Demangler, Kind, Letters};
-use sym_languages::Languages;
-use sym_languages::languages::{Cpp, Lists};
+use sym_filter::{Demangled, Letters};
 use sym_print::Detail;
 
 /// What is in a buffer before a call writes to it.
@@ -40,6 +37,8 @@ enum Call {
 struct Asked<'a> {
     call: Call,
     bytes: &'a [u8],
+    /// The underscore before the symbol that a row has, if there is one.
+    front: &'a [u8],
     limit: u32,
     flags: u32,
 }
@@ -49,23 +48,15 @@ impl<'a> Asked<'a> {
         Asked {
             call,
             bytes,
+            front: b"",
             limit,
             flags,
         }
     }
 }
 
-/// How a call ended: its status, what it told with that, and the buffer.
-#[derive(Drop)]
-struct Ending {
-    status: u32,
-    length: usize,
-    offset: u32,
-    buffer: Vec<u8>,
-}
-
 /// The flags for a detail, with C++ by the wide grammar or the other, and with legacy Rust names as paths or as C++.
-pub fn flags_of(detail: Detail, wide: bool, legacy: bool) -> u32 {
+fn flags_of(detail: Detail, wide: bool, legacy: bool) -> u32 {
     let shown = match detail {
         Detail::Full => 0,
         Detail::Brief => BRIEF,
@@ -101,166 +92,135 @@ fn is_tallied(status: u32, tally: TextTally) -> bool {
     }
 }
 
-/// How a call ends with a buffer of so many bytes.
-///
-/// # Errors
-///
-/// `Memory` where the call tells that, or there is none for the buffer.
-fn end_of(alloc: Global, asked: Asked<'_>, len: usize) -> Result<Ending, Refusal> {
+/// Makes a call with a buffer.
+fn outcome_of(verdict: &mut Verdict, asked: Asked<'_>, buffer: &mut [u8]) -> Outcome {
     let Asked {
         call,
         bytes,
         limit,
         flags,
+        ..
     } = asked;
-    let mut buffer = vec![in alloc; UNWRITTEN; len]?;
-    let mut tally = untallied();
+    let alloc = verdict.alloc;
     let outcome = match call {
-        Call::Text => text_of(alloc, bytes, limit, flags, &mut buffer),
-        Call::Filter => filter_of(alloc, bytes, limit, flags, &mut buffer, &mut tally),
-        Call::Press => press_of(alloc, bytes, flags, &mut buffer),
+        Call::Text => text_of(alloc, bytes, limit, flags, buffer),
+        Call::Filter => {
+            let mut tally = untallied();
+            let outcome = filter_of(alloc, bytes, limit, flags, buffer, &mut tally);
+            verdict.require(is_tallied(outcome.status, tally));
+            outcome
+        }
+        Call::Press => press_of(alloc, bytes, flags, buffer),
     };
     if outcome.status == MEMORY {
-        return Err(Refusal::Memory);
+        verdict.lack();
     }
-    let is_sound = !matches!(call, Call::Filter) || is_tallied(outcome.status, tally);
-    Ok(Ending {
-        // a tally that is wrong is no ending of any row
-        status: if is_sound { outcome.status } else { UNTOLD },
-        length: outcome.length,
-        offset: outcome.offset,
-        buffer,
-    })
+    outcome
 }
 
-/// Whether a call tells this status, with nothing else, and writes nothing.
-fn tells(alloc: Global, asked: Asked<'_>, status: u32) -> Result<bool, Refusal> {
-    let ending = end_of(alloc, asked, 8)?;
-    Ok(
-        ending.status == status
-            && ending.length == 0
-            && ending.offset == 0
-            && is_unwritten(&ending.buffer),
-    )
+/// Asks a call for this status, with which it tells nothing else, and writes nothing.
+fn ask_status(verdict: &mut Verdict, asked: Asked<'_>, status: u32) {
+    let mut buffer = [UNWRITTEN; 8];
+    let outcome = outcome_of(verdict, asked, &mut buffer);
+    verdict.require(
+        outcome.status == status
+            && outcome.length == 0
+            && outcome.offset == 0
+            && is_unwritten(&buffer),
+    );
 }
 
-/// The refusal that a status and an offset tell, if they tell one.
-fn refusal_of(status: u32, offset: u32) -> Option<Refusal> {
-    match status {
-        MALFORMED => Some(Refusal::Malformed { at: offset }),
-        BAD_REFERENCE => Some(Refusal::BadReference { at: offset }),
-        BAD_VALUE => Some(Refusal::BadValue { at: offset }),
-        TOO_LONG if offset == 0 => Some(Refusal::TooLong),
+/// The refusal that a status and an offset tell of a symbol after so many bytes, if they tell one.
+fn refusal_of(outcome: Outcome, skipped: u32) -> Option<Refusal> {
+    let at = outcome.offset.wrapping_sub(skipped);
+    match outcome.status {
+        MALFORMED => Some(Refusal::Malformed { at }),
+        BAD_REFERENCE => Some(Refusal::BadReference { at }),
+        BAD_VALUE => Some(Refusal::BadValue { at }),
+        TOO_LONG if outcome.offset == 0 => Some(Refusal::TooLong),
         _ => None,
     }
 }
 
-/// Whether a call with a buffer of so many bytes, which is too small, tells that it needs so many, and writes nothing.
-fn tells_need(alloc: Global, asked: Asked<'_>, len: usize, needed: usize) -> Result<bool, Refusal> {
-    let ending = end_of(alloc, asked, len)?;
-    Ok(
-        ending.status == BUFFER
-            && ending.length == needed
-            && ending.offset == 0
-            && is_unwritten(&ending.buffer),
-    )
-}
-
-/// The bytes that a call writes, which are so many: no more where the buffer is larger, and none where it is a byte smaller.
-fn written(alloc: Global, asked: Asked<'_>, len: usize) -> Result<Vec<u8>, Refusal> {
-    let exact = end_of(alloc, asked, len)?;
-    if exact.status != OK || exact.length != len || exact.offset != 0 {
-        return broken(alloc, b"(buffer of just enough)");
-    }
-    let more = end_of(alloc, asked, len.saturating_add(2))?;
-    let is_front = match more.buffer.strip_prefix(exact.buffer.as_slice()) {
-        Some(rest) => is_unwritten(rest),
-        None => false,
+/// Asks a call with a buffer for its text of so many bytes, or that the buffer is too small, and that the rest isn't written.
+fn ask_to_write(verdict: &mut Verdict, asked: Asked<'_>, room: usize, len: usize, wanted: &[u8]) {
+    let Ok(mut buffer) = vec![in verdict.alloc; UNWRITTEN; room] else {
+        verdict.lack();
+        return;
     };
-    if more.status != OK || more.length != len || more.offset != 0 || !is_front {
-        return broken(alloc, b"(buffer of more)");
+    let outcome = outcome_of(verdict, asked, &mut buffer);
+    verdict.require(outcome.length == len && outcome.offset == 0);
+    if outcome.status == OK && len <= buffer.len() {
+        let (written, rest) = buffer.split_at(len);
+        verdict.require(is_unwritten(rest));
+        let text = match asked.call {
+            Call::Press => written.strip_prefix(asked.front).unwrap_or_default(),
+            Call::Text | Call::Filter => written,
+        };
+        verdict.text(text, wanted);
+        return;
     }
-    if len > 0 && !tells_need(alloc, asked, len.saturating_sub(1), len)? {
-        return broken(alloc, b"(buffer of less)");
-    }
-    Ok(exact.buffer)
+    verdict.require(outcome.status == BUFFER && room < len && is_unwritten(&buffer));
 }
 
-/// What a call answers: the bytes that it writes where they fit, or a refusal.
-fn answered(alloc: Global, asked: Asked<'_>) -> Result<Vec<u8>, Refusal> {
-    let first = end_of(alloc, asked, 0)?;
+/// Asks a call for its answer: the bytes that it writes where they fit, no more where the buffer is larger, and none where it is a
+/// byte smaller; or a refusal.
+fn ask_call(verdict: &mut Verdict, asked: Asked<'_>, wanted: &[u8]) {
+    let first = outcome_of(verdict, asked, &mut []);
     if first.status == OK || first.status == BUFFER {
-        return written(alloc, asked, first.length);
+        let len = first.length;
+        ask_to_write(verdict, asked, len.saturating_sub(1), len, wanted);
+        ask_to_write(verdict, asked, len, len, wanted);
+        ask_to_write(verdict, asked, len.saturating_add(2), len, wanted);
+        return;
     }
-    let Some(refusal) = refusal_of(first.status, first.offset) else {
-        return broken(alloc, b"(a status)");
-    };
-    let again = end_of(alloc, asked, 8)?;
-    let same = again.status == first.status && again.offset == first.offset;
-    if !same || first.length != 0 || again.length != 0 || !is_unwritten(&again.buffer) {
-        return broken(alloc, b"(a refusal)");
+    let skipped = if asked.front.is_empty() { 0 } else { 1 };
+    match refusal_of(first, skipped) {
+        Some(refusal) => verdict.refusal(refusal, wanted),
+        None => verdict.require(false),
     }
-    Err(refusal)
+    let mut buffer = [UNWRITTEN; 8];
+    let again = outcome_of(verdict, asked, &mut buffer);
+    let is_same = again.status == first.status && again.offset == first.offset;
+    let is_alone = first.length == 0 && again.length == 0;
+    verdict.require(is_same && is_alone && is_unwritten(&buffer));
 }
 
-/// Whether a call answers this.
-fn call_says(alloc: Global, asked: Asked<'_>, wanted: &[u8]) -> Result<bool, Refusal> {
-    let answer = answered(alloc, asked);
-    says(alloc, &answer, wanted)
-}
-
-/// A refusal of what follows a byte, by its place there.
-fn after_a_byte(refusal: Refusal) -> Refusal {
-    match refusal {
-        Refusal::Malformed { at } => Refusal::Malformed {
-            at: at.wrapping_sub(1),
-        },
-        Refusal::BadReference { at } => Refusal::BadReference {
-            at: at.wrapping_sub(1),
-        },
-        Refusal::BadValue { at } => Refusal::BadValue {
-            at: at.wrapping_sub(1),
-        },
-        Refusal::TooLong => Refusal::TooLong,
-        Refusal::Memory => Refusal::Memory,
-    }
-}
-
-/// Whether a call answers this for a name, as it is and after an underscore that is asked for, and tells that there is no symbol
-/// after one that isn't, nor without the name's first byte.
-fn name_says(
-    alloc: Global,
-    call: Call,
-    name: &[u8],
-    limit: u32,
-    flags: u32,
-    wanted: &[u8],
-) -> Result<bool, Refusal> {
-    if !call_says(alloc, Asked::new(call, name, limit, flags), wanted)? {
-        return Ok(false);
-    }
+/// A name after an underscore.
+fn underscored(alloc: Global, name: &[u8]) -> Result<Vec<u8>, AllocError> {
     let mut longer = Vec::from_slice(alloc, b"_")?;
     longer.extend_from_slice(name)?;
-    let asked = Asked::new(call, &longer, limit, flags | UNDERSCORE);
-    let answer = match answered(alloc, asked) {
-        Ok(text) => match call {
-            Call::Press => {
-                let symbol = text.strip_prefix(b"_".as_slice()).unwrap_or_default();
-                Ok(Vec::from_slice(alloc, symbol)?)
-            }
-            Call::Text | Call::Filter => Ok(text),
-        },
-        Err(refusal) => Err(after_a_byte(refusal)),
+    Ok(longer)
+}
+
+/// Asks a call for its answer for a name, as it is and after an underscore that is asked for, and that it tells that there is no
+/// symbol after one that isn't, nor without the name's first byte.
+fn ask_for_name(verdict: &mut Verdict, asked: Asked<'_>, wanted: &[u8]) {
+    let name = asked.bytes;
+    let Ok(longer) = underscored(verdict.alloc, name) else {
+        verdict.lack();
+        return;
     };
-    if !says(alloc, &answer, wanted)? {
-        return Ok(false);
-    }
-    let rest = name.get(1..).unwrap_or_default();
-    let other = flags | UNDERSCORE;
-    Ok(
-        tells(alloc, Asked::new(call, &longer, limit, flags), NO_SYMBOL)?
-            && tells(alloc, Asked::new(call, rest, limit, other), NO_SYMBOL)?,
-    )
+    let flags = asked.flags | UNDERSCORE;
+    let after = Asked {
+        bytes: &longer,
+        front: b"_",
+        flags,
+        ..asked
+    };
+    let unasked = Asked {
+        bytes: &longer,
+        ..asked
+    };
+    let rest = Asked {
+        bytes: name.get(1..).unwrap_or_default(),
+        flags,
+        ..asked
+    };
+    ask_call(verdict, asked, wanted);
+    ask_call(verdict, after, wanted);
+    ask_status(verdict, unasked, NO_SYMBOL);
+    ask_status(verdict, rest, NO_SYMBOL);
 }
 
 /// Whether a name begins as a symbol does.
@@ -283,50 +243,33 @@ fn is_uncounted(counts: SymbolCounts) -> bool {
 }
 
 /// Whether the call that counts puts these counts of a symbol.
-fn are_put(counts: SymbolCounts, wanted: Counts) -> bool {
-    counts.rows == wanted.rows && counts.nodes == wanted.nodes && counts.steps == wanted.steps
+fn are_put(outcome: Outcome, counts: SymbolCounts, wanted: Counts) -> bool {
+    let is_told = outcome.status == OK && outcome.offset == 0;
+    let are_same = counts.rows == wanted.rows
+        && counts.nodes == wanted.nodes
+        && counts.steps == wanted.steps;
+    is_told && are_same
 }
 
-/// Whether the call that counts puts the counts of a symbol that is read, and tells why another isn't, with C++ by this grammar.
-///
-/// # Errors
-///
-/// `Memory` where a call tells that.
-pub fn library_counts<C: Cpp>(
-    alloc: Global,
-    cpp: C,
-    lists: &mut Lists<C>,
-    kind: Kind,
-    s: &[u8],
-    wide: bool,
-) -> Result<bool, Refusal>
-    requires { FitsSymbol s.now }
-{
-    let languages = Languages {
-        limit: 0,
-        detail: Detail::Full,
-        cpp,
-    };
-    let mut out = Vec::new(alloc);
-    let wanted = languages.demangle(lists, kind, s, &mut out);
+/// Asks the call that counts for the counts of a symbol that is read, and why another isn't, as a demangler answered them.
+pub fn ask_library_to_count(verdict: &mut Verdict, row: Row<'_>, answer: Demangled) {
+    let s = row.s;
     let mut counts = uncounted();
-    let outcome = counts_of(alloc, s, flags_of(Detail::Full, wide, false), &mut counts);
+    let flags = flags_of(Detail::Full, row.wide, false);
+    let outcome = counts_of(verdict.alloc, s, flags, &mut counts);
     if outcome.status == MEMORY {
-        return Err(Refusal::Memory);
+        verdict.lack();
     }
-    let is_told = outcome.status == OK && outcome.offset == 0;
-    match wanted {
-        Demangled::Text(wanted) => Ok(is_told && are_put(counts, wanted)),
-        Demangled::TooLong(wanted) => Ok(is_told && are_put(counts, wanted)),
+    let holds = match answer {
+        Demangled::Text(wanted) => are_put(outcome, counts, wanted),
+        Demangled::TooLong(wanted) => are_put(outcome, counts, wanted),
         Demangled::Refused(refusal) => {
-            if refusal == Refusal::Memory {
-                return Err(refusal);
-            }
-            let told = refusal_of(outcome.status, outcome.offset);
             let is_nameless = !is_named(s) && outcome.status == NO_SYMBOL;
-            Ok(is_uncounted(counts) && (is_nameless || told == Some(refusal)))
+            let is_told = refusal_of(outcome, 0) == Some(refusal);
+            is_uncounted(counts) && (is_nameless || is_told)
         }
-    }
+    };
+    verdict.require(holds);
 }
 
 /// What nothing was told to of one of many names.
@@ -338,211 +281,202 @@ fn untold() -> Outcome {
     }
 }
 
-/// The status of the call over many names with so many outcomes, where it tells of none and writes nothing.
-fn status_of_all(
-    alloc: Global,
+/// Whether nothing was told of one of many names.
+fn is_untold(outcome: Outcome) -> bool {
+    outcome.status == UNTOLD && outcome.offset == UNTOLD && outcome.length == UNTOLD as usize
+}
+
+/// Asks the call over many names for this status, with which it tells of none and writes nothing.
+fn ask_status_of_all(
+    verdict: &mut Verdict,
     names: &[u8],
     ends: &[usize],
-    count: usize,
+    outcomes: &mut [Outcome],
     flags: u32,
-) -> Result<Option<u32>, AllocError> {
-    let mut buffer = vec![in alloc; UNWRITTEN; 8]?;
-    let mut outcomes = vec![in alloc; untold(); count]?;
-    let limit = u32::MAX;
-    let status = texts_of(alloc, names, ends, limit, flags, &mut buffer, &mut outcomes);
-    let nothing = outcomes.iter().all(|outcome| {
-        outcome.status == UNTOLD && outcome.offset == UNTOLD && outcome.length == UNTOLD as usize
-    });
-    Ok((nothing && is_unwritten(&buffer)).then_some(status))
+    wanted: u32,
+) {
+    let mut buffer = [UNWRITTEN; 8];
+    let alloc = verdict.alloc;
+    let status = texts_of(alloc, names, ends, u32::MAX, flags, &mut buffer, outcomes);
+    let nothing = outcomes.iter().all(|outcome| is_untold(*outcome));
+    verdict.require(status == wanted && nothing && is_unwritten(&buffer));
 }
 
-/// Whether the call over many names refuses ends that aren't as many as the outcomes, go down or pass the names, and a number of
-/// no flag.
-fn are_ends_refused(alloc: Global, s: &[u8], flags: u32) -> Result<bool, Refusal> {
+/// Asks the call over many names to refuse ends that aren't as many as the outcomes, go down or pass the names, and a number of no
+/// flag.
+fn ask_with_wrong_ends(verdict: &mut Verdict, s: &[u8], flags: u32) {
     let len = s.len();
     let past = len.saturating_add(1);
-    Ok(
-        status_of_all(alloc, s, &[len], 2, flags)? == Some(ENDS)
-            && status_of_all(alloc, s, &[len, len], 1, flags)? == Some(ENDS)
-            && status_of_all(alloc, s, &[past], 1, flags)? == Some(ENDS)
-            && status_of_all(alloc, s, &[1, 0], 2, flags)? == Some(ENDS)
-            && status_of_all(alloc, s, &[len], 1, NO_FLAG)? == Some(FLAGS),
-    )
+    let mut one = [untold(); 1];
+    let mut two = [untold(); 2];
+    ask_status_of_all(verdict, s, &[len], &mut two, flags, ENDS);
+    ask_status_of_all(verdict, s, &[len, len], &mut one, flags, ENDS);
+    ask_status_of_all(verdict, s, &[past], &mut one, flags, ENDS);
+    ask_status_of_all(verdict, s, &[1, 0], &mut two, flags, ENDS);
+    ask_status_of_all(verdict, s, &[len], &mut one, NO_FLAG, FLAGS);
 }
 
-/// Whether what is told of each of many names is what the call over one answers, over what is left of the buffer.
-fn is_each_told(
-    alloc: Global,
+/// Asks the call over one name for what was told of it among many, over what was left of the buffer.
+fn ask_alone(verdict: &mut Verdict, asked: Asked<'_>, told: Outcome, left: &[u8]) {
+    let Ok(mut buffer) = vec![in verdict.alloc; UNWRITTEN; left.len()] else {
+        verdict.lack();
+        return;
+    };
+    let one = outcome_of(verdict, asked, &mut buffer);
+    verdict.require(
+        told.status == one.status && told.length == one.length && told.offset == one.offset,
+    );
+    if told.status == OK {
+        let text = left.get(..told.length).unwrap_or_default();
+        verdict.require(buffer.starts_with(text));
+    }
+}
+
+/// Asks the call over one name for what was told of each of many.
+fn ask_each_alone(
+    verdict: &mut Verdict,
     names: &[&[u8]],
     limit: u32,
     flags: u32,
     buffer: &[u8],
     outcomes: &[Outcome],
-) -> Result<bool, Refusal> {
+) {
     let mut left = buffer;
-    for (name, outcome) in names.iter().zip(outcomes) {
-        if outcome.status == MEMORY {
-            return Err(Refusal::Memory);
-        }
-        let asked = Asked::new(Call::Text, name, limit, flags);
-        let one = end_of(alloc, asked, left.len())?;
-        if outcome.status != one.status
-            || outcome.length != one.length
-            || outcome.offset != one.offset
-        {
-            return Ok(false);
-        }
-        if outcome.status == OK {
-            let (text, rest) = left.split_at(outcome.length.min(left.len()));
-            if !one.buffer.starts_with(text) {
-                return Ok(false);
-            }
-            left = rest;
+    for (name, told) in names.iter().zip(outcomes) {
+        ask_alone(
+            verdict,
+            Asked::new(Call::Text, name, limit, flags),
+            *told,
+            left,
+        );
+        if told.status == OK {
+            left = left.get(told.length..).unwrap_or_default();
         }
     }
-    Ok(is_unwritten(left))
+    verdict.require(is_unwritten(left));
 }
 
-/// Whether the call over many names answers for these what the call over one does, with a buffer of so many bytes.
-fn texts_say(
-    alloc: Global,
-    names: &[&[u8]],
-    limit: u32,
-    flags: u32,
-    len: usize,
-) -> Result<bool, Refusal> {
+/// Names one after the other, and a buffer of so many bytes after them.
+fn joined(alloc: Global, names: &[&[u8]], room: usize) -> Result<Vec<u8>, AllocError> {
     let mut all = Vec::new(alloc);
-    let mut ends: Vec<usize> = Vec::new(alloc);
     for name in names {
         all.extend_from_slice(name)?;
-        ends.push(all.len())?;
     }
-    let mut buffer = vec![in alloc; UNWRITTEN; len]?;
-    let mut outcomes = vec![in alloc; untold(); names.len()]?;
-    let status = texts_of(alloc, &all, &ends, limit, flags, &mut buffer, &mut outcomes);
-    Ok(status == OK && is_each_told(alloc, names, limit, flags, &buffer, &outcomes)?)
+    let len = all.len().saturating_add(room);
+    all.resize(len, UNWRITTEN)?;
+    Ok(all)
 }
 
-/// Whether the call over many names finds room for a name's text twice, and where a byte of that is missing once.
-fn many_say(alloc: Global, s: &[u8], limit: u32, flags: u32) -> Result<bool, Refusal> {
-    let asked = Asked::new(Call::Text, s, limit, flags);
-    let first = end_of(alloc, asked, 0)?;
-    let names: [&[u8]; 3] = [s, b"", s];
-    let enough = first.length.saturating_mul(2);
-    Ok(
-        texts_say(alloc, &names, limit, flags, enough)?
-            && texts_say(alloc, &names, limit, flags, enough.saturating_sub(1))?,
-    )
-}
-
-/// Whether the calls refuse a number of no flag, and pressing what the wide grammar adds.
-fn are_flags_refused(alloc: Global, s: &[u8]) -> Result<bool, Refusal> {
-    let limit = u32::MAX;
-    let mut counts = uncounted();
-    let counted = counts_of(alloc, s, NO_FLAG, &mut counts);
-    Ok(
-        tells(alloc, Asked::new(Call::Text, s, limit, NO_FLAG), FLAGS)?
-            && tells(alloc, Asked::new(Call::Filter, s, limit, NO_FLAG), FLAGS)?
-            && tells(alloc, Asked::new(Call::Press, s, limit, NO_FLAG), FLAGS)?
-            && tells(alloc, Asked::new(Call::Press, s, limit, WIDE), FLAGS)?
-            && counted.status == FLAGS
-            && is_uncounted(counts),
-    )
-}
-
-/// Whether each call of the static library that gives a symbol's text answers this with these flags. A name that begins as no
-/// symbol does is told as that.
-///
-/// # Errors
-///
-/// `Memory` where a call tells that.
-pub fn library_says(
-    alloc: Global,
-    s: &[u8],
-    limit: u32,
-    flags: u32,
-    wanted: &[u8],
-) -> Result<bool, Refusal> {
-    if !is_named(s) {
-        return tells(alloc, Asked::new(Call::Text, s, limit, flags), NO_SYMBOL);
-    }
-    Ok(
-        name_says(alloc, Call::Text, s, limit, flags, wanted)?
-            && many_say(alloc, s, limit, flags)?
-            && are_flags_refused(alloc, s)?
-            && are_ends_refused(alloc, s, flags)?,
-    )
-}
-
-/// Whether the static library's call that presses a symbol answers this.
-///
-/// # Errors
-///
-/// `Memory` where the call tells that.
-pub fn library_presses(alloc: Global, s: &[u8], wanted: &[u8]) -> Result<bool, Refusal> {
-    if !is_named(s) {
-        return tells(alloc, Asked::new(Call::Press, s, 0, 0), NO_SYMBOL);
-    }
-    name_says(alloc, Call::Press, s, 0, 0, wanted)
-}
-
-/// Whether the static library's call that filters a text answers this with these flags, where words have these letters.
-///
-/// # Errors
-///
-/// `Memory` where the call tells that.
-pub fn library_filters(
-    alloc: Global,
-    text: &[u8],
-    limit: u32,
-    shown: u32,
-    letters: Letters,
-    wanted: &[u8],
-) -> Result<bool, Refusal> {
-    let flags = match letters {
-        Letters::Any => shown,
-        Letters::Ascii => shown | ASCII_WORDS,
+/// Asks the call over many names, with a buffer of so many bytes, for what the call over one answers for each of three.
+fn ask_together(verdict: &mut Verdict, names: [&[u8]; 3], limit: u32, flags: u32, room: usize) {
+    let Ok(mut all) = joined(verdict.alloc, &names, room) else {
+        verdict.lack();
+        return;
     };
-    call_says(alloc, Asked::new(Call::Filter, text, limit, flags), wanted)
+    let [first, second, third] = names;
+    let second_end = first.len().saturating_add(second.len());
+    let end = second_end.saturating_add(third.len());
+    let ends = [first.len(), second_end, end];
+    let mut outcomes = [untold(); 3];
+    let middle = end.min(all.len());
+    let (bytes, buffer) = all.split_at_mut(middle);
+    let alloc = verdict.alloc;
+    let status = texts_of(alloc, bytes, &ends, limit, flags, buffer, &mut outcomes);
+    verdict.require(status == OK);
+    ask_each_alone(verdict, &names, limit, flags, buffer, &outcomes);
 }
 
-/// Whether each call of the static library that reads a symbol tells that this one has too many bytes.
-///
-/// # Errors
-///
-/// `Memory` where a call tells that.
-pub fn is_told_oversize(alloc: Global, s: &[u8]) -> Result<bool, Refusal> {
-    let limit = u32::MAX;
-    let names: [&[u8]; 3] = [b"_Z1fv", s, b"_Z1gv"];
+/// Asks the call over many names for a name's text twice, with room for it, and where a byte of that is missing once.
+fn ask_twice(verdict: &mut Verdict, asked: Asked<'_>) {
+    let Asked {
+        bytes,
+        limit,
+        flags,
+        ..
+    } = asked;
+    let first = outcome_of(verdict, asked, &mut []);
+    let enough = first.length.saturating_mul(2);
+    let names: [&[u8]; 3] = [bytes, b"", bytes];
+    ask_together(verdict, names, limit, flags, enough);
+    ask_together(verdict, names, limit, flags, enough.saturating_sub(1));
+}
+
+/// Asks the call that counts for this status alone.
+fn ask_status_of_counting(verdict: &mut Verdict, s: &[u8], flags: u32, status: u32) {
     let mut counts = uncounted();
-    let counted = counts_of(alloc, s, 0, &mut counts);
-    Ok(
-        tells(alloc, Asked::new(Call::Text, s, limit, 0), SIZE)?
-            && tells(alloc, Asked::new(Call::Text, s, limit, UNDERSCORE), SIZE)?
-            && tells(alloc, Asked::new(Call::Press, s, limit, 0), SIZE)?
-            && texts_say(alloc, &names, limit, 0, 6)?
-            && counted.status == SIZE
-            && counted.offset == 0
-            && is_uncounted(counts),
-    )
+    let outcome = counts_of(verdict.alloc, s, flags, &mut counts);
+    verdict.require(outcome.status == status && outcome.offset == 0 && is_uncounted(counts));
 }
 
-/// Whether the static library's calls for names tell that this one begins as no symbol does.
-///
-/// # Errors
-///
-/// `Memory` where a call tells that.
-pub fn is_told_nameless(alloc: Global, word: &[u8]) -> Result<bool, Refusal> {
+/// Asks the calls to refuse a number of no flag, and pressing what the wide grammar adds.
+fn ask_with_wrong_flags(verdict: &mut Verdict, s: &[u8]) {
     let limit = u32::MAX;
-    Ok(
-        tells(
-            alloc,
-            Asked::new(Call::Text, word, limit, UNDERSCORE),
-            NO_SYMBOL,
-        )? && tells(
-            alloc,
-            Asked::new(Call::Press, word, limit, UNDERSCORE),
-            NO_SYMBOL,
-        )?,
-    )
+    ask_status(verdict, Asked::new(Call::Text, s, limit, NO_FLAG), FLAGS);
+    ask_status(verdict, Asked::new(Call::Filter, s, limit, NO_FLAG), FLAGS);
+    ask_status(verdict, Asked::new(Call::Press, s, limit, NO_FLAG), FLAGS);
+    ask_status(verdict, Asked::new(Call::Press, s, limit, WIDE), FLAGS);
+    ask_status_of_counting(verdict, s, NO_FLAG, FLAGS);
+}
+
+/// Asks each call of the static library that gives a symbol's text. A name that begins as no symbol does is told as that.
+pub fn ask_library(verdict: &mut Verdict, row: Row<'_>) {
+    let flags = flags_of(row.detail, row.wide, row.legacy);
+    let asked = Asked::new(Call::Text, row.s, row.limit, flags);
+    if !is_named(row.s) {
+        ask_status(verdict, asked, NO_SYMBOL);
+        return;
+    }
+    ask_for_name(verdict, asked, row.wanted);
+    ask_twice(verdict, asked);
+    ask_with_wrong_flags(verdict, row.s);
+    ask_with_wrong_ends(verdict, row.s, flags);
+}
+
+/// Asks the static library's call that presses a symbol for its spelling.
+pub fn ask_library_to_press(verdict: &mut Verdict, s: &[u8], wanted: &[u8]) {
+    let asked = Asked::new(Call::Press, s, 0, 0);
+    if is_named(s) {
+        ask_for_name(verdict, asked, wanted);
+    } else {
+        ask_status(verdict, asked, NO_SYMBOL);
+    }
+}
+
+/// Asks the static library's call that filters a text, as a command line says.
+pub fn ask_library_to_filter(
+    verdict: &mut Verdict,
+    text: &[u8],
+    filtering: Filtering,
+    wanted: &[u8],
+) {
+    let shown = flags_of(filtering.detail, filtering.wide, filtering.legacy);
+    let flags = match filtering.letters {
+        Letters::Ascii => shown | ASCII_WORDS,
+        // the library has no flag for words within runs, for which no command line of symfilt asks
+        _ => shown,
+    };
+    let asked = Asked::new(Call::Filter, text, filtering.limit, flags);
+    ask_call(verdict, asked, wanted);
+}
+
+/// Asks each call of the static library that reads a symbol to tell that this one has too many bytes.
+pub fn ask_oversize(verdict: &mut Verdict, s: &[u8]) {
+    let limit = u32::MAX;
+    ask_status(verdict, Asked::new(Call::Text, s, limit, 0), SIZE);
+    ask_status(verdict, Asked::new(Call::Text, s, limit, UNDERSCORE), SIZE);
+    ask_status(verdict, Asked::new(Call::Press, s, limit, 0), SIZE);
+    ask_status_of_counting(verdict, s, 0, SIZE);
+    let names: [&[u8]; 3] = [b"_Z1fv", s, b"_Z1gv"];
+    ask_together(verdict, names, limit, 0, 6);
+}
+
+/// Asks the static library's calls for names to tell that this one begins as no symbol does.
+pub fn ask_nameless(verdict: &mut Verdict, word: &[u8]) {
+    let asked = Asked::new(Call::Text, word, u32::MAX, UNDERSCORE);
+    ask_status(verdict, asked, NO_SYMBOL);
+    let pressed = Asked {
+        call: Call::Press,
+        ..asked
+    };
+    ask_status(verdict, pressed, NO_SYMBOL);
 }

@@ -51,20 +51,42 @@ fn step_all<M: Calls>(linker: &mut Linker<M>, most: usize) -> Result<Option<usiz
     Ok(None)
 }
 
+/// A linker of a symbol.
+pub fn linker_of<M: Calls>(alloc: Global, s: &[u8]) -> Result<Linker<M>, Refusal>
+    requires { FitsSymbol s.now }
+{
+    let shape = sym_shape::read(alloc, &M::grammar(), s)?;
+    let bytes = Vec::from_slice(alloc, s)?;
+    Linker::<M>::new(alloc, bytes, shape)
+}
+
+/// How many rows a symbol's shape has.
+fn rows_of<M: Calls>(alloc: Global, s: &[u8]) -> Result<usize, Refusal>
+    requires { FitsSymbol s.now }
+{
+    let shape = sym_shape::read(alloc, &M::grammar(), s)?;
+    Ok(shape.rows().len())
+}
+
+/// How many steps a reader takes that is fed byte by byte; none where one isn't as it has to be.
+fn reading_steps<M: Calls>(alloc: Global, s: &[u8]) -> Result<Option<usize>, Refusal> {
+    let bytes: Vec<&[u8]> = s.chunks(1).collect(alloc)?;
+    match fed(alloc, &M::grammar(), &bytes)? {
+        Some(reader) => Ok(Some(reader.steps() as usize)),
+        None => Ok(None),
+    }
+}
+
 /// A symbol that is read and linked step by step, each of which is counted; none where a step isn't as it has to be, or the
 /// symbol's counts are others.
 pub fn linked_in_steps<M: Calls>(alloc: Global, s: &[u8]) -> Result<Option<M::Symbol>, Refusal>
     requires { FitsSymbol s.now }
 {
-    let bytes: Vec<&[u8]> = s.chunks(1).collect(alloc)?;
-    let Some(reader) = fed(alloc, &M::grammar(), &bytes)? else {
+    let Some(read) = reading_steps::<M>(alloc, s)? else {
         return Ok(None);
     };
-    let read = reader.steps() as usize;
-    let shape = sym_shape::read(alloc, &M::grammar(), s)?;
-    let rows = shape.rows().len();
-    let bytes = Vec::from_slice(alloc, s)?;
-    let mut linker = Linker::<M>::new(alloc, bytes, shape)?;
+    let rows = rows_of::<M>(alloc, s)?;
+    let mut linker = linker_of::<M>(alloc, s)?;
     let left = most_steps(s.len()).saturating_sub(read);
     let Some(linked) = step_all(&mut linker, left)? else {
         return Ok(None);

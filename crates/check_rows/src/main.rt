@@ -7,18 +7,18 @@ mod calls;
 mod changes;
 mod commands;
 mod feeding;
-mod legacy;
+mod languages;
 mod library;
 mod linking;
 mod mangling;
 mod printing;
-mod profile;
+mod row;
 mod rows;
 
-use rows::{AllLists, holds};
+use languages::AllLists;
+use rows::verdict_of;
 use std::io::{self, Read};
 use std::process::ExitCode;
-use sym_core::Refusal;
 
 /// The status where each row holds.
 const HELD: u8 = 0;
@@ -53,28 +53,30 @@ fn check_each<R: Print + AllocGlobal>(
             continue;
         }
         outcome.some = true;
-        match holds(rt.alloc(), lists, row) {
-            Ok(true) => {}
-            Err(Refusal::Memory) => {
-                outcome.lacked = true;
-                println!(rt; "row {}: out of memory", line.saturating_add(1))?;
-            }
-            _ => {
-                outcome.failed = true;
-                println!(rt; "row {} doesn't hold", line.saturating_add(1))?;
-            }
+        let verdict = verdict_of(rt.alloc(), lists, row);
+        if verdict.lacked {
+            outcome.lacked = true;
+            println!(rt; "row {}: out of memory", line.saturating_add(1))?;
+        } else if verdict.failed {
+            outcome.failed = true;
+            println!(rt; "row {} doesn't hold", line.saturating_add(1))?;
         }
     }
     Ok(outcome)
 }
 
+/// Names the rows that don't hold, by their lines, over lists of their own.
+// apart from what may fail before and after it, where the lists would be dropped, too
+fn check_all<R: Print + AllocGlobal>(rt: &R, rows: &[u8]) -> io::Result<Outcome> {
+    let mut lists = AllLists::new(rt.alloc());
+    check_each(rt, &mut lists, rows)
+}
+
 /// Names the rows that don't hold, by their lines, and says whether all do.
 fn check<R: Input + Print + AllocGlobal>(rt: &R) -> io::Result<u8> {
-    let alloc = rt.alloc();
-    let mut input = Vec::new(alloc);
+    let mut input = Vec::new(rt.alloc());
     rt.reader().read_to_end(&mut input)?;
-    let mut lists = AllLists::new(alloc);
-    let outcome = check_each(rt, &mut lists, &input)?;
+    let outcome = check_all(rt, &input)?;
     let mut status = FAILED;
     if outcome.some && !outcome.failed {
         status = HELD;

@@ -1,38 +1,24 @@
 // Rows: a word that says what a row is of, and fields after it, with tabs between.
 
-use crate::answer::spelled;
-use crate::calls::{by_demangler, calls_say, demangler_says, pieces_say, presses_say};
-use crate::changes::{self, Change};
-use crate::commands::{is_demangled, is_ended, is_filtered};
-use crate::legacy::{has_legacy_text, is_legacy_refused};
-use crate::library::{is_told_nameless, is_told_oversize, library_presses};
-use crate::profile::{Profile, TOO_LONG};
+ghost use Rattle.sym_core.specs.Number.{FitsSymbol};
+
+use crate::answer::{Verdict, spelled};
+use crate::calls::ask_pressing;
+use crate::changes::{Change, ask_each_place};
+use crate::commands::{Ending, ask_to_demangle, ask_to_end, ask_to_filter};
+use crate::languages::{AllLists, ask_cut, ask_demangler, ask_each, ask_pressed, ask_unpressed};
+use crate::library::{ask_library_to_press, ask_nameless, ask_oversize};
+use crate::row::{Row, TOO_LONG};
 use rust_v0::{Detail, V0};
-use std::alloc::Global;
+use std::alloc::{AllocError, Global};
 use std::str;
 use sym_core::{Refusal, fits};
-use sym_filter::{Kind, Lang, kind_of};
+use sym_filter::{Lang, kind_of};
+use sym_languages::Abi;
 use sym_languages::languages::Lists;
-use sym_languages::{Abi, Languages, Pressing, Wide};
 
 /// The limit where a row has none.
 const LIMIT: u32 = 1_000_000;
-
-/// The lists of each grammar of C++, with those of Rust.
-#[derive(Drop)]
-pub struct AllLists {
-    pub abi: Lists<Abi>,
-    pub wide: Lists<Wide>,
-}
-
-impl AllLists {
-    pub fn new(alloc: Global) -> AllLists {
-        AllLists {
-            abi: Lists::new(alloc),
-            wide: Lists::new(alloc),
-        }
-    }
-}
 
 /// The number of these digits.
 fn number(digits: &[u8]) -> Option<u32> {
@@ -56,139 +42,100 @@ fn detail_of(name: &[u8]) -> Option<Detail> {
     }
 }
 
-/// Whether a symbol has this answer at a limit, by each call.
-fn is_answered<C: Profile>(
-    alloc: Global,
-    lists: &mut Lists<C>,
-    kind: Kind,
-    s: &[u8],
-    limit: u32,
-    detail: Detail,
-    wanted: &[u8],
-) -> Result<bool, Refusal> {
-    if !fits(s) {
-        return Ok(false);
+/// The row of a word that names a symbol, by which nothing is wanted yet.
+fn row_of(word: &[u8]) -> Option<Row<'_>> {
+    match kind_of(word) {
+        Some(kind) => Some(Row {
+            kind,
+            s: kind.symbol_of(word),
+            limit: LIMIT,
+            detail: Detail::Full,
+            wide: false,
+            legacy: false,
+            wanted: b"",
+        }),
+        None => None,
     }
-    let languages = Languages {
-        limit,
-        detail,
-        cpp: C::grammar(),
+}
+
+/// The row of a word at a detail and the cost of its text.
+fn row_at<'a>(detail: &[u8], cost: &[u8], word: &'a [u8], text: &'a [u8]) -> Option<Row<'a>> {
+    let row = row_of(word)?;
+    Some(Row {
+        limit: number(cost)?,
+        detail: detail_of(detail)?,
+        wanted: text,
+        ..row
+    })
+}
+
+/// Asks for the text of a symbol at its cost, and whether it is too long one below and at 0.
+fn ask_for_text(verdict: &mut Verdict, lists: &mut AllLists, row: Row<'_>) {
+    let cost = row.limit;
+    verdict.require(cost > 0);
+    ask_each(verdict, lists, row);
+    ask_each(verdict, lists, row.with(cost.saturating_sub(1), TOO_LONG));
+    ask_each(verdict, lists, row.with(0, TOO_LONG));
+    if !row.legacy {
+        ask_cut(verdict, row);
+    }
+}
+
+/// Asks for the reason why a symbol is refused, whatever the limit. One that is too long at others may have a text at the greatest.
+fn ask_for_reason(verdict: &mut Verdict, lists: &mut AllLists, row: Row<'_>) {
+    let at_none = Row {
+        limit: 0,
+        detail: Detail::Brief,
+        ..row
     };
-    if !demangler_says(alloc, &languages, lists, kind, s, wanted)? {
-        return Ok(false);
+    ask_each(verdict, lists, row);
+    ask_each(verdict, lists, at_none);
+    // a text that costs more than all others would take hours there
+    if row.wanted != TOO_LONG && !verdict.failed {
+        ask_each(verdict, lists, row.with(u32::MAX, row.wanted));
     }
-    if !C::library_says(alloc, lists, kind, s, limit, detail, wanted)? {
-        return Ok(false);
+    if !row.legacy {
+        ask_cut(verdict, at_none);
     }
-    match kind.lang {
-        Lang::Cpp => C::calls_say(alloc, &mut lists.cpp, s, limit, detail, wanted),
-        Lang::Rust => calls_say(alloc, &mut lists.rust, s, limit, detail, wanted),
-    }
-}
-
-/// Whether a symbol that is cut at each place in turn has this answer at a limit.
-fn is_answered_in_pieces<C: Profile>(
-    alloc: Global,
-    kind: Kind,
-    s: &[u8],
-    limit: u32,
-    detail: Detail,
-    wanted: &[u8],
-) -> Result<bool, Refusal> {
-    match kind.lang {
-        Lang::Cpp => C::pieces_say(alloc, s, limit, detail, wanted),
-        Lang::Rust => pieces_say::<V0>(alloc, s, limit, detail, wanted),
+    if !row.legacy && !row.wide {
+        ask_unpressed(verdict, &mut lists.abi, row);
     }
 }
 
-/// Whether a symbol has this text at its cost, and is too long one below and at 0.
-fn has_text<C: Profile>(
-    alloc: Global,
-    lists: &mut Lists<C>,
-    kind: Kind,
-    s: &[u8],
-    detail: Detail,
-    cost: u32,
-    text: &[u8],
-) -> Result<bool, Refusal> {
-    let below = cost.saturating_sub(1);
-    Ok(
-        cost > 0
-            && is_answered(alloc, lists, kind, s, cost, detail, text)?
-            && is_answered(alloc, lists, kind, s, below, detail, TOO_LONG)?
-            && is_answered(alloc, lists, kind, s, 0, detail, TOO_LONG)?
-            && is_answered_in_pieces::<C>(alloc, kind, s, cost, detail, text)?,
-    )
-}
-
-/// Whether a symbol that isn't read is refused for this reason at the greatest limit, too. One that is too long at others may
-/// have a text there.
-fn is_refused_at_most<C: Profile>(
-    alloc: Global,
-    lists: &mut Lists<C>,
-    kind: Kind,
-    s: &[u8],
-    reason: &[u8],
-) -> Result<bool, Refusal> {
-    if reason == TOO_LONG {
-        return Ok(true);
-    }
-    if !fits(s) {
-        return Ok(false);
-    }
-    let languages = Languages {
-        limit: u32::MAX,
-        detail: Detail::Full,
-        cpp: C::grammar(),
+/// A symbol's text, as a row spells it, if it has so many bytes.
+fn spelled_text(alloc: Global, row: Row<'_>, len: u32) -> Result<Option<Vec<u8>>, Refusal>
+    requires { FitsSymbol row.s.now }
+{
+    let text = match row.kind.lang {
+        Lang::Cpp => itanium::demangle_as(alloc, row.s, row.limit, row.detail)?,
+        Lang::Rust => rust_v0::demangle_as(alloc, row.s, row.limit, row.detail)?,
     };
-    demangler_says(alloc, &languages, lists, kind, s, reason)
+    if text.len() == len as usize {
+        return Ok(Some(spelled(alloc, &text)?));
+    }
+    Ok(None)
 }
 
-/// Whether a symbol is refused for this reason, whatever the limit.
-fn is_refused<C: Profile>(
-    alloc: Global,
-    lists: &mut Lists<C>,
-    kind: Kind,
-    s: &[u8],
-    reason: &[u8],
-) -> Result<bool, Refusal> {
-    Ok(
-        is_answered(alloc, lists, kind, s, LIMIT, Detail::Full, reason)?
-            && is_answered(alloc, lists, kind, s, 0, Detail::Brief, reason)?
-            && is_refused_at_most(alloc, lists, kind, s, reason)?
-            && is_answered_in_pieces::<C>(alloc, kind, s, 0, Detail::Full, reason)?
-            && C::is_unpressed(alloc, lists, kind, s, reason)?,
-    )
-}
-
-/// Whether a symbol has a text of so many bytes at its cost, and is too long one below.
-fn has_length(
-    alloc: Global,
-    lists: &mut Lists<Abi>,
-    kind: Kind,
-    s: &[u8],
-    detail: Detail,
-    cost: u32,
-    len: u32,
-) -> Result<bool, Refusal> {
-    if !fits(s) {
-        return Ok(false);
+/// Asks for a text of so many bytes at its cost, and whether it is too long one below.
+fn ask_for_length(verdict: &mut Verdict, lists: &mut AllLists, row: Row<'_>, len: u32) {
+    verdict.require(row.limit > 0 && fits(row.s));
+    if !fits(row.s) {
+        return;
     }
-    let languages = Languages {
-        limit: cost,
-        detail,
-        cpp: Abi,
-    };
-    let text = by_demangler(alloc, &languages, lists, kind, s)?;
-    if text.len() != len as usize || cost == 0 {
-        return Ok(false);
+    match spelled_text(verdict.alloc, row, len) {
+        Ok(Some(text)) => {
+            let spelled = Row {
+                wanted: &text,
+                ..row
+            };
+            ask_demangler(verdict, lists, spelled);
+        }
+        Ok(None) => verdict.require(false),
+        // no row has an empty reason
+        Err(refusal) => verdict.refusal(refusal, b""),
     }
-    let text = spelled(alloc, &text)?;
-    let below = cost.saturating_sub(1);
-    Ok(
-        demangler_says(alloc, &languages, lists, kind, s, &text)?
-            && is_answered(alloc, lists, kind, s, below, detail, TOO_LONG)?,
-    )
+    let below = row.limit.saturating_sub(1);
+    ask_each(verdict, lists, row.with(below, TOO_LONG));
 }
 
 /// A front, with bytes after it so many times, and an end.
@@ -198,7 +145,7 @@ fn repeated(
     count: u32,
     bytes: &[u8],
     end: &[u8],
-) -> Result<Vec<u8>, Refusal> {
+) -> Result<Vec<u8>, AllocError> {
     let mut whole = Vec::from_slice(alloc, front)?;
     for _ in 0..count {
         whole.extend_from_slice(bytes)?;
@@ -207,236 +154,183 @@ fn repeated(
     Ok(whole)
 }
 
-/// Whether each call that presses answers this for a word.
-fn is_pressed_to(
-    alloc: Global,
-    lists: &mut Lists<Abi>,
-    word: &[u8],
-    pressed: &[u8],
-) -> Result<bool, Refusal> {
-    let (Some(kind), Some(pressed_kind)) = (kind_of(word), kind_of(pressed)) else {
-        return Ok(false);
+/// Asks each call that presses for a word's spelling.
+fn ask_to_press(verdict: &mut Verdict, lists: &mut Lists<Abi>, word: &[u8], pressed: &[u8]) {
+    let (Some(row), Some(pressed_row)) = (row_of(word), row_of(pressed)) else {
+        verdict.require(false);
+        return;
     };
-    let s = kind.symbol_of(word);
-    if !fits(s) {
-        return Ok(false);
+    if !fits(row.s) {
+        verdict.require(false);
+        return;
     }
-    if !demangler_says(alloc, &Pressing, lists, kind, s, pressed)? {
-        return Ok(false);
-    }
-    let pressed_symbol = pressed_kind.symbol_of(pressed);
-    if !library_presses(alloc, s, pressed_symbol)? {
-        return Ok(false);
-    }
-    match kind.lang {
-        Lang::Cpp => presses_say::<Abi>(alloc, s, pressed_symbol),
-        Lang::Rust => presses_say::<V0>(alloc, s, pressed_symbol),
+    let wanted = Row {
+        wanted: pressed,
+        ..row
+    };
+    ask_pressed(verdict, lists, wanted);
+    ask_library_to_press(verdict, row.s, pressed_row.s);
+    match row.kind.lang {
+        Lang::Cpp => ask_pressing::<Abi>(verdict, row.s, pressed_row.s),
+        Lang::Rust => ask_pressing::<V0>(verdict, row.s, pressed_row.s),
     }
 }
 
-/// Whether a word's pressed spelling is this one, and is pressed again unchanged.
-fn is_pressed(
-    alloc: Global,
-    lists: &mut Lists<Abi>,
-    word: &[u8],
-    pressed: &[u8],
-) -> Result<bool, Refusal> {
-    Ok(
-        is_pressed_to(alloc, lists, word, pressed)?
-            && is_pressed_to(alloc, lists, pressed, pressed)?,
-    )
-}
-
-/// Whether a symbol that is cut, or changed, at each place in turn is answered as a row says.
-fn are_changes_answered(
-    alloc: Global,
-    lists: &mut Lists<Abi>,
-    change: Change,
-    word: &[u8],
-    others: &[&[u8]],
-) -> Result<bool, Refusal> {
-    let Some(kind) = kind_of(word) else {
-        return Ok(false);
-    };
-    let languages = Languages {
-        limit: LIMIT,
-        detail: Detail::Full,
-        cpp: Abi,
-    };
-    changes::hold(alloc, &languages, lists, kind, word, change, others)
-}
-
-/// Whether a row `text` holds.
-fn of_text<C: Profile>(
-    alloc: Global,
-    lists: &mut Lists<C>,
-    fields: &[&[u8]],
-) -> Result<bool, Refusal> {
-    let [detail, cost, word, text] = fields else {
-        return Ok(false);
-    };
-    let Some(kind) = kind_of(word) else {
-        return Ok(false);
-    };
-    let Some(detail) = detail_of(detail) else {
-        return Ok(false);
-    };
-    let Some(cost) = number(cost) else {
-        return Ok(false);
-    };
-    let s = kind.symbol_of(word);
-    has_text(alloc, lists, kind, s, detail, cost, text)
-}
-
-/// Whether a row `legacy text` holds.
-fn of_legacy_text(alloc: Global, lists: &mut AllLists, fields: &[&[u8]]) -> Result<bool, Refusal> {
-    let [detail, cost, word, text] = fields else {
-        return Ok(false);
-    };
-    let (Some(kind), Some(detail)) = (kind_of(word), detail_of(detail)) else {
-        return Ok(false);
-    };
-    let s = kind.symbol_of(word);
-    match number(cost) {
-        Some(cost) => has_legacy_text(alloc, lists, kind, s, detail, cost, text),
-        None => Ok(false),
-    }
-}
-
-/// Whether a row `legacy refused` holds.
-fn of_legacy_refused(
-    alloc: Global,
+/// Asks what a row `text` says.
+fn of_text(
+    verdict: &mut Verdict,
     lists: &mut AllLists,
     fields: &[&[u8]],
-) -> Result<bool, Refusal> {
-    let [word, reason] = fields else {
-        return Ok(false);
+    wide: bool,
+    legacy: bool,
+) {
+    let [detail, cost, word, text] = fields else {
+        verdict.require(false);
+        return;
     };
-    match kind_of(word) {
-        Some(kind) => is_legacy_refused(alloc, lists, kind, kind.symbol_of(word), reason),
-        None => Ok(false),
+    match row_at(detail, cost, word, text) {
+        Some(row) => ask_for_text(
+            verdict,
+            lists,
+            Row {
+                wide,
+                legacy,
+                ..row
+            },
+        ),
+        None => verdict.require(false),
     }
 }
 
-/// Whether a symbol has a text in the detail, at the cost and of the length that three fields say.
-fn of_length(
-    alloc: Global,
-    lists: &mut Lists<Abi>,
-    kind: Kind,
-    s: &[u8],
-    detail: &[u8],
-    cost: &[u8],
-    len: &[u8],
-) -> Result<bool, Refusal> {
-    let Some(detail) = detail_of(detail) else {
-        return Ok(false);
-    };
-    let Some(cost) = number(cost) else {
-        return Ok(false);
-    };
-    match number(len) {
-        Some(len) => has_length(alloc, lists, kind, s, detail, cost, len),
-        None => Ok(false),
-    }
-}
-
-/// Whether a row `long` holds.
-fn of_long(alloc: Global, lists: &mut Lists<Abi>, fields: &[&[u8]]) -> Result<bool, Refusal> {
-    let [detail, cost, word, len] = fields else {
-        return Ok(false);
-    };
-    let Some(kind) = kind_of(word) else {
-        return Ok(false);
-    };
-    let s = kind.symbol_of(word);
-    of_length(alloc, lists, kind, s, detail, cost, len)
-}
-
-/// Whether a row `repeated` holds. The symbol may be longer than any word that the filter takes.
-fn of_repeated(alloc: Global, lists: &mut Lists<Abi>, fields: &[&[u8]]) -> Result<bool, Refusal> {
-    let [detail, cost, front, count, bytes, end, len] = fields else {
-        return Ok(false);
-    };
-    let Some(kind) = kind_of(front) else {
-        return Ok(false);
-    };
-    let Some(count) = number(count) else {
-        return Ok(false);
-    };
-    let s = repeated(alloc, kind.symbol_of(front), count, bytes, end)?;
-    of_length(alloc, lists, kind, &s, detail, cost, len)
-}
-
-/// Whether a row `refused` holds.
-fn of_refused<C: Profile>(
-    alloc: Global,
-    lists: &mut Lists<C>,
+/// Asks what a row `refused` says.
+fn of_refused(
+    verdict: &mut Verdict,
+    lists: &mut AllLists,
     fields: &[&[u8]],
-) -> Result<bool, Refusal> {
+    wide: bool,
+    legacy: bool,
+) {
     let [word, reason] = fields else {
-        return Ok(false);
+        verdict.require(false);
+        return;
     };
-    match kind_of(word) {
-        Some(kind) => is_refused(alloc, lists, kind, kind.symbol_of(word), reason),
-        None => Ok(false),
+    match row_of(word) {
+        Some(row) => ask_for_reason(
+            verdict,
+            lists,
+            Row {
+                wide,
+                legacy,
+                wanted: reason,
+                ..row
+            },
+        ),
+        None => verdict.require(false),
     }
 }
 
-/// Whether a row `oversize` holds.
-fn of_oversize(alloc: Global, fields: &[&[u8]]) -> Result<bool, Refusal> {
+/// Asks what a row `long` says.
+fn of_long(verdict: &mut Verdict, lists: &mut AllLists, fields: &[&[u8]]) {
+    let [detail, cost, word, len] = fields else {
+        verdict.require(false);
+        return;
+    };
+    match (row_at(detail, cost, word, b""), number(len)) {
+        (Some(row), Some(len)) => ask_for_length(verdict, lists, row, len),
+        _ => verdict.require(false),
+    }
+}
+
+/// Asks what a row `repeated` says. The symbol may be longer than any word that the filter takes.
+fn of_repeated(
+    verdict: &mut Verdict,
+    lists: &mut AllLists,
+    fields: &[&[u8]],
+) -> Result<(), AllocError> {
+    let [detail, cost, front, count, bytes, end, len] = fields else {
+        verdict.require(false);
+        return Ok(());
+    };
+    let (Some(row), Some(count), Some(len)) = (
+        row_at(detail, cost, front, b""),
+        number(count),
+        number(len),
+    ) else {
+        verdict.require(false);
+        return Ok(());
+    };
+    let s = repeated(verdict.alloc, row.s, count, bytes, end)?;
+    ask_for_length(verdict, lists, Row { s: &s, ..row }, len);
+    Ok(())
+}
+
+/// Asks what a row `oversize` says.
+fn of_oversize(verdict: &mut Verdict, fields: &[&[u8]]) -> Result<(), AllocError> {
     let [front, count, bytes, end] = fields else {
-        return Ok(false);
+        verdict.require(false);
+        return Ok(());
     };
-    let Some(count) = number(count) else {
-        return Ok(false);
-    };
-    let s = repeated(alloc, front, count, bytes, end)?;
-    Ok(!fits(&s) && is_told_oversize(alloc, &s)?)
+    let s = repeated(
+        verdict.alloc,
+        front,
+        number(count).unwrap_or_default(),
+        bytes,
+        end,
+    )?;
+    verdict.require(!fits(&s));
+    ask_oversize(verdict, &s);
+    Ok(())
 }
 
-/// Whether a row `nameless` holds.
-fn of_nameless(alloc: Global, fields: &[&[u8]]) -> Result<bool, Refusal> {
+/// Asks what a row `nameless` says.
+fn of_nameless(verdict: &mut Verdict, fields: &[&[u8]]) {
     match fields {
-        [word] => Ok(kind_of(word).is_none() && is_told_nameless(alloc, word)?),
-        _ => Ok(false),
+        [word] => {
+            verdict.require(kind_of(word).is_none());
+            ask_nameless(verdict, word);
+        }
+        _ => verdict.require(false),
     }
 }
 
-/// Whether a row `press` holds.
-fn of_press(alloc: Global, lists: &mut Lists<Abi>, fields: &[&[u8]]) -> Result<bool, Refusal> {
+/// Asks what a row `press` says: a word's pressed spelling, which is pressed again unchanged.
+fn of_press(verdict: &mut Verdict, lists: &mut Lists<Abi>, fields: &[&[u8]]) {
     match fields {
-        [word, pressed] => is_pressed(alloc, lists, word, pressed),
-        _ => Ok(false),
+        [word, pressed] => {
+            ask_to_press(verdict, lists, word, pressed);
+            ask_to_press(verdict, lists, pressed, pressed);
+        }
+        _ => verdict.require(false),
     }
 }
 
-/// Whether a row `filter` holds.
-fn of_filter(alloc: Global, fields: &[&[u8]]) -> Result<bool, Refusal> {
-    match fields {
-        [options, text, filtered] => is_filtered(alloc, options, text, filtered),
-        _ => Ok(false),
+/// How a program has to end by three fields.
+fn ending<'a>(verdict: &mut Verdict, status: &[u8], out: &'a [u8], err: &'a [u8]) -> Ending<'a> {
+    let status = number(status);
+    verdict.require(status.is_some());
+    Ending {
+        status: status.unwrap_or_default(),
+        out,
+        err,
     }
 }
 
-/// Whether a row `command` holds.
-fn of_command(alloc: Global, fields: &[&[u8]]) -> Result<bool, Refusal> {
-    let [status, words, out, err] = fields else {
-        return Ok(false);
-    };
-    match number(status) {
-        Some(status) => is_ended(alloc, status, words, out, err),
-        None => Ok(false),
-    }
-}
-
-/// Whether a row `demangle` holds.
-fn of_demangle(alloc: Global, fields: &[&[u8]]) -> Result<bool, Refusal> {
-    let [status, words, input, out, err] = fields else {
-        return Ok(false);
-    };
-    match number(status) {
-        Some(status) => is_demangled(alloc, status, words, input, out, err),
-        None => Ok(false),
+/// Asks what a row `filter`, `command` or `demangle` says.
+fn of_program(verdict: &mut Verdict, what: &[u8], fields: &[&[u8]]) -> Result<(), AllocError> {
+    match (what, fields) {
+        (b"filter", [options, text, filtered]) => ask_to_filter(verdict, options, text, filtered),
+        (b"command", [status, words, out, err]) => {
+            let ending = ending(verdict, status, out, err);
+            ask_to_end(verdict, words, ending)
+        }
+        (b"demangle", [status, words, input, out, err]) => {
+            let ending = ending(verdict, status, out, err);
+            ask_to_demangle(verdict, words, input, ending)
+        }
+        _ => {
+            verdict.require(false);
+            Ok(())
+        }
     }
 }
 
@@ -451,57 +345,76 @@ fn change_of(what: &[u8]) -> Option<Change> {
     }
 }
 
-/// Whether a row `cut` or `put` holds.
+/// Asks what a row `cut` or `put` says: the answers for a word that is cut, or changed, at each place in turn.
 fn of_changes(
-    alloc: Global,
-    lists: &mut Lists<Abi>,
+    verdict: &mut Verdict,
+    lists: &mut AllLists,
     change: Change,
     fields: &[&[u8]],
-) -> Result<bool, Refusal> {
-    match fields {
-        [word, others @ ..] => are_changes_answered(alloc, lists, change, word, others),
-        [] => Ok(false),
+) -> Result<(), AllocError> {
+    let [word, others @ ..] = fields else {
+        verdict.require(false);
+        return Ok(());
+    };
+    match row_of(word) {
+        Some(row) => ask_each_place(verdict, lists, Row { s: word, ..row }, change, others),
+        None => {
+            verdict.require(false);
+            Ok(())
+        }
     }
 }
 
-/// Whether each call answers what is in a row of these fields.
-fn hold(
-    alloc: Global,
+/// Asks each call what a row of these fields says.
+fn ask_fields(
+    verdict: &mut Verdict,
     lists: &mut AllLists,
     what: &[u8],
     fields: &[&[u8]],
-) -> Result<bool, Refusal> {
+) -> Result<(), AllocError> {
     if let Some(change) = change_of(what) {
-        return of_changes(alloc, &mut lists.abi, change, fields);
+        return of_changes(verdict, lists, change, fields);
     }
     match what {
-        b"text" => of_text(alloc, &mut lists.abi, fields),
-        b"wide text" => of_text(alloc, &mut lists.wide, fields),
-        b"wide refused" => of_refused(alloc, &mut lists.wide, fields),
-        b"legacy text" => of_legacy_text(alloc, lists, fields),
-        b"legacy refused" => of_legacy_refused(alloc, lists, fields),
-        b"long" => of_long(alloc, &mut lists.abi, fields),
-        b"repeated" => of_repeated(alloc, &mut lists.abi, fields),
-        b"refused" => of_refused(alloc, &mut lists.abi, fields),
-        b"oversize" => of_oversize(alloc, fields),
-        b"nameless" => of_nameless(alloc, fields),
-        b"press" => of_press(alloc, &mut lists.abi, fields),
-        b"filter" => of_filter(alloc, fields),
-        b"command" => of_command(alloc, fields),
-        b"demangle" => of_demangle(alloc, fields),
-        _ => Ok(false),
+        b"text" => of_text(verdict, lists, fields, false, false),
+        b"wide text" => of_text(verdict, lists, fields, true, false),
+        b"wide refused" => of_refused(verdict, lists, fields, true, false),
+        b"legacy text" => {
+            of_text(verdict, lists, fields, false, true);
+            of_text(verdict, lists, fields, true, true);
+        }
+        b"legacy refused" => {
+            of_refused(verdict, lists, fields, false, true);
+            of_refused(verdict, lists, fields, true, true);
+        }
+        b"long" => of_long(verdict, lists, fields),
+        b"repeated" => of_repeated(verdict, lists, fields)?,
+        b"refused" => of_refused(verdict, lists, fields, false, false),
+        b"oversize" => of_oversize(verdict, fields)?,
+        b"nameless" => of_nameless(verdict, fields),
+        b"press" => of_press(verdict, &mut lists.abi, fields),
+        _ => of_program(verdict, what, fields)?,
+    }
+    Ok(())
+}
+
+/// Asks each call what a row says, whose fields have tabs between.
+fn ask_row(verdict: &mut Verdict, lists: &mut AllLists, row: &[u8]) -> Result<(), AllocError> {
+    let fields: Vec<&[u8]> = row.split(|byte| *byte == b'\t').collect(verdict.alloc)?;
+    match fields.as_slice() {
+        [what, fields @ ..] => ask_fields(verdict, lists, what, fields),
+        [] => {
+            verdict.require(false);
+            Ok(())
+        }
     }
 }
 
-/// Whether each call answers what is in a row.
-///
-/// # Errors
-///
-/// `Memory` where a call answers that.
-pub fn holds(alloc: Global, lists: &mut AllLists, row: &[u8]) -> Result<bool, Refusal> {
-    let fields: Vec<&[u8]> = row.split(|byte| *byte == b'\t').collect(alloc)?;
-    match fields.as_slice() {
-        [what, fields @ ..] => hold(alloc, lists, what, fields),
-        [] => Ok(false),
+/// What becomes of a row, where each call is asked what it says.
+pub fn verdict_of(alloc: Global, lists: &mut AllLists, row: &[u8]) -> Verdict {
+    let mut verdict = Verdict::new(alloc);
+    if ask_row(&mut verdict, lists, row).is_err() {
+        verdict.lack();
     }
+    verdict
 }

@@ -1,11 +1,14 @@
 -- How a call ends, by what was answered.
-use Rattle.std.proofs.Common.{◌≡◌, ◌≢◌, ◌≤◌, inl, inr, ℕ, ◌+◌, ◌-◌, Bool, true, false, cond, List, [], ◌++◌, length, take, drop, Option, Some, Result, Ok, Err, refl, sym, ap, ap₂, subst, ◌∙◌, arith}
-use Rattle.std.specs.Prelude.{nat_le}
+use Rattle.std.proofs.Common.{◌≡◌, ◌≢◌, ◌≤◌, inl, inr, ℕ, ◌-◌, Bool, true, false, cond, List, [], ◌++◌, length, take, drop, Option, Some, Result, Ok, Err, refl, sym, ap, ap₂, subst, ◌∙◌, arith}
+use Rattle.std.specs.Prelude.{nat_le, IfSome}
 use Rattle.std.proofs.lemmas.List.{length-drop, take_all}
 use Rattle.sym_core.specs.declared.refusal.Refusal.{Refusal}
 use Rattle.sym_core.specs.declared.refusal.Refusal.TheVariants.{Malformed, BadReference, BadValue, TooLong, Memory}
 use Rattle.sym_core.specs.declared.counts.Counts.{Counts}
 use Rattle.sym_print.specs.declared.detail.Detail.{Detail}
+use Rattle.sym_shape.specs.Decided.{AreBytes}
+use Rattle.sym_demangle.specs.Mangled.{Mangled, IsAnswer, answer}
+use Rattle.sym_demangle.proofs.Answering.{is_answer}
 use Rattle.sym_filter.specs.Demangled.{IsAppended}
 use Rattle.sym_filter.specs.declared.kinds.Kind.{Kind}
 use Rattle.sym_filter.specs.Kinds.{symbol_of}
@@ -14,7 +17,8 @@ use Rattle.sym_filter.specs.Runs.{Answering, filtered_at, tally_at}
 use Rattle.sym_calls.specs.declared.counting.SymbolCounts.{SymbolCounts}
 use Rattle.sym_calls.specs.declared.flags.Asked.{Asked}
 use Rattle.sym_calls.specs.declared.filtering.TextTally.{TextTally}
-use Rattle.sym_calls.specs.Calls.{CountingEndsAs, CountingEndsBy, Ending, EndsAs, IsCounted, IsTallied, NameCounted, Tallied, answered, answers_at, filter_told, named, name_told, numbers_of, press_told, refused, status_alone, text_told, told_of, written}
+use Rattle.sym_calls.specs.declared.outcome.Outcome.{Outcome}
+use Rattle.sym_calls.specs.Calls.{CountingEndsAs, CountingEndsBy, Ending, EndsAs, IsCounted, IsTallied, IsTextWritten, NameCounted, Tallied, answered, answers_at, filter_told, ending_of, named, name_told, numbers_of, press_told, refused, status_alone, text_told, told_of, written}
 
 -- what follows so many bytes, as a slice
 pub rest-of : (at : ℕ) (bytes : List ℕ) → take (length bytes - at) (drop at bytes) ≡ drop at bytes
@@ -39,7 +43,7 @@ answered-low (Err TooLong) skip buffer = omega arith
 answered-low (Err Memory) skip buffer = omega arith
 
 -- a refusal is what was answered, but for want of memory
-refusal-ends : (e : Refusal) (answer : Result (List ℕ) Refusal) (skip : ℕ) (buffer : List ℕ) (found : Ending) → (e ≢ Memory → answer ≡ Err e) → found ≡ refused e skip buffer → EndsAs (answered answer skip buffer) buffer found
+pub refusal-ends : (e : Refusal) (answer : Result (List ℕ) Refusal) (skip : ℕ) (buffer : List ℕ) (found : Ending) → (e ≢ Memory → answer ≡ Err e) → found ≡ refused e skip buffer → EndsAs (answered answer skip buffer) buffer found
 unfolding answered refused
 refusal-ends Memory answer skip buffer found given is = inr (answered-low answer skip buffer, is)
 refusal-ends (Malformed at) answer skip buffer found given is = inl (is ∙ sym (ap (λ r. answered r skip buffer) (given (λ e. cc))))
@@ -61,6 +65,35 @@ pub not-appended-ends : {A : Type 0} → (answer : Result (List ℕ) Refusal) (s
 not-appended-ends answer skip buffer old new result refusal found err is told =
     let here = subst (λ r. IsAppended answer old new r) err is in
     refusal-ends refusal answer skip buffer found here.0 told
+
+-- a text that the short way wrote
+pub short-written : {W : Type 0} (m : Mangled W) (limit : ℕ) (symbol text shown buffer : List ℕ) (found : Ending) → AreBytes symbol → IsAnswer m Detail.Full symbol limit (Ok text)
+    → shown ≡ text → found ≡ written shown buffer → IsTextWritten (answer m Detail.Full symbol limit) buffer found
+short-written m limit symbol text shown buffer found bytes is same told =
+    (text, sym (is_answer m Detail.Full symbol limit (Ok text) bytes is), told ∙ ap (λ b. written b buffer) same)
+
+-- what the outcome of a call that may write a text says of a symbol with this answer
+abbrev Told : Result (List ℕ) Refusal → (old new : List ℕ) → Option Outcome → Type 0
+Told answer old new result = IfSome result (λ outcome. IsTextWritten answer old (ending_of outcome new))
+
+-- and of one with an equal answer
+pub same-told : (answer wanted : Result (List ℕ) Refusal) (old new : List ℕ) (result : Option Outcome) → answer ≡ wanted → Told answer old new result → Told wanted old new result
+same-told answer wanted old new result same given = subst (λ a. Told a old new result) same given
+
+-- a call that wrote it
+pub told-ends : (answer : Result (List ℕ) Refusal) (skip : ℕ) (old new : List ℕ) (result : Option Outcome) (outcome : Outcome) → result ≡ Some outcome
+    → Told answer old new result → EndsAs (answered answer skip old) old (ending_of outcome new)
+unfolding answered
+told-ends answer skip old new result outcome is told =
+    let here = subst (λ r. Told answer old new r) is told in
+    inl (here.2 ∙ sym (ap (λ r. answered r skip old) here.1))
+
+-- a symbol that was read into rows: its text was appended to an empty list, and put into the buffer
+pub read-ends : (answer : Result (List ℕ) Refusal) (skip : ℕ) (buffer old new : List ℕ) (found : Ending) → old ≡ []
+    → (text : List ℕ) × (answer ≡ Ok text) × (new ≡ old ++ text) → found ≡ written new buffer → EndsAs (answered answer skip buffer) buffer found
+unfolding answered
+read-ends answer skip buffer old new found empty (text, is, appended) put =
+    inl (put ∙ sym (ap (λ r. answered r skip buffer) (is ∙ ap (λ t. Ok t) (ap (λ o. o ++ text) (sym empty) ∙ sym appended))))
 
 -- a name whose symbol is read
 pub name-ends : (answers : Answering) (asked : Asked) (name buffer : List ℕ) (kind : Kind) (found : Ending) → named asked.underscore name ≡ Ok kind

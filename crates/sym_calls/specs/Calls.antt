@@ -91,6 +91,10 @@ unfoldable pub answered : Result (List ℕ) Refusal → (skip : ℕ) → List �
 answered (Ok bytes) skip buffer = written bytes buffer
 answered (Err refusal) skip buffer = refused refusal skip buffer
 
+-- A symbol with this answer has a text, and a call that writes it to the buffer ends so.
+abbrev pub IsTextWritten : Result (List ℕ) Refusal → (old_buffer : List ℕ) → (found : Ending) → Type 0
+IsTextWritten answer old_buffer found = (text : List ℕ) × (answer ≡ Ok text) × (found ≡ written text old_buffer)
+
 -- what is answered for the symbol of a name of a kind, or the status of one without
 unfoldable pub told_of : Answering → Result Kind ℕ → (name buffer : List ℕ) → Ending
 told_of answers (Ok kind) name buffer = answered (answers kind (symbol_of kind name)) kind.skip buffer

@@ -1,12 +1,22 @@
 // The text of one name, or its pressed spelling.
+ghost use Rattle.std.specs.Prelude.{◌≡◌, None};
+ghost use Rattle.std.specs.Option.{IfSome};
 ghost use Rattle.sym_core.specs.Number.{FitsSymbol};
-ghost use Rattle.sym_calls.specs.Calls.{EndsAs, answered, asked_of, ending_of, name_told, press_told, text_told};
+ghost use Rattle.sym_print.specs.declared.detail.Detail.TheVariants.{Full};
+ghost use Rattle.sym_demangle.specs.Mangled.{answer};
+ghost use Rattle.sym_languages.specs.Languages.{language_answer_by};
+ghost use Rattle.sym_calls.specs.Calls.{EndsAs, IsTextWritten, answered, asked_of, ending_of, name_told, press_told, text_told};
 
 use crate::flags::{Asked, asked_of};
 use crate::outcome::{FLAGS, Outcome, alone, no_memory, of_refusal, write};
+use rust_v0::V0;
 use std::alloc::Global;
-use sym_filter::{Demangler, Kind};
-use sym_languages::{Abi, Pressing, Wide};
+use sym_core::Refusal;
+use sym_demangle::Mangling;
+use sym_filter::{Demangled, Demangler, Kind, Lang};
+use sym_languages::languages::{Cpp, Lists};
+use sym_languages::{Abi, Languages, Pressing, Wide};
+use sym_print::Detail;
 
 /// Writes the text of a symbol to the front of the buffer, with lists that are used again.
 fn symbol_with<D: Demangler>(
@@ -70,6 +80,95 @@ fn name_by<D: Demangler>(
     symbol_with(demangler, &mut lists, &mut text, kind, symbol, buffer)
 }
 
+/// Writes the text of a symbol to the front of the buffer with the lists of the short way alone, if the symbol goes that way and its
+/// text costs at most the limit.
+fn write_short<M: Mangling>(
+    alloc: Global,
+    symbol: &[u8],
+    limit: u32,
+    buffer: &mut [u8],
+) -> Option<Outcome>
+    requires { FitsSymbol symbol.now }
+    ensures told { IfSome result (λ outcome. IsTextWritten (answer M.mangled Full symbol.now limit) buffer.old (ending_of outcome buffer.new)) }
+    ensures same { result ≡ None → buffer.new ≡ buffer.old }
+{
+    let mut direct = M::direct(alloc);
+    if !M::write(&mut direct, symbol, limit) {
+        return None;
+    }
+    Some(write(M::text(&direct), buffer))
+}
+
+/// The same in its language, where the short way writes what is asked for: a C++ symbol in full, or a Rust symbol with its
+/// arguments, since it has no parameters.
+fn short_once<C: Cpp>(
+    alloc: Global,
+    languages: &Languages<C>,
+    kind: Kind,
+    symbol: &[u8],
+    buffer: &mut [u8],
+) -> Option<Outcome>
+    requires { FitsSymbol symbol.now }
+    ensures told { IfSome result (λ outcome. IsTextWritten (language_answer_by C.mangled languages.now.limit languages.now.detail kind.lang symbol.now) buffer.old (ending_of outcome buffer.new)) }
+    ensures same { result ≡ None → buffer.new ≡ buffer.old }
+{
+    match kind.lang {
+        Lang::Cpp => {
+            let Detail::Full = languages.detail else {
+                return None;
+            };
+            write_short::<C>(alloc, symbol, languages.limit, buffer)
+        }
+        Lang::Rust => {
+            if !languages.detail.has_arguments() {
+                return None;
+            }
+            write_short::<V0>(alloc, symbol, languages.limit, buffer)
+        }
+    }
+}
+
+/// Writes the text of a symbol, which is read into rows and nodes, to the front of the buffer.
+fn symbol_by_rows<C: Cpp>(
+    alloc: Global,
+    languages: &Languages<C>,
+    kind: Kind,
+    symbol: &[u8],
+    buffer: &mut [u8],
+) -> Outcome
+    requires { FitsSymbol symbol.now }
+    ensures { EndsAs (answered (language_answer_by C.mangled languages.now.limit languages.now.detail kind.lang symbol.now) kind.skip buffer.old) buffer.old (ending_of result buffer.new) }
+{
+    let mut lists = Lists::new(alloc);
+    let mut text = Vec::new(alloc);
+    match languages.demangle(&mut lists, kind, symbol, &mut text) {
+        Demangled::Text(_) => write(&text, buffer),
+        Demangled::TooLong(_) => of_refusal(Refusal::TooLong, kind.skip, buffer),
+        Demangled::Refused(refusal) => of_refusal(refusal, kind.skip, buffer),
+    }
+}
+
+/// Writes the text of a name's symbol to the front of the buffer, with as few lists as it takes.
+fn name_once<C: Cpp>(
+    alloc: Global,
+    languages: &Languages<C>,
+    asked: Asked,
+    name: &[u8],
+    buffer: &mut [u8],
+) -> Outcome
+    ensures { EndsAs (name_told (λ kind symbol. language_answer_by C.mangled languages.now.limit languages.now.detail kind.lang symbol) asked name.now buffer.old) buffer.old (ending_of result buffer.new) }
+{
+    let kind = match asked.named(name) {
+        Ok(kind) => kind,
+        Err(status) => return alone(status),
+    };
+    let symbol = &name[kind.skip as usize..];
+    match short_once(alloc, languages, kind, symbol, buffer) {
+        Some(outcome) => outcome,
+        None => symbol_by_rows(alloc, languages, kind, symbol, buffer),
+    }
+}
+
 /// Writes the text of a name's symbol to the front of the buffer, if it costs at most the limit. Else the outcome tells why not,
 /// and the buffer stays as it is.
 #[tactic(auto, unfolding(crate::specs::Calls::text_told))]
@@ -80,8 +179,8 @@ pub fn text_of(alloc: Global, name: &[u8], limit: u32, flags: u32, buffer: &mut 
         return alone(FLAGS);
     };
     match (asked.legacy, asked.wide) {
-        (false, false) => name_by(alloc, &asked.languages(limit, Abi), asked, name, buffer),
-        (false, true) => name_by(alloc, &asked.languages(limit, Wide), asked, name, buffer),
+        (false, false) => name_once(alloc, &asked.languages(limit, Abi), asked, name, buffer),
+        (false, true) => name_once(alloc, &asked.languages(limit, Wide), asked, name, buffer),
         (true, false) => name_by(alloc, &asked.with_legacy(limit, Abi), asked, name, buffer),
         (true, true) => name_by(alloc, &asked.with_legacy(limit, Wide), asked, name, buffer),
     }

@@ -5,16 +5,20 @@ use Rattle.sym_core.specs.declared.counts.Counts.{Counts}
 use Rattle.sym_core.specs.declared.refusal.Refusal.{Refusal}
 use Rattle.sym_core.specs.declared.refusal.Refusal.TheVariants.{Memory, TooLong}
 use Rattle.sym_print.specs.declared.detail.Detail.{Detail}
+use Rattle.sym_print.specs.Details.{has_arguments}
 use Rattle.sym_shape.specs.Decided.{AreBytes}
 use Rattle.sym_shape.specs.declared.rule.Row.{Row}
 use Rattle.sym_shape.specs.Tree.{AreRowsOf}
 use Rattle.sym_demangle.specs.Mangled.{Mangled, IsAnswer, IsReading, answer}
 use Rattle.sym_demangle.specs.Standing.{AreStepsInAll, AreNodesOf}
 use Rattle.sym_demangle.proofs.Answering.{is_answer, reading_answered}
+use Rattle.rust_grammar.specs.Mangled.{v0_mangled}
 use Rattle.sym_filter.specs.Demangled.{IsAppended, IsDemangled}
-use Rattle.sym_languages.specs.Languages.{behind_front, Readings, AreCounts}
+use Rattle.sym_languages.specs.Languages.{behind_front, Readings, AreCounts, language_answer_by}
 use Rattle.sym_filter.specs.declared.demangler.Demangled.{Demangled}
 use Rattle.sym_filter.specs.declared.kinds.Lang.{Lang}
+use Rattle.sym_filter.specs.declared.kinds.Lang.TheVariants.{Rust}
+use Rattle.sym_languages.proofs.RustDetails.{rust_answers_alike}
 
 module _ {W : Type 0} (m : Mangled W) (limit : ℕ) (detail : Detail) (symbol : List ℕ) (bytes : AreBytes symbol) where
   -- the text that was appended is the answer's
@@ -82,6 +86,12 @@ pub demangled_in : (answers : Lang → Result (List ℕ) Refusal) (counting : La
     → IsDemangled (answers known) (counting known symbol) old new demangled → IsDemangled (answers lang) (counting lang symbol) old new demangled
 demangled_in answers counting lang known symbol old new demangled same is =
     subst (λ l. IsDemangled (answers l) (counting l symbol) old new demangled) (sym same) is
+
+-- what is answered for a Rust symbol in a detail that shows arguments where the wanted one does
+pub rust_answered : {W : Type 0} (cpp : Mangled W) (limit : ℕ) (detail shown : Detail) (lang : Lang) (symbol : List ℕ) → AreBytes symbol → lang ≡ Rust → has_arguments shown ≡ has_arguments detail
+    → answer v0_mangled shown symbol limit ≡ language_answer_by cpp limit detail lang symbol
+rust_answered cpp limit detail shown lang symbol bytes is same =
+    rust_answers_alike shown detail limit symbol same bytes ∙ ap (λ l. language_answer_by cpp limit detail l symbol) (sym is)
 
 -- ## Symbols that are pressed
 

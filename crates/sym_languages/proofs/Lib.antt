@@ -1,1 +1,2 @@
 pub mod LanguageLemmas
+pub mod RustDetails

@@ -1,5 +1,7 @@
 // The demangler over both manglings.
+ghost use Rattle.std.specs.Prelude.{◌≡◌};
 ghost use Rattle.sym_core.specs.Number.{FitsSymbol};
+ghost use Rattle.sym_print.specs.Details.{has_arguments};
 ghost use Rattle.sym_demangle.specs.Mangled.{answer};
 ghost use Rattle.sym_filter.specs.Demangled.{IsAppended, IsDemangled};
 ghost use Rattle.sym_languages.specs.Languages.{AreCounts, AreCountsBy, language_answer_by};
@@ -91,8 +93,23 @@ impl<C: Cpp> Demangler for Languages<C> {
     ) -> Result<(), Refusal> {
         match kind.lang {
             Lang::Cpp => append_in(&mut lists.cpp, symbol, self.limit, self.detail, out),
-            Lang::Rust => append_in(&mut lists.rust, symbol, self.limit, self.detail, out),
+            Lang::Rust => {
+                let detail = with_parameters(self.detail);
+                append_in(&mut lists.rust, symbol, self.limit, detail, out)
+            }
         }
+    }
+}
+
+/// A detail with parameters that shows as much else. A Rust symbol, which has none, has the same text in it, and goes the short way
+/// where arguments are shown.
+fn with_parameters(detail: Detail) -> Detail
+    ensures { has_arguments result ≡ has_arguments detail }
+{
+    if detail.has_arguments() {
+        Detail::Full
+    } else {
+        Detail::Brief
     }
 }
 

@@ -16,9 +16,9 @@ returns-in-true-false c =
 pub returns-in-false-true : goal.returns-in-false-true
 returns-in-false-true c =
     text-ends _ c.in-Some.asked c.args.limit c.args.name.now c.args.buffer.now _ (sym c.asked_of.ensures ∙ c.in-Some.is)
-    (by-wide (λ answers found. EndsAs (name_told answers c.in-Some.asked c.args.name.now c.args.buffer.now) c.args.buffer.now found) c.in-Some.asked c.args.limit _ _ _ c.in-false-true.is-0 c.in-false-true.is-1 c.languages.ensures.limit c.languages.ensures.detail c.name_by-in-false-true.ensures)
+    (by-wide (λ answers found. EndsAs (name_told answers c.in-Some.asked c.args.name.now c.args.buffer.now) c.args.buffer.now found) c.in-Some.asked c.args.limit _ _ _ c.in-false-true.is-0 c.in-false-true.is-1 c.languages.ensures.limit c.languages.ensures.detail c.name_once.ensures)
 
 pub returns-in-false-false : goal.returns-in-false-false
 returns-in-false-false c =
     text-ends _ c.in-Some.asked c.args.limit c.args.name.now c.args.buffer.now _ (sym c.asked_of.ensures ∙ c.in-Some.is)
-    (by-abi (λ answers found. EndsAs (name_told answers c.in-Some.asked c.args.name.now c.args.buffer.now) c.args.buffer.now found) c.in-Some.asked c.args.limit _ _ _ c.in-false-false.is-0 c.in-false-false.is-1 c.languages-in-false-false.ensures.limit c.languages-in-false-false.ensures.detail c.name_by-in-false-false.ensures)
+    (by-abi (λ answers found. EndsAs (name_told answers c.in-Some.asked c.args.name.now c.args.buffer.now) c.args.buffer.now found) c.in-Some.asked c.args.limit _ _ _ c.in-false-false.is-0 c.in-false-false.is-1 c.languages-in-false-false.ensures.limit c.languages-in-false-false.ensures.detail c.name_once-in-false-false.ensures)

@@ -1,0 +1,32 @@
+// What a row says of a symbol.
+
+use sym_filter::Kind;
+use sym_print::Detail;
+
+/// Why a symbol that is read has no text.
+pub const TOO_LONG: &[u8] = b"too long";
+
+/// A symbol, how it is shown and what has to be answered then.
+#[derive(Clone, Copy)]
+pub struct Row<'a> {
+    pub kind: Kind,
+    pub s: &'a [u8],
+    pub limit: u32,
+    pub detail: Detail,
+    /// Whether C++ is read by the wide grammar.
+    pub wide: bool,
+    /// Whether legacy Rust names are shown as paths.
+    pub legacy: bool,
+    pub wanted: &'a [u8],
+}
+
+impl<'a> Row<'a> {
+    /// The same symbol at another limit, where this has to be answered.
+    pub fn with(self, limit: u32, wanted: &'a [u8]) -> Row<'a> {
+        Row {
+            limit,
+            wanted,
+            ..self
+        }
+    }
+}
