@@ -13,21 +13,21 @@ pub returns-then-names_generic-clause-goes : goal.returns-then-names_generic-cla
 returns-then-names_generic-clause-goes c =
     let s = c.args.symbol.now in
     let old = c.args.self.now in
-    let new : Rescoping = record { linked = c.go_generic.new.self } in
+    let new : Rescoping = record { linked = c.before_generic.new.self } in
     let frame = c.args.frame.now in
-    goes_within (tallied_view (wide_view s) wide_makes) s old new (Surrounds s) frame c.args.parts.now.items c.go_generic.new.parts.items c.go_generic.result
-    (between_tallied (wide_view s) wide_makes s (Surrounds s) old.linked new.linked frame c.args.parts.now.items c.go_generic.new.parts.items c.go_generic.result
-    (wide_before_read s old.linked new.linked frame c.args.parts.now.items c.go_generic.result c.requires.room.paid.begun c.go_generic.ensures.makes) c.go_generic.ensures.goes)
+    goes_within (tallied_view (wide_view s) wide_makes) s old new (Surrounds s) frame c.args.parts.now.items c.before_generic.new.parts.items c.before_generic.result
+    (between_tallied (wide_view s) wide_makes s (Surrounds s) old.linked new.linked frame c.args.parts.now.items c.before_generic.new.parts.items c.before_generic.result
+    (wide_before_read s old.linked new.linked frame c.args.parts.now.items c.before_generic.result c.requires.room.paid.begun c.before_generic.ensures.makes) c.before_generic.ensures.goes)
 
 pub returns-then-names_holder-clause-goes : goal.returns-then-names_holder-clause-goes
 returns-then-names_holder-clause-goes c =
     let s = c.args.symbol.now in
     let old = c.args.self.now in
-    let new : Rescoping = record { linked = c.go_holder.new.self } in
+    let new : Rescoping = record { linked = c.before_holder.new.self } in
     let frame = c.args.frame.now in
-    goes_within (tallied_view (wide_view s) wide_makes) s old new (Surrounds s) frame c.args.parts.now.items c.go_holder.new.parts.items c.go_holder.result
-    (between_tallied (wide_view s) wide_makes s (Surrounds s) old.linked new.linked frame c.args.parts.now.items c.go_holder.new.parts.items c.go_holder.result
-    (wide_before_read s old.linked new.linked frame c.args.parts.now.items c.go_holder.result c.requires.room.paid.begun c.go_holder.ensures.makes) c.go_holder.ensures.goes)
+    goes_within (tallied_view (wide_view s) wide_makes) s old new (Surrounds s) frame c.args.parts.now.items c.before_holder.new.parts.items c.before_holder.result
+    (between_tallied (wide_view s) wide_makes s (Surrounds s) old.linked new.linked frame c.args.parts.now.items c.before_holder.new.parts.items c.before_holder.result
+    (wide_before_read s old.linked new.linked frame c.args.parts.now.items c.before_holder.result c.requires.room.paid.begun c.before_holder.ensures.makes) c.before_holder.ensures.goes)
 
 pub returns-clause-goes : goal.returns-clause-goes
 returns-clause-goes c =
