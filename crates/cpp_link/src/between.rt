@@ -204,7 +204,7 @@ impl Linked {
     ///
     /// # Errors
     ///
-    /// Those of `go_on`.
+    /// Those of `before_part`.
     #[inline(always)]
     fn before_as(
         &mut self,
@@ -236,7 +236,7 @@ impl Linked {
     ///
     /// # Errors
     ///
-    /// Those of `go_on`.
+    /// Those of `before_part`.
     #[inline(never)]
     fn before_rare(
         &mut self,
@@ -264,7 +264,7 @@ impl Linked {
     ///
     /// # Errors
     ///
-    /// Those of `go_on`.
+    /// Those of `before_part`.
     #[inline(never)]
     fn before_by_step(
         &mut self,
@@ -317,7 +317,7 @@ impl Linked {
     ///
     /// `BadReference` at a parameter that names no argument that it may name, `Memory` where a list couldn't grow.
     #[inline(always)]
-    pub fn go_on(
+    pub fn before_part(
         &mut self,
         symbol: &[u8],
         frame: &Frame<Surroundings>,

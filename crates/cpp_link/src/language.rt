@@ -73,7 +73,7 @@ impl Threading for Linked {
         ensures keeps { KeepsRoom (cpp_counted symbol.now) self.old self.new parts.old parts.new }
         ensures full { NeedsRoom (cpp_counted symbol.now) self.old self.new parts.old parts.new result }
     {
-        self.go_on(symbol, frame, parts)
+        self.before_part(symbol, frame, parts)
     }
 
     fn begin(

@@ -89,7 +89,7 @@ impl Threading for Rescoping {
         if names_holder(production, held) {
             return self.linked.before_holder(symbol, frame, parts);
         }
-        self.linked.go_on(symbol, frame, parts)
+        self.linked.before_part(symbol, frame, parts)
     }
 
     fn begin(
