@@ -152,8 +152,8 @@ def build(extended=True, widened=False):
     # <nested-name> ::= N .. E
     kind("NestTail", eats("E", "NestEnd", means="nest_end!"), chain("NestNext", "Component", "NestTail"))
     component = [
-        # <ctor-dtor-name> ::= C1 | C2 | C3
-        eats("C", "Constructor", "ConstructorDigit", "MaybeArguments", before="1: name = name + constructor(l0)", means="applied"),
+        # <ctor-dtor-name> ::= C1 | C2 | .., which begins with C
+        eats("C", "AnyConstructor", "ConstructorAfterC", means="part 0"),
         # <ctor-dtor-name> ::= D0 | D1 | D2
         eats("D", "Destructor", "DestructorDigit", "MaybeArguments", before="1: name = name + destructor(l0)", means="applied"),
         L_NAME, U_NAME,
@@ -167,7 +167,13 @@ def build(extended=True, widened=False):
     kind("Component", *component, S_NAME, *operators,
         # <prefix> ::= <data-member-prefix> <unqualified-name>, with <data-member-prefix> ::= <prefix> M
         wide(chain("Holder", "HolderMark", "HeldComponent", before="1: holder", means="part 1")))
+    kind("ConstructorAfterC",
+        # <ctor-dtor-name> ::= CI1 <base class type> | CI2 <base class type>, after the C, perhaps with <template-args>
+        wide(eats("I", "Inheriting", "InheritedDigit", "BaseClass", before="1: inside", means="inheriting!", nodes=2)),
+        # <ctor-dtor-name> ::= C1 | C2 | C3, after the C
+        chain("Constructor", "ConstructorDigit", "MaybeArguments", before="1: name = name + constructor(l0)", means="applied"))
     kind("ConstructorDigit", MARK("123"), wide(MARK("45")))
+    kind("InheritedDigit", MARK("1245"))
     kind("DestructorDigit", MARK("012"), wide(MARK("45")))
     kind("Abbreviation",
         # <substitution> ::= Sa | Sb | Ss | Si | So | Sd
@@ -344,6 +350,25 @@ def build(extended=True, widened=False):
         # <unqualified-name> ::= <operator-name>, within a nested name, behind a c
         chain("OperatorNameWithC", "OperatorAfterC", "MaybeArguments", before="1: name = name + operator('c', l0)", means="applied"))
     kind("OtherOperator", *[rule for a, rule in by_letter.items() if a != "c"])
+    # the base class of a constructor that is inherited, and the arguments of the constructor itself: after a name without arguments there
+    # may be none, nor after a substitution, where they might be the base class' own
+    OWN_ARGUMENTS = eats("I", "OwnArguments", "ArgumentsFirst", "'E'", before="0: list the name, inside", means="pair(byte, name, i0)")
+    kind("BaseClass",
+        # <nested-name>
+        eats("N", "NestedBase", "Nest", "OwnArguments", before="1: after t0", means="part 1, or part 0"),
+        # <local-name>
+        eats("Z", "LocalType", "Encoding", "'E'", "TypeEntity", "MaybeDiscriminator"),
+        eats("S", "BaseWithS", "BaseAfterS", means="part 0"),
+        # <unscoped-name> ::= <unqualified-name>, perhaps with <template-args>
+        chain("SourceBase", NAME, "MaybeTags", "BaseArguments", before="1: name = name + source(no, x0); 2: name = t0 applied to 1", means="part 2, or part 0"))
+    kind("BaseAfterS",
+        # <unscoped-name> ::= St <unqualified-name>, perhaps with <template-args>
+        chain("BaseInStd", "TypeInStd", "BaseArguments", before="1: after t0", means="part 1, or part 0"),
+        chain("AbbreviatedType", "Abbreviation"))
+    # <template-args>, of the base class, and then of the constructor
+    kind("BaseArguments", eats("I", "BaseArguments", "ArgumentsFirst", "'E'", "OwnArguments",
+                               before="0: list the name, inside; 2: name = instance(name, i0)", means="part 2, or part 0"), empty=True)
+    kind("OwnArguments", OWN_ARGUMENTS, empty=True)
     # a pack begins with an I where it is the first argument alone: after a name that I would begin the arguments of the name
     kind("ArgumentsFirst", *arguments, wide(pack("I")), empty=True)
     kind("PlainEntity", *plain_entity)

@@ -3,9 +3,10 @@ calls it.
 
 The words of a row, of which `1` is a part by its number:
   means=      part 1          what the part stands for (`, listed`: the same tree, a candidate by now)
+              part 1, or part 0    the same, or another part, where it isn't there
               byte            the byte that is taken, as a letter
               array(d0, t1)   a tree of its parts, no candidate yet (`, listed`: a candidate by now, or never one)
-              piece ..        a piece of a name
+              piece ..        a piece of a name; pair(byte, t0, i1) a letter and two trees
               cell 0 1        a list's cell; item 0 1: one more item of a signature
               applied         part 0, with the arguments that part 1 is, if it is there (`, listed alone`, `, listed as t0 alone`, `in place`)
               closure!        code of its own, in specs/Own.antt, which makes `nodes` nodes at most
@@ -69,6 +70,8 @@ def form(text, nodes):
     """what a production stands for"""
     if text == "byte": return "the_byte"
     if m := re.fullmatch(r"(\w+)!", text): return f"own {m[1]} {nodes}"
+    if m := re.fullmatch(r"part (\d), or part (\d)", text): return f"either {m[1]} {m[2]}"
+    if m := re.fullmatch(r"pair\((.*)\)", text): return "a_pair " + " ".join(closed(source(s)) for s in split(m[1]))
     if m := re.fullmatch(r"part (\d)(, listed)?", text): return f"{'finished' if m[2] else 'handed'} {m[1]}"
     if m := re.fullmatch(r"(cell|item) (\d) (\d)", text): return text
     if m := re.fullmatch(r"piece (.*)", text): return f"a_piece ({made(m[1])})"
@@ -213,7 +216,7 @@ numbered before onward form = record {{ before = before; onward = onward; form =
 unfoldable pub row_of : Production → Row
 '''
 ROW_NAMES = """tree_at list_at parameters_at piece_at the_name text_at digits_at code taken fixed letter_at number_at yes no there_at letter_is qualifiers_at qualified_by ref_at signed_at
-    discriminator_at of only extending tagging applying packing listed unlisted as_part unless_there as_part_alone Form handed finished the_byte makes a_piece cell item a_name in_place own
+    discriminator_at of only extending tagging applying packing listed unlisted as_part unless_there as_part_alone Form handed finished either the_byte makes a_piece a_pair cell item a_name in_place own
     as_before in_its_name in_its_types in_a_signature under_it nameless after_part after_the_name Gain nothing the_prefix type_of unqualified_of itself Before quiet goes becomes tests holds Row""".split()
 
 def antt_rows(table):

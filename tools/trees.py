@@ -291,7 +291,7 @@ def reargued_laws():
 # a node has the arguments of its tree; these have others. A number of a thunk stands for it, and the letters of a builtin type are told apart
 def camel(name): return "".join(part.capitalize() for part in name.split("_"))
 NAMES = {"list": "Cell", "symbol": "Whole", "clone": "CloneOf"}
-PIECES = "source operator literal_operator constructor destructor lambda generic_lambda unnamed string_literal conversion".split()
+PIECES = "source operator literal_operator constructor destructor inheriting lambda generic_lambda unnamed string_literal conversion".split()
 # the argument under which the types of an encoding are, if they are under one
 UNDER = "under"
 OTHERS = {
@@ -605,7 +605,7 @@ def declarations():
     yield "cpp_press_laws/proofs/Components/Growing.antt", "size", fold("size", [], lambda parts: f"suc ({' + '.join(parts)})", "1", trees=named(PRESSED))
     yield "cpp_press_laws/specs/Apart.antt", "IsNeverReferred", never_referred()
     yield "cpp_spelling/specs/Weight.antt", "weight", fold("weight", [], summed("12"), "12", trees=named(PRESSED))
-    nowhere = {"symbol": None, "construction": None, "clone": None, "holder": None, "sized_float": None, "constrained": None, "generic_lambda": None, "bounded": None, "of_default": None, "conversion": None, "absent": None, ("order", "function"): ["name", "returned", "parameters", "q", "ref"]}
+    nowhere = {"symbol": None, "construction": None, "clone": None, "holder": None, "sized_float": None, "constrained": None, "generic_lambda": None, "bounded": None, "of_default": None, "conversion": None, "inheriting": None, "absent": None, ("order", "function"): ["name", "returned", "parameters", "q", "ref"]}
     yield "cpp_press_laws/proofs/Components/FewComponents.antt", "counts", by_each("counts", "few", [], nowhere, {"local": "local-name", "address_of": "address"})
     yield "cpp_press_laws/proofs/EveryWay/Law.antt", "reads", by_each("reads", "reads", ["c"], {**nowhere, ("before", "function"): ["c"]}, {"address_of": "address"})
     yield "cpp_press_laws/proofs/Fits/Packs.antt", "closed-packs", closed_packs()

@@ -185,7 +185,7 @@ PLAIN_TEXTS = [
 # the productions in which parts without a row may be between those with one
 SKIPS = """Symbol EncodingLiteral Address NonVirtualThunk VirtualThunk VirtualOffset
     LocalName LocalType Vector LiteralArgument LiteralElement NestedName RestrictType VolatileType NestStd NestArguments
-    NestInstance NoexceptFunction Function PackArgument ConstructionVtable AddressExpression BoundedArray PackOf""".split()
+    NestInstance BaseArguments SourceBase NoexceptFunction Function PackArgument ConstructionVtable AddressExpression BoundedArray PackOf""".split()
 
 # the productions that may leave a tree that is no candidate yet
 LEAVES = """NestWithS NestParameter NestInternal NestLocalType NestSource NestStd NestTemplate NestArguments NestInstance
@@ -193,7 +193,7 @@ LEAVES = """NestWithS NestParameter NestInternal NestLocalType NestSource NestSt
     Abbreviation Substitution NestedType Expansion ItemIsType BuiltinWithD Vector NoexceptFunction Pointer MemberPointer
     Parameter TypeWithS LocalType Builtin Vendor Function Complex AbbreviatedType SizedFloat
     TaggedStdType TypeInStd ArrayType AnyArray LengthArray BoundedArray
-    ParameterArgument DeclaredArgument ConstrainedAuto""".split()
+    ParameterArgument DeclaredArgument ConstrainedAuto NestedBase BaseWithS SourceBase BaseInStd BaseArguments OwnArguments""".split()
 
 # The productions that are common in real symbols: where they close, and before the parts of some, they have code of their own, in which
 # what is done for a production is a constant. All others share theirs.
@@ -233,6 +233,7 @@ TREES = [
     ("literal_operator", ("bytes", BYTES)),
     ("constructor", ("digit", NUMBER)),
     ("destructor", ("digit", NUMBER)),
+    ("inheriting", ("digit", NUMBER), ("base", TREE)),
     ("lambda", ("parameters", TREE), ("number", NUMBER)),
     ("generic_lambda", ("parameters", SIGNATURE), ("number", NUMBER)),
     ("unnamed", ("number", NUMBER)),

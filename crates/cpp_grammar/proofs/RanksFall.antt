@@ -63,6 +63,7 @@ weight_grows a b scope (local encoding entity discriminator) h = omega (arith, w
 weight_grows a b scope (holder name) h = omega (arith, weight_grows a b scope name h)
 weight_grows a b scope (tagged of_structor name tag) h = omega (arith, weight_grows a b scope name h)
 weight_grows a b scope (of_default digits entity) h = omega (arith, weight_grows a b scope entity h)
+weight_grows a b scope (inheriting digit base) h = omega (arith, weight_grows a b scope base h)
 weight_grows a b scope (lambda parameters number) h = omega (arith, weight_grows a b scope parameters h)
 weight_grows a b scope (conversion t) h = omega (arith, weight_grows a b scope t h)
 weight_grows a b scope (constrained letter concept) h = omega (arith, weight_grows a b scope concept h)

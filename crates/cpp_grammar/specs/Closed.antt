@@ -27,6 +27,7 @@ ScopesAreClosed (local encoding entity discriminator) = ScopesAreClosed encoding
 ScopesAreClosed (holder name) = ScopesAreClosed name
 ScopesAreClosed (tagged of_structor name tag) = ScopesAreClosed name
 ScopesAreClosed (of_default digits entity) = ScopesAreClosed entity
+ScopesAreClosed (inheriting digit base) = ScopesAreClosed base
 ScopesAreClosed (lambda parameters number) = ScopesAreClosed parameters
 ScopesAreClosed (generic_lambda parameters number) = ScopesAreClosed parameters
 ScopesAreClosed (conversion t) = ScopesAreClosed t

@@ -5,7 +5,7 @@ use Rattle.sym_print.specs.declared.detail.Detail.{Detail}
 use Rattle.sym_print.specs.Details.{has_arguments, has_parameters}
 use Rattle.sym_print.specs.Unfold.{PartOf, text, sub}
 use Rattle.cpp_grammar.specs.Texts.{same_bytes, look_up, builtin_texts, operator_texts, abbreviation_texts, special_texts, named_special_texts, literal_endings}
-use Rattle.cpp_grammar.specs.Term.{Qualifiers, RefQualifier, any_value, lvalue_only, rvalue_only, Signed, non_virtual, by_table, Thunk, adjusting, covariant, Term, symbol, function, object, special, thunk, of_name, construction, clone, alone, in_std, within, instance, local, holder, tagged, of_default, abbreviation, parameter, source, operator, literal_operator, constructor, destructor, lambda, generic_lambda, unnamed, string_literal, conversion, builtin, sized_float, constrained, vendor, pointer, lvalue, rvalue, array, bounded, member_pointer, function_type, qualified, vector, complex, expansion, integer, boolean, null_pointer, encoding_literal, address_of, pack, nil, list, absent}
+use Rattle.cpp_grammar.specs.Term.{Qualifiers, RefQualifier, any_value, lvalue_only, rvalue_only, Signed, non_virtual, by_table, Thunk, adjusting, covariant, Term, symbol, function, object, special, thunk, of_name, construction, clone, alone, in_std, within, instance, local, holder, tagged, of_default, abbreviation, parameter, source, operator, literal_operator, constructor, destructor, inheriting, lambda, generic_lambda, unnamed, string_literal, conversion, builtin, sized_float, constrained, vendor, pointer, lvalue, rvalue, array, bounded, member_pointer, function_type, qualified, vector, complex, expansion, integer, boolean, null_pointer, encoding_literal, address_of, pack, nil, list, absent}
 use Rattle.cpp_grammar.specs.Scope.{arguments_of, without_tags}
 use Rattle.cpp_grammar.specs.Items.{Form, root, full, bare, left, right, low, base, piece, first, more, expand, Context, Item, closed, signature_in, argument, head, is_reference, is_funarr, packs_of, is_empty}
 
@@ -74,6 +74,7 @@ prefix_item context t = as_item left context t
 
 unfoldable pub within_parts : Context → Term → Term → List (PartOf Item)
 within_parts context prefix (constructor digit) = as_item left context prefix ∷ says "::" ∷ as_item base context prefix ∷ []
+within_parts context prefix (inheriting digit class) = as_item left context prefix ∷ says "::" ∷ as_item base context prefix ∷ []
 within_parts context prefix (destructor digit) = as_item left context prefix ∷ says "::~" ∷ as_item base context prefix ∷ []
 within_parts context prefix p = prefix_item context prefix ∷ says "::" ∷ as_item piece context p ∷ []
 
@@ -242,6 +243,7 @@ right_parts context _ = []
 
 unfoldable pub base_within : Context → Term → Term → List (PartOf Item)
 base_within context prefix (constructor digit) = as_item base context prefix ∷ []
+base_within context prefix (inheriting digit class) = as_item base context prefix ∷ []
 base_within context prefix (destructor digit) = as_item base context prefix ∷ []
 base_within context prefix p = piece_parts context p
 

@@ -33,6 +33,7 @@ weight a scope (holder name) = 1 + weight a scope name
 weight a scope (tagged of_structor name tag) = 1 + weight a scope name
 weight a scope (of_default digits entity) = 1 + weight a scope entity
 weight a scope (parameter k) = 2 + a
+weight a scope (inheriting digit base) = 1 + weight a scope base
 weight a scope (lambda parameters number) = 1 + weight a scope parameters
 weight a scope (generic_lambda parameters number) = 1 + weight 0 None parameters
 weight a scope (conversion t) = 1 + weight a scope t

@@ -66,6 +66,7 @@ pub data Own : Type 0 where
   in_default : Own
   nest_end : Own
   closure : Own
+  inheriting : Own
   substitution : Own
   first_of_operator : Own
   reference : Own
@@ -87,11 +88,15 @@ pub data Form : Type 0 where
   -- what a part stands for; and the same tree, which is a candidate by now
   handed : ℕ → Form
   finished : ℕ → Form
+  -- what a part stands for, or another, where it isn't there
+  either : (part other : ℕ) → Form
   -- the byte that is taken
   the_byte : Form
   -- a tree, a piece of a name, a cell of a list, one more item of a signature
   makes : Made → Listing → Form
   a_piece : Made → Form
+  -- a letter and two trees
+  a_pair : (letter left right : Source) → Form
   cell : (first rest : ℕ) → Form
   item : (first rest : ℕ) → Form
   -- the first part with the arguments that the second is, if it is there; one that was tagged is in the place of another name

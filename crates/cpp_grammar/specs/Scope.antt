@@ -1,7 +1,7 @@
 -- What the trees of C++ symbols are like: their arguments, free parameters and packs.
 -- The scope of an encoding is the list of arguments that its own name ends in. It holds for the encoding's types alone.
 use Rattle.std.specs.Prelude.{ℕ, zero, suc, Bool, true, false, not, ◌||◌, nat_eq, max, Option, Some, None}
-use Rattle.cpp_grammar.specs.Term.{Term, alone, in_std, within, instance, local, holder, tagged, of_default, parameter, constructor, destructor, lambda, conversion, pointer, lvalue, rvalue, array, constrained, bounded, member_pointer, function_type, qualified, vector, complex, expansion, integer, pack, list, absent}
+use Rattle.cpp_grammar.specs.Term.{Term, alone, in_std, within, instance, local, holder, tagged, of_default, parameter, constructor, destructor, inheriting, lambda, conversion, pointer, lvalue, rvalue, array, constrained, bounded, member_pointer, function_type, qualified, vector, complex, expansion, integer, pack, list, absent}
 
 -- the length of a list
 unfoldable pub count : Term → ℕ
@@ -32,6 +32,7 @@ before_arguments name = name
 unfoldable pub is_structor : Term → Bool
 is_structor (within prefix (constructor digit)) = true
 is_structor (within prefix (destructor digit)) = true
+is_structor (within prefix (inheriting digit class)) = true
 is_structor (tagged of_structor name tag) = of_structor
 is_structor _ = false
 
@@ -57,6 +58,7 @@ is_open (local encoding entity discriminator) = is_open entity
 is_open (holder name) = is_open name
 is_open (tagged of_structor name tag) = is_open name
 is_open (of_default digits entity) = is_open entity
+is_open (inheriting digit base) = is_open base
 is_open (lambda parameters number) = is_open parameters
 is_open (conversion type) = is_open type
 is_open (constrained letter concept) = is_open concept
@@ -102,6 +104,7 @@ free_in (local encoding entity discriminator) = free_in entity
 free_in (holder name) = free_in name
 free_in (tagged of_structor name tag) = free_in name
 free_in (of_default digits entity) = free_in entity
+free_in (inheriting digit base) = free_in base
 free_in (lambda parameters number) = free_in parameters
 free_in (conversion type) = free_in type
 free_in (constrained letter concept) = free_in concept
@@ -156,6 +159,7 @@ pack_length scope (local encoding entity discriminator) = pack_length scope enti
 pack_length scope (holder name) = pack_length scope name
 pack_length scope (tagged of_structor name tag) = pack_length scope name
 pack_length scope (of_default digits entity) = pack_length scope entity
+pack_length scope (inheriting digit base) = pack_length scope base
 pack_length scope (lambda parameters number) = pack_length scope parameters
 pack_length scope (conversion type) = pack_length scope type
 pack_length scope (constrained letter concept) = pack_length scope concept

@@ -4,9 +4,9 @@ use Rattle.sym_core.specs.declared.refusal.Refusal.{Refusal}
 use Rattle.sym_core.specs.declared.NumberKind.TheVariants.{Decimal}
 use Rattle.sym_core.specs.Value.{counted_value}
 use Rattle.sym_link.specs.Reading.{Next, ◌>>=◌}
-use Rattle.cpp_grammar.specs.Term.{Term, alone, within, instance, tagged, parameter, nil}
+use Rattle.cpp_grammar.specs.Term.{Term, alone, within, instance, tagged, parameter, inheriting, nil}
 use Rattle.cpp_grammar.specs.Scope.{arguments_of, is_structor}
-use Rattle.cpp_grammar.specs.Values.{State, Prefix, outermost, behind, Around, prefix_tree, Value, nothing_there, tree, named, tree_of, is_there, text_of}
+use Rattle.cpp_grammar.specs.Values.{State, Prefix, outermost, behind, Around, prefix_tree, Value, nothing_there, tree, named, pair, tree_of, is_there, text_of}
 use Rattle.cpp_grammar.specs.References.{parameter_named}
 
 -- ## What surrounds a part
@@ -49,6 +49,11 @@ applied t v = elim (is_there v) [ true ↦ instance t (tree_of v) | false ↦ t 
 unfoldable pub no_items : Value → Term
 no_items nothing_there = nil
 no_items v = tree_of v
+
+-- The name of a constructor that is inherited from a base class, with arguments of its own where there are some.
+unfoldable pub inherited : Prefix → (digit : ℕ) → (base : Value) → Value
+inherited prefix digit (pair letter base own) = tree (instance (extended prefix (inheriting digit base)) own) false
+inherited prefix digit base = tree (extended prefix (inheriting digit (tree_of base))) false
 
 -- these values so far, these surroundings of the next part, and this state before it
 abbrev pub Going : Type 0

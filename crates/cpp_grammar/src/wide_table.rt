@@ -8,7 +8,7 @@ use crate::table::{FIRST_LETTER, HEADS, SYMBOLS};
 use sym_shape::{Rule, letter_in, place_of, symbols_from};
 
 // For each kind a row: for each byte from `$` to `z` the letter of the production that the kind takes there.
-static WIDE_LETTERS: [[u8; 87]; 93] = [
+static WIDE_LETTERS: [[u8; 87]; 99] = [
     // $%&'()*+,-./0123456789:;<=>?@ABCDEFGHIJKLMNOPQRSTUVWXYZ[\]^_`abcdefghijklmnopqrstuvwxyz
     *b"                                                           *                           ", // Symbol
     *b"          +                                                                            ", // MaybeSuffix
@@ -30,39 +30,41 @@ static WIDE_LETTERS: [[u8; 87]; 93] = [
     *b"            GGGGGGGGGG        HGG    F  GG       G           G GGG G G  GGGGG GG       ", // NestRest
     *b"            GGGGGGGGGG         GGI      GG       G           G GGG G G  GGGGG GG       ", // NestTail
     *b"            $$$$$$$$$$         JK       \"N       #           M LMM M M  MMMMM MM       ", // Component
+    *b"             PPPPP                   O                                                 ", // ConstructorAfterC
     *b"             !!!!!                                                                     ", // ConstructorDigit
+    *b"             !! !!                                                                     ", // InheritedDigit
     *b"            !!! !!                                                                     ", // DestructorDigit
-    *b"            PPPPPPPPPP       PPPPPPPPPPPPPPPPPPPPPPPPPP    P OO O    O     O   O       ", // Abbreviation
-    *b"            $$$$$$$$$$                  \" )      #              S              R       ", // Entity
-    *b"            $$$$$$$$$$                  \" Q      #              T                      ", // TypeEntity
-    *b"                                                           U                           ", // MaybeDiscriminator
-    *b"            VVVVVVVVVV                                     W                           ", // DiscriminatorRest
-    *b"                                                                        X       Y      ", // Anonymous
-    *b"            ^^^^^^^^^^       ^ ^_ ^    \\ ^^]^ ]^^^[   ^      ^^^^^^^^^^ ^^^^  Z^^^^^^^^", // Type
-    *b"            aaaaaaaaaa       a a` a      aa]a ]aaa    a      aaaaaaaaaa aaaa   aaaaaaaa", // Plain
-    *b"            ^^^^^^^^^^       ^ ^b ^    \\ ^^]^ ]^^^[   ^      ^^^^^^^^^^ ^^^^  Z^^^^^^^^", // Item
-    *b"            ^^^^^^^^^^       ^ ^b ^    \\ ^^ ^  ^^^[   ^      ^^^^^^^^^^ ^^^^  Z^^^^^^^^", // ItemButRef
-    *b"                                  d    d                     d dddd dd d  ddc  d dd    ", // ItemAfterD
-    *b"                                  h    i                     e eeee ee i  eg   e ef    ", // AfterD
-    *b"            $$$$$$$$$$       q s  r      kQ j  ml#    n      oooooooooo oooo   oopooooo", // Solid
+    *b"            RRRRRRRRRR       RRRRRRRRRRRRRRRRRRRRRRRRRR    R QQ Q    Q     Q   Q       ", // Abbreviation
+    *b"            $$$$$$$$$$                  \" )      #              U              T       ", // Entity
+    *b"            $$$$$$$$$$                  \" S      #              V                      ", // TypeEntity
+    *b"                                                           W                           ", // MaybeDiscriminator
+    *b"            XXXXXXXXXX                                     Y                           ", // DiscriminatorRest
+    *b"                                                                        Z       [      ", // Anonymous
+    *b"            ``````````       ` `a `    ^ ``_` _```]   `      `````````` ````  \\````````", // Type
+    *b"            cccccccccc       c cb c      cc_c _ccc    c      cccccccccc cccc   cccccccc", // Plain
+    *b"            ``````````       ` `d `    ^ ``_` _```]   `      `````````` ````  \\````````", // Item
+    *b"            ``````````       ` `d `    ^ `` `  ```]   `      `````````` ````  \\````````", // ItemButRef
+    *b"                                  f    f                     f ffff ff f  ffe  f ff    ", // ItemAfterD
+    *b"                                  j    k                     g gggg gg k  gi   g gh    ", // AfterD
+    *b"            $$$$$$$$$$       s u  t      mS l  on#    p      qqqqqqqqqq qqqq   qqrqqqqq", // Solid
     *b"                                                     !                                 ", // MaybeCLinkage
-    *b"            uuuuuuuuuu       uuuuuuuuuuuuuuuuuuuuuuuuuu    u uu u    u     u   ut      ", // TypeAfterS
+    *b"            wwwwwwwwww       wwwwwwwwwwwwwwwwwwwwwwwwww    w ww w    w     w   wv      ", // TypeAfterS
     *b"            ((((((((((                  &        '                                     ", // SourceOrLocal
-    *b"            yyyyyyyyyy       y yyvy    y yyxy wyyyy   y      yyyyyyyyyy yyyy  yyyyyyyyy", // FunctionRest
-    *b"            {{{{{{{{{{       { {{z{    { {{{{ {{{{{   {      {{{{{{{{{{ {{{{  {{{{{{{{{", // AfterR
-    *b"            ||||||||||       | ||z|    | |||| |||||   |      |||||||||| ||||  |||||||||", // AfterO
-    *b"            }}}}}}}}}}       } }} }    } }}}} }}}}}   }      }}}}}}}}}} }}}}  }}}}}}}}}", // Items
-    *b"                              \x7f      ~                                                 ", // MaybeArguments
-    *b"                                     ~                                                 ", // Arguments
-    *b"            \x82\x82\x82\x82\x82\x82\x82\x82\x82\x82       \x82 \x82\x82 \x82   \x80\x82\x81\x82\x82\x82\x82 \x82\x82\x82\x82\x82 \x82 \x82      \x82\x82\x82\x82\x82\x82\x82\x82\x82\x82 \x82\x82\x82\x82  \x82\x82\x82\x82\x82\x82\x82\x82\x82", // ArgumentList
-    *b"            \x84\x84\x84\x84\x84\x84\x84\x84\x84\x84       \x84 \x84\x84 \x84    \x84\x83\x84\x84\x84\x84 \x84\x84\x84\x84\x84 \x84 \x84      \x84\x84\x84\x84\x84\x84\x84\x84\x84\x84 \x84\x84\x84\x84  \x84\x84\x84\x84\x84\x84\x84\x84\x84", // PackList
-    *b"                                        \x85                                              ", // Address
-    *b"            \x89\x89\x89\x89\x89\x89\x89\x89\x89\x89          \x88        \x89\x89 \x89  \x89\x89\x89    \x89    \x86 \x89\x87\x89    \x89\x89\x89 \x89\x89\x89\x89   \x89\x89  \x89\x89\x89 ", // Literal
+    *b"            {{{{{{{{{{       { {{x{    { {{z{ y{{{{   {      {{{{{{{{{{ {{{{  {{{{{{{{{", // FunctionRest
+    *b"            }}}}}}}}}}       } }}|}    } }}}} }}}}}   }      }}}}}}}}}} }}}}  }}}}}}}}}", // AfterR
+    *b"            ~~~~~~~~~~       ~ ~~|~    ~ ~~~~ ~~~~~   ~      ~~~~~~~~~~ ~~~~  ~~~~~~~~~", // AfterO
+    *b"            \x7f\x7f\x7f\x7f\x7f\x7f\x7f\x7f\x7f\x7f       \x7f \x7f\x7f \x7f    \x7f \x7f\x7f\x7f\x7f \x7f\x7f\x7f\x7f\x7f   \x7f      \x7f\x7f\x7f\x7f\x7f\x7f\x7f\x7f\x7f\x7f \x7f\x7f\x7f\x7f  \x7f\x7f\x7f\x7f\x7f\x7f\x7f\x7f\x7f", // Items
+    *b"                              \x81      \x80                                                 ", // MaybeArguments
+    *b"                                     \x80                                                 ", // Arguments
+    *b"            \x84\x84\x84\x84\x84\x84\x84\x84\x84\x84       \x84 \x84\x84 \x84   \x82\x84\x83\x84\x84\x84\x84 \x84\x84\x84\x84\x84 \x84 \x84      \x84\x84\x84\x84\x84\x84\x84\x84\x84\x84 \x84\x84\x84\x84  \x84\x84\x84\x84\x84\x84\x84\x84\x84", // ArgumentList
+    *b"            \x86\x86\x86\x86\x86\x86\x86\x86\x86\x86       \x86 \x86\x86 \x86    \x86\x85\x86\x86\x86\x86 \x86\x86\x86\x86\x86 \x86 \x86      \x86\x86\x86\x86\x86\x86\x86\x86\x86\x86 \x86\x86\x86\x86  \x86\x86\x86\x86\x86\x86\x86\x86\x86", // PackList
+    *b"                                        \x87                                              ", // Address
+    *b"            \x8b\x8b\x8b\x8b\x8b\x8b\x8b\x8b\x8b\x8b          \x8a        \x8b\x8b \x8b  \x8b\x8b\x8b    \x8b    \x88 \x8b\x89\x8b    \x8b\x8b\x8b \x8b\x8b\x8b\x8b   \x8b\x8b  \x8b\x8b\x8b ", // Literal
     *b"            !!                                                                         ", // Bit
-    *b"                                                                     \x8b    \x8a    \x8b \x8b     ", // LiteralAfterD
+    *b"                                                                     \x8d    \x8c    \x8d \x8d     ", // LiteralAfterD
     *b"            !                                                                          ", // MaybeZero
-    *b"            $$$$$$$$$$                   kQ j  ml#    n      o o    ooo oooo   oo  ooo ", // LiteralType
-    *b"                                                             \x8e \x90\x8d\x94 \x98 \x97  \x95\x91\x8c\x93\x8f \x92\x96       ", // Operator
+    *b"            $$$$$$$$$$                   mS l  on#    p      q q    qqq qqqq   qq  qqq ", // LiteralType
+    *b"                                                             \x90 \x92\x8f\x96 \x9a \x99  \x97\x93\x8e\x95\x91 \x94\x98       ", // Operator
     *b"                                                             !   ! !            !  !   ", // OperatorAfterN
     *b"                                                  !          !   !      !         !    ", // OperatorAfterD
     *b"                                          !    !             !  !         !        !   ", // OperatorAfterA
@@ -72,36 +74,40 @@ static WIDE_LETTERS: [[u8; 87]; 93] = [
     *b"                                         !     !                         !     !       ", // OperatorAfterR
     *b"                                              !                            !  !        ", // OperatorAfterO
     *b"                                           !                               ! !         ", // OperatorAfterE
-    *b"                                               !                 !   \x99         !!      ", // OperatorAfterL
+    *b"                                               !                 !   \x9b         !!      ", // OperatorAfterL
     *b"                                                                               !       ", // OperatorAfterS
     *b"                                                                                    !  ", // OperatorAfterI
     *b"                                                                 !              !      ", // OperatorAfterG
-    *b"            GGGGGGGGGG         GG    \x9a  GG       G           G GGG G G  GGGGG GG       ", // NestRestOrEnd
-    *b"                                     ~                                                 ", // ArgumentsAlone
+    *b"            GGGGGGGGGG         GG    \x9c  GG       G           G GGG G G  GGGGG GG       ", // NestRestOrEnd
+    *b"                                     \x80                                                 ", // ArgumentsAlone
     *b"            GGGGGGGGGG         GG    F  GG       G           G GGG G G  GGGGG GG       ", // NestRestAlone
     *b"                                         !                                             ", // HolderMark
     *b"            $$$$$$$$$$         JK       \"        #           M LMM M M  MMMMM MM       ", // HeldComponent
     *b"                                                           !  !                     !  ", // FloatEnd
-    *b"                                                                        \x9c\x9c \x9c      \x9b    ", // ComponentAfterC
-    *b"                                                             \x8e  \x8d\x94 \x98 \x97  \x95\x91\x8c\x93\x8f \x92\x96       ", // OtherOperator
-    *b"            \x82\x82\x82\x82\x82\x82\x82\x82\x82\x82       \x82 \x82\x82 \x82  \x80\x80\x82\x81\x82\x82\x82\x82 \x82\x82\x82\x82\x82 \x82 \x82      \x82\x82\x82\x82\x82\x82\x82\x82\x82\x82 \x82\x82\x82\x82  \x82\x82\x82\x82\x82\x82\x82\x82\x82", // ArgumentsFirst
+    *b"                                                                        \x9e\x9e \x9e      \x9d    ", // ComponentAfterC
+    *b"                                                             \x90  \x8f\x96 \x9a \x99  \x97\x93\x8e\x95\x91 \x94\x98       ", // OtherOperator
+    *b"            \xa2\xa2\xa2\xa2\xa2\xa2\xa2\xa2\xa2\xa2                    \xa0    \xa1      p                                ", // BaseClass
+    *b"            wwwwwwwwww       wwwwwwwwwwwwwwwwwwwwwwwwww    w ww w    w     w   w\xa3      ", // BaseAfterS
+    *b"                                     \xa4                                                 ", // BaseArguments
+    *b"                                     \x9f                                                 ", // OwnArguments
+    *b"            \x84\x84\x84\x84\x84\x84\x84\x84\x84\x84       \x84 \x84\x84 \x84  \x82\x82\x84\x83\x84\x84\x84\x84 \x84\x84\x84\x84\x84 \x84 \x84      \x84\x84\x84\x84\x84\x84\x84\x84\x84\x84 \x84\x84\x84\x84  \x84\x84\x84\x84\x84\x84\x84\x84\x84", // ArgumentsFirst
     *b"            $$$$$$$$$$                  \" )      #                                     ", // PlainEntity
-    *b"            $$$$$$$$$$                  \" Q      #                                     ", // PlainTypeEntity
+    *b"            $$$$$$$$$$                  \" S      #                                     ", // PlainTypeEntity
     *b"                                   !                                                   ", // SpecialMark
-    *b"                                                \x9d 4                                    ", // SpecialAfterG
+    *b"                                                \xa5 4                                    ", // SpecialAfterG
     *b"                                                                          !     !      ", // CloneLetter
-    *b"                                                                                \x9e      ", // TypeInStd
-    *b"                              \x9f                                                        ", // MaybeTags
-    *b"            \xa2\xa2\xa2\xa2\xa2\xa2\xa2\xa2\xa2\xa2       \xa2 \xa2b \xa2    \\ \xa2\xa2]\xa2 ]\xa2\xa1\xa2[ \xa0 \xa2      \xa2\xa2\xa2\xa2\xa2\xa2\xa2\xa2\xa2\xa2 \xa2\xa2\xa2\xa2  Z\xa2\xa2\xa2\xa2\xa2\xa2\xa2\xa2", // Argument
-    *b"            \xa4\xa4\xa4\xa4\xa4\xa4\xa4\xa4\xa4\xa4                                     \xa4           \xa3  \xa3 \xa3   \xa3    \xa3 ", // ArgumentAfterT
-    *b"            \xa2\xa2\xa2\xa2\xa2\xa2\xa2\xa2\xa2\xa2       \xa2 \xa2b \xa2   \xa6\\\xa5\xa2\xa2]\xa2 ]\xa2\xa1\xa2[ \xa0 \xa2      \xa2\xa2\xa2\xa2\xa2\xa2\xa2\xa2\xa2\xa2 \xa2\xa2\xa2\xa2  Z\xa2\xa2\xa2\xa2\xa2\xa2\xa2\xa2", // OneArgument
-    *b"                                                                       \xa9  \xa8 \xab   \xaa    \xa7 ", // DeclarationAfterT
-    *b"                                                \xac                                      ", // Declarations
-    *b"            $$$$$$$$$$                    Q    m                                       ", // Concept
-    *b"            $$$$$$$$$$       q s  r      kQ j  m #    n      oooooooooo oooo   oopooooo", // SolidButT
-    *b"                                                \xae            \xad                         ", // ExpressionRest
-    *b"                             \xaf                                                         ", // AnyArray
-    *b"            \xb1\xb1\xb1\xb1\xb1\xb1\xb1\xb1\xb1\xb1                          \xb0          \xb1                           ", // ArrayRest
+    *b"                                                                                \xa6      ", // TypeInStd
+    *b"                              \xa7                                                        ", // MaybeTags
+    *b"            \xaa\xaa\xaa\xaa\xaa\xaa\xaa\xaa\xaa\xaa       \xaa \xaad \xaa    ^ \xaa\xaa_\xaa _\xaa\xa9\xaa] \xa8 \xaa      \xaa\xaa\xaa\xaa\xaa\xaa\xaa\xaa\xaa\xaa \xaa\xaa\xaa\xaa  \\\xaa\xaa\xaa\xaa\xaa\xaa\xaa\xaa", // Argument
+    *b"            \xac\xac\xac\xac\xac\xac\xac\xac\xac\xac                                     \xac           \xab  \xab \xab   \xab    \xab ", // ArgumentAfterT
+    *b"            \xaa\xaa\xaa\xaa\xaa\xaa\xaa\xaa\xaa\xaa       \xaa \xaad \xaa   \xae^\xad\xaa\xaa_\xaa _\xaa\xa9\xaa] \xa8 \xaa      \xaa\xaa\xaa\xaa\xaa\xaa\xaa\xaa\xaa\xaa \xaa\xaa\xaa\xaa  \\\xaa\xaa\xaa\xaa\xaa\xaa\xaa\xaa", // OneArgument
+    *b"                                                                       \xb1  \xb0 \xb3   \xb2    \xaf ", // DeclarationAfterT
+    *b"                                                \xb4                                      ", // Declarations
+    *b"            $$$$$$$$$$                    S    o                                       ", // Concept
+    *b"            $$$$$$$$$$       s u  t      mS l  o #    p      qqqqqqqqqq qqqq   qqrqqqqq", // SolidButT
+    *b"                                                \xb6            \xb5                         ", // ExpressionRest
+    *b"                             \xb7                                                         ", // AnyArray
+    *b"            \xb9\xb9\xb9\xb9\xb9\xb9\xb9\xb9\xb9\xb9                          \xb8          \xb9                           ", // ArrayRest
     *b"            GGGGGGGGGG         GGI      GG       G           G GGG G G  GGGGG GG       ", // NestMoreOrEnd
 ];
 
@@ -109,7 +115,7 @@ static WIDE_LETTERS: [[u8; 87]; 93] = [
 #[inline]
 fn number(kind: u16, byte: u8) -> Option<usize>
     requires { kind < wide.kinds }
-    ensures few { IfSome result (λ number. number < 145) }
+    ensures few { IfSome result (λ number. number < 153) }
     ensures rule { (head : Head) → MatchOption result (wide.rule kind byte ≡ None) (λ number. wide.rule kind byte ≡ Some (listed_rule head number)) }
 {
     match letter_in(&WIDE_LETTERS[kind as usize], byte) {

@@ -121,6 +121,12 @@ may_leave Production.BoundedArray = true
 may_leave Production.ParameterArgument = true
 may_leave Production.DeclaredArgument = true
 may_leave Production.ConstrainedAuto = true
+may_leave Production.NestedBase = true
+may_leave Production.BaseWithS = true
+may_leave Production.SourceBase = true
+may_leave Production.BaseInStd = true
+may_leave Production.BaseArguments = true
+may_leave Production.OwnArguments = true
 may_leave _ = false
 
 -- what goes on with the name so far

@@ -18,6 +18,10 @@ is_mark rule = nat_eq rule (number_of Production.Mark)
 unfoldable pub is_list : ℕ → Bool
 is_list rule = nat_eq rule (number_of Production.Arguments) || nat_eq rule (number_of Production.Tag)
 
+-- a tag of a name
+unfoldable pub is_tag : ℕ → Bool
+is_tag rule = nat_eq rule (number_of Production.TypeTag)
+
 -- one of some arguments, of which none is a list by itself
 unfoldable pub is_argument : ℕ → Bool
 is_argument rule =
@@ -69,6 +73,8 @@ next_part Production.VolatileType held rule byte = elim (is_mark rule) [ true �
 next_part Production.NestStd held rule byte = elim (nat_eq held 0) [ true ↦ 0 | false ↦ elim (is_list rule) [ true ↦ 1 | false ↦ 2 ] ]
 next_part Production.NestArguments held rule byte = behind_list held rule
 next_part Production.NestInstance held rule byte = behind_list held rule
+next_part Production.BaseArguments held rule byte = behind_list held rule
+next_part Production.SourceBase held rule byte = elim (is_tag rule) [ true ↦ 1 | false ↦ 2 ]
 next_part Production.NoexceptFunction held rule byte = elim (is_mark rule) [ true ↦ 1 | false ↦ at_least 2 held ]
 next_part Production.Function held rule byte = elim (is_mark rule) [ true ↦ 0 | false ↦ at_least 1 held ]
 next_part Production.PackArgument held rule byte = elim (is_element rule) [ true ↦ 0 | false ↦ 2 ]

@@ -4,7 +4,7 @@ ghost use Rattle.std.specs.Prelude.{◌≡◌, ◌<◌, length};
 ghost use Rattle.sym_link.specs.Threads.{IsAhead, IsAheadToken, IsCount};
 ghost use Rattle.cpp_grammar.specs.Grammar.{parts_of};
 ghost use Rattle.cpp_grammar.specs.Unfolding.{production_at};
-ghost use Rattle.cpp_link.specs.Next.{at_least, over, is_mark, is_list, is_argument, is_element, nested_mark, type_mark, behind_bytes, behind_list, next_part, token_part};
+ghost use Rattle.cpp_link.specs.Next.{at_least, over, is_mark, is_list, is_tag, is_argument, is_element, nested_mark, type_mark, behind_bytes, behind_list, next_part, token_part};
 ghost use Rattle.cpp_link.specs.Tables.{skips_parts};
 ghost use Rattle.cpp_link.specs.View.{cpp_view};
 
@@ -46,6 +46,14 @@ fn is_list(rule: u16) -> bool
     ensures { result ≡ is_list rule }
 {
     rule == Production::Arguments as u16 || rule == Production::Tag as u16
+}
+
+/// Whether the rule is a tag of a name.
+#[tactic(auto, unfolding(crate::specs::Next::is_tag, cpp_grammar::specs::Grammar::number_of))]
+fn is_tag(rule: u16) -> bool
+    ensures { result ≡ is_tag rule }
+{
+    rule == Production::TypeTag as u16
 }
 
 /// Whether the rule begins with an argument.
@@ -142,6 +150,8 @@ fn next_part(production: Production, held: usize, rule: u16, byte: u8) -> usize
         },
         Production::NestArguments => behind_list(held, rule),
         Production::NestInstance => behind_list(held, rule),
+        Production::BaseArguments => behind_list(held, rule),
+        Production::SourceBase => if is_tag(rule) { 1 } else { 2 },
         Production::NoexceptFunction => if is_mark(rule) { 1 } else { at_least(2, held) },
         Production::Function => if is_mark(rule) { 0 } else { at_least(1, held) },
         Production::PackArgument => if is_element(rule) { 0 } else { 2 },

@@ -31,6 +31,7 @@ use cpp_references::candidates::numbered;
 use cpp_tree::node::Node;
 use sym_core::{Refusal, Span, value36};
 use sym_link::language::Frame;
+use sym_link::parts::put;
 
 /// Whether a production is a name with its `M`, and what it holds.
 #[tactic(auto, unfolding(crate::specs::LinkRescoping::is_holder))]
@@ -39,6 +40,28 @@ pub fn is_holder(production: Production) -> bool
 {
     match production {
         Production::Holder => true,
+        _ => false,
+    }
+}
+
+/// Whether a production is the arguments of a constructor that is inherited.
+#[tactic(auto, unfolding(crate::specs::LinkRescoping::is_own_arguments))]
+pub fn is_own_arguments(production: Production) -> bool
+    ensures { result ≡ is_own_arguments production }
+{
+    match production {
+        Production::OwnArguments => true,
+        _ => false,
+    }
+}
+
+/// Whether a production is a constructor that is inherited.
+#[tactic(auto, unfolding(crate::specs::LinkRescoping::is_inheriting))]
+pub fn is_inheriting(production: Production) -> bool
+    ensures { result ≡ is_inheriting production }
+{
+    match production {
+        Production::Inheriting => true,
         _ => false,
     }
 }
@@ -123,6 +146,73 @@ impl Linked {
         Err(Refusal::BadReference {
             at: place.saturating_sub(1),
         })
+    }
+
+    /// The base class of a constructor that is inherited, unless it was counted before arguments of the constructor's own, or is there
+    /// by its number alone.
+    fn base_to_count(&self, symbol: &[u8], kept: Surroundings, base: Part) -> Option<u32>
+        requires table { IsTable (over symbol.now self.now.nodes) }
+        requires there { IsThere symbol.now (length self.now.nodes.nodes) base }
+    {
+        match base {
+            Part::Pair { .. } => None,
+            _ => self.type_candidate(symbol, kept, base),
+        }
+    }
+
+    /// A base class is counted: it becomes a candidate, and again as a mark of that.
+    ///
+    /// # Errors
+    ///
+    /// `Memory` where the candidates couldn't grow.
+    fn count_base(&mut self, kept: Surroundings, node: u32) -> Result<(), Refusal> {
+        self.push_candidate(kept, node, false)?;
+        self.push_candidate(kept, node, true)
+    }
+
+    /// What is done before the arguments of a constructor that is inherited, and what surrounds these: its base class is counted.
+    ///
+    /// # Errors
+    ///
+    /// `Memory` where a list couldn't grow.
+    pub fn before_own_arguments(
+        &mut self,
+        symbol: &[u8],
+        frame: &Frame<Surroundings>,
+    ) -> Result<Surroundings, Refusal> {
+        self.count_base(frame.kept, self.prefix_node(symbol, frame.kept))?;
+        Ok(self.inside(frame.kept))
+    }
+
+    /// The frame's rule, a constructor that is inherited, closes: what it is takes the place of its parts, and its base class is
+    /// counted, where that isn't done.
+    ///
+    /// # Errors
+    ///
+    /// `Memory` where a list couldn't grow.
+    pub fn finish_inheriting(
+        &mut self,
+        symbol: &[u8],
+        frame: &Frame<Surroundings>,
+        parts: &mut Vec<Part>,
+    ) -> Result<(), Refusal> {
+        let base = self.base_to_count(
+            symbol,
+            frame.kept,
+            self.given(symbol, &parts[frame.base..], 1),
+        );
+        let made = self.close_rare(
+            symbol,
+            Production::Inheriting,
+            frame.place,
+            frame.kept,
+            &parts[frame.base..],
+        )?;
+        if let Some(node) = base {
+            self.count_base(frame.kept, node)?;
+        }
+        put(parts, frame.base, made)?;
+        Ok(())
     }
 
     /// What is done before what a name with its `M` holds, and what surrounds that: the name becomes a candidate again with its `M`.

@@ -425,7 +425,23 @@ impl Linked {
                 ),
                 false,
             ),
-            // <ctor-dtor-name> ::= C1 | C2 | C3
+            // <ctor-dtor-name> ::= C1 | C2 | .., which begins with C
+            Production::AnyConstructor => Outcome::Given(self.given(symbol, parts, 0)),
+            // <ctor-dtor-name> ::= CI1 <base class type> | CI2 <base class type>, after the C, perhaps with <template-args>
+            Production::Inheriting => self.inherited(symbol, kept.prefix(), parts),
+            // <template-args> of a constructor that is inherited
+            Production::OwnArguments => Outcome::Given(Part::Pair {
+                letter: byte,
+                left: self.prefix_node(symbol, kept),
+                right: self.list(symbol, parts, 0),
+            }),
+            // the base class of a constructor that is inherited, perhaps with arguments of the constructor's own
+            Production::NestedBase => Outcome::Given(self.either(symbol, parts, 1, 0)),
+            Production::BaseWithS => Outcome::Given(self.given(symbol, parts, 0)),
+            Production::SourceBase => Outcome::Given(self.either(symbol, parts, 2, 0)),
+            Production::BaseInStd => Outcome::Given(self.either(symbol, parts, 1, 0)),
+            Production::BaseArguments => Outcome::Given(self.either(symbol, parts, 2, 0)),
+            // <ctor-dtor-name> ::= C1 | C2 | C3, after the C
             Production::Constructor => self.applied(symbol, parts, false),
             // <ctor-dtor-name> ::= D0 | D1 | D2
             Production::Destructor => self.applied(symbol, parts, false),

@@ -27,6 +27,12 @@ pub enum Part {
         list: u32,
         mark: Mark,
     },
+    /// A letter and two trees, of which the second may be absent.
+    Pair {
+        letter: u8,
+        left: u32,
+        right: u32,
+    },
 }
 
 /// What a production stands for: a part, or one whose node isn't there yet.
@@ -57,6 +63,11 @@ pub enum Outcome {
     Character {
         letter: u8,
         value: Signed,
+    },
+    /// A name with arguments.
+    Applied {
+        name: Node,
+        arguments: u32,
     },
     Lambda {
         first: u32,

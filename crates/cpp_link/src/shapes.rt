@@ -217,6 +217,44 @@ impl Linked {
         }
     }
 
+    /// The part with this number, or another, where it isn't there.
+    pub fn either(&self, symbol: &[u8], parts: &[Part], k: usize, other: usize) -> Part
+        ensures is { value_in symbol.now self.now.nodes result ≡ elim (is_there (part (values_in symbol.now self.now.nodes parts.now) k)) [ true ↦ part (values_in symbol.now self.now.nodes parts.now) k | false ↦ part (values_in symbol.now self.now.nodes parts.now) other ] }
+        ensures there { AreThere symbol.now (length self.now.nodes.nodes) parts.now → IsThere symbol.now (length self.now.nodes.nodes) result }
+    {
+        if self.there(symbol, parts, k) {
+            return self.given(symbol, parts, k);
+        }
+        self.given(symbol, parts, other)
+    }
+
+    /// The name of a constructor that is inherited, with arguments of its own where there are some.
+    #[tactic(auto, unfolding(cpp_term::specs::Between::inherited, crate::specs::Parts::outcome_value, crate::specs::Parts::value_of, cpp_tree::specs::Nodes::tree_of, cpp_tree::specs::Nodes::piece_of, crate::specs::Making::nodes_of_outcome))]
+    pub fn inherited(&self, symbol: &[u8], prefix: Prefix, parts: &[Part]) -> Outcome
+        requires table { IsTable (over symbol.now self.now.nodes) }
+        requires there { AreThere symbol.now (length self.now.nodes.nodes) parts.now }
+        requires prefix { IsPrefixThere (length self.now.nodes.nodes) prefix }
+        ensures is { outcome_value symbol.now self.now.nodes result ≡ inherited (prefix_of (trees_in symbol.now self.now.nodes) prefix) (letter_of (part (values_in symbol.now self.now.nodes parts.now) 0)) (part (values_in symbol.now self.now.nodes parts.now) 1) }
+        ensures there { IsOutcomeThere symbol.now (length self.now.nodes.thunks) (length self.now.nodes.nodes) result }
+        ensures nodes { nodes_of_outcome result ≤ 2 }
+    {
+        let digit = self.letter(symbol, parts, 0);
+        match self.given(symbol, parts, 1) {
+            Part::Pair { left, right, .. } => {
+                let piece = Piece::Inheriting { digit, base: left };
+                Outcome::Applied {
+                    name: self.extended(symbol, prefix, piece),
+                    arguments: right,
+                }
+            }
+            base => {
+                let base = self.node(symbol, base);
+                let piece = Piece::Inheriting { digit, base };
+                made(self.extended(symbol, prefix, piece), false)
+            }
+        }
+    }
+
     /// What a lambda stands for.
     #[tactic(auto, unfolding(crate::specs::Parts::outcome_value, crate::specs::Parts::value_of, cpp_tree::specs::Nodes::piece_of, cpp_term::specs::Meaning::parameters, crate::specs::Making::nodes_of_outcome, crate::specs::NodeCount::lambda_at_end))]
     pub fn lambda(&self, symbol: &[u8], parts: &[Part]) -> Outcome

@@ -175,6 +175,16 @@ impl Linked {
                 then: self.inside(kept),
                 packs: self.packs,
             },
+            Production::OwnArguments => Step::Go {
+                candidate: self.prefix_candidate(symbol, kept),
+                then: self.inside(kept),
+                packs: self.packs,
+            },
+            Production::BaseArguments => Step::Go {
+                candidate: self.prefix_candidate(symbol, kept),
+                then: self.inside(kept),
+                packs: self.packs,
+            },
             Production::Conversion => self.go(self.inside(kept)),
             Production::NestNext => Step::Go {
                 candidate: self.prefix_candidate(symbol, kept),
@@ -374,6 +384,25 @@ impl Linked {
                     bytes: self.text_in(symbol, first),
                 },
             )),
+            Production::SourceBase => self.named(self.extended(
+                symbol,
+                kept.prefix(),
+                Piece::Source {
+                    internal: false,
+                    bytes: self.text_in(symbol, first),
+                },
+            )),
+            Production::Inheriting => self.go(self.inside(kept)),
+            Production::NestedBase => self.go(self.behind_name(
+                kept,
+                self.node(symbol, first),
+                false,
+            )),
+            Production::BaseInStd => self.go(self.behind_name(
+                kept,
+                self.node(symbol, first),
+                false,
+            )),
             Production::LocalTypeName => self.named(self.extended(
                 symbol,
                 kept.prefix(),
@@ -513,6 +542,7 @@ impl Linked {
                 true,
             )),
             Production::NestStd => { self.std_name(symbol, self.node(symbol, first), second) }
+            Production::SourceBase => { self.std_name(symbol, self.node(symbol, first), second) }
             Production::NestArguments => {
                 let template = self.prefix_node(symbol, kept);
                 let arguments = self.list_in(symbol, first);
@@ -528,6 +558,10 @@ impl Linked {
                 }
             }
             Production::NestInstance => self.named(Node::Instance {
+                template: self.prefix_node(symbol, kept),
+                arguments: self.list_in(symbol, first),
+            }),
+            Production::BaseArguments => self.named(Node::Instance {
                 template: self.prefix_node(symbol, kept),
                 arguments: self.list_in(symbol, first),
             }),

@@ -3,7 +3,7 @@
 use cpp_grammar::production::Production;
 
 /// The productions.
-pub(crate) const PRODUCTIONS: [Production; 145] = [
+pub(crate) const PRODUCTIONS: [Production; 153] = [
     Production::Mark,
     Production::InternalName,
     Production::LocalTypeName,
@@ -45,11 +45,13 @@ pub(crate) const PRODUCTIONS: [Production; 145] = [
     Production::NestNext,
     Production::NestTag,
     Production::NestEnd,
-    Production::Constructor,
+    Production::AnyConstructor,
     Production::Destructor,
     Production::ComponentWithC,
     Production::OtherOperatorName,
     Production::Holder,
+    Production::Inheriting,
+    Production::Constructor,
     Production::Abbreviation,
     Production::Substitution,
     Production::NestedType,
@@ -128,6 +130,12 @@ pub(crate) const PRODUCTIONS: [Production; 145] = [
     Production::NestInstance,
     Production::Conversion,
     Production::OperatorNameWithC,
+    Production::OwnArguments,
+    Production::NestedBase,
+    Production::BaseWithS,
+    Production::SourceBase,
+    Production::BaseInStd,
+    Production::BaseArguments,
     Production::Clone,
     Production::TaggedStdType,
     Production::TypeTag,
@@ -152,7 +160,7 @@ pub(crate) const PRODUCTIONS: [Production; 145] = [
 ];
 
 /// How many parts each has.
-pub(crate) const PART_COUNTS: [u8; 145] = [
+pub(crate) const PART_COUNTS: [u8; 153] = [
     0, // Mark
     2, // InternalName
     2, // LocalTypeName
@@ -194,11 +202,13 @@ pub(crate) const PART_COUNTS: [u8; 145] = [
     2, // NestNext
     2, // NestTag
     0, // NestEnd
-    2, // Constructor
+    1, // AnyConstructor
     2, // Destructor
     1, // ComponentWithC
     2, // OtherOperatorName
     2, // Holder
+    2, // Inheriting
+    2, // Constructor
     0, // Abbreviation
     1, // Substitution
     1, // NestedType
@@ -277,6 +287,12 @@ pub(crate) const PART_COUNTS: [u8; 145] = [
     3, // NestInstance
     1, // Conversion
     2, // OperatorNameWithC
+    2, // OwnArguments
+    2, // NestedBase
+    1, // BaseWithS
+    3, // SourceBase
+    2, // BaseInStd
+    3, // BaseArguments
     2, // Clone
     2, // TaggedStdType
     2, // TypeTag
@@ -301,7 +317,7 @@ pub(crate) const PART_COUNTS: [u8; 145] = [
 ];
 
 /// Whether parts without a row may be between those of each.
-pub(crate) const SKIPS_PARTS: [bool; 145] = [
+pub(crate) const SKIPS_PARTS: [bool; 153] = [
     false, // Mark
     false, // InternalName
     false, // LocalTypeName
@@ -343,11 +359,13 @@ pub(crate) const SKIPS_PARTS: [bool; 145] = [
     false, // NestNext
     false, // NestTag
     false, // NestEnd
-    false, // Constructor
+    false, // AnyConstructor
     false, // Destructor
     false, // ComponentWithC
     false, // OtherOperatorName
     false, // Holder
+    false, // Inheriting
+    false, // Constructor
     false, // Abbreviation
     false, // Substitution
     false, // NestedType
@@ -426,6 +444,12 @@ pub(crate) const SKIPS_PARTS: [bool; 145] = [
     true, // NestInstance
     false, // Conversion
     false, // OperatorNameWithC
+    false, // OwnArguments
+    false, // NestedBase
+    false, // BaseWithS
+    true, // SourceBase
+    false, // BaseInStd
+    true, // BaseArguments
     false, // Clone
     false, // TaggedStdType
     false, // TypeTag
@@ -450,7 +474,7 @@ pub(crate) const SKIPS_PARTS: [bool; 145] = [
 ];
 
 /// Before how many of its parts nothing is done in each: before none, the first, or all, which are five at most.
-pub(crate) const QUIET_PARTS: [u8; 145] = [
+pub(crate) const QUIET_PARTS: [u8; 153] = [
     5, // Mark
     1, // InternalName
     1, // LocalTypeName
@@ -492,11 +516,13 @@ pub(crate) const QUIET_PARTS: [u8; 145] = [
     0, // NestNext
     1, // NestTag
     5, // NestEnd
-    1, // Constructor
+    5, // AnyConstructor
     1, // Destructor
     5, // ComponentWithC
     1, // OtherOperatorName
     1, // Holder
+    1, // Inheriting
+    1, // Constructor
     5, // Abbreviation
     5, // Substitution
     5, // NestedType
@@ -575,6 +601,12 @@ pub(crate) const QUIET_PARTS: [u8; 145] = [
     0, // NestInstance
     0, // Conversion
     1, // OperatorNameWithC
+    0, // OwnArguments
+    1, // NestedBase
+    5, // BaseWithS
+    1, // SourceBase
+    1, // BaseInStd
+    0, // BaseArguments
     5, // Clone
     1, // TaggedStdType
     1, // TypeTag

@@ -17,6 +17,7 @@ open-erased (holder name) = open-erased name
 open-erased (tagged of_structor name tag) = open-erased name
 open-erased (of_default digits entity) = open-erased entity
 open-erased (parameter k argument) = refl
+open-erased (inheriting digit base) = open-erased base
 open-erased (lambda parameters number) = open-erased parameters
 open-erased (conversion t) = open-erased t
 open-erased (constrained letter concept) = open-erased concept

@@ -40,6 +40,7 @@ IsNeverReferred own (local e entity discriminator) = IsTemplateOf own entity ⊎
 IsNeverReferred own (holder name) = IsNeverReferred own name
 IsNeverReferred own (tagged of_structor name tag) = IsNeverReferred own name
 IsNeverReferred own (of_default digits entity) = IsNeverReferred own entity
+IsNeverReferred own (inheriting digit base) = IsNeverReferred own base
 IsNeverReferred own (lambda parameters k) = IsNeverReferred own parameters
 IsNeverReferred own (generic_lambda parameters number) = IsNeverReferred own parameters
 IsNeverReferred own (conversion type) = IsNeverReferred own type

@@ -60,6 +60,7 @@ same_tree (operator a0 a1) (operator b0 b1) = nat_eq a0 b0 && nat_eq a1 b1
 same_tree (literal_operator a0) (literal_operator b0) = same_bytes a0 b0
 same_tree (constructor a0) (constructor b0) = nat_eq a0 b0
 same_tree (destructor a0) (destructor b0) = nat_eq a0 b0
+same_tree (inheriting a0 a1) (inheriting b0 b1) = nat_eq a0 b0 && same_tree a1 b1
 same_tree (lambda a0 a1) (lambda b0 b1) = same_tree a0 b0 && nat_eq a1 b1
 same_tree (generic_lambda a0 a1) (generic_lambda b0 b1) = same_tree a0 b0 && nat_eq a1 b1
 same_tree (unnamed a0) (unnamed b0) = nat_eq a0 b0

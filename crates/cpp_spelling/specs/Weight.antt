@@ -20,6 +20,7 @@ weight (local e entity discriminator) = 12 + weight e + weight entity
 weight (holder name) = 12 + weight name
 weight (tagged of_structor name tag) = 12 + weight name
 weight (of_default digits entity) = 12 + weight entity
+weight (inheriting digit base) = 12 + weight base
 weight (lambda parameters k) = 12 + weight parameters
 weight (generic_lambda parameters number) = 12 + weight parameters
 weight (conversion type) = 12 + weight type

@@ -43,6 +43,7 @@ erased s (local encoding entity discriminator) = both (λ a b. local a b discrim
 erased s (holder name) = ap (λ a. holder a) (erased s name)
 erased s (tagged of_structor name tag) = ap (λ a. tagged of_structor a tag) (erased s name)
 erased s (of_default digits entity) = ap (λ a. of_default digits a) (erased s entity)
+erased s (inheriting digit base) = ap (λ a. inheriting digit a) (erased s base)
 erased s (lambda parameters number) = ap (λ a. lambda a number) (erased s parameters)
 erased s (generic_lambda parameters number) = ap (λ a. generic_lambda a number) (erased in_own parameters)
 erased s (conversion t) = ap (λ a. conversion a) (erased s t)

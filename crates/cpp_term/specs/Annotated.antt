@@ -54,6 +54,7 @@ annotate s (operator a b) = term_.operator a b
 annotate s (literal_operator bytes) = term_.literal_operator bytes
 annotate s (constructor digit) = term_.constructor digit
 annotate s (destructor digit) = term_.destructor digit
+annotate s (inheriting digit base) = term_.inheriting digit (annotate s base)
 annotate s (lambda parameters number) = term_.lambda (annotate s parameters) number
 annotate s (generic_lambda parameters number) = term_.generic_lambda (annotate in_own parameters) number
 annotate s (unnamed number) = term_.unnamed number

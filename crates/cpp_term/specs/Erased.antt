@@ -29,6 +29,7 @@ erase (operator a b) = term_.operator a b
 erase (literal_operator bytes) = term_.literal_operator bytes
 erase (constructor digit) = term_.constructor digit
 erase (destructor digit) = term_.destructor digit
+erase (inheriting digit base) = term_.inheriting digit (erase base)
 erase (lambda parameters number) = term_.lambda (erase parameters) number
 erase (generic_lambda parameters number) = term_.generic_lambda (erase parameters) number
 erase (unnamed number) = term_.unnamed number

@@ -30,6 +30,7 @@ weight (holder name) = 1 + weight name
 weight (tagged of_structor name tag) = 1 + weight name
 weight (of_default digits entity) = 1 + weight entity
 weight (parameter k argument) = 2 + weight argument
+weight (inheriting digit base) = 1 + weight base
 weight (lambda parameters number) = 1 + weight parameters
 weight (generic_lambda parameters number) = 1 + weight parameters
 weight (conversion t) = 1 + weight t

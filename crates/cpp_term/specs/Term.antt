@@ -36,6 +36,8 @@ pub data Term : Type 0 where
   literal_operator : (bytes : List ℕ) → Term
   constructor : (digit : ℕ) → Term
   destructor : (digit : ℕ) → Term
+  -- a constructor that is inherited from a base class
+  inheriting : (digit : ℕ) → (base : Term) → Term
   lambda : (parameters : Term) → (number : ℕ) → Term
   -- one whose signature names parameters of its own
   generic_lambda : (parameters : Term) → (number : ℕ) → Term

@@ -54,6 +54,8 @@ pub data Value : Type 0 where
   piece : Term → Value
   -- the name of an encoding, with the qualifiers that belong to the encoding
   named : Term → Qualifiers → RefQualifier → Value
+  -- a letter and two trees, of which the second may be absent: a base class, with the arguments of the constructor that is inherited from it
+  pair : (letter : ℕ) → (left right : Term) → Value
   -- the parameters of a function type, and its mark
   signature : Term → RefQualifier → Value
 

@@ -34,6 +34,7 @@ open-free (local encoding entity discriminator) = open-free entity
 open-free (holder name) = open-free name
 open-free (tagged of_structor name tag) = open-free name
 open-free (of_default digits entity) = open-free entity
+open-free (inheriting digit base) = open-free base
 open-free (lambda parameters number) = open-free parameters
 open-free (conversion t) = open-free t
 open-free (constrained letter concept) = open-free concept

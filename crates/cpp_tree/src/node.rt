@@ -109,6 +109,8 @@ pub enum Piece {
     LiteralOperator(Span),
     Constructor(u8),
     Destructor(u8),
+    /// A constructor that is inherited from a base class.
+    Inheriting { digit: u8, base: u32 },
     Lambda { parameters: u32, number: u64 },
     /// A lambda whose signature names parameters of its own.
     GenericLambda { parameters: u32, number: u64 },
@@ -306,6 +308,10 @@ impl Node {
             } => true,
             Node::Within {
                 piece: Piece::Destructor(_),
+                ..
+            } => true,
+            Node::Within {
+                piece: Piece::Inheriting { .. },
                 ..
             } => true,
             Node::Tagged { of_structor, .. } => of_structor,

@@ -474,6 +474,7 @@ impl Nodes {
     {
         match piece {
             Piece::Lambda { parameters, .. } => self.noted_type(node, parameters, Words::Plain),
+            Piece::Inheriting { base, .. } => self.noted_type(node, base, Words::Plain),
             Piece::Conversion(ty) => self.noted_type(node, ty, Words::Plain),
             _ => bare(node, false),
         }
@@ -491,6 +492,7 @@ impl Nodes {
             Piece::Lambda { parameters, .. } => {
                 self.noted_types(node, prefix, parameters, Words::Plain)
             }
+            Piece::Inheriting { base, .. } => self.noted_types(node, prefix, base, Words::Plain),
             Piece::Conversion(ty) => self.noted_types(node, prefix, ty, Words::Plain),
             _ => self.noted_type(node, prefix, Words::Plain),
         }

@@ -51,6 +51,7 @@ inside-shut (local e entity discriminator) x closed (inr i) = inside-shut entity
 inside-shut (holder name) x closed i = prefix-shut name x (Inside name x) closed (inside-shut name x closed) i
 inside-shut (tagged of_structor name tag) x closed i = itself-shut name x (Inside name x) closed (inside-shut name x closed) i
 inside-shut (of_default digits entity) x closed i = inside-shut entity x closed i
+inside-shut (inheriting digit base) x closed i = itself-shut base x (Inside base x) closed (inside-shut base x closed) i
 inside-shut (lambda parameters k) x closed i = inside-shut parameters x closed i
 inside-shut (conversion type) x closed i = itself-shut type x (Inside type x) closed (inside-shut type x closed) i
 inside-shut (constrained letter concept) x closed i = itself-shut concept x (Inside concept x) closed (inside-shut concept x closed) i

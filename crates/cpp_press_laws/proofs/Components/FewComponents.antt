@@ -695,6 +695,7 @@ counts (operator a b) = few-operator a b
 counts (literal_operator name) = few-literal-operator name
 counts (constructor digit) = few-constructor digit
 counts (destructor digit) = few-destructor digit
+counts (inheriting digit base) = few-nowhere (inheriting digit base) _
 counts (lambda parameters k) = few-lambda parameters k (counts parameters)
 counts (generic_lambda parameters number) = few-nowhere (generic_lambda parameters number) _
 counts (unnamed k) = few-unnamed k

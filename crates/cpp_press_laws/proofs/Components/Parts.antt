@@ -75,6 +75,7 @@ Inside (local e entity discriminator) x = Shut (Inside e x) x ⊎ Inside entity 
 Inside (holder name) x = PrefixOr name (Inside name x) x
 Inside (tagged of_structor name tag) x = ItselfOr name (Inside name x) x
 Inside (of_default digits entity) x = Inside entity x
+Inside (inheriting digit base) x = ItselfOr base (Inside base x) x
 Inside (lambda parameters k) x = Inside parameters x
 Inside (generic_lambda parameters number) x = Shut (Inside parameters x) x
 Inside (conversion type) x = ItselfOr type (Inside type x) x

@@ -66,6 +66,7 @@ reads c (operator a b) = reads-operator a b
 reads c (literal_operator name) = reads-literal-operator name
 reads c (constructor digit) = reads-constructor digit
 reads c (destructor digit) = reads-destructor digit
+reads c (inheriting digit base) = reads-nowhere (inheriting digit base) _
 reads c (lambda parameters k) = reads-lambda parameters k (reads c parameters)
 reads c (generic_lambda parameters number) = reads-nowhere (generic_lambda parameters number) _
 reads c (unnamed k) = reads-unnamed k

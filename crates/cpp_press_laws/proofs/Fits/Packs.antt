@@ -42,6 +42,7 @@ closed-packs scope (holder name) closed = closed-packs scope name closed
 closed-packs scope (tagged of_structor name tag) closed = closed-packs scope name closed
 closed-packs scope (of_default digits entity) closed = closed-packs scope entity closed
 closed-packs scope (parameter k) closed = absurd (true≢false closed)
+closed-packs scope (inheriting digit base) closed = closed-packs scope base closed
 closed-packs scope (lambda parameters k) closed = closed-packs scope parameters closed
 closed-packs scope (conversion type) closed = closed-packs scope type closed
 closed-packs scope (constrained letter concept) closed = closed-packs scope concept closed
