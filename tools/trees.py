@@ -467,7 +467,7 @@ def first_of(parts): return parts[0] if len(parts) == 1 else applied("first_of",
 
 # nodes of which something is noted, by their arguments: numbers of nodes are i and j here
 NOTED = ["nil", "alone", "in_std", "within", "instance", "local", "holder", "tagged", "of_default", "parameter", "constrained", "pointer", "lvalue", "rvalue", "array", "bounded", "member_pointer", "function_type", "qualified",
-         "vector", "complex", "expansion", "integer", "pack", "list", "again"]
+         "vector", "complex", "decltype", "expansion", "integer", "operation", "pack", "list", "again"]
 SORTS = {PIECE: ("p", "Piece"), BYTES: ("d", "Span"), NUMBER: ("k", "ℕ"), MARK: ("m", "Mark"), QUALIFIERS: ("q", "Qualifiers"), SIGNED: ("v", "Signed"), DISCRIMINATOR: ("d", "Option Span")}
 def noted_nodes():
     """each with its name, and its arguments with their types"""
@@ -605,7 +605,7 @@ def declarations():
     yield "cpp_press_laws/proofs/Components/Growing.antt", "size", fold("size", [], lambda parts: f"suc ({' + '.join(parts)})", "1", trees=named(PRESSED))
     yield "cpp_press_laws/specs/Apart.antt", "IsNeverReferred", never_referred()
     yield "cpp_spelling/specs/Weight.antt", "weight", fold("weight", [], summed("12"), "12", trees=named(PRESSED))
-    nowhere = {"symbol": None, "construction": None, "clone": None, "holder": None, "sized_float": None, "constrained": None, "generic_lambda": None, "bounded": None, "of_default": None, "conversion": None, "inheriting": None, "absent": None, ("order", "function"): ["name", "returned", "parameters", "q", "ref"]}
+    nowhere = {"symbol": None, "construction": None, "clone": None, "holder": None, "sized_float": None, "constrained": None, "generic_lambda": None, "bounded": None, "of_default": None, "conversion": None, "inheriting": None, "decltype": None, "operation": None, "function_parameter": None, "absent": None, ("order", "function"): ["name", "returned", "parameters", "q", "ref"]}
     yield "cpp_press_laws/proofs/Components/FewComponents.antt", "counts", by_each("counts", "few", [], nowhere, {"local": "local-name", "address_of": "address"})
     yield "cpp_press_laws/proofs/EveryWay/Law.antt", "reads", by_each("reads", "reads", ["c"], {**nowhere, ("before", "function"): ["c"]}, {"address_of": "address"})
     yield "cpp_press_laws/proofs/Fits/Packs.antt", "closed-packs", closed_packs()

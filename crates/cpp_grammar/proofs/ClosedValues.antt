@@ -228,12 +228,14 @@ built_good s new_function_type xs all = record { closed = λ h. or_no _ _ ((all 
 built_good s new_qualified xs all = record { closed = (all 1).closed; scopes = (all 1).scopes }
 built_good s new_vector xs all = record { closed = (all 1).closed; scopes = (all 1).scopes }
 built_good s new_complex xs all = record { closed = (all 0).closed; scopes = (all 0).scopes }
+built_good s new_decltype xs all = record { closed = (all 0).closed; scopes = (all 0).scopes }
 built_good s new_expansion xs all = record { closed = (all 0).closed; scopes = (all 0).scopes }
 built_good s new_integer xs all = record { closed = (all 0).closed; scopes = (all 0).scopes }
 built_good s new_boolean xs all = record { closed = λ h. refl; scopes = tt }
 built_good s new_null_pointer xs all = record { closed = λ h. refl; scopes = tt }
 built_good s new_encoding_literal xs all = record { closed = λ h. refl; scopes = (all 0).scopes }
-built_good s new_address_of xs all = record { closed = λ h. refl; scopes = (all 0).scopes }
+built_good s new_operation xs all = record { closed = λ h. or_no _ _ ((all 2).closed h) ((all 3).closed h); scopes = ((all 2).scopes, (all 3).scopes) }
+built_good s new_function_parameter xs all = record { closed = λ h. refl; scopes = tt }
 built_good s new_pack xs all = record { closed = (all 0).closed; scopes = (all 0).scopes }
 
 given_good : (s : Type 0) (byte : ℕ) (around : Around) (vs : List Value) (source : Source) → GoodPrefix s around.prefix → AllGood s vs → Good s (tree_in (given byte around vs source))

@@ -163,12 +163,14 @@ built_none new_function_type xs all = or_no _ _ (all 3) (all 4)
 built_none new_qualified xs all = all 1
 built_none new_vector xs all = all 1
 built_none new_complex xs all = all 0
+built_none new_decltype xs all = all 0
 built_none new_expansion xs all = all 0
 built_none new_integer xs all = all 0
 built_none new_boolean xs all = refl
 built_none new_null_pointer xs all = refl
 built_none new_encoding_literal xs all = refl
-built_none new_address_of xs all = refl
+built_none new_operation xs all = or_no _ _ (all 2) (all 3)
+built_none new_function_parameter xs all = refl
 built_none new_pack xs all = all 0
 
 given_none : (byte : ℕ) (around : Around) (vs : List Value) (s : Source) → PrefixHasNone around.prefix → AllNone vs → HasNone (tree_in (given byte around vs s))

@@ -77,8 +77,10 @@ weight_grows a b scope (function_type c_linkage noexcept ref returned parameters
 weight_grows a b scope (qualified q t) h = omega (arith, weight_grows a b scope t h)
 weight_grows a b scope (vector digits t) h = omega (arith, weight_grows a b scope t h)
 weight_grows a b scope (complex t) h = omega (arith, weight_grows a b scope t h)
+weight_grows a b scope (decltype e) h = omega (arith, weight_grows a b scope e h)
 weight_grows a b scope (expansion pattern) h = omega (arith, weight_grows a b scope pattern h)
 weight_grows a b scope (integer t n) h = omega (arith, weight_grows a b scope t h)
+weight_grows a b scope (operation first second left right) h = omega (arith, weight_grows a b scope left h, weight_grows a b scope right h)
 weight_grows a b scope (pack elements) h = omega (arith, weight_grows a b scope elements h)
 weight_grows a b scope (list e rest) h = omega (arith, weight_grows a b scope e h, weight_grows a b scope rest h)
 weight_grows a b scope _ h = omega arith

@@ -11,6 +11,7 @@ pub data Source : Type 0 where
   parameters_at : ℕ → Source
   piece_at : ℕ → Source
   the_name : Source
+  no_tree : Source
   text_at : ℕ → Source
   -- a text of digits without zeros in front
   digits_at : ℕ → Source
@@ -19,6 +20,8 @@ pub data Source : Type 0 where
   taken : Source
   fixed : ℕ → Source
   letter_at : ℕ → Source
+  -- the letter of a part, or the byte that is taken, where the part has none
+  letter_or_taken : ℕ → Source
   -- the number of a lambda or an unnamed type
   number_at : ℕ → Source
   yes : Source
@@ -67,6 +70,9 @@ pub data Own : Type 0 where
   nest_end : Own
   closure : Own
   inheriting : Own
+  by_letters : Own
+  enclosed : Own
+  elements : Own
   substitution : Own
   first_of_operator : Own
   reference : Own
@@ -96,7 +102,7 @@ pub data Form : Type 0 where
   makes : Made → Listing → Form
   a_piece : Made → Form
   -- a letter and two trees
-  a_pair : (letter left right : Source) → Form
+  a_pair : (letter : Source) → (left right : Made) → Form
   cell : (first rest : ℕ) → Form
   item : (first rest : ℕ) → Form
   -- the first part with the arguments that the second is, if it is there; one that was tagged is in the place of another name
@@ -180,6 +186,7 @@ most_before _ = 0
 
 unfoldable pub most_at_end : Form → ℕ
 most_at_end (makes m listing) = most_made m
+most_at_end (a_pair letter left right) = most_made left + most_made right
 most_at_end (cell first rest) = 1
 most_at_end (item first rest) = 1
 most_at_end (a_name listing) = 1

@@ -105,107 +105,171 @@ const ARGUMENT_LIST: Sym = Sym::Kind(46);
 
 const PACK_LIST: Sym = Sym::Kind(47);
 
-const ADDRESS: Sym = Sym::Kind(48);
+const LITERAL: Sym = Sym::Kind(48);
 
-const LITERAL: Sym = Sym::Kind(49);
+const BIT: Sym = Sym::Kind(49);
 
-const BIT: Sym = Sym::Kind(50);
+const LITERAL_AFTER_D: Sym = Sym::Kind(50);
 
-const LITERAL_AFTER_D: Sym = Sym::Kind(51);
+const MAYBE_ZERO: Sym = Sym::Kind(51);
 
-const MAYBE_ZERO: Sym = Sym::Kind(52);
+const LITERAL_TYPE: Sym = Sym::Kind(52);
 
-const LITERAL_TYPE: Sym = Sym::Kind(53);
+const OPERATOR: Sym = Sym::Kind(53);
 
-const OPERATOR: Sym = Sym::Kind(54);
+const OPERATOR_AFTER_N: Sym = Sym::Kind(54);
 
-const OPERATOR_AFTER_N: Sym = Sym::Kind(55);
+const OPERATOR_AFTER_D: Sym = Sym::Kind(55);
 
-const OPERATOR_AFTER_D: Sym = Sym::Kind(56);
+const OPERATOR_AFTER_A: Sym = Sym::Kind(56);
 
-const OPERATOR_AFTER_A: Sym = Sym::Kind(57);
+const OPERATOR_AFTER_P: Sym = Sym::Kind(57);
 
-const OPERATOR_AFTER_P: Sym = Sym::Kind(58);
+const OPERATOR_AFTER_C: Sym = Sym::Kind(58);
 
-const OPERATOR_AFTER_C: Sym = Sym::Kind(59);
+const OPERATOR_AFTER_M: Sym = Sym::Kind(59);
 
-const OPERATOR_AFTER_M: Sym = Sym::Kind(60);
+const OPERATOR_AFTER_R: Sym = Sym::Kind(60);
 
-const OPERATOR_AFTER_R: Sym = Sym::Kind(61);
+const OPERATOR_AFTER_O: Sym = Sym::Kind(61);
 
-const OPERATOR_AFTER_O: Sym = Sym::Kind(62);
+const OPERATOR_AFTER_E: Sym = Sym::Kind(62);
 
-const OPERATOR_AFTER_E: Sym = Sym::Kind(63);
+const OPERATOR_AFTER_L: Sym = Sym::Kind(63);
 
-const OPERATOR_AFTER_L: Sym = Sym::Kind(64);
+const OPERATOR_AFTER_S: Sym = Sym::Kind(64);
 
-const OPERATOR_AFTER_S: Sym = Sym::Kind(65);
+const OPERATOR_AFTER_I: Sym = Sym::Kind(65);
 
-const OPERATOR_AFTER_I: Sym = Sym::Kind(66);
+const OPERATOR_AFTER_G: Sym = Sym::Kind(66);
 
-const OPERATOR_AFTER_G: Sym = Sym::Kind(67);
+const NEST_REST_OR_END: Sym = Sym::Kind(67);
 
-const NEST_REST_OR_END: Sym = Sym::Kind(68);
+const ARGUMENTS_ALONE: Sym = Sym::Kind(68);
 
-const ARGUMENTS_ALONE: Sym = Sym::Kind(69);
+const NEST_REST_ALONE: Sym = Sym::Kind(69);
 
-const NEST_REST_ALONE: Sym = Sym::Kind(70);
+const HOLDER_MARK: Sym = Sym::Kind(70);
 
-const HOLDER_MARK: Sym = Sym::Kind(71);
+const HELD_COMPONENT: Sym = Sym::Kind(71);
 
-const HELD_COMPONENT: Sym = Sym::Kind(72);
+const FLOAT_END: Sym = Sym::Kind(72);
 
-const FLOAT_END: Sym = Sym::Kind(73);
+const COMPONENT_AFTER_C: Sym = Sym::Kind(73);
 
-const COMPONENT_AFTER_C: Sym = Sym::Kind(74);
+const OTHER_OPERATOR: Sym = Sym::Kind(74);
 
-const OTHER_OPERATOR: Sym = Sym::Kind(75);
+const BASE_CLASS: Sym = Sym::Kind(75);
 
-const BASE_CLASS: Sym = Sym::Kind(76);
+const BASE_AFTER_S: Sym = Sym::Kind(76);
 
-const BASE_AFTER_S: Sym = Sym::Kind(77);
+const BASE_ARGUMENTS: Sym = Sym::Kind(77);
 
-const BASE_ARGUMENTS: Sym = Sym::Kind(78);
+const OWN_ARGUMENTS: Sym = Sym::Kind(78);
 
-const OWN_ARGUMENTS: Sym = Sym::Kind(79);
+const ARGUMENTS_FIRST: Sym = Sym::Kind(79);
 
-const ARGUMENTS_FIRST: Sym = Sym::Kind(80);
+const PLAIN_ENTITY: Sym = Sym::Kind(80);
 
-const PLAIN_ENTITY: Sym = Sym::Kind(81);
+const PLAIN_TYPE_ENTITY: Sym = Sym::Kind(81);
 
-const PLAIN_TYPE_ENTITY: Sym = Sym::Kind(82);
+const SPECIAL_MARK: Sym = Sym::Kind(82);
 
-const SPECIAL_MARK: Sym = Sym::Kind(83);
+const SPECIAL_AFTER_G: Sym = Sym::Kind(83);
 
-const SPECIAL_AFTER_G: Sym = Sym::Kind(84);
+const CLONE_LETTER: Sym = Sym::Kind(84);
 
-const CLONE_LETTER: Sym = Sym::Kind(85);
+const TYPE_IN_STD: Sym = Sym::Kind(85);
 
-const TYPE_IN_STD: Sym = Sym::Kind(86);
+const MAYBE_TAGS: Sym = Sym::Kind(86);
 
-const MAYBE_TAGS: Sym = Sym::Kind(87);
+const ARGUMENT: Sym = Sym::Kind(87);
 
-const ARGUMENT: Sym = Sym::Kind(88);
+const ARGUMENT_AFTER_T: Sym = Sym::Kind(88);
 
-const ARGUMENT_AFTER_T: Sym = Sym::Kind(89);
+const ONE_ARGUMENT: Sym = Sym::Kind(89);
 
-const ONE_ARGUMENT: Sym = Sym::Kind(90);
+const DECLARATION_AFTER_T: Sym = Sym::Kind(90);
 
-const DECLARATION_AFTER_T: Sym = Sym::Kind(91);
+const DECLARATIONS: Sym = Sym::Kind(91);
 
-const DECLARATIONS: Sym = Sym::Kind(92);
+const CONCEPT: Sym = Sym::Kind(92);
 
-const CONCEPT: Sym = Sym::Kind(93);
+const SOLID_BUT_T: Sym = Sym::Kind(93);
 
-const SOLID_BUT_T: Sym = Sym::Kind(94);
+const EXPRESSION: Sym = Sym::Kind(94);
 
-const EXPRESSION_REST: Sym = Sym::Kind(95);
+const ADDRESSED_EXPRESSION: Sym = Sym::Kind(95);
 
-const ANY_ARRAY: Sym = Sym::Kind(96);
+const ADDRESSED_LITERAL: Sym = Sym::Kind(96);
 
-const ARRAY_REST: Sym = Sym::Kind(97);
+const EXPRESSION_AFTER_A: Sym = Sym::Kind(97);
 
-const NEST_MORE_OR_END: Sym = Sym::Kind(98);
+const EXPRESSION_AFTER_C: Sym = Sym::Kind(98);
+
+const EXPRESSION_AFTER_D: Sym = Sym::Kind(99);
+
+const EXPRESSION_AFTER_E: Sym = Sym::Kind(100);
+
+const EXPRESSION_AFTER_F: Sym = Sym::Kind(101);
+
+const EXPRESSION_AFTER_G: Sym = Sym::Kind(102);
+
+const EXPRESSION_AFTER_I: Sym = Sym::Kind(103);
+
+const EXPRESSION_AFTER_L: Sym = Sym::Kind(104);
+
+const EXPRESSION_AFTER_M: Sym = Sym::Kind(105);
+
+const EXPRESSION_AFTER_N: Sym = Sym::Kind(106);
+
+const EXPRESSION_AFTER_O: Sym = Sym::Kind(107);
+
+const EXPRESSION_AFTER_P: Sym = Sym::Kind(108);
+
+const EXPRESSION_AFTER_Q: Sym = Sym::Kind(109);
+
+const EXPRESSION_AFTER_R: Sym = Sym::Kind(110);
+
+const EXPRESSION_AFTER_S: Sym = Sym::Kind(111);
+
+const EXPRESSION_AFTER_T: Sym = Sym::Kind(112);
+
+const EXPRESSIONS: Sym = Sym::Kind(113);
+
+const MAYBE_BEFORE: Sym = Sym::Kind(114);
+
+const OUTER_REST: Sym = Sym::Kind(115);
+
+const PARAMETER_NUMBER: Sym = Sym::Kind(116);
+
+const CONVERTED_TYPE: Sym = Sym::Kind(117);
+
+const CONVERTED_SOLID: Sym = Sym::Kind(118);
+
+const DECLTYPE_AFTER_D: Sym = Sym::Kind(119);
+
+const CONVERT_REST: Sym = Sym::Kind(120);
+
+const UNRESOLVED: Sym = Sym::Kind(121);
+
+const UNRESOLVED_TYPE: Sym = Sym::Kind(122);
+
+const LEVEL: Sym = Sym::Kind(123);
+
+const MORE_LEVELS: Sym = Sym::Kind(124);
+
+const UNRESOLVED_NAME: Sym = Sym::Kind(125);
+
+const OPERATOR_NAME: Sym = Sym::Kind(126);
+
+const ANY_ARRAY: Sym = Sym::Kind(127);
+
+const ARRAY_REST: Sym = Sym::Kind(128);
+
+const BOUND: Sym = Sym::Kind(129);
+
+const NEST_MORE_OR_END: Sym = Sym::Kind(130);
 
 const NAME: Sym = Sym::Name;
 
@@ -219,7 +283,7 @@ const DIGITS: Sym = Sym::Number(NumberKind::Digits);
 pub const FIRST_LETTER: u8 = b'!';
 
 // For each kind a row: for each byte from `$` to `z` the letter of the production that the kind takes there.
-static LETTERS: [[u8; 87]; 99] = [
+static LETTERS: [[u8; 87]; 131] = [
     // $%&'()*+,-./0123456789:;<=>?@ABCDEFGHIJKLMNOPQRSTUVWXYZ[\]^_`abcdefghijklmnopqrstuvwxyz
     *b"                                                           *                           ", // Symbol
     *b"          +                                                                            ", // MaybeSuffix
@@ -257,24 +321,23 @@ static LETTERS: [[u8; 87]; 99] = [
     *b"            ``````````       ` `d `    ^ `` `  ```]   `      `````````` ````  \\````````", // ItemButRef
     *b"                                                             f f     f    ffe  f ff    ", // ItemAfterD
     *b"                                                             g g     g    gi   g gh    ", // AfterD
-    *b"            $$$$$$$$$$       s u  t      mS l  on#    p      qqqqqqqqqq qqqq   qqrqqqqq", // Solid
+    *b"            $$$$$$$$$$       t v  u      nS m  po#    q      rrrrrrrrrr rrrr   rrsrrrrr", // Solid
     *b"                                                     !                                 ", // MaybeCLinkage
-    *b"            wwwwwwwwww       wwwwwwwwwwwwwwwwwwwwwwwwww    w ww w    w     w   wv      ", // TypeAfterS
+    *b"            xxxxxxxxxx       xxxxxxxxxxxxxxxxxxxxxxxxxx    x xx x    x     x   xw      ", // TypeAfterS
     *b"            ((((((((((                  &        '                                     ", // SourceOrLocal
-    *b"            {{{{{{{{{{       { {{x{    { {{z{ y{{{{   {      {{{{{{{{{{ {{{{  {{{{{{{{{", // FunctionRest
-    *b"            }}}}}}}}}}       } }}|}    } }}}} }}}}}   }      }}}}}}}}}} }}}}  }}}}}}}}}", // AfterR
-    *b"            ~~~~~~~~~~       ~ ~~|~    ~ ~~~~ ~~~~~   ~      ~~~~~~~~~~ ~~~~  ~~~~~~~~~", // AfterO
-    *b"            \x7f\x7f\x7f\x7f\x7f\x7f\x7f\x7f\x7f\x7f       \x7f \x7f\x7f \x7f    \x7f \x7f\x7f\x7f\x7f \x7f\x7f\x7f\x7f\x7f   \x7f      \x7f\x7f\x7f\x7f\x7f\x7f\x7f\x7f\x7f\x7f \x7f\x7f\x7f\x7f  \x7f\x7f\x7f\x7f\x7f\x7f\x7f\x7f\x7f", // Items
-    *b"                                     \x80                                                 ", // MaybeArguments
-    *b"                                     \x80                                                 ", // Arguments
-    *b"            \x84\x84\x84\x84\x84\x84\x84\x84\x84\x84       \x84 \x84\x84 \x84   \x82\x84\x83\x84\x84\x84\x84 \x84\x84\x84\x84\x84 \x84 \x84      \x84\x84\x84\x84\x84\x84\x84\x84\x84\x84 \x84\x84\x84\x84  \x84\x84\x84\x84\x84\x84\x84\x84\x84", // ArgumentList
-    *b"            \x86\x86\x86\x86\x86\x86\x86\x86\x86\x86       \x86 \x86\x86 \x86    \x86\x85\x86\x86\x86\x86 \x86\x86\x86\x86\x86 \x86 \x86      \x86\x86\x86\x86\x86\x86\x86\x86\x86\x86 \x86\x86\x86\x86  \x86\x86\x86\x86\x86\x86\x86\x86\x86", // PackList
-    *b"                                        \x87                                              ", // Address
+    *b"            ||||||||||       | ||y|    | ||{| z||||   |      |||||||||| ||||  |||||||||", // FunctionRest
+    *b"            ~~~~~~~~~~       ~ ~~}~    ~ ~~~~ ~~~~~   ~      ~~~~~~~~~~ ~~~~  ~~~~~~~~~", // AfterR
+    *b"            \x7f\x7f\x7f\x7f\x7f\x7f\x7f\x7f\x7f\x7f       \x7f \x7f\x7f}\x7f    \x7f \x7f\x7f\x7f\x7f \x7f\x7f\x7f\x7f\x7f   \x7f      \x7f\x7f\x7f\x7f\x7f\x7f\x7f\x7f\x7f\x7f \x7f\x7f\x7f\x7f  \x7f\x7f\x7f\x7f\x7f\x7f\x7f\x7f\x7f", // AfterO
+    *b"            \x80\x80\x80\x80\x80\x80\x80\x80\x80\x80       \x80 \x80\x80 \x80    \x80 \x80\x80\x80\x80 \x80\x80\x80\x80\x80   \x80      \x80\x80\x80\x80\x80\x80\x80\x80\x80\x80 \x80\x80\x80\x80  \x80\x80\x80\x80\x80\x80\x80\x80\x80", // Items
+    *b"                                     \x81                                                 ", // MaybeArguments
+    *b"                                     \x81                                                 ", // Arguments
+    *b"            \x85\x85\x85\x85\x85\x85\x85\x85\x85\x85       \x85 \x85\x85 \x85   \x83\x85\x84\x85\x85\x85\x85 \x85\x85\x85\x85\x85 \x85 \x85      \x85\x85\x85\x85\x85\x85\x85\x85\x85\x85 \x85\x85\x85\x85  \x85\x85\x85\x85\x85\x85\x85\x85\x85", // ArgumentList
+    *b"            \x87\x87\x87\x87\x87\x87\x87\x87\x87\x87       \x87 \x87\x87 \x87    \x87\x86\x87\x87\x87\x87 \x87\x87\x87\x87\x87 \x87 \x87      \x87\x87\x87\x87\x87\x87\x87\x87\x87\x87 \x87\x87\x87\x87  \x87\x87\x87\x87\x87\x87\x87\x87\x87", // PackList
     *b"            \x8b\x8b\x8b\x8b\x8b\x8b\x8b\x8b\x8b\x8b          \x8a        \x8b\x8b \x8b  \x8b\x8b\x8b    \x8b    \x88 \x8b\x89\x8b    \x8b\x8b\x8b \x8b\x8b\x8b\x8b   \x8b\x8b  \x8b\x8b\x8b ", // Literal
     *b"            !!                                                                         ", // Bit
     *b"                                                                     \x8d    \x8c    \x8d \x8d     ", // LiteralAfterD
     *b"            !                                                                          ", // MaybeZero
-    *b"            $$$$$$$$$$                   mS l  on#    p      q q    qqq qqqq   qq  qqq ", // LiteralType
+    *b"            $$$$$$$$$$                   nS m  po#    q      r r    rrr rrrr   rr  rrr ", // LiteralType
     *b"                                                             \x90 \x92\x8f\x96 \x9a \x99  \x97\x93\x8e\x95\x91 \x94\x98       ", // Operator
     *b"                                                             !   ! !            !  !   ", // OperatorAfterN
     *b"                                                  !          !   !      !         !    ", // OperatorAfterD
@@ -290,18 +353,18 @@ static LETTERS: [[u8; 87]; 99] = [
     *b"                                                                                    !  ", // OperatorAfterI
     *b"                                                                 !              !      ", // OperatorAfterG
     *b"            GGGGGGGGGG         GG    \x9c  G        G           G GGG G G  GGGGG GG       ", // NestRestOrEnd
-    *b"                                     \x80                                                 ", // ArgumentsAlone
+    *b"                                     \x81                                                 ", // ArgumentsAlone
     *b"            GGGGGGGGGG         GG    F  G        G           G GGG G G  GGGGG GG       ", // NestRestAlone
     *b"                                         !                                             ", // HolderMark
     *b"            $$$$$$$$$$         JK       \"        #           M LMM M M  MMMMM MM       ", // HeldComponent
     *b"                                                           !  !                     !  ", // FloatEnd
     *b"                                                                        \x9e\x9e \x9e           ", // ComponentAfterC
     *b"                                                             \x90  \x8f\x96 \x9a \x99  \x97\x93\x8e\x95\x91 \x94\x98       ", // OtherOperator
-    *b"            \xa2\xa2\xa2\xa2\xa2\xa2\xa2\xa2\xa2\xa2                    \xa0    \xa1      p                                ", // BaseClass
-    *b"            wwwwwwwwww       wwwwwwwwwwwwwwwwwwwwwwwwww    w ww w    w     w   w\xa3      ", // BaseAfterS
+    *b"            \xa2\xa2\xa2\xa2\xa2\xa2\xa2\xa2\xa2\xa2                    \xa0    \xa1      q                                ", // BaseClass
+    *b"            xxxxxxxxxx       xxxxxxxxxxxxxxxxxxxxxxxxxx    x xx x    x     x   x\xa3      ", // BaseAfterS
     *b"                                     \xa4                                                 ", // BaseArguments
     *b"                                     \x9f                                                 ", // OwnArguments
-    *b"            \x84\x84\x84\x84\x84\x84\x84\x84\x84\x84       \x84 \x84\x84 \x84   \x82\x84\x83\x84\x84\x84\x84 \x84\x84\x84\x84\x84 \x84 \x84      \x84\x84\x84\x84\x84\x84\x84\x84\x84\x84 \x84\x84\x84\x84  \x84\x84\x84\x84\x84\x84\x84\x84\x84", // ArgumentsFirst
+    *b"            \x85\x85\x85\x85\x85\x85\x85\x85\x85\x85       \x85 \x85\x85 \x85   \x83\x85\x84\x85\x85\x85\x85 \x85\x85\x85\x85\x85 \x85 \x85      \x85\x85\x85\x85\x85\x85\x85\x85\x85\x85 \x85\x85\x85\x85  \x85\x85\x85\x85\x85\x85\x85\x85\x85", // ArgumentsFirst
     *b"            $$$$$$$$$$                  \" )      #                                     ", // PlainEntity
     *b"            $$$$$$$$$$                  \" S      #                                     ", // PlainTypeEntity
     *b"                                   !                                                   ", // SpecialMark
@@ -314,11 +377,44 @@ static LETTERS: [[u8; 87]; 99] = [
     *b"            \xaa\xaa\xaa\xaa\xaa\xaa\xaa\xaa\xaa\xaa       \xaa \xaad \xaa   \xae^\xad\xaa\xaa_\xaa _\xaa\xa9\xaa] \xa8 \xaa      \xaa\xaa\xaa\xaa\xaa\xaa\xaa\xaa\xaa\xaa \xaa\xaa\xaa\xaa  \\\xaa\xaa\xaa\xaa\xaa\xaa\xaa\xaa", // OneArgument
     *b"                                                                       \xb1  \xb0 \xb3   \xb2    \xaf ", // DeclarationAfterT
     *b"                                                \xb4                                      ", // Declarations
-    *b"            $$$$$$$$$$                    S    o                                       ", // Concept
-    *b"            $$$$$$$$$$       s u  t      mS l  o #    p      qqqqqqqqqq qqqq   qqrqqqqq", // SolidButT
-    *b"                                                             \xb5                         ", // ExpressionRest
-    *b"                             \xb7                                                         ", // AnyArray
-    *b"            \xb9\xb9\xb9\xb9\xb9\xb9\xb9\xb9\xb9\xb9                                     \xb9                           ", // ArrayRest
+    *b"            $$$$$$$$$$                    S    p                                       ", // Concept
+    *b"            $$$$$$$$$$       t v  u      nS m  p #    q      rrrrrrrrrr rrrr   rrsrrrrr", // SolidButT
+    *b"                                                             \xc7                         ", // Expression
+    *b"                                        \xd8                                              ", // AddressedExpression
+    *b"                                                           \x88                           ", // AddressedLiteral
+    *b"                                                                \xb9                      ", // ExpressionAfterA
+    *b"                                                               \xb5        \xbd\xba \xbb      \xbe    ", // ExpressionAfterC
+    *b"                                                  \xba            \xb5 \xbb             \xba\xba \xba    ", // ExpressionAfterD
+    *b"                                           \xba                               \xba \xba         ", // ExpressionAfterE
+    *b"                                        \xbf                                   \xb8          ", // ExpressionAfterF
+    *b"                                                                 \xba              \xba      ", // ExpressionAfterG
+    *b"                                                                        \xc0           \xba  ", // ExpressionAfterI
+    *b"                                               \xba                 \xba             \xba\xba      ", // ExpressionAfterL
+    *b"                                     \xba  \xba                            \xba  \xba\xc1             ", // ExpressionAfterM
+    *b"                                                                 \xba \xbb            \xbb   \xbb  ", // ExpressionAfterN
+    *b"                                              \xba                           \xb6\xba  \xba        ", // ExpressionAfterO
+    *b"                                        \xba                               \xba\xba  \xc1  \xbb\xba      ", // ExpressionAfterP
+    *b"                                                                                 \xc2     ", // ExpressionAfterQ
+    *b"                                         \xba     \xba               \xb5         \xba     \xba       ", // ExpressionAfterR
+    *b"                                                      \xc4        \xb5            \xc3 \xc5\xba\xbc     \xbb", // ExpressionAfterS
+    *b"                                                                 \xbb   \xbc  \xc6              ", // ExpressionAfterT
+    *b"                                                             \xd9                         ", // Expressions
+    *b"                                                           !                           ", // MaybeBefore
+    *b"                                                                            \xb8          ", // OuterRest
+    *b"            \xdb\xdb\xdb\xdb\xdb\xdb\xdb\xdb\xdb\xdb                          \xda          \xdb                           ", // ParameterNumber
+    *b"            \xe0\xe0\xe0\xe0\xe0\xe0\xe0\xe0\xe0\xe0          \xdc \xe0    \xdd  \xe0\xdf\xde \xdf\xe0\xe0\xe0           \xe0\xe0\xe0\xe0\xe0\xe0\xe0\xe0\xe0\xe0 \xe0\xe0\xe0\xe0   \xe0\xe0 \xe0\xe0\xe0\xe0\xe0", // ConvertedType
+    *b"            $$$$$$$$$$            u       S    po#           rrrrrrrrrr rrrr   rr rrrrr", // ConvertedSolid
+    *b"                                                l                               l      ", // DecltypeAfterD
+    *b"            \xb7\xb7\xb7\xb7\xb7\xb7\xb7\xb7\xb7\xb7                  \xad       \xd7          \xc0 \xc7 \xc8\xc9\xca\xcb\xcc \xcd  \xce\xcf\xd0\xd1\xd2\xd3\xd4\xd5\xd6      ", // ConvertRest
+    *b"            \xe2\xe2\xe2\xe2\xe2\xe2\xe2\xe2\xe2\xe2          \xe1         \xe1    \xe1\xe1                                      ", // Unresolved
+    *b"                                \xdc         S    po                                      ", // UnresolvedType
+    *b"            \xb7\xb7\xb7\xb7\xb7\xb7\xb7\xb7\xb7\xb7                                                                 ", // Level
+    *b"            \xe2\xe2\xe2\xe2\xe2\xe2\xe2\xe2\xe2\xe2           \xe3                                                     ", // MoreLevels
+    *b"            \xb7\xb7\xb7\xb7\xb7\xb7\xb7\xb7\xb7\xb7                                                     \xe4           ", // UnresolvedName
+    *b"                                                                          \xb6            ", // OperatorName
+    *b"                             \xe5                                                         ", // AnyArray
+    *b"            \xe7\xe7\xe7\xe7\xe7\xe7\xe7\xe7\xe7\xe7                                     \xe7                           ", // ArrayRest
+    *b"                                        \xad       \xd7            \xc7 \xc8\xc9\xca\xcb\xcc \xcd  \xce\xcf\xd0\xd1\xd2\xd3\xd4\xd5\xd6      ", // Bound
     *b"            GGGGGGGGGG         GG       G        G           G GGG G G  GGGGG GG       ", // NestMoreOrEnd
 ];
 
@@ -349,7 +445,7 @@ macro_rules! chains {
 }
 
 // The rules of the productions, in the order of their numbers.
-pub static HEADS: [Head; 153] = [
+pub static HEADS: [Head; 199] = [
     takes!(0), // ! Mark
     takes!(2), // \" InternalName
     takes!(2), // # LocalTypeName
@@ -425,34 +521,34 @@ pub static HEADS: [Head; 153] = [
     takes!(4), // i NoexceptFunction
     takes!(2), // j SizedFloat
     takes!(1), // k ConstrainedAuto
-    takes!(1), // l Pointer
-    takes!(2), // m MemberPointer
-    takes!(2), // n Parameter
-    takes!(2), // o TypeWithS
-    takes!(4), // p LocalType
-    takes!(0), // q Builtin
-    takes!(1), // r Vendor
-    chains!(1), // s ArrayType
-    takes!(3), // t Function
-    takes!(1), // u Complex
-    chains!(1), // v TypeInStd
-    chains!(1), // w AbbreviatedType
-    takes!(0), // x RestEnd
-    takes!(1), // y RestLvalue
-    takes!(1), // z RestRvalue
-    chains!(2), // { RestItem
-    takes!(0), // | RefEnd
-    chains!(2), // } LvalueItem
-    chains!(2), // ~ RvalueItem
-    chains!(2), // \x7f Items
-    takes!(2), // \x80 Arguments
-    takes!(2), // \x81 Tag
-    takes!(3), // \x82 PackArgument
-    takes!(3), // \x83 LiteralArgument
-    chains!(2), // \x84 AnyArgument
-    takes!(3), // \x85 LiteralElement
-    chains!(2), // \x86 AnyElement
-    takes!(5), // \x87 Address
+    takes!(2), // l Decltype
+    takes!(1), // m Pointer
+    takes!(2), // n MemberPointer
+    takes!(2), // o Parameter
+    takes!(2), // p TypeWithS
+    takes!(4), // q LocalType
+    takes!(0), // r Builtin
+    takes!(1), // s Vendor
+    chains!(1), // t ArrayType
+    takes!(3), // u Function
+    takes!(1), // v Complex
+    chains!(1), // w TypeInStd
+    chains!(1), // x AbbreviatedType
+    takes!(0), // y RestEnd
+    takes!(1), // z RestLvalue
+    takes!(1), // { RestRvalue
+    chains!(2), // | RestItem
+    takes!(0), // } RefEnd
+    chains!(2), // ~ LvalueItem
+    chains!(2), // \x7f RvalueItem
+    chains!(2), // \x80 Items
+    takes!(2), // \x81 Arguments
+    takes!(2), // \x82 Tag
+    takes!(3), // \x83 PackArgument
+    takes!(3), // \x84 LiteralArgument
+    chains!(2), // \x85 AnyArgument
+    takes!(3), // \x86 LiteralElement
+    chains!(2), // \x87 AnyElement
     takes!(2), // \x88 EncodingLiteral
     takes!(1), // \x89 BoolLiteral
     takes!(1), // \x8a LiteralWithD
@@ -485,7 +581,7 @@ pub static HEADS: [Head; 153] = [
     takes!(2), // \xa5 Clone
     takes!(2), // \xa6 TaggedStdType
     takes!(2), // \xa7 TypeTag
-    takes!(1), // \xa8 Expression
+    takes!(2), // \xa8 Expression
     takes!(1), // \xa9 ArgumentWithT
     chains!(1), // \xaa PlainArgument
     chains!(2), // \xab DeclaredArgument
@@ -498,15 +594,61 @@ pub static HEADS: [Head; 153] = [
     takes!(2), // \xb2 TemplateOf
     takes!(2), // \xb3 PackOf
     takes!(2), // \xb4 Declarations
-    takes!(2), // \xb5 AddressExpression
-    takes!(2), // \xb6 ParameterExpression
-    takes!(1), // \xb7 AnyArray
-    takes!(3), // \xb8 BoundedArray
-    chains!(2), // \xb9 LengthArray
+    takes!(2), // \xb5 Cast
+    takes!(2), // \xb6 OperatorReference
+    chains!(2), // \xb7 SimpleId
+    takes!(4), // \xb8 FunctionParameter
+    takes!(1), // \xb9 AddressExpression
+    takes!(2), // \xba Binary
+    takes!(1), // \xbb Unary
+    takes!(1), // \xbc OfType
+    takes!(3), // \xbd Call
+    takes!(2), // \xbe Convert
+    takes!(2), // \xbf OuterParameter
+    takes!(2), // \xc0 Braces
+    takes!(2), // \xc1 Step
+    takes!(3), // \xc2 Conditional
+    takes!(1), // \xc3 ExpandExpression
+    takes!(1), // \xc4 PackSize
+    takes!(1), // \xc5 Unresolved
+    takes!(3), // \xc6 TypedBraces
+    takes!(1), // \xc7 ExpressionA
+    takes!(1), // \xc8 ExpressionC
+    takes!(1), // \xc9 ExpressionD
+    takes!(1), // \xca ExpressionE
+    takes!(1), // \xcb ExpressionF
+    takes!(1), // \xcc ExpressionG
+    takes!(1), // \xcd ExpressionI
+    takes!(1), // \xce ExpressionL
+    takes!(1), // \xcf ExpressionM
+    takes!(1), // \xd0 ExpressionN
+    takes!(1), // \xd1 ExpressionO
+    takes!(1), // \xd2 ExpressionP
+    takes!(1), // \xd3 ExpressionQ
+    takes!(1), // \xd4 ExpressionR
+    takes!(1), // \xd5 ExpressionS
+    takes!(1), // \xd6 ExpressionT
+    takes!(2), // \xd7 ParameterExpression
+    takes!(2), // \xd8 AddressedLiteral
+    chains!(2), // \xd9 Expressions
+    takes!(0), // \xda This
+    chains!(1), // \xdb ParameterNumber
+    takes!(1), // \xdc ConvertedDecltype
+    takes!(1), // \xdd ConvertedConst
+    takes!(1), // \xde ConvertedPointer
+    takes!(1), // \xdf ConvertedReference
+    chains!(1), // \xe0 ConvertedType
+    chains!(2), // \xe1 UnresolvedInType
+    chains!(2), // \xe2 Levels
+    takes!(1), // \xe3 LevelsEnd
+    takes!(1), // \xe4 UnresolvedOperator
+    takes!(1), // \xe5 AnyArray
+    chains!(3), // \xe6 BoundedArray
+    chains!(2), // \xe7 LengthArray
 ];
 
 // The symbols of the rules, in the same order.
-pub static SYMBOLS: [Sym; 924] = symbols_listed! {
+pub static SYMBOLS: [Sym; 1200] = symbols_listed! {
     [NONE, NONE, NONE, NONE, NONE], // ! Mark
     [NAME, MAYBE_ARGUMENTS, NONE, NONE, NONE], // \" InternalName
     [ANONYMOUS, MAYBE_ARGUMENTS, NONE, NONE, NONE], // # LocalTypeName
@@ -582,34 +724,34 @@ pub static SYMBOLS: [Sym; 924] = symbols_listed! {
     [Sym::Byte(b'F'), MAYBE_C_LINKAGE, TYPE, FUNCTION_REST, NONE], // i NoexceptFunction
     [DIGITS, FLOAT_END, NONE, NONE, NONE], // j SizedFloat
     [CONCEPT, NONE, NONE, NONE, NONE], // k ConstrainedAuto
-    [TYPE, NONE, NONE, NONE, NONE], // l Pointer
-    [TYPE, TYPE, NONE, NONE, NONE], // m MemberPointer
-    [DECIMAL, ARGUMENTS_ALONE, NONE, NONE, NONE], // n Parameter
-    [TYPE_AFTER_S, ARGUMENTS_ALONE, NONE, NONE, NONE], // o TypeWithS
-    [ENCODING, Sym::Byte(b'E'), TYPE_ENTITY, MAYBE_DISCRIMINATOR, NONE], // p LocalType
-    [NONE, NONE, NONE, NONE, NONE], // q Builtin
-    [NAME, NONE, NONE, NONE, NONE], // r Vendor
-    [ANY_ARRAY, NONE, NONE, NONE, NONE], // s ArrayType
-    [MAYBE_C_LINKAGE, TYPE, FUNCTION_REST, NONE, NONE], // t Function
-    [TYPE, NONE, NONE, NONE, NONE], // u Complex
-    [TYPE_IN_STD, NONE, NONE, NONE, NONE], // v TypeInStd
-    [ABBREVIATION, NONE, NONE, NONE, NONE], // w AbbreviatedType
-    [NONE, NONE, NONE, NONE, NONE], // x RestEnd
-    [AFTER_R, NONE, NONE, NONE, NONE], // y RestLvalue
-    [AFTER_O, NONE, NONE, NONE, NONE], // z RestRvalue
-    [ITEM_BUT_REF, FUNCTION_REST, NONE, NONE, NONE], // { RestItem
-    [NONE, NONE, NONE, NONE, NONE], // | RefEnd
-    [TYPE, FUNCTION_REST, NONE, NONE, NONE], // } LvalueItem
-    [TYPE, FUNCTION_REST, NONE, NONE, NONE], // ~ RvalueItem
-    [ITEM, ITEMS, NONE, NONE, NONE], // \x7f Items
-    [ARGUMENTS_FIRST, Sym::Byte(b'E'), NONE, NONE, NONE], // \x80 Arguments
-    [NAME, MAYBE_ARGUMENTS, NONE, NONE, NONE], // \x81 Tag
-    [PACK_LIST, Sym::Byte(b'E'), ARGUMENT_LIST, NONE, NONE], // \x82 PackArgument
-    [LITERAL, Sym::Byte(b'E'), ARGUMENT_LIST, NONE, NONE], // \x83 LiteralArgument
-    [ARGUMENT, ARGUMENT_LIST, NONE, NONE, NONE], // \x84 AnyArgument
-    [LITERAL, Sym::Byte(b'E'), PACK_LIST, NONE, NONE], // \x85 LiteralElement
-    [ARGUMENT, PACK_LIST, NONE, NONE, NONE], // \x86 AnyElement
-    [Sym::Byte(b'_'), Sym::Byte(b'Z'), ENCODING, Sym::Byte(b'E'), Sym::Byte(b'E')], // \x87 Address
+    [EXPRESSION, Sym::Byte(b'E'), NONE, NONE, NONE], // l Decltype
+    [TYPE, NONE, NONE, NONE, NONE], // m Pointer
+    [TYPE, TYPE, NONE, NONE, NONE], // n MemberPointer
+    [DECIMAL, ARGUMENTS_ALONE, NONE, NONE, NONE], // o Parameter
+    [TYPE_AFTER_S, ARGUMENTS_ALONE, NONE, NONE, NONE], // p TypeWithS
+    [ENCODING, Sym::Byte(b'E'), TYPE_ENTITY, MAYBE_DISCRIMINATOR, NONE], // q LocalType
+    [NONE, NONE, NONE, NONE, NONE], // r Builtin
+    [NAME, NONE, NONE, NONE, NONE], // s Vendor
+    [ANY_ARRAY, NONE, NONE, NONE, NONE], // t ArrayType
+    [MAYBE_C_LINKAGE, TYPE, FUNCTION_REST, NONE, NONE], // u Function
+    [TYPE, NONE, NONE, NONE, NONE], // v Complex
+    [TYPE_IN_STD, NONE, NONE, NONE, NONE], // w TypeInStd
+    [ABBREVIATION, NONE, NONE, NONE, NONE], // x AbbreviatedType
+    [NONE, NONE, NONE, NONE, NONE], // y RestEnd
+    [AFTER_R, NONE, NONE, NONE, NONE], // z RestLvalue
+    [AFTER_O, NONE, NONE, NONE, NONE], // { RestRvalue
+    [ITEM_BUT_REF, FUNCTION_REST, NONE, NONE, NONE], // | RestItem
+    [NONE, NONE, NONE, NONE, NONE], // } RefEnd
+    [TYPE, FUNCTION_REST, NONE, NONE, NONE], // ~ LvalueItem
+    [TYPE, FUNCTION_REST, NONE, NONE, NONE], // \x7f RvalueItem
+    [ITEM, ITEMS, NONE, NONE, NONE], // \x80 Items
+    [ARGUMENTS_FIRST, Sym::Byte(b'E'), NONE, NONE, NONE], // \x81 Arguments
+    [NAME, MAYBE_ARGUMENTS, NONE, NONE, NONE], // \x82 Tag
+    [PACK_LIST, Sym::Byte(b'E'), ARGUMENT_LIST, NONE, NONE], // \x83 PackArgument
+    [LITERAL, Sym::Byte(b'E'), ARGUMENT_LIST, NONE, NONE], // \x84 LiteralArgument
+    [ARGUMENT, ARGUMENT_LIST, NONE, NONE, NONE], // \x85 AnyArgument
+    [LITERAL, Sym::Byte(b'E'), PACK_LIST, NONE, NONE], // \x86 LiteralElement
+    [ARGUMENT, PACK_LIST, NONE, NONE, NONE], // \x87 AnyElement
     [Sym::Byte(b'Z'), ENCODING, NONE, NONE, NONE], // \x88 EncodingLiteral
     [BIT, NONE, NONE, NONE, NONE], // \x89 BoolLiteral
     [LITERAL_AFTER_D, NONE, NONE, NONE, NONE], // \x8a LiteralWithD
@@ -642,7 +784,7 @@ pub static SYMBOLS: [Sym; 924] = symbols_listed! {
     [CLONE_LETTER, ENCODING, NONE, NONE, NONE], // \xa5 Clone
     [SOURCE_OR_LOCAL, MAYBE_TAGS, NONE, NONE, NONE], // \xa6 TaggedStdType
     [NAME, MAYBE_TAGS, NONE, NONE, NONE], // \xa7 TypeTag
-    [EXPRESSION_REST, NONE, NONE, NONE, NONE], // \xa8 Expression
+    [EXPRESSION, Sym::Byte(b'E'), NONE, NONE, NONE], // \xa8 Expression
     [ARGUMENT_AFTER_T, NONE, NONE, NONE, NONE], // \xa9 ArgumentWithT
     [SOLID_BUT_T, NONE, NONE, NONE, NONE], // \xaa PlainArgument
     [DECLARATION_AFTER_T, ONE_ARGUMENT, NONE, NONE, NONE], // \xab DeclaredArgument
@@ -655,18 +797,64 @@ pub static SYMBOLS: [Sym; 924] = symbols_listed! {
     [DECLARATIONS, Sym::Byte(b'E'), NONE, NONE, NONE], // \xb2 TemplateOf
     [Sym::Byte(b'T'), DECLARATION_AFTER_T, NONE, NONE, NONE], // \xb3 PackOf
     [DECLARATION_AFTER_T, DECLARATIONS, NONE, NONE, NONE], // \xb4 Declarations
-    [Sym::Byte(b'd'), ADDRESS, NONE, NONE, NONE], // \xb5 AddressExpression
-    [DECIMAL, Sym::Byte(b'E'), NONE, NONE, NONE], // \xb6 ParameterExpression
-    [ARRAY_REST, NONE, NONE, NONE, NONE], // \xb7 AnyArray
-    [DECIMAL, Sym::Byte(b'_'), TYPE, NONE, NONE], // \xb8 BoundedArray
-    [DECIMAL, TYPE, NONE, NONE, NONE], // \xb9 LengthArray
+    [TYPE, EXPRESSION, NONE, NONE, NONE], // \xb5 Cast
+    [OPERATOR, ARGUMENTS_ALONE, NONE, NONE, NONE], // \xb6 OperatorReference
+    [NAME, ARGUMENTS_ALONE, NONE, NONE, NONE], // \xb7 SimpleId
+    [MAYBE_RESTRICT, MAYBE_VOLATILE, MAYBE_CONST, PARAMETER_NUMBER, NONE], // \xb8 FunctionParameter
+    [ADDRESSED_EXPRESSION, NONE, NONE, NONE, NONE], // \xb9 AddressExpression
+    [EXPRESSION, EXPRESSION, NONE, NONE, NONE], // \xba Binary
+    [EXPRESSION, NONE, NONE, NONE, NONE], // \xbb Unary
+    [CONVERTED_TYPE, NONE, NONE, NONE, NONE], // \xbc OfType
+    [EXPRESSION, EXPRESSIONS, Sym::Byte(b'E'), NONE, NONE], // \xbd Call
+    [CONVERTED_TYPE, CONVERT_REST, NONE, NONE, NONE], // \xbe Convert
+    [DIGITS, OUTER_REST, NONE, NONE, NONE], // \xbf OuterParameter
+    [EXPRESSIONS, Sym::Byte(b'E'), NONE, NONE, NONE], // \xc0 Braces
+    [MAYBE_BEFORE, EXPRESSION, NONE, NONE, NONE], // \xc1 Step
+    [EXPRESSION, EXPRESSION, EXPRESSION, NONE, NONE], // \xc2 Conditional
+    [EXPRESSION, NONE, NONE, NONE, NONE], // \xc3 ExpandExpression
+    [EXPRESSION, NONE, NONE, NONE, NONE], // \xc4 PackSize
+    [UNRESOLVED, NONE, NONE, NONE, NONE], // \xc5 Unresolved
+    [TYPE, EXPRESSIONS, Sym::Byte(b'E'), NONE, NONE], // \xc6 TypedBraces
+    [EXPRESSION_AFTER_A, NONE, NONE, NONE, NONE], // \xc7 ExpressionA
+    [EXPRESSION_AFTER_C, NONE, NONE, NONE, NONE], // \xc8 ExpressionC
+    [EXPRESSION_AFTER_D, NONE, NONE, NONE, NONE], // \xc9 ExpressionD
+    [EXPRESSION_AFTER_E, NONE, NONE, NONE, NONE], // \xca ExpressionE
+    [EXPRESSION_AFTER_F, NONE, NONE, NONE, NONE], // \xcb ExpressionF
+    [EXPRESSION_AFTER_G, NONE, NONE, NONE, NONE], // \xcc ExpressionG
+    [EXPRESSION_AFTER_I, NONE, NONE, NONE, NONE], // \xcd ExpressionI
+    [EXPRESSION_AFTER_L, NONE, NONE, NONE, NONE], // \xce ExpressionL
+    [EXPRESSION_AFTER_M, NONE, NONE, NONE, NONE], // \xcf ExpressionM
+    [EXPRESSION_AFTER_N, NONE, NONE, NONE, NONE], // \xd0 ExpressionN
+    [EXPRESSION_AFTER_O, NONE, NONE, NONE, NONE], // \xd1 ExpressionO
+    [EXPRESSION_AFTER_P, NONE, NONE, NONE, NONE], // \xd2 ExpressionP
+    [EXPRESSION_AFTER_Q, NONE, NONE, NONE, NONE], // \xd3 ExpressionQ
+    [EXPRESSION_AFTER_R, NONE, NONE, NONE, NONE], // \xd4 ExpressionR
+    [EXPRESSION_AFTER_S, NONE, NONE, NONE, NONE], // \xd5 ExpressionS
+    [EXPRESSION_AFTER_T, NONE, NONE, NONE, NONE], // \xd6 ExpressionT
+    [DECIMAL, ARGUMENTS_ALONE, NONE, NONE, NONE], // \xd7 ParameterExpression
+    [ADDRESSED_LITERAL, Sym::Byte(b'E'), NONE, NONE, NONE], // \xd8 AddressedLiteral
+    [EXPRESSION, EXPRESSIONS, NONE, NONE, NONE], // \xd9 Expressions
+    [NONE, NONE, NONE, NONE, NONE], // \xda This
+    [DECIMAL, NONE, NONE, NONE, NONE], // \xdb ParameterNumber
+    [DECLTYPE_AFTER_D, NONE, NONE, NONE, NONE], // \xdc ConvertedDecltype
+    [CONVERTED_TYPE, NONE, NONE, NONE, NONE], // \xdd ConvertedConst
+    [CONVERTED_TYPE, NONE, NONE, NONE, NONE], // \xde ConvertedPointer
+    [CONVERTED_TYPE, NONE, NONE, NONE, NONE], // \xdf ConvertedReference
+    [CONVERTED_SOLID, NONE, NONE, NONE, NONE], // \xe0 ConvertedType
+    [UNRESOLVED_TYPE, UNRESOLVED_NAME, NONE, NONE, NONE], // \xe1 UnresolvedInType
+    [LEVEL, MORE_LEVELS, NONE, NONE, NONE], // \xe2 Levels
+    [UNRESOLVED_NAME, NONE, NONE, NONE, NONE], // \xe3 LevelsEnd
+    [OPERATOR_NAME, NONE, NONE, NONE, NONE], // \xe4 UnresolvedOperator
+    [ARRAY_REST, NONE, NONE, NONE, NONE], // \xe5 AnyArray
+    [BOUND, Sym::Byte(b'_'), TYPE, NONE, NONE], // \xe6 BoundedArray
+    [DECIMAL, TYPE, NONE, NONE, NONE], // \xe7 LengthArray
 };
 
 /// The number of the rule that a kind takes at a byte, if it takes one.
 #[inline]
 fn number(kind: u16, byte: u8) -> Option<usize>
     requires { kind < abi.kinds }
-    ensures few { IfSome result (λ number. number < 153) }
+    ensures few { IfSome result (λ number. number < 199) }
     ensures rule { (head : Head) → MatchOption result (abi.rule kind byte ≡ None) (λ number. abi.rule kind byte ≡ Some (listed_rule head number)) }
 {
     match letter_in(&LETTERS[kind as usize], byte) {

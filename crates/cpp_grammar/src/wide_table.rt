@@ -8,7 +8,7 @@ use crate::table::{FIRST_LETTER, HEADS, SYMBOLS};
 use sym_shape::{Rule, letter_in, place_of, symbols_from};
 
 // For each kind a row: for each byte from `$` to `z` the letter of the production that the kind takes there.
-static WIDE_LETTERS: [[u8; 87]; 99] = [
+static WIDE_LETTERS: [[u8; 87]; 131] = [
     // $%&'()*+,-./0123456789:;<=>?@ABCDEFGHIJKLMNOPQRSTUVWXYZ[\]^_`abcdefghijklmnopqrstuvwxyz
     *b"                                                           *                           ", // Symbol
     *b"          +                                                                            ", // MaybeSuffix
@@ -44,26 +44,25 @@ static WIDE_LETTERS: [[u8; 87]; 99] = [
     *b"            cccccccccc       c cb c      cc_c _ccc    c      cccccccccc cccc   cccccccc", // Plain
     *b"            ``````````       ` `d `    ^ ``_` _```]   `      `````````` ````  \\````````", // Item
     *b"            ``````````       ` `d `    ^ `` `  ```]   `      `````````` ````  \\````````", // ItemButRef
-    *b"                                  f    f                     f ffff ff f  ffe  f ff    ", // ItemAfterD
-    *b"                                  j    k                     g gggg gg k  gi   g gh    ", // AfterD
-    *b"            $$$$$$$$$$       s u  t      mS l  on#    p      qqqqqqqqqq qqqq   qqrqqqqq", // Solid
+    *b"                                  f    f        f            f ffff ff f  ffe  ffff    ", // ItemAfterD
+    *b"                                  j    k        l            g gggg gg k  gi   glgh    ", // AfterD
+    *b"            $$$$$$$$$$       t v  u      nS m  po#    q      rrrrrrrrrr rrrr   rrsrrrrr", // Solid
     *b"                                                     !                                 ", // MaybeCLinkage
-    *b"            wwwwwwwwww       wwwwwwwwwwwwwwwwwwwwwwwwww    w ww w    w     w   wv      ", // TypeAfterS
+    *b"            xxxxxxxxxx       xxxxxxxxxxxxxxxxxxxxxxxxxx    x xx x    x     x   xw      ", // TypeAfterS
     *b"            ((((((((((                  &        '                                     ", // SourceOrLocal
-    *b"            {{{{{{{{{{       { {{x{    { {{z{ y{{{{   {      {{{{{{{{{{ {{{{  {{{{{{{{{", // FunctionRest
-    *b"            }}}}}}}}}}       } }}|}    } }}}} }}}}}   }      }}}}}}}}}} }}}}  }}}}}}}}}", // AfterR
-    *b"            ~~~~~~~~~~       ~ ~~|~    ~ ~~~~ ~~~~~   ~      ~~~~~~~~~~ ~~~~  ~~~~~~~~~", // AfterO
-    *b"            \x7f\x7f\x7f\x7f\x7f\x7f\x7f\x7f\x7f\x7f       \x7f \x7f\x7f \x7f    \x7f \x7f\x7f\x7f\x7f \x7f\x7f\x7f\x7f\x7f   \x7f      \x7f\x7f\x7f\x7f\x7f\x7f\x7f\x7f\x7f\x7f \x7f\x7f\x7f\x7f  \x7f\x7f\x7f\x7f\x7f\x7f\x7f\x7f\x7f", // Items
-    *b"                              \x81      \x80                                                 ", // MaybeArguments
-    *b"                                     \x80                                                 ", // Arguments
-    *b"            \x84\x84\x84\x84\x84\x84\x84\x84\x84\x84       \x84 \x84\x84 \x84   \x82\x84\x83\x84\x84\x84\x84 \x84\x84\x84\x84\x84 \x84 \x84      \x84\x84\x84\x84\x84\x84\x84\x84\x84\x84 \x84\x84\x84\x84  \x84\x84\x84\x84\x84\x84\x84\x84\x84", // ArgumentList
-    *b"            \x86\x86\x86\x86\x86\x86\x86\x86\x86\x86       \x86 \x86\x86 \x86    \x86\x85\x86\x86\x86\x86 \x86\x86\x86\x86\x86 \x86 \x86      \x86\x86\x86\x86\x86\x86\x86\x86\x86\x86 \x86\x86\x86\x86  \x86\x86\x86\x86\x86\x86\x86\x86\x86", // PackList
-    *b"                                        \x87                                              ", // Address
+    *b"            ||||||||||       | ||y|    | ||{| z||||   |      |||||||||| ||||  |||||||||", // FunctionRest
+    *b"            ~~~~~~~~~~       ~ ~~}~    ~ ~~~~ ~~~~~   ~      ~~~~~~~~~~ ~~~~  ~~~~~~~~~", // AfterR
+    *b"            \x7f\x7f\x7f\x7f\x7f\x7f\x7f\x7f\x7f\x7f       \x7f \x7f\x7f}\x7f    \x7f \x7f\x7f\x7f\x7f \x7f\x7f\x7f\x7f\x7f   \x7f      \x7f\x7f\x7f\x7f\x7f\x7f\x7f\x7f\x7f\x7f \x7f\x7f\x7f\x7f  \x7f\x7f\x7f\x7f\x7f\x7f\x7f\x7f\x7f", // AfterO
+    *b"            \x80\x80\x80\x80\x80\x80\x80\x80\x80\x80       \x80 \x80\x80 \x80    \x80 \x80\x80\x80\x80 \x80\x80\x80\x80\x80   \x80      \x80\x80\x80\x80\x80\x80\x80\x80\x80\x80 \x80\x80\x80\x80  \x80\x80\x80\x80\x80\x80\x80\x80\x80", // Items
+    *b"                              \x82      \x81                                                 ", // MaybeArguments
+    *b"                                     \x81                                                 ", // Arguments
+    *b"            \x85\x85\x85\x85\x85\x85\x85\x85\x85\x85       \x85 \x85\x85 \x85   \x83\x85\x84\x85\x85\x85\x85 \x85\x85\x85\x85\x85 \x85 \x85      \x85\x85\x85\x85\x85\x85\x85\x85\x85\x85 \x85\x85\x85\x85  \x85\x85\x85\x85\x85\x85\x85\x85\x85", // ArgumentList
+    *b"            \x87\x87\x87\x87\x87\x87\x87\x87\x87\x87       \x87 \x87\x87 \x87    \x87\x86\x87\x87\x87\x87 \x87\x87\x87\x87\x87 \x87 \x87      \x87\x87\x87\x87\x87\x87\x87\x87\x87\x87 \x87\x87\x87\x87  \x87\x87\x87\x87\x87\x87\x87\x87\x87", // PackList
     *b"            \x8b\x8b\x8b\x8b\x8b\x8b\x8b\x8b\x8b\x8b          \x8a        \x8b\x8b \x8b  \x8b\x8b\x8b    \x8b    \x88 \x8b\x89\x8b    \x8b\x8b\x8b \x8b\x8b\x8b\x8b   \x8b\x8b  \x8b\x8b\x8b ", // Literal
     *b"            !!                                                                         ", // Bit
     *b"                                                                     \x8d    \x8c    \x8d \x8d     ", // LiteralAfterD
     *b"            !                                                                          ", // MaybeZero
-    *b"            $$$$$$$$$$                   mS l  on#    p      q q    qqq qqqq   qq  qqq ", // LiteralType
+    *b"            $$$$$$$$$$                   nS m  po#    q      r r    rrr rrrr   rr  rrr ", // LiteralType
     *b"                                                             \x90 \x92\x8f\x96 \x9a \x99  \x97\x93\x8e\x95\x91 \x94\x98       ", // Operator
     *b"                                                             !   ! !            !  !   ", // OperatorAfterN
     *b"                                                  !          !   !      !         !    ", // OperatorAfterD
@@ -79,18 +78,18 @@ static WIDE_LETTERS: [[u8; 87]; 99] = [
     *b"                                                                                    !  ", // OperatorAfterI
     *b"                                                                 !              !      ", // OperatorAfterG
     *b"            GGGGGGGGGG         GG    \x9c  GG       G           G GGG G G  GGGGG GG       ", // NestRestOrEnd
-    *b"                                     \x80                                                 ", // ArgumentsAlone
+    *b"                                     \x81                                                 ", // ArgumentsAlone
     *b"            GGGGGGGGGG         GG    F  GG       G           G GGG G G  GGGGG GG       ", // NestRestAlone
     *b"                                         !                                             ", // HolderMark
     *b"            $$$$$$$$$$         JK       \"        #           M LMM M M  MMMMM MM       ", // HeldComponent
     *b"                                                           !  !                     !  ", // FloatEnd
     *b"                                                                        \x9e\x9e \x9e      \x9d    ", // ComponentAfterC
     *b"                                                             \x90  \x8f\x96 \x9a \x99  \x97\x93\x8e\x95\x91 \x94\x98       ", // OtherOperator
-    *b"            \xa2\xa2\xa2\xa2\xa2\xa2\xa2\xa2\xa2\xa2                    \xa0    \xa1      p                                ", // BaseClass
-    *b"            wwwwwwwwww       wwwwwwwwwwwwwwwwwwwwwwwwww    w ww w    w     w   w\xa3      ", // BaseAfterS
+    *b"            \xa2\xa2\xa2\xa2\xa2\xa2\xa2\xa2\xa2\xa2                    \xa0    \xa1      q                                ", // BaseClass
+    *b"            xxxxxxxxxx       xxxxxxxxxxxxxxxxxxxxxxxxxx    x xx x    x     x   x\xa3      ", // BaseAfterS
     *b"                                     \xa4                                                 ", // BaseArguments
     *b"                                     \x9f                                                 ", // OwnArguments
-    *b"            \x84\x84\x84\x84\x84\x84\x84\x84\x84\x84       \x84 \x84\x84 \x84  \x82\x82\x84\x83\x84\x84\x84\x84 \x84\x84\x84\x84\x84 \x84 \x84      \x84\x84\x84\x84\x84\x84\x84\x84\x84\x84 \x84\x84\x84\x84  \x84\x84\x84\x84\x84\x84\x84\x84\x84", // ArgumentsFirst
+    *b"            \x85\x85\x85\x85\x85\x85\x85\x85\x85\x85       \x85 \x85\x85 \x85  \x83\x83\x85\x84\x85\x85\x85\x85 \x85\x85\x85\x85\x85 \x85 \x85      \x85\x85\x85\x85\x85\x85\x85\x85\x85\x85 \x85\x85\x85\x85  \x85\x85\x85\x85\x85\x85\x85\x85\x85", // ArgumentsFirst
     *b"            $$$$$$$$$$                  \" )      #                                     ", // PlainEntity
     *b"            $$$$$$$$$$                  \" S      #                                     ", // PlainTypeEntity
     *b"                                   !                                                   ", // SpecialMark
@@ -103,11 +102,44 @@ static WIDE_LETTERS: [[u8; 87]; 99] = [
     *b"            \xaa\xaa\xaa\xaa\xaa\xaa\xaa\xaa\xaa\xaa       \xaa \xaad \xaa   \xae^\xad\xaa\xaa_\xaa _\xaa\xa9\xaa] \xa8 \xaa      \xaa\xaa\xaa\xaa\xaa\xaa\xaa\xaa\xaa\xaa \xaa\xaa\xaa\xaa  \\\xaa\xaa\xaa\xaa\xaa\xaa\xaa\xaa", // OneArgument
     *b"                                                                       \xb1  \xb0 \xb3   \xb2    \xaf ", // DeclarationAfterT
     *b"                                                \xb4                                      ", // Declarations
-    *b"            $$$$$$$$$$                    S    o                                       ", // Concept
-    *b"            $$$$$$$$$$       s u  t      mS l  o #    p      qqqqqqqqqq qqqq   qqrqqqqq", // SolidButT
-    *b"                                                \xb6            \xb5                         ", // ExpressionRest
-    *b"                             \xb7                                                         ", // AnyArray
-    *b"            \xb9\xb9\xb9\xb9\xb9\xb9\xb9\xb9\xb9\xb9                          \xb8          \xb9                           ", // ArrayRest
+    *b"            $$$$$$$$$$                    S    p                                       ", // Concept
+    *b"            $$$$$$$$$$       t v  u      nS m  p #    q      rrrrrrrrrr rrrr   rrsrrrrr", // SolidButT
+    *b"            \xb7\xb7\xb7\xb7\xb7\xb7\xb7\xb7\xb7\xb7                  \xad       \xd7            \xc7 \xc8\xc9\xca\xcb\xcc \xcd  \xce\xcf\xd0\xd1\xd2\xd3\xd4\xd5\xd6      ", // Expression
+    *b"            \xb7\xb7\xb7\xb7\xb7\xb7\xb7\xb7\xb7\xb7                  \xd8       \xd7            \xc7 \xc8\xc9\xca\xcb\xcc \xcd  \xce\xcf\xd0\xd1\xd2\xd3\xd4\xd5\xd6      ", // AddressedExpression
+    *b"            \x8b\x8b\x8b\x8b\x8b\x8b\x8b\x8b\x8b\x8b          \x8a        \x8b\x8b \x8b  \x8b\x8b\x8b    \x8b    \x88 \x8b\x89\x8b    \x8b\x8b\x8b \x8b\x8b\x8b\x8b   \x8b\x8b  \x8b\x8b\x8b ", // AddressedLiteral
+    *b"                                          \xba    \xba             \xba  \xb9         \xba     \xbc  \xbb  \xbb", // ExpressionAfterA
+    *b"                                                               \xb5        \xbd\xba \xbb      \xbe    ", // ExpressionAfterC
+    *b"                                                  \xba            \xb5 \xbb             \xba\xba \xba    ", // ExpressionAfterD
+    *b"                                           \xba                               \xba \xba         ", // ExpressionAfterE
+    *b"                                        \xbf                                   \xb8          ", // ExpressionAfterF
+    *b"                                                                 \xba              \xba      ", // ExpressionAfterG
+    *b"                                                                        \xc0           \xba  ", // ExpressionAfterI
+    *b"                                               \xba                 \xba             \xba\xba      ", // ExpressionAfterL
+    *b"                                     \xba  \xba                            \xba  \xba\xc1             ", // ExpressionAfterM
+    *b"                                                                 \xba \xbb            \xbb   \xbb  ", // ExpressionAfterN
+    *b"                                              \xba                           \xb6\xba  \xba        ", // ExpressionAfterO
+    *b"                                        \xba                               \xba\xba  \xc1  \xbb\xba      ", // ExpressionAfterP
+    *b"                                                                                 \xc2     ", // ExpressionAfterQ
+    *b"                                         \xba     \xba               \xb5         \xba     \xba       ", // ExpressionAfterR
+    *b"                                                      \xc4        \xb5            \xc3 \xc5\xba\xbc     \xbb", // ExpressionAfterS
+    *b"                                                                 \xbb   \xbc  \xc6              ", // ExpressionAfterT
+    *b"            \xd9\xd9\xd9\xd9\xd9\xd9\xd9\xd9\xd9\xd9                  \xd9       \xd9            \xd9 \xd9\xd9\xd9\xd9\xd9 \xd9  \xd9\xd9\xd9\xd9\xd9\xd9\xd9\xd9\xd9      ", // Expressions
+    *b"                                                           !                           ", // MaybeBefore
+    *b"                                                                            \xb8          ", // OuterRest
+    *b"            \xdb\xdb\xdb\xdb\xdb\xdb\xdb\xdb\xdb\xdb                          \xda          \xdb                           ", // ParameterNumber
+    *b"            \xe0\xe0\xe0\xe0\xe0\xe0\xe0\xe0\xe0\xe0          \xdc \xe0    \xdd  \xe0\xdf\xde \xdf\xe0\xe0\xe0           \xe0\xe0\xe0\xe0\xe0\xe0\xe0\xe0\xe0\xe0 \xe0\xe0\xe0\xe0   \xe0\xe0 \xe0\xe0\xe0\xe0\xe0", // ConvertedType
+    *b"            $$$$$$$$$$            u       S    po#           rrrrrrrrrr rrrr   rr rrrrr", // ConvertedSolid
+    *b"                                                l                               l      ", // DecltypeAfterD
+    *b"            \xb7\xb7\xb7\xb7\xb7\xb7\xb7\xb7\xb7\xb7                  \xad       \xd7          \xc0 \xc7 \xc8\xc9\xca\xcb\xcc \xcd  \xce\xcf\xd0\xd1\xd2\xd3\xd4\xd5\xd6      ", // ConvertRest
+    *b"            \xe2\xe2\xe2\xe2\xe2\xe2\xe2\xe2\xe2\xe2          \xe1         \xe1    \xe1\xe1                                      ", // Unresolved
+    *b"                                \xdc         S    po                                      ", // UnresolvedType
+    *b"            \xb7\xb7\xb7\xb7\xb7\xb7\xb7\xb7\xb7\xb7                                                                 ", // Level
+    *b"            \xe2\xe2\xe2\xe2\xe2\xe2\xe2\xe2\xe2\xe2           \xe3                                                     ", // MoreLevels
+    *b"            \xb7\xb7\xb7\xb7\xb7\xb7\xb7\xb7\xb7\xb7                                                     \xe4           ", // UnresolvedName
+    *b"                                                                          \xb6            ", // OperatorName
+    *b"                             \xe5                                                         ", // AnyArray
+    *b"            \xe7\xe7\xe7\xe7\xe7\xe7\xe7\xe7\xe7\xe7                  \xe6       \xe6          \xe7 \xe6 \xe6\xe6\xe6\xe6\xe6 \xe6  \xe6\xe6\xe6\xe6\xe6\xe6\xe6\xe6\xe6      ", // ArrayRest
+    *b"                                        \xad       \xd7            \xc7 \xc8\xc9\xca\xcb\xcc \xcd  \xce\xcf\xd0\xd1\xd2\xd3\xd4\xd5\xd6      ", // Bound
     *b"            GGGGGGGGGG         GGI      GG       G           G GGG G G  GGGGG GG       ", // NestMoreOrEnd
 ];
 
@@ -115,7 +147,7 @@ static WIDE_LETTERS: [[u8; 87]; 99] = [
 #[inline]
 fn number(kind: u16, byte: u8) -> Option<usize>
     requires { kind < wide.kinds }
-    ensures few { IfSome result (λ number. number < 153) }
+    ensures few { IfSome result (λ number. number < 199) }
     ensures rule { (head : Head) → MatchOption result (wide.rule kind byte ≡ None) (λ number. wide.rule kind byte ≡ Some (listed_rule head number)) }
 {
     match letter_in(&WIDE_LETTERS[kind as usize], byte) {

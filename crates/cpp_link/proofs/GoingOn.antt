@@ -128,6 +128,8 @@ quiet_between Production.OwnArguments around place vs state less = absurd (never
 quiet_between Production.BaseArguments around place vs state less = absurd (never vs less)
 quiet_between Production.ValueOf around place vs state less = absurd (never vs less)
 quiet_between Production.OfConcept around place vs state less = absurd (never vs less)
+quiet_between Production.ExpandExpression around place vs state less = absurd (never vs less)
+quiet_between Production.PackSize around place vs state less = absurd (never vs less)
 quiet_between Production.InternalName around place [] state less = refl
 quiet_between Production.InternalName around place (v ∷ vs) state less = absurd (not_first vs less)
 quiet_between Production.LocalTypeName around place [] state less = refl
@@ -196,10 +198,14 @@ quiet_between Production.TypeTag around place [] state less = refl
 quiet_between Production.TypeTag around place (v ∷ vs) state less = absurd (not_first vs less)
 quiet_between Production.ParameterArgument around place [] state less = refl
 quiet_between Production.ParameterArgument around place (v ∷ vs) state less = absurd (not_first vs less)
+quiet_between Production.OperatorReference around place [] state less = refl
+quiet_between Production.OperatorReference around place (v ∷ vs) state less = absurd (not_first vs less)
+quiet_between Production.SimpleId around place [] state less = refl
+quiet_between Production.SimpleId around place (v ∷ vs) state less = absurd (not_first vs less)
 quiet_between Production.ParameterExpression around place [] state less = refl
 quiet_between Production.ParameterExpression around place (v ∷ vs) state less = absurd (not_first vs less)
-quiet_between Production.BoundedArray around place [] state less = refl
-quiet_between Production.BoundedArray around place (v ∷ vs) state less = absurd (not_first vs less)
+quiet_between Production.UnresolvedInType around place [] state less = refl
+quiet_between Production.UnresolvedInType around place (v ∷ vs) state less = absurd (not_first vs less)
 quiet_between _ around place vs state less = refl
 
 pub quiet_right : (s : List ℕ) (old : Linked) (frame : Frame Surroundings) (parts : List Part) (held : ℕ)

@@ -45,6 +45,8 @@ quiet_makes Production.OwnArguments vs less = absurd (never vs less)
 quiet_makes Production.BaseArguments vs less = absurd (never vs less)
 quiet_makes Production.ValueOf vs less = absurd (never vs less)
 quiet_makes Production.OfConcept vs less = absurd (never vs less)
+quiet_makes Production.ExpandExpression vs less = absurd (never vs less)
+quiet_makes Production.PackSize vs less = absurd (never vs less)
 quiet_makes Production.InternalName [] less = refl
 quiet_makes Production.InternalName (v ∷ vs) less = absurd (not_first vs less)
 quiet_makes Production.LocalTypeName [] less = refl
@@ -113,10 +115,14 @@ quiet_makes Production.TypeTag [] less = refl
 quiet_makes Production.TypeTag (v ∷ vs) less = absurd (not_first vs less)
 quiet_makes Production.ParameterArgument [] less = refl
 quiet_makes Production.ParameterArgument (v ∷ vs) less = absurd (not_first vs less)
+quiet_makes Production.OperatorReference [] less = refl
+quiet_makes Production.OperatorReference (v ∷ vs) less = absurd (not_first vs less)
+quiet_makes Production.SimpleId [] less = refl
+quiet_makes Production.SimpleId (v ∷ vs) less = absurd (not_first vs less)
 quiet_makes Production.ParameterExpression [] less = refl
 quiet_makes Production.ParameterExpression (v ∷ vs) less = absurd (not_first vs less)
-quiet_makes Production.BoundedArray [] less = refl
-quiet_makes Production.BoundedArray (v ∷ vs) less = absurd (not_first vs less)
+quiet_makes Production.UnresolvedInType [] less = refl
+quiet_makes Production.UnresolvedInType (v ∷ vs) less = absurd (not_first vs less)
 quiet_makes _ vs less = refl
 
 pub quiet_made : (s : List ℕ) (old : Linked) (frame : Frame Surroundings) (parts : List Part) (held : ℕ) → held ≡ length parts - frame.base → held < quiet_parts (production_at frame.rule)

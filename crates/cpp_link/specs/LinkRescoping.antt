@@ -50,13 +50,11 @@ is_parameter Production.Parameter = true
 is_parameter Production.NestParameter = true
 is_parameter Production.ParameterArgument = true
 is_parameter Production.ParameterExpression = true
-is_parameter Production.BoundedArray = true
 is_parameter _ = false
 
--- one that is an argument itself, or the length of an array
+-- one in an expression
 unfoldable pub is_parameter_argument : Production → Bool
 is_parameter_argument Production.ParameterExpression = true
-is_parameter_argument Production.BoundedArray = true
 is_parameter_argument _ = false
 
 unfoldable pub is_substitution : Production → Bool

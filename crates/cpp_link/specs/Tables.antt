@@ -52,15 +52,18 @@ quiet_parts Production.TypeTag = 1
 quiet_parts Production.ParameterArgument = 1
 quiet_parts Production.ValueOf = 0
 quiet_parts Production.OfConcept = 0
+quiet_parts Production.OperatorReference = 1
+quiet_parts Production.SimpleId = 1
+quiet_parts Production.ExpandExpression = 0
+quiet_parts Production.PackSize = 0
 quiet_parts Production.ParameterExpression = 1
-quiet_parts Production.BoundedArray = 1
+quiet_parts Production.UnresolvedInType = 1
 quiet_parts _ = 5
 
 -- parts without a row may be between those with one
 unfoldable pub skips_parts : Production → Bool
 skips_parts Production.Symbol = true
 skips_parts Production.EncodingLiteral = true
-skips_parts Production.Address = true
 skips_parts Production.NonVirtualThunk = true
 skips_parts Production.VirtualThunk = true
 skips_parts Production.VirtualOffset = true
@@ -81,7 +84,8 @@ skips_parts Production.NoexceptFunction = true
 skips_parts Production.Function = true
 skips_parts Production.PackArgument = true
 skips_parts Production.ConstructionVtable = true
-skips_parts Production.AddressExpression = true
 skips_parts Production.BoundedArray = true
 skips_parts Production.PackOf = true
+skips_parts Production.Step = true
+skips_parts Production.FunctionParameter = true
 skips_parts _ = false

@@ -20,7 +20,7 @@ use crate::numbers::{from_byte, local_number, normal, one_byte, signed_digits};
 use crate::part::{Outcome, Part, Surroundings};
 use cpp_grammar::production::Production;
 use cpp_tree::node::{Adjustment, Mark, Node, Piece, Qualifiers, Thunk};
-use cpp_tree::nodes::NIL;
+use cpp_tree::nodes::{ABSENT, NIL};
 
 /// A node to come, which is a tree.
 #[inline(always)]
@@ -271,7 +271,7 @@ impl Linked {
                 },
                 false,
             ),
-            // <array-type> ::= A <template-param> _ <element type>, after the A
+            // <array-type> ::= A <expression> _ <element type>, after the A
             Production::BoundedArray => made(
                 Node::Bounded {
                     bound: self.tree(symbol, parts, 0),
@@ -355,12 +355,79 @@ impl Linked {
             Production::PackOf => Outcome::Given(Part::Letter(byte)),
             // <template-param-decl>*
             Production::Declarations => Outcome::Given(Part::Letter(byte)),
-            // X <expression> E
-            Production::Expression => Outcome::Given(self.given(symbol, parts, 0)),
-            // <expression> ::= ad <expression>, after the a
-            Production::AddressExpression => Outcome::Given(self.given(symbol, parts, 1)),
-            // <expression> ::= <template-param>
-            Production::ParameterExpression => Outcome::Given(self.given(symbol, parts, 0)),
+            // <expression>, by the first letter of its operator, and what is after that
+            Production::ExpressionA => self.operation_by(symbol, byte, parts),
+            Production::ExpressionC => self.operation_by(symbol, byte, parts),
+            Production::ExpressionD => self.operation_by(symbol, byte, parts),
+            Production::ExpressionE => self.operation_by(symbol, byte, parts),
+            Production::ExpressionF => self.operation_by(symbol, byte, parts),
+            Production::ExpressionG => self.operation_by(symbol, byte, parts),
+            Production::ExpressionI => self.operation_by(symbol, byte, parts),
+            Production::ExpressionL => self.operation_by(symbol, byte, parts),
+            Production::ExpressionM => self.operation_by(symbol, byte, parts),
+            Production::ExpressionN => self.operation_by(symbol, byte, parts),
+            Production::ExpressionO => self.operation_by(symbol, byte, parts),
+            Production::ExpressionP => self.operation_by(symbol, byte, parts),
+            Production::ExpressionQ => self.operation_by(symbol, byte, parts),
+            Production::ExpressionR => self.operation_by(symbol, byte, parts),
+            Production::ExpressionS => self.operation_by(symbol, byte, parts),
+            Production::ExpressionT => self.operation_by(symbol, byte, parts),
+            Production::Expression => self.outcome_of_expression(symbol, Production::Expression, byte, parts),
+            Production::Expressions => self.outcome_of_expression(symbol, Production::Expressions, byte, parts),
+            Production::ExpandExpression => self.outcome_of_expression(symbol, Production::ExpandExpression, byte, parts),
+            Production::FunctionParameter => self.outcome_of_expression(symbol, Production::FunctionParameter, byte, parts),
+            Production::OuterParameter => self.outcome_of_expression(symbol, Production::OuterParameter, byte, parts),
+            Production::Unresolved => self.outcome_of_expression(symbol, Production::Unresolved, byte, parts),
+            Production::UnresolvedInType => self.outcome_of_expression(symbol, Production::UnresolvedInType, byte, parts),
+            Production::Levels => self.outcome_of_expression(symbol, Production::Levels, byte, parts),
+            Production::LevelsEnd => self.outcome_of_expression(symbol, Production::LevelsEnd, byte, parts),
+            Production::UnresolvedOperator => self.outcome_of_expression(symbol, Production::UnresolvedOperator, byte, parts),
+            Production::AddressedLiteral => self.outcome_of_expression(symbol, Production::AddressedLiteral, byte, parts),
+            Production::Unary => self.outcome_of_expression(symbol, Production::Unary, byte, parts),
+            Production::AddressExpression => self.outcome_of_expression(symbol, Production::AddressExpression, byte, parts),
+            Production::OfType => self.outcome_of_expression(symbol, Production::OfType, byte, parts),
+            Production::Binary => self.outcome_of_expression(symbol, Production::Binary, byte, parts),
+            Production::Cast => self.outcome_of_expression(symbol, Production::Cast, byte, parts),
+            Production::Call => self.outcome_of_expression(symbol, Production::Call, byte, parts),
+            Production::TypedBraces => self.outcome_of_expression(symbol, Production::TypedBraces, byte, parts),
+            Production::Braces => self.outcome_of_expression(symbol, Production::Braces, byte, parts),
+            Production::Step => self.outcome_of_expression(symbol, Production::Step, byte, parts),
+            Production::Convert => self.outcome_of_expression(symbol, Production::Convert, byte, parts),
+            Production::Conditional => self.outcome_of_expression(symbol, Production::Conditional, byte, parts),
+            Production::PackSize => self.outcome_of_expression(symbol, Production::PackSize, byte, parts),
+            // <expression> ::= <template-param> [<template-args>]
+            Production::ParameterExpression => self.applied(symbol, parts, false),
+            // <unresolved-name> ::= <source-name> [<template-args>] | on <operator-name> [<template-args>]
+            Production::SimpleId => self.applied(symbol, parts, false),
+            Production::OperatorReference => self.applied(symbol, parts, false),
+            // <function-param> ::= fpT
+            Production::This => made(
+                Node::Operation {
+                    first: b'f',
+                    second: b'T',
+                    left: ABSENT,
+                    right: ABSENT,
+                },
+                true,
+            ),
+            // <function-param> ::= fp [<CV-qualifiers>] [<number>] _
+            Production::ParameterNumber => made(
+                Node::FunctionParameter(normal(symbol, self.text(symbol, parts, 0))),
+                true,
+            ),
+            // <decltype> ::= Dt <expression> E | DT <expression> E
+            Production::Decltype => made(Node::Decltype(self.tree(symbol, parts, 0)), false),
+            // <type> after st, ti, at and cv
+            Production::ConvertedDecltype => tree(self.tree(symbol, parts, 0), true),
+            Production::ConvertedType => tree(self.tree(symbol, parts, 0), true),
+            Production::ConvertedConst => qualified(
+                false,
+                false,
+                true,
+                self.tree(symbol, parts, 0),
+            ),
+            Production::ConvertedPointer => made(Node::Pointer(self.tree(symbol, parts, 0)), true),
+            Production::ConvertedReference => self.reference_meant(symbol, byte, parts),
             // <type> ::= R <type>, a parameter, and those after it
             Production::LvalueItem => items(
                 self.tree(symbol, parts, 0),
@@ -379,8 +446,6 @@ impl Linked {
                 self.tree(symbol, parts, 1),
                 self.reference(symbol, parts, 1),
             ),
-            // <expr-primary> ::= L <mangled-name> E
-            Production::Address => made(Node::AddressOf(self.tree(symbol, parts, 2)), true),
             // <expr-primary> ::= L <mangled-name> E, as an argument
             Production::EncodingLiteral => made(
                 Node::EncodingLiteral(self.tree(symbol, parts, 1)),

@@ -64,6 +64,17 @@ pub enum Outcome {
         letter: u8,
         value: Signed,
     },
+    /// A pair of which one tree isn't there yet: the right one, or the left one, without which there is no right one.
+    MadeOperand {
+        letter: u8,
+        left: Option<u32>,
+        node: Node,
+    },
+    /// An element in parentheses, and those after it.
+    Enclosed {
+        first: u32,
+        rest: u32,
+    },
     /// A name with arguments.
     Applied {
         name: Node,

@@ -71,6 +71,20 @@ impl Linked {
         }
     }
 
+    /// A name is made of this node, which is no candidate.
+    #[inline(always)]
+    fn listed_name(&self, node: Node) -> Step
+        ensures { result ≡ Step.Made node true true false self.now.packs }
+    {
+        Step::Made {
+            node,
+            listed: true,
+            is_name: true,
+            is_candidate: false,
+            packs: self.packs,
+        }
+    }
+
     /// The node of a part.
     #[inline(always)]
     pub fn node(&self, symbol: &[u8], part: Part) -> u32
@@ -156,6 +170,16 @@ impl Linked {
             Production::ValueOf => self.go(self.in_signature(kept)),
             Production::OfConcept => self.go(self.in_signature(kept)),
             Production::Expansion => Step::Go {
+                candidate: None,
+                then: self.under_expansion(kept),
+                packs: None,
+            },
+            Production::ExpandExpression => Step::Go {
+                candidate: None,
+                then: self.under_expansion(kept),
+                packs: None,
+            },
+            Production::PackSize => Step::Go {
                 candidate: None,
                 then: self.under_expansion(kept),
                 packs: None,
@@ -319,7 +343,6 @@ impl Linked {
         requires nest { production ≡ productions.NestParameter → ⊥ }
         requires argument { production ≡ productions.ParameterArgument → ⊥ }
         requires expression { production ≡ productions.ParameterExpression → ⊥ }
-        requires length { production ≡ productions.BoundedArray → ⊥ }
         requires pack { production ≡ productions.PackArgument → ⊥ }
         requires holder { production ≡ productions.Holder → ⊥ }
         ensures is { (cs : List values.Candidate) → between production (around_of (trees_in symbol.now self.now.nodes) kept) place (value_in symbol.now self.now.nodes first ∷ []) (record { candidates = cs; packs = self.now.packs }) ≡ goes_on symbol.now self.now.nodes kept (value_in symbol.now self.now.nodes first ∷ []) cs self.now.packs result }
@@ -485,6 +508,24 @@ impl Linked {
                 listed: true,
                 is_name: false,
                 is_candidate: true,
+                packs: self.packs,
+            },
+            Production::SimpleId => self.listed_name(self.extended(
+                symbol,
+                kept.prefix(),
+                Piece::Source {
+                    internal: false,
+                    bytes: self.text_in(symbol, first),
+                },
+            )),
+            Production::OperatorReference => self.listed_name(self.extended(
+                symbol,
+                kept.prefix(),
+                self.piece_in(symbol, first),
+            )),
+            Production::UnresolvedInType => Step::Go {
+                candidate: self.type_candidate(symbol, kept, first),
+                then: kept,
                 packs: self.packs,
             },
             Production::IntegerLiteral => Step::Go {
@@ -714,10 +755,6 @@ impl Linked {
                 self.parameter(symbol, kept, place.saturating_sub(1), digits)
             }
             Production::ParameterExpression => {
-                let digits = self.text_in(symbol, first);
-                self.parameter_argument(symbol, kept, place, digits)
-            }
-            Production::BoundedArray => {
                 let digits = self.text_in(symbol, first);
                 self.parameter_argument(symbol, kept, place, digits)
             }

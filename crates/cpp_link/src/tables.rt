@@ -3,7 +3,7 @@
 use cpp_grammar::production::Production;
 
 /// The productions.
-pub(crate) const PRODUCTIONS: [Production; 153] = [
+pub(crate) const PRODUCTIONS: [Production; 199] = [
     Production::Mark,
     Production::InternalName,
     Production::LocalTypeName,
@@ -79,6 +79,7 @@ pub(crate) const PRODUCTIONS: [Production; 153] = [
     Production::NoexceptFunction,
     Production::SizedFloat,
     Production::ConstrainedAuto,
+    Production::Decltype,
     Production::Pointer,
     Production::MemberPointer,
     Production::Parameter,
@@ -106,7 +107,6 @@ pub(crate) const PRODUCTIONS: [Production; 153] = [
     Production::AnyArgument,
     Production::LiteralElement,
     Production::AnyElement,
-    Production::Address,
     Production::EncodingLiteral,
     Production::BoolLiteral,
     Production::LiteralWithD,
@@ -152,15 +152,61 @@ pub(crate) const PRODUCTIONS: [Production; 153] = [
     Production::TemplateOf,
     Production::PackOf,
     Production::Declarations,
+    Production::Cast,
+    Production::OperatorReference,
+    Production::SimpleId,
+    Production::FunctionParameter,
     Production::AddressExpression,
+    Production::Binary,
+    Production::Unary,
+    Production::OfType,
+    Production::Call,
+    Production::Convert,
+    Production::OuterParameter,
+    Production::Braces,
+    Production::Step,
+    Production::Conditional,
+    Production::ExpandExpression,
+    Production::PackSize,
+    Production::Unresolved,
+    Production::TypedBraces,
+    Production::ExpressionA,
+    Production::ExpressionC,
+    Production::ExpressionD,
+    Production::ExpressionE,
+    Production::ExpressionF,
+    Production::ExpressionG,
+    Production::ExpressionI,
+    Production::ExpressionL,
+    Production::ExpressionM,
+    Production::ExpressionN,
+    Production::ExpressionO,
+    Production::ExpressionP,
+    Production::ExpressionQ,
+    Production::ExpressionR,
+    Production::ExpressionS,
+    Production::ExpressionT,
     Production::ParameterExpression,
+    Production::AddressedLiteral,
+    Production::Expressions,
+    Production::This,
+    Production::ParameterNumber,
+    Production::ConvertedDecltype,
+    Production::ConvertedConst,
+    Production::ConvertedPointer,
+    Production::ConvertedReference,
+    Production::ConvertedType,
+    Production::UnresolvedInType,
+    Production::Levels,
+    Production::LevelsEnd,
+    Production::UnresolvedOperator,
     Production::AnyArray,
     Production::BoundedArray,
     Production::LengthArray,
 ];
 
 /// How many parts each has.
-pub(crate) const PART_COUNTS: [u8; 153] = [
+pub(crate) const PART_COUNTS: [u8; 199] = [
     0, // Mark
     2, // InternalName
     2, // LocalTypeName
@@ -236,6 +282,7 @@ pub(crate) const PART_COUNTS: [u8; 153] = [
     4, // NoexceptFunction
     2, // SizedFloat
     1, // ConstrainedAuto
+    2, // Decltype
     1, // Pointer
     2, // MemberPointer
     2, // Parameter
@@ -263,7 +310,6 @@ pub(crate) const PART_COUNTS: [u8; 153] = [
     2, // AnyArgument
     3, // LiteralElement
     2, // AnyElement
-    5, // Address
     2, // EncodingLiteral
     1, // BoolLiteral
     1, // LiteralWithD
@@ -296,7 +342,7 @@ pub(crate) const PART_COUNTS: [u8; 153] = [
     2, // Clone
     2, // TaggedStdType
     2, // TypeTag
-    1, // Expression
+    2, // Expression
     1, // ArgumentWithT
     1, // PlainArgument
     2, // DeclaredArgument
@@ -309,15 +355,61 @@ pub(crate) const PART_COUNTS: [u8; 153] = [
     2, // TemplateOf
     2, // PackOf
     2, // Declarations
-    2, // AddressExpression
+    2, // Cast
+    2, // OperatorReference
+    2, // SimpleId
+    4, // FunctionParameter
+    1, // AddressExpression
+    2, // Binary
+    1, // Unary
+    1, // OfType
+    3, // Call
+    2, // Convert
+    2, // OuterParameter
+    2, // Braces
+    2, // Step
+    3, // Conditional
+    1, // ExpandExpression
+    1, // PackSize
+    1, // Unresolved
+    3, // TypedBraces
+    1, // ExpressionA
+    1, // ExpressionC
+    1, // ExpressionD
+    1, // ExpressionE
+    1, // ExpressionF
+    1, // ExpressionG
+    1, // ExpressionI
+    1, // ExpressionL
+    1, // ExpressionM
+    1, // ExpressionN
+    1, // ExpressionO
+    1, // ExpressionP
+    1, // ExpressionQ
+    1, // ExpressionR
+    1, // ExpressionS
+    1, // ExpressionT
     2, // ParameterExpression
+    2, // AddressedLiteral
+    2, // Expressions
+    0, // This
+    1, // ParameterNumber
+    1, // ConvertedDecltype
+    1, // ConvertedConst
+    1, // ConvertedPointer
+    1, // ConvertedReference
+    1, // ConvertedType
+    2, // UnresolvedInType
+    2, // Levels
+    1, // LevelsEnd
+    1, // UnresolvedOperator
     1, // AnyArray
     3, // BoundedArray
     2, // LengthArray
 ];
 
 /// Whether parts without a row may be between those of each.
-pub(crate) const SKIPS_PARTS: [bool; 153] = [
+pub(crate) const SKIPS_PARTS: [bool; 199] = [
     false, // Mark
     false, // InternalName
     false, // LocalTypeName
@@ -393,6 +485,7 @@ pub(crate) const SKIPS_PARTS: [bool; 153] = [
     true, // NoexceptFunction
     false, // SizedFloat
     false, // ConstrainedAuto
+    false, // Decltype
     false, // Pointer
     false, // MemberPointer
     false, // Parameter
@@ -420,7 +513,6 @@ pub(crate) const SKIPS_PARTS: [bool; 153] = [
     false, // AnyArgument
     true, // LiteralElement
     false, // AnyElement
-    true, // Address
     true, // EncodingLiteral
     false, // BoolLiteral
     false, // LiteralWithD
@@ -466,15 +558,61 @@ pub(crate) const SKIPS_PARTS: [bool; 153] = [
     false, // TemplateOf
     true, // PackOf
     false, // Declarations
-    true, // AddressExpression
+    false, // Cast
+    false, // OperatorReference
+    false, // SimpleId
+    true, // FunctionParameter
+    false, // AddressExpression
+    false, // Binary
+    false, // Unary
+    false, // OfType
+    false, // Call
+    false, // Convert
+    false, // OuterParameter
+    false, // Braces
+    true, // Step
+    false, // Conditional
+    false, // ExpandExpression
+    false, // PackSize
+    false, // Unresolved
+    false, // TypedBraces
+    false, // ExpressionA
+    false, // ExpressionC
+    false, // ExpressionD
+    false, // ExpressionE
+    false, // ExpressionF
+    false, // ExpressionG
+    false, // ExpressionI
+    false, // ExpressionL
+    false, // ExpressionM
+    false, // ExpressionN
+    false, // ExpressionO
+    false, // ExpressionP
+    false, // ExpressionQ
+    false, // ExpressionR
+    false, // ExpressionS
+    false, // ExpressionT
     false, // ParameterExpression
+    false, // AddressedLiteral
+    false, // Expressions
+    false, // This
+    false, // ParameterNumber
+    false, // ConvertedDecltype
+    false, // ConvertedConst
+    false, // ConvertedPointer
+    false, // ConvertedReference
+    false, // ConvertedType
+    false, // UnresolvedInType
+    false, // Levels
+    false, // LevelsEnd
+    false, // UnresolvedOperator
     false, // AnyArray
     true, // BoundedArray
     false, // LengthArray
 ];
 
 /// Before how many of its parts nothing is done in each: before none, the first, or all, which are five at most.
-pub(crate) const QUIET_PARTS: [u8; 153] = [
+pub(crate) const QUIET_PARTS: [u8; 199] = [
     5, // Mark
     1, // InternalName
     1, // LocalTypeName
@@ -550,6 +688,7 @@ pub(crate) const QUIET_PARTS: [u8; 153] = [
     5, // NoexceptFunction
     5, // SizedFloat
     5, // ConstrainedAuto
+    5, // Decltype
     5, // Pointer
     5, // MemberPointer
     1, // Parameter
@@ -577,7 +716,6 @@ pub(crate) const QUIET_PARTS: [u8; 153] = [
     5, // AnyArgument
     5, // LiteralElement
     5, // AnyElement
-    5, // Address
     5, // EncodingLiteral
     5, // BoolLiteral
     5, // LiteralWithD
@@ -623,9 +761,55 @@ pub(crate) const QUIET_PARTS: [u8; 153] = [
     5, // TemplateOf
     5, // PackOf
     5, // Declarations
+    5, // Cast
+    1, // OperatorReference
+    1, // SimpleId
+    5, // FunctionParameter
     5, // AddressExpression
+    5, // Binary
+    5, // Unary
+    5, // OfType
+    5, // Call
+    5, // Convert
+    5, // OuterParameter
+    5, // Braces
+    5, // Step
+    5, // Conditional
+    0, // ExpandExpression
+    0, // PackSize
+    5, // Unresolved
+    5, // TypedBraces
+    5, // ExpressionA
+    5, // ExpressionC
+    5, // ExpressionD
+    5, // ExpressionE
+    5, // ExpressionF
+    5, // ExpressionG
+    5, // ExpressionI
+    5, // ExpressionL
+    5, // ExpressionM
+    5, // ExpressionN
+    5, // ExpressionO
+    5, // ExpressionP
+    5, // ExpressionQ
+    5, // ExpressionR
+    5, // ExpressionS
+    5, // ExpressionT
     1, // ParameterExpression
+    5, // AddressedLiteral
+    5, // Expressions
+    5, // This
+    5, // ParameterNumber
+    5, // ConvertedDecltype
+    5, // ConvertedConst
+    5, // ConvertedPointer
+    5, // ConvertedReference
+    5, // ConvertedType
+    1, // UnresolvedInType
+    5, // Levels
+    5, // LevelsEnd
+    5, // UnresolvedOperator
     5, // AnyArray
-    1, // BoundedArray
+    5, // BoundedArray
     5, // LengthArray
 ];

@@ -36,7 +36,7 @@ parameter_here around place k vs state = elim around.in_lambda [
   | false ↦ parameter_so_far around place k vs state
 ]
 
--- so is a parameter that is an argument itself, or the length of an array, which is no candidate
+-- so is a parameter in an expression, which is no candidate
 unfoldable pub argument_here : Around → (place : ℕ) → ℕ → State → Going
 argument_here around place k state = elim around.in_lambda [
   | true ↦ next (tree (parameter (generic_number k) auto) true ∷ []) around state
@@ -160,7 +160,6 @@ between_wide Production.Parameter around place (v ∷ []) state = parameter_here
 between_wide Production.NestParameter around place (v ∷ []) state = parameter_here around place (index_of v) [] state
 between_wide Production.ParameterArgument around place (v ∷ []) state = parameter_here around (place - 1) (index_of v) [] state
 between_wide Production.ParameterExpression around place (v ∷ []) state = argument_here around place (index_of v) state
-between_wide Production.BoundedArray around place (v ∷ []) state = argument_here around place (index_of v) state
 between_wide Production.OwnArguments around place [] state = next [] (inside around) (with_base around (prefix_tree around.prefix) state)
 between_wide Production.Holder around place (v ∷ []) state = holder_so_far around place state
 between_wide production around place vs state = between production around place vs state

@@ -90,7 +90,7 @@ argument_at around k = elim around.scope [ None ↦ absent | Some arguments ↦ 
 unfoldable pub parameter_so_far : Around → (place : ℕ) → ℕ → List Value → State → Going
 parameter_so_far around place k vs state = parameter_named around place k state >>= λ s. listed_so_far around (parameter k (argument_at around k)) vs s
 
--- a parameter that is an argument itself, or the length of an array, is tested in the same way, and no candidate
+-- a parameter in an expression is tested in the same way, and no candidate
 unfoldable pub argument_so_far : Around → (place : ℕ) → ℕ → State → Going
 argument_so_far around place k state = parameter_named around place k state >>= λ s. next (tree (parameter k (argument_at around k)) true ∷ []) around (record s { candidates = state.candidates })
 

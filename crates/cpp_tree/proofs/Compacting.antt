@@ -151,8 +151,10 @@ pub record IsOther (n : Node) : Type 0 where
   pub not_qualified : (q : Qualifiers) (i : ℕ) → n ≡ Node.Qualified q i → ⊥
   pub not_vector : (d : Span) (i : ℕ) → n ≡ Node.Vector d i → ⊥
   pub not_complex : (i : ℕ) → n ≡ Node.Complex i → ⊥
+  pub not_decltype : (i : ℕ) → n ≡ Node.Decltype i → ⊥
   pub not_expansion : (i : ℕ) → n ≡ Node.Expansion i → ⊥
   pub not_integer : (i : ℕ) (v : Signed) → n ≡ Node.Integer i v → ⊥
+  pub not_operation : (k : ℕ) (k : ℕ) (i : ℕ) (j : ℕ) → n ≡ Node.Operation k k i j → ⊥
   pub not_pack : (i : ℕ) → n ≡ Node.Pack i → ⊥
   pub not_cell : (i : ℕ) (j : ℕ) → n ≡ Node.Cell i j → ⊥
   pub not_reargued : (i : ℕ) (j : ℕ) → n ≡ Node.Reargued i j → ⊥
@@ -181,8 +183,10 @@ other-node ns (Node.FunctionType x y m i j) other = absurd (other.not_functionty
 other-node ns (Node.Qualified q i) other = absurd (other.not_qualified q i refl)
 other-node ns (Node.Vector d i) other = absurd (other.not_vector d i refl)
 other-node ns (Node.Complex i) other = absurd (other.not_complex i refl)
+other-node ns (Node.Decltype i) other = absurd (other.not_decltype i refl)
 other-node ns (Node.Expansion i) other = absurd (other.not_expansion i refl)
 other-node ns (Node.Integer i v) other = absurd (other.not_integer i v refl)
+other-node ns (Node.Operation k k i j) other = absurd (other.not_operation k k i j refl)
 other-node ns (Node.Pack i) other = absurd (other.not_pack i refl)
 other-node ns (Node.Cell i j) other = absurd (other.not_cell i j refl)
 other-node ns (Node.Reargued i j) other = absurd (other.not_reargued i j refl)

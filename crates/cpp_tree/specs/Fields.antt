@@ -116,12 +116,15 @@ fields_of (function_type c_linkage noexcept mark returned parameters) =
 fields_of (qualified q type) = fields QUALIFIED (qualifiers_number q) 0 [] (type ∷ [])
 fields_of (vector digits element) = fields VECTOR 0 0 digits (element ∷ [])
 fields_of (complex type) = fields COMPLEX 0 0 [] (type ∷ [])
+fields_of (decltype encoding) = fields DECLTYPE 0 0 [] (encoding ∷ [])
 fields_of (expansion pattern) = fields EXPANSION 0 0 [] (pattern ∷ [])
 fields_of (integer type value) = fields INTEGER (bit value.negative) 0 value.digits (type ∷ [])
 fields_of (boolean truth) = fields BOOLEAN (bit truth) 0 [] []
 fields_of null_pointer = fields NULL_POINTER 0 0 [] []
 fields_of (encoding_literal encoding) = fields ENCODING_LITERAL 0 0 [] (encoding ∷ [])
 fields_of (address_of encoding) = fields ADDRESS_OF 0 0 [] (encoding ∷ [])
+fields_of (operation first second left right) = fields OPERATION first second [] (left ∷ right ∷ [])
+fields_of (function_parameter digits) = fields FUNCTION_PARAMETER 0 0 digits []
 fields_of (pack elements) = fields PACK 0 0 [] (elements ∷ [])
 fields_of (alone piece) = name_fields ALONE [] (alone piece) piece
 fields_of (in_std piece) = name_fields IN_STD [] (in_std piece) piece
@@ -246,12 +249,15 @@ narrow_tree_from given = tree_at given.production (
     ∷ (QUALIFIED, qualified (qualifiers_in (number_in given 0)) (part_in given 0))
     ∷ (VECTOR, vector (text_in given 0) (part_in given 0))
     ∷ (COMPLEX, complex (part_in given 0))
+    ∷ (DECLTYPE, decltype (part_in given 0))
     ∷ (EXPANSION, expansion (part_in given 0))
     ∷ (INTEGER, integer (part_in given 0) (signed_in given 0))
     ∷ (BOOLEAN, boolean (is_so given 0))
     ∷ (NULL_POINTER, null_pointer)
     ∷ (ENCODING_LITERAL, encoding_literal (part_in given 0))
     ∷ (ADDRESS_OF, address_of (part_in given 0))
+    ∷ (OPERATION, operation (number_in given 0) (number_in given 1) (part_in given 0) (part_in given 1))
+    ∷ (FUNCTION_PARAMETER, function_parameter (text_in given 0))
     ∷ (PACK, pack (part_in given 0))
     ∷ (NO_NODE, part_in given 0)
     ∷ names_in ALONE given (part_in given 0) alone ++ names_in IN_STD given (part_in given 0) in_std ++ names_in NESTED given (part_in given 1) (within (part_in given 0))

@@ -239,6 +239,8 @@ pub enum Node {
         element: u32,
     },
     Complex(u32),
+    /// The type of an expression.
+    Decltype(u32),
     Expansion(u32),
     Integer {
         ty: u32,
@@ -248,6 +250,15 @@ pub enum Node {
     NullPointer,
     EncodingLiteral(u32),
     AddressOf(u32),
+    /// An operation of an expression, by the two letters of its operator. An operand that it hasn't is absent.
+    Operation {
+        first: u8,
+        second: u8,
+        left: u32,
+        right: u32,
+    },
+    /// A parameter of the function in whose types it is, as an expression.
+    FunctionParameter(Span),
     Pack(u32),
     Cell {
         first: u32,

@@ -823,8 +823,12 @@ impl Nodes {
             Node::Qualified { ty, .. } => self.noted_qualified(node, ty),
             Node::Vector { element, .. } => self.noted_type(node, element, Words::Plain),
             Node::Complex(ty) => self.noted_type(node, ty, Words::Plain),
+            Node::Decltype(expression) => self.noted_type(node, expression, Words::Plain),
             Node::Expansion(pattern) => self.noted_expansion(node, pattern),
             Node::Integer { ty, .. } => self.noted_type(node, ty, Words::Plain),
+            Node::Operation { left, right, .. } => {
+                self.noted_types(node, left, right, Words::Plain)
+            }
             Node::Pack(elements) => self.noted_pack(node, elements),
             Node::Nil => bare(node, true),
             Node::Cell { first, rest } => self.noted_cell(symbol, node, first, rest),

@@ -264,3 +264,13 @@ pub const STD_INHERITING: u16 = 80;
 
 /// As `INHERITING`, in a prefix: its base class is the second part.
 pub const NESTED_INHERITING: u16 = 81;
+
+/// The type of an expression. Parts: the expression. Symbols of the wide grammar alone have it, and the next two.
+pub const DECLTYPE: u16 = 82;
+
+/// An operation of an expression. Numbers: the two letters of its operator. Parts: its operands, of which one that it hasn't is absent and
+/// the second may be a list.
+pub const OPERATION: u16 = 83;
+
+/// A parameter of the function in whose types it is, as an expression. Texts: the digits of its number.
+pub const FUNCTION_PARAMETER: u16 = 84;

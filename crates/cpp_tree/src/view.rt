@@ -11,13 +11,13 @@ ghost use Rattle.cpp_tree.specs.Views.{plain_tree, prefix_trees, seen_of, seen_b
 use crate::node::{Adjustment, Mark, Piece, Qualifiers, Signed, Thunk, bit};
 use crate::tree_production::{
     ABBREVIATION, ABSENT, ADDRESS_OF, ARRAY, BOOLEAN, BOUNDED, BUILTIN, BUILTIN_WITH_D, CLONE,
-    COMPLEX, CONSTRAINED, CONSTRUCTION, CONSTRUCTOR, CONVERSION, COVARIANT_THUNK, DESTRUCTOR,
-    ENCODING_LITERAL, EXPANSION, FUNCTION, FUNCTION_TYPE, GENERIC_LAMBDA, GUARD, HOLDER, INHERITING, INSTANCE,
+    COMPLEX, CONSTRAINED, CONSTRUCTION, CONSTRUCTOR, CONVERSION, COVARIANT_THUNK, DECLTYPE, DESTRUCTOR,
+    ENCODING_LITERAL, EXPANSION, FUNCTION, FUNCTION_PARAMETER, FUNCTION_TYPE, GENERIC_LAMBDA, GUARD, HOLDER, INHERITING, INSTANCE,
     INTEGER, LAMBDA, LIST, LITERAL_OPERATOR, LOCAL, LVALUE, MEMBER_POINTER, NESTED_CONSTRUCTOR,
     NESTED_CONVERSION, NESTED_DESTRUCTOR, NESTED_GENERIC_LAMBDA, NESTED_INHERITING, NESTED_LAMBDA,
     NESTED_LITERAL_OPERATOR, NESTED_NO_PIECE, NESTED_OPERATOR, NESTED_SOURCE,
     NESTED_STRING_LITERAL, NESTED_UNNAMED, NIL, NO_PIECE, NULL_POINTER, NUMBERED_LOCAL, OBJECT,
-    OF_DEFAULT, OF_NAME, OPERATOR, PACK, PARAMETER, POINTER, QUALIFIED, RVALUE, SIZED_FLOAT,
+    OF_DEFAULT, OF_NAME, OPERATION, OPERATOR, PACK, PARAMETER, POINTER, QUALIFIED, RVALUE, SIZED_FLOAT,
     SOURCE, SPECIAL, STD_CONSTRUCTOR, STD_CONVERSION, STD_DESTRUCTOR, STD_GENERIC_LAMBDA, STD_INHERITING,
     STD_LAMBDA, STD_LITERAL_OPERATOR, STD_NO_PIECE, STD_OPERATOR, STD_SOURCE, STD_STRING_LITERAL,
     STD_UNNAMED, STRING_LITERAL, SYMBOL, TABLE_THUNK, TAGGED, THUNK, UNNAMED, VECTOR, VENDOR,
@@ -460,6 +460,7 @@ fn view_of_own(symbol: &[u8], nodes: &Nodes, node: node::Node) -> NodeView
         }
         node::Node::Vector { digits, element } => one(VECTOR, none, digits, element),
         node::Node::Complex(ty) => one(COMPLEX, none, NO_TEXT, ty),
+        node::Node::Decltype(expression) => one(DECLTYPE, none, NO_TEXT, expression),
         node::Node::Expansion(pattern) => one(EXPANSION, none, NO_TEXT, pattern),
         node::Node::Integer { ty, value } => {
             one(INTEGER, [bit(value.negative) as u64, 0], value.digits, ty)
@@ -468,6 +469,18 @@ fn view_of_own(symbol: &[u8], nodes: &Nodes, node: node::Node) -> NodeView
         node::Node::NullPointer => leaf(NULL_POINTER, 0),
         node::Node::EncodingLiteral(encoding) => one(ENCODING_LITERAL, none, NO_TEXT, encoding),
         node::Node::AddressOf(encoding) => one(ADDRESS_OF, none, NO_TEXT, encoding),
+        node::Node::Operation {
+            first,
+            second,
+            left,
+            right,
+        } => {
+            let letters = [first as u64, second as u64];
+            two(OPERATION, letters, NO_TEXT, left, right)
+        }
+        node::Node::FunctionParameter(digits) => {
+            seen(FUNCTION_PARAMETER, none, [digits, NO_TEXT], 0, [0; 3])
+        }
         node::Node::Pack(elements) => one(PACK, none, NO_TEXT, elements),
         node::Node::Cell { first, rest } => two(LIST, none, NO_TEXT, first, rest),
         node::Node::Whole { encoding, suffix } => one(SYMBOL, none, suffix, encoding),

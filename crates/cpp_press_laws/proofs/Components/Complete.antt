@@ -74,8 +74,13 @@ inside-shut (function_type c_linkage noexcept ref returned parameters) x closed 
 inside-shut (qualified q type) x closed i = unqualified-shut type x (Inside type x) closed (inside-shut type x closed) i
 inside-shut (vector digits type) x closed i = itself-shut type x (Inside type x) closed (inside-shut type x closed) i
 inside-shut (complex type) x closed i = itself-shut type x (Inside type x) closed (inside-shut type x closed) i
+inside-shut (decltype e) x closed i = itself-shut e x (Inside e x) closed (inside-shut e x closed) i
 inside-shut (expansion pattern) x closed i = itself-shut pattern x (Inside pattern x) closed (inside-shut pattern x closed) i
 inside-shut (integer type value) x closed i = itself-shut type x (Inside type x) closed (inside-shut type x closed) i
+inside-shut (operation first second left right) x closed (inl i) =
+    itself-shut left x (Inside left x) (left-shut (is_open left) (is_open right) closed) (inside-shut left x (left-shut (is_open left) (is_open right) closed)) i
+inside-shut (operation first second left right) x closed (inr i) =
+    itself-shut right x (Inside right x) (right-shut (is_open left) (is_open right) closed) (inside-shut right x (right-shut (is_open left) (is_open right) closed)) i
 inside-shut (pack elements) x closed i = inside-shut elements x closed i
 inside-shut (list first rest) x closed (inl i) =
     itself-shut first x (Inside first x) (left-shut (is_open first) (is_open rest) closed) (inside-shut first x (left-shut (is_open first) (is_open rest) closed)) i

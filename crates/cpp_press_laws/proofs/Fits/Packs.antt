@@ -62,7 +62,11 @@ closed-packs scope (function_type c_linkage noexcept ref returned parameters) cl
 closed-packs scope (qualified q type) closed = closed-packs scope type closed
 closed-packs scope (vector digits type) closed = closed-packs scope type closed
 closed-packs scope (complex type) closed = closed-packs scope type closed
+closed-packs scope (decltype e) closed = closed-packs scope e closed
 closed-packs scope (integer type value) closed = closed-packs scope type closed
+closed-packs scope (operation first second left right) closed =
+    first-none (pack_length scope left) (pack_length scope right) (closed-packs scope left (left-shut (is_open left) (is_open right) closed))
+    (closed-packs scope right (right-shut (is_open left) (is_open right) closed))
 closed-packs scope (pack elements) closed = closed-packs scope elements closed
 closed-packs scope (list first rest) closed =
     first-none (pack_length scope first) (pack_length scope rest) (closed-packs scope first (left-shut (is_open first) (is_open rest) closed))
