@@ -314,7 +314,7 @@ def nodes():
             yield "BuiltinWithD", tree, [("letter", NUMBER)]
         else: yield NAMES.get(tree, camel(tree)), tree, OTHERS.get(tree, trees[tree])
     # a tree of another node, with another argument in its free parameters
-    yield "Again", "again", [("t", TREE), ("a", TREE)]
+    yield "Reargued", "again", [("t", TREE), ("a", TREE)]
 
 def node_pattern(node, arguments): return f"({applied('Node.' + node, [name for name, sort in arguments])})" if arguments else "Node." + node
 
@@ -331,7 +331,7 @@ def tree_of():
     made = {QUALIFIERS: "qualifiers_of {0}", MARK: "mark_of {0}", BYTES: "bytes_at s {0}", SIGNED: "signed_of s {0}", DISCRIMINATOR: "discriminator_of s {0}",
             THUNK: "thunk_of s (slice_get us {0})", PIECE: "piece_of s ts {0}", NUMBER: None, TRUTH: None}
     def right(node, tree, args):
-        if node == "Again": return "reargued (Some (tree_at ts a)) (tree_at ts t)"
+        if node == "Reargued": return "reargued (Some (tree_at ts a)) (tree_at ts t)"
         if node == "Function":
             under = "(reargued (tree_if_there ts (under_kept under)) (tree_at ts {0}))".format
             return f"term.function (tree_at ts name) (qualifiers_of q) (mark_of m) {under('returned')} {under('parameters')}"
@@ -460,7 +460,7 @@ def depending(parts):
     return parts[0] if parts[0].startswith("piece") else f"passed ({parts[0]})"
 # what depends on another argument, of nodes of which more is told than that of their parts
 BY_ARGUMENT = {"Nil": "by_none true", "Parameter": "of_parameter", "Expansion": "of_expansion (by_argument_at es t)", "Pack": "of_pack (by_argument_at es t)", "Cell": "of_cell (by_argument_at es first) (by_argument_at es rest)",
-        "Rvalue": "of_head (collapses_from (by_argument_at es t).head) (by_argument_at es t)", "Qualified": "of_head (by_argument_at es t).head (by_argument_at es t)", "Again": "by_argument_at es t"}
+        "Rvalue": "of_head (collapses_from (by_argument_at es t).head) (by_argument_at es t)", "Qualified": "of_head (by_argument_at es t).head (by_argument_at es t)", "Reargued": "by_argument_at es t"}
 def passed_fact(fact): return fact if fact.startswith("piece") else f"ap passed ({fact})"
 def again_fact(fact, law): return f"{fact} t b.0 ∙ sym ({law} (Some (tree_at (trees y) a)) (tree_at (trees y) t))"
 def first_of(parts): return parts[0] if len(parts) == 1 else applied("first_of", [f"({p})" for p in parts])
@@ -558,8 +558,8 @@ def arms(function, productions):
 def common_arms():
     """path, function, and the arms of its match that are written"""
     yield "cpp_link/src/finish.rt", "finish_rule", list(arms("finish_as", words.COMMON))
-    yield "cpp_link/src/between.rt", "go_by_step", list(arms("go_as", words.COMMON_BEFORE))
-    yield "cpp_link/src/meaning.rt", "meant_rare", [f"            Production::{p} => unreachable!()," for p in words.COMMON]
+    yield "cpp_link/src/between.rt", "before_by_step", list(arms("before_as", words.COMMON_BEFORE))
+    yield "cpp_link/src/meaning.rt", "outcome_of_rare", [f"            Production::{p} => unreachable!()," for p in words.COMMON]
 
 def with_arms(text, function, lines):
     """the text, with these lines as the arms after the line that says so, up to the other ones or the end of the match"""
@@ -614,16 +614,16 @@ def declarations():
     yield "cpp_tree/proofs/Compacting.antt", "IsOther", is_other()
     yield "cpp_tree/proofs/Compacting.antt", "other-node", other_node()
     yield "cpp_tree/proofs/Pushed.antt", "node-stays", node_stays()
-    yield "cpp_tree/specs/Notes.antt", "frees", noted("frees", "free_at es {0}", "piece_frees es {0}", both_free, "Free.None", {"Parameter": "Free.One k", "Again": "free_at es t"})
+    yield "cpp_tree/specs/Notes.antt", "frees", noted("frees", "free_at es {0}", "piece_frees es {0}", both_free, "Free.None", {"Parameter": "Free.One k", "Reargued": "free_at es t"})
     yield "cpp_tree/specs/Notes.antt", "node_by_argument", noted("node_by_argument", "by_argument_at es {0}", "piece_by_argument es {0}", depending, "by_none false", BY_ARGUMENT)
     yield "cpp_tree/proofs/Noting.antt", "node-by-argument", through("node-by-argument", "by-argument-at {0} {1}", "piece-by-argument {0} {1}", "refl",
         {"Parameter": "refl", "Expansion": "expansion-by-argument (by_argument_at y.nodes pattern) (tree_at (trees y) pattern) (by-argument-at pattern b)", "Pack": "ap of_pack (by-argument-at elements b)", "Rvalue": "rvalue-by-argument (by_argument_at y.nodes t) (tree_at (trees y) t) (by-argument-at t b)",
-         "Qualified": "ap (λ l. of_head l.head l) (by-argument-at t b)", "Again": again_fact("by-argument-at", "by_argument_reargued")}, one=passed_fact)
-    yield "cpp_tree/specs/Notes.antt", "packing", noted("packing", "packs_at es {0}", "piece_packs es {0}", first_of, "None", {"Parameter": "argument_packs es (shape_at es a)", "Again": "packs_by (by_argument_at es t).is_bare (argument_packs es (shape_at es a))"}, ["Expansion"])
-    yield "cpp_tree/proofs/Noting.antt", "node-free", through("node-free", "at {0} {1}", "piece-free {0} {1}", "refl", {"Again": again_fact("at", "free_reargued")}, without=["Parameter"],
+         "Qualified": "ap (λ l. of_head l.head l) (by-argument-at t b)", "Reargued": again_fact("by-argument-at", "by_argument_reargued")}, one=passed_fact)
+    yield "cpp_tree/specs/Notes.antt", "packing", noted("packing", "packs_at es {0}", "piece_packs es {0}", first_of, "None", {"Parameter": "argument_packs es (shape_at es a)", "Reargued": "packs_by (by_argument_at es t).is_bare (argument_packs es (shape_at es a))"}, ["Expansion"])
+    yield "cpp_tree/proofs/Noting.antt", "node-free", through("node-free", "at {0} {1}", "piece-free {0} {1}", "refl", {"Reargued": again_fact("at", "free_reargued")}, without=["Parameter"],
         joined=both_are)
     yield "cpp_tree/proofs/FreeParameters.antt", "open-free", carried(fold("open-free", [], either_open, "refl", {}, SCOPED))
-    yield "cpp_tree/proofs/Noting.antt", "node-pack", through("node-pack", "pack-at {0} {1}", "piece-pack {0} {1}", "refl", {"Parameter": "argument-pack a b", "Again": "again-pack t a b.0 b.1"}, without=["Expansion"])
+    yield "cpp_tree/proofs/Noting.antt", "node-pack", through("node-pack", "pack-at {0} {1}", "piece-pack {0} {1}", "refl", {"Parameter": "argument-pack a b", "Reargued": "again-pack t a b.0 b.1"}, without=["Expansion"])
     yield "cpp_grammar/specs/Scope.antt", "is_open", fold("is_open", [], either, "false", {"parameter": "true"}, SCOPED, trees=named(SCOPES, ["parameter"]))
     yield "cpp_grammar/specs/Scope.antt", "free_in", fold("free_in", [], both_free, "none_free", {"parameter": "one_free number"}, SCOPED, trees=named(SCOPES, ["parameter"]))
     yield "cpp_grammar/specs/Scope.antt", "pack_length", fold("pack_length", ["scope"], first_of, "None",
@@ -677,7 +677,7 @@ def files(crates):
     """the files that have declarations which are written, by their paths in the folder of the crates, and their texts"""
     texts = {"cpp_tree/proofs/nodes/Nodes/noted/Answers.antt": noted_answers(),
              "cpp_link/proofs/linked/Linked/finish_rule/Answers.antt": rare_answers("finish_rule", "finish_rare-requires-clause-rare", "", "c.production_of-production.result", ""),
-             "cpp_link/proofs/linked/Linked/meant/Answers.antt": rare_answers("meant", "unreachable-requires", "c.requires.common (", "c.args.production", ")")}
+             "cpp_link/proofs/linked/Linked/outcome/Answers.antt": rare_answers("outcome", "unreachable-requires", "c.requires.common (", "c.args.production", ")")}
     for path, name, lines in declarations():
         if path not in texts:
             with open(f"{crates}/{path}", encoding="utf-8") as f: texts[path] = f.read()

@@ -16,8 +16,8 @@ use Rattle.cpp_direct.specs.declared.open.Step.TheVariants as steps
 use Rattle.cpp_direct.specs.declared.direct.Direct.{Direct}
 use Rattle.cpp_direct.specs.Holes.{Expects, StandsAt}
 use Rattle.cpp_direct.specs.Prints.{Prints, IsElement, PrintEachBy, PrintAllBy, joined}
-use Rattle.cpp_direct.specs.Stands.{AreAmong, AreCandidates, ArgumentsGoOn, Belongs, EndsNamed, GoesOn, IsAmong, IsKnown, IsScoped, IsTemplate, IsWriting, Listing, of_template, of_pack, Owns, Stands, extra_of, in_front_of_next, led_by, list_with, nowhere, place_of}
-use Rattle.cpp_direct.specs.Ways.{AreKnown, AwaitsKnownArgument, IsArgumentRead, IsListEnded, KnowsMore}
+use Rattle.cpp_direct.specs.WriterInvariant.{AreAmong, AreCandidates, ArgumentsGoOn, Belongs, EndsNamed, GoesOn, IsAmong, IsKnown, IsScoped, IsTemplate, IsWriting, Listing, of_template, of_pack, Owns, Stands, extra_of, in_front_of_next, led_by, list_with, nowhere, place_of}
+use Rattle.cpp_direct.specs.MidStep.{AreKnown, AwaitsKnownArgument, IsArgumentRead, IsListEnded, KnowsMore}
 use Rattle.cpp_direct.specs.Written.{Writes}
 use Rattle.cpp_direct.proofs.Ending.{next-written}
 use Rattle.cpp_direct.proofs.Kept.{candidates-written, reverse-last, template-stays}

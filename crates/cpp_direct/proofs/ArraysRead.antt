@@ -15,8 +15,8 @@ use Rattle.cpp_direct.specs.declared.direct.Direct.{Direct}
 use Rattle.cpp_direct.specs.Holes.{Opened, StandsAt, Comes, Expects, IsReferable, candidate, with_candidate}
 use Rattle.cpp_direct.specs.HolesOfArrays.{IsSizeAt, access_letters, accessed, array_opening, is_marked, with_accessed}
 use Rattle.cpp_direct.specs.HolesOfTypes.{NoReference, IsQualifiable}
-use Rattle.cpp_direct.specs.Stands.{IsScoped, AreCandidates, TakesFunction, Stands, IsWriting}
-use Rattle.cpp_direct.specs.Ways.{IsArrayRead, IsElementPassed, IsElementRead}
+use Rattle.cpp_direct.specs.WriterInvariant.{IsScoped, AreCandidates, TakesFunction, Stands, IsWriting}
+use Rattle.cpp_direct.specs.MidStep.{IsArrayRead, IsElementPassed, IsElementRead}
 use Rattle.cpp_direct.specs.Written.{Writes, hidden, with_hidden}
 use Rattle.cpp_direct.proofs.Kept.{candidates-written, reverse-last}
 use Rattle.cpp_direct.proofs.Listed.{last-found}

@@ -23,8 +23,8 @@ use Rattle.cpp_direct.specs.ItemBytes.{one_of, is_special_letter}
 use Rattle.cpp_direct.specs.Letters.{special_letters}
 use Rattle.cpp_direct.specs.Marks.{IsMarkPlace, has_const, called_on}
 use Rattle.cpp_direct.specs.Prints.{Shows}
-use Rattle.cpp_direct.specs.Stands.{AreCandidates, Encoded, EndsBehind, EncodedBehind, AwaitsItems, IsScoped, Stands, IsWriting, qualifiers}
-use Rattle.cpp_direct.specs.Ways.{IsFresh, AwaitsEncoding, AwaitsNest}
+use Rattle.cpp_direct.specs.WriterInvariant.{AreCandidates, Encoded, EndsBehind, EncodedBehind, AwaitsItems, IsScoped, Stands, IsWriting, qualifiers}
+use Rattle.cpp_direct.specs.MidStep.{IsFresh, AwaitsEncoding, AwaitsNest}
 use Rattle.cpp_direct.specs.Written.{Writes, Reads}
 use Rattle.cpp_direct.proofs.FoundTokens.{reads-then}
 use Rattle.cpp_direct.proofs.Moves.{stands-join}

@@ -10,9 +10,9 @@ use Rattle.cpp_direct.proofs.PrintedTypes.{parameter-prints, type-element-in}
 use Rattle.cpp_direct.specs.declared.open.Mark.{Mark}
 use Rattle.cpp_direct.specs.Holes.{Opened, StandsAt, Comes, candidate, with_candidate, opened, Expects, IsTyped}
 use Rattle.cpp_direct.specs.Prints.{NamesArgument, Prints, PrintsIn, PrintsBehind}
-use Rattle.cpp_direct.specs.Stands.{AreCandidates, HasArguments, IsArgument, IsKnown, PrintsOrNames, IsPlaced, IsPlain, IsWriting, Marks, Stands, argument_of, IsScope, place_of}
-use Rattle.cpp_direct.specs.Ways.{AwaitsType, AwaitsNamedType, AwaitsDependentMark, IsFrontRead, IsNamedAgain, IsParameterEnded, parameter_digits}
-use Rattle.cpp_direct.specs.WaysOfLocals.{IsEnclosingParameterRead}
+use Rattle.cpp_direct.specs.WriterInvariant.{AreCandidates, HasArguments, IsArgument, IsKnown, PrintsOrNames, IsPlaced, IsPlain, IsWriting, Marks, Stands, argument_of, IsScope, place_of}
+use Rattle.cpp_direct.specs.MidStep.{AwaitsType, AwaitsNamedType, AwaitsDependentMark, IsFrontRead, IsNamedAgain, IsParameterEnded, parameter_digits}
+use Rattle.cpp_direct.specs.MidStepOfLocals.{IsEnclosingParameterRead}
 use Rattle.cpp_direct.specs.Written.{Writes, with_dependent}
 use Rattle.cpp_direct.specs.declared.direct.Direct.{Direct}
 use Rattle.cpp_direct.specs.declared.open.Open.TheVariants as opens

@@ -25,8 +25,8 @@ use Rattle.cpp_direct.specs.Holes.{StandsAt, ListGoesOn}
 use Rattle.cpp_direct.specs.HolesOfLists.{IsSuffix}
 use Rattle.cpp_direct.specs.Marks.{has_const, called_on, mark_text}
 use Rattle.cpp_direct.specs.Prints.{PrintsName, Shows, Encloses, list_of}
-use Rattle.cpp_direct.specs.Stands.{AreCandidates, AwaitsItems, Encoded, EndsBehind, EncodedBehind, IsWhole, IsWriting, HasScope, IsFunction, IsScoped, ItemsGoOn, ParametersGoOn, Stands, qualifiers, list_with, in_front_of_next, encoding_place, named_in}
-use Rattle.cpp_direct.specs.Ways.{AwaitsNextParameter, IsNameEnded, AwaitsParameters, IsParameterEnded, IsEncodingEnded, IsSymbolEnded}
+use Rattle.cpp_direct.specs.WriterInvariant.{AreCandidates, AwaitsItems, Encoded, EndsBehind, EncodedBehind, IsWhole, IsWriting, HasScope, IsFunction, IsScoped, ItemsGoOn, ParametersGoOn, Stands, qualifiers, list_with, in_front_of_next, encoding_place, named_in}
+use Rattle.cpp_direct.specs.MidStep.{AwaitsNextParameter, IsNameEnded, AwaitsParameters, IsParameterEnded, IsEncodingEnded, IsSymbolEnded}
 use Rattle.cpp_direct.specs.Written.{Writes, Cuts}
 use Rattle.cpp_direct.proofs.Kept.{candidates-written, reverse-last}
 use Rattle.cpp_direct.proofs.Moves.{expects-empty}

@@ -15,9 +15,9 @@ use Rattle.cpp_direct.specs.Holes.{StandsAt, Comes, IsNameAt}
 use Rattle.cpp_direct.specs.HolesOfLists.{SymbolOpened, EncodingOpened, IsDigitsAt}
 use Rattle.cpp_direct.specs.HolesOfLocals.{Discriminator, unnumbered, by_digit, by_digits, discriminator_value, IsDiscriminatorAt, IsEntityAt, entity_in, LocalOpened, GuardOpened}
 use Rattle.cpp_direct.specs.Prints.{Shows}
-use Rattle.cpp_direct.specs.Stands.{AreCandidates, EntityBehind}
-use Rattle.cpp_direct.specs.Ways.{IsFresh, AwaitsEncoding, IsSymbolEnded}
-use Rattle.cpp_direct.specs.WaysOfLocals.{AwaitsEntity}
+use Rattle.cpp_direct.specs.WriterInvariant.{AreCandidates, EntityBehind}
+use Rattle.cpp_direct.specs.MidStep.{IsFresh, AwaitsEncoding, IsSymbolEnded}
+use Rattle.cpp_direct.specs.MidStepOfLocals.{AwaitsEntity}
 use Rattle.cpp_direct.specs.Written.{Writes, Reads}
 use Rattle.cpp_direct.proofs.Begins.{encoded-whole, third-tells}
 use Rattle.cpp_direct.proofs.Ending.{behind-three}

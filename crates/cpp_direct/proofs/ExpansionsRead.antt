@@ -14,8 +14,8 @@ use Rattle.cpp_direct.specs.declared.open.Arguments.{Arguments}
 use Rattle.cpp_direct.specs.declared.open.Candidate.{Candidate}
 use Rattle.cpp_direct.specs.Holes.{StandsAt, candidate}
 use Rattle.cpp_direct.specs.Prints.{forwarded, PrintAllBy, list_of}
-use Rattle.cpp_direct.specs.Stands.{AreCandidates, EncodedBehind, HasArguments, IsScope, ParametersGoOn, in_front_of_next, IsAmong, IsKnown, place_of}
-use Rattle.cpp_direct.specs.Ways.{AwaitsNextParameter, IsParameterEnded, AreForwarded, IsPackOf, PrintsForwarded, comma_text}
+use Rattle.cpp_direct.specs.WriterInvariant.{AreCandidates, EncodedBehind, HasArguments, IsScope, ParametersGoOn, in_front_of_next, IsAmong, IsKnown, place_of}
+use Rattle.cpp_direct.specs.MidStep.{AwaitsNextParameter, IsParameterEnded, AreForwarded, IsPackOf, PrintsForwarded, comma_text}
 use Rattle.cpp_direct.specs.Written.{hidden, Writes}
 use Rattle.cpp_direct.proofs.Ending.{parameter-goes_on}
 use Rattle.cpp_direct.proofs.Kept.{candidates-stay, piece-found}

@@ -15,7 +15,7 @@ use Rattle.cpp_direct.specs.declared.direct.Direct.{Direct}
 use Rattle.cpp_direct.specs.Holes.{IsNameAt, IsSeqAt}
 use Rattle.cpp_direct.specs.HolesOfArrays.{IsSizeAt}
 use Rattle.cpp_direct.specs.HolesOfLists.{IsDigitsAt}
-use Rattle.cpp_direct.specs.Ways.{number_text}
+use Rattle.cpp_direct.specs.MidStep.{number_text}
 use Rattle.cpp_direct.specs.Written.{Writes, Reads}
 
 -- what is between two places after a third one

@@ -19,8 +19,8 @@ use Rattle.cpp_direct.specs.declared.direct.Direct.{Direct}
 use Rattle.cpp_direct.specs.Bytes.{is_local}
 use Rattle.cpp_direct.specs.Holes.{Expects}
 use Rattle.cpp_direct.specs.Prints.{PrintsIn, Shows, Encloses}
-use Rattle.cpp_direct.specs.Stands.{AreCandidates, EncodedBehind, HasArguments, IsScoped, IsWriting, IsInstance, named_in, ParametersGoOn, Stands, qualifiers, plain_encoding, encoding_place}
-use Rattle.cpp_direct.specs.Ways.{IsNameEnded, IsFrontRead, AwaitsParameters}
+use Rattle.cpp_direct.specs.WriterInvariant.{AreCandidates, EncodedBehind, HasArguments, IsScoped, IsWriting, IsInstance, named_in, ParametersGoOn, Stands, qualifiers, plain_encoding, encoding_place}
+use Rattle.cpp_direct.specs.MidStep.{IsNameEnded, IsFrontRead, AwaitsParameters}
 use Rattle.cpp_direct.specs.Written.{Writes}
 use Rattle.cpp_direct.proofs.Ending.{name-scoped, no-text, none-go_on, parameter-goes_on}
 use Rattle.cpp_direct.proofs.Kept.{candidates-written, reverse-last}

@@ -9,7 +9,7 @@ use Rattle.cpp_direct.specs.declared.direct.Direct.{Direct}
 use Rattle.cpp_direct.specs.Holes.{Opened, StandsAt, Expects}
 use Rattle.cpp_direct.specs.HolesOfFunctions.{FunctionOpened}
 use Rattle.cpp_direct.specs.HolesOfTypes.{NoReference, IsQualifiable}
-use Rattle.cpp_direct.specs.Stands.{IsScoped, AreCandidates, TakesFunction, Stands, IsWriting}
+use Rattle.cpp_direct.specs.WriterInvariant.{IsScoped, AreCandidates, TakesFunction, Stands, IsWriting}
 use Rattle.cpp_direct.proofs.Kept.{reverse-last}
 use Rattle.cpp_direct.proofs.Scopes.{none-scoped}
 use Rattle.cpp_direct.proofs.MovesOfFunctions.{function-opens, pointed-function-opens}

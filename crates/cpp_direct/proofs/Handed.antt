@@ -14,8 +14,8 @@ use Rattle.cpp_direct.specs.declared.open.Step.TheVariants as steps
 use Rattle.cpp_direct.specs.declared.direct.Direct.{Direct}
 use Rattle.cpp_direct.specs.Holes.{Opened, Comes}
 use Rattle.cpp_direct.specs.Prints.{Prints, PrintsIn, IsElementIn, Shows}
-use Rattle.cpp_direct.specs.Stands.{AreCandidates, HasArguments, IsTemplate, IsWriting, Marks, AwaitsEnumerator, Belongs, Listing, of_template, of_pack, Stands, opening_text, extra_of, led_by, in_front_of_next, argument_of}
-use Rattle.cpp_direct.specs.Ways.{AwaitsMark, AwaitsNumber, AwaitsSignature, IsElementRead, IsFrontRead, IsParameterEnded, IsReturned, IsSymbolEnded}
+use Rattle.cpp_direct.specs.WriterInvariant.{AreCandidates, HasArguments, IsTemplate, IsWriting, Marks, AwaitsEnumerator, Belongs, Listing, of_template, of_pack, Stands, opening_text, extra_of, led_by, in_front_of_next, argument_of}
+use Rattle.cpp_direct.specs.MidStep.{AwaitsMark, AwaitsNumber, AwaitsSignature, IsElementRead, IsFrontRead, IsParameterEnded, IsReturned, IsSymbolEnded}
 use Rattle.cpp_direct.proofs.Listed.{TakesElements, last-found, list-waits, listing-at, some-elements}
 use Rattle.cpp_direct.proofs.PrintedLists.{element-in, next-prints, next-prints-in, type-element}
 use Rattle.cpp_direct.proofs.PrintedTypes.{prints-in}

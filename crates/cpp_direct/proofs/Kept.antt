@@ -15,7 +15,7 @@ use Rattle.cpp_direct.specs.declared.direct.Direct.{Direct}
 use Rattle.cpp_direct.specs.Holes.{candidate, with_candidate, unless_listed}
 use Rattle.cpp_direct.specs.Prints.{Prints}
 use Rattle.cpp_direct.specs.declared.open.Step.TheVariants as steps
-use Rattle.cpp_direct.specs.Stands.{IsCandidate, PrintsAs, PrintsOrNames, AreCandidates, IsBefore, IsNest, IsTemplate, ArgumentsGoOn, Stands, of_template}
+use Rattle.cpp_direct.specs.WriterInvariant.{IsCandidate, PrintsAs, PrintsOrNames, AreCandidates, IsBefore, IsNest, IsTemplate, ArgumentsGoOn, Stands, of_template}
 use Rattle.cpp_direct.specs.Written.{Writes, Reads, added, added_unless}
 
 -- ## Pieces of a text

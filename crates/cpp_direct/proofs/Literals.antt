@@ -10,7 +10,7 @@ use Rattle.cpp_direct.specs.declared.direct.Direct.{Direct}
 use Rattle.cpp_direct.specs.Holes.{StandsAt}
 use Rattle.cpp_direct.specs.HolesOfLists.{IsDigitsAt, IsOffsetAt, minus_sign}
 use Rattle.cpp_direct.specs.ItemBytes.{is_integer_letter}
-use Rattle.cpp_direct.specs.Ways.{truth_text, number_text, integer_text}
+use Rattle.cpp_direct.specs.MidStep.{truth_text, number_text, integer_text}
 use Rattle.cpp_direct.specs.Written.{Reads}
 use Rattle.cpp_direct.proofs.FoundTokens.{reads-then}
 use Rattle.cpp_direct.proofs.Moves.{stands-join}

@@ -20,7 +20,7 @@ use Rattle.cpp_grammar.specs.Values as values
 use Rattle.cpp_grammar.specs.Values.{State, Around, tree, nothing_there, tree_of, is_there, is_listed, text_of, part}
 use Rattle.cpp_direct.specs.Symbol.{Symbol}
 use Rattle.cpp_direct.specs.Holes.{Opened, opened, StandsAt, Comes, Expects, with_candidate}
-use Rattle.cpp_direct.specs.Stands.{IsScope}
+use Rattle.cpp_direct.specs.WriterInvariant.{IsScope}
 use Rattle.cpp_direct.proofs.DependentsRead.{first-number, first_token}
 use Rattle.cpp_direct.proofs.Moves.{stands-split, expects-number, expects-empty, first-of, next-of, last-of}
 use Rattle.cpp_direct.proofs.MovesOfTypes.{rvalue-opens, solid-opens}

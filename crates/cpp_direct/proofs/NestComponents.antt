@@ -15,8 +15,8 @@ use Rattle.cpp_direct.specs.declared.direct.Direct.{Direct}
 use Rattle.cpp_direct.specs.Holes.{Opened, StandsAt, IsNameAt, Named, NestNamed, AwaitsComponent}
 use Rattle.cpp_direct.specs.Names.{IsConstructorDigit, IsDestructorDigit, IsOperatorAt, is_angle, operator_text}
 use Rattle.cpp_direct.specs.Prints.{Prints}
-use Rattle.cpp_direct.specs.Stands.{AreCandidates, IsNest, IsWriting, Serves, Stands}
-use Rattle.cpp_direct.specs.Ways.{AwaitsClass, IsNestNamed, IsOperatorRead}
+use Rattle.cpp_direct.specs.WriterInvariant.{AreCandidates, IsNest, IsWriting, Serves, Stands}
+use Rattle.cpp_direct.specs.MidStep.{AwaitsClass, IsNestNamed, IsOperatorRead}
 use Rattle.cpp_direct.specs.Written.{Writes, Reads}
 use Rattle.cpp_direct.proofs.Kept.{piece-found, candidates-stay}
 use Rattle.cpp_direct.proofs.Moves.{stands-join}

@@ -30,8 +30,8 @@ use Rattle.cpp_direct.specs.Holes.{Opened, Comes, StandsAt, IsNameAt, IsSeqAt, S
 use Rattle.cpp_direct.specs.HolesOfNests.{IsRest, IsFirstRest}
 use Rattle.cpp_direct.specs.Names.{tag_text}
 use Rattle.cpp_direct.specs.Prints.{Prints, NamesClass}
-use Rattle.cpp_direct.specs.Stands.{HasArguments, AreCandidates, IsNest, IsNesting, IsOwn, IsTemplate, ArgumentsGoOn, Serves, Stands, IsWriting, qualifiers, IsKnown, nowhere, place_of}
-use Rattle.cpp_direct.specs.Ways.{AwaitsNest, IsNestKnown, IsNestNamed, IsNameEnded, IsOperatorRead}
+use Rattle.cpp_direct.specs.WriterInvariant.{HasArguments, AreCandidates, IsNest, IsNesting, IsOwn, IsTemplate, ArgumentsGoOn, Serves, Stands, IsWriting, qualifiers, IsKnown, nowhere, place_of}
+use Rattle.cpp_direct.specs.MidStep.{AwaitsNest, IsNestKnown, IsNestNamed, IsNameEnded, IsOperatorRead}
 use Rattle.cpp_direct.specs.Written.{Reads, added, added_unless}
 use Rattle.cpp_direct.proofs.Alone.{alone-arguments, any-tail}
 use Rattle.cpp_direct.proofs.Kept.{arguments-begun, candidates-read, candidates-stay, candidates-with, candidates-unless, candidate-found, piece-found, nest-stays, reverse-last, plainly-prints}

@@ -18,8 +18,8 @@ use Rattle.cpp_direct.specs.declared.open.Step.TheVariants as steps
 use Rattle.cpp_direct.specs.declared.direct.Direct.{Direct}
 use Rattle.cpp_direct.specs.Holes.{Expects, StandsAt}
 use Rattle.cpp_direct.specs.Prints.{IsElement, PrintAllBy, list_of}
-use Rattle.cpp_direct.specs.Stands.{AreCandidates, ArgumentsGoOn, Belongs, EndsNamed, Closes, GoesOn, IsAmong, IsKnown, IsScoped, IsTemplate, IsWriting, Listing, of_template, of_pack, Owns, Stands, extra_of, led_by, nowhere, place_of, AreAmong, in_front_of_next}
-use Rattle.cpp_direct.specs.Ways.{IsPackElementRead, IsListEnded, KnowsMore, AwaitsPackElement}
+use Rattle.cpp_direct.specs.WriterInvariant.{AreCandidates, ArgumentsGoOn, Belongs, EndsNamed, Closes, GoesOn, IsAmong, IsKnown, IsScoped, IsTemplate, IsWriting, Listing, of_template, of_pack, Owns, Stands, extra_of, led_by, nowhere, place_of, AreAmong, in_front_of_next}
+use Rattle.cpp_direct.specs.MidStep.{IsPackElementRead, IsListEnded, KnowsMore, AwaitsPackElement}
 use Rattle.cpp_direct.proofs.Arguments.{none-text, known-more}
 use Rattle.cpp_direct.proofs.Kept.{reverse-last, template-stays, candidates-written}
 use Rattle.cpp_direct.proofs.Listed.{last-found, element-goes-on, some-elements}

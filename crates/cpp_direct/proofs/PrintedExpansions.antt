@@ -8,7 +8,7 @@ use Rattle.cpp_grammar.specs.Items.{left, right, expand, Context, argument, inde
 use Rattle.cpp_grammar.specs.Meaning.{is_void}
 use Rattle.cpp_grammar.specs.Parts.{as_item, says, at_index, comma_before, expand_parts, expand_rest, expansion_parts, is_below, left_parts, right_parts, parts_in, types_of, not_empty}
 use Rattle.cpp_direct.specs.Prints.{Prints, PrintsIn, PrintEachBy, PrintAllBy, IsElementIn, in_form, forwarded, joined, list_of}
-use Rattle.cpp_direct.specs.Ways.{PrintsForwarded}
+use Rattle.cpp_direct.specs.MidStep.{PrintsForwarded}
 use Rattle.cpp_direct.proofs.PrintedLists.{further, joined-further}
 use Rattle.cpp_direct.proofs.PrintedParts.{printed_by, text_by, cost_by}
 use Rattle.cpp_direct.proofs.PrintedTypes.{parameter-in, rvalue-in, rvalue-again}

@@ -8,7 +8,7 @@ use Rattle.cpp_grammar.specs.Meaning.{is_void, is_nil, parameters}
 use Rattle.cpp_grammar.specs.Parts.{as_item, says, text_part, list_part, left_parts, right_parts, function_right, marked_parts, closing_right, ref_text, parts_in, not_empty}
 use Rattle.cpp_direct.specs.Prints.{in_form, Prints, IsElement, PrintAll, list_of}
 use Rattle.cpp_direct.specs.HolesOfFunctions.{plain_function, pointed}
-use Rattle.cpp_direct.specs.Stands.{list_with, opening_text}
+use Rattle.cpp_direct.specs.WriterInvariant.{list_with, opening_text}
 use Rattle.cpp_direct.proofs.PrintedParts.{printed_by, text_by, cost_by, text_append, cost_append}
 use Rattle.cpp_direct.proofs.PrintedLists.{all-in, list-with-none, list-text, list-cost, list-closed, list-packless, none-print}
 use Rattle.cpp_direct.proofs.PrintedSymbols.{parameters-kept}

@@ -7,7 +7,7 @@ use Rattle.cpp_grammar.specs.Items.{left, right, first, more, Context, is_empty}
 use Rattle.cpp_grammar.specs.Meaning.{is_void}
 use Rattle.cpp_grammar.specs.Parts.{as_item, says, list_part, first_parts, more_parts, left_parts, right_parts, parts_in, not_empty}
 use Rattle.cpp_direct.specs.Prints.{in_form, Prints, IsElement, list_of, joined, IsElementIn, PrintEachBy, PrintAllBy, PrintEach, PrintAll, PrintEachIn, PrintAllIn}
-use Rattle.cpp_direct.specs.Stands.{IsTail, list_with, in_front_of_next}
+use Rattle.cpp_direct.specs.WriterInvariant.{IsTail, list_with, in_front_of_next}
 use Rattle.cpp_direct.proofs.PrintedParts.{printed_by, text_by, cost_by}
 
 -- ## What a list prints

@@ -11,7 +11,7 @@ use Rattle.cpp_grammar.specs.Meaning.{is_void}
 use Rattle.cpp_grammar.specs.Parts.{as_item, says, list_part, source_text, prefix_item, last_piece, opening_text, own_piece, piece_parts, within_parts, base_within, base_tagged, instance_parts, left_parts, right_parts, base_parts, parts_in, not_empty, is_plain_integer}
 use Rattle.cpp_direct.specs.Names.{is_angle, operator_text}
 use Rattle.cpp_direct.specs.Prints.{in_form, Prints, PrintsName, NamesClass, PrintAll}
-use Rattle.cpp_direct.specs.Stands.{IsTail, list_with}
+use Rattle.cpp_direct.specs.WriterInvariant.{IsTail, list_with}
 use Rattle.cpp_direct.proofs.PrintedParts.{printed_by, text_by, cost_by, text_alone, cost_first, text_append, cost_append}
 use Rattle.cpp_direct.proofs.PrintedNames.{source-filled, piece-text, piece-cost, operator-text, operator-cost}
 use Rattle.cpp_direct.proofs.PrintedLists.{list-text-before, list-cost-before, list-closed, list-packless}

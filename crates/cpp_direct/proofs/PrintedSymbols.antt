@@ -14,7 +14,7 @@ use Rattle.cpp_grammar.specs.Answer.{shown, root_item}
 use Rattle.cpp_direct.specs.declared.open.Mark.{Mark}
 use Rattle.cpp_direct.specs.Marks.{has_const, called_on}
 use Rattle.cpp_direct.specs.Prints.{in_form, PrintsName, PrintsIn, IsElement, Shows, list_of, joined, PrintEachIn, PrintAllIn}
-use Rattle.cpp_direct.specs.Stands.{qualifiers, plain_encoding}
+use Rattle.cpp_direct.specs.WriterInvariant.{qualifiers, plain_encoding}
 use Rattle.cpp_direct.proofs.PrintedParts.{printed_by, text_by, cost_by, text_first, cost_first, text_append, cost_append, part-text, part-cost, length-filled}
 use Rattle.cpp_direct.proofs.PrintedLists.{list-text-in, list-cost-in, none-print-in}
 

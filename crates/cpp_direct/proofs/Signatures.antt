@@ -22,8 +22,8 @@ use Rattle.cpp_direct.specs.Holes.{Opened, StandsAt, Comes, Expects, candidate, 
 use Rattle.cpp_direct.specs.HolesOfFunctions.{SignatureGoesOn, plain_function, pointed, with_pointed, reference, reference_letter}
 use Rattle.cpp_direct.specs.HolesOfTypes.{NoReference}
 use Rattle.cpp_direct.specs.Prints.{PrintEach, PrintAll, joined}
-use Rattle.cpp_direct.specs.Stands.{IsScoped, AreCandidates, IsWriting, Marks, Stands, TakesFunction, opening_text, list_with, in_front_of_next, argument_of}
-use Rattle.cpp_direct.specs.Ways.{AwaitsParameter, AwaitsSignature, IsElementPassed, IsFunctionRead, IsReturned}
+use Rattle.cpp_direct.specs.WriterInvariant.{IsScoped, AreCandidates, IsWriting, Marks, Stands, TakesFunction, opening_text, list_with, in_front_of_next, argument_of}
+use Rattle.cpp_direct.specs.MidStep.{AwaitsParameter, AwaitsSignature, IsElementPassed, IsFunctionRead, IsReturned}
 use Rattle.cpp_direct.specs.Written.{Writes, hidden, with_hidden}
 use Rattle.cpp_direct.proofs.Ending.{no-void, next-written}
 use Rattle.cpp_direct.proofs.Kept.{candidates-more, candidates-stay, candidates-written, reverse-last}

@@ -27,8 +27,8 @@ use Rattle.cpp_direct.specs.declared.direct.Direct.{Direct}
 use Rattle.cpp_direct.specs.Holes.{StandsAt, Comes, Expects, IsReferable, IsNameAt, IsSeqAt, TypeNamed, with_candidate, unless_listed}
 use Rattle.cpp_direct.specs.HolesOfTypes.{NoReference, IsQualifiable, TypeOpens}
 use Rattle.cpp_direct.specs.Prints.{Prints}
-use Rattle.cpp_direct.specs.Stands.{IsScoped, AreCandidates, Marks, Stands, IsWriting, argument_of}
-use Rattle.cpp_direct.specs.Ways.{AwaitsType, AwaitsNamedType, AwaitsNest, IsNamedAgain, IsTypeNamed, AwaitsMark}
+use Rattle.cpp_direct.specs.WriterInvariant.{IsScoped, AreCandidates, Marks, Stands, IsWriting, argument_of}
+use Rattle.cpp_direct.specs.MidStep.{AwaitsType, AwaitsNamedType, AwaitsNest, IsNamedAgain, IsTypeNamed, AwaitsMark}
 use Rattle.cpp_direct.specs.Written.{Reads, added, added_unless}
 use Rattle.cpp_direct.proofs.Scopes.{scoped-encoding}
 use Rattle.cpp_direct.proofs.Kept.{plainly-prints, arguments-begun, piece-found, candidates-stay, candidates-added, candidates-read, candidate-found, reverse-last, last-reversed}

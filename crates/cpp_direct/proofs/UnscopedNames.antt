@@ -19,8 +19,8 @@ use Rattle.cpp_direct.specs.declared.direct.Direct.{Direct}
 use Rattle.cpp_direct.specs.Holes.{StandsAt, Comes, Expects, IsNameAt, Named, with_candidate, IsTagAt}
 use Rattle.cpp_direct.specs.Names.{IsOperatorAt, is_angle, operator_text, tag_text}
 use Rattle.cpp_direct.specs.Prints.{Prints, PrintsName}
-use Rattle.cpp_direct.specs.Stands.{AreCandidates, IsWriting, nowhere}
-use Rattle.cpp_direct.specs.Ways.{AwaitsEncoding, AwaitsSource, HasName, IsNameEnded, IsUnscoped}
+use Rattle.cpp_direct.specs.WriterInvariant.{AreCandidates, IsWriting, nowhere}
+use Rattle.cpp_direct.specs.MidStep.{AwaitsEncoding, AwaitsSource, HasName, IsNameEnded, IsUnscoped}
 use Rattle.cpp_direct.specs.Written.{Writes, Reads, added}
 use Rattle.cpp_direct.proofs.Begins.{encoding-expected, items-await}
 use Rattle.cpp_direct.proofs.Alone.{alone-arguments}

@@ -11,8 +11,8 @@ pub mod Letters
 pub mod Marks
 pub mod Names
 pub mod Prints
-pub mod Stands
+pub mod WriterInvariant
 pub mod Symbol
-pub mod Ways
-pub mod WaysOfLocals
+pub mod MidStep
+pub mod MidStepOfLocals
 pub mod Written

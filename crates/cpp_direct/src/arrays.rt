@@ -6,9 +6,9 @@ ghost use Rattle.cpp_direct.specs.Names.{IsReadable};
 ghost use Rattle.cpp_direct.specs.declared.open.Step.TheVariants as steps;
 ghost use Rattle.cpp_direct.specs.Holes.{StandsAt};
 ghost use Rattle.cpp_direct.specs.HolesOfArrays.{access_letters, array_opening, is_marked};
-ghost use Rattle.cpp_direct.specs.Stands.{IsWriting};
+ghost use Rattle.cpp_direct.specs.WriterInvariant.{IsWriting};
 ghost use Rattle.cpp_direct.specs.Symbol.{symbol_by};
-ghost use Rattle.cpp_direct.specs.Ways.{IsArrayRead};
+ghost use Rattle.cpp_direct.specs.MidStep.{IsArrayRead};
 
 use crate::direct::Direct;
 use crate::grammar::Grammar;

@@ -5,8 +5,8 @@ ghost use Rattle.std.specs.Option.{IfSome};
 ghost use Rattle.cpp_direct.specs.Names.{IsReadable};
 ghost use Rattle.cpp_direct.specs.declared.open.Step.TheVariants as steps;
 ghost use Rattle.cpp_direct.specs.Holes.{StandsAt};
-ghost use Rattle.cpp_direct.specs.Stands.{IsWriting, TakesFunction};
-ghost use Rattle.cpp_direct.specs.Ways.{AwaitsParameter, AwaitsSignature, IsElementPassed, IsFunctionRead, IsReturned};
+ghost use Rattle.cpp_direct.specs.WriterInvariant.{IsWriting, TakesFunction};
+ghost use Rattle.cpp_direct.specs.MidStep.{AwaitsParameter, AwaitsSignature, IsElementPassed, IsFunctionRead, IsReturned};
 ghost use Rattle.cpp_direct.specs.Symbol.{symbol_by};
 
 use crate::direct::Direct;

@@ -11,8 +11,8 @@ ghost use Rattle.cpp_direct.specs.declared.open.Step.TheVariants as steps;
 ghost use Rattle.cpp_direct.specs.Holes.{StandsAt};
 ghost use Rattle.cpp_direct.specs.HolesOfLists.{IsDigitsAt, minus_sign};
 ghost use Rattle.cpp_direct.specs.ItemBytes.{is_integer_letter};
-ghost use Rattle.cpp_direct.specs.Stands.{IsWriting};
-ghost use Rattle.cpp_direct.specs.Ways.{IsListEnded, AwaitsNextArgument, AwaitsNumber, truth_text, number_text, integer_text};
+ghost use Rattle.cpp_direct.specs.WriterInvariant.{IsWriting};
+ghost use Rattle.cpp_direct.specs.MidStep.{IsListEnded, AwaitsNextArgument, AwaitsNumber, truth_text, number_text, integer_text};
 ghost use Rattle.cpp_direct.specs.Written.{Reads};
 ghost use Rattle.cpp_direct.specs.Symbol.{symbol_by};
 

@@ -7,9 +7,9 @@ ghost use Rattle.cpp_direct.specs.declared.open.Mark.TheVariants as marks;
 ghost use Rattle.cpp_direct.specs.Bytes.{is_local};
 ghost use Rattle.cpp_direct.specs.Holes.{StandsAt};
 ghost use Rattle.cpp_direct.specs.HolesOfLocals.{Discriminator, IsDiscriminatorAt};
-ghost use Rattle.cpp_direct.specs.Stands.{IsWriting};
-ghost use Rattle.cpp_direct.specs.Ways.{IsFresh, IsEncodingEnded};
-ghost use Rattle.cpp_direct.specs.WaysOfLocals.{AwaitsEntity};
+ghost use Rattle.cpp_direct.specs.WriterInvariant.{IsWriting};
+ghost use Rattle.cpp_direct.specs.MidStep.{IsFresh, IsEncodingEnded};
+ghost use Rattle.cpp_direct.specs.MidStepOfLocals.{AwaitsEntity};
 ghost use Rattle.cpp_direct.specs.Written.{Reads};
 ghost use Rattle.cpp_direct.specs.Symbol.{symbol_by};
 

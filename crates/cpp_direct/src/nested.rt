@@ -5,8 +5,8 @@ ghost use Rattle.std.specs.Option.{IfSome};
 ghost use Rattle.cpp_direct.specs.Names.{IsConstructorDigit, IsDestructorDigit, IsReadable};
 ghost use Rattle.cpp_direct.specs.declared.open.Step.TheVariants as steps;
 ghost use Rattle.cpp_direct.specs.Holes.{StandsAt};
-ghost use Rattle.cpp_direct.specs.Stands.{IsWriting, nowhere};
-ghost use Rattle.cpp_direct.specs.Ways.{AwaitsNest, AwaitsClass, IsNestKnown, IsNestNamed, IsOperatorRead};
+ghost use Rattle.cpp_direct.specs.WriterInvariant.{IsWriting, nowhere};
+ghost use Rattle.cpp_direct.specs.MidStep.{AwaitsNest, AwaitsClass, IsNestKnown, IsNestNamed, IsOperatorRead};
 ghost use Rattle.cpp_direct.specs.Symbol.{symbol_by};
 
 use crate::direct::Direct;

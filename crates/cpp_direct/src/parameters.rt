@@ -7,8 +7,8 @@ ghost use Rattle.cpp_direct.specs.declared.direct.Direct.{Direct};
 ghost use Rattle.cpp_direct.specs.Names.{IsReadable};
 ghost use Rattle.cpp_direct.specs.declared.open.Step.TheVariants as steps;
 ghost use Rattle.cpp_direct.specs.Holes.{StandsAt};
-ghost use Rattle.cpp_direct.specs.Stands.{EndsNamed, IsWriting, argument_of, place_of};
-ghost use Rattle.cpp_direct.specs.Ways.{AwaitsType, AwaitsDependentMark, AwaitsKnownArgument, AwaitsNextParameter, IsArgumentRead, IsNamedAgain, IsPackElementRead, AwaitsPackElement, AreForwarded, IsPackOf, comma_text, KnowsMore, parameter_digits};
+ghost use Rattle.cpp_direct.specs.WriterInvariant.{EndsNamed, IsWriting, argument_of, place_of};
+ghost use Rattle.cpp_direct.specs.MidStep.{AwaitsType, AwaitsDependentMark, AwaitsKnownArgument, AwaitsNextParameter, IsArgumentRead, IsNamedAgain, IsPackElementRead, AwaitsPackElement, AreForwarded, IsPackOf, comma_text, KnowsMore, parameter_digits};
 ghost use Rattle.cpp_direct.specs.Symbol.{symbol_by};
 ghost use Rattle.cpp_direct.specs.Written.{Writes};
 

@@ -5,8 +5,8 @@ ghost use Rattle.std.specs.Option.{OnSome, IfSome};
 ghost use Rattle.cpp_direct.specs.Names.{IsReadable};
 ghost use Rattle.cpp_direct.specs.Holes.{StandsAt};
 ghost use Rattle.cpp_direct.specs.HolesOfLists.{IsDigitsAt, IsOffsetAt};
-ghost use Rattle.cpp_direct.specs.Stands.{IsWriting};
-ghost use Rattle.cpp_direct.specs.Ways.{IsFresh};
+ghost use Rattle.cpp_direct.specs.WriterInvariant.{IsWriting};
+ghost use Rattle.cpp_direct.specs.MidStep.{IsFresh};
 ghost use Rattle.cpp_direct.specs.Written.{Reads};
 ghost use Rattle.cpp_direct.specs.Symbol.{symbol_by};
 

@@ -4,8 +4,8 @@ ghost use Rattle.std.specs.Prelude.{◌≡◌, ◌∷◌, [], ℕ, true, false};
 ghost use Rattle.std.specs.Option.{IfSome};
 ghost use Rattle.cpp_direct.specs.Holes.{StandsAt};
 ghost use Rattle.cpp_direct.specs.Names.{IsOperatorAt, is_angle, operator_text, IsReadable};
-ghost use Rattle.cpp_direct.specs.Stands.{IsWriting};
-ghost use Rattle.cpp_direct.specs.Ways.{AwaitsEncoding, AwaitsSource, IsUnscoped};
+ghost use Rattle.cpp_direct.specs.WriterInvariant.{IsWriting};
+ghost use Rattle.cpp_direct.specs.MidStep.{AwaitsEncoding, AwaitsSource, IsUnscoped};
 ghost use Rattle.cpp_direct.specs.Written.{Reads};
 ghost use Rattle.cpp_direct.specs.Symbol.{symbol_by};
 

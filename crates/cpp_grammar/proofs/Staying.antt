@@ -29,7 +29,7 @@ use Rattle.cpp_grammar.specs.Between.{in_name, in_types, in_signature, under_exp
 use Rattle.cpp_grammar.specs.Meaning.{parameters, meaning}
 use Rattle.cpp_grammar.specs.Unfolding as unfolding_
 use Rattle.cpp_grammar.specs.Unfolding.{opening, close, production_at, byte_of, cpp, first_around, first_state, first_tree, unfold_cpp}
-use Rattle.cpp_grammar.specs.Rescoping.{generic_so_far, parameter_here, lambda_with, with_own, has_held, is_counted_alike, is_foreign, restated, substituted_wide, numbered, between_wide, close_wide, cpp_wide, unfold_wide, argument_here, generic_number}
+use Rattle.cpp_grammar.specs.Rescoping.{generic_so_far, parameter_here, lambda_with, as_generic_lambda, has_held, is_counted_alike, is_foreign, restated, substituted_wide, numbered, between_wide, close_wide, cpp_wide, unfold_wide, argument_here, generic_number}
 use Rattle.cpp_grammar.specs.TableLaws.{wide_sound}
 use Rattle.cpp_grammar.proofs.Choosing.{kinds_numbered, number_at, wide_rule_at, is_wide_kind}
 use Rattle.cpp_grammar.proofs.ClosedValues.{held}
@@ -40,11 +40,11 @@ use Rattle.cpp_grammar.proofs.NoneFree.{HasNone, AllNone, none_tree, none_piece,
 -- ## What is closed
 
 -- productions whose parts are closed wherever they are: a signature's, and those that stand for one of their parts
-unfoldable is_shut : Production → Bool
-is_shut Production.Lambda = true
-is_shut Production.Special = true
-is_shut Production.OtherSpecial = true
-is_shut _ = false
+unfoldable has_closed_parts : Production → Bool
+has_closed_parts Production.Lambda = true
+has_closed_parts Production.Special = true
+has_closed_parts Production.OtherSpecial = true
+has_closed_parts _ = false
 
 -- those that stand for what special names stand for
 unfoldable has_specials : Production → Bool
@@ -54,7 +54,7 @@ has_specials _ = false
 
 -- the parts of a production are closed
 unfoldable are_closed : Production → Around → Bool
-are_closed p around = is_shut p || (not (opens p) && around.in_lambda)
+are_closed p around = has_closed_parts p || (not (opens p) && around.in_lambda)
 
 abbrev AllHaveNone : List Candidate → Type 0
 AllHaveNone [] = Unit {0}
@@ -233,7 +233,7 @@ argument_none around place k state settled cs = go around.scope refl
     ])
 
 between_none : (p : Production) (around : Around) (place : ℕ) (vs : List Value) (state : State) → Settled around → (are_closed p around ≡ true → AllNone vs) → AllHaveNone state.candidates → IfOk (between p around place vs state) (NextHasNone (are_closed p around) (has_specials p))
-unfolding are_closed is_shut has_specials opens after inside under_expansion in_signature between held is_open named_so_far listed_so_far piece_so_far
+unfolding are_closed has_closed_parts has_specials opens after inside under_expansion in_signature between held is_open named_so_far listed_so_far piece_so_far
 between_none Production.Encoding around place [] state settled all cs = record { values = λ l. absurd (false≢true l); inside = λ l. absurd (false≢true l); context = name_none place; candidates = cs }
 between_none Production.Encoding around place (v ∷ vs) state settled all cs = record { values = λ l. absurd (false≢true l); inside = λ l. absurd (false≢true l); context = types_none place (tree_of v); candidates = cs }
 between_none Production.Special around place vs state settled all cs = record { values = all; inside = λ l. refl; context = name_none place; candidates = cs }
@@ -301,7 +301,7 @@ between_none _ around place vs state settled all cs = record { inside = λ l. l;
 
 -- what an encoding stands for is closed, and what else stands for something closed in a signature
 means_none : (p : Production) (byte : ℕ) (around : Around) (vs : List Value) → Settled around → (are_closed p around ≡ true → AllNone vs) → around.in_lambda ≡ true → HasNone (held (meaning p byte around vs))
-unfolding are_closed is_shut opens meaning held is_open
+unfolding are_closed has_closed_parts opens meaning held is_open
 means_none Production.Encoding byte around vs settled all l = none_encoding (part vs 0) (no_items (part vs 1))
 means_none Production.Special byte around vs settled all l = meaning_none Production.Special byte around vs (settled.prefix l) (all refl)
 means_none Production.OtherSpecial byte around vs settled all l = meaning_none Production.OtherSpecial byte around vs (settled.prefix l) (all refl)
@@ -314,7 +314,7 @@ made_none p byte around vs state settled all cs = appended_none around (tree_of 
 
 behind_none : (p : Production) (byte : ℕ) (around : Around) (began : State) (vs : List Value) (state : State) → Settled around → (are_closed p around ≡ true → AllNone vs) → AllHaveNone state.candidates →
     AllHaveNone (unfolding_.behind p byte around began vs state).candidates
-unfolding are_closed is_shut opens unfolding_.behind
+unfolding are_closed has_closed_parts opens unfolding_.behind
 behind_none Production.RestrictType byte around began vs state settled all cs = made_none Production.RestrictType byte around vs state settled all cs
 behind_none Production.VolatileType byte around began vs state settled all cs = made_none Production.VolatileType byte around vs state settled all cs
 behind_none Production.ConstType byte around began vs state settled all cs = made_none Production.ConstType byte around vs state settled all cs
@@ -441,8 +441,8 @@ substituted_stays around place n state r cs e = counted (has_held state.candidat
         record { is = named_stays around place c state r (one_of state.candidates n c cs is) h; value = both.0; candidates = subst AllHaveNone (sym both.1) cs }
 
 -- a lambda whose signature is closed has no parameters of its own
-lambda_stays : (around : Around) (byte : ℕ) (vs : List Value) → AllNone vs → with_own (meaning Production.Lambda byte around vs) ≡ meaning Production.Lambda byte around vs
-unfolding with_own meaning lambda_with held is_open
+lambda_stays : (around : Around) (byte : ℕ) (vs : List Value) → AllNone vs → as_generic_lambda (meaning Production.Lambda byte around vs) ≡ meaning Production.Lambda byte around vs
+unfolding as_generic_lambda meaning lambda_with held is_open
 lambda_stays around byte vs all = go (is_open (parameters (list (tree_of (part vs 0)) (no_items (part vs 1))))) (none_signature vs all)
   where
     go : (b : Bool) → b ≡ false → piece (elim b [
@@ -465,10 +465,10 @@ closed_stays p byte around began vs state r settled all cs e read is =
 
 close_stays : (p : Production) (byte : ℕ) (around : Around) (place : ℕ) (began : State) (vs : List Value) (state : State) (r : Found Value State) → Settled around → (are_closed p around ≡ true → AllNone vs) →
     AllHaveNone state.candidates → close p byte around place began vs state ≡ Ok r → Closes around (close_wide p byte around place began vs state) r
-unfolding are_closed is_shut close close_wide unfolding_.behind
+unfolding are_closed has_closed_parts close close_wide unfolding_.behind
 close_stays Production.Substitution byte around place began vs state r settled all cs e = substituted_stays around (place - 1) (counted_value Seq36 (text_of (part vs 0))) state r cs e
 close_stays Production.Lambda byte around place began vs state r settled all cs e =
-    closed_stays Production.Lambda byte around began vs state r settled all cs e (Ok (found (with_own (meaning Production.Lambda byte around vs)) state))
+    closed_stays Production.Lambda byte around began vs state r settled all cs e (Ok (found (as_generic_lambda (meaning Production.Lambda byte around vs)) state))
     (let said : Value → Result (Found Value State) Refusal = λ v. Ok (found v state) in ap said (lambda_stays around byte vs (all refl)) ∙ e)
 close_stays p byte around place began vs state r settled all cs e = closed_stays p byte around began vs state r settled all cs e (close p byte around place began vs state) e
 

@@ -54,7 +54,7 @@ qualified-function c q t l n m r p e = rw e refl
 other-node : (s : List ℕ) (us : List Thunk) (ts : List Term) (given : Option Term) (c : items.Context) (q : values.Qualifiers) (k : Node) (flat : is_again k ≡ false) → ((l n : Bool) (m : Mark) (r p : ℕ) → k ≡ Node.FunctionType l n m r p → ⊥) → as_item heads.right c (reargued given (tree_of s us ts k)) ∷ [] ≡ qualified_right c q (reargued given (tree_of s us ts k))
 unfolding tree_of qualified_right reargued is_again
 other-node s us ts given c q (Node.FunctionType l n m r p) flat other = absurd (other l n m r p refl)
-other-node s us ts given c q (Node.Again x z) flat other = absurd (true≢false flat)
+other-node s us ts given c q (Node.Reargued x z) flat other = absurd (true≢false flat)
 other-node s us ts given c q _ flat other = refl
 
 pub qualified-other : (s : List ℕ) (us : List Thunk) (ts : List Term) (given : Option Term) (c : items.Context) (q : values.Qualifiers) (k : Node) (flat : is_again k ≡ false) (t : Term) → t ≡ reargued given (tree_of s us ts k) → ((l n : Bool) (m : Mark) (r p : ℕ) → k ≡ Node.FunctionType l n m r p → ⊥) → as_item heads.right c t ∷ [] ≡ qualified_right c q t
@@ -72,7 +72,7 @@ right-none-of s us ts given c (Node.Vector g t) flat h0 h1 h2 h3 h4 h5 h6 h7 h8 
 right-none-of s us ts given c (Node.Complex t) flat h0 h1 h2 h3 h4 h5 h6 h7 h8 h9 h10 = absurd (h7 t refl)
 right-none-of s us ts given c (Node.Parameter k a) flat h0 h1 h2 h3 h4 h5 h6 h7 h8 h9 h10 = absurd (h8 k a refl)
 right-none-of s us ts given c (Node.FunctionType l e m r p) flat h0 h1 h2 h3 h4 h5 h6 h7 h8 h9 h10 = absurd (h9 l e m r p refl)
-right-none-of s us ts given c (Node.Again x z) flat h0 h1 h2 h3 h4 h5 h6 h7 h8 h9 h10 = absurd (true≢false flat)
+right-none-of s us ts given c (Node.Reargued x z) flat h0 h1 h2 h3 h4 h5 h6 h7 h8 h9 h10 = absurd (true≢false flat)
 right-none-of s us ts given c (Node.Bounded b t) flat h0 h1 h2 h3 h4 h5 h6 h7 h8 h9 h10 = absurd (h10 b t refl)
 right-none-of s us ts given c _ flat h0 h1 h2 h3 h4 h5 h6 h7 h8 h9 h10 = refl
 
@@ -100,7 +100,7 @@ module _ (c : items.Context) (p : Term) (o : Option ℕ) where
 first-other-of : (s : List ℕ) (us : List Thunk) (ts : List Term) (given : Option Term) (c : items.Context) (n : Node) (flat : is_again n ≡ false) → ((e r : ℕ) → n ≡ Node.Cell e r → ⊥) → [] ≡ first_parts c (reargued given (tree_of s us ts n))
 unfolding tree_of first_parts reargued is_again
 first-other-of s us ts given c (Node.Cell e r) flat other = absurd (other e r refl)
-first-other-of s us ts given c (Node.Again x z) flat other = absurd (true≢false flat)
+first-other-of s us ts given c (Node.Reargued x z) flat other = absurd (true≢false flat)
 first-other-of s us ts given c _ flat other = refl
 
 pub first-other : (s : List ℕ) (us : List Thunk) (ts : List Term) (given : Option Term) (c : items.Context) (n : Node) (flat : is_again n ≡ false) (t : Term) → t ≡ reargued given (tree_of s us ts n) → ((e r : ℕ) → n ≡ Node.Cell e r → ⊥) → [] ≡ first_parts c t
@@ -109,7 +109,7 @@ first-other s us ts given c n flat t is other = first-other-of s us ts given c n
 more-other-of : (s : List ℕ) (us : List Thunk) (ts : List Term) (given : Option Term) (c : items.Context) (n : Node) (flat : is_again n ≡ false) → ((e r : ℕ) → n ≡ Node.Cell e r → ⊥) → [] ≡ more_parts c (reargued given (tree_of s us ts n))
 unfolding tree_of more_parts reargued is_again
 more-other-of s us ts given c (Node.Cell e r) flat other = absurd (other e r refl)
-more-other-of s us ts given c (Node.Again x z) flat other = absurd (true≢false flat)
+more-other-of s us ts given c (Node.Reargued x z) flat other = absurd (true≢false flat)
 more-other-of s us ts given c _ flat other = refl
 
 pub more-other : (s : List ℕ) (us : List Thunk) (ts : List Term) (given : Option Term) (c : items.Context) (n : Node) (flat : is_again n ≡ false) (t : Term) → t ≡ reargued given (tree_of s us ts n) → ((e r : ℕ) → n ≡ Node.Cell e r → ⊥) → [] ≡ more_parts c t
@@ -132,7 +132,7 @@ function-absent name q m t parameters is = append-nil (function_bare true name q
 not-absent-node : (s : List ℕ) (us : List Thunk) (ts : List Term) (given : Option Term) (n : Node) (flat : is_again n ≡ false) → (n ≡ Node.Absent → ⊥) → reargued given (tree_of s us ts n) ≡ term.absent → ⊥
 unfolding tree_of reargued is_again
 not-absent-node s us ts given Node.Absent flat other e = other refl
-not-absent-node s us ts given (Node.Again x z) flat other e = true≢false flat
+not-absent-node s us ts given (Node.Reargued x z) flat other e = true≢false flat
 not-absent-node s us ts given _ flat other e = cc e
 
 pub not-absent : (s : List ℕ) (us : List Thunk) (ts : List Term) (given : Option Term) (n : Node) (flat : is_again n ≡ false) (t : Term) → t ≡ reargued given (tree_of s us ts n) → (n ≡ Node.Absent → ⊥) → t ≡ term.absent → ⊥
@@ -141,7 +141,7 @@ not-absent s us ts given n flat t is other e = not-absent-node s us ts given n f
 not-nil-node : (s : List ℕ) (us : List Thunk) (ts : List Term) (given : Option Term) (n : Node) (flat : is_again n ≡ false) → (n ≡ Node.Nil → ⊥) → reargued given (tree_of s us ts n) ≡ term.nil → ⊥
 unfolding tree_of reargued is_again
 not-nil-node s us ts given Node.Nil flat other e = other refl
-not-nil-node s us ts given (Node.Again x z) flat other e = true≢false flat
+not-nil-node s us ts given (Node.Reargued x z) flat other e = true≢false flat
 not-nil-node s us ts given _ flat other e = cc e
 
 pub not-nil : (s : List ℕ) (us : List Thunk) (ts : List Term) (given : Option Term) (n : Node) (flat : is_again n ≡ false) (t : Term) → t ≡ reargued given (tree_of s us ts n) → (n ≡ Node.Nil → ⊥) → t ≡ term.nil → ⊥
@@ -170,7 +170,7 @@ full-none d s us ts given n flat t is h1 h2 h3 h4 h5 h6 h7 = by n flat h1 h2 h3 
     by (Node.OfName k a q m) flat h1 h2 h3 h4 h5 h6 h7 = absurd (h5 k a q m refl)
     by (Node.Construction a g b) flat h1 h2 h3 h4 h5 h6 h7 = absurd (h6 a g b refl)
     by (Node.CloneOf k a) flat h1 h2 h3 h4 h5 h6 h7 = absurd (h7 k a refl)
-    by (Node.Again x z) flat h1 h2 h3 h4 h5 h6 h7 = absurd (true≢false flat)
+    by (Node.Reargued x z) flat h1 h2 h3 h4 h5 h6 h7 = absurd (true≢false flat)
     by _ flat h1 h2 h3 h4 h5 h6 h7 = refl
 
 pub bare-other : (d : Detail) (s : List ℕ) (us : List Thunk) (ts : List Term) (given : Option Term) (n : Node) (flat : is_again n ≡ false) (t : Term) → t ≡ reargued given (tree_of s us ts n) → ((a : ℕ) (q : Qualifiers) (m : Mark) (r p u : ℕ) → n ≡ Node.Function a q m r p u → ⊥) → full_parts d t ≡ bare_parts d t
@@ -179,7 +179,7 @@ bare-other d s us ts given n flat t is other = ap (full_parts d) is ∙ by n fla
   where
     by : (n : Node) → is_again n ≡ false → ((a : ℕ) (q : Qualifiers) (m : Mark) (r p u : ℕ) → n ≡ Node.Function a q m r p u → ⊥) → full_parts d (reargued given (tree_of s us ts n)) ≡ bare_parts d (reargued given (tree_of s us ts n))
     by (Node.Function a q m r p u) flat h = absurd (h a q m r p u refl)
-    by (Node.Again x z) flat h = absurd (true≢false flat)
+    by (Node.Reargued x z) flat h = absurd (true≢false flat)
     by _ flat h = refl
 
 pub root-whole : (e : Term) (suffix : List ℕ) → as_item heads.full items.closed e ∷ (clone_suffix suffix ++ []) ≡ root_parts (term.symbol e suffix)
@@ -200,7 +200,7 @@ root-none s us ts given n flat t is other = by n flat other ∙ ap root_parts (s
   where
     by : (n : Node) → is_again n ≡ false → ((e : ℕ) (b : Span) → n ≡ Node.Whole e b → ⊥) → [] ≡ root_parts (reargued given (tree_of s us ts n))
     by (Node.Whole e b) flat h = absurd (h e b refl)
-    by (Node.Again x z) flat h = absurd (true≢false flat)
+    by (Node.Reargued x z) flat h = absurd (true≢false flat)
     by _ flat h = refl
 
 -- ## Elements of an expansion

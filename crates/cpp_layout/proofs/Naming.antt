@@ -150,7 +150,7 @@ prefix-encoding s us ts given c n flat own t plain is e = ap (λ u. as_item head
     by (Node.OfName k a q m) flat e = refl
     by (Node.Construction a g b) flat e = refl
     by (Node.CloneOf k a) flat e = refl
-    by (Node.Again x z) flat e = absurd (true≢false flat)
+    by (Node.Reargued x z) flat e = absurd (true≢false flat)
     by _ flat e = cc e
 
 pub prefix-other : (s : List ℕ) (us : List Thunk) (ts : List Term) (given : Option Term) (c : items.Context) (n : Node) (flat : is_again n ≡ false) (t : Term) → t ≡ reargued given (tree_of s us ts n) → is_encoding n ≡ false → ((a : ℕ) → n ≡ Node.Holder a → ⊥) → as_item heads.left c t ≡ prefix_item c t
@@ -166,7 +166,7 @@ prefix-other s us ts given c n flat t is e other = subst (λ u. as_item heads.le
     by (Node.Construction a g b) flat e other = cc e
     by (Node.CloneOf k a) flat e other = cc e
     by (Node.Holder a) flat e other = absurd (other a refl)
-    by (Node.Again x z) flat e other = absurd (true≢false flat)
+    by (Node.Reargued x z) flat e other = absurd (true≢false flat)
     by _ flat e other = refl
 
 pub prefix-held : (s : List ℕ) (us : List Thunk) (ts : List Term) (given : Option Term) (c : items.Context) (n : Node) (flat : is_again n ≡ false) (t : Term) (a : ℕ) → t ≡ reargued given (tree_of s us ts n) → n ≡ Node.Holder a → as_item heads.left c (reargued given (tree_at ts a)) ≡ prefix_item c t
@@ -196,7 +196,7 @@ entity-other s us ts given n flat t is other = subst (λ u. u ≡ entity_of u) (
   where
     by : (n : Node) → is_again n ≡ false → ((g : Span) (a : ℕ) → n ≡ Node.OfDefault g a → ⊥) → reargued given (tree_of s us ts n) ≡ entity_of (reargued given (tree_of s us ts n))
     by (Node.OfDefault g a) flat other = absurd (other g a refl)
-    by (Node.Again x z) flat other = absurd (true≢false flat)
+    by (Node.Reargued x z) flat other = absurd (true≢false flat)
     by _ flat other = refl
 
 -- ## The last piece
@@ -218,7 +218,7 @@ last-none s us ts given n flat t is h1 h2 h3 h4 h5 = other n flat h1 h2 h3 h4 h5
     other (Node.Within a p) flat h1 h2 h3 h4 h5 = absurd (h3 a p refl)
     other (Node.Local e a d) flat h1 h2 h3 h4 h5 = absurd (h4 e a d refl)
     other (Node.OfDefault g a) flat h1 h2 h3 h4 h5 = absurd (h5 g a refl)
-    other (Node.Again x z) flat h1 h2 h3 h4 h5 = absurd (true≢false flat)
+    other (Node.Reargued x z) flat h1 h2 h3 h4 h5 = absurd (true≢false flat)
     other _ flat h1 h2 h3 h4 h5 = refl
 
 pub instance-whole : (c : items.Context) (t a : Term) (n : ℕ) → fixed_text n ≡ opening_text (last_piece t) → as_item heads.left c t ∷ text (fixed_text n) ∷ (list_part heads.first c a ++ (text (fixed_text GREATER) ∷ [])) ≡ instance_parts true c t a

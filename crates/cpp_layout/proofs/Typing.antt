@@ -81,7 +81,7 @@ qualified-node : (s : List ℕ) (us : List Thunk) (ts : List Term) (given : Opti
     → as_item heads.left c (reargued given (tree_of s us ts k)) ∷ (qualifiers_behind (heads.is_reference (items.head c (reargued given (tree_of s us ts k)))) (heads.is_funarr (items.head c (reargued given (tree_of s us ts k)))) q ++ []) ≡ qualified_left c q (reargued given (tree_of s us ts k))
 unfolding tree_of qualified_left reargued is_again
 qualified-node s us ts given c q (Node.FunctionType l n m r p) flat other = absurd (other l n m r p refl)
-qualified-node s us ts given c q (Node.Again x z) flat other = absurd (true≢false flat)
+qualified-node s us ts given c q (Node.Reargued x z) flat other = absurd (true≢false flat)
 qualified-node s us ts given c q _ flat other = behind-whole c _ _ _ q
 
 pub qualified-other-left : (s : List ℕ) (us : List Thunk) (ts : List Term) (given : Option Term) (c : items.Context) (q : values.Qualifiers) (k : Node) (flat : is_again k ≡ false) (t : Term) → t ≡ reargued given (tree_of s us ts k) → ((l n : Bool) (m : Mark) (r p : ℕ) → k ≡ Node.FunctionType l n m r p → ⊥)
@@ -112,7 +112,7 @@ other-plain s us ts given n flat t is other = ap is_plain_integer is ∙ by n fl
   where
     by : (n : Node) → is_again n ≡ false → ((l : ℕ) → n ≡ Node.Builtin l → ⊥) → is_plain_integer (reargued given (tree_of s us ts n)) ≡ false
     by (Node.Builtin l) flat other = absurd (other l refl)
-    by (Node.Again x z) flat other = absurd (true≢false flat)
+    by (Node.Reargued x z) flat other = absurd (true≢false flat)
     by _ flat other = refl
 
 sign-is : (b : Bool) (l : List (PartOf items.Item)) → text_if b (fixed_text MINUS) l ≡ cond b (says "-" ∷ []) [] ++ l
@@ -163,7 +163,7 @@ no-name (Node.Holder a) flat h1 h2 h3 h4 h5 h0 h6 h7 h8 = absurd (h8 a refl)
 no-name (Node.Tagged b a g) flat h1 h2 h3 h4 h5 h0 h6 h7 h8 = absurd (h0 b a g refl)
 no-name (Node.Abbreviation k) flat h1 h2 h3 h4 h5 h0 h6 h7 h8 = absurd (h6 k refl)
 no-name (Node.Parameter k a) flat h1 h2 h3 h4 h5 h0 h6 h7 h8 = absurd (h7 k a refl)
-no-name (Node.Again x z) flat h1 h2 h3 h4 h5 h0 h6 h7 h8 = absurd (true≢false flat)
+no-name (Node.Reargued x z) flat h1 h2 h3 h4 h5 h0 h6 h7 h8 = absurd (true≢false flat)
 no-name _ flat h1 h2 h3 h4 h5 h0 h6 h7 h8 = tt
 
 pub no-type : (n : Node) → IsNoName n → ((k : ℕ) → n ≡ Node.Builtin k → ⊥) → ((k : ℕ) → n ≡ Node.BuiltinWithD k → ⊥) → ((b : Span) → n ≡ Node.Vendor b → ⊥) → ((t : ℕ) → n ≡ Node.Pointer t → ⊥) → ((t : ℕ) → n ≡ Node.Lvalue t → ⊥) → ((t : ℕ) → n ≡ Node.Rvalue t → ⊥) → ((g : Span) (t : ℕ) → n ≡ Node.Array g t → ⊥)
@@ -190,14 +190,14 @@ no-type (Node.Qualified a b) k h1 h0 h2 h3 h4 h5 h6 h7 h8 h9 h10 h11 h12 h13 h14
 no-type (Node.Vector a b) k h1 h0 h2 h3 h4 h5 h6 h7 h8 h9 h10 h11 h12 h13 h14 = absurd (h10 a b refl)
 no-type (Node.Complex a) k h1 h0 h2 h3 h4 h5 h6 h7 h8 h9 h10 h11 h12 h13 h14 = absurd (h11 a refl)
 no-type (Node.SizedFloat a b) k h1 h0 h2 h3 h4 h5 h6 h7 h8 h9 h10 h11 h12 h13 h14 = absurd (h12 a b refl)
-no-type (Node.Again x z) k h1 h0 h2 h3 h4 h5 h6 h7 h8 h9 h10 h11 h12 h13 h14 = elim k [ ]
+no-type (Node.Reargued x z) k h1 h0 h2 h3 h4 h5 h6 h7 h8 h9 h10 h11 h12 h13 h14 = elim k [ ]
 no-type (Node.Bounded a b) k h1 h0 h2 h3 h4 h5 h6 h7 h8 h9 h10 h11 h12 h13 h14 = absurd (h13 a b refl)
 no-type (Node.Constrained a b) k h1 h0 h2 h3 h4 h5 h6 h7 h8 h9 h10 h11 h12 h13 h14 = absurd (h14 a b refl)
 no-type _ k h1 h0 h2 h3 h4 h5 h6 h7 h8 h9 h10 h11 h12 h13 h14 = tt
 
 pub no-type-flat : (n : Node) → IsNoType n → is_again n ≡ false
 unfolding is_again
-no-type-flat (Node.Again t a) k = elim k [ ]
+no-type-flat (Node.Reargued t a) k = elim k [ ]
 no-type-flat _ k = refl
 
 pub left-none : (s : List ℕ) (us : List Thunk) (ts : List Term) (given : Option Term) (d : Detail) (c : items.Context) (n : Node) (flat : is_again n ≡ false) → IsNoType n → ((t : ℕ) → n ≡ Node.Expansion t → ⊥) → ((t : ℕ) → n ≡ Node.Pack t → ⊥) → ((t : ℕ) (v : Signed) → n ≡ Node.Integer t v → ⊥) → ((b : Bool) → n ≡ Node.Boolean b → ⊥)
@@ -234,7 +234,7 @@ left-none s us ts given d c (Node.Boolean b) flat k h1 h2 h3 h4 h5 h6 h7 = absur
 left-none s us ts given d c Node.NullPointer flat k h1 h2 h3 h4 h5 h6 h7 = absurd (h5 refl)
 left-none s us ts given d c (Node.EncodingLiteral e) flat k h1 h2 h3 h4 h5 h6 h7 = absurd (h6 e refl)
 left-none s us ts given d c (Node.AddressOf e) flat k h1 h2 h3 h4 h5 h6 h7 = absurd (h7 e refl)
-left-none s us ts given d c (Node.Again x z) flat k h1 h2 h3 h4 h5 h6 h7 = absurd (true≢false flat)
+left-none s us ts given d c (Node.Reargued x z) flat k h1 h2 h3 h4 h5 h6 h7 = absurd (true≢false flat)
 left-none s us ts given d c _ flat k h1 h2 h3 h4 h5 h6 h7 = refl
 
 pub own-none : (s : List ℕ) (us : List Thunk) (ts : List Term) (given : Option Term) (c : items.Context) (n : Node) (flat : is_again n ≡ false) (t : Term) → t ≡ reargued given (tree_of s us ts n) → ((p : Piece) → n ≡ Node.Alone p → ⊥) → ((p : Piece) → n ≡ Node.InStd p → ⊥) → ((a : ℕ) (p : Piece) → n ≡ Node.Within a p → ⊥) → [] ≡ piece_parts c (own_piece t)
@@ -245,7 +245,7 @@ own-none s us ts given c n flat t is h1 h2 h3 = other n flat h1 h2 h3 ∙ ap (λ
     other (Node.Alone p) flat h1 h2 h3 = absurd (h1 p refl)
     other (Node.InStd p) flat h1 h2 h3 = absurd (h2 p refl)
     other (Node.Within a p) flat h1 h2 h3 = absurd (h3 a p refl)
-    other (Node.Again x z) flat h1 h2 h3 = absurd (true≢false flat)
+    other (Node.Reargued x z) flat h1 h2 h3 = absurd (true≢false flat)
     other _ flat h1 h2 h3 = refl
 
 pub low-other : (s : List ℕ) (us : List Thunk) (ts : List Term) (given : Option Term) (d : Detail) (c : items.Context) (n : Node) (flat : is_again n ≡ false) (t : Term) → t ≡ reargued given (tree_of s us ts n) → ((a : ℕ) → n ≡ Node.Lvalue a → ⊥) → ((a : ℕ) → n ≡ Node.Rvalue a → ⊥) → ((q : Qualifiers) (a : ℕ) → n ≡ Node.Qualified q a → ⊥) → ((k a : ℕ) → n ≡ Node.Parameter k a → ⊥)
@@ -258,7 +258,7 @@ low-other s us ts given d c n flat t is h1 h2 h3 h4 = ap (left_parts d c) is ∙
     other (Node.Rvalue a) flat h1 h2 h3 h4 = absurd (h2 a refl)
     other (Node.Qualified q a) flat h1 h2 h3 h4 = absurd (h3 q a refl)
     other (Node.Parameter k a) flat h1 h2 h3 h4 = absurd (h4 k a refl)
-    other (Node.Again x z) flat h1 h2 h3 h4 = absurd (true≢false flat)
+    other (Node.Reargued x z) flat h1 h2 h3 h4 = absurd (true≢false flat)
     other _ flat h1 h2 h3 h4 = refl
 
 pub base-other-node : (s : List ℕ) (us : List Thunk) (ts : List Term) (given : Option Term) (d : Detail) (c : items.Context) (n : Node) (flat : is_again n ≡ false) (t : Term) → t ≡ reargued given (tree_of s us ts n) → ((p : Piece) → n ≡ Node.Alone p → ⊥) → ((p : Piece) → n ≡ Node.InStd p → ⊥) → ((a : ℕ) (p : Piece) → n ≡ Node.Within a p → ⊥)
@@ -277,5 +277,5 @@ base-other-node s us ts given d c n flat t is h1 h2 h3 h4 h5 h0 h6 h7 h8 = ap (l
     other (Node.Tagged b a g) flat h1 h2 h3 h4 h5 h0 h6 h7 h8 = absurd (h0 b a g refl)
     other (Node.Abbreviation k) flat h1 h2 h3 h4 h5 h0 h6 h7 h8 = absurd (h6 k refl)
     other (Node.Parameter k a) flat h1 h2 h3 h4 h5 h0 h6 h7 h8 = absurd (h7 k a refl)
-    other (Node.Again x z) flat h1 h2 h3 h4 h5 h0 h6 h7 h8 = absurd (true≢false flat)
+    other (Node.Reargued x z) flat h1 h2 h3 h4 h5 h0 h6 h7 h8 = absurd (true≢false flat)
     other _ flat h1 h2 h3 h4 h5 h0 h6 h7 h8 = refl

@@ -153,7 +153,7 @@ IsNoName (Node.Holder a) = ⊥
 IsNoName (Node.Tagged s name tag) = ⊥
 IsNoName (Node.Abbreviation code) = ⊥
 IsNoName (Node.Parameter k a) = ⊥
-IsNoName (Node.Again t a) = ⊥
+IsNoName (Node.Reargued t a) = ⊥
 IsNoName _ = Unit {0}
 
 -- nor a type
@@ -182,7 +182,7 @@ IsNoType (Node.Vector digits t) = ⊥
 IsNoType (Node.Complex t) = ⊥
 IsNoType (Node.SizedFloat digits end) = ⊥
 IsNoType (Node.Constrained letter concept) = ⊥
-IsNoType (Node.Again t a) = ⊥
+IsNoType (Node.Reargued t a) = ⊥
 IsNoType _ = Unit {0}
 
 -- ## A symbol as a layout

@@ -24,7 +24,7 @@ use Rattle.cpp_grammar.specs.Values.{local_number}
 use Rattle.cpp_grammar.proofs.ClosedTrees.{at_number, its_symbols, taken_rule}
 use Rattle.cpp_term.specs.Unfolding.{number_tested, opening, cpp}
 use Rattle.cpp_term.specs.Values.{State, Around}
-use Rattle.cpp_references.specs.declared.around.Kept.{Kept}
+use Rattle.cpp_references.specs.declared.around.Surroundings.{Surroundings}
 use Rattle.cpp_link.specs.declared.linked.Linked.{Linked}
 use Rattle.cpp_term.specs.Term.{Term}
 use Rattle.cpp_link.specs.Parts.{packs_of, around_of, IsKeptThere}
@@ -231,7 +231,7 @@ module _ (s : List ℕ) (rows : List Row) (row : Row) (rule : Rule) (taken : Lis
 
 -- ## What is kept
 
-pub begins_kept : (s : List ℕ) (l : Linked) (context kept : Kept) (around : Around) (state : State) (rule : Rule) (taken : List ℕ) (place : ℕ)
+pub begins_kept : (s : List ℕ) (l : Linked) (context kept : Surroundings) (around : Around) (state : State) (rule : Rule) (taken : List ℕ) (place : ℕ)
     → ((ts : List Term) → around_of ts kept ≡ around_of ts context) → ((n : ℕ) → IsKeptThere n context → IsKeptThere n kept) → packs_of kept ≡ l.packs
     → Surrounds s l context around → Holds s l state → IsKept s l kept (standing rule taken place around state)
 begins_kept s l context kept around state rule taken place same there packs surrounds holds = record {

@@ -13,7 +13,7 @@ use Rattle.cpp_grammar.specs.Unfolding.{production_at}
 use Rattle.cpp_term.specs.Values as values
 use Rattle.cpp_term.specs.Values.{State, Value, Around}
 use Rattle.cpp_link.specs.declared.linked.Linked.{Linked}
-use Rattle.cpp_references.specs.declared.around.Kept.{Kept}
+use Rattle.cpp_references.specs.declared.around.Surroundings.{Surroundings}
 use Rattle.cpp_link.specs.declared.part.Part.{Part}
 use Rattle.cpp_link.specs.Owed.{owes}
 use Rattle.cpp_link.specs.Closes.{closes_of, closes, ends_of}
@@ -32,7 +32,7 @@ same_close : (s : List ℕ) (m n q p : ℕ) (code around : Around) (began : Stat
 same_close s m n q p code around began us vs cs packs state number place context known candidates same = rw (number, place, context, known, candidates, same) refl
 
 -- what comes of the open rule of the reading, in terms of the frame
-read_is : (s : List ℕ) (old : Linked) (frame : Frame Kept) (own : List Part) (rule : Open State Around) (known : List Value) (state : State) → IsAt (cpp_view s) s old frame own rule known state
+read_is : (s : List ℕ) (old : Linked) (frame : Frame Surroundings) (own : List Part) (rule : Open State Around) (known : List Value) (state : State) → IsAt (cpp_view s) s old frame own rule known state
     → (linked s).close rule known state
     ≡ link_close s (production_at frame.rule) (slice_index s frame.place) (around_of (trees_in s old.nodes) frame.kept) frame.place rule.before (values_in s old.nodes own) (state_of s old)
 read_is s old frame own rule known state is =
@@ -41,7 +41,7 @@ read_is s old frame own rule known state is =
     is.number is.place is.kept.surrounds.is (parts_are s old own known is.parts).1 is.holds.candidates is.holds.packs
 
 -- what this production closes to with these parts is what comes of the open rule of the reading
-given_is : (s : List ℕ) (old : Linked) (frame : Frame Kept) (own given : List Part) (p : Production) (rule : Open State Around) (known : List Value) (state : State) → IsAt (cpp_view s) s old frame own rule known state
+given_is : (s : List ℕ) (old : Linked) (frame : Frame Surroundings) (own given : List Part) (p : Production) (rule : Open State Around) (known : List Value) (state : State) → IsAt (cpp_view s) s old frame own rule known state
     → p ≡ production_at frame.rule → given ≡ own
     → (linked s).close rule known state
     ≡ link_close s p (slice_index s frame.place) (around_of (trees_in s old.nodes) frame.kept) frame.place rule.before (values_in s old.nodes given) (state_of s old)
@@ -51,7 +51,7 @@ given_is s old frame own given p rule known state is production same =
     ∙ ap (λ ps. link_close s p (slice_index s frame.place) (around_of (trees_in s old.nodes) frame.kept) frame.place rule.before (values_in s old.nodes ps) (state_of s old)) (sym same)
 
 -- a part was put that stands for what the rule closes to
-pub put_right : (s : List ℕ) (old new : Linked) (frame : Frame Kept) (own given lower new_parts : List Part) (p : Production) (made : Part) (done : Unit {0}) (rule : Open State Around) (known : List Value) (state : State)
+pub put_right : (s : List ℕ) (old new : Linked) (frame : Frame Surroundings) (own given lower new_parts : List Part) (p : Production) (made : Part) (done : Unit {0}) (rule : Open State Around) (known : List Value) (state : State)
     → IsAt (cpp_view s) s old frame own rule known state → p ≡ production_at frame.rule → given ≡ own
     → ((began : State) → began.packs ≡ packs_of frame.kept
     → link_close s p (slice_index s frame.place) (around_of (trees_in s old.nodes) frame.kept) frame.place began (values_in s old.nodes given) (state_of s old) ≡ Ok (found (value_in s new.nodes made) (state_of s new)))
@@ -70,7 +70,7 @@ put_right s old new frame own given lower new_parts p made done rule known state
 )
 
 -- the refusal of what the rule closes to is that of the reading
-pub refused_right : (s : List ℕ) (old : Linked) (frame : Frame Kept) (own given : List Part) (p : Production) (e : Refusal) (rule : Open State Around) (known : List Value) (state : State)
+pub refused_right : (s : List ℕ) (old : Linked) (frame : Frame Surroundings) (own given : List Part) (p : Production) (e : Refusal) (rule : Open State Around) (known : List Value) (state : State)
     → IsAt (cpp_view s) s old frame own rule known state → p ≡ production_at frame.rule → given ≡ own
     → ((began : State) → Fails e (link_close s p (slice_index s frame.place) (around_of (trees_in s old.nodes) frame.kept) frame.place began (values_in s old.nodes given) (state_of s old)))
     → Fails e ((linked s).close rule known state)
@@ -80,7 +80,7 @@ refused_right s old frame own given p e rule known state is production same refu
 -- ## How many nodes are made
 
 -- they are no more than the rule may add after its parts
-pub ends_few : (s : List ℕ) (old new : Linked) (frame : Frame Kept) (parts own : List Part) (p : Production) → p ≡ production_at frame.rule → own ≡ drop frame.base parts → 4 ≤ length old.nodes.nodes
+pub ends_few : (s : List ℕ) (old new : Linked) (frame : Frame Surroundings) (parts own : List Part) (p : Production) → p ≡ production_at frame.rule → own ≡ drop frame.base parts → 4 ≤ length old.nodes.nodes
     → length new.nodes.nodes ≤ length old.nodes.nodes + ends_of p own → AddsFew (cpp_view s) old new frame parts
 unfolding closes
 ends_few s old new frame parts own p numbered same begun few =
@@ -91,7 +91,7 @@ ends_few s old new frame parts own p numbered same begun few =
     sizes : (m n ends closes : ℕ) → 4 ≤ m → n ≤ m + ends → ends ≤ closes → n - 4 ≤ m - 4 + closes
     sizes m n ends closes begun few le = omega (arith, begun, few, le)
 
-pub few_adds : (s : List ℕ) (old new : Linked) (frame : Frame Kept) (parts : List Part) → AddsFew (cpp_view s) old new frame parts
+pub few_adds : (s : List ℕ) (old new : Linked) (frame : Frame Surroundings) (parts : List Part) → AddsFew (cpp_view s) old new frame parts
     → length new.nodes.nodes - 4 + 0 ≤ length old.nodes.nodes - 4 + owed_behind (cpp_view s) frame parts
 few_adds s old new frame parts few =
     let held : owes frame.rule (length (drop frame.base parts)) ≡ owes frame.rule (length parts - frame.base) = ap (λ n. owes frame.rule n) (length-drop frame.base parts) in

@@ -14,7 +14,7 @@ use Rattle.cpp_term.specs.Values.{State, Value, Around}
 use Rattle.cpp_term.specs.Between.{between}
 use Rattle.cpp_term.specs.Unfolding.{cpp}
 use Rattle.cpp_link.specs.declared.linked.Linked.{Linked}
-use Rattle.cpp_references.specs.declared.around.Kept.{Kept}
+use Rattle.cpp_references.specs.declared.around.Surroundings.{Surroundings}
 use Rattle.cpp_link.specs.declared.part.Part.{Part}
 use Rattle.cpp_link.specs.declared.part.Step.{Step}
 use Rattle.cpp_link.specs.Making.{state_of}
@@ -37,7 +37,7 @@ same_between : (m n q p : ℕ) (code around : Around) (us vs : List Value) (cs :
 same_between m n q p code around us vs cs packs state number place context known candidates same = rw (number, place, context, known, candidates, same) refl
 
 -- what is done before the next part of the open rule of the reading, in terms of the frame
-read_is : (s : List ℕ) (old : Linked) (frame : Frame Kept) (own : List Part) (rule : Open State Around) (known : List Value) (state : State) → IsAt (cpp_view s) s old frame own rule known state
+read_is : (s : List ℕ) (old : Linked) (frame : Frame Surroundings) (own : List Part) (rule : Open State Around) (known : List Value) (state : State) → IsAt (cpp_view s) s old frame own rule known state
     → cpp.between rule known state ≡ between (production_at frame.rule) (around_of (trees_in s old.nodes) frame.kept) frame.place (values_in s old.nodes own) (state_of s old)
 unfolding cpp
 read_is s old frame own rule known state is =
@@ -45,7 +45,7 @@ read_is s old frame own rule known state is =
     is.number is.place is.kept.surrounds.is (parts_are s old own known is.parts).1 is.holds.candidates is.holds.packs
 
 -- the step that was taken is that of the reading
-pub goes_right : (s : List ℕ) (old new : Linked) (frame : Frame Kept) (parts new_parts own : List Part) (production : Production) (step : Step) (then : Kept)
+pub goes_right : (s : List ℕ) (old new : Linked) (frame : Frame Surroundings) (parts new_parts own : List Part) (production : Production) (step : Step) (then : Surroundings)
     → own ≡ drop frame.base parts → production ≡ production_at frame.rule
     → ((cs : List values.Candidate) → between production (around_of (trees_in s old.nodes) frame.kept) frame.place (values_in s old.nodes own) (record { candidates = cs; packs = old.packs })
     ≡ goes_on s old.nodes frame.kept (values_in s old.nodes own) cs old.packs step)
@@ -74,7 +74,7 @@ goes_right s old new frame parts new_parts own production step then same numbere
     stepped own production same numbered step_is = rw (← same, ← numbered) (step_is (state_of s old).candidates)
 
 -- the refusal of a step is that of the reading
-pub refused_right : (s : List ℕ) (old new : Linked) (frame : Frame Kept) (parts new_parts own : List Part) (production : Production) (e : Refusal)
+pub refused_right : (s : List ℕ) (old new : Linked) (frame : Frame Surroundings) (parts new_parts own : List Part) (production : Production) (e : Refusal)
     → own ≡ drop frame.base parts → production ≡ production_at frame.rule
     → ((cs : List values.Candidate) → Fails e (between production (around_of (trees_in s old.nodes) frame.kept) frame.place (values_in s old.nodes own) (record { candidates = cs; packs = old.packs })))
     → GoesOn (cpp_view s) s (Surrounds s) old new frame parts new_parts (Err e)
@@ -88,7 +88,7 @@ next_owes number held m step of same =
     rw behind (step_owed (production_at number) held step of)
 
 -- the nodes are the old ones and those that the production makes before this part
-pub adds_right : (s : List ℕ) (old new : Linked) (frame : Frame Kept) (parts new_parts own : List Part) (production : Production) (step : Step) (then : Kept)
+pub adds_right : (s : List ℕ) (old new : Linked) (frame : Frame Surroundings) (parts new_parts own : List Part) (production : Production) (step : Step) (then : Surroundings)
     → own ≡ drop frame.base parts → production ≡ production_at frame.rule → IsPaid old → IsStepOf production (length own) step
     → Takes s old new frame.kept frame.base parts new_parts step then
     → Adds (cpp_view s) old new (owed_behind (cpp_view s) frame parts) (owed_next (cpp_view s) frame new_parts)
@@ -192,7 +192,7 @@ quiet_between Production.BoundedArray around place [] state less = refl
 quiet_between Production.BoundedArray around place (v ∷ vs) state less = absurd (not_first vs less)
 quiet_between _ around place vs state less = refl
 
-pub quiet_right : (s : List ℕ) (old : Linked) (frame : Frame Kept) (parts : List Part) (held : ℕ)
+pub quiet_right : (s : List ℕ) (old : Linked) (frame : Frame Surroundings) (parts : List Part) (held : ℕ)
     → held ≡ length parts - frame.base → held < quiet_parts (production_at frame.rule)
     → GoesOn (cpp_view s) s (Surrounds s) old old frame parts parts (Ok frame.kept)
 quiet_right s old frame parts held counted less rule known state is = (
@@ -213,7 +213,7 @@ quiet_owes number held m same =
     let behind : m + 1 ≡ suc held = omega (arith, same) in
     rw behind (quiet_owed (production_at number) held)
 
-pub quiet_adds : (s : List ℕ) (old : Linked) (frame : Frame Kept) (parts : List Part)
+pub quiet_adds : (s : List ℕ) (old : Linked) (frame : Frame Surroundings) (parts : List Part)
     → Adds (cpp_view s) old old (owed_behind (cpp_view s) frame parts) (owed_next (cpp_view s) frame parts)
 quiet_adds s old frame parts = (
   record { least = omega arith; stays = λ i less. refl },
@@ -222,14 +222,14 @@ quiet_adds s old frame parts = (
 
 -- ## How many nodes are made
 
-pub quiet_few : (s : List ℕ) (old : Linked) (frame : Frame Kept) (parts : List Part)
+pub quiet_few : (s : List ℕ) (old : Linked) (frame : Frame Surroundings) (parts : List Part)
     → (cpp_view s).size old + closes frame.rule (drop frame.base parts ++ Part.Nothing ∷ []) ≤ (cpp_view s).size old + closes frame.rule (drop frame.base parts)
 unfolding closes
 quiet_few s old frame parts = omega (arith, closes_pushed (production_at frame.rule) (drop frame.base parts))
 
 -- those of a step that was taken
-pub steps_few : (s : List ℕ) (old new : Linked) (frame : Frame Kept) (parts new_parts : List Part) (then : Kept) → IsPaid old → length old.nodes.nodes ≤ length new.nodes.nodes
-    → (let taken : Result Kept Refusal = Ok then in CountsStep (production_at frame.rule) old new (drop frame.base parts) (drop frame.base new_parts) taken)
+pub steps_few : (s : List ℕ) (old new : Linked) (frame : Frame Surroundings) (parts new_parts : List Part) (then : Surroundings) → IsPaid old → length old.nodes.nodes ≤ length new.nodes.nodes
+    → (let taken : Result Surroundings Refusal = Ok then in CountsStep (production_at frame.rule) old new (drop frame.base parts) (drop frame.base new_parts) taken)
     → (cpp_view s).size new + closes frame.rule (drop frame.base new_parts ++ Part.Nothing ∷ []) ≤ (cpp_view s).size old + closes frame.rule (drop frame.base parts)
 unfolding closes
 steps_few s old new frame parts new_parts then paid least counts =
@@ -239,7 +239,7 @@ steps_few s old new frame parts new_parts then paid least counts =
     sizes m n behind before begun least few = omega (arith, begun, least, few)
 
 -- those of a step that was refused
-pub refused_few : (s : List ℕ) (old new : Linked) (frame : Frame Kept) (parts : List Part) → IsPaid old
+pub refused_few : (s : List ℕ) (old new : Linked) (frame : Frame Surroundings) (parts : List Part) → IsPaid old
     → length new.nodes.nodes ≤ length old.nodes.nodes + closes_of (production_at frame.rule) (drop frame.base parts) → AddsFew (cpp_view s) old new frame parts
 unfolding closes
 refused_few s old new frame parts paid few = sizes (length old.nodes.nodes) (length new.nodes.nodes) (closes_of (production_at frame.rule) (drop frame.base parts)) paid.begun few

@@ -23,7 +23,7 @@ use Rattle.cpp_tree.specs.declared.node.Node.{Node}
 use Rattle.cpp_link.specs.declared.linked.Linked.{Linked}
 use Rattle.cpp_references.specs.declared.candidates.Candidate.{Candidate}
 use Rattle.cpp_link.specs.declared.part.Part.{Part}
-use Rattle.cpp_references.specs.declared.around.Kept.{Kept}
+use Rattle.cpp_references.specs.declared.around.Surroundings.{Surroundings}
 use Rattle.cpp_link.specs.declared.part.Step.{Step}
 use Rattle.cpp_link.specs.LinkRescoping.{is_holder, wide_view}
 use Rattle.cpp_link.specs.Making.{state_of}
@@ -100,7 +100,7 @@ held_refused around place p (v ∷ []) state is one named =
     by false h = absurd (false≢true h)
 
 -- the state in which the candidate was added
-held_state : (s : List ℕ) (ts : List Term) (kept : Kept) (before after_ : Stored) (items more : List Candidate) (packs then : Option ℕ) (node : ℕ) (t : Term) → after_ ≡ before → then ≡ packs
+held_state : (s : List ℕ) (ts : List Term) (kept : Surroundings) (before after_ : Stored) (items more : List Candidate) (packs then : Option ℕ) (node : ℕ) (t : Term) → after_ ≡ before → then ≡ packs
     → tree_at (trees_in s before) node ≡ t
     → candidates_of (trees_in s before) more
     ≡ candidates_of (trees_in s before) items ++ record { tree = tree_at (trees_in s before) node; encoding = kept.encoding; in_lambda = is_lambda kept.scope; is_held = true } ∷ []
@@ -122,7 +122,7 @@ one_value p around place [] state n t is one none named same = absurd (omega (ar
 one_value p around place (v ∷ w ∷ vs) state n t is one none named same = absurd (omega (arith, one))
 one_value p around place (v ∷ []) state n t is one none named same = ap (λ q. between_wide q around place (v ∷ []) state) is ∙ held_is around place v state n t none named same
 
-module _ (s : List ℕ) (old mid new : Linked) (frame : Frame Kept) (parts new_parts : List Part) (name node : ℕ) (then : Kept)
+module _ (s : List ℕ) (old mid new : Linked) (frame : Frame Surroundings) (parts new_parts : List Part) (name node : ℕ) (then : Surroundings)
     (number : production_at frame.rule ≡ Production.Holder) (one : length (values_in s old.nodes (drop frame.base parts)) ≡ 1)
     (prefix : tree_at (trees_in s old.nodes) name ≡ prefix_tree (prefix_of (trees_in s old.nodes) (name_of frame.kept)))
     (none : is_instance (tree_at (trees_in s old.nodes) name) ≡ false)
@@ -171,7 +171,7 @@ module _ (s : List ℕ) (old mid new : Linked) (frame : Frame Kept) (parts new_p
   )
 
 -- after arguments it is refused
-pub held_refuses : (s : List ℕ) (old : Linked) (frame : Frame Kept) (parts : List Part) → production_at frame.rule ≡ Production.Holder → length (values_in s old.nodes (drop frame.base parts)) ≡ 1
+pub held_refuses : (s : List ℕ) (old : Linked) (frame : Frame Surroundings) (parts : List Part) → production_at frame.rule ≡ Production.Holder → length (values_in s old.nodes (drop frame.base parts)) ≡ 1
     → is_instance (prefix_tree (prefix_of (trees_in s old.nodes) (name_of frame.kept))) ≡ true → GoesOn (wide_view s) s (Surrounds s) old old frame parts parts (Err (BadReference frame.place))
 unfolding around_of
 held_refuses s old frame parts number one named rule known state is =
@@ -179,7 +179,7 @@ held_refuses s old frame parts number one named rule known state is =
     ∙ held_refused (around_of (trees_in s old.nodes) frame.kept) frame.place (production_at frame.rule) (values_in s old.nodes (drop frame.base parts)) (state_of s old) number one named
 
 -- a candidate is no node more
-module _ (s : List ℕ) (old mid new : Linked) (frame : Frame Kept) (parts new_parts : List Part) (stored : new.nodes ≡ mid.nodes) where
+module _ (s : List ℕ) (old mid new : Linked) (frame : Frame Surroundings) (parts new_parts : List Part) (stored : new.nodes ≡ mid.nodes) where
   pub held_adds : Adds (cpp_view s) old mid (owed_behind (cpp_view s) frame parts) (owed_next (cpp_view s) frame new_parts)
       → Adds (cpp_view s) old new (owed_behind (cpp_view s) frame parts) (owed_next (cpp_view s) frame new_parts)
   held_adds adds = (

@@ -31,7 +31,7 @@ use Rattle.cpp_term.specs.Meaning.{parameters, meaning}
 use Rattle.cpp_term.specs.Unfolding.{number_tested, opening, behind, close, cpp, first_around, first_state}
 use Rattle.cpp_link.specs.Numbered.{is_numbered}
 use Rattle.cpp_grammar.proofs.Ways.{differs}
-use Rattle.cpp_term.specs.Rescoping.{with_own, between_wide, close_wide, cpp_wide}
+use Rattle.cpp_term.specs.Rescoping.{as_generic_lambda, between_wide, close_wide, cpp_wide}
 use Rattle.cpp_term.proofs.NotedWays.{NotedWay, reading_noted_by, IsPlainNoted, abi_noted, wide_noted, abi_is_noted, wide_is_noted}
 use Rattle.cpp_link.specs.LinkRescoping.{link_close_wide, linked_wide}
 use Rattle.cpp_link.specs.LinkReading.{in_64_bits, link_meaning, link_close, link_begin, linked}
@@ -355,7 +355,7 @@ other_closes : (s : List ℕ) (p : Production) → is_plain p ≡ false → (byt
     → link_close_wide s p byte around place began vs state ≡ close_wide p byte around place began vs state
 unfolding is_plain link_close_wide close_wide link_close close behind
 other_closes s Production.Substitution other byte around place began vs state same = absurd (true≢false other)
-other_closes s Production.Lambda other byte around place began vs state same = ap (λ r. r >>= λ made. Ok (found (with_own made.value) made.state)) same
+other_closes s Production.Lambda other byte around place began vs state same = ap (λ r. r >>= λ made. Ok (found (as_generic_lambda made.value) made.state)) same
 other_closes s p other byte around place began vs state same = same
 
 wide_lambda : IsPlainLambda wide_noted

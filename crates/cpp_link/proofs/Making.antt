@@ -16,7 +16,7 @@ use Rattle.cpp_term.specs.Unfolding.{behind, close}
 use Rattle.cpp_tree.specs.Nodes.{tree_at}
 use Rattle.cpp_link.specs.declared.linked.Linked.{Linked}
 use Rattle.cpp_references.specs.declared.candidates.Candidate.{Candidate}
-use Rattle.cpp_references.specs.declared.around.Kept.{Kept}
+use Rattle.cpp_references.specs.declared.around.Surroundings.{Surroundings}
 use Rattle.cpp_link.specs.declared.part.Part.{Part}
 use Rattle.cpp_link.specs.Making.{state_of, IsRare, IsCommon}
 use Rattle.cpp_link.specs.Parts.{trees_in, values_in, around_of, candidates_of, AreThere, IsKeptThere, AreCandidatesThere}
@@ -34,7 +34,7 @@ same_behind : (p : Production) (byte : ℕ) (later around : Around) (began : Sta
 same_behind p byte later around began us vs ds cs then packs context known candidates same = rw (context, known, candidates, same) refl
 
 -- the state after a rule, once its node is made and what becomes a candidate is one
-pub state_behind : (s : List ℕ) (old mid last : Linked) (p : Production) (byte : ℕ) (kept : Kept) (parts : List Part) (candidate packs : Option ℕ) (began : State)
+pub state_behind : (s : List ℕ) (old mid last : Linked) (p : Production) (byte : ℕ) (kept : Surroundings) (parts : List Part) (candidate packs : Option ℕ) (began : State)
     → ((i : ℕ) → i < length old.nodes.nodes → tree_at (trees_in s mid.nodes) i ≡ tree_at (trees_in s old.nodes) i)
     → IsKeptThere (length old.nodes.nodes) kept → AreThere s (length old.nodes.nodes) parts → AreCandidatesThere (length old.nodes.nodes) old.candidates.items
     → mid.candidates ≡ old.candidates → mid.packs ≡ old.packs

@@ -24,7 +24,7 @@ use Rattle.cpp_grammar.proofs.ClosedTrees.{at_number, its_symbols, taken_rule}
 use Rattle.cpp_term.specs.Unfolding.{cpp}
 use Rattle.cpp_term.specs.Values.{State, Value, Around}
 use Rattle.cpp_link.specs.declared.part.Part.{Part}
-use Rattle.cpp_references.specs.declared.around.Kept.{Kept}
+use Rattle.cpp_references.specs.declared.around.Surroundings.{Surroundings}
 use Rattle.cpp_link.specs.declared.linked.Linked.{Linked}
 use Rattle.cpp_link.specs.Next.{at_least, over, is_mark, is_list, is_argument, is_element, nested_mark, type_mark, behind_bytes, behind_list, next_part, token_part}
 use Rattle.cpp_link.specs.Tables.{skips_parts}
@@ -114,7 +114,7 @@ none_spelled taken passed inner none nothing_there =
 
 -- ## The rule that is in a symbol
 
-module _ (s : List ℕ) (l : Linked) (frame : Frame Kept) (own : List Part) (around : Open State Around) (known : List Value) (from : ℕ) (left : Forest) (state : State)
+module _ (s : List ℕ) (l : Linked) (frame : Frame Surroundings) (own : List Part) (around : Open State Around) (known : List Value) (from : ℕ) (left : Forest) (state : State)
     (is : IsInside (cpp_view s) s l frame own around known from left state) where
   abbrev production : Production
   production = production_at frame.rule

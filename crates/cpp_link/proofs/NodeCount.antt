@@ -10,7 +10,7 @@ use Rattle.cpp_grammar.specs.Unfolding.{production_at}
 use Rattle.cpp_term.specs.Term.{Term}
 use Rattle.cpp_term.specs.Values.{State, Value, Around, is_there}
 use Rattle.cpp_link.specs.declared.linked.Linked.{Linked}
-use Rattle.cpp_references.specs.declared.around.Kept.{Kept}
+use Rattle.cpp_references.specs.declared.around.Surroundings.{Surroundings}
 use Rattle.cpp_link.specs.declared.part.Part.{Part}
 use Rattle.cpp_link.specs.Owed.{made_before, made_at_end}
 use Rattle.cpp_link.specs.Parts.{trees_in, value_of, values_in}
@@ -109,7 +109,7 @@ quiet_makes Production.BoundedArray [] less = refl
 quiet_makes Production.BoundedArray (v ∷ vs) less = absurd (not_first vs less)
 quiet_makes _ vs less = refl
 
-pub quiet_made : (s : List ℕ) (old : Linked) (frame : Frame Kept) (parts : List Part) (held : ℕ) → held ≡ length parts - frame.base → held < quiet_parts (production_at frame.rule)
+pub quiet_made : (s : List ℕ) (old : Linked) (frame : Frame Surroundings) (parts : List Part) (held : ℕ) → held ≡ length parts - frame.base → held < quiet_parts (production_at frame.rule)
     → length old.nodes.nodes ≡ length old.nodes.nodes + makes_before (production_at frame.rule) (values_in s old.nodes (drop frame.base parts))
 quiet_made s old frame parts held counted less =
     omega (
@@ -119,13 +119,13 @@ quiet_made s old frame parts held counted less =
     )
 
 -- what a production makes of these parts, the frame's rule makes of its own
-pub made_before_part : (s : List ℕ) (old : Linked) (frame : Frame Kept) (parts own : List Part) (p : Production) (made : ℕ) → own ≡ drop frame.base parts → p ≡ production_at frame.rule
+pub made_before_part : (s : List ℕ) (old : Linked) (frame : Frame Surroundings) (parts own : List Part) (p : Production) (made : ℕ) → own ≡ drop frame.base parts → p ≡ production_at frame.rule
     → made ≡ makes_before p (values_in s old.nodes own) → made ≡ makes_before (production_at frame.rule) (values_in s old.nodes (drop frame.base parts))
 made_before_part s old frame parts own p made same numbered is = rw (← same, ← numbered) is
 
 -- ## Where a rule closes
 
-pub made_where_closed : (s : List ℕ) (old new : Linked) (frame : Frame Kept) (parts own : List Part) (p : Production) → own ≡ drop frame.base parts → p ≡ production_at frame.rule
+pub made_where_closed : (s : List ℕ) (old new : Linked) (frame : Frame Surroundings) (parts own : List Part) (p : Production) → own ≡ drop frame.base parts → p ≡ production_at frame.rule
     → length new.nodes.nodes ≡ length old.nodes.nodes + makes_at_end p (values_in s old.nodes own)
     → length new.nodes.nodes ≡ length old.nodes.nodes + makes_at_end (production_at frame.rule) (values_in s old.nodes (drop frame.base parts))
 made_where_closed s old new frame parts own p same numbered is = rw (← same, ← numbered) is
@@ -145,7 +145,7 @@ pack_made s ts _ some = refl
 
 -- ## In terms of the rule that is open
 
-pub before_read : (s : List ℕ) (old new : Linked) (frame : Frame Kept) (parts : List Part) (result : Result Kept Refusal) → 4 ≤ length old.nodes.nodes
+pub before_read : (s : List ℕ) (old new : Linked) (frame : Frame Surroundings) (parts : List Part) (result : Result Surroundings Refusal) → 4 ≤ length old.nodes.nodes
     → OnOk result (length new.nodes.nodes ≡ length old.nodes.nodes + makes_before (production_at frame.rule) (values_in s old.nodes (drop frame.base parts)))
     → (rule : Open State Around) (known : List Value) (state : State) → IsAt (cpp_view s) s old frame (drop frame.base parts) rule known state
     → OnOk result (length new.nodes.nodes - 4 ≡ length old.nodes.nodes - 4 + makes_before (production_at rule.rule.number) known)
@@ -156,7 +156,7 @@ before_read s old new frame parts (Ok kept) begun made rule known state is =
     ∙ ap (λ vs. makes_before (production_at rule.rule.number) vs) (parts_are s old (drop frame.base parts) known is.parts).1 in
     omega (arith, begun, made, same)
 
-pub end_read : (s : List ℕ) (old new : Linked) (frame : Frame Kept) (parts : List Part) (result : Result (Unit {0}) Refusal) → 4 ≤ length old.nodes.nodes
+pub end_read : (s : List ℕ) (old new : Linked) (frame : Frame Surroundings) (parts : List Part) (result : Result (Unit {0}) Refusal) → 4 ≤ length old.nodes.nodes
     → OnOk result (length new.nodes.nodes ≡ length old.nodes.nodes + makes_at_end (production_at frame.rule) (values_in s old.nodes (drop frame.base parts)))
     → (rule : Open State Around) (known : List Value) (state : State) → IsAt (cpp_view s) s old frame (drop frame.base parts) rule known state
     → OnOk result (length new.nodes.nodes - 4 ≡ length old.nodes.nodes - 4 + makes_at_end (production_at rule.rule.number) known)
@@ -167,6 +167,6 @@ end_read s old new frame parts (Ok done) begun made rule known state is =
     ∙ ap (λ vs. makes_at_end (production_at rule.rule.number) vs) (parts_are s old (drop frame.base parts) known is.parts).1 in
     omega (arith, begun, made, same)
 
-pub none_begun : (l : Linked) (result : Result Kept Refusal) → OnOk result (length l.nodes.nodes - 4 ≡ length l.nodes.nodes - 4)
+pub none_begun : (l : Linked) (result : Result Surroundings Refusal) → OnOk result (length l.nodes.nodes - 4 ≡ length l.nodes.nodes - 4)
 none_begun l (Ok kept) = refl
 none_begun l (Err e) = tt

@@ -50,13 +50,13 @@ count_got f k = go productions k
 -- a node that isn't there again says what its tree is, whatever the argument under which its parts are
 pub void_is : (s : List ℕ) (us : List Thunk) (ts : List Term) (given : Option Term) (node : Node) → is_again node ≡ false → is_void (reargued given (nodes.tree_of s us ts node)) ≡ void_node node
 unfolding is_void nodes.tree_of void_node reargued is_again
-void_is s us ts given (Node.Again t a) own = absurd (true≢false own)
+void_is s us ts given (Node.Reargued t a) own = absurd (true≢false own)
 void_is s us ts given Node.Absent own = refl
 void_is s us ts given _ own = refl
 
 pub nil_is : (s : List ℕ) (us : List Thunk) (ts : List Term) (given : Option Term) (node : Node) → is_again node ≡ false → is_nil (reargued given (nodes.tree_of s us ts node)) ≡ nil_node node
 unfolding is_nil nodes.tree_of nil_node reargued is_again
-nil_is s us ts given (Node.Again t a) own = absurd (true≢false own)
+nil_is s us ts given (Node.Reargued t a) own = absurd (true≢false own)
 nil_is s us ts given Node.Absent own = refl
 nil_is s us ts given _ own = refl
 
@@ -84,7 +84,7 @@ parameters_again given _ = refl
 
 pub parameters_are : (s : List ℕ) (us : List Thunk) (ts : List Term) (node : Node) (under : Option ℕ) (t : Term) → is_again node ≡ false → t ≡ reargued (tree_if_there ts under) (nodes.tree_of s us ts node) → parameters t ≡ parameters_by ts (cell_under node under) t
 unfolding parameters nodes.tree_of cell_under parameters_by reargued is_again
-parameters_are s us ts (Node.Again x a) under t own is = absurd (true≢false own)
+parameters_are s us ts (Node.Reargued x a) under t own is = absurd (true≢false own)
 parameters_are s us ts (Node.Cell first rest) under t own is =
     rw is (both (λ a b. elim (a && b) as (λ _. Term) [ true ↦ term.nil | false ↦ term.list (reargued (tree_if_there ts under) (tree_at ts first)) (reargued (tree_if_there ts under) (tree_at ts rest)) ])
     (void_again (tree_if_there ts under) (tree_at ts first)) (nil_again (tree_if_there ts under) (tree_at ts rest)))
@@ -92,7 +92,7 @@ parameters_are s us ts _ under t own is = rw is refl
 
 pub encoding_is : (s : List ℕ) (us : List Thunk) (ts : List Term) (node : Node) (under : Option ℕ) (name : Value) (t : Term) → is_again node ≡ false → t ≡ reargued (tree_if_there ts under) (nodes.tree_of s us ts node) → encoding_of name t ≡ encoding_by ts name (cell_under node under) t
 unfolding encoding_of nodes.tree_of cell_under encoding_by reargued is_again
-encoding_is s us ts (Node.Again x a) under name t own is = absurd (true≢false own)
+encoding_is s us ts (Node.Reargued x a) under name t own is = absurd (true≢false own)
 encoding_is s us ts (Node.Cell first rest) under name t own is =
     rw is (ap (λ x. elim (has_return_type (tree_of name)) as (λ _. Term) [
       | true ↦ term.function (tree_of name) (qualifiers_of name) (ref_of name) (reargued (tree_if_there ts under) (tree_at ts first)) x
@@ -112,7 +112,7 @@ split_there s held n _ under below there = tt
 
 pub instance_is : (s : List ℕ) (us : List Thunk) (ts : List Term) (given : Option Term) (node : Node) → is_again node ≡ false → is_instance (reargued given (nodes.tree_of s us ts node)) ≡ instance_node node
 unfolding is_instance nodes.tree_of instance_node reargued is_again
-instance_is s us ts given (Node.Again t a) own = absurd (true≢false own)
+instance_is s us ts given (Node.Reargued t a) own = absurd (true≢false own)
 instance_is s us ts given Node.Absent own = refl
 instance_is s us ts given _ own = refl
 
@@ -124,7 +124,7 @@ structor_piece s ts given t _ = refl
 
 pub structor_is : (s : List ℕ) (us : List Thunk) (ts : List Term) (given : Option Term) (node : Node) → is_again node ≡ false → is_structor (reargued given (nodes.tree_of s us ts node)) ≡ is_structor_node node
 unfolding is_structor nodes.tree_of is_structor_node reargued is_again
-structor_is s us ts given (Node.Again t a) own = absurd (true≢false own)
+structor_is s us ts given (Node.Reargued t a) own = absurd (true≢false own)
 structor_is s us ts given (Node.Within prefix p) own = structor_piece s ts given (reargued given (tree_at ts prefix)) p
 structor_is s us ts given _ own = refl
 

@@ -24,14 +24,14 @@ use Rattle.sym_core.specs.Value.{counted_value}
 use Rattle.sym_core.specs.declared.NumberKind.TheVariants.{Decimal}
 use Rattle.cpp_term.specs.Between.{Going, next, parameter_so_far, argument_so_far, index_of, between}
 use Rattle.cpp_term.specs.Unfolding.{cpp, behind}
-use Rattle.cpp_term.specs.Rescoping.{generic_so_far, parameter_here, argument_here, numbered, lambda_with, with_own, between_wide, close_wide, cpp_wide}
+use Rattle.cpp_term.specs.Rescoping.{generic_so_far, parameter_here, argument_here, numbered, lambda_with, as_generic_lambda, between_wide, close_wide, cpp_wide}
 use Rattle.cpp_term.proofs.Notes.{both}
 use Rattle.cpp_link.proofs.Scopes.{wide_between_closed}
 use Rattle.cpp_tree.specs.Nodes.{Stored, tree_at, piece_of}
 use Rattle.cpp_tree.specs.declared.node.Piece.{Piece}
 use Rattle.cpp_link.specs.declared.linked.Linked.{Linked}
 use Rattle.cpp_link.specs.declared.part.Part.{Part}
-use Rattle.cpp_references.specs.declared.around.Kept.{Kept}
+use Rattle.cpp_references.specs.declared.around.Surroundings.{Surroundings}
 use Rattle.cpp_link.specs.declared.part.Step.{Step}
 use Rattle.cpp_link.specs.LinkReading.{link_close, link_meaning}
 use Rattle.cpp_link.specs.LinkRescoping.{link_close_wide, linked_wide, is_parameter, is_parameter_argument, generic_read, is_substitution, is_lambda_production, is_holder, names_generic, names_holder, number_in, named_by, substituted_nodes, wide_at_end, wide_view}
@@ -93,7 +93,7 @@ apart_between Production.Holder around place (v ∷ []) state apart unheld = abs
 apart_between p around place vs state apart unheld = refl
 
 -- what is done before the next part of the open rule of the reading, in terms of the frame
-pub wide_read_is : (s : List ℕ) (old : Linked) (frame : Frame Kept) (own : List Part) (rule : Open State Around) (known : List Value) (state : State) → IsAt (cpp_view s) s old frame own rule known state
+pub wide_read_is : (s : List ℕ) (old : Linked) (frame : Frame Surroundings) (own : List Part) (rule : Open State Around) (known : List Value) (state : State) → IsAt (cpp_view s) s old frame own rule known state
     → cpp_wide.between rule known state ≡ between_wide (production_at frame.rule) (around_of (trees_in s old.nodes) frame.kept) frame.place (values_in s old.nodes own) (state_of s old)
 unfolding cpp_wide
 wide_read_is s old frame own rule known state is =
@@ -112,7 +112,7 @@ same_holder : (m n h k : ℕ) → m ≡ n → h ≡ k → names_holder (producti
 same_holder m n h k e g is = rw (← e, ← g) is
 
 -- What was done where no parameter of a lambda is named, and no name with its M, is what the wide reading says.
-pub apart_goes : (s : List ℕ) (old new : Linked) (frame : Frame Kept) (parts new_parts : List Part) (held : ℕ) (result : Result Kept Refusal) → held ≡ length parts - frame.base
+pub apart_goes : (s : List ℕ) (old new : Linked) (frame : Frame Surroundings) (parts new_parts : List Part) (held : ℕ) (result : Result Surroundings Refusal) → held ≡ length parts - frame.base
     → names_generic (production_at frame.rule) (is_lambda frame.kept.scope) held ≡ false → names_holder (production_at frame.rule) held ≡ false
     → GoesOn (cpp_view s) s (Surrounds s) old new frame parts new_parts result → GoesOn (wide_view s) s (Surrounds s) old new frame parts new_parts result
 unfolding cpp cpp_wide around_of
@@ -129,7 +129,7 @@ apart_goes s old new frame parts new_parts held result counted apart unheld goes
     (goes rule known state at)
 
 -- the step that was taken is that of the wide reading
-pub wide_goes_right : (s : List ℕ) (old new : Linked) (frame : Frame Kept) (parts new_parts : List Part) (step : Step) (then : Kept)
+pub wide_goes_right : (s : List ℕ) (old new : Linked) (frame : Frame Surroundings) (parts new_parts : List Part) (step : Step) (then : Surroundings)
     → ((cs : List values.Candidate) → between_wide (production_at frame.rule) (around_of (trees_in s old.nodes) frame.kept) frame.place (values_in s old.nodes (drop frame.base parts)) (record { candidates = cs; packs = old.packs })
     ≡ goes_on s old.nodes frame.kept (values_in s old.nodes (drop frame.base parts)) cs old.packs step)
     → Takes s old new frame.kept frame.base parts new_parts step then
@@ -159,7 +159,7 @@ apart_close s Production.Lambda byte around place began vs state apart other = a
 apart_close s _ byte around place began vs state apart other = refl
 
 -- a rule that is no substitution and no lambda closes as in the other reading
-pub apart_closes : (s : List ℕ) (old new : Linked) (frame : Frame Kept) (parts new_parts : List Part) (result : Result (Unit {0}) Refusal) → (production_at frame.rule ≡ Production.Substitution → ⊥)
+pub apart_closes : (s : List ℕ) (old new : Linked) (frame : Frame Surroundings) (parts new_parts : List Part) (result : Result (Unit {0}) Refusal) → (production_at frame.rule ≡ Production.Substitution → ⊥)
     → (production_at frame.rule ≡ Production.Lambda → ⊥)
     → ClosesAll (cpp_view s) s old new frame parts new_parts result → ClosesAll (wide_view s) s old new frame parts new_parts result
 apart_closes s old new frame parts new_parts result apart other closes rule known state is =
@@ -168,7 +168,7 @@ apart_closes s old new frame parts new_parts result apart other closes rule know
     (closes rule known state (at_plain s old frame (drop frame.base parts) rule known state is))
 
 -- what comes of a substitution by the wide reading, in terms of the frame
-substitution_is : (s : List ℕ) (old : Linked) (frame : Frame Kept) (own : List Part) (rule : Open State Around) (known : List Value) (state : State) → IsAt (wide_view s) s old frame own rule known state
+substitution_is : (s : List ℕ) (old : Linked) (frame : Frame Surroundings) (own : List Part) (rule : Open State Around) (known : List Value) (state : State) → IsAt (wide_view s) s old frame own rule known state
     → production_at frame.rule ≡ Production.Substitution
     → (linked_wide s).close rule known state
     ≡ numbered (around_of (trees_in s old.nodes) frame.kept) (frame.place - 1) (number_in (values_in s old.nodes own)) (state_of s old)
@@ -184,7 +184,7 @@ substitution_is s old frame own rule known state is substitution =
     same q p code around us vs cs packs state place context known candidates packed = rw (place, context, known, candidates, packed) refl
 
 -- a part was put that stands for what a substitution stands for
-pub wide_put_right : (s : List ℕ) (old new : Linked) (frame : Frame Kept) (parts new_parts own : List Part) (made : Part) (done : Unit {0}) → own ≡ drop frame.base parts
+pub wide_put_right : (s : List ℕ) (old new : Linked) (frame : Frame Surroundings) (parts new_parts own : List Part) (made : Part) (done : Unit {0}) → own ≡ drop frame.base parts
     → production_at frame.rule ≡ Production.Substitution
     → numbered (around_of (trees_in s old.nodes) frame.kept) (frame.place - 1) (number_in (values_in s old.nodes own)) (state_of s old) ≡ Ok (found (value_in s new.nodes made) (state_of s new))
     → IsThere s (length new.nodes.nodes) made → IsWhole s new → new_parts ≡ take frame.base parts ++ made ∷ []
@@ -203,7 +203,7 @@ wide_put_right s old new frame parts new_parts own made done same substitution c
 )
 
 -- the refusal of a substitution is that of the wide reading
-pub wide_closing_refused : (s : List ℕ) (old new : Linked) (frame : Frame Kept) (parts new_parts own : List Part) (e : Refusal) → own ≡ drop frame.base parts
+pub wide_closing_refused : (s : List ℕ) (old new : Linked) (frame : Frame Surroundings) (parts new_parts own : List Part) (e : Refusal) → own ≡ drop frame.base parts
     → production_at frame.rule ≡ Production.Substitution
     → Fails e (numbered (around_of (trees_in s old.nodes) frame.kept) (frame.place - 1) (number_in (values_in s old.nodes own)) (state_of s old))
     → ClosesAll (wide_view s) s old new frame parts new_parts (Err e)
@@ -214,24 +214,24 @@ wide_closing_refused s old new frame parts new_parts own e same substitution ref
     refused
 
 -- what comes of a lambda by the wide reading, in terms of the frame
-lambda_is : (s : List ℕ) (old : Linked) (frame : Frame Kept) (own : List Part) (rule : Open State Around) (known : List Value) (state : State) → IsAt (wide_view s) s old frame own rule known state
+lambda_is : (s : List ℕ) (old : Linked) (frame : Frame Surroundings) (own : List Part) (rule : Open State Around) (known : List Value) (state : State) → IsAt (wide_view s) s old frame own rule known state
     → production_at frame.rule ≡ Production.Lambda → (byte : ℕ)
-    → (linked_wide s).close rule known state ≡ Ok (found (with_own (link_meaning s Production.Lambda byte frame.place (around_of (trees_in s old.nodes) frame.kept) (values_in s old.nodes own))) (state_of s old))
+    → (linked_wide s).close rule known state ≡ Ok (found (as_generic_lambda (link_meaning s Production.Lambda byte frame.place (around_of (trees_in s old.nodes) frame.kept) (values_in s old.nodes own))) (state_of s old))
 unfolding link_close_wide link_meaning
 lambda_is s old frame own rule known state is lambda byte =
     ap (λ p. link_close_wide s p (byte_of rule.taken) rule.context rule.place rule.before known state) (ap production_at (sym is.number) ∙ lambda)
     ∙ same (values_in s old.nodes own) known _ old.packs state (parts_are s old own known is.parts).1 is.holds.candidates is.holds.packs
   where
     same : (us vs : List Value) (cs : List values.Candidate) (packs : Option ℕ) (state : State) → us ≡ vs → cs ≡ state.candidates → packs ≡ state.packs
-        → ◌≡◌ {A = Result (Found Value State) Refusal} (Ok (found (with_own (link_meaning s Production.Lambda (byte_of rule.taken) rule.place rule.context vs)) state))
-        (Ok (found (with_own (link_meaning s Production.Lambda byte frame.place (around_of (trees_in s old.nodes) frame.kept) us)) (record { candidates = cs; packs = packs })))
+        → ◌≡◌ {A = Result (Found Value State) Refusal} (Ok (found (as_generic_lambda (link_meaning s Production.Lambda (byte_of rule.taken) rule.place rule.context vs)) state))
+        (Ok (found (as_generic_lambda (link_meaning s Production.Lambda byte frame.place (around_of (trees_in s old.nodes) frame.kept) us)) (record { candidates = cs; packs = packs })))
     same us vs cs packs state known candidates packed = rw (known, candidates, packed) refl
 
 -- a part was put that stands for what a lambda is
-pub lambda_put_right : (s : List ℕ) (old new : Linked) (frame : Frame Kept) (parts new_parts own : List Part) (made owned : Part) (byte : ℕ) (done : Unit {0}) → own ≡ drop frame.base parts
+pub lambda_put_right : (s : List ℕ) (old new : Linked) (frame : Frame Surroundings) (parts new_parts own : List Part) (made owned : Part) (byte : ℕ) (done : Unit {0}) → own ≡ drop frame.base parts
     → production_at frame.rule ≡ Production.Lambda
     → ((began : State) → began.packs ≡ packs_of frame.kept → link_close s Production.Lambda byte (around_of (trees_in s old.nodes) frame.kept) frame.place began (values_in s old.nodes own) (state_of s old) ≡ Ok (found (value_in s new.nodes made) (state_of s new)))
-    → value_in s new.nodes owned ≡ with_own (value_in s new.nodes made)
+    → value_in s new.nodes owned ≡ as_generic_lambda (value_in s new.nodes made)
     → IsThere s (length new.nodes.nodes) owned → IsWhole s new → new_parts ≡ take frame.base parts ++ owned ∷ []
     → ClosesAll (wide_view s) s old new frame parts new_parts (Ok done)
 unfolding link_close behind
@@ -244,8 +244,8 @@ lambda_put_right s old new frame parts new_parts own made owned byte done same l
         value_in s new.nodes owned,
         state_of s new,
         lambda_is s old frame (drop frame.base parts) rule known state is lambda byte
-            ∙ ap (λ ps. Ok (found (with_own (link_meaning s Production.Lambda byte frame.place (around_of (trees_in s old.nodes) frame.kept) (values_in s old.nodes ps))) (state_of s old))) (sym same)
-            ∙ both (λ v x. Ok (found v x)) (ap (λ f. with_own f.value) same_found ∙ sym value) (ap (λ f. f.state) same_found),
+            ∙ ap (λ ps. Ok (found (as_generic_lambda (link_meaning s Production.Lambda byte frame.place (around_of (trees_in s old.nodes) frame.kept) (values_in s old.nodes ps))) (state_of s old))) (sym same)
+            ∙ both (λ v x. Ok (found v x)) (ap (λ f. as_generic_lambda f.value) same_found ∙ sym value) (ap (λ f. f.state) same_found),
         record { there = there; is = refl },
         record { table = whole.table; there = whole.there; candidates = refl; packs = refl },
       ),
@@ -255,7 +255,7 @@ lambda_put_right s old new frame parts new_parts own made owned byte done same l
     ok_same f g e = cc
 
 -- a lambda is refused as in the other reading: never but for want of memory
-pub lambda_refused_as : (s : List ℕ) (old new : Linked) (frame : Frame Kept) (parts new_parts own : List Part) (e : Refusal) (byte : ℕ) → own ≡ drop frame.base parts → production_at frame.rule ≡ Production.Lambda
+pub lambda_refused_as : (s : List ℕ) (old new : Linked) (frame : Frame Surroundings) (parts new_parts own : List Part) (e : Refusal) (byte : ℕ) → own ≡ drop frame.base parts → production_at frame.rule ≡ Production.Lambda
     → ((began : State) → Fails e (link_close s Production.Lambda byte (around_of (trees_in s old.nodes) frame.kept) frame.place began (values_in s old.nodes own) (state_of s old)))
     → ClosesAll (wide_view s) s old new frame parts new_parts (Err e)
 unfolding link_close
@@ -264,7 +264,7 @@ lambda_refused_as s old new frame parts new_parts own e byte same lambda refused
 
 -- ## How many nodes are made
 
-pub wide_before_read : (s : List ℕ) (old new : Linked) (frame : Frame Kept) (parts : List Part) (result : Result Kept Refusal) → 4 ≤ length old.nodes.nodes
+pub wide_before_read : (s : List ℕ) (old new : Linked) (frame : Frame Surroundings) (parts : List Part) (result : Result Surroundings Refusal) → 4 ≤ length old.nodes.nodes
     → OnOk result (length new.nodes.nodes ≡ length old.nodes.nodes + makes_before (production_at frame.rule) (values_in s old.nodes (drop frame.base parts)))
     → (rule : Open State Around) (known : List Value) (state : State) → IsAt (wide_view s) s old frame (drop frame.base parts) rule known state
     → OnOk result (length new.nodes.nodes - 4 ≡ length old.nodes.nodes - 4 + makes_before (production_at rule.rule.number) known)
@@ -276,7 +276,7 @@ unfolding wide_at_end
 apart_end Production.Substitution around known state apart = absurd (apart refl)
 apart_end _ around known state apart = refl
 
-pub apart_end_read : (s : List ℕ) (old new : Linked) (frame : Frame Kept) (parts : List Part) (result : Result (Unit {0}) Refusal) → 4 ≤ length old.nodes.nodes
+pub apart_end_read : (s : List ℕ) (old new : Linked) (frame : Frame Surroundings) (parts : List Part) (result : Result (Unit {0}) Refusal) → 4 ≤ length old.nodes.nodes
     → (production_at frame.rule ≡ Production.Substitution → ⊥)
     → OnOk result (length new.nodes.nodes ≡ length old.nodes.nodes + makes_at_end (production_at frame.rule) (values_in s old.nodes (drop frame.base parts)))
     → (rule : Open State Around) (known : List Value) (state : State) → IsAt (wide_view s) s old frame (drop frame.base parts) rule known state
@@ -286,7 +286,7 @@ apart_end_read s old new frame parts result begun apart made rule known state is
     (apart_end (production_at rule.rule.number) rule.context known state (λ substitution. apart (ap production_at is.number ∙ substitution)))
     (end_read s old new frame parts result begun made rule known state (at_plain s old frame (drop frame.base parts) rule known state is))
 
-pub substitution_end_read : (s : List ℕ) (old new : Linked) (frame : Frame Kept) (parts : List Part) (result : Result (Unit {0}) Refusal) → 4 ≤ length old.nodes.nodes
+pub substitution_end_read : (s : List ℕ) (old new : Linked) (frame : Frame Surroundings) (parts : List Part) (result : Result (Unit {0}) Refusal) → 4 ≤ length old.nodes.nodes
     → production_at frame.rule ≡ Production.Substitution
     → OnOk result (length new.nodes.nodes ≡ length old.nodes.nodes + substituted_nodes (around_of (trees_in s old.nodes) frame.kept) (named_by (state_of s old) (values_in s old.nodes (drop frame.base parts))))
     → (rule : Open State Around) (known : List Value) (state : State) → IsAt (wide_view s) s old frame (drop frame.base parts) rule known state
@@ -336,7 +336,7 @@ generic_between Production.BoundedArray around place v state is lambda =
     ap (λ b. elim b as (λ _. Going) [ true ↦ next (tree (term.parameter (generic_number (index_of v)) auto) true ∷ []) around state | false ↦ argument_so_far around place (index_of v) state ]) lambda
 generic_between _ around place v state is lambda = absurd (false≢true is)
 
-pub generic_is : (s : List ℕ) (y : Stored) (kept : Kept) (p : Production) (place : ℕ) (own : List Part) (digits : List ℕ) (cs : List values.Candidate) (packs : Option ℕ) (step : Step)
+pub generic_is : (s : List ℕ) (y : Stored) (kept : Surroundings) (p : Production) (place : ℕ) (own : List Part) (digits : List ℕ) (cs : List values.Candidate) (packs : Option ℕ) (step : Step)
     → is_parameter p ≡ true → is_lambda kept.scope ≡ true → length own ≡ 1 → digits ≡ text_of (part (values_in s y own) 0)
     → ((v : Value) → generic_read (is_parameter_argument p) (around_of (trees_in s y) kept) (counted_value Decimal digits) (record { candidates = cs; packs = packs }) ≡ goes_on s y kept (v ∷ []) cs packs step)
     → between_wide p (around_of (trees_in s y) kept) place (values_in s y own) (record { candidates = cs; packs = packs }) ≡ goes_on s y kept (values_in s y own) cs packs step
@@ -372,20 +372,20 @@ no_substitution p is substitution = absurd (true≢false (ap is_substitution (sy
 
 -- ## Lambdas
 
-pub own_lambda : (t : Term) (number : ℕ) → is_open t ≡ true → with_own (values.piece (term.lambda t number)) ≡ values.piece (term.generic_lambda t number)
-unfolding with_own lambda_with
+pub own_lambda : (t : Term) (number : ℕ) → is_open t ≡ true → as_generic_lambda (values.piece (term.lambda t number)) ≡ values.piece (term.generic_lambda t number)
+unfolding as_generic_lambda lambda_with
 own_lambda t number is = ap (λ b. values.piece (elim b as (λ _. Term) [ true ↦ term.generic_lambda t number | false ↦ term.lambda t number ])) is
 
-pub plain_lambda : (t : Term) (number : ℕ) → is_open t ≡ false → with_own (values.piece (term.lambda t number)) ≡ values.piece (term.lambda t number)
-unfolding with_own lambda_with
+pub plain_lambda : (t : Term) (number : ℕ) → is_open t ≡ false → as_generic_lambda (values.piece (term.lambda t number)) ≡ values.piece (term.lambda t number)
+unfolding as_generic_lambda lambda_with
 plain_lambda t number is = ap (λ b. values.piece (elim b as (λ _. Term) [ true ↦ term.generic_lambda t number | false ↦ term.lambda t number ])) is
 
-pub no_own : (s : List ℕ) (ts : List Term) (p : Piece) → ((parameters number : ℕ) → p ≡ Piece.Lambda parameters number → ⊥) → with_own (values.piece (piece_of s ts p)) ≡ values.piece (piece_of s ts p)
-unfolding with_own piece_of
+pub no_own : (s : List ℕ) (ts : List Term) (p : Piece) → ((parameters number : ℕ) → p ≡ Piece.Lambda parameters number → ⊥) → as_generic_lambda (values.piece (piece_of s ts p)) ≡ values.piece (piece_of s ts p)
+unfolding as_generic_lambda piece_of
 no_own s ts (Piece.Lambda parameters number) other = absurd (other parameters number refl)
 no_own s ts _ other = refl
 
-pub no_piece : (s : List ℕ) (ts : List Term) (part : Part) → ((p : Piece) → part ≡ Part.Piece p → ⊥) → with_own (value_of s ts part) ≡ value_of s ts part
-unfolding with_own value_of
+pub no_piece : (s : List ℕ) (ts : List Term) (part : Part) → ((p : Piece) → part ≡ Part.Piece p → ⊥) → as_generic_lambda (value_of s ts part) ≡ value_of s ts part
+unfolding as_generic_lambda value_of
 no_piece s ts (Part.Piece p) other = absurd (other p refl)
 no_piece s ts _ other = refl

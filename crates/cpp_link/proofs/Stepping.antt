@@ -11,7 +11,7 @@ use Rattle.cpp_tree.specs.Nodes.{Stored, over, tree_at, IsTable}
 use Rattle.cpp_tree.specs.declared.node.Node.{Node}
 use Rattle.cpp_link.specs.declared.linked.Linked.{Linked}
 use Rattle.cpp_link.specs.declared.part.Part.{Part}
-use Rattle.cpp_references.specs.declared.around.Kept.{Kept}
+use Rattle.cpp_references.specs.declared.around.Surroundings.{Surroundings}
 use Rattle.cpp_link.specs.declared.part.Step.{Step}
 use Rattle.cpp_references.specs.declared.candidates.Candidate.{Candidate}
 use Rattle.cpp_link.specs.Grows.{Grows}
@@ -114,7 +114,7 @@ grown : (s : List ℕ) (y z : Stored) → IsTable (over s y) → z ≡ y → Gro
 grown s y z table same = rw same (record { table = table; stays = λ i less. refl; least = omega arith; few = omega arith; thunks = omega arith; few_thunks = omega arith })
 
 -- nothing is made: a tree may become a candidate
-pub takes_go : (s : List ℕ) (old new : Linked) (kept : Kept) (base : ℕ) (parts : List Part) (candidate : Option ℕ) (then : Kept) (packs : Option ℕ)
+pub takes_go : (s : List ℕ) (old new : Linked) (kept : Surroundings) (base : ℕ) (parts : List Part) (candidate : Option ℕ) (then : Surroundings) (packs : Option ℕ)
     → IsTable (over s old.nodes) → new.nodes ≡ old.nodes → AreCandidatesThere (length old.nodes.nodes) new.candidates.items
     → IsKeptThere (length old.nodes.nodes) then → AreThere s (length old.nodes.nodes) (drop base parts)
     → with_candidate (around_of (trees_in s old.nodes) kept) (trees_in s old.nodes) candidate (record { candidates = candidates_of (trees_in s old.nodes) old.candidates.items; packs = packs }) ≡ state_of s new
@@ -132,7 +132,7 @@ takes_go s old new kept base parts candidate then packs table same candidates ar
 }
 
 -- the first part is a tree that is there, and comes before the next one
-pub takes_named : (s : List ℕ) (l : Linked) (kept then : Kept) (base : ℕ) (parts new_parts : List Part) (node : ℕ) (listed is_name : Bool)
+pub takes_named : (s : List ℕ) (l : Linked) (kept then : Surroundings) (base : ℕ) (parts new_parts : List Part) (node : ℕ) (listed is_name : Bool)
     → IsTable (over s l.nodes) → AreCandidatesThere (length l.nodes.nodes) l.candidates.items
     → AreThere s (length l.nodes.nodes) (drop base parts) → node < length l.nodes.nodes
     → around_of (trees_in s l.nodes) then ≡ named_if is_name (around_of (trees_in s l.nodes) kept) (tree_at (trees_in s l.nodes) node) listed → IsKeptThere (length l.nodes.nodes) then
@@ -151,7 +151,7 @@ takes_named s l kept then base parts new_parts node listed is_name table candida
 }
 
 -- the first part is the tree of a node that has been made
-pub takes_made : (s : List ℕ) (old new : Linked) (kept then : Kept) (base : ℕ) (parts new_parts : List Part) (node : Node) (number : ℕ) (listed is_name is_candidate : Bool) (packs : Option ℕ)
+pub takes_made : (s : List ℕ) (old new : Linked) (kept then : Surroundings) (base : ℕ) (parts new_parts : List Part) (node : Node) (number : ℕ) (listed is_name is_candidate : Bool) (packs : Option ℕ)
     → Grows s old.nodes new.nodes 1 → new.nodes.thunks ≡ old.nodes.thunks → AreCandidatesThere (length new.nodes.nodes) new.candidates.items
     → IsKeptThere (length old.nodes.nodes) kept → AreThere s (length old.nodes.nodes) (drop base parts)
     → tree_at (trees_in s new.nodes) number ≡ tree_of_node s old.nodes node → number < length new.nodes.nodes
@@ -177,7 +177,7 @@ takes_made s old new kept then base parts new_parts node number listed is_name i
       ∙ ap (λ t. named_if is_name (around_of (trees_in s new.nodes) kept) t listed) (sym tree) ∙ sym around) state;
 }
 
-pub taken_as : (s : List ℕ) (old new : Linked) (kept : Kept) (base : ℕ) (parts new_parts : List Part) (step taken : Step) (then left : Kept) → taken ≡ step → left ≡ then
+pub taken_as : (s : List ℕ) (old new : Linked) (kept : Surroundings) (base : ℕ) (parts new_parts : List Part) (step taken : Step) (then left : Surroundings) → taken ≡ step → left ≡ then
     → Takes s old new kept base parts new_parts step then → Takes s old new kept base parts new_parts taken left
 taken_as s old new kept base parts new_parts step taken then left same is takes = rw (same, is) takes
 
@@ -188,7 +188,7 @@ unfolding appended_if with_candidate
 choice a ts number state false = refl
 choice a ts number state true = refl
 
-pub noted_is : (s : List ℕ) (y z : Stored) (kept : Kept) (cs : List Candidate) (number : ℕ) (t : Term) (is_candidate : Bool) (candidate : Option ℕ) (packs : Option ℕ) (state : State)
+pub noted_is : (s : List ℕ) (y z : Stored) (kept : Surroundings) (cs : List Candidate) (number : ℕ) (t : Term) (is_candidate : Bool) (candidate : Option ℕ) (packs : Option ℕ) (state : State)
     → ((i : ℕ) → i < length y.nodes → tree_at (trees_in s z) i ≡ tree_at (trees_in s y) i)
     → IsKeptThere (length y.nodes) kept → AreCandidatesThere (length y.nodes) cs → tree_at (trees_in s z) number ≡ t
     → candidate ≡ elim is_candidate [ true ↦ Some number | false ↦ None ]

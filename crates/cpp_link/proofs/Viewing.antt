@@ -4,7 +4,7 @@ use Rattle.sym_link.specs.declared.language.Frame.{Frame}
 use Rattle.sym_link.specs.Driving.{AreAll}
 use Rattle.sym_link.specs.Threads.{IsOpenAt}
 use Rattle.cpp_term.specs.Values.{Value, Around}
-use Rattle.cpp_references.specs.declared.around.Kept.{Kept}
+use Rattle.cpp_references.specs.declared.around.Surroundings.{Surroundings}
 use Rattle.cpp_link.specs.declared.part.Part.{Part}
 use Rattle.cpp_link.specs.declared.linked.Linked.{Linked}
 use Rattle.cpp_link.specs.Parts.{trees_in, values_of, values_in, around_of, IsClosed, AreThere}
@@ -19,7 +19,7 @@ parts_are s l [] (v ∷ vs) are = absurd are
 parts_are s l (p ∷ ps) [] are = absurd are
 
 -- the parts of a rule that is open are there
-pub open_there : (s : List ℕ) (l : Linked) (frame : Frame Kept) (parts own : List Part) → IsOpenAt (cpp_view s) s l frame parts → own ≡ drop frame.base parts
+pub open_there : (s : List ℕ) (l : Linked) (frame : Frame Surroundings) (parts own : List Part) → IsOpenAt (cpp_view s) s l frame parts → own ≡ drop frame.base parts
     → AreThere s (length l.nodes.nodes) own
 open_there s l frame parts own o same =
     subst (λ ps. AreThere s (length l.nodes.nodes) ps) (sym same) (parts_are s l (drop frame.base parts) o.known o.at.parts).0
@@ -30,5 +30,5 @@ parts_all s l [] there = tt
 parts_all s l (p ∷ ps) there = (record { there = there.0; is = refl }, parts_all s l ps there.1)
 
 -- no parameter is free in the arguments that are named where a rule is open
-pub kept_closed : (s : List ℕ) (l : Linked) (kept : Kept) (around : Around) → Surrounds s l kept around → IsClosed (around_of (trees_in s l.nodes) kept)
+pub kept_closed : (s : List ℕ) (l : Linked) (kept : Surroundings) (around : Around) → Surrounds s l kept around → IsClosed (around_of (trees_in s l.nodes) kept)
 kept_closed s l kept around surrounds = subst (λ a. IsClosed a) (sym surrounds.is) surrounds.closed

@@ -15,12 +15,12 @@ use Rattle.cpp_term.specs.Term.{parameter}
 use Rattle.cpp_term.specs.Items.{auto}
 use Rattle.cpp_term.specs.Values.{Candidate, State, Around, Value, tree, text_of, part}
 use Rattle.cpp_term.specs.Unfolding.{first_around, first_state}
-use Rattle.cpp_term.specs.Rescoping.{generic_so_far, is_foreign, with_own, close_wide, cpp_wide}
+use Rattle.cpp_term.specs.Rescoping.{generic_so_far, is_foreign, as_generic_lambda, close_wide, cpp_wide}
 use Rattle.cpp_term.specs.Between.{Going, next}
 use Rattle.cpp_link.specs.declared.linked.Linked.{Linked}
 use Rattle.cpp_link.specs.declared.rescoping.Rescoping.{Rescoping}
 use Rattle.cpp_link.specs.declared.part.Part.{Part}
-use Rattle.cpp_references.specs.declared.around.Kept.{Kept}
+use Rattle.cpp_references.specs.declared.around.Surroundings.{Surroundings}
 use Rattle.cpp_link.specs.LinkReading.{link_begin, link_close, link_meaning}
 use Rattle.cpp_link.specs.NodeCount.{makes_before, makes_at_end, counted_nodes}
 use Rattle.cpp_link.specs.View.{cpp_view}
@@ -30,7 +30,7 @@ use Rattle.cpp_link.specs.View.{cpp_view}
 unfoldable pub link_close_wide : List ℕ → Production → (byte : ℕ) → Around → (place : ℕ) → (began : State) → List Value → State
     → Result (Found Value State) Refusal
 link_close_wide s Production.Substitution byte around place began vs state = close_wide Production.Substitution byte around place began vs state
-link_close_wide s Production.Lambda byte around place began vs state = Ok (found (with_own (link_meaning s Production.Lambda byte place around vs)) state)
+link_close_wide s Production.Lambda byte around place began vs state = Ok (found (as_generic_lambda (link_meaning s Production.Lambda byte place around vs)) state)
 link_close_wide s production byte around place began vs state = link_close s production byte around place began vs state
 
 abbrev pub linked_wide : List ℕ → Reading Value State Around
@@ -119,11 +119,11 @@ are_wide_nodes shape nodes = nodes ≡ wide_nodes_of_shape shape
 -- ## The language
 
 -- C++'s language by the wide grammar: the nodes are the same, and what is read is by another reading
-abbrev pub wide_view : List ℕ → View Linked Part Kept Value State Around
+abbrev pub wide_view : List ℕ → View Linked Part Surroundings Value State Around
 wide_view s = record (cpp_view s) { reading = linked_wide s }
 
 -- a language of what is linked within
-abbrev pub within : {S : Type 0} → View Linked Part Kept Value S Around → View Rescoping Part Kept Value S Around
+abbrev pub within : {S : Type 0} → View Linked Part Surroundings Value S Around → View Rescoping Part Surroundings Value S Around
 within view = record {
   table = view.table;
   reading = view.reading;
@@ -143,5 +143,5 @@ within view = record {
 }
 
 -- C++'s language by the wide grammar, whose nodes are counted
-abbrev pub wide_counted : List ℕ → View Rescoping Part Kept Value (Tally State) Around
+abbrev pub wide_counted : List ℕ → View Rescoping Part Surroundings Value (Tally State) Around
 wide_counted s = within (tallied_view (wide_view s) wide_makes)

@@ -3,15 +3,15 @@ use Rattle.std.specs.Prelude.{ℕ, List}
 use Rattle.cpp_grammar.specs.declared.production.Production.{Production}
 use Rattle.cpp_term.specs.Values.{State}
 use Rattle.cpp_link.specs.declared.linked.Linked.{Linked}
-use Rattle.cpp_link.specs.declared.part.Meant.{Meant}
+use Rattle.cpp_link.specs.declared.part.Outcome.{Outcome}
 use Rattle.cpp_link.specs.Parts.{trees_in, candidates_of}
 
 -- how many nodes are made of what a production stands for
-unfoldable pub nodes_of_meant : Meant → ℕ
-nodes_of_meant (Meant.Given part) = 0
-nodes_of_meant (Meant.There node listed) = 0
-nodes_of_meant (Meant.Character letter value) = 2
-nodes_of_meant _ = 1
+unfoldable pub nodes_of_outcome : Outcome → ℕ
+nodes_of_outcome (Outcome.Given part) = 0
+nodes_of_outcome (Outcome.There node listed) = 0
+nodes_of_outcome (Outcome.Character letter value) = 2
+nodes_of_outcome _ = 1
 
 -- the state in which the nodes are
 abbrev pub state_of : List ℕ → Linked → State

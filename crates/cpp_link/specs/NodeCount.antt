@@ -14,7 +14,7 @@ use Rattle.cpp_term.specs.Meaning.{is_void, is_nil}
 use Rattle.cpp_term.specs.Unfolding.{cpp, first_around, first_state}
 use Rattle.cpp_link.specs.declared.linked.Linked.{Linked}
 use Rattle.cpp_link.specs.declared.part.Part.{Part}
-use Rattle.cpp_references.specs.declared.around.Kept.{Kept}
+use Rattle.cpp_references.specs.declared.around.Surroundings.{Surroundings}
 use Rattle.cpp_link.specs.Owed.{made_before, made_at_end}
 use Rattle.cpp_link.specs.View.{cpp_view}
 
@@ -98,5 +98,5 @@ abbrev pub are_nodes : Tree → ℕ → Type 0
 are_nodes shape nodes = nodes ≡ nodes_of_shape shape
 
 -- C++'s language, whose nodes are counted
-abbrev pub cpp_counted : List ℕ → View Linked Part Kept Value (Tally State) Around
+abbrev pub cpp_counted : List ℕ → View Linked Part Surroundings Value (Tally State) Around
 cpp_counted s = tallied_view (cpp_view s) cpp_makes

@@ -7,7 +7,7 @@ use Rattle.cpp_term.specs.Values.{Value, Around}
 use Rattle.cpp_tree.specs.Nodes as nodes
 use Rattle.cpp_tree.specs.Nodes.{Stored, tree_at, bytes_at, IsWithin, IsPieceBelow, IsBelow, IsAdjustmentWithin, IsThunkWithin}
 use Rattle.cpp_link.specs.declared.part.Part.{Part}
-use Rattle.cpp_link.specs.declared.part.Meant.{Meant}
+use Rattle.cpp_link.specs.declared.part.Outcome.{Outcome}
 use Rattle.cpp_link.specs.declared.part.Step.{Step}
 use Rattle.cpp_references.specs.declared.candidates.Candidate.{Candidate}
 pub use Rattle.cpp_references.specs.Around.{trees_in, tree_of_node, scope_of, name_of, packs_of, IsClosed, candidate_of, candidates_of, IsPrefixThere, AreNodesThere, IsKeptThere}
@@ -38,15 +38,15 @@ abbrev pub values_in : List ℕ → Stored → List Part → List Value
 values_in s y ps = values_of s (trees_in s y) ps
 
 -- what a production stands for: a part, or one whose node isn't there yet
-unfoldable pub meant_value : List ℕ → Stored → Meant → Value
-meant_value s y (Meant.Given part) = value_in s y part
-meant_value s y (Meant.There node listed) = values.tree (tree_at (trees_in s y) node) listed
-meant_value s y (Meant.Made node listed) = values.tree (tree_of_node s y node) listed
-meant_value s y (Meant.Entity node q m) = values.named (tree_of_node s y node) (nodes.qualifiers_of q) (nodes.mark_of m)
-meant_value s y (Meant.Items node m) = values.signature (tree_of_node s y node) (nodes.mark_of m)
-meant_value s y (Meant.Thunk thunk encoding) = values.tree (term.thunk (nodes.thunk_of s (Some thunk)) (tree_at (trees_in s y) encoding)) true
-meant_value s y (Meant.Character letter value) = values.tree (term.integer (term.builtin (68 ∷ letter ∷ [])) (nodes.signed_of s value)) true
-meant_value s y (Meant.Lambda first rest number) = values.piece (term.lambda (term.list (tree_at (trees_in s y) first) (tree_at (trees_in s y) rest)) number)
+unfoldable pub outcome_value : List ℕ → Stored → Outcome → Value
+outcome_value s y (Outcome.Given part) = value_in s y part
+outcome_value s y (Outcome.There node listed) = values.tree (tree_at (trees_in s y) node) listed
+outcome_value s y (Outcome.Made node listed) = values.tree (tree_of_node s y node) listed
+outcome_value s y (Outcome.Entity node q m) = values.named (tree_of_node s y node) (nodes.qualifiers_of q) (nodes.mark_of m)
+outcome_value s y (Outcome.Items node m) = values.signature (tree_of_node s y node) (nodes.mark_of m)
+outcome_value s y (Outcome.Thunk thunk encoding) = values.tree (term.thunk (nodes.thunk_of s (Some thunk)) (tree_at (trees_in s y) encoding)) true
+outcome_value s y (Outcome.Character letter value) = values.tree (term.integer (term.builtin (68 ∷ letter ∷ [])) (nodes.signed_of s value)) true
+outcome_value s y (Outcome.Lambda first rest number) = values.piece (term.lambda (term.list (tree_at (trees_in s y) first) (tree_at (trees_in s y) rest)) number)
 
 -- ## Parts that are there
 
@@ -64,15 +64,15 @@ abbrev pub AreThere : List ℕ → ℕ → List Part → Type 0
 AreThere s n [] = Unit {0}
 AreThere s n (p ∷ ps) = IsThere s n p × AreThere s n ps
 
-abbrev pub IsMeantThere : List ℕ → (held n : ℕ) → Meant → Type 0
-IsMeantThere s held n (Meant.Given part) = IsThere s n part
-IsMeantThere s held n (Meant.There node listed) = node < n
-IsMeantThere s held n (Meant.Made node listed) = IsBelow s held n node
-IsMeantThere s held n (Meant.Entity node q m) = IsBelow s held n node
-IsMeantThere s held n (Meant.Items node m) = IsBelow s held n node
-IsMeantThere s held n (Meant.Thunk thunk encoding) = IsThunkWithin s thunk × (encoding < n)
-IsMeantThere s held n (Meant.Character letter value) = IsWithin value.digits s
-IsMeantThere s held n (Meant.Lambda first rest number) = (first < n) × (rest < n)
+abbrev pub IsOutcomeThere : List ℕ → (held n : ℕ) → Outcome → Type 0
+IsOutcomeThere s held n (Outcome.Given part) = IsThere s n part
+IsOutcomeThere s held n (Outcome.There node listed) = node < n
+IsOutcomeThere s held n (Outcome.Made node listed) = IsBelow s held n node
+IsOutcomeThere s held n (Outcome.Entity node q m) = IsBelow s held n node
+IsOutcomeThere s held n (Outcome.Items node m) = IsBelow s held n node
+IsOutcomeThere s held n (Outcome.Thunk thunk encoding) = IsThunkWithin s thunk × (encoding < n)
+IsOutcomeThere s held n (Outcome.Character letter value) = IsWithin value.digits s
+IsOutcomeThere s held n (Outcome.Lambda first rest number) = (first < n) × (rest < n)
 
 -- whether one of these candidates is a name with its M, or one before them
 unfoldable pub is_apart_behind : (before : Bool) → List Candidate → Bool

@@ -10,7 +10,7 @@ use Rattle.cpp_term.specs.Values.{State, Value, Around, tree_of, qualifiers_of, 
 use Rattle.cpp_tree.specs.Nodes.{Stored, tree_at, tree_if_there, IsThereBelow}
 use Rattle.cpp_term.specs.Between.{Going, after}
 use Rattle.cpp_link.specs.declared.part.Step.{Step}
-use Rattle.cpp_references.specs.declared.around.Kept.{Kept}
+use Rattle.cpp_references.specs.declared.around.Surroundings.{Surroundings}
 use Rattle.cpp_tree.specs.declared.node.Node.{Node}
 use Rattle.cpp_references.specs.declared.again.OpenedNode.{OpenedNode}
 use Rattle.cpp_link.specs.declared.signatures.Split.{Split}
@@ -77,7 +77,7 @@ appended_if false around t state = state
 appended_if true around t state = appended around t state
 
 -- what a step comes to, before a part that this surrounds, after these values
-unfoldable pub goes_on : List ℕ → Stored → Kept → List Value → List values.Candidate → Option ℕ → Step → Going
+unfoldable pub goes_on : List ℕ → Stored → Surroundings → List Value → List values.Candidate → Option ℕ → Step → Going
 goes_on s y kept vs cs before (Step.Go candidate then packs) =
     Ok (record { values = vs; context = around_of (trees_in s y) then; state = with_candidate (around_of (trees_in s y) kept) (trees_in s y) candidate (record { candidates = cs; packs = packs }) })
 goes_on s y kept vs cs before (Step.Named node listed is_name) =

@@ -17,7 +17,7 @@ use Rattle.cpp_term.specs.Unfolding.{cpp}
 use Rattle.cpp_term.specs.Rescoping.{generic_so_far, parameter_here, argument_here, with_holder, is_instance, holder_so_far, between_wide, cpp_wide}
 use Rattle.cpp_link.specs.declared.linked.Linked.{Linked}
 use Rattle.cpp_link.specs.declared.part.Part.{Part}
-use Rattle.cpp_references.specs.declared.around.Kept.{Kept}
+use Rattle.cpp_references.specs.declared.around.Surroundings.{Surroundings}
 use Rattle.cpp_link.specs.Counts.{parameter_counts, argument_counts, between_counts}
 use Rattle.cpp_link.specs.LinkRescoping.{wide_makes, wide_view, within, wide_counted}
 use Rattle.cpp_link.specs.ViewLaws.{cpp_laws, cpp_threads}
@@ -87,7 +87,7 @@ wide_view_threads : (s : List ℕ) → IsThreading (wide_view s)
 unfolding cpp cpp_wide
 wide_view_threads s = record { linking = wide_view_laws s; grows_same = (cpp_threads s).grows_same; grows_then = (cpp_threads s).grows_then; one = refl }
 
-within_laws : {S : Type 0} (view : View Linked Part Kept Value S Around) → IsLinking view → IsLinking (within view)
+within_laws : {S : Type 0} (view : View Linked Part Surroundings Value S Around) → IsLinking view → IsLinking (within view)
 within_laws view laws = record {
   sound = laws.sound;
   starts = laws.starts;
@@ -103,7 +103,7 @@ within_laws view laws = record {
       record { closed = at_once.closed; refused = at_once.refused };
 }
 
-within_threads : {S : Type 0} (view : View Linked Part Kept Value S Around) → IsThreading view → IsThreading (within view)
+within_threads : {S : Type 0} (view : View Linked Part Surroundings Value S Around) → IsThreading view → IsThreading (within view)
 within_threads view threads = record {
   linking = within_laws view threads.linking;
   grows_same = λ l. threads.grows_same l.linked;

@@ -4,7 +4,7 @@ use Rattle.cpp_tree.specs.Nodes.{Stored, tree_at, piece_of, tree_if_there, IsPie
 use Rattle.cpp_tree.specs.declared.node.Piece.{Piece}
 use Rattle.cpp_link.specs.declared.part.Part.{Part}
 use Rattle.cpp_references.specs.declared.around.Prefix.{Prefix}
-use Rattle.cpp_references.specs.declared.around.Kept.{Kept}
+use Rattle.cpp_references.specs.declared.around.Surroundings.{Surroundings}
 use Rattle.cpp_references.specs.declared.candidates.Candidate.{Candidate}
 use Rattle.cpp_link.specs.Parts.{trees_in, value_of, values_of, value_in, values_in, prefix_of, scope_of, name_of, around_of, candidates_of, IsThere, AreThere, IsPrefixThere, IsKeptThere, AreNodesThere, AreCandidatesThere}
 
@@ -43,7 +43,7 @@ module _ (s : List ℕ) (old new : Stored) (stays : (i : ℕ) → i < length old
   prefix_stays Prefix.Outermost there = refl
   prefix_stays (Prefix.Behind node listed) there = rw (stays node there) refl
 
-  pub around_stays : (kept : Kept) → IsKeptThere (length old.nodes) kept → around_of (trees_in s new) kept ≡ around_of (trees_in s old) kept
+  pub around_stays : (kept : Surroundings) → IsKeptThere (length old.nodes) kept → around_of (trees_in s new) kept ≡ around_of (trees_in s old) kept
   unfolding around_of
   around_stays kept there = rw (arguments_stay (scope_of kept) there.0, prefix_stays (name_of kept) there.1) refl
 
@@ -80,7 +80,7 @@ nodes_more m n (c ∷ cs) le there = (omega (arith, le, there.0), nodes_more m n
 pub candidates_more : (m n : ℕ) (cs : List Candidate) → m ≤ n → AreCandidatesThere m cs → AreCandidatesThere n cs
 candidates_more m n cs le there = (nodes_more m n cs le there.0, there.1)
 
-pub kept_more : (m n : ℕ) (kept : Kept) → m ≤ n → IsKeptThere m kept → IsKeptThere n kept
+pub kept_more : (m n : ℕ) (kept : Surroundings) → m ≤ n → IsKeptThere m kept → IsKeptThere n kept
 kept_more m n kept le there = (arguments (scope_of kept) there.0, prefix (name_of kept) there.1)
   where
     arguments : (o : Option ℕ) → IsThereBelow m o → IsThereBelow n o

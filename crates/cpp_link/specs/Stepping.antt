@@ -4,7 +4,7 @@ use Rattle.sym_core.specs.declared.refusal.Refusal.{Refusal}
 use Rattle.cpp_grammar.specs.declared.production.Production.{Production}
 use Rattle.cpp_link.specs.declared.linked.Linked.{Linked}
 use Rattle.cpp_link.specs.declared.part.Part.{Part}
-use Rattle.cpp_references.specs.declared.around.Kept.{Kept}
+use Rattle.cpp_references.specs.declared.around.Surroundings.{Surroundings}
 use Rattle.cpp_link.specs.declared.part.Step.{Step}
 use Rattle.cpp_link.specs.Grows.{Grows}
 use Rattle.cpp_link.specs.Making.{state_of}
@@ -32,7 +32,7 @@ CountsStep p old new own new_own (Err e) = length new.nodes.nodes ≤ length old
 
 -- A step is taken before the next part of a rule, which this surrounds then: what the nodes, the candidates and the rule's
 -- parts stand for now is what the step comes to.
-pub record Takes (s : List ℕ) (old new : Linked) (kept : Kept) (base : ℕ) (parts new_parts : List Part) (step : Step) (then : Kept) : Type 0 where
+pub record Takes (s : List ℕ) (old new : Linked) (kept : Surroundings) (base : ℕ) (parts new_parts : List Part) (step : Step) (then : Surroundings) : Type 0 where
   pub grows : Grows s old.nodes new.nodes (nodes_of_step step)
   pub thunks : new.nodes.thunks ≡ old.nodes.thunks
   pub candidates : AreCandidatesThere (length new.nodes.nodes) new.candidates.items

@@ -7,7 +7,7 @@ use Rattle.cpp_term.specs.Unfolding.{first_around, first_state}
 use Rattle.cpp_term.specs.Values.{State, Value, Around}
 use Rattle.cpp_tree.specs.Nodes.{over, tree_at, IsTable}
 use Rattle.cpp_link.specs.declared.part.Part.{Part}
-use Rattle.cpp_references.specs.declared.around.Kept.{Kept}
+use Rattle.cpp_references.specs.declared.around.Surroundings.{Surroundings}
 use Rattle.cpp_link.specs.declared.linked.Linked.{Linked}
 use Rattle.cpp_link.specs.LinkReading.{linked}
 use Rattle.cpp_link.specs.Room.{lists_of}
@@ -21,12 +21,12 @@ pub record IsPart (s : List ℕ) (l : Linked) (part : Part) (value : Value) : Ty
   pub is : value_in s l.nodes part ≡ value
 
 -- this surrounds a part
-pub record Surrounds (s : List ℕ) (l : Linked) (kept : Kept) (around : Around) : Type 0 where
+pub record Surrounds (s : List ℕ) (l : Linked) (kept : Surroundings) (around : Around) : Type 0 where
   pub there : IsKeptThere (length l.nodes.nodes) kept
   pub is : around_of (trees_in s l.nodes) kept ≡ around
   pub closed : IsClosed around
 
-pub record IsKept (s : List ℕ) (l : Linked) (kept : Kept) (rule : Open State Around) : Type 0 where
+pub record IsKept (s : List ℕ) (l : Linked) (kept : Surroundings) (rule : Open State Around) : Type 0 where
   pub surrounds : Surrounds s l kept rule.context
   pub packs : packs_of kept ≡ rule.before.packs
 
@@ -52,7 +52,7 @@ pub record IsPaid (l : Linked) : Type 0 where
   pub begun : 4 ≤ length l.nodes.nodes
   pub thunks : length l.nodes.thunks ≤ length l.nodes.nodes
 
-abbrev pub cpp_view : List ℕ → View Linked Part Kept Value State Around
+abbrev pub cpp_view : List ℕ → View Linked Part Surroundings Value State Around
 cpp_view s = record {
   table = wide;
   reading = linked s;

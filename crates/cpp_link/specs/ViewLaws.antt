@@ -11,7 +11,7 @@ use Rattle.cpp_grammar.specs.Unfolding.{production_at}
 use Rattle.cpp_term.specs.Unfolding.{cpp}
 use Rattle.cpp_term.specs.Values.{State, Value, Around}
 use Rattle.cpp_link.specs.declared.part.Part.{Part}
-use Rattle.cpp_references.specs.declared.around.Kept.{Kept}
+use Rattle.cpp_references.specs.declared.around.Surroundings.{Surroundings}
 use Rattle.cpp_link.specs.declared.linked.Linked.{Linked}
 use Rattle.cpp_link.specs.Owed.{owes}
 use Rattle.cpp_link.specs.Bound.{few_nodes}
@@ -29,14 +29,14 @@ part_stays s old new part value grows is = record {
   is = value_stays s old.nodes new.nodes grows.stays part is.there ∙ is.is;
 }
 
-pub surrounds_stays : (s : List ℕ) (old new : Linked) (kept : Kept) (around : Around) → GoesOn s old new → Surrounds s old kept around → Surrounds s new kept around
+pub surrounds_stays : (s : List ℕ) (old new : Linked) (kept : Surroundings) (around : Around) → GoesOn s old new → Surrounds s old kept around → Surrounds s new kept around
 surrounds_stays s old new kept around grows is = record {
   there = kept_more (length old.nodes.nodes) (length new.nodes.nodes) kept grows.least is.there;
   is = around_stays s old.nodes new.nodes grows.stays kept is.there ∙ is.is;
   closed = is.closed;
 }
 
-kept_stays : (s : List ℕ) (old new : Linked) (kept : Kept) (rule : Open State Around) → GoesOn s old new → IsKept s old kept rule → IsKept s new kept rule
+kept_stays : (s : List ℕ) (old new : Linked) (kept : Surroundings) (rule : Open State Around) → GoesOn s old new → IsKept s old kept rule → IsKept s new kept rule
 kept_stays s old new kept rule grows is = record { surrounds = surrounds_stays s old new kept rule.context grows is.surrounds; packs = is.packs }
 
 starts : wide.may_be_empty 0 ≡ false

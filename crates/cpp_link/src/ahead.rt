@@ -10,7 +10,7 @@ ghost use Rattle.cpp_link.specs.View.{cpp_view};
 
 use crate::dispatch::production_of;
 use crate::linked::Linked;
-use crate::part::Kept;
+use crate::part::Surroundings;
 use crate::tables::{PART_COUNTS, SKIPS_PARTS};
 use cpp_grammar::production::Production;
 use sym_link::language::Frame;
@@ -200,7 +200,7 @@ impl Linked {
         &self,
         symbol: &[u8],
         rows: &[Row],
-        frame: &Frame<Kept>,
+        frame: &Frame<Surroundings>,
         held: usize,
         row: Row,
     ) -> usize
@@ -212,7 +212,7 @@ impl Linked {
 
     /// The number of the next part with a row in the frame's rule: a token's, of which so many parts have begun.
     #[inline(always)]
-    pub fn next_token(&self, symbol: &[u8], frame: &Frame<Kept>, held: usize) -> usize
+    pub fn next_token(&self, symbol: &[u8], frame: &Frame<Surroundings>, held: usize) -> usize
         ensures { IsAheadToken (cpp_view symbol.now) symbol.now self.now frame.now held result }
     {
         token_part(production_of(frame.rule), held)
@@ -220,7 +220,7 @@ impl Linked {
 
     /// How many parts the frame's rule has, once no rows remain.
     #[inline(always)]
-    pub fn count_parts(&self, symbol: &[u8], frame: &Frame<Kept>, held: usize) -> usize
+    pub fn count_parts(&self, symbol: &[u8], frame: &Frame<Surroundings>, held: usize) -> usize
         ensures { IsCount (cpp_view symbol.now) symbol.now self.now frame.now held result }
     {
         part_count(frame.rule)

@@ -10,7 +10,7 @@ ghost use Rattle.cpp_link.specs.View.{Surrounds, cpp_view};
 
 use crate::dispatch::production_of;
 use crate::linked::Linked;
-use crate::part::Kept;
+use crate::part::Surroundings;
 use cpp_grammar::production::Production;
 use sym_core::{Refusal, value10};
 use sym_shape::rule::Row;
@@ -62,9 +62,9 @@ impl Linked {
         &self,
         symbol: &[u8],
         rows: &[Row],
-        context: Kept,
+        context: Surroundings,
         row: Row,
-    ) -> Result<Kept, Refusal>
+    ) -> Result<Surroundings, Refusal>
         requires place { row.from < length symbol.now }
         requires end { row.end ≤ length rows.now }
         ensures begins { BeginsIn (cpp_view symbol.now) symbol.now (Surrounds symbol.now) rows.now self.now self.now context row result }

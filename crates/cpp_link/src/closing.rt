@@ -11,14 +11,14 @@ ghost use Rattle.cpp_link.specs.Parts.{trees_in, value_in, values_in, packs_of, 
 ghost use Rattle.cpp_link.specs.Reads.{with_candidate};
 
 use crate::linked::Linked;
-use crate::part::{Behind, Kept, Part};
+use crate::part::{AfterRule, Part, Surroundings};
 use cpp_grammar::production::Production;
 use cpp_references::candidates::is_function_type;
 
 impl Linked {
     /// The candidate that a type becomes under qualifiers.
     #[tactic(auto, unfolding(crate::specs::Reads::with_candidate, cpp_term::specs::References::with_unqualified))]
-    fn unqualified_candidate(&self, symbol: &[u8], kept: Kept, part: Part) -> Option<u32>
+    fn unqualified_candidate(&self, symbol: &[u8], kept: Surroundings, part: Part) -> Option<u32>
         requires table { IsTable (over symbol.now self.now.nodes) }
         requires there { IsThere symbol.now (length self.now.nodes.nodes) part }
         ensures is { (state : State) → with_unqualified (around_of (trees_in symbol.now self.now.nodes) kept) (value_in symbol.now self.now.nodes part) state ≡ with_candidate (around_of (trees_in symbol.now self.now.nodes) kept) (trees_in symbol.now self.now.nodes) result state }
@@ -34,15 +34,15 @@ impl Linked {
     /// What comes after a production, given its parts and the part that it is.
     #[tactic(auto, unfolding(cpp_term::specs::Unfolding::behind, crate::specs::LinkReading::link_meaning, crate::specs::Reads::with_candidate))]
     #[inline(always)]
-    pub fn behind(
+    pub fn after_rule(
         &self,
         symbol: &[u8],
         production: Production,
         byte: u8,
-        kept: Kept,
+        kept: Surroundings,
         parts: &[Part],
         made: Part,
-    ) -> Behind
+    ) -> AfterRule
         requires table { IsTable (over symbol.now self.now.nodes) }
         requires there { AreThere symbol.now (length self.now.nodes.nodes) parts.now }
         requires made { IsThere symbol.now (length self.now.nodes.nodes) made }
@@ -53,55 +53,55 @@ impl Linked {
         ensures there { IsThereBelow (length self.now.nodes.nodes) result.candidate }
     {
         match production {
-            Production::RestrictType => Behind {
+            Production::RestrictType => AfterRule {
                 candidate: Some(self.node(symbol, made)),
                 packs: self.packs,
             },
-            Production::VolatileType => Behind {
+            Production::VolatileType => AfterRule {
                 candidate: Some(self.node(symbol, made)),
                 packs: self.packs,
             },
-            Production::ConstType => Behind {
+            Production::ConstType => AfterRule {
                 candidate: Some(self.node(symbol, made)),
                 packs: self.packs,
             },
-            Production::ReferenceType => Behind {
+            Production::ReferenceType => AfterRule {
                 candidate: Some(self.node(symbol, made)),
                 packs: self.packs,
             },
-            Production::PlainType => Behind {
+            Production::PlainType => AfterRule {
                 candidate: self.type_candidate(symbol, kept, self.given(symbol, parts, 0)),
                 packs: self.packs,
             },
-            Production::PlainArgument => Behind {
+            Production::PlainArgument => AfterRule {
                 candidate: self.type_candidate(symbol, kept, self.given(symbol, parts, 0)),
                 packs: self.packs,
             },
-            Production::ArgumentWithT => Behind {
+            Production::ArgumentWithT => AfterRule {
                 candidate: self.type_candidate(symbol, kept, self.given(symbol, parts, 0)),
                 packs: self.packs,
             },
-            Production::TypeWithD => Behind {
+            Production::TypeWithD => AfterRule {
                 candidate: self.type_candidate(symbol, kept, self.given(symbol, parts, 0)),
                 packs: self.packs,
             },
-            Production::ItemWithD => Behind {
+            Production::ItemWithD => AfterRule {
                 candidate: self.type_candidate(symbol, kept, self.given(symbol, parts, 0)),
                 packs: self.packs,
             },
-            Production::QualifiedPlain => Behind {
+            Production::QualifiedPlain => AfterRule {
                 candidate: self.unqualified_candidate(symbol, kept, self.given(symbol, parts, 0)),
                 packs: self.packs,
             },
-            Production::PlainWithD => Behind {
+            Production::PlainWithD => AfterRule {
                 candidate: self.unqualified_candidate(symbol, kept, self.given(symbol, parts, 0)),
                 packs: self.packs,
             },
-            Production::Expansion => Behind {
+            Production::Expansion => AfterRule {
                 candidate: None,
                 packs: kept.packs(),
             },
-            _ => Behind {
+            _ => AfterRule {
                 candidate: None,
                 packs: self.packs,
             },

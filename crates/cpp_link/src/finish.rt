@@ -17,16 +17,16 @@ ghost use Rattle.cpp_grammar.specs.Unfolding.{production_at};
 ghost use Rattle.cpp_link.specs.Grows.{HasPlace};
 ghost use Rattle.cpp_link.specs.LinkReading.{link_meaning, link_close};
 ghost use Rattle.cpp_link.specs.Room.{KeepsRoom, LacksRoom, IsRoomy};
-ghost use Rattle.cpp_link.specs.Making.{IsCommon, IsRare, nodes_of_meant, state_of};
+ghost use Rattle.cpp_link.specs.Making.{IsCommon, IsRare, nodes_of_outcome, state_of};
 ghost use Rattle.cpp_link.specs.NodeCount.{makes_at_end};
 ghost use Rattle.cpp_link.specs.Closes.{ends_of};
-ghost use Rattle.cpp_link.specs.Parts.{trees_in, value_in, values_in, packs_of, around_of, candidates_of, meant_value, IsMeantThere, IsThere, AreThere, IsKeptThere, AreCandidatesThere};
+ghost use Rattle.cpp_link.specs.Parts.{trees_in, value_in, values_in, packs_of, around_of, candidates_of, outcome_value, IsOutcomeThere, IsThere, AreThere, IsKeptThere, AreCandidatesThere};
 ghost use Rattle.cpp_link.specs.Reads.{maybe_candidate};
 ghost use Rattle.cpp_link.specs.View.{GoesOn, IsPaid, IsWhole, cpp_view};
 
 use crate::dispatch::production_of;
 use crate::linked::Linked;
-use crate::part::{Candidate, Kept, Meant, Part};
+use crate::part::{Candidate, Outcome, Part, Surroundings};
 use cpp_grammar::production::Production;
 use cpp_references::candidates::{named, substitution};
 use sym_core::{Refusal, Span};
@@ -53,7 +53,7 @@ impl Linked {
         &mut self,
         symbol: &[u8],
         place: u32,
-        kept: Kept,
+        kept: Surroundings,
         parts: &[Part],
     ) -> Result<Part, Refusal>
         requires whole { IsWhole symbol.now self.old }
@@ -85,14 +85,14 @@ impl Linked {
     ///
     /// `Memory` where a list couldn't grow.
     #[inline(always)]
-    fn keep(
+    fn add_node_and_candidate(
         &mut self,
         symbol: &[u8],
         production: Production,
         place: u32,
-        kept: Kept,
+        kept: Surroundings,
         parts: &[Part],
-        meant: Meant,
+        outcome: Outcome,
     ) -> Result<Part, Refusal>
         requires fits { FitsSymbol symbol.now }
         requires place { place < length symbol.now }
@@ -101,10 +101,10 @@ impl Linked {
         requires whole { IsWhole symbol.now self.old }
         requires there { AreThere symbol.now (length self.old.nodes.nodes) parts.now }
         requires kept { IsKeptThere (length self.old.nodes.nodes) kept }
-        requires meant { IsMeantThere symbol.now (length self.old.nodes.thunks) (length self.old.nodes.nodes) meant }
-        requires value { meant_value symbol.now self.old.nodes meant ≡ link_meaning symbol.now production (slice_index symbol.now place) place (around_of (trees_in symbol.now self.old.nodes) kept) (values_in symbol.now self.old.nodes parts.now) }
-        requires nodes { nodes_of_meant meant ≤ ends_of production parts.now }
-        requires makes { nodes_of_meant meant ≡ makes_at_end production (values_in symbol.now self.old.nodes parts.now) }
+        requires outcome { IsOutcomeThere symbol.now (length self.old.nodes.thunks) (length self.old.nodes.nodes) outcome }
+        requires value { outcome_value symbol.now self.old.nodes outcome ≡ link_meaning symbol.now production (slice_index symbol.now place) place (around_of (trees_in symbol.now self.old.nodes) kept) (values_in symbol.now self.old.nodes parts.now) }
+        requires nodes { nodes_of_outcome outcome ≤ ends_of production parts.now }
+        requires makes { nodes_of_outcome outcome ≡ makes_at_end production (values_in symbol.now self.old.nodes parts.now) }
         ensures value { IfOk result (λ made. value_in symbol.now self.new.nodes made ≡ link_meaning symbol.now production (slice_index symbol.now place) place (around_of (trees_in symbol.now self.old.nodes) kept) (values_in symbol.now self.old.nodes parts.now)) }
         ensures state { OnOk result ((began : State) → began.packs ≡ packs_of kept
             → unfolding_.behind production (slice_index symbol.now place) (around_of (trees_in symbol.now self.old.nodes) kept) began (values_in symbol.now self.old.nodes parts.now) (state_of symbol.now self.old) ≡ state_of symbol.now self.new) }
@@ -119,10 +119,10 @@ impl Linked {
         ensures full { OnErr result (LacksRoom self.old self.new) }
     {
         let byte = symbol[place as usize];
-        let made = self.settle(symbol, meant)?;
-        let behind = self.behind(symbol, production, byte, kept, parts, made);
-        self.append(symbol, kept, behind.candidate)?;
-        self.packs = behind.packs;
+        let made = self.add_node(symbol, outcome)?;
+        let after = self.after_rule(symbol, production, byte, kept, parts, made);
+        self.append(symbol, kept, after.candidate)?;
+        self.packs = after.packs;
         Ok(made)
     }
 
@@ -137,7 +137,7 @@ impl Linked {
         symbol: &[u8],
         production: Production,
         place: u32,
-        kept: Kept,
+        kept: Surroundings,
         parts: &[Part],
     ) -> Result<Part, Refusal>
         requires common { IsCommon production }
@@ -161,8 +161,8 @@ impl Linked {
         ensures keeps { KeepsRoom self.old self.new }
         ensures full { OnErr result (LacksRoom self.old self.new) }
     {
-        let meant = self.meant(symbol, production, place, kept, parts);
-        self.keep(symbol, production, place, kept, parts, meant)
+        let outcome = self.outcome(symbol, production, place, kept, parts);
+        self.add_node_and_candidate(symbol, production, place, kept, parts, outcome)
     }
 
     /// What a common production that begins at a place closes to, with these parts.
@@ -176,7 +176,7 @@ impl Linked {
         symbol: &[u8],
         production: Production,
         place: u32,
-        kept: Kept,
+        kept: Surroundings,
         parts: &[Part],
     ) -> Result<Part, Refusal>
         requires common { IsCommon production }
@@ -217,7 +217,7 @@ impl Linked {
         symbol: &[u8],
         production: Production,
         place: u32,
-        kept: Kept,
+        kept: Surroundings,
         parts: &[Part],
     ) -> Result<Part, Refusal>
         requires rare { IsRare production }
@@ -241,8 +241,8 @@ impl Linked {
         ensures keeps { KeepsRoom self.old self.new }
         ensures full { IfErr result (λ e. e ≡ refusals.Memory → LacksRoom self.old self.new) }
     {
-        let meant = self.meant_rare(symbol, production, place, kept, parts);
-        self.keep(symbol, production, place, kept, parts, meant)
+        let outcome = self.outcome_of_rare(symbol, production, place, kept, parts);
+        self.add_node_and_candidate(symbol, production, place, kept, parts, outcome)
     }
 
     /// The frame's rule closes, of this production, over all its parts: what it means takes their place.
@@ -255,7 +255,7 @@ impl Linked {
         &mut self,
         symbol: &[u8],
         production: Production,
-        frame: &Frame<Kept>,
+        frame: &Frame<Surroundings>,
         parts: &mut Vec<Part>,
     ) -> Result<(), Refusal>
         requires common { IsCommon production }
@@ -293,7 +293,7 @@ impl Linked {
         &mut self,
         symbol: &[u8],
         production: Production,
-        frame: &Frame<Kept>,
+        frame: &Frame<Surroundings>,
         parts: &mut Vec<Part>,
     ) -> Result<(), Refusal>
         requires rare { IsRare production }
@@ -330,7 +330,7 @@ impl Linked {
     pub fn finish_rule(
         &mut self,
         symbol: &[u8],
-        frame: &Frame<Kept>,
+        frame: &Frame<Surroundings>,
         parts: &mut Vec<Part>,
     ) -> Result<(), Refusal>
         requires room { HasRoom (cpp_view symbol.now) symbol.now self.old (owed_behind (cpp_view symbol.now) frame.now parts.old.items) }

@@ -24,7 +24,7 @@ ghost use Rattle.cpp_link.specs.View as view;
 ghost use Rattle.cpp_link.specs.View.{IsPaid, IsWhole, Surrounds, cpp_view};
 
 use crate::linked::{Linked, has_holder, is_apart};
-use crate::part::{Kept, Part, Step};
+use crate::part::{Part, Step, Surroundings};
 use cpp_grammar::production::Production;
 use cpp_references::again::opened;
 use cpp_references::candidates::numbered;
@@ -96,7 +96,7 @@ impl Linked {
         &mut self,
         symbol: &[u8],
         place: u32,
-        kept: Kept,
+        kept: Surroundings,
         parts: &[Part],
     ) -> Result<Part, Refusal>
         requires whole { IsWhole symbol.now self.old }
@@ -130,12 +130,12 @@ impl Linked {
     /// # Errors
     ///
     /// `BadReference` at the `M` after arguments, `Memory` where a list couldn't grow.
-    pub fn go_holder(
+    pub fn before_holder(
         &mut self,
         symbol: &[u8],
-        frame: &Frame<Kept>,
+        frame: &Frame<Surroundings>,
         parts: &mut Vec<Part>,
-    ) -> Result<Kept, Refusal>
+    ) -> Result<Surroundings, Refusal>
         requires holder { is_holder (production_at frame.now.rule) ≡ true }
         requires second { length parts.old.items ≡ frame.now.base + 1 }
         requires room { HasRoom (cpp_view symbol.now) symbol.now self.old (owed_behind (cpp_view symbol.now) frame.now parts.old.items) }

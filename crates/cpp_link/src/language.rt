@@ -14,14 +14,14 @@ ghost use Rattle.cpp_link.specs.NodeCount.{cpp_counted};
 ghost use Rattle.cpp_link.specs.ViewLaws.{counted_laws, counted_threads};
 
 use crate::linked::Linked;
-use crate::part::{Kept, Naming, Part, Scope};
+use crate::part::{Naming, Part, Scope, Surroundings};
 use sym_core::Refusal;
 use sym_link::language::{Frame, Linking};
 use sym_link::threads::{Threading, close_by, enter_by, token_by};
 use sym_shape::rule::Row;
 
 /// What surrounds a whole symbol.
-pub(crate) const OUTSIDE: Kept = Kept {
+pub(crate) const OUTSIDE: Surroundings = Surroundings {
     arguments: 0,
     encoding: 0,
     name: 0,
@@ -35,7 +35,7 @@ pub(crate) const OUTSIDE: Kept = Kept {
 impl Threading for Linked {
     type Part = Part;
 
-    type Kept = Kept;
+    type Kept = Surroundings;
 
     ghost Value = { Value };
 
@@ -59,9 +59,9 @@ impl Threading for Linked {
     fn between(
         &mut self,
         symbol: &[u8],
-        frame: &Frame<Kept>,
+        frame: &Frame<Surroundings>,
         parts: &mut Vec<Part>,
-    ) -> Result<Kept, Refusal>
+    ) -> Result<Surroundings, Refusal>
         requires room { HasRoom (cpp_counted symbol.now) symbol.now self.old (owed_behind (cpp_counted symbol.now) frame.now parts.old.items) }
         requires open { IsOpenAt (cpp_counted symbol.now) symbol.now self.old frame.now parts.old.items }
         requires base { frame.now.base ≤ length parts.old.items }
@@ -73,16 +73,16 @@ impl Threading for Linked {
         ensures keeps { KeepsRoom (cpp_counted symbol.now) self.old self.new parts.old parts.new }
         ensures full { NeedsRoom (cpp_counted symbol.now) self.old self.new parts.old parts.new result }
     {
-        self.go_on(symbol, frame, parts)
+        self.before_part(symbol, frame, parts)
     }
 
     fn begin(
         &mut self,
         symbol: &[u8],
         rows: &[Row],
-        context: Kept,
+        context: Surroundings,
         row: Row,
-    ) -> Result<Kept, Refusal>
+    ) -> Result<Surroundings, Refusal>
         requires place { row.from < length symbol.now }
         requires end { row.end ≤ length rows.now }
         ensures begins { BeginsIn (cpp_counted symbol.now) symbol.now (Surrounds symbol.now) rows.now self.old self.new context row result }
@@ -99,7 +99,7 @@ impl Threading for Linked {
     fn finish(
         &mut self,
         symbol: &[u8],
-        frame: &Frame<Kept>,
+        frame: &Frame<Surroundings>,
         parts: &mut Vec<Part>,
     ) -> Result<(), Refusal>
         requires room { HasRoom (cpp_counted symbol.now) symbol.now self.old (owed_behind (cpp_counted symbol.now) frame.now parts.old.items) }
@@ -120,7 +120,7 @@ impl Threading for Linked {
         &self,
         symbol: &[u8],
         rows: &[Row],
-        frame: &Frame<Kept>,
+        frame: &Frame<Surroundings>,
         held: usize,
         row: Row,
     ) -> usize
@@ -143,13 +143,13 @@ impl Threading for Linked {
         Ok(self.text_at(symbol, row))
     }
 
-    fn ahead_token(&self, symbol: &[u8], frame: &Frame<Kept>, held: usize) -> usize
+    fn ahead_token(&self, symbol: &[u8], frame: &Frame<Surroundings>, held: usize) -> usize
         ensures { IsAheadToken (cpp_counted symbol.now) symbol.now self.now frame.now held result }
     {
         self.next_token(symbol, frame, held)
     }
 
-    fn count(&self, symbol: &[u8], frame: &Frame<Kept>, held: usize) -> usize
+    fn count(&self, symbol: &[u8], frame: &Frame<Surroundings>, held: usize) -> usize
         ensures { IsCount (cpp_counted symbol.now) symbol.now self.now frame.now held result }
     {
         self.count_parts(symbol, frame, held)
@@ -161,7 +161,7 @@ impl Threading for Linked {
 impl Linking for Linked {
     type Part = Part;
 
-    type Kept = Kept;
+    type Kept = Surroundings;
 
     ghost Value = { Value };
 
@@ -171,7 +171,7 @@ impl Linking for Linked {
 
     ghost view = { cpp_counted };
 
-    fn root(&mut self, symbol: &[u8], _rows: &[Row], _row: Row) -> Result<Kept, Refusal>
+    fn root(&mut self, symbol: &[u8], _rows: &[Row], _row: Row) -> Result<Surroundings, Refusal>
         requires room { HasRoom (cpp_counted symbol.now) symbol.now self.old 0 }
         requires end { _row.end ≤ length _rows.now }
         ensures opens { OpensRoot (cpp_counted symbol.now) symbol.now _rows.now self.old self.new _row result }
@@ -188,10 +188,10 @@ impl Linking for Linked {
         &mut self,
         symbol: &[u8],
         rows: &[Row],
-        frame: &Frame<Kept>,
+        frame: &Frame<Surroundings>,
         parts: &mut Vec<Part>,
         row: Row,
-    ) -> Result<Kept, Refusal>
+    ) -> Result<Surroundings, Refusal>
         requires room { HasRoom (cpp_counted symbol.now) symbol.now self.old (owed_behind (cpp_counted symbol.now) frame.now parts.old.items) }
         requires open { IsOpen (cpp_counted symbol.now) symbol.now self.old frame.now parts.old.items }
         requires base { frame.now.base ≤ length parts.old.items }
@@ -211,7 +211,7 @@ impl Linking for Linked {
     fn token(
         &mut self,
         symbol: &[u8],
-        frame: &Frame<Kept>,
+        frame: &Frame<Surroundings>,
         parts: &mut Vec<Part>,
         row: Row,
     ) -> Result<(), Refusal>
@@ -236,7 +236,7 @@ impl Linking for Linked {
     fn close(
         &mut self,
         symbol: &[u8],
-        frame: &Frame<Kept>,
+        frame: &Frame<Surroundings>,
         parts: &mut Vec<Part>,
     ) -> Result<(), Refusal>
         requires room { HasRoom (cpp_counted symbol.now) symbol.now self.old (owed_behind (cpp_counted symbol.now) frame.now parts.old.items) }

@@ -11,7 +11,7 @@ ghost use Rattle.cpp_link.specs.Reads.{with_candidate};
 ghost use Rattle.cpp_link.specs.View.{Holds, IsPaid, cpp_view};
 ghost use Rattle.cpp_link.specs.Room.{KeepsRoom, LacksRoom};
 
-use crate::part::{Candidate, Kept, Part};
+use crate::part::{Candidate, Part, Surroundings};
 use cpp_tree::Nodes;
 use std::alloc::Global;
 use sym_core::{Refusal, Span};
@@ -81,7 +81,7 @@ impl Linked {
     #[inline(always)]
     pub(crate) fn push_candidate(
         &mut self,
-        kept: Kept,
+        kept: Surroundings,
         node: u32,
         is_held: bool,
     ) -> Result<(), Refusal>
@@ -116,7 +116,7 @@ impl Linked {
     pub fn append(
         &mut self,
         symbol: &[u8],
-        kept: Kept,
+        kept: Surroundings,
         candidate: Option<u32>,
     ) -> Result<(), Refusal>
         requires candidate { IsThereBelow (length self.old.nodes.nodes) candidate }

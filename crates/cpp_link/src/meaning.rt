@@ -6,44 +6,44 @@ ghost use Rattle.cpp_term.specs.Meaning.{meaning, listed_value};
 ghost use Rattle.cpp_tree.specs.Nodes as nodes;
 ghost use Rattle.cpp_tree.specs.Nodes.{over, IsTable};
 ghost use Rattle.sym_core.specs.Number.{FitsSymbol};
-ghost use Rattle.cpp_link.specs.declared.part.Meant.{Meant};
+ghost use Rattle.cpp_link.specs.declared.part.Outcome.{Outcome};
 ghost use Rattle.cpp_link.specs.declared.part.Part.{Part};
 ghost use Rattle.cpp_tree.specs.declared.node.Node.{Node};
-ghost use Rattle.cpp_link.specs.Parts.{trees_in, value_of, values_in, around_of, meant_value, AreThere, IsMeantThere, IsPrefixThere, name_of};
+ghost use Rattle.cpp_link.specs.Parts.{trees_in, value_of, values_in, around_of, outcome_value, AreThere, IsOutcomeThere, IsPrefixThere, name_of};
 ghost use Rattle.cpp_link.specs.Closes.{ends_of};
 ghost use Rattle.cpp_link.specs.LinkReading.{link_meaning};
-ghost use Rattle.cpp_link.specs.Making.{IsCommon, IsRare, nodes_of_meant};
+ghost use Rattle.cpp_link.specs.Making.{IsCommon, IsRare, nodes_of_outcome};
 ghost use Rattle.cpp_link.specs.NodeCount.{makes_at_end};
 
 use crate::linked::Linked;
 use crate::numbers::{from_byte, local_number, normal, one_byte, signed_digits};
-use crate::part::{Kept, Meant, Part};
+use crate::part::{Outcome, Part, Surroundings};
 use cpp_grammar::production::Production;
 use cpp_tree::node::{Adjustment, Mark, Node, Piece, Qualifiers, Thunk};
 use cpp_tree::nodes::NIL;
 
 /// A node to come, which is a tree.
 #[inline(always)]
-pub fn made(node: Node, listed: bool) -> Meant
-    ensures { result ≡ Meant.Made node listed }
+pub fn made(node: Node, listed: bool) -> Outcome
+    ensures { result ≡ Outcome.Made node listed }
 {
-    Meant::Made { node, listed }
+    Outcome::Made { node, listed }
 }
 
 /// A tree that is there.
 #[inline(always)]
-pub fn tree(node: u32, listed: bool) -> Meant
-    ensures { result ≡ Meant.There node listed }
+pub fn tree(node: u32, listed: bool) -> Outcome
+    ensures { result ≡ Outcome.There node listed }
 {
-    Meant::There { node, listed }
+    Outcome::There { node, listed }
 }
 
 /// One more item before those of a signature.
 #[inline(always)]
-fn items(first: u32, rest: u32, mark: Mark) -> Meant
-    ensures { result ≡ Meant.Items (Node.Cell first rest) mark }
+fn items(first: u32, rest: u32, mark: Mark) -> Outcome
+    ensures { result ≡ Outcome.Items (Node.Cell first rest) mark }
 {
-    Meant::Items {
+    Outcome::Items {
         node: Node::Cell { first, rest },
         mark,
     }
@@ -51,18 +51,18 @@ fn items(first: u32, rest: u32, mark: Mark) -> Meant
 
 /// A piece of a name.
 #[inline(always)]
-fn piece(piece: Piece) -> Meant
-    ensures { result ≡ Meant.Given (Part.Piece piece) }
+fn piece(piece: Piece) -> Outcome
+    ensures { result ≡ Outcome.Given (Part.Piece piece) }
 {
-    Meant::Given(Part::Piece(piece))
+    Outcome::Given(Part::Piece(piece))
 }
 
 /// The type of these qualifiers.
 #[inline(always)]
-fn qualified(restrict: bool, volatile: bool, const_: bool, ty: u32) -> Meant
-    ensures { result ≡ Meant.Made (Node.Qualified (record { restrict = restrict; volatile = volatile; const_ = const_ }) ty) true }
+fn qualified(restrict: bool, volatile: bool, const_: bool, ty: u32) -> Outcome
+    ensures { result ≡ Outcome.Made (Node.Qualified (record { restrict = restrict; volatile = volatile; const_ = const_ }) ty) true }
 {
-    Meant::Made {
+    Outcome::Made {
         node: Node::Qualified {
             qualifiers: Qualifiers {
                 restrict,
@@ -78,74 +78,74 @@ fn qualified(restrict: bool, volatile: bool, const_: bool, ty: u32) -> Meant
 impl Linked {
     /// What a rare production that begins at a place stands for, given its parts. The stack frame has room for the locals of
     /// every arm.
-    #[tactic(auto, unfolding(crate::specs::LinkReading::link_meaning, cpp_term::specs::Meaning::meaning, cpp_term::specs::Meaning::qualified_by, cpp_term::specs::Meaning::listed_value, cpp_term::specs::Meaning::function_of, cpp_term::specs::Meaning::with_item, cpp_term::specs::Values::tree_of, cpp_term::specs::Values::is_there, crate::specs::Parts::around_of, crate::specs::Parts::meant_value, crate::specs::Parts::value_of, cpp_tree::specs::Nodes::tree_of, cpp_tree::specs::Nodes::piece_of, cpp_tree::specs::Nodes::thunk_of, cpp_tree::specs::Nodes::adjustment_of, crate::specs::Owed::made_at_end, crate::specs::Closes::ends_of, crate::specs::Making::nodes_of_meant, crate::specs::NodeCount::makes_at_end))]
+    #[tactic(auto, unfolding(crate::specs::LinkReading::link_meaning, cpp_term::specs::Meaning::meaning, cpp_term::specs::Meaning::qualified_by, cpp_term::specs::Meaning::listed_value, cpp_term::specs::Meaning::function_of, cpp_term::specs::Meaning::with_item, cpp_term::specs::Values::tree_of, cpp_term::specs::Values::is_there, crate::specs::Parts::around_of, crate::specs::Parts::outcome_value, crate::specs::Parts::value_of, cpp_tree::specs::Nodes::tree_of, cpp_tree::specs::Nodes::piece_of, cpp_tree::specs::Nodes::thunk_of, cpp_tree::specs::Nodes::adjustment_of, crate::specs::Owed::made_at_end, crate::specs::Closes::ends_of, crate::specs::Making::nodes_of_outcome, crate::specs::NodeCount::makes_at_end))]
     #[inline(never)]
-    pub fn meant_rare(
+    pub fn outcome_of_rare(
         &self,
         symbol: &[u8],
         production: Production,
         place: u32,
-        kept: Kept,
+        kept: Surroundings,
         parts: &[Part],
-    ) -> Meant
+    ) -> Outcome
         requires rare { IsRare production }
         requires fits { FitsSymbol symbol.now }
         requires place { place < length symbol.now }
         requires table { IsTable (over symbol.now self.now.nodes) }
         requires there { AreThere symbol.now (length self.now.nodes.nodes) parts.now }
         requires prefix { IsPrefixThere (length self.now.nodes.nodes) (name_of kept) }
-        ensures is { meant_value symbol.now self.now.nodes result ≡ link_meaning symbol.now production (slice_index symbol.now place) place (around_of (trees_in symbol.now self.now.nodes) kept) (values_in symbol.now self.now.nodes parts.now) }
-        ensures there { IsMeantThere symbol.now (length self.now.nodes.thunks) (length self.now.nodes.nodes) result }
-        ensures nodes { nodes_of_meant result ≤ ends_of production parts.now }
-        ensures makes { nodes_of_meant result ≡ makes_at_end production (values_in symbol.now self.now.nodes parts.now) }
+        ensures is { outcome_value symbol.now self.now.nodes result ≡ link_meaning symbol.now production (slice_index symbol.now place) place (around_of (trees_in symbol.now self.now.nodes) kept) (values_in symbol.now self.now.nodes parts.now) }
+        ensures there { IsOutcomeThere symbol.now (length self.now.nodes.thunks) (length self.now.nodes.nodes) result }
+        ensures nodes { nodes_of_outcome result ≤ ends_of production parts.now }
+        ensures makes { nodes_of_outcome result ≡ makes_at_end production (values_in symbol.now self.now.nodes parts.now) }
     {
         let byte = symbol[place as usize];
         match production {
             // <name> ::= <unscoped-name> | <unscoped-template-name> <template-args>, which begins with S
-            Production::NameWithS => Meant::Given(self.given(symbol, parts, 0)),
+            Production::NameWithS => Outcome::Given(self.given(symbol, parts, 0)),
             // <unqualified-name> ::= <unnamed-type-name>
-            Production::LocalTypePiece => Meant::Given(self.given(symbol, parts, 0)),
+            Production::LocalTypePiece => Outcome::Given(self.given(symbol, parts, 0)),
             // <unqualified-name> ::= <operator-name>
-            Production::OperatorPiece => Meant::Given(self.given(symbol, parts, 0)),
+            Production::OperatorPiece => Outcome::Given(self.given(symbol, parts, 0)),
             // <prefix> ::= <template-param>
-            Production::NestParameter => Meant::Given(self.given(symbol, parts, 1)),
+            Production::NestParameter => Outcome::Given(self.given(symbol, parts, 1)),
             // <prefix> ::= <prefix> L <source-name>
-            Production::NestInternal => Meant::Given(self.given(symbol, parts, 1)),
+            Production::NestInternal => Outcome::Given(self.given(symbol, parts, 1)),
             // <prefix> ::= <prefix> <unnamed-type-name>
-            Production::NestLocalType => Meant::Given(self.given(symbol, parts, 1)),
+            Production::NestLocalType => Outcome::Given(self.given(symbol, parts, 1)),
             // <prefix> ::= <prefix> <abi-tags>
-            Production::NestTag => Meant::Given(self.given(symbol, parts, 1)),
+            Production::NestTag => Outcome::Given(self.given(symbol, parts, 1)),
             // <unqualified-name> ::= <unqualified-name> <abi-tags>, perhaps with <template-args>
             Production::Tag => self.in_place(symbol, parts),
             // <unqualified-name> ::= <unqualified-name> <abi-tags>, in std as a type
             Production::TypeTag => self.in_place(symbol, parts),
             // <prefix> ::= St <unqualified-name>
-            Production::NestStd => Meant::Given(self.given(symbol, parts, 2)),
+            Production::NestStd => Outcome::Given(self.given(symbol, parts, 2)),
             // <prefix> ::= <template-prefix> <template-args>
-            Production::NestArguments => Meant::Given(self.given(symbol, parts, 3)),
+            Production::NestArguments => Outcome::Given(self.given(symbol, parts, 3)),
             // <nested-name> ::= N [<CV-qualifiers>] [<ref-qualifier>] <template-prefix> <template-args> E, or <prefix> likewise
-            Production::NestInstance => Meant::Given(self.given(symbol, parts, 2)),
+            Production::NestInstance => Outcome::Given(self.given(symbol, parts, 2)),
             // <prefix> ::= <data-member-prefix> <unqualified-name>, with <data-member-prefix> ::= <prefix> M
-            Production::Holder => Meant::Given(self.given(symbol, parts, 1)),
+            Production::Holder => Outcome::Given(self.given(symbol, parts, 1)),
             // <discriminator> ::= _ <digit> | __ <number> _
-            Production::Discriminator => Meant::Given(self.given(symbol, parts, 0)),
+            Production::Discriminator => Outcome::Given(self.given(symbol, parts, 0)),
             // <template-arg> ::= <type>
-            Production::ItemIsType => Meant::Given(self.given(symbol, parts, 0)),
+            Production::ItemIsType => Outcome::Given(self.given(symbol, parts, 0)),
             // <expr-primary> ::= L <type> <value number> E, whose type begins with D
-            Production::LiteralWithD => Meant::Given(self.given(symbol, parts, 0)),
+            Production::LiteralWithD => Outcome::Given(self.given(symbol, parts, 0)),
             // <ref-qualifier> ::= R | O, before the E of a function type
-            Production::RefEnd => Meant::Given(Part::Nothing),
+            Production::RefEnd => Outcome::Given(Part::Nothing),
             // <call-offset> ::= h <nv-offset> _
-            Production::NonVirtualOffset => Meant::Given(Part::Adjusted(Adjustment::NonVirtual(
+            Production::NonVirtualOffset => Outcome::Given(Part::Adjusted(Adjustment::NonVirtual(
                 self.signed(symbol, parts, 0),
             ))),
             // <call-offset> ::= v <offset number> _ <virtual offset number> _
-            Production::VirtualOffset => Meant::Given(Part::Adjusted(Adjustment::ByTable(
+            Production::VirtualOffset => Outcome::Given(Part::Adjusted(Adjustment::ByTable(
                 self.signed(symbol, parts, 0),
                 self.signed(symbol, parts, 2),
             ))),
             // <function-type> ::= F .. E, without a <ref-qualifier>
-            Production::RestEnd => Meant::Given(Part::Signature {
+            Production::RestEnd => Outcome::Given(Part::Signature {
                 list: NIL,
                 mark: Mark::Any,
             }),
@@ -168,7 +168,7 @@ impl Linked {
                 true,
             ),
             // <special-name> ::= GV <object name> | GTt <encoding> | GTn <encoding>
-            Production::OtherSpecial => Meant::Given(self.given(symbol, parts, 1)),
+            Production::OtherSpecial => Outcome::Given(self.given(symbol, parts, 1)),
             // <special-name> ::= GTt <encoding> | GTn <encoding>, after the G
             Production::Clone => made(
                 Node::CloneOf {
@@ -187,12 +187,12 @@ impl Linked {
                 true,
             ),
             // <special-name> ::= T <call-offset> <base encoding>, with <call-offset> ::= h <nv-offset> _
-            Production::NonVirtualThunk => Meant::Thunk {
+            Production::NonVirtualThunk => Outcome::Thunk {
                 thunk: Thunk::Adjusting(Adjustment::NonVirtual(self.signed(symbol, parts, 0))),
                 encoding: self.tree(symbol, parts, 2),
             },
             // <special-name> ::= T <call-offset> <base encoding>, with <call-offset> ::= v <v-offset> _
-            Production::VirtualThunk => Meant::Thunk {
+            Production::VirtualThunk => Outcome::Thunk {
                 thunk: Thunk::Adjusting(Adjustment::ByTable(
                     self.signed(symbol, parts, 0),
                     self.signed(symbol, parts, 2),
@@ -200,7 +200,7 @@ impl Linked {
                 encoding: self.tree(symbol, parts, 4),
             },
             // <special-name> ::= Tc <call-offset> <call-offset> <base encoding>
-            Production::CovariantThunk => Meant::Thunk {
+            Production::CovariantThunk => Outcome::Thunk {
                 thunk: Thunk::Covariant(
                     self.adjusted(symbol, parts, 0),
                     self.adjusted(symbol, parts, 1),
@@ -260,9 +260,9 @@ impl Linked {
             // <type> ::= C <type>
             Production::Complex => made(Node::Complex(self.tree(symbol, parts, 0)), false),
             // <array-type> ::= A <number> _ <element type> | A <expression> _ <element type>
-            Production::ArrayType => Meant::Given(self.given(symbol, parts, 0)),
+            Production::ArrayType => Outcome::Given(self.given(symbol, parts, 0)),
             // <array-type>, after the A
-            Production::AnyArray => Meant::Given(self.given(symbol, parts, 0)),
+            Production::AnyArray => Outcome::Given(self.given(symbol, parts, 0)),
             // <array-type> ::= A <number> _ <element type>, after the A
             Production::LengthArray => made(
                 Node::Array {
@@ -340,27 +340,27 @@ impl Linked {
             // <template-arg> ::= <template-param-decl> <template-arg>, after the T
             Production::DeclaredArgument => tree(self.tree(symbol, parts, 1), true),
             // <template-arg> ::= <expr-primary>
-            Production::OneLiteral => Meant::Given(self.given(symbol, parts, 0)),
+            Production::OneLiteral => Outcome::Given(self.given(symbol, parts, 0)),
             // <template-arg> ::= J <template-arg>* E, after a <template-param-decl>
             Production::OnePack => made(Node::Pack(self.list(symbol, parts, 0)), true),
             // <template-param-decl> ::= Ty
-            Production::AnyType => Meant::Given(Part::Letter(byte)),
+            Production::AnyType => Outcome::Given(Part::Letter(byte)),
             // <template-param-decl> ::= Tn <type>
-            Production::ValueOf => Meant::Given(Part::Letter(byte)),
+            Production::ValueOf => Outcome::Given(Part::Letter(byte)),
             // <template-param-decl> ::= Tk <concept name>
-            Production::OfConcept => Meant::Given(Part::Letter(byte)),
+            Production::OfConcept => Outcome::Given(Part::Letter(byte)),
             // <template-param-decl> ::= Tt <template-param-decl>* E
-            Production::TemplateOf => Meant::Given(Part::Letter(byte)),
+            Production::TemplateOf => Outcome::Given(Part::Letter(byte)),
             // <template-param-decl> ::= Tp <non-pack template-param-decl>
-            Production::PackOf => Meant::Given(Part::Letter(byte)),
+            Production::PackOf => Outcome::Given(Part::Letter(byte)),
             // <template-param-decl>*
-            Production::Declarations => Meant::Given(Part::Letter(byte)),
+            Production::Declarations => Outcome::Given(Part::Letter(byte)),
             // X <expression> E
-            Production::Expression => Meant::Given(self.given(symbol, parts, 0)),
+            Production::Expression => Outcome::Given(self.given(symbol, parts, 0)),
             // <expression> ::= ad <expression>, after the a
-            Production::AddressExpression => Meant::Given(self.given(symbol, parts, 1)),
+            Production::AddressExpression => Outcome::Given(self.given(symbol, parts, 1)),
             // <expression> ::= <template-param>
-            Production::ParameterExpression => Meant::Given(self.given(symbol, parts, 0)),
+            Production::ParameterExpression => Outcome::Given(self.given(symbol, parts, 0)),
             // <type> ::= R <type>, a parameter, and those after it
             Production::LvalueItem => items(
                 self.tree(symbol, parts, 0),
@@ -402,7 +402,7 @@ impl Linked {
             // <expr-primary> ::= LDn [0] E
             Production::NullLiteral => made(Node::NullPointer, true),
             // <expr-primary> ::= L <type> <value number> E, of char8_t, char16_t or char32_t
-            Production::CharLiteral => Meant::Character {
+            Production::CharLiteral => Outcome::Character {
                 letter: byte,
                 value: self.signed(symbol, parts, 0),
             },
@@ -415,7 +415,7 @@ impl Linked {
             // <unqualified-name> ::= <operator-name>, within a nested name, without a c in front and after one
             Production::OtherOperatorName => self.applied(symbol, parts, false),
             Production::OperatorNameWithC => self.applied(symbol, parts, false),
-            Production::ComponentWithC => Meant::Given(self.given(symbol, parts, 0)),
+            Production::ComponentWithC => Outcome::Given(self.given(symbol, parts, 0)),
             // <operator-name> ::= cv <type>
             Production::Conversion => made(
                 self.extended(
@@ -467,7 +467,7 @@ impl Linked {
                 false,
             ),
             // <local-name> ::= Z <function encoding> E <entity name> [<discriminator>]
-            Production::LocalName => Meant::Entity {
+            Production::LocalName => Outcome::Entity {
                 node: Node::Local {
                     encoding: self.tree(symbol, parts, 0),
                     entity: self.tree(symbol, parts, 2),
@@ -503,19 +503,19 @@ impl Linked {
                 true,
             ),
             // <discriminator> ::= _ <digit>
-            Production::OneDigit => Meant::Given(Part::Text(one_byte(symbol, place))),
+            Production::OneDigit => Outcome::Given(Part::Text(one_byte(symbol, place))),
             // <discriminator> ::= __ <number> _
-            Production::ManyDigits => Meant::Given(Part::Text(normal(
+            Production::ManyDigits => Outcome::Given(Part::Text(normal(
                 symbol,
                 self.text(symbol, parts, 0),
             ))),
             // <number> ::= [n] <decimal integer>
-            Production::Negative => Meant::Given(Part::Signed(signed_digits(
+            Production::Negative => Outcome::Given(Part::Signed(signed_digits(
                 symbol,
                 true,
                 self.text(symbol, parts, 0),
             ))),
-            Production::Positive => Meant::Given(Part::Signed(signed_digits(
+            Production::Positive => Outcome::Given(Part::Signed(signed_digits(
                 symbol,
                 false,
                 self.text(symbol, parts, 0),
@@ -536,12 +536,12 @@ impl Linked {
                 self.text(symbol, parts, 0),
             ))),
             // <mangled-name> ::= _Z <encoding> . <vendor-specific suffix>
-            Production::Suffix => Meant::Given(Part::Text(from_byte(
+            Production::Suffix => Outcome::Given(Part::Text(from_byte(
                 symbol,
                 place,
                 self.text(symbol, parts, 0),
             ))),
-            Production::SuffixByte => Meant::Given(Part::Text(from_byte(
+            Production::SuffixByte => Outcome::Given(Part::Text(from_byte(
                 symbol,
                 place,
                 self.text(symbol, parts, 0),
@@ -579,16 +579,16 @@ impl Linked {
     }
 
     /// What a common production that begins at a place stands for, given its parts.
-    #[tactic(auto, unfolding(cpp_term::specs::Meaning::meaning, cpp_term::specs::Meaning::qualified_by, cpp_term::specs::Meaning::listed_value, cpp_term::specs::Meaning::function_of, cpp_term::specs::Meaning::with_item, cpp_term::specs::Values::tree_of, cpp_term::specs::Values::is_there, crate::specs::Parts::around_of, crate::specs::Parts::meant_value, crate::specs::Parts::value_of, cpp_tree::specs::Nodes::tree_of, cpp_tree::specs::Nodes::piece_of, cpp_tree::specs::Nodes::thunk_of, cpp_tree::specs::Nodes::adjustment_of, crate::specs::Owed::made_at_end, crate::specs::Closes::ends_of, crate::specs::Making::nodes_of_meant, crate::specs::NodeCount::makes_at_end))]
+    #[tactic(auto, unfolding(cpp_term::specs::Meaning::meaning, cpp_term::specs::Meaning::qualified_by, cpp_term::specs::Meaning::listed_value, cpp_term::specs::Meaning::function_of, cpp_term::specs::Meaning::with_item, cpp_term::specs::Values::tree_of, cpp_term::specs::Values::is_there, crate::specs::Parts::around_of, crate::specs::Parts::outcome_value, crate::specs::Parts::value_of, cpp_tree::specs::Nodes::tree_of, cpp_tree::specs::Nodes::piece_of, cpp_tree::specs::Nodes::thunk_of, cpp_tree::specs::Nodes::adjustment_of, crate::specs::Owed::made_at_end, crate::specs::Closes::ends_of, crate::specs::Making::nodes_of_outcome, crate::specs::NodeCount::makes_at_end))]
     #[inline(always)]
-    pub fn meant(
+    pub fn outcome(
         &self,
         symbol: &[u8],
         production: Production,
         place: u32,
-        kept: Kept,
+        kept: Surroundings,
         parts: &[Part],
-    ) -> Meant
+    ) -> Outcome
         requires common { IsCommon production }
         requires fits { FitsSymbol symbol.now }
         requires place { place < length symbol.now }
@@ -596,25 +596,25 @@ impl Linked {
         requires few { length self.now.nodes.nodes < 2 ^ 32 }
         requires there { AreThere symbol.now (length self.now.nodes.nodes) parts.now }
         requires prefix { IsPrefixThere (length self.now.nodes.nodes) (name_of kept) }
-        ensures is { meant_value symbol.now self.now.nodes result ≡ meaning production (slice_index symbol.now place) (around_of (trees_in symbol.now self.now.nodes) kept) (values_in symbol.now self.now.nodes parts.now) }
-        ensures there { IsMeantThere symbol.now (length self.now.nodes.thunks) (length self.now.nodes.nodes) result }
-        ensures nodes { nodes_of_meant result ≤ ends_of production parts.now }
-        ensures makes { nodes_of_meant result ≡ makes_at_end production (values_in symbol.now self.now.nodes parts.now) }
+        ensures is { outcome_value symbol.now self.now.nodes result ≡ meaning production (slice_index symbol.now place) (around_of (trees_in symbol.now self.now.nodes) kept) (values_in symbol.now self.now.nodes parts.now) }
+        ensures there { IsOutcomeThere symbol.now (length self.now.nodes.thunks) (length self.now.nodes.nodes) result }
+        ensures nodes { nodes_of_outcome result ≤ ends_of production parts.now }
+        ensures makes { nodes_of_outcome result ≡ makes_at_end production (values_in symbol.now self.now.nodes parts.now) }
     {
         let byte = symbol[place as usize];
         match production {
             // <prefix> ::= <substitution>
-            Production::NestWithS => Meant::Given(self.given(symbol, parts, 0)),
+            Production::NestWithS => Outcome::Given(self.given(symbol, parts, 0)),
             // <prefix> ::= <source-name>
-            Production::NestSource => Meant::Given(self.given(symbol, parts, 1)),
+            Production::NestSource => Outcome::Given(self.given(symbol, parts, 1)),
             // <prefix> ::= <substitution>, and what is within it, or <template-prefix> ::= <substitution>, and its arguments
-            Production::NestTemplate => Meant::Given(self.given(symbol, parts, 1)),
+            Production::NestTemplate => Outcome::Given(self.given(symbol, parts, 1)),
             // <prefix> ::= <prefix> <unqualified-name>
-            Production::NestNext => Meant::Given(self.given(symbol, parts, 1)),
+            Production::NestNext => Outcome::Given(self.given(symbol, parts, 1)),
             // <class-enum-type> ::= <nested-name>
-            Production::NestedType => Meant::Given(self.given(symbol, parts, 0)),
+            Production::NestedType => Outcome::Given(self.given(symbol, parts, 0)),
             // <type> ::= <substitution>
-            Production::AbbreviatedType => Meant::Given(self.given(symbol, parts, 0)),
+            Production::AbbreviatedType => Outcome::Given(self.given(symbol, parts, 0)),
             // <mangled-name> ::= _Z <encoding> [. <vendor-specific suffix>]
             Production::Symbol => made(
                 Node::Whole {
@@ -652,7 +652,7 @@ impl Linked {
             // <type> ::= <substitution> [<template-args>]
             Production::TypeWithS => self.applied(symbol, parts, self.listed(symbol, parts, 0)),
             // <nested-name> ::= N [<CV-qualifiers>] [<ref-qualifier>] <prefix> <unqualified-name> E
-            Production::NestedName => Meant::Given(Part::Named {
+            Production::NestedName => Outcome::Given(Part::Named {
                 node: self.tree(symbol, parts, 4),
                 qualifiers: Qualifiers {
                     restrict: self.there(symbol, parts, 0),
@@ -673,20 +673,20 @@ impl Linked {
             Production::ConstType => qualified(false, false, true, self.tree(symbol, parts, 0)),
             // <qualified-type> ::= <qualifiers> <type>
             Production::QualifiedPlain => tree(self.tree(symbol, parts, 0), true),
-            Production::Mark => Meant::Given(Part::Letter(byte)),
+            Production::Mark => Outcome::Given(Part::Letter(byte)),
             // <unqualified-name> ::= <source-name>
             Production::SourcePiece => piece(Piece::Source {
                 internal: false,
                 bytes: self.text(symbol, parts, 0),
             }),
             // <unscoped-name> ::= St <unqualified-name>, as a type
-            Production::TypeInStd => Meant::Given(self.given(symbol, parts, 0)),
+            Production::TypeInStd => Outcome::Given(self.given(symbol, parts, 0)),
             // <unscoped-name> ::= St <unqualified-name>, as a type, perhaps with <abi-tags>
             Production::TaggedStdType => self.applied(symbol, parts, false),
             // <encoding> ::= <special-name>
-            Production::Special => Meant::Given(self.given(symbol, parts, 0)),
+            Production::Special => Outcome::Given(self.given(symbol, parts, 0)),
             // <substitution> ::= S_ | S <seq-id> _
-            Production::Substitution => Meant::Given(Part::Nothing),
+            Production::Substitution => Outcome::Given(Part::Nothing),
             _ => unreachable!(),
         }
     }

@@ -13,7 +13,7 @@ ghost use Rattle.cpp_link.specs.Stepping.{nodes_of_step};
 ghost use Rattle.cpp_link.specs.Reads.{goes_on};
 
 use crate::linked::Linked;
-use crate::part::{Kept, Step};
+use crate::part::{Step, Surroundings};
 use cpp_references::parameters::named_parameter;
 use sym_core::{Refusal, Span};
 
@@ -26,7 +26,7 @@ impl Linked {
     pub fn parameter(
         &self,
         symbol: &[u8],
-        kept: Kept,
+        kept: Surroundings,
         place: u32,
         digits: Span,
     ) -> Result<Step, Refusal>
@@ -61,7 +61,7 @@ impl Linked {
     pub fn parameter_argument(
         &self,
         symbol: &[u8],
-        kept: Kept,
+        kept: Surroundings,
         place: u32,
         digits: Span,
     ) -> Result<Step, Refusal>

@@ -1,6 +1,6 @@
 // What the parts of a symbol stand for, in terms of nodes, and what is kept of what surrounds them.
 
-pub use cpp_references::around::{Kept, Naming, Prefix, Scope};
+pub use cpp_references::around::{Naming, Prefix, Scope, Surroundings};
 pub use cpp_references::candidates::Candidate;
 use cpp_tree::node::{Adjustment, Mark, Node, Piece, Qualifiers, Signed, Thunk};
 use sym_core::Span;
@@ -31,7 +31,7 @@ pub enum Part {
 
 /// What a production stands for: a part, or one whose node isn't there yet.
 #[derive(Clone, Copy)]
-pub enum Meant {
+pub enum Outcome {
     Given(Part),
     There {
         node: u32,
@@ -71,7 +71,7 @@ pub enum Step {
     /// A tree becomes a candidate or none does, and this surrounds the part.
     Go {
         candidate: Option<u32>,
-        then: Kept,
+        then: Surroundings,
         packs: Option<u32>,
     },
     /// A node that is there is what the first part is now. It may come before the next part as the name so far.
@@ -92,7 +92,7 @@ pub enum Step {
 
 /// What comes after a rule: a tree that becomes a candidate or none, and the length of the packs.
 #[derive(Clone, Copy)]
-pub struct Behind {
+pub struct AfterRule {
     pub candidate: Option<u32>,
     pub packs: Option<u32>,
 }

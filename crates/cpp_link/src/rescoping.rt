@@ -14,7 +14,7 @@ ghost use Rattle.cpp_grammar.specs.declared.production.Production.{Production as
 ghost use Rattle.cpp_grammar.specs.Rescoping.{generic_number};
 ghost use Rattle.cpp_grammar.specs.Unfolding.{production_at};
 ghost use Rattle.cpp_term.specs.Values as values;
-ghost use Rattle.cpp_term.specs.Rescoping.{is_foreign, restated, substituted_wide, with_own};
+ghost use Rattle.cpp_term.specs.Rescoping.{is_foreign, restated, substituted_wide, as_generic_lambda};
 ghost use Rattle.cpp_tree.specs.Nodes.{over, tree_at, bytes_at, piece_of, IsPieceBelow, IsWithin, IsTable};
 ghost use Rattle.cpp_link.specs.declared.part.Part.TheVariants as variants;
 ghost use Rattle.cpp_link.specs.Grows.{HasPlace};
@@ -30,7 +30,7 @@ ghost use Rattle.cpp_link.specs.View.{IsPaid, IsWhole, Surrounds, cpp_view};
 
 use crate::dispatch::production_of;
 use crate::linked::Linked;
-use crate::part::{Candidate, Kept, Part, Step};
+use crate::part::{Candidate, Part, Step, Surroundings};
 use cpp_grammar::production::Production;
 use cpp_references::candidates::substituted;
 use cpp_references::elsewhere::argument_here;
@@ -124,7 +124,7 @@ pub fn is_lambda_production(production: Production) -> bool
 impl Linked {
     /// The parameter of the lambda in whose signature it is, with these digits (ABI 5.1.8). It may be an argument itself.
     #[tactic(auto, unfolding(crate::specs::LinkRescoping::generic_read, cpp_term::specs::Rescoping::generic_so_far, cpp_term::specs::Between::listed_so_far, crate::specs::Reads::goes_on, crate::specs::Reads::behind_first, crate::specs::Reads::named_if, crate::specs::Reads::appended_if, cpp_tree::specs::Nodes::tree_of))]
-    fn generic(&self, symbol: &[u8], kept: Kept, digits: Span, is_argument: bool) -> Step
+    fn generic(&self, symbol: &[u8], kept: Surroundings, digits: Span, is_argument: bool) -> Step
         requires table { IsTable (over symbol.now self.now.nodes) }
         requires digits { IsWithin digits symbol.now }
         ensures is { (v : values.Value) (cs : List values.Candidate) → generic_read is_argument (around_of (trees_in symbol.now self.now.nodes) kept) (counted_value kinds.Decimal (bytes_at symbol.now digits)) (record { candidates = cs; packs = self.now.packs })
@@ -158,7 +158,7 @@ impl Linked {
 
     /// Whether a candidate's free parameters may stand for others here than where it was made.
     #[tactic(auto, unfolding(cpp_term::specs::Rescoping::is_foreign, crate::specs::Parts::around_of))]
-    fn is_foreign(&self, symbol: &[u8], kept: Kept, candidate: Candidate) -> bool
+    fn is_foreign(&self, symbol: &[u8], kept: Surroundings, candidate: Candidate) -> bool
         requires table { IsTable (over symbol.now self.now.nodes) }
         requires below { candidate.node < length self.now.nodes.nodes }
         ensures { result ≡ is_foreign (around_of (trees_in symbol.now self.now.nodes) kept) (candidate_of (trees_in symbol.now self.now.nodes) candidate) }
@@ -173,7 +173,13 @@ impl Linked {
     /// # Errors
     ///
     /// Those of `argument_here`, and `Memory` where the nodes couldn't grow.
-    fn restate(&mut self, symbol: &[u8], kept: Kept, place: u32, node: u32) -> Result<Part, Refusal>
+    fn restate(
+        &mut self,
+        symbol: &[u8],
+        kept: Surroundings,
+        place: u32,
+        node: u32,
+    ) -> Result<Part, Refusal>
         requires whole { IsWhole symbol.now self.old }
         requires paid { IsPaid self.old }
         requires below { node < length self.old.nodes.nodes }
@@ -193,7 +199,7 @@ impl Linked {
     {
         match argument_here(&self.nodes, symbol, kept, place, node, self.packs) {
             Ok((argument, packs)) => {
-                let again = Node::Again {
+                let again = Node::Reargued {
                     tree: node,
                     argument,
                 };
@@ -215,7 +221,7 @@ impl Linked {
         &mut self,
         symbol: &[u8],
         place: u32,
-        kept: Kept,
+        kept: Surroundings,
         parts: &[Part],
     ) -> Result<Part, Refusal>
         requires whole { IsWhole symbol.now self.old }
@@ -256,12 +262,12 @@ impl Linked {
     /// # Errors
     ///
     /// `Memory` where a list couldn't grow.
-    pub fn go_generic(
+    pub fn before_generic(
         &mut self,
         symbol: &[u8],
-        frame: &Frame<Kept>,
+        frame: &Frame<Surroundings>,
         parts: &mut Vec<Part>,
-    ) -> Result<Kept, Refusal>
+    ) -> Result<Surroundings, Refusal>
         requires parameter { is_parameter (production_at frame.now.rule) ≡ true }
         requires signature { is_lambda frame.now.kept.scope ≡ true }
         requires second { length parts.old.items ≡ frame.now.base + 1 }
@@ -290,7 +296,7 @@ impl Linked {
     pub fn finish_substitution(
         &mut self,
         symbol: &[u8],
-        frame: &Frame<Kept>,
+        frame: &Frame<Surroundings>,
         parts: &mut Vec<Part>,
     ) -> Result<(), Refusal>
         requires substitution { production_at frame.now.rule ≡ productions.Substitution }
@@ -312,10 +318,10 @@ impl Linked {
     /// The piece itself, but for a lambda in whose signature parameters are free: that has parameters of its own (ABI 5.1.8).
     // <closure-type-name> ::= Ul <lambda-sig> E [ <nonnegative number> ] _
     #[tactic(auto, unfolding(cpp_tree::specs::Nodes::piece_of))]
-    fn own_piece(&self, symbol: &[u8], piece: Piece) -> Piece
+    fn piece_as_generic_lambda(&self, symbol: &[u8], piece: Piece) -> Piece
         requires table { IsTable (over symbol.now self.now.nodes) }
         requires there { IsPieceBelow symbol.now (length self.now.nodes.nodes) piece }
-        ensures is { values.piece (piece_of symbol.now (trees_in symbol.now self.now.nodes) result) ≡ with_own (values.piece (piece_of symbol.now (trees_in symbol.now self.now.nodes) piece)) }
+        ensures is { values.piece (piece_of symbol.now (trees_in symbol.now self.now.nodes) result) ≡ as_generic_lambda (values.piece (piece_of symbol.now (trees_in symbol.now self.now.nodes) piece)) }
         ensures there { IsPieceBelow symbol.now (length self.now.nodes.nodes) result }
     {
         match piece {
@@ -329,16 +335,16 @@ impl Linked {
         }
     }
 
-    /// The part, as `own_piece` has it where it is a piece.
+    /// The part, as `piece_as_generic_lambda` has it where it is a piece.
     #[tactic(auto, unfolding(crate::specs::Parts::value_of))]
-    fn with_own(&self, symbol: &[u8], part: Part) -> Part
+    fn as_generic_lambda(&self, symbol: &[u8], part: Part) -> Part
         requires table { IsTable (over symbol.now self.now.nodes) }
         requires there { IsThere symbol.now (length self.now.nodes.nodes) part }
-        ensures value { value_in symbol.now self.now.nodes result ≡ with_own (value_in symbol.now self.now.nodes part) }
+        ensures value { value_in symbol.now self.now.nodes result ≡ as_generic_lambda (value_in symbol.now self.now.nodes part) }
         ensures there { IsThere symbol.now (length self.now.nodes.nodes) result }
     {
         match part {
-            Part::Piece(piece) => Part::Piece(self.own_piece(symbol, piece)),
+            Part::Piece(piece) => Part::Piece(self.piece_as_generic_lambda(symbol, piece)),
             _ => part,
         }
     }
@@ -351,7 +357,7 @@ impl Linked {
     pub fn finish_lambda(
         &mut self,
         symbol: &[u8],
-        frame: &Frame<Kept>,
+        frame: &Frame<Surroundings>,
         parts: &mut Vec<Part>,
     ) -> Result<(), Refusal>
         requires lambda { production_at frame.now.rule ≡ productions.Lambda }
@@ -373,7 +379,7 @@ impl Linked {
             frame.kept,
             &parts[frame.base..],
         )?;
-        put(parts, frame.base, self.with_own(symbol, made))?;
+        put(parts, frame.base, self.as_generic_lambda(symbol, made))?;
         Ok(())
     }
 }

@@ -14,14 +14,14 @@ ghost use Rattle.cpp_tree.specs.declared.node.Thunk as thunks;
 ghost use Rattle.cpp_tree.specs.Nodes.{over, IsTable, IsSpan, IsPieceBelow, IsBelow};
 ghost use Rattle.cpp_link.specs.Closes.{name_closes};
 ghost use Rattle.cpp_link.specs.LinkReading.{in_64_bits};
-ghost use Rattle.cpp_link.specs.Making.{nodes_of_meant};
+ghost use Rattle.cpp_link.specs.Making.{nodes_of_outcome};
 ghost use Rattle.cpp_link.specs.NodeCount.{name_at_end, lambda_at_end};
-ghost use Rattle.cpp_link.specs.Parts.{trees_in, tree_of_node, value_of, value_in, values_in, prefix_of, meant_value, IsThere, AreThere, IsMeantThere, IsPrefixThere};
+ghost use Rattle.cpp_link.specs.Parts.{trees_in, tree_of_node, value_of, value_in, values_in, prefix_of, outcome_value, IsThere, AreThere, IsOutcomeThere, IsPrefixThere};
 
 use crate::linked::Linked;
 use crate::meaning::{made, tree};
 use crate::numbers::{local_number, normal};
-use crate::part::{Meant, Part, Prefix};
+use crate::part::{Outcome, Part, Prefix};
 use crate::values::part;
 use cpp_tree::node::{Mark, Node, Piece, Qualifiers};
 use cpp_tree::nodes::{ABSENT, NIL};
@@ -74,15 +74,15 @@ impl Linked {
     }
 
     /// A name, with arguments where there are some.
-    #[tactic(auto, unfolding(cpp_term::specs::Between::applied, crate::specs::Parts::meant_value, crate::specs::Parts::value_of, cpp_tree::specs::Nodes::tree_of, crate::specs::Making::nodes_of_meant, crate::specs::NodeCount::name_at_end, crate::specs::NodeCount::one_if_arguments, crate::specs::NodeCount::one_if_there))]
-    pub fn applied(&self, symbol: &[u8], parts: &[Part], listed: bool) -> Meant
+    #[tactic(auto, unfolding(cpp_term::specs::Between::applied, crate::specs::Parts::outcome_value, crate::specs::Parts::value_of, cpp_tree::specs::Nodes::tree_of, crate::specs::Making::nodes_of_outcome, crate::specs::NodeCount::name_at_end, crate::specs::NodeCount::one_if_arguments, crate::specs::NodeCount::one_if_there))]
+    pub fn applied(&self, symbol: &[u8], parts: &[Part], listed: bool) -> Outcome
         requires table { IsTable (over symbol.now self.now.nodes) }
         requires there { AreThere symbol.now (length self.now.nodes.nodes) parts.now }
-        ensures is { meant_value symbol.now self.now.nodes result ≡ values.tree (applied (tree_of (part (values_in symbol.now self.now.nodes parts.now) 0)) (part (values_in symbol.now self.now.nodes parts.now) 1)) (listed && not (is_there (part (values_in symbol.now self.now.nodes parts.now) 1))) }
-        ensures there { IsMeantThere symbol.now (length self.now.nodes.thunks) (length self.now.nodes.nodes) result }
-        ensures nodes { nodes_of_meant result ≤ 1 }
-        ensures named { nodes_of_meant result ≤ name_closes parts.now }
-        ensures makes { nodes_of_meant result ≡ name_at_end (values_in symbol.now self.now.nodes parts.now) }
+        ensures is { outcome_value symbol.now self.now.nodes result ≡ values.tree (applied (tree_of (part (values_in symbol.now self.now.nodes parts.now) 0)) (part (values_in symbol.now self.now.nodes parts.now) 1)) (listed && not (is_there (part (values_in symbol.now self.now.nodes parts.now) 1))) }
+        ensures there { IsOutcomeThere symbol.now (length self.now.nodes.thunks) (length self.now.nodes.nodes) result }
+        ensures nodes { nodes_of_outcome result ≤ 1 }
+        ensures named { nodes_of_outcome result ≤ name_closes parts.now }
+        ensures makes { nodes_of_outcome result ≡ name_at_end (values_in symbol.now self.now.nodes parts.now) }
     {
         let name = self.tree(symbol, parts, 0);
         let behind = self.given(symbol, parts, 1);
@@ -100,14 +100,14 @@ impl Linked {
     }
 
     /// The same of a name with a tag, which takes the place of the name without it.
-    #[tactic(auto, unfolding(cpp_term::specs::Between::applied, cpp_term::specs::Values::tree_of, cpp_term::specs::Values::is_there, crate::specs::Parts::meant_value, crate::specs::Parts::value_of, cpp_tree::specs::Nodes::tree_of, crate::specs::Making::nodes_of_meant, crate::specs::NodeCount::name_at_end, crate::specs::NodeCount::one_if_arguments, crate::specs::NodeCount::one_if_there))]
-    pub fn in_place(&self, symbol: &[u8], parts: &[Part]) -> Meant
+    #[tactic(auto, unfolding(cpp_term::specs::Between::applied, cpp_term::specs::Values::tree_of, cpp_term::specs::Values::is_there, crate::specs::Parts::outcome_value, crate::specs::Parts::value_of, cpp_tree::specs::Nodes::tree_of, crate::specs::Making::nodes_of_outcome, crate::specs::NodeCount::name_at_end, crate::specs::NodeCount::one_if_arguments, crate::specs::NodeCount::one_if_there))]
+    pub fn in_place(&self, symbol: &[u8], parts: &[Part]) -> Outcome
         requires table { IsTable (over symbol.now self.now.nodes) }
         requires there { AreThere symbol.now (length self.now.nodes.nodes) parts.now }
-        ensures is { meant_value symbol.now self.now.nodes result ≡ values.named (applied (tree_of (part (values_in symbol.now self.now.nodes parts.now) 0)) (part (values_in symbol.now self.now.nodes parts.now) 1)) unqualified any_value }
-        ensures there { IsMeantThere symbol.now (length self.now.nodes.thunks) (length self.now.nodes.nodes) result }
-        ensures named { nodes_of_meant result ≤ name_closes parts.now }
-        ensures makes { nodes_of_meant result ≡ name_at_end (values_in symbol.now self.now.nodes parts.now) }
+        ensures is { outcome_value symbol.now self.now.nodes result ≡ values.named (applied (tree_of (part (values_in symbol.now self.now.nodes parts.now) 0)) (part (values_in symbol.now self.now.nodes parts.now) 1)) unqualified any_value }
+        ensures there { IsOutcomeThere symbol.now (length self.now.nodes.thunks) (length self.now.nodes.nodes) result }
+        ensures named { nodes_of_outcome result ≤ name_closes parts.now }
+        ensures makes { nodes_of_outcome result ≡ name_at_end (values_in symbol.now self.now.nodes parts.now) }
     {
         let qualifiers = Qualifiers {
             restrict: false,
@@ -117,17 +117,17 @@ impl Linked {
         let mark = Mark::Any;
         let behind = self.given(symbol, parts, 1);
         match behind {
-            Part::Nothing => Meant::Given(Part::Named {
+            Part::Nothing => Outcome::Given(Part::Named {
                 node: self.tree(symbol, parts, 0),
                 qualifiers,
                 mark,
             }),
-            Part::Named { node, .. } => Meant::Given(Part::Named {
+            Part::Named { node, .. } => Outcome::Given(Part::Named {
                 node,
                 qualifiers,
                 mark,
             }),
-            _ => Meant::Entity {
+            _ => Outcome::Entity {
                 node: Node::Instance {
                     template: self.tree(symbol, parts, 0),
                     arguments: self.node(symbol, behind),
@@ -139,13 +139,13 @@ impl Linked {
     }
 
     /// What the end of a nested name stands for: the name so far.
-    #[tactic(auto, unfolding(crate::specs::Parts::meant_value, crate::specs::Parts::value_of, crate::specs::Parts::prefix_of, cpp_term::specs::Values::prefix_tree, cpp_term::specs::Values::prefix_listed, crate::specs::Making::nodes_of_meant))]
-    pub fn nest_end(&self, symbol: &[u8], prefix: Prefix) -> Meant
+    #[tactic(auto, unfolding(crate::specs::Parts::outcome_value, crate::specs::Parts::value_of, crate::specs::Parts::prefix_of, cpp_term::specs::Values::prefix_tree, cpp_term::specs::Values::prefix_listed, crate::specs::Making::nodes_of_outcome))]
+    pub fn nest_end(&self, symbol: &[u8], prefix: Prefix) -> Outcome
         requires table { IsTable (over symbol.now self.now.nodes) }
         requires there { IsPrefixThere (length self.now.nodes.nodes) prefix }
-        ensures is { meant_value symbol.now self.now.nodes result ≡ values.tree (prefix_tree (prefix_of (trees_in symbol.now self.now.nodes) prefix)) (prefix_listed (prefix_of (trees_in symbol.now self.now.nodes) prefix)) }
-        ensures there { IsMeantThere symbol.now (length self.now.nodes.thunks) (length self.now.nodes.nodes) result }
-        ensures nodes { nodes_of_meant result ≡ 0 }
+        ensures is { outcome_value symbol.now self.now.nodes result ≡ values.tree (prefix_tree (prefix_of (trees_in symbol.now self.now.nodes) prefix)) (prefix_listed (prefix_of (trees_in symbol.now self.now.nodes) prefix)) }
+        ensures there { IsOutcomeThere symbol.now (length self.now.nodes.thunks) (length self.now.nodes.nodes) result }
+        ensures nodes { nodes_of_outcome result ≡ 0 }
     {
         match prefix {
             Prefix::Outermost => tree(ABSENT, true),
@@ -154,13 +154,13 @@ impl Linked {
     }
 
     /// What a reference stands for.
-    #[tactic(auto, unfolding(crate::specs::Parts::meant_value, cpp_tree::specs::Nodes::tree_of, cpp_term::specs::Meaning::listed_value, cpp_term::specs::Meaning::reference_to, cpp_term::specs::Values::tree_of, crate::specs::Making::nodes_of_meant))]
-    pub fn reference_meant(&self, symbol: &[u8], byte: u8, parts: &[Part]) -> Meant
+    #[tactic(auto, unfolding(crate::specs::Parts::outcome_value, cpp_tree::specs::Nodes::tree_of, cpp_term::specs::Meaning::listed_value, cpp_term::specs::Meaning::reference_to, cpp_term::specs::Values::tree_of, crate::specs::Making::nodes_of_outcome))]
+    pub fn reference_meant(&self, symbol: &[u8], byte: u8, parts: &[Part]) -> Outcome
         requires table { IsTable (over symbol.now self.now.nodes) }
         requires there { AreThere symbol.now (length self.now.nodes.nodes) parts.now }
-        ensures is { meant_value symbol.now self.now.nodes result ≡ listed_value (reference_to byte (part (values_in symbol.now self.now.nodes parts.now) 0)) }
-        ensures there { IsMeantThere symbol.now (length self.now.nodes.thunks) (length self.now.nodes.nodes) result }
-        ensures nodes { nodes_of_meant result ≡ 1 }
+        ensures is { outcome_value symbol.now self.now.nodes result ≡ listed_value (reference_to byte (part (values_in symbol.now self.now.nodes parts.now) 0)) }
+        ensures there { IsOutcomeThere symbol.now (length self.now.nodes.thunks) (length self.now.nodes.nodes) result }
+        ensures nodes { nodes_of_outcome result ≡ 1 }
     {
         let inner = self.tree(symbol, parts, 0);
         if byte == b'R' {
@@ -170,44 +170,44 @@ impl Linked {
     }
 
     /// What the rest of a signature stands for that has a mark.
-    #[tactic(auto, unfolding(cpp_term::specs::Meaning::signature_or, crate::specs::Parts::meant_value, crate::specs::Parts::value_of, crate::specs::Making::nodes_of_meant))]
-    pub fn signature_or(&self, symbol: &[u8], mark: Mark, rest: Part) -> Meant
+    #[tactic(auto, unfolding(cpp_term::specs::Meaning::signature_or, crate::specs::Parts::outcome_value, crate::specs::Parts::value_of, crate::specs::Making::nodes_of_outcome))]
+    pub fn signature_or(&self, symbol: &[u8], mark: Mark, rest: Part) -> Outcome
         requires table { IsTable (over symbol.now self.now.nodes) }
         requires there { IsThere symbol.now (length self.now.nodes.nodes) rest }
-        ensures is { meant_value symbol.now self.now.nodes result ≡ signature_or (nodes.mark_of mark) (value_in symbol.now self.now.nodes rest) }
-        ensures there { IsMeantThere symbol.now (length self.now.nodes.thunks) (length self.now.nodes.nodes) result }
-        ensures nodes { nodes_of_meant result ≡ 0 }
+        ensures is { outcome_value symbol.now self.now.nodes result ≡ signature_or (nodes.mark_of mark) (value_in symbol.now self.now.nodes rest) }
+        ensures there { IsOutcomeThere symbol.now (length self.now.nodes.thunks) (length self.now.nodes.nodes) result }
+        ensures nodes { nodes_of_outcome result ≡ 0 }
     {
         match rest {
-            Part::Nothing => Meant::Given(Part::Signature { list: NIL, mark }),
-            _ => Meant::Given(rest),
+            Part::Nothing => Outcome::Given(Part::Signature { list: NIL, mark }),
+            _ => Outcome::Given(rest),
         }
     }
 
     /// The operator of two letters, or a literal operator.
-    #[tactic(auto, unfolding(cpp_term::specs::Meaning::operator_or_literal, crate::specs::Parts::meant_value, crate::specs::Parts::value_of, cpp_tree::specs::Nodes::piece_of, crate::specs::Making::nodes_of_meant))]
-    pub fn operator_or_literal(&self, symbol: &[u8], first: u8, rest: Part) -> Meant
+    #[tactic(auto, unfolding(cpp_term::specs::Meaning::operator_or_literal, crate::specs::Parts::outcome_value, crate::specs::Parts::value_of, cpp_tree::specs::Nodes::piece_of, crate::specs::Making::nodes_of_outcome))]
+    pub fn operator_or_literal(&self, symbol: &[u8], first: u8, rest: Part) -> Outcome
         requires there { IsThere symbol.now (length self.now.nodes.nodes) rest }
-        ensures is { meant_value symbol.now self.now.nodes result ≡ operator_or_literal first (value_in symbol.now self.now.nodes rest) }
-        ensures there { IsMeantThere symbol.now (length self.now.nodes.thunks) (length self.now.nodes.nodes) result }
-        ensures nodes { nodes_of_meant result ≡ 0 }
+        ensures is { outcome_value symbol.now self.now.nodes result ≡ operator_or_literal first (value_in symbol.now self.now.nodes rest) }
+        ensures there { IsOutcomeThere symbol.now (length self.now.nodes.thunks) (length self.now.nodes.nodes) result }
+        ensures nodes { nodes_of_outcome result ≡ 0 }
     {
         match rest {
-            Part::Letter(second) => Meant::Given(Part::Piece(Piece::Operator(first, second))),
-            _ => Meant::Given(rest),
+            Part::Letter(second) => Outcome::Given(Part::Piece(Piece::Operator(first, second))),
+            _ => Outcome::Given(rest),
         }
     }
 
     /// The entity of a local name that is in a default argument.
-    #[tactic(auto, unfolding(cpp_term::specs::Meaning::default_entity, crate::specs::Parts::meant_value, crate::specs::Parts::value_of, cpp_tree::specs::Nodes::tree_of, crate::specs::Making::nodes_of_meant))]
-    pub fn default_entity(&self, symbol: &[u8], parts: &[Part]) -> Meant
+    #[tactic(auto, unfolding(cpp_term::specs::Meaning::default_entity, crate::specs::Parts::outcome_value, crate::specs::Parts::value_of, cpp_tree::specs::Nodes::tree_of, crate::specs::Making::nodes_of_outcome))]
+    pub fn default_entity(&self, symbol: &[u8], parts: &[Part]) -> Outcome
         requires table { IsTable (over symbol.now self.now.nodes) }
         requires there { AreThere symbol.now (length self.now.nodes.nodes) parts.now }
-        ensures is { meant_value symbol.now self.now.nodes result ≡ default_entity (text_of (part (values_in symbol.now self.now.nodes parts.now) 0)) (part (values_in symbol.now self.now.nodes parts.now) 1) }
-        ensures there { IsMeantThere symbol.now (length self.now.nodes.thunks) (length self.now.nodes.nodes) result }
-        ensures nodes { nodes_of_meant result ≡ 1 }
+        ensures is { outcome_value symbol.now self.now.nodes result ≡ default_entity (text_of (part (values_in symbol.now self.now.nodes parts.now) 0)) (part (values_in symbol.now self.now.nodes parts.now) 1) }
+        ensures there { IsOutcomeThere symbol.now (length self.now.nodes.thunks) (length self.now.nodes.nodes) result }
+        ensures nodes { nodes_of_outcome result ≡ 1 }
     {
-        Meant::Entity {
+        Outcome::Entity {
             node: Node::OfDefault {
                 digits: normal(symbol, self.text(symbol, parts, 0)),
                 entity: self.tree(symbol, parts, 1),
@@ -218,25 +218,25 @@ impl Linked {
     }
 
     /// What a lambda stands for.
-    #[tactic(auto, unfolding(crate::specs::Parts::meant_value, crate::specs::Parts::value_of, cpp_tree::specs::Nodes::piece_of, cpp_term::specs::Meaning::parameters, crate::specs::Making::nodes_of_meant, crate::specs::NodeCount::lambda_at_end))]
-    pub fn lambda(&self, symbol: &[u8], parts: &[Part]) -> Meant
+    #[tactic(auto, unfolding(crate::specs::Parts::outcome_value, crate::specs::Parts::value_of, cpp_tree::specs::Nodes::piece_of, cpp_term::specs::Meaning::parameters, crate::specs::Making::nodes_of_outcome, crate::specs::NodeCount::lambda_at_end))]
+    pub fn lambda(&self, symbol: &[u8], parts: &[Part]) -> Outcome
         requires table { IsTable (over symbol.now self.now.nodes) }
         requires there { AreThere symbol.now (length self.now.nodes.nodes) parts.now }
-        ensures is { meant_value symbol.now self.now.nodes result ≡ values.piece (term.lambda (parameters (term.list (tree_of (part (values_in symbol.now self.now.nodes parts.now) 0)) (no_items (part (values_in symbol.now self.now.nodes parts.now) 1)))) (in_64_bits (local_number (text_of (part (values_in symbol.now self.now.nodes parts.now) 3))))) }
-        ensures there { IsMeantThere symbol.now (length self.now.nodes.thunks) (length self.now.nodes.nodes) result }
-        ensures nodes { nodes_of_meant result ≤ 1 }
-        ensures makes { nodes_of_meant result ≡ lambda_at_end (values_in symbol.now self.now.nodes parts.now) }
+        ensures is { outcome_value symbol.now self.now.nodes result ≡ values.piece (term.lambda (parameters (term.list (tree_of (part (values_in symbol.now self.now.nodes parts.now) 0)) (no_items (part (values_in symbol.now self.now.nodes parts.now) 1)))) (in_64_bits (local_number (text_of (part (values_in symbol.now self.now.nodes parts.now) 3))))) }
+        ensures there { IsOutcomeThere symbol.now (length self.now.nodes.thunks) (length self.now.nodes.nodes) result }
+        ensures nodes { nodes_of_outcome result ≤ 1 }
+        ensures makes { nodes_of_outcome result ≡ lambda_at_end (values_in symbol.now self.now.nodes parts.now) }
     {
         let number = local_number(symbol, self.text(symbol, parts, 3));
         let first = self.tree(symbol, parts, 0);
         let rest = self.list(symbol, parts, 1);
         if self.is_lone_void(symbol, first, rest) {
-            return Meant::Given(Part::Piece(Piece::Lambda {
+            return Outcome::Given(Part::Piece(Piece::Lambda {
                 parameters: NIL,
                 number,
             }));
         }
-        Meant::Lambda {
+        Outcome::Lambda {
             first,
             rest,
             number,

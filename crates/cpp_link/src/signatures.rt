@@ -6,13 +6,13 @@ ghost use Rattle.cpp_term.specs.Values.{part};
 ghost use Rattle.cpp_term.specs.Between.{no_items};
 ghost use Rattle.cpp_term.specs.Meaning.{parameters, encoding_of, is_void, is_nil};
 ghost use Rattle.cpp_tree.specs.Nodes.{over, tree_at, tree_of, IsTable};
-ghost use Rattle.cpp_link.specs.Parts.{trees_in, values_in, meant_value, AreThere, IsMeantThere};
-ghost use Rattle.cpp_link.specs.Making.{nodes_of_meant};
+ghost use Rattle.cpp_link.specs.Parts.{trees_in, values_in, outcome_value, AreThere, IsOutcomeThere};
+ghost use Rattle.cpp_link.specs.Making.{nodes_of_outcome};
 ghost use Rattle.cpp_link.specs.Reads.{void_node, nil_node, split_of, parameters_by, encoding_by, IsSplitThere};
 ghost use Rattle.cpp_term.specs.Scope.{has_return_type};
 
 use crate::linked::Linked;
-use crate::part::{Meant, Part};
+use crate::part::{Outcome, Part};
 use cpp_references::again::{OpenedNode, opened};
 use cpp_tree::node::{Node, under_word};
 use cpp_tree::nodes::{ABSENT, NIL};
@@ -110,14 +110,14 @@ impl Linked {
     }
 
     /// What an encoding stands for: an object, or a function with its return type.
-    #[tactic(auto, unfolding(crate::specs::Parts::meant_value, cpp_tree::specs::Nodes::tree_of, crate::specs::Reads::encoding_by, crate::specs::Making::nodes_of_meant))]
-    pub fn encoding(&self, symbol: &[u8], parts: &[Part]) -> Meant
+    #[tactic(auto, unfolding(crate::specs::Parts::outcome_value, cpp_tree::specs::Nodes::tree_of, crate::specs::Reads::encoding_by, crate::specs::Making::nodes_of_outcome))]
+    pub fn encoding(&self, symbol: &[u8], parts: &[Part]) -> Outcome
         requires table { IsTable (over symbol.now self.now.nodes) }
         requires few { length self.now.nodes.nodes < 2 ^ 32 }
         requires there { AreThere symbol.now (length self.now.nodes.nodes) parts.now }
-        ensures is { meant_value symbol.now self.now.nodes result ≡ values.tree (encoding_of (part (values_in symbol.now self.now.nodes parts.now) 0) (no_items (part (values_in symbol.now self.now.nodes parts.now) 1))) true }
-        ensures there { IsMeantThere symbol.now (length self.now.nodes.thunks) (length self.now.nodes.nodes) result }
-        ensures nodes { nodes_of_meant result ≡ 1 }
+        ensures is { outcome_value symbol.now self.now.nodes result ≡ values.tree (encoding_of (part (values_in symbol.now self.now.nodes parts.now) 0) (no_items (part (values_in symbol.now self.now.nodes parts.now) 1))) true }
+        ensures there { IsOutcomeThere symbol.now (length self.now.nodes.thunks) (length self.now.nodes.nodes) result }
+        ensures nodes { nodes_of_outcome result ≡ 1 }
     {
         let name = self.tree(symbol, parts, 0);
         let qualifiers = self.qualifiers(symbol, parts, 0);
@@ -129,7 +129,7 @@ impl Linked {
                 qualifiers,
                 mark,
             };
-            return Meant::Made { node, listed: true };
+            return Outcome::Made { node, listed: true };
         };
         if self.returns(symbol, name) {
             let node = Node::Function {
@@ -140,7 +140,7 @@ impl Linked {
                 parameters: self.parameters(symbol, items.rest),
                 under: under_word(items.under),
             };
-            return Meant::Made { node, listed: true };
+            return Outcome::Made { node, listed: true };
         }
         let node = Node::Function {
             name,
@@ -150,7 +150,7 @@ impl Linked {
             parameters: self.parameters(symbol, list),
             under: under_word(None),
         };
-        Meant::Made { node, listed: true }
+        Outcome::Made { node, listed: true }
     }
 
     /// Whether an encoding of this name has a return type.

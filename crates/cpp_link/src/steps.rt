@@ -12,7 +12,7 @@ ghost use Rattle.cpp_term.specs.Between.{between, no_items, applied, named_so_fa
 ghost use Rattle.cpp_term.specs.References.{with_prefix, with_type};
 ghost use Rattle.cpp_tree.specs.Nodes as nodes;
 ghost use Rattle.cpp_tree.specs.Nodes.{over, tree_at, bytes_at, IsWithin, IsPieceBelow, IsThereBelow, IsBelow, IsTable};
-ghost use Rattle.cpp_references.specs.declared.around.Kept.{Kept};
+ghost use Rattle.cpp_references.specs.declared.around.Surroundings.{Surroundings};
 ghost use Rattle.cpp_link.specs.declared.part.Part.TheVariants as variants;
 ghost use Rattle.cpp_link.specs.declared.part.Step.{Step};
 ghost use Rattle.cpp_link.specs.Parts.{trees_in, tree_of_node, value_in, values_in, prefix_of, name_of, around_of, IsClosed, IsThere, AreThere, IsPrefixThere, IsKeptThere, IsStepThere};
@@ -22,7 +22,7 @@ ghost use Rattle.cpp_link.specs.Closes.{pack_makes};
 ghost use Rattle.cpp_link.specs.NodeCount.{makes_before, one_if_arguments};
 
 use crate::linked::Linked;
-use crate::part::{Kept, Naming, Part, Step};
+use crate::part::{Naming, Part, Step, Surroundings};
 use crate::values::{is_listed, letter_of, list_of, node_of, piece_of, text_of};
 use cpp_grammar::production::Production;
 use cpp_references::again::opened;
@@ -33,7 +33,7 @@ use sym_core::{Refusal, Span};
 
 /// The candidate that the name so far becomes.
 #[tactic(auto, unfolding(crate::specs::Parts::around_of, crate::specs::Parts::prefix_in, crate::specs::Parts::prefix_of, crate::specs::Reads::with_candidate, cpp_term::specs::References::with_prefix, cpp_term::specs::Values::prefix_tree, cpp_term::specs::Values::prefix_listed))]
-fn prefix_candidate(kept: Kept) -> Option<u32>
+fn prefix_candidate(kept: Surroundings) -> Option<u32>
     ensures is { (ts : List term.Term) (state : State) → with_prefix (around_of ts kept) state ≡ with_candidate (around_of ts kept) ts result state }
     ensures there { (n : ℕ) → IsPrefixThere n (name_of kept) → IsThereBelow n result }
 {
@@ -47,7 +47,7 @@ fn prefix_candidate(kept: Kept) -> Option<u32>
 impl Linked {
     /// Nothing is done, and this surrounds the next part.
     #[inline(always)]
-    fn go(&self, then: Kept) -> Step
+    fn go(&self, then: Surroundings) -> Step
         ensures { result ≡ Step.Go None then self.now.packs }
     {
         Step::Go {
@@ -84,7 +84,7 @@ impl Linked {
 
     /// The candidate that the name so far becomes.
     #[inline(always)]
-    fn prefix_candidate(&self, symbol: &[u8], kept: Kept) -> Option<u32>
+    fn prefix_candidate(&self, symbol: &[u8], kept: Surroundings) -> Option<u32>
         requires kept { IsKeptThere (length self.now.nodes.nodes) kept }
         ensures is { (state : State) → with_prefix (around_of (trees_in symbol.now self.now.nodes) kept) state ≡ with_candidate (around_of (trees_in symbol.now self.now.nodes) kept) (trees_in symbol.now self.now.nodes) result state }
         ensures there { IsThereBelow (length self.now.nodes.nodes) result }
@@ -94,7 +94,7 @@ impl Linked {
 
     /// The candidate that a type becomes.
     #[tactic(auto, unfolding(crate::specs::Reads::with_candidate, cpp_term::specs::References::with_type))]
-    pub fn type_candidate(&self, symbol: &[u8], kept: Kept, part: Part) -> Option<u32>
+    pub fn type_candidate(&self, symbol: &[u8], kept: Surroundings, part: Part) -> Option<u32>
         requires table { IsTable (over symbol.now self.now.nodes) }
         requires there { IsThere symbol.now (length self.now.nodes.nodes) part }
         ensures is { (state : State) → with_type (around_of (trees_in symbol.now self.now.nodes) kept) (value_in symbol.now self.now.nodes part) state ≡ with_candidate (around_of (trees_in symbol.now self.now.nodes) kept) (trees_in symbol.now self.now.nodes) result state }
@@ -109,7 +109,7 @@ impl Linked {
     /// The node of the name so far.
     #[tactic(auto, unfolding(crate::specs::Parts::prefix_in, crate::specs::Parts::prefix_of, cpp_term::specs::Values::prefix_tree))]
     #[inline(always)]
-    pub(crate) fn prefix_node(&self, symbol: &[u8], kept: Kept) -> u32
+    pub(crate) fn prefix_node(&self, symbol: &[u8], kept: Surroundings) -> u32
         requires table { IsTable (over symbol.now self.now.nodes) }
         requires kept { IsKeptThere (length self.now.nodes.nodes) kept }
         ensures is { tree_at (trees_in symbol.now self.now.nodes) result ≡ prefix_tree (prefix_of (trees_in symbol.now self.now.nodes) (name_of kept)) }
@@ -134,7 +134,13 @@ impl Linked {
     /// What is done before the first part.
     #[tactic(auto, unfolding(cpp_term::specs::Between::between, cpp_term::specs::Between::in_name, cpp_term::specs::Between::in_types, cpp_term::specs::Between::in_signature, cpp_term::specs::Between::under_expansion, cpp_term::specs::Between::after, cpp_term::specs::Between::inside, cpp_term::specs::Between::applied, cpp_term::specs::Between::piece_so_far, cpp_term::specs::Between::named_so_far, cpp_term::specs::Between::listed_so_far, cpp_term::specs::Values::tree_of, crate::specs::Parts::around_of, crate::specs::Parts::prefix_of, cpp_tree::specs::Nodes::tree_if_there, cpp_tree::specs::Nodes::tree_of, cpp_tree::specs::Nodes::piece_of, crate::specs::Reads::goes_on, crate::specs::Reads::behind_first, crate::specs::Reads::named_if, crate::specs::Reads::appended_if, crate::specs::Reads::with_candidate, crate::specs::NodeCount::makes_before, crate::specs::Owed::made_before, crate::specs::NodeCount::std_before, crate::specs::NodeCount::one_if_there, crate::specs::NodeCount::pack_before))]
     #[inline(always)]
-    fn step_first(&self, symbol: &[u8], production: Production, place: u32, kept: Kept) -> Step
+    fn step_first(
+        &self,
+        symbol: &[u8],
+        production: Production,
+        place: u32,
+        kept: Surroundings,
+    ) -> Step
         requires table { IsTable (over symbol.now self.now.nodes) }
         requires kept { IsKeptThere (length self.now.nodes.nodes) kept }
         ensures is { (cs : List values.Candidate) → between production (around_of (trees_in symbol.now self.now.nodes) kept) place [] (record { candidates = cs; packs = self.now.packs }) ≡ goes_on symbol.now self.now.nodes kept [] cs self.now.packs result }
@@ -216,7 +222,7 @@ impl Linked {
     fn pack(&self, symbol: &[u8], elements: Part) -> Step
         requires table { IsTable (over symbol.now self.now.nodes) }
         requires there { IsThere symbol.now (length self.now.nodes.nodes) elements }
-        ensures is { (kept : Kept) (v : values.Value) (cs : List values.Candidate) → goes_on symbol.now self.now.nodes kept (v ∷ []) cs self.now.packs result
+        ensures is { (kept : Surroundings) (v : values.Value) (cs : List values.Candidate) → goes_on symbol.now self.now.nodes kept (v ∷ []) cs self.now.packs result
             ≡ Ok (record { values = values.tree (term.pack (no_items (value_in symbol.now self.now.nodes elements))) true ∷ []; context = around_of (trees_in symbol.now self.now.nodes) kept; state = record { candidates = cs; packs = self.now.packs } }) }
         ensures there { IsStepThere symbol.now (length self.now.nodes.thunks) (length self.now.nodes.nodes) result }
         ensures made { nodes_of_step result ≡ pack_makes elements }
@@ -241,7 +247,7 @@ impl Linked {
 
     /// The name so far with one more tag.
     #[tactic(auto, unfolding(cpp_term::specs::Between::with_tag, cpp_tree::specs::Nodes::tree_of, cpp_tree::specs::Nodes::IsBelow))]
-    fn tagged(&self, symbol: &[u8], kept: Kept, tag: Span) -> Node
+    fn tagged(&self, symbol: &[u8], kept: Surroundings, tag: Span) -> Node
         requires table { IsTable (over symbol.now self.now.nodes) }
         requires kept { IsKeptThere (length self.now.nodes.nodes) kept }
         requires tag { IsWithin tag symbol.now }
@@ -262,7 +268,7 @@ impl Linked {
         requires table { IsTable (over symbol.now self.now.nodes) }
         requires name { name < length self.now.nodes.nodes }
         requires behind { IsThere symbol.now (length self.now.nodes.nodes) behind }
-        ensures is { (kept : Kept) (v : values.Value) (cs : List values.Candidate) → named_so_far (around_of (trees_in symbol.now self.now.nodes) kept) (applied (tree_at (trees_in symbol.now self.now.nodes) name) (value_in symbol.now self.now.nodes behind)) (value_in symbol.now self.now.nodes behind ∷ []) (record { candidates = cs; packs = self.now.packs })
+        ensures is { (kept : Surroundings) (v : values.Value) (cs : List values.Candidate) → named_so_far (around_of (trees_in symbol.now self.now.nodes) kept) (applied (tree_at (trees_in symbol.now self.now.nodes) name) (value_in symbol.now self.now.nodes behind)) (value_in symbol.now self.now.nodes behind ∷ []) (record { candidates = cs; packs = self.now.packs })
             ≡ goes_on symbol.now self.now.nodes kept (v ∷ value_in symbol.now self.now.nodes behind ∷ []) cs self.now.packs result }
         ensures there { IsStepThere symbol.now (length self.now.nodes.thunks) (length self.now.nodes.nodes) result }
         ensures of { IsStepOf productions.NestStd 2 result }
@@ -293,7 +299,7 @@ impl Linked {
         symbol: &[u8],
         production: Production,
         place: u32,
-        kept: Kept,
+        kept: Surroundings,
         first: Part,
     ) -> Step
         requires table { IsTable (over symbol.now self.now.nodes) }
@@ -468,7 +474,7 @@ impl Linked {
         symbol: &[u8],
         production: Production,
         place: u32,
-        kept: Kept,
+        kept: Surroundings,
         first: Part,
         second: Part,
     ) -> Step
@@ -536,7 +542,7 @@ impl Linked {
         symbol: &[u8],
         production: Production,
         place: u32,
-        kept: Kept,
+        kept: Surroundings,
         first: Part,
         second: Part,
         third: Part,
@@ -592,7 +598,7 @@ impl Linked {
         symbol: &[u8],
         production: Production,
         place: u32,
-        kept: Kept,
+        kept: Surroundings,
         first: Part,
     ) -> Step
         requires table { IsTable (over symbol.now self.now.nodes) }
@@ -644,7 +650,7 @@ impl Linked {
         symbol: &[u8],
         production: Production,
         place: u32,
-        kept: Kept,
+        kept: Surroundings,
         first: Part,
     ) -> Result<Step, Refusal>
         requires table { IsTable (over symbol.now self.now.nodes) }
@@ -698,7 +704,7 @@ impl Linked {
         symbol: &[u8],
         production: Production,
         place: u32,
-        kept: Kept,
+        kept: Surroundings,
         parts: &[Part],
     ) -> Result<Step, Refusal>
         requires table { IsTable (over symbol.now self.now.nodes) }

@@ -8,13 +8,18 @@ ghost use Rattle.cpp_tree.specs.Nodes.{tree_at, tree_if_there, IsThereBelow};
 ghost use Rattle.cpp_link.specs.Parts.{around_of, IsKeptThere};
 
 use crate::linked::Linked;
-use crate::part::{Kept, Naming, Scope};
+use crate::part::{Naming, Scope, Surroundings};
 
 impl Linked {
     /// In an encoding that begins at this place, where parameters name these arguments.
     #[tactic(auto, unfolding(crate::specs::Parts::around_of, crate::specs::Parts::arguments_in, crate::specs::Parts::is_lambda, crate::specs::Parts::prefix_in, crate::specs::Parts::prefix_of, cpp_tree::specs::Nodes::tree_if_there))]
     #[inline(always)]
-    pub(crate) fn in_encoding(&self, kept: Kept, place: u32, scope: Option<u32>) -> Kept
+    pub(crate) fn in_encoding(
+        &self,
+        kept: Surroundings,
+        place: u32,
+        scope: Option<u32>,
+    ) -> Surroundings
         requires scope { IsThereBelow (length self.now.nodes.nodes) scope }
         ensures around { (ts : List term.Term) → around_of ts result ≡ record { scope = tree_if_there ts scope; encoding = place; in_lambda = false; in_expansion = false; prefix = values.outermost } }
         ensures there { IsKeptThere (length self.now.nodes.nodes) result }
@@ -34,7 +39,7 @@ impl Linked {
     /// After this name.
     #[tactic(auto, unfolding(crate::specs::Parts::around_of, crate::specs::Parts::prefix_in, crate::specs::Parts::prefix_of, cpp_term::specs::Between::after))]
     #[inline(always)]
-    pub(crate) fn behind_name(&self, kept: Kept, node: u32, listed: bool) -> Kept
+    pub(crate) fn behind_name(&self, kept: Surroundings, node: u32, listed: bool) -> Surroundings
         requires kept { IsKeptThere (length self.now.nodes.nodes) kept }
         requires node { node < length self.now.nodes.nodes }
         ensures around { (ts : List term.Term) → around_of ts result ≡ after (tree_at ts node) listed (around_of ts kept) }
@@ -53,7 +58,7 @@ impl Linked {
     /// In the signature of a lambda.
     #[tactic(auto, unfolding(crate::specs::Parts::around_of, crate::specs::Parts::arguments_in, crate::specs::Parts::is_lambda, crate::specs::Parts::prefix_in, crate::specs::Parts::prefix_of, cpp_tree::specs::Nodes::tree_if_there, cpp_term::specs::Between::in_signature))]
     #[inline(always)]
-    pub(crate) fn in_signature(&self, kept: Kept) -> Kept
+    pub(crate) fn in_signature(&self, kept: Surroundings) -> Surroundings
         ensures around { (ts : List term.Term) → around_of ts result ≡ in_signature (around_of ts kept) }
         ensures there { IsKeptThere (length self.now.nodes.nodes) result }
     {
@@ -66,7 +71,7 @@ impl Linked {
     /// Under an expansion.
     #[tactic(auto, unfolding(crate::specs::Parts::around_of, cpp_term::specs::Between::under_expansion))]
     #[inline(always)]
-    pub(crate) fn under_expansion(&self, kept: Kept) -> Kept
+    pub(crate) fn under_expansion(&self, kept: Surroundings) -> Surroundings
         requires kept { IsKeptThere (length self.now.nodes.nodes) kept }
         ensures around { (ts : List term.Term) → around_of ts result ≡ under_expansion (around_of ts kept) }
         ensures there { IsKeptThere (length self.now.nodes.nodes) result }
@@ -79,7 +84,7 @@ impl Linked {
     /// With no name so far.
     #[tactic(auto, unfolding(crate::specs::Parts::around_of, crate::specs::Parts::prefix_in, crate::specs::Parts::prefix_of, cpp_term::specs::Between::inside))]
     #[inline(always)]
-    pub(crate) fn inside(&self, kept: Kept) -> Kept
+    pub(crate) fn inside(&self, kept: Surroundings) -> Surroundings
         requires kept { IsKeptThere (length self.now.nodes.nodes) kept }
         ensures around { (ts : List term.Term) → around_of ts result ≡ inside (around_of ts kept) }
         ensures there { IsKeptThere (length self.now.nodes.nodes) result }

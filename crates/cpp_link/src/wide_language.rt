@@ -18,7 +18,7 @@ ghost use Rattle.cpp_link.specs.declared.rescoping.Rescoping.{Rescoping};
 use crate::dispatch::production_of;
 use crate::holders::is_holder;
 use crate::language::OUTSIDE;
-use crate::part::{Kept, Part};
+use crate::part::{Part, Surroundings};
 use crate::rescoping::{Rescoping, is_lambda_production, is_parameter, is_substitution};
 use cpp_grammar::production::Production;
 use sym_core::Refusal;
@@ -27,7 +27,7 @@ use sym_link::threads::{Threading, close_by, enter_by, token_by};
 use sym_shape::rule::Row;
 
 /// Whether before the part after so many a parameter of a lambda is named.
-fn names_generic(production: Production, kept: Kept, held: usize) -> bool
+fn names_generic(production: Production, kept: Surroundings, held: usize) -> bool
     ensures { result ≡ names_generic production (is_lambda kept.scope) held }
 {
     kept.in_lambda() && is_parameter(production) && held == 1
@@ -43,7 +43,7 @@ fn names_holder(production: Production, held: usize) -> bool
 impl Threading for Rescoping {
     type Part = Part;
 
-    type Kept = Kept;
+    type Kept = Surroundings;
 
     ghost Value = { Value };
 
@@ -67,9 +67,9 @@ impl Threading for Rescoping {
     fn between(
         &mut self,
         symbol: &[u8],
-        frame: &Frame<Kept>,
+        frame: &Frame<Surroundings>,
         parts: &mut Vec<Part>,
-    ) -> Result<Kept, Refusal>
+    ) -> Result<Surroundings, Refusal>
         requires room { HasRoom (wide_counted symbol.now) symbol.now self.old (owed_behind (wide_counted symbol.now) frame.now parts.old.items) }
         requires open { IsOpenAt (wide_counted symbol.now) symbol.now self.old frame.now parts.old.items }
         requires base { frame.now.base ≤ length parts.old.items }
@@ -84,21 +84,21 @@ impl Threading for Rescoping {
         let production = production_of(frame.rule);
         let held = parts.len() - frame.base;
         if names_generic(production, frame.kept, held) {
-            return self.linked.go_generic(symbol, frame, parts);
+            return self.linked.before_generic(symbol, frame, parts);
         }
         if names_holder(production, held) {
-            return self.linked.go_holder(symbol, frame, parts);
+            return self.linked.before_holder(symbol, frame, parts);
         }
-        self.linked.go_on(symbol, frame, parts)
+        self.linked.before_part(symbol, frame, parts)
     }
 
     fn begin(
         &mut self,
         symbol: &[u8],
         rows: &[Row],
-        context: Kept,
+        context: Surroundings,
         row: Row,
-    ) -> Result<Kept, Refusal>
+    ) -> Result<Surroundings, Refusal>
         requires place { row.from < length symbol.now }
         requires end { row.end ≤ length rows.now }
         ensures begins { BeginsIn (wide_counted symbol.now) symbol.now (λ l. Surrounds symbol.now l.linked) rows.now self.old self.new context row result }
@@ -115,7 +115,7 @@ impl Threading for Rescoping {
     fn finish(
         &mut self,
         symbol: &[u8],
-        frame: &Frame<Kept>,
+        frame: &Frame<Surroundings>,
         parts: &mut Vec<Part>,
     ) -> Result<(), Refusal>
         requires room { HasRoom (wide_counted symbol.now) symbol.now self.old (owed_behind (wide_counted symbol.now) frame.now parts.old.items) }
@@ -143,7 +143,7 @@ impl Threading for Rescoping {
         &self,
         symbol: &[u8],
         rows: &[Row],
-        frame: &Frame<Kept>,
+        frame: &Frame<Surroundings>,
         held: usize,
         row: Row,
     ) -> usize
@@ -166,13 +166,13 @@ impl Threading for Rescoping {
         Ok(self.linked.text_at(symbol, row))
     }
 
-    fn ahead_token(&self, symbol: &[u8], frame: &Frame<Kept>, held: usize) -> usize
+    fn ahead_token(&self, symbol: &[u8], frame: &Frame<Surroundings>, held: usize) -> usize
         ensures { IsAheadToken (wide_counted symbol.now) symbol.now self.now frame.now held result }
     {
         self.linked.next_token(symbol, frame, held)
     }
 
-    fn count(&self, symbol: &[u8], frame: &Frame<Kept>, held: usize) -> usize
+    fn count(&self, symbol: &[u8], frame: &Frame<Surroundings>, held: usize) -> usize
         ensures { IsCount (wide_counted symbol.now) symbol.now self.now frame.now held result }
     {
         self.linked.count_parts(symbol, frame, held)
@@ -184,7 +184,7 @@ impl Threading for Rescoping {
 impl Linking for Rescoping {
     type Part = Part;
 
-    type Kept = Kept;
+    type Kept = Surroundings;
 
     ghost Value = { Value };
 
@@ -194,7 +194,7 @@ impl Linking for Rescoping {
 
     ghost view = { wide_counted };
 
-    fn root(&mut self, symbol: &[u8], _rows: &[Row], _row: Row) -> Result<Kept, Refusal>
+    fn root(&mut self, symbol: &[u8], _rows: &[Row], _row: Row) -> Result<Surroundings, Refusal>
         requires room { HasRoom (wide_counted symbol.now) symbol.now self.old 0 }
         requires end { _row.end ≤ length _rows.now }
         ensures opens { OpensRoot (wide_counted symbol.now) symbol.now _rows.now self.old self.new _row result }
@@ -211,10 +211,10 @@ impl Linking for Rescoping {
         &mut self,
         symbol: &[u8],
         rows: &[Row],
-        frame: &Frame<Kept>,
+        frame: &Frame<Surroundings>,
         parts: &mut Vec<Part>,
         row: Row,
-    ) -> Result<Kept, Refusal>
+    ) -> Result<Surroundings, Refusal>
         requires room { HasRoom (wide_counted symbol.now) symbol.now self.old (owed_behind (wide_counted symbol.now) frame.now parts.old.items) }
         requires open { IsOpen (wide_counted symbol.now) symbol.now self.old frame.now parts.old.items }
         requires base { frame.now.base ≤ length parts.old.items }
@@ -234,7 +234,7 @@ impl Linking for Rescoping {
     fn token(
         &mut self,
         symbol: &[u8],
-        frame: &Frame<Kept>,
+        frame: &Frame<Surroundings>,
         parts: &mut Vec<Part>,
         row: Row,
     ) -> Result<(), Refusal>
@@ -259,7 +259,7 @@ impl Linking for Rescoping {
     fn close(
         &mut self,
         symbol: &[u8],
-        frame: &Frame<Kept>,
+        frame: &Frame<Surroundings>,
         parts: &mut Vec<Part>,
     ) -> Result<(), Refusal>
         requires room { HasRoom (wide_counted symbol.now) symbol.now self.old (owed_behind (wide_counted symbol.now) frame.now parts.old.items) }

@@ -12,6 +12,6 @@ use Rattle.cpp_references.specs.References.{function_node}
 
 pub function_is : (s : List ℕ) (us : List Thunk) (ts : List Term) (given : Option Term) (node : Node) → is_again node ≡ false → is_function_type (reargued given (nodes.tree_of s us ts node)) ≡ function_node node
 unfolding is_function_type nodes.tree_of function_node reargued is_again
-function_is s us ts given (Node.Again t a) own = absurd (true≢false own)
+function_is s us ts given (Node.Reargued t a) own = absurd (true≢false own)
 function_is s us ts given Node.Absent own = refl
 function_is s us ts given _ own = refl

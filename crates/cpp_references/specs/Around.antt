@@ -10,7 +10,7 @@ use Rattle.cpp_tree.specs.declared.node.Node.{Node}
 use Rattle.cpp_references.specs.declared.around.Prefix.{Prefix}
 use Rattle.cpp_references.specs.declared.around.Scope.{Scope}
 use Rattle.cpp_references.specs.declared.around.Naming.{Naming}
-use Rattle.cpp_references.specs.declared.around.Kept.{Kept}
+use Rattle.cpp_references.specs.declared.around.Surroundings.{Surroundings}
 use Rattle.cpp_references.specs.declared.candidates.Candidate.{Candidate}
 
 -- the trees of the nodes, and that of a node which isn't there yet
@@ -46,16 +46,16 @@ unfoldable pub prefix_of : List Term → Prefix → values.Prefix
 prefix_of ts Prefix.Outermost = values.outermost
 prefix_of ts (Prefix.Behind node listed) = values.behind (tree_at ts node) listed
 
-abbrev pub scope_of : Kept → Option ℕ
+abbrev pub scope_of : Surroundings → Option ℕ
 scope_of kept = arguments_in kept.scope kept.arguments
 
-abbrev pub name_of : Kept → Prefix
+abbrev pub name_of : Surroundings → Prefix
 name_of kept = prefix_in kept.naming kept.name
 
-abbrev pub packs_of : Kept → Option ℕ
+abbrev pub packs_of : Surroundings → Option ℕ
 packs_of kept = packs_in kept.has_packs kept.pack_length
 
-unfoldable pub around_of : List Term → Kept → Around
+unfoldable pub around_of : List Term → Surroundings → Around
 around_of ts kept = record { scope = nodes.tree_if_there ts (scope_of kept); encoding = kept.encoding; in_lambda = is_lambda kept.scope; in_expansion = kept.in_expansion; prefix = prefix_of ts (name_of kept) }
 
 -- no parameter is free in the arguments that are named
@@ -76,7 +76,7 @@ abbrev pub IsPrefixThere : ℕ → Prefix → Type 0
 IsPrefixThere n Prefix.Outermost = Unit {0}
 IsPrefixThere n (Prefix.Behind node listed) = node < n
 
-abbrev pub IsKeptThere : ℕ → Kept → Type 0
+abbrev pub IsKeptThere : ℕ → Surroundings → Type 0
 IsKeptThere n kept = nodes.IsThereBelow n (scope_of kept) × IsPrefixThere n (name_of kept)
 
 abbrev pub AreNodesThere : ℕ → List Candidate → Type 0

@@ -31,7 +31,7 @@ pub enum Naming {
 ///
 /// Its fields leave no gap in memory, since it goes from call to call.
 #[derive(Clone, Copy)]
-pub struct Kept {
+pub struct Surroundings {
     /// The arguments that parameters name, if `scope` says that they name some.
     pub arguments: u32,
     /// The place where the innermost encoding begins.
@@ -46,7 +46,7 @@ pub struct Kept {
     pub in_expansion: bool,
 }
 
-impl Kept {
+impl Surroundings {
     /// The arguments that parameters name.
     #[tactic(auto, unfolding(crate::specs::Around::arguments_in))]
     #[inline(always)]
@@ -106,7 +106,7 @@ impl Kept {
     /// The same, where a rule begins when the packs have this length.
     #[tactic(auto, unfolding(crate::specs::Around::around_of, crate::specs::Around::packs_in))]
     #[inline(always)]
-    pub fn with_packs(self, packs: Option<u32>) -> Kept
+    pub fn with_packs(self, packs: Option<u32>) -> Surroundings
         ensures around { (ts : List Term) → around_of ts result ≡ around_of ts self }
         ensures there { (n : ℕ) → IsKeptThere n self → IsKeptThere n result }
         ensures packs { packs_of result ≡ packs }

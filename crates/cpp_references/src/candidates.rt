@@ -12,7 +12,7 @@ ghost use Rattle.cpp_references.specs.Around.{trees_in, is_lambda, around_of, ca
 ghost use Rattle.cpp_references.specs.References.{maybe_candidate, node_read, function_node};
 
 use crate::again::opened;
-use crate::around::Kept;
+use crate::around::Surroundings;
 use crate::packs::with_packs;
 use cpp_tree::Nodes;
 use cpp_tree::node::Node;
@@ -56,7 +56,7 @@ pub fn named(candidates: &[Candidate], symbol: &[u8], digits: Span) -> Option<Ca
 }
 
 /// Whether a tree with free parameters may not be named here.
-fn is_foreign(kept: Kept, is_open: bool, encoding: u32) -> bool
+fn is_foreign(kept: Surroundings, is_open: bool, encoding: u32) -> bool
     ensures { result ≡ (is_open && (is_lambda kept.scope || not (nat_eq encoding kept.encoding))) }
 {
     is_open && (kept.in_lambda() || encoding != kept.encoding)
@@ -81,7 +81,7 @@ fn pack_length(nodes: &Nodes, symbol: &[u8], node: u32) -> Option<u32>
 pub fn substituted(
     nodes: &Nodes,
     symbol: &[u8],
-    kept: Kept,
+    kept: Surroundings,
     place: u32,
     candidate: Option<Candidate>,
     packs: Option<u32>,
@@ -113,7 +113,7 @@ pub fn substituted(
 pub fn substitution(
     nodes: &Nodes,
     symbol: &[u8],
-    kept: Kept,
+    kept: Surroundings,
     place: u32,
     candidates: &[Candidate],
     digits: Span,

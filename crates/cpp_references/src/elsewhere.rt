@@ -11,7 +11,7 @@ ghost use Rattle.cpp_tree.specs.Nodes.{over, tree_at, IsTable};
 ghost use Rattle.cpp_references.specs.Around.{trees_in, around_of, IsClosed, IsKeptThere};
 ghost use Rattle.cpp_references.specs.References.{argument_read};
 
-use crate::around::Kept;
+use crate::around::Surroundings;
 use crate::packs::with_packs;
 use crate::parameters::{argument, count};
 use cpp_tree::Nodes;
@@ -45,7 +45,7 @@ fn packs_with(nodes: &Nodes, symbol: &[u8], node: u32, argument: u32) -> Option<
 fn argument_by(
     nodes: &Nodes,
     symbol: &[u8],
-    kept: Kept,
+    kept: Surroundings,
     place: u32,
     node: u32,
     number: u32,
@@ -87,7 +87,7 @@ fn argument_by(
 fn scope_by(
     nodes: &Nodes,
     symbol: &[u8],
-    kept: Kept,
+    kept: Surroundings,
     place: u32,
     greatest: u32,
     packs: Option<u32>,
@@ -122,7 +122,7 @@ fn scope_by(
 pub fn argument_here(
     nodes: &Nodes,
     symbol: &[u8],
-    kept: Kept,
+    kept: Surroundings,
     place: u32,
     node: u32,
     packs: Option<u32>,

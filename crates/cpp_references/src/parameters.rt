@@ -13,7 +13,7 @@ ghost use Rattle.cpp_tree.specs.Nodes.{over, tree_at, bytes_at, IsBelow, IsWithi
 ghost use Rattle.cpp_references.specs.Around.{trees_in, tree_of_node, around_of, IsClosed, IsKeptThere};
 ghost use Rattle.cpp_references.specs.References.{parameter_read};
 
-use crate::around::Kept;
+use crate::around::Surroundings;
 use crate::packs::with_packs;
 use cpp_tree::Nodes;
 use cpp_tree::node::{Node, Placed};
@@ -86,7 +86,7 @@ pub fn argument(nodes: &Nodes, symbol: &[u8], scope: u32, number: u32) -> u32
 pub fn named_parameter(
     nodes: &Nodes,
     symbol: &[u8],
-    kept: Kept,
+    kept: Surroundings,
     place: u32,
     digits: Span,
     packs: Option<u32>,

@@ -8,7 +8,7 @@ use Rattle.sym_link.specs.Unfold.{found}
 use Rattle.sym_core.specs.declared.NumberKind.TheVariants.{Decimal, Seq36}
 use Rattle.sym_core.specs.Value.{counted_value}
 use Rattle.cpp_grammar.specs.declared.production.Production.{Production}
-use Rattle.cpp_grammar.specs.Rescoping.{generic_number, generic_so_far, parameter_here, argument_here, lambda_with, with_own, with_holder, is_instance, holder_so_far, numbered, between_wide, close_wide}
+use Rattle.cpp_grammar.specs.Rescoping.{generic_number, generic_so_far, parameter_here, argument_here, lambda_with, as_generic_lambda, with_holder, is_instance, holder_so_far, numbered, between_wide, close_wide}
 use Rattle.cpp_grammar.specs.Scope.{count, element, is_open, length_if_pack}
 use Rattle.cpp_grammar.specs.Term.{Term, lambda, generic_lambda, list, in_std, instance, holder, parameter, lvalue, rvalue, source, operator, constructor, destructor}
 use Rattle.cpp_grammar.specs.Values as leaf_
@@ -441,10 +441,10 @@ lambda_with_noted s t number = go (is_open t) (scope_.is_open (annotate in_own t
 
 -- `meaning_noted` says it of the place of the values
 own_lambda : (s : Place) (byte : ℕ) (around : Around) (other : value_.Around) (vs : List Value) →
-    wide_.with_own (noted_.meaning Production.Lambda byte other (noted_values in_own vs)) ≡ noted_value s (with_own (meaning Production.Lambda byte around vs))
-unfolding with_own wide_.with_own meaning noted_.meaning noted_value annotate
+    wide_.as_generic_lambda (noted_.meaning Production.Lambda byte other (noted_values in_own vs)) ≡ noted_value s (as_generic_lambda (meaning Production.Lambda byte around vs))
+unfolding as_generic_lambda wide_.as_generic_lambda meaning noted_.meaning noted_value annotate
 own_lambda s byte around other vs =
-    ap wide_.with_own (lambda_noted in_own vs)
+    ap wide_.as_generic_lambda (lambda_noted in_own vs)
     ∙ ap value_.piece (lambda_with_noted s (parameters (list (tree_of (part vs 0)) (no_items (part vs 1)))) (local_number (text_of (part vs 3))))
 
 pub wide_close_noted : (production : Production) (byte : ℕ) (around : Around) (place : ℕ) (began : State) (first : value_.State) (vs : List Value) (x : State) (y : value_.State) → Inside production vs →

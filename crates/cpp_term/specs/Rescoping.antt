@@ -47,9 +47,9 @@ argument_here around place k state = elim around.in_lambda [
 unfoldable pub lambda_with : (parameters : Term) → (number : ℕ) → Term
 lambda_with parameters number = elim (is_open parameters) [ true ↦ generic_lambda parameters number | false ↦ lambda parameters number ]
 
-unfoldable pub with_own : Value → Value
-with_own (piece (lambda parameters number)) = piece (lambda_with parameters number)
-with_own v = v
+unfoldable pub as_generic_lambda : Value → Value
+as_generic_lambda (piece (lambda parameters number)) = piece (lambda_with parameters number)
+as_generic_lambda v = v
 
 -- ## Names with an M
 
@@ -154,7 +154,7 @@ between_wide production around place vs state = between production around place 
 unfoldable pub close_wide : Production → (byte : ℕ) → Around → (place : ℕ) → (began : State) → List Value → State → Result (Found Value State) Refusal
 close_wide Production.Substitution byte around place began vs state =
     numbered around (place - 1) (counted_value Seq36 (text_of (part vs 0))) state
-close_wide Production.Lambda byte around place began vs state = Ok (found (with_own (meaning Production.Lambda byte around vs)) state)
+close_wide Production.Lambda byte around place began vs state = Ok (found (as_generic_lambda (meaning Production.Lambda byte around vs)) state)
 close_wide production byte around place began vs state = close production byte around place began vs state
 
 -- C++ by the wide grammar as a language

@@ -108,12 +108,12 @@ unfolding empty_by by_argument_of
 empty-chosen true t = refl
 empty-chosen false t = refl
 
-pub other-place : (i : ℕ) (n : Node) → ((t a : ℕ) → n ≡ Node.Again t a → ⊥) → record { node = i; under = None } ≡ place_of i n
+pub other-place : (i : ℕ) (n : Node) → ((t a : ℕ) → n ≡ Node.Reargued t a → ⊥) → record { node = i; under = None } ≡ place_of i n
 unfolding place_of
-other-place i (Node.Again t a) other = absurd (other t a refl)
+other-place i (Node.Reargued t a) other = absurd (other t a refl)
 other-place i _ other = refl
 
-pub again-place : (i t a : ℕ) (n : Node) → n ≡ Node.Again t a → record { node = t; under = Some a } ≡ place_of i n
+pub again-place : (i t a : ℕ) (n : Node) → n ≡ Node.Reargued t a → record { node = t; under = Some a } ≡ place_of i n
 unfolding place_of
 again-place i t a n is = rw is refl
 
@@ -170,7 +170,7 @@ module _ (y : Table) (table : IsTable y) where
   node-free (Node.Integer t n) b = at t b.0
   node-free (Node.Pack elements) b = at elements b
   node-free (Node.Cell first rest) b = both-are (free_at y.nodes first) (free_at y.nodes rest) (at first b.0) (at rest b.1)
-  node-free (Node.Again t a) b = at t b.0 ∙ sym (free_reargued (Some (tree_at (trees y) a)) (tree_at (trees y) t))
+  node-free (Node.Reargued t a) b = at t b.0 ∙ sym (free_reargued (Some (tree_at (trees y) a)) (tree_at (trees y) t))
   node-free _ b = refl
 
   by-argument-at : (i : ℕ) → i < length y.nodes → by_argument_at y.nodes i ≡ by_argument_of (tree_at (trees y) i)
@@ -209,7 +209,7 @@ module _ (y : Table) (table : IsTable y) where
   node-by-argument (Node.Integer t n) b = ap passed (by-argument-at t b.0)
   node-by-argument (Node.Pack elements) b = ap of_pack (by-argument-at elements b)
   node-by-argument (Node.Cell first rest) b = rw (by-argument-at first b.0, by-argument-at rest b.1) refl
-  node-by-argument (Node.Again t a) b = by-argument-at t b.0 ∙ sym (by_argument_reargued (Some (tree_at (trees y) a)) (tree_at (trees y) t))
+  node-by-argument (Node.Reargued t a) b = by-argument-at t b.0 ∙ sym (by_argument_reargued (Some (tree_at (trees y) a)) (tree_at (trees y) t))
   node-by-argument _ b = refl
 
   -- ## What a node stands for
@@ -219,7 +219,7 @@ module _ (y : Table) (table : IsTable y) where
   place-is i less = go (entry_at y.nodes i).node (table.each i less).built
     where
       go : (n : Node) → tree_at (trees y) i ≡ tree_of y.bytes y.thunks (trees y) n → placed_tree (trees y) (place_of i n) ≡ tree_at (trees y) i
-      go (Node.Again t a) e = sym e
+      go (Node.Reargued t a) e = sym e
       go _ e = reargued_none (tree_at (trees y) i)
 
   place-below : (i : ℕ) → i < length y.nodes → (resolved_at y.nodes i).node < length y.nodes
@@ -227,7 +227,7 @@ module _ (y : Table) (table : IsTable y) where
   place-below i less = go (entry_at y.nodes i).node (table.each i less).below
     where
       go : (n : Node) → IsBelow y.bytes (length y.thunks) i n → (place_of i n).node < length y.nodes
-      go (Node.Again t a) b = omega (arith, less, b.0)
+      go (Node.Reargued t a) b = omega (arith, less, b.0)
       go _ b = less
 
   place-under : (i : ℕ) → i < length y.nodes → IsThereBelow (length y.nodes) (resolved_at y.nodes i).under
@@ -235,7 +235,7 @@ module _ (y : Table) (table : IsTable y) where
   place-under i less = go (entry_at y.nodes i).node (table.each i less).below
     where
       go : (n : Node) → IsBelow y.bytes (length y.thunks) i n → IsThereBelow (length y.nodes) (place_of i n).under
-      go (Node.Again t a) b = omega (arith, less, b.1)
+      go (Node.Reargued t a) b = omega (arith, less, b.1)
       go _ b = tt
 
   pub shape-flat : (i : ℕ) → i < length y.nodes → is_again (shape_at y.nodes i) ≡ false
@@ -243,7 +243,7 @@ module _ (y : Table) (table : IsTable y) where
   shape-flat i less = go (entry_at y.nodes i).node (table.each i less).flat refl
     where
       go : (n : Node) → IsFlat y.nodes n → (entry_at y.nodes i).node ≡ n → is_again (entry_at y.nodes (place_of i n).node).node ≡ false
-      go (Node.Again t a) flat is = flat
+      go (Node.Reargued t a) flat is = flat
       go _ flat is = ap is_again is
 
   pub resolved-is : (i : ℕ) (r : Placed) → i < length y.nodes → r ≡ resolved_at y.nodes i
@@ -293,7 +293,7 @@ module _ (y : Table) (table : IsTable y) where
   node-ends (Node.Instance template arguments) b = ap Some (reargued_none (tree_at (trees y) arguments))
   node-ends (Node.Local e entity d) b = (table.each entity b.1).arguments
   node-ends (Node.OfDefault digits entity) b = (table.each entity b.1).arguments
-  node-ends (Node.Again t a) b = ends-again t a (by_argument_at y.nodes t).head b.0 refl
+  node-ends (Node.Reargued t a) b = ends-again t a (by_argument_at y.nodes t).head b.0 refl
   node-ends _ b = refl
 
   pub placed-below : (i n : ℕ) (p : Placed) → i < n → IsPlacedBelow i p → IsPlacedBelow n p
@@ -323,7 +323,7 @@ module _ (y : Table) (table : IsTable y) where
   node-ends-below (Node.Instance template arguments) b = (b.1, tt)
   node-ends-below (Node.Local e entity d) b = arguments-below entity (length y.nodes) (entry_at y.nodes entity).arguments b.1 (table.each entity b.1).arguments_below
   node-ends-below (Node.OfDefault digits entity) b = arguments-below entity (length y.nodes) (entry_at y.nodes entity).arguments b.1 (table.each entity b.1).arguments_below
-  node-ends-below (Node.Again t a) b = own-below (length y.nodes) (by_argument_at y.nodes t).head (placed_under a (entry_at y.nodes t).arguments)
+  node-ends-below (Node.Reargued t a) b = own-below (length y.nodes) (by_argument_at y.nodes t).head (placed_under a (entry_at y.nodes t).arguments)
       (under-below (length y.nodes) a (entry_at y.nodes t).arguments b.1 (arguments-below t (length y.nodes) (entry_at y.nodes t).arguments b.0 (table.each t b.0).arguments_below))
   node-ends-below _ b = tt
 
@@ -350,7 +350,7 @@ module _ (y : Table) (table : IsTable y) where
       → untagged_is (trees y) (tree_of y.bytes y.thunks (trees y) n) (untagging y.nodes n) ≡ without_tags (tree_of y.bytes y.thunks (trees y) n)
   unfolding untagging untagged_is tree_of without_tags
   node-untagged (Node.Tagged of_structor name tag) b = name-untagged _ name (entry_at y.nodes name).untagged (table.each name b.0).untagged
-  node-untagged (Node.Again t a) b = untagged-again t a (by_argument_at y.nodes t).head b.0 refl
+  node-untagged (Node.Reargued t a) b = untagged-again t a (by_argument_at y.nodes t).head b.0 refl
   node-untagged _ b = refl
 
   untagged-below : (n name : ℕ) (o : Option Placed) → name < n → IsPlacedThere name o → IsPlacedBelow n (or_itself name o)
@@ -361,7 +361,7 @@ module _ (y : Table) (table : IsTable y) where
   pub node-untagged-below : (n : Node) → IsBelow y.bytes (length y.thunks) (length y.nodes) n → IsPlacedThere (length y.nodes) (untagging y.nodes n)
   unfolding untagging
   node-untagged-below (Node.Tagged of_structor name tag) b = untagged-below (length y.nodes) name (entry_at y.nodes name).untagged b.0 (table.each name b.0).untagged_below
-  node-untagged-below (Node.Again t a) b = own-below (length y.nodes) (by_argument_at y.nodes t).head (placed_under a (entry_at y.nodes t).untagged)
+  node-untagged-below (Node.Reargued t a) b = own-below (length y.nodes) (by_argument_at y.nodes t).head (placed_under a (entry_at y.nodes t).untagged)
       (under-below (length y.nodes) a (entry_at y.nodes t).untagged b.1 (arguments-below t (length y.nodes) (entry_at y.nodes t).untagged b.0 (table.each t b.0).untagged_below))
   node-untagged-below _ b = tt
 
@@ -378,7 +378,7 @@ module _ (y : Table) (table : IsTable y) where
       → class_is (trees y) (pack_class under n c) ≡ items.class_of (term.parameter k (reargued u (tree_of y.bytes y.thunks (trees y) n)))
   unfolding pack_class class_is tree_of items.class_of reargued argument_or is_again placed_tree
   shape-is u k under (Node.Pack elements) c is flat e = ap (λ v. items.of_element (reargued v (tree_at (trees y) elements))) (sym is)
-  shape-is u k under (Node.Again t a) c is flat e = absurd (true≢false flat)
+  shape-is u k under (Node.Reargued t a) c is flat e = absurd (true≢false flat)
   shape-is u k under _ c is flat e = e
 
   pub argument-is : (k a : ℕ) → a < length y.nodes → class_is (trees y) (argument_class y.nodes a) ≡ items.class_of (term.parameter k (tree_at (trees y) a))
@@ -422,7 +422,7 @@ module _ (y : Table) (table : IsTable y) where
   node-class (Node.Rvalue t) lone b = collapse-is (trees y) (entry_at y.nodes t).class ∙ ap items.collapsed_class (table.each t b).class
   node-class (Node.Qualified q t) lone b = (table.each t b).class
   node-class (Node.Parameter k a) lone b = argument-is k a b
-  node-class (Node.Again t a) lone b = class-again t a b.0 b.1 lone
+  node-class (Node.Reargued t a) lone b = class-again t a b.0 b.1 lone
   node-class _ lone b = refl
 
   pub class-later : (i n : ℕ) (c : HeadClass) → i < n → IsClassBelow i c → IsClassBelow n c
@@ -459,7 +459,7 @@ module _ (y : Table) (table : IsTable y) where
   node-class-below (Node.Rvalue t) b = collapse-below (length y.nodes) (entry_at y.nodes t).class (class-later t (length y.nodes) (entry_at y.nodes t).class b (table.each t b).class_below)
   node-class-below (Node.Qualified q t) b = class-later t (length y.nodes) (entry_at y.nodes t).class b (table.each t b).class_below
   node-class-below (Node.Parameter k a) b = argument-below a b
-  node-class-below (Node.Again t a) b = chosen-below (length y.nodes) (by_argument_at y.nodes t).head (entry_at y.nodes t).class (argument_class y.nodes a)
+  node-class-below (Node.Reargued t a) b = chosen-below (length y.nodes) (by_argument_at y.nodes t).head (entry_at y.nodes t).class (argument_class y.nodes a)
       (class-later t (length y.nodes) (entry_at y.nodes t).class b.0 (table.each t b.0).class_below) (argument-below a b.1)
   node-class-below _ b = tt
 
@@ -478,7 +478,7 @@ module _ (y : Table) (table : IsTable y) where
   length-is : (i : ℕ) (n : Node) → i < length y.nodes → is_again n ≡ false → IsBelow y.bytes (length y.thunks) i n → argument_packs y.nodes n ≡ length_if_pack (tree_of y.bytes y.thunks (trees y) n)
   unfolding argument_packs tree_of length_if_pack is_again
   length-is i (Node.Pack elements) less flat b = ap Some (count-at elements (omega (arith, less, b)))
-  length-is i (Node.Again t a) less flat b = absurd (true≢false flat)
+  length-is i (Node.Reargued t a) less flat b = absurd (true≢false flat)
   length-is i _ less flat b = refl
 
   pub argument-pack : (a : ℕ) → a < length y.nodes → argument_packs y.nodes (shape_at y.nodes a) ≡ length_if_pack (tree_at (trees y) a)
@@ -523,7 +523,7 @@ module _ (y : Table) (table : IsTable y) where
   node-pack (Node.Integer t n) b = pack-at t b.0
   node-pack (Node.Pack elements) b = pack-at elements b
   node-pack (Node.Cell first rest) b = rw (pack-at first b.0, pack-at rest b.1) refl
-  node-pack (Node.Again t a) b = again-pack t a b.0 b.1
+  node-pack (Node.Reargued t a) b = again-pack t a b.0 b.1
   node-pack _ b = refl
 
   pub again-empty : (t a : ℕ) → t < length y.nodes → a < length y.nodes
@@ -539,7 +539,7 @@ module _ (y : Table) (table : IsTable y) where
   node-empty (Node.Expansion pattern) b = ap heads.is_none_of (table.each pattern b).packs
   node-empty (Node.Pack elements) b = empty-at elements b
   node-empty (Node.Cell first rest) b = rw (empty-at first b.0, empty-at rest b.1) refl
-  node-empty (Node.Again t a) b = again-empty t a b.0 b.1
+  node-empty (Node.Reargued t a) b = again-empty t a b.0 b.1
   node-empty _ b = refl
 
   structor-piece : (t : Term) (p : Piece) → is_structor_piece p ≡ is_structor (term.within t (piece_of y.bytes (trees y) p))
@@ -551,7 +551,7 @@ module _ (y : Table) (table : IsTable y) where
   structor-node : (n : Node) → is_again n ≡ false → is_structor_node n ≡ is_structor (tree_of y.bytes y.thunks (trees y) n)
   unfolding is_structor_node tree_of is_structor is_again
   structor-node (Node.Within prefix p) flat = structor-piece (tree_at (trees y) prefix) p
-  structor-node (Node.Again t a) flat = absurd (true≢false flat)
+  structor-node (Node.Reargued t a) flat = absurd (true≢false flat)
   structor-node _ flat = refl
 
   structor-shape : (i : ℕ) → i < length y.nodes → is_structor_node (shape_at y.nodes i) ≡ is_structor (tree_at (trees y) i)
@@ -578,19 +578,19 @@ module _ (y : Table) (table : IsTable y) where
   node-returns (Node.Instance template arguments) b = ap not (structor-shape template b.0)
   node-returns (Node.Local e entity d) b = (table.each entity b.1).returns
   node-returns (Node.OfDefault digits entity) b = (table.each entity b.1).returns
-  node-returns (Node.Again t a) b = returns-again t a (by_argument_at y.nodes t).head b.0 refl ∙ sym (returns_reargued (Some (tree_at (trees y) a)) (tree_at (trees y) t))
+  node-returns (Node.Reargued t a) b = returns-again t a (by_argument_at y.nodes t).head b.0 refl ∙ sym (returns_reargued (Some (tree_at (trees y) a)) (tree_at (trees y) t))
   node-returns _ b = refl
 
   pub node-counted : (n : Node) → IsBelow y.bytes (length y.thunks) (length y.nodes) n → counting y.nodes n ≡ count (tree_of y.bytes y.thunks (trees y) n)
   unfolding counting tree_of count
   node-counted (Node.Cell first rest) b = omega (arith, count-at rest b.1)
-  node-counted (Node.Again t a) b = count-again t a (by_argument_at y.nodes t).head b.0 refl ∙ sym (count_reargued (Some (tree_at (trees y) a)) (tree_at (trees y) t))
+  node-counted (Node.Reargued t a) b = count-again t a (by_argument_at y.nodes t).head b.0 refl ∙ sym (count_reargued (Some (tree_at (trees y) a)) (tree_at (trees y) t))
   node-counted _ b = refl
 
   pub node-count-below : (n : Node) → IsBelow y.bytes (length y.thunks) (length y.nodes) n → counting y.nodes n ≤ length y.nodes
   unfolding counting if_own
   node-count-below (Node.Cell first rest) b = omega (arith, (table.each rest b.1).count_below, b.1)
-  node-count-below (Node.Again t a) b = go (by_argument_at y.nodes t).head
+  node-count-below (Node.Reargued t a) b = go (by_argument_at y.nodes t).head
     where
       go : (h : HeadFrom) → if_own h (entry_at y.nodes t).count 0 ≤ length y.nodes
       go HeadFrom.Own = omega (arith, (table.each t b.0).count_below, b.0)
@@ -628,7 +628,7 @@ module _ (y : Table) (table : IsTable y) where
   unfolding is_argument_node tree_of is_alone is_again
   alone-node (Node.Pack elements) flat = refl
   alone-node (Node.Cell first rest) flat = refl
-  alone-node (Node.Again t a) flat = absurd (true≢false flat)
+  alone-node (Node.Reargued t a) flat = absurd (true≢false flat)
   alone-node _ flat = refl
 
   -- whether a node's tree is an argument by itself
@@ -654,7 +654,7 @@ module _ (y : Table) (table : IsTable y) where
   pub node-told : (n : Node) → IsBelow y.bytes (length y.thunks) (length y.nodes) n → having_pack y.nodes n ≡ has_pack (tree_of y.bytes y.thunks (trees y) n)
   unfolding having_pack tree_of has_pack
   node-told (Node.Cell first rest) b = both (λ x z. not x || z) (alone-is first b.0) (table.each rest b.1).pack_told
-  node-told (Node.Again t a) b = told-again t a (by_argument_at y.nodes t).head b.0 refl ∙ sym (has_pack_reargued (Some (tree_at (trees y) a)) (tree_at (trees y) t))
+  node-told (Node.Reargued t a) b = told-again t a (by_argument_at y.nodes t).head b.0 refl ∙ sym (has_pack_reargued (Some (tree_at (trees y) a)) (tree_at (trees y) t))
   node-told _ b = refl
 
   -- what is noted of a node by these

@@ -101,7 +101,7 @@ module _ (s : List ℕ) (us : List Thunk) (ts : List Term) (t : Term) (i : ℕ) 
   node-stays (Node.Pack elements) b = rw (early elements b) refl
   node-stays (Node.Cell first rest) b = rw (early first b.0, early rest b.1) refl
   node-stays (Node.Whole e suffix) b = rw (early e b.0) refl
-  node-stays (Node.Again x a) b = rw (early x b.0, early a b.1) refl
+  node-stays (Node.Reargued x a) b = rw (early x b.0, early a b.1) refl
 
   placed-stays : (p : Placed) → IsPlacedBelow i p → placed_tree (ts ++ t ∷ []) p ≡ placed_tree ts p
   unfolding placed_tree
@@ -133,11 +133,11 @@ abbrev no_entry : Entry
 no_entry = record { node = Node.Absent; packs = None; free = Free.None; is_empty = false; by_argument = by_none false; class = HeadClass.Known Head.Plain; arguments = None; untagged = None; returns = false; count = 0; run = 0; has_pack = false }
 
 flat-new : (y : Table) (e : Entry) (n : Node) → IsBelow y.bytes (length y.thunks) (length y.nodes) n → IsFlat y.nodes n → IsFlat (y.nodes ++ e ∷ []) n
-flat-new y e (Node.Again t a) b flat = ap (λ x. is_again x.node) (get-early y.nodes e no_entry t b.0) ∙ flat
+flat-new y e (Node.Reargued t a) b flat = ap (λ x. is_again x.node) (get-early y.nodes e no_entry t b.0) ∙ flat
 flat-new y e _ b flat = tt
 
 flat-stays : (y : Table) (e : Entry) (i : ℕ) (n : Node) → i < length y.nodes → IsBelow y.bytes (length y.thunks) i n → IsFlat y.nodes n → IsFlat (y.nodes ++ e ∷ []) n
-flat-stays y e i (Node.Again t a) less b flat = ap (λ x. is_again x.node) (get-early y.nodes e no_entry t (omega (arith, b.0, less))) ∙ flat
+flat-stays y e i (Node.Reargued t a) less b flat = ap (λ x. is_again x.node) (get-early y.nodes e no_entry t (omega (arith, b.0, less))) ∙ flat
 flat-stays y e i _ less b flat = tt
 
 module _ (y : Table) (e : Entry) (table : IsTable y) (noted : IsNoted y e) where
@@ -279,7 +279,7 @@ module _ (s : List ℕ) (us : List Thunk) (u : Thunk) where
   below-adjusts (Node.Alone p) i b = b
   below-adjusts (Node.InStd p) i b = b
   below-adjusts (Node.Within prefix p) i b = b
-  below-adjusts (Node.Again t a) i b = b
+  below-adjusts (Node.Reargued t a) i b = b
   below-adjusts _ i b = b
 
   trees-adjust : (ts : List Term) (es : List Entry) → ((i : ℕ) → i < length es → (k : ℕ) × IsBelow s (length us) k (entry_at es i).node) → trees_onto s (us ++ u ∷ []) ts es ≡ trees_onto s us ts es

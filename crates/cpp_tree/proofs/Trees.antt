@@ -45,7 +45,7 @@ cell_is y i first rest table less is =
 no_element : (s : List ℕ) (us : List Thunk) (ts : List Term) (n : Node) (k : ℕ) → is_again n ≡ false → ((first rest : ℕ) → n ≡ Node.Cell first rest → ⊥) → element (tree_of s us ts n) k ≡ absent
 unfolding tree_of element is_again
 no_element s us ts (Node.Cell first rest) k flat other = absurd (other first rest refl)
-no_element s us ts (Node.Again t a) k flat other = absurd (true≢false flat)
+no_element s us ts (Node.Reargued t a) k flat other = absurd (true≢false flat)
 no_element s us ts _ k flat other = refl
 
 pub element_none : (y : Table) (i k : ℕ) → IsTable y → i < length y.nodes → is_again (entry_at y.nodes i).node ≡ false → ((first rest : ℕ) → (entry_at y.nodes i).node ≡ Node.Cell first rest → ⊥) → element (tree_at (trees y) i) k ≡ absent
@@ -149,20 +149,20 @@ there-below n u a is b = subst (λ x. IsThereBelow n x) is b
 pub untagged-over : (a t : Term) → reargued (Some a) (without_tags t) ≡ without_tags (reargued (Some a) t)
 untagged-over a t = sym (untagged_reargued (Some a) t)
 
-pub flat-tree : (s : List ℕ) (us : List Thunk) (ts : List Term) (t a : ℕ) (n : Node) (inner : Placed) → n ≡ Node.Again t a → placed_tree ts inner ≡ tree_at ts t
-    → tree_of s us ts (Node.Again inner.node a) ≡ tree_of s us ts n
+pub flat-tree : (s : List ℕ) (us : List Thunk) (ts : List Term) (t a : ℕ) (n : Node) (inner : Placed) → n ≡ Node.Reargued t a → placed_tree ts inner ≡ tree_at ts t
+    → tree_of s us ts (Node.Reargued inner.node a) ≡ tree_of s us ts n
 unfolding tree_of placed_tree tree_if_there
 flat-tree s us ts t a n inner is same = rw is (over-some ts a inner (tree_at ts t) same)
 
-pub flat-other : (es : List Entry) (n : Node) → ((t a : ℕ) → n ≡ Node.Again t a → ⊥) → IsFlat es n
-flat-other es (Node.Again t a) other = absurd (other t a refl)
+pub flat-other : (es : List Entry) (n : Node) → ((t a : ℕ) → n ≡ Node.Reargued t a → ⊥) → IsFlat es n
+flat-other es (Node.Reargued t a) other = absurd (other t a refl)
 flat-other es _ other = tt
 
-pub settled-other : (ts : List Term) (n : Node) → ((t a : ℕ) → n ≡ Node.Again t a → ⊥) → IsSettled ts n
-settled-other ts (Node.Again t a) other = absurd (other t a refl)
+pub settled-other : (ts : List Term) (n : Node) → ((t a : ℕ) → n ≡ Node.Reargued t a → ⊥) → IsSettled ts n
+settled-other ts (Node.Reargued t a) other = absurd (other t a refl)
 settled-other ts _ other = tt
 
-pub again-below : (s : List ℕ) (held n t a : ℕ) (node : Node) → node ≡ Node.Again t a → IsBelow s held n node → (t < n) × (a < n)
+pub again-below : (s : List ℕ) (held n t a : ℕ) (node : Node) → node ≡ Node.Reargued t a → IsBelow s held n node → (t < n) × (a < n)
 again-below s held n t a node is b = subst (λ x. IsBelow s held n x) is b
 
 -- ## Trees without arguments
@@ -171,7 +171,7 @@ pub erased_place : (y : Table) (p : Placed) (t : Term) → placed_tree (trees y)
 unfolding placed_tree
 erased_place y p t is = sym (erase_reargued (tree_if_there (trees y) p.under) (tree_at (trees y) p.node)) ∙ ap erase is
 
-pub erased_again : (y : Table) (t a : ℕ) (n : Node) → n ≡ Node.Again t a → erase (tree_of y.bytes y.thunks (trees y) n) ≡ erase (tree_at (trees y) t)
+pub erased_again : (y : Table) (t a : ℕ) (n : Node) → n ≡ Node.Reargued t a → erase (tree_of y.bytes y.thunks (trees y) n) ≡ erase (tree_at (trees y) t)
 unfolding tree_of
 erased_again y t a n is = ap (λ x. erase (tree_of y.bytes y.thunks (trees y) x)) is ∙ erase_reargued (Some (tree_at (trees y) a)) (tree_at (trees y) t)
 
@@ -186,9 +186,9 @@ function_seen y n seen name returned parameters under first second q m is seen-i
     (both (λ r p. fields FUNCTION (qualifiers_number (qualifiers_of q)) (mark_number (mark_of m)) [] (plain_tree y name ∷ r ∷ p ∷ []))
     (sym (erase_reargued u (tree_at (trees y) returned))) (sym (erase_reargued u (tree_at (trees y) parameters))))
 
-pub not_again : (n : Node) → ((t a : ℕ) → n ≡ Node.Again t a → ⊥) → is_again n ≡ false
+pub not_again : (n : Node) → ((t a : ℕ) → n ≡ Node.Reargued t a → ⊥) → is_again n ≡ false
 unfolding is_again
-not_again (Node.Again t a) other = absurd (other t a refl)
+not_again (Node.Reargued t a) other = absurd (other t a refl)
 not_again _ other = refl
 
 pub place_most : (y : Table) (i : ℕ) (p : Placed) → IsTable y → i < length y.nodes → p ≡ resolved_at y.nodes i → p.node ≤ i
@@ -196,7 +196,7 @@ unfolding place_of
 place_most y i p table less is = rw is (go (entry_at y.nodes i).node (table.each i less).below)
   where
     go : (n : Node) → IsBelow y.bytes (length y.thunks) i n → (place_of i n).node ≤ i
-    go (Node.Again t a) b = omega (arith, b.0)
+    go (Node.Reargued t a) b = omega (arith, b.0)
     go _ b = omega arith
 
 pub later_parts : (m n : ℕ) (seen : NodeView) → m ≤ n → AreBelow m seen → AreBelow n seen
@@ -207,7 +207,7 @@ later_parts m n seen most all = λ k d less. omega (arith, all k d less, most)
 no_list_node : (s : List ℕ) (us : List Thunk) (ts : List Term) (n : Node) → is_again n ≡ false → ((first rest : ℕ) → n ≡ Node.Cell first rest → ⊥) → is_list (tree_of s us ts n) ≡ false
 unfolding tree_of is_list is_again
 no_list_node s us ts (Node.Cell first rest) flat other = absurd (other first rest refl)
-no_list_node s us ts (Node.Again t a) flat other = absurd (true≢false flat)
+no_list_node s us ts (Node.Reargued t a) flat other = absurd (true≢false flat)
 no_list_node s us ts _ flat other = refl
 
 placed-list : (y : Table) (p : Placed) (t : Term) → placed_tree (trees y) p ≡ t → is_list t ≡ is_list (tree_at (trees y) p.node)
@@ -296,7 +296,7 @@ pack_below y i elements table less is = (node_is y i (Node.Pack elements) table 
 no_pack : (s : List ℕ) (us : List Thunk) (ts : List Term) (c : Option Term) (n : Node) (index : Option ℕ) → is_again n ≡ false → ((elements : ℕ) → n ≡ Node.Pack elements → ⊥) → indexed index (reargued c (tree_of s us ts n)) ≡ reargued c (tree_of s us ts n)
 unfolding tree_of indexed reargued is_again
 no_pack s us ts c (Node.Pack t) index flat other = absurd (other t refl)
-no_pack s us ts c (Node.Again t a) index flat other = absurd (true≢false flat)
+no_pack s us ts c (Node.Reargued t a) index flat other = absurd (true≢false flat)
 no_pack s us ts c _ None flat other = refl
 no_pack s us ts c _ (Some i) flat other = refl
 
@@ -369,7 +369,7 @@ nil_is y p table less is = ap (reargued (tree_if_there (trees y) p.under)) (node
 other_node : (s : List ℕ) (us : List Thunk) (ts : List Term) (c : Option Term) (n : Node) → is_again n ≡ false → (n ≡ Node.Nil → ⊥) → reargued c (tree_of s us ts n) ≡ nil → ⊥
 unfolding tree_of reargued is_again
 other_node s us ts c Node.Nil flat other e = other refl
-other_node s us ts c (Node.Again t a) flat other e = true≢false flat
+other_node s us ts c (Node.Reargued t a) flat other e = true≢false flat
 other_node s us ts c _ flat other e = cc e
 
 pub not_nil : (y : Table) (p : Placed) → IsTable y → p.node < length y.nodes → is_again (entry_at y.nodes p.node).node ≡ false → ((entry_at y.nodes p.node).node ≡ Node.Nil → ⊥) → placed_tree (trees y) p ≡ nil → ⊥
@@ -416,7 +416,7 @@ pack_length_is y p elements many table less is counted =
 no_length : (s : List ℕ) (us : List Thunk) (ts : List Term) (n : Node) → is_again n ≡ false → ((elements : ℕ) → n ≡ Node.Pack elements → ⊥) → length_if_pack (tree_of s us ts n) ≡ None
 unfolding tree_of length_if_pack is_again
 no_length s us ts (Node.Pack elements) flat other = absurd (other elements refl)
-no_length s us ts (Node.Again t a) flat other = absurd (true≢false flat)
+no_length s us ts (Node.Reargued t a) flat other = absurd (true≢false flat)
 no_length s us ts _ flat other = refl
 
 pub no_pack_length : (y : Table) (p : Placed) → IsTable y → p.node < length y.nodes → is_again (entry_at y.nodes p.node).node ≡ false → ((elements : ℕ) → (entry_at y.nodes p.node).node ≡ Node.Pack elements → ⊥)

@@ -7,7 +7,7 @@ use Rattle.cpp_tree.specs.declared.node.Placed.{Placed}
 use Rattle.cpp_tree.specs.declared.node.HeadClass.{HeadClass}
 use Rattle.cpp_tree.specs.declared.node.Free.{Free}
 use Rattle.cpp_tree.specs.declared.node.ByArgument.{ByArgument}
-use Rattle.cpp_tree.specs.declared.compact.HowMany.{HowMany}
+use Rattle.cpp_tree.specs.declared.compact.FreeCount.{FreeCount}
 use Rattle.cpp_tree.specs.declared.compact.Words.{Words}
 use Rattle.cpp_tree.specs.declared.compact.Compact.{Compact}
 use Rattle.cpp_tree.specs.Nodes.{under_kept}
@@ -58,10 +58,10 @@ has_pack_kept Words.ElementsWithPack = true
 has_pack_kept _ = false
 
 -- the free parameters: the number is that of one alone, or the greatest of several
-unfoldable pub free_kept : HowMany → (number : ℕ) → Free
-free_kept HowMany.None k = Free.None
-free_kept HowMany.One k = Free.One k
-free_kept HowMany.Several k = Free.Several k
+unfoldable pub free_kept : FreeCount → (number : ℕ) → Free
+free_kept FreeCount.None k = Free.None
+free_kept FreeCount.One k = Free.One k
+free_kept FreeCount.Several k = Free.Several k
 
 -- an entry, by what is shared in two words
 abbrev pub kept : (n : Node) (packs : Option ℕ) (free : Free) (is_empty : Bool) (by_argument : ByArgument) (words : Words) (first second : ℕ) → Entry

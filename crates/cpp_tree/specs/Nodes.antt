@@ -147,7 +147,7 @@ tree_of s us ts (Node.AddressOf e) = term.address_of (tree_at ts e)
 tree_of s us ts (Node.Pack elements) = term.pack (tree_at ts elements)
 tree_of s us ts (Node.Cell first rest) = term.list (tree_at ts first) (tree_at ts rest)
 tree_of s us ts (Node.Whole e suffix) = term.symbol (tree_at ts e) (bytes_at s suffix)
-tree_of s us ts (Node.Again t a) = reargued (Some (tree_at ts a)) (tree_at ts t)
+tree_of s us ts (Node.Reargued t a) = reargued (Some (tree_at ts a)) (tree_at ts t)
 
 unfoldable pub trees_onto : List ℕ → List Thunk → List Term → List Entry → List Term
 trees_onto s us ts [] = ts
@@ -224,7 +224,7 @@ IsBelow s held n (Node.AddressOf e) = e < n
 IsBelow s held n (Node.Pack elements) = elements < n
 IsBelow s held n (Node.Cell first rest) = (first < n) × (rest < n)
 IsBelow s held n (Node.Whole e suffix) = (e < n) × IsWithin suffix s
-IsBelow s held n (Node.Again t a) = (t < n) × (a < n)
+IsBelow s held n (Node.Reargued t a) = (t < n) × (a < n)
 IsBelow s held n _ = Unit {0}
 
 abbrev pub IsAdjustmentWithin : List ℕ → Adjustment → Type 0
@@ -296,7 +296,7 @@ abbrev pub by_none : Bool → ByArgument
 by_none empty = record { is_bare = false; head = HeadFrom.Own; empty_with = empty; empty_without = empty }
 
 unfoldable pub is_again : Node → Bool
-is_again (Node.Again t a) = true
+is_again (Node.Reargued t a) = true
 is_again _ = false
 
 -- the entry of a node; after the last one that of the absent tree
@@ -305,7 +305,7 @@ entry_at es i = get_or es i (record { node = Node.Absent; packs = None; free = F
 
 -- a tree that is there again isn't one that is there again itself
 abbrev pub IsFlat : List Entry → Node → Type 0
-IsFlat es (Node.Again t a) = is_again (entry_at es t).node ≡ false
+IsFlat es (Node.Reargued t a) = is_again (entry_at es t).node ≡ false
 IsFlat es _ = Unit {0}
 
 -- what a tree is given isn't a list where its head is that of what its one parameter gets
@@ -313,7 +313,7 @@ abbrev pub IsLone : (given t : Term) → Type 0
 IsLone a t = (head_from t ≡ again.of_its_own → ⊥) → given_alone a (free_in t) ≡ a
 
 abbrev pub IsSettled : List Term → Node → Type 0
-IsSettled ts (Node.Again t a) = IsLone (tree_at ts a) (tree_at ts t)
+IsSettled ts (Node.Reargued t a) = IsLone (tree_at ts a) (tree_at ts t)
 IsSettled ts _ = Unit {0}
 
 -- What holds of the node at a place: all that is noted follows from its tree. A cell's run is how many of the nodes before it are

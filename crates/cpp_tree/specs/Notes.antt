@@ -60,7 +60,7 @@ frees es (Node.Expansion t) = free_at es t
 frees es (Node.Integer t n) = free_at es t
 frees es (Node.Pack t) = free_at es t
 frees es (Node.Cell first rest) = both_free (free_at es first) (free_at es rest)
-frees es (Node.Again t a) = free_at es t
+frees es (Node.Reargued t a) = free_at es t
 frees es _ = Free.None
 
 -- ## What depends on another argument of its free parameters
@@ -126,7 +126,7 @@ node_by_argument es (Node.Expansion t) = of_expansion (by_argument_at es t)
 node_by_argument es (Node.Integer t n) = passed (by_argument_at es t)
 node_by_argument es (Node.Pack t) = of_pack (by_argument_at es t)
 node_by_argument es (Node.Cell first rest) = of_cell (by_argument_at es first) (by_argument_at es rest)
-node_by_argument es (Node.Again t a) = by_argument_at es t
+node_by_argument es (Node.Reargued t a) = by_argument_at es t
 node_by_argument es _ = by_none false
 
 -- of a tree that is there again, whether it prints nothing, by its argument
@@ -137,7 +137,7 @@ empty_by none l = cond none l.empty_with l.empty_without
 
 -- what a node stands for: a tree with another argument, or its own tree
 unfoldable pub place_of : ℕ → Node → Placed
-place_of i (Node.Again t a) = record { node = t; under = Some a }
+place_of i (Node.Reargued t a) = record { node = t; under = Some a }
 place_of i _ = record { node = i; under = None }
 
 abbrev pub resolved_at : List Entry → ℕ → Placed
@@ -173,7 +173,7 @@ empties es (Node.Expansion pattern) = heads.is_none_of (entry_at es pattern).pac
 empties es (Node.Pack elements) = (entry_at es elements).is_empty
 empties es Node.Nil = true
 empties es (Node.Cell first rest) = (entry_at es first).is_empty && (entry_at es rest).is_empty
-empties es (Node.Again t a) = empty_by (heads.is_none_of (argument_packs es (shape_at es a))) (by_argument_at es t)
+empties es (Node.Reargued t a) = empty_by (heads.is_none_of (argument_packs es (shape_at es a))) (by_argument_at es t)
 empties es _ = false
 
 -- ## The arguments that it ends in
@@ -185,7 +185,7 @@ unfoldable pub ends_in : List Entry → Node → Option Placed
 ends_in es (Node.Instance template arguments) = Some (itself arguments)
 ends_in es (Node.Local e entity d) = (entry_at es entity).arguments
 ends_in es (Node.OfDefault digits entity) = (entry_at es entity).arguments
-ends_in es (Node.Again t a) = if_own (by_argument_at es t).head (placed_under a (entry_at es t).arguments) None
+ends_in es (Node.Reargued t a) = if_own (by_argument_at es t).head (placed_under a (entry_at es t).arguments) None
 ends_in es _ = None
 
 -- ## The name under its tags
@@ -196,7 +196,7 @@ or_itself name (Some p) = p
 
 unfoldable pub untagging : List Entry → Node → Option Placed
 untagging es (Node.Tagged of_structor name tag) = Some (or_itself name (entry_at es name).untagged)
-untagging es (Node.Again t a) = if_own (by_argument_at es t).head (placed_under a (entry_at es t).untagged) None
+untagging es (Node.Reargued t a) = if_own (by_argument_at es t).head (placed_under a (entry_at es t).untagged) None
 untagging es _ = None
 
 -- ## Its head
@@ -227,7 +227,7 @@ classes es (Node.Qualified q t) = (entry_at es t).class
 classes es (Node.Parameter k a) = argument_class es a
 classes es (Node.FunctionType c n m returned parameters) = HeadClass.Known Head.FunctionOrArray
 classes es (Node.Array digits t) = HeadClass.Known Head.FunctionOrArray
-classes es (Node.Again t a) = class_by (by_argument_at es t).head (entry_at es t).class (argument_class es a)
+classes es (Node.Reargued t a) = class_by (by_argument_at es t).head (entry_at es t).class (argument_class es a)
 classes es (Node.Bounded bound t) = HeadClass.Known Head.FunctionOrArray
 classes es _ = HeadClass.Known Head.Plain
 
@@ -266,7 +266,7 @@ packing es (Node.Complex t) = packs_at es t
 packing es (Node.Integer t n) = packs_at es t
 packing es (Node.Pack t) = packs_at es t
 packing es (Node.Cell first rest) = first_of (packs_at es first) (packs_at es rest)
-packing es (Node.Again t a) = packs_by (by_argument_at es t).is_bare (argument_packs es (shape_at es a))
+packing es (Node.Reargued t a) = packs_by (by_argument_at es t).is_bare (argument_packs es (shape_at es a))
 packing es _ = None
 
 -- ## Whether an encoding of this name has a return type
@@ -285,7 +285,7 @@ unfoldable pub returning : List Entry → Node → Bool
 returning es (Node.Instance template arguments) = not (is_structor_node (shape_at es template))
 returning es (Node.Local e entity d) = (entry_at es entity).returns
 returning es (Node.OfDefault digits entity) = (entry_at es entity).returns
-returning es (Node.Again t a) = if_own (by_argument_at es t).head (entry_at es t).returns false
+returning es (Node.Reargued t a) = if_own (by_argument_at es t).head (entry_at es t).returns false
 returning es _ = false
 
 -- ## The elements of a list
@@ -302,12 +302,12 @@ alone_at es i = is_argument_node (shape_at es i) && not (has_free (free_is (free
 
 unfoldable pub having_pack : List Entry → Node → Bool
 having_pack es (Node.Cell first rest) = not (alone_at es first) || (entry_at es rest).has_pack
-having_pack es (Node.Again t a) = if_own (by_argument_at es t).head (entry_at es t).has_pack false
+having_pack es (Node.Reargued t a) = if_own (by_argument_at es t).head (entry_at es t).has_pack false
 having_pack es _ = false
 
 unfoldable pub counting : List Entry → Node → ℕ
 counting es (Node.Cell first rest) = (entry_at es rest).count + 1
-counting es (Node.Again t a) = if_own (by_argument_at es t).head (entry_at es t).count 0
+counting es (Node.Reargued t a) = if_own (by_argument_at es t).head (entry_at es t).count 0
 counting es _ = 0
 
 unfoldable pub running : List Entry → Node → ℕ

@@ -28,7 +28,7 @@ pub enum Words {
 /// How many parameters are free. The number of one alone is beside it, and of several the greatest: an enum that holds the number would
 /// make an entry 56 bytes.
 #[derive(Clone, Copy)]
-pub enum HowMany {
+pub enum FreeCount {
     None,
     One,
     Several,
@@ -45,7 +45,7 @@ pub struct Compact {
     pub second: u32,
     /// The number of the free parameter, where one alone is free, and the greatest, where several are.
     pub number: u32,
-    pub free: HowMany,
+    pub free: FreeCount,
     pub is_empty: bool,
     pub words: Words,
     pub by_argument: ByArgument,
@@ -167,13 +167,13 @@ fn has_pack(words: Words) -> bool
 /// The free parameters.
 #[inline(always)]
 #[tactic(auto, unfolding(crate::specs::Compact::free_kept))]
-fn free_parameters(kept: HowMany, number: u32) -> Free
+fn free_parameters(kept: FreeCount, number: u32) -> Free
     ensures { result ≡ free_kept kept number }
 {
     match kept {
-        HowMany::None => Free::None,
-        HowMany::One => Free::One(number),
-        HowMany::Several => Free::Several(number),
+        FreeCount::None => Free::None,
+        FreeCount::One => Free::One(number),
+        FreeCount::Several => Free::Several(number),
     }
 }
 
@@ -225,7 +225,7 @@ pub(crate) fn bare(node: Node, is_empty: bool) -> Compact
         first: 0,
         second: 0,
         number: 0,
-        free: HowMany::None,
+        free: FreeCount::None,
         is_empty,
         words: Words::Plain,
         by_argument: by_none(is_empty),

@@ -256,7 +256,7 @@ pub enum Node {
         suffix: Span,
     },
     /// A tree again, with this argument in each of its free parameters, or with the elements of it if it is a list.
-    Again {
+    Reargued {
         tree: u32,
         argument: u32,
     },

@@ -142,7 +142,7 @@ impl Nodes {
         ensures below { IsPlacedBelow (length self.now.nodes) result }
     {
         match self.node(symbol, node) {
-            Node::Again { tree, argument } => Placed {
+            Node::Reargued { tree, argument } => Placed {
                 node: tree,
                 under: Some(argument),
             },
@@ -232,9 +232,9 @@ impl Nodes {
         ensures below { IsBelow symbol.now (length self.now.thunks) (length self.now.nodes) result }
     {
         match node {
-            Node::Again { tree, argument } => {
+            Node::Reargued { tree, argument } => {
                 let tree = self.resolved(symbol, tree).node;
-                Node::Again {
+                Node::Reargued {
                     tree,
                     argument: self.lone(symbol, tree, argument),
                 }

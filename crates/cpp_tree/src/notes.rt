@@ -13,7 +13,7 @@ ghost use Rattle.cpp_tree.specs.Compact.{packs_kept, class_kept, arguments_kept,
 ghost use Rattle.cpp_tree.specs.Nodes.{over, entry_at, IsBelow, IsPieceBelow, IsTable};
 ghost use Rattle.cpp_tree.specs.Notes.{itself, or_itself, by_argument_at, passed, joined, of_parameter, of_expansion, of_pack, of_cell, of_head, collapses_from, piece_by_argument, both_free, piece_frees, piece_packs, argument_packs, argument_class, shape_at, packs_by, empty_by, collapses, placed_under, is_structor_node, alone_at, noting};
 
-use crate::compact::{Compact, HowMany, Words, bare, class, packs};
+use crate::compact::{Compact, FreeCount, Words, bare, class, packs};
 use crate::heads::empty_by;
 use crate::node::{ByArgument, HeadClass, HeadFrom, Node, Piece, under_word};
 use crate::nodes::Nodes;
@@ -218,7 +218,7 @@ fn packs_of_two(one: Compact, other: Compact) -> u32
 /// How many parameters are free, and the number of one alone or the greatest of several.
 #[derive(Clone, Copy)]
 struct Freed {
-    free: HowMany,
+    free: FreeCount,
     number: u32,
 }
 
@@ -229,7 +229,7 @@ fn several(one: u32, other: u32) -> Freed
     ensures { free_kept result.free result.number ≡ Free.Several (max one other) }
 {
     Freed {
-        free: HowMany::Several,
+        free: FreeCount::Several,
         number: one.max(other),
     }
 }
@@ -241,20 +241,20 @@ fn free_beside(number: u32, part: Compact) -> Freed
     ensures { free_kept result.free result.number ≡ both_free (Free.One number) (free_kept part.free part.number) }
 {
     match part.free {
-        HowMany::None => Freed {
-            free: HowMany::One,
+        FreeCount::None => Freed {
+            free: FreeCount::One,
             number,
         },
-        HowMany::One => {
+        FreeCount::One => {
             if number == part.number {
                 return Freed {
-                    free: HowMany::One,
+                    free: FreeCount::One,
                     number,
                 };
             }
             several(number, part.number)
         }
-        HowMany::Several => several(number, part.number),
+        FreeCount::Several => several(number, part.number),
     }
 }
 
@@ -265,12 +265,12 @@ fn several_beside(greatest: u32, part: Compact) -> Freed
     ensures { free_kept result.free result.number ≡ both_free (Free.Several greatest) (free_kept part.free part.number) }
 {
     match part.free {
-        HowMany::None => Freed {
-            free: HowMany::Several,
+        FreeCount::None => Freed {
+            free: FreeCount::Several,
             number: greatest,
         },
-        HowMany::One => several(greatest, part.number),
-        HowMany::Several => several(greatest, part.number),
+        FreeCount::One => several(greatest, part.number),
+        FreeCount::Several => several(greatest, part.number),
     }
 }
 
@@ -281,12 +281,12 @@ fn free_in_two(one: Compact, other: Compact) -> Freed
     ensures { free_kept result.free result.number ≡ both_free (free_kept one.free one.number) (free_kept other.free other.number) }
 {
     match one.free {
-        HowMany::None => Freed {
+        FreeCount::None => Freed {
             free: other.free,
             number: other.number,
         },
-        HowMany::One => free_beside(one.number, other),
-        HowMany::Several => several_beside(one.number, other),
+        FreeCount::One => free_beside(one.number, other),
+        FreeCount::Several => several_beside(one.number, other),
     }
 }
 
@@ -511,7 +511,7 @@ impl Nodes {
             first: given.first,
             second: given.second,
             number,
-            free: HowMany::One,
+            free: FreeCount::One,
             is_empty: false,
             words: of_type(given.words),
             by_argument: ByArgument {
@@ -826,7 +826,7 @@ impl Nodes {
             Node::Pack(elements) => self.noted_pack(node, elements),
             Node::Nil => bare(node, true),
             Node::Cell { first, rest } => self.noted_cell(symbol, node, first, rest),
-            Node::Again { tree, argument } => self.noted_again(symbol, node, tree, argument),
+            Node::Reargued { tree, argument } => self.noted_again(symbol, node, tree, argument),
             _ => bare(node, false),
         }
     }

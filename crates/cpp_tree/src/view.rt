@@ -324,7 +324,7 @@ pub fn view_of(symbol: &[u8], nodes: &Nodes, node: node::Node) -> NodeView
     ensures few { result.node.parts ≤ 3 }
 {
     match node {
-        node::Node::Again { tree, .. } => view_of_tree(symbol, nodes, tree),
+        node::Node::Reargued { tree, .. } => view_of_tree(symbol, nodes, tree),
         _ => view_of_own(symbol, nodes, node),
     }
 }
@@ -464,7 +464,7 @@ fn view_of_own(symbol: &[u8], nodes: &Nodes, node: node::Node) -> NodeView
         node::Node::Cell { first, rest } => two(LIST, none, NO_TEXT, first, rest),
         node::Node::Whole { encoding, suffix } => one(SYMBOL, none, suffix, encoding),
         // No node here: the tree that is there again is shown in its place.
-        node::Node::Again { .. } => leaf(ABSENT, 0),
+        node::Node::Reargued { .. } => leaf(ABSENT, 0),
     }
 }
 
@@ -476,7 +476,7 @@ pub fn offsets_of(symbol: &[u8], nodes: &Nodes, node: node::Node) -> Option<Thun
     ensures within { IsKnownThunk symbol.now result }
 {
     match node {
-        node::Node::Again { tree, .. } => {
+        node::Node::Reargued { tree, .. } => {
             let place = nodes.resolved(symbol, tree);
             own_offsets_of(symbol, nodes, nodes.node(symbol, place.node))
         }

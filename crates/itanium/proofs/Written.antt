@@ -7,7 +7,7 @@ use Rattle.sym_demangle.specs.Mangled.{IsAnswer, StandsFor, shaped, answer_of_sy
 use Rattle.cpp_grammar.specs.Answer.{shown, root_item}
 use Rattle.cpp_grammar.specs.Mangled.{cpp_mangled, wide_mangled}
 use Rattle.cpp_grammar.specs.Term.{Term}
-use Rattle.cpp_direct.specs.Stands.{IsWhole}
+use Rattle.cpp_direct.specs.WriterInvariant.{IsWhole}
 use Rattle.cpp_direct.specs.Symbol.{mangled_by, symbol_by}
 
 -- what a symbol stands for is answered by its text, if that is short enough

@@ -4,9 +4,9 @@ ghost use Rattle.std.specs.Prelude.{◌≡◌, ◌≤◌, ◌+◌, ◌*◌, leng
 ghost use Rattle.sym_core.specs.Number.{FitsSymbol};
 ghost use Rattle.sym_print.specs.declared.detail.Detail.TheVariants as details;
 ghost use Rattle.sym_demangle.specs.Mangled.{IsAnswer};
-ghost use Rattle.cpp_direct.specs.Stands.{IsWhole};
+ghost use Rattle.cpp_direct.specs.WriterInvariant.{IsWhole};
 ghost use Rattle.cpp_direct.specs.Symbol.{mangled_by, symbol_by};
-ghost use Rattle.cpp_direct.specs.Ways.{IsFresh};
+ghost use Rattle.cpp_direct.specs.MidStep.{IsFresh};
 
 use cpp_direct::{Abi, Direct, Grammar, Step, Wide, are_name_bytes};
 

@@ -11,10 +11,10 @@ use Rattle.rust_direct.specs.declared.open.Forms.TheVariants as forms
 use Rattle.rust_direct.specs.declared.open.Note.{Note}
 use Rattle.rust_direct.specs.declared.direct.Direct.{Direct}
 use Rattle.rust_direct.specs.Holes.{IsNumberAt}
-use Rattle.rust_direct.specs.Says.{PathHas, Says, is_path}
+use Rattle.rust_direct.specs.PrintsInForm.{PathHas, Says, is_path}
 use Rattle.rust_direct.specs.Notes.{home, IsNote, NotesEnded, NotedAs, IsNumbered}
 use Rattle.rust_direct.specs.Written.{Writes, piece}
-use Rattle.rust_direct.specs.Stands.{AreNotesOf}
+use Rattle.rust_direct.specs.WriterInvariant.{AreNotesOf}
 use Rattle.rust_direct.specs.Awaits.{Awaits, IsEnded}
 use Rattle.rust_direct.proofs.Kept.{keeps-written, piece-found}
 use Rattle.rust_direct.proofs.MovesOfTypes.{path-referred}

@@ -18,9 +18,9 @@ use Rattle.rust_direct.specs.declared.open.Step.TheVariants as steps
 use Rattle.rust_direct.specs.declared.direct.Direct.{Direct}
 use Rattle.rust_direct.specs.Holes.{Comes, Expects, within, Wanted, path, other_path, type, kind_of, is_for_type, IsType, Ends}
 use Rattle.rust_direct.specs.Prints.{PathPrints, TypePrints, opening}
-use Rattle.rust_direct.specs.Says.{PathHas, Holds, has_form, is_type, form_of, is_path}
+use Rattle.rust_direct.specs.PrintsInForm.{PathHas, Holds, has_form, is_type, form_of, is_path}
 use Rattle.rust_direct.specs.Written.{Writes, Pushes}
-use Rattle.rust_direct.specs.Stands.{Stands, IsWriting, Keeps, parked_of, separator_of}
+use Rattle.rust_direct.specs.WriterInvariant.{Stands, IsWriting, Keeps, parked_of, separator_of}
 use Rattle.rust_direct.specs.Awaits.{Awaits, AwaitsPath, AwaitsArgument, Arrives, IsEnded}
 use Rattle.rust_direct.proofs.Kept.{keeps-same, keeps-written, reverse-last}
 use Rattle.rust_direct.proofs.Moves.{expects-moved}

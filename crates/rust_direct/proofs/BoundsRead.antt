@@ -12,9 +12,9 @@ use Rattle.rust_direct.specs.declared.open.Open.TheVariants as opens
 use Rattle.rust_direct.specs.declared.open.Step.TheVariants as steps
 use Rattle.rust_direct.specs.declared.direct.Direct.{Direct}
 use Rattle.rust_direct.specs.Holes.{Comes, Ends, within, path}
-use Rattle.rust_direct.specs.Says.{Holds, has_form}
+use Rattle.rust_direct.specs.PrintsInForm.{Holds, has_form}
 use Rattle.rust_direct.specs.Written.{Writes, Pushes, Opens}
-use Rattle.rust_direct.specs.Stands.{Stands, IsWriting, parked_of}
+use Rattle.rust_direct.specs.WriterInvariant.{Stands, IsWriting, parked_of}
 use Rattle.rust_direct.specs.Awaits.{Awaits, Arrives, IsEnded}
 use Rattle.rust_direct.proofs.Kept.{keeps-written}
 use Rattle.rust_direct.proofs.Moves.{expects-moved}

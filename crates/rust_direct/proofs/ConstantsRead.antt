@@ -12,10 +12,10 @@ use Rattle.rust_direct.specs.declared.open.Step.TheVariants as steps
 use Rattle.rust_direct.specs.declared.direct.Direct.{Direct}
 use Rattle.rust_direct.specs.Holes.{Opened, type, within, with_ended, Ends, ArgumentsGoOn}
 use Rattle.rust_direct.specs.Prints.{opening}
-use Rattle.rust_direct.specs.Says.{Holds, is_type}
+use Rattle.rust_direct.specs.PrintsInForm.{Holds, is_type}
 use Rattle.rust_direct.specs.Written.{Writes, Notes, Pushes}
 use Rattle.rust_direct.specs.Constants.{sign_text, IsHexAt, IsConstantAt, BeginsInteger, WritesConstant}
-use Rattle.rust_direct.specs.Stands.{Stands, IsWriting, parked_of, separator_of}
+use Rattle.rust_direct.specs.WriterInvariant.{Stands, IsWriting, parked_of, separator_of}
 use Rattle.rust_direct.specs.Awaits.{Awaits, AwaitsArgument, Arrives, IsEnded}
 use Rattle.rust_direct.proofs.Kept.{keeps-written, keeps-noted}
 use Rattle.rust_direct.proofs.Moves.{expects-moved}

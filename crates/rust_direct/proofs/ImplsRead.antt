@@ -10,9 +10,9 @@ use Rattle.rust_direct.specs.declared.open.Open.TheVariants as opens
 use Rattle.rust_direct.specs.declared.open.Step.TheVariants as steps
 use Rattle.rust_direct.specs.declared.direct.Direct.{Direct}
 use Rattle.rust_direct.specs.Holes.{Comes, within, path, type, Ends, IsDisambiguatorAt}
-use Rattle.rust_direct.specs.Says.{Holds, is_type, is_path}
+use Rattle.rust_direct.specs.PrintsInForm.{Holds, is_type, is_path}
 use Rattle.rust_direct.specs.Written.{Writes, Pushes}
-use Rattle.rust_direct.specs.Stands.{Stands, IsWriting, parked_of}
+use Rattle.rust_direct.specs.WriterInvariant.{Stands, IsWriting, parked_of}
 use Rattle.rust_direct.specs.Awaits.{AwaitsPath, AwaitsImplType, Arrives, IsEnded}
 use Rattle.rust_direct.proofs.Kept.{keeps-written, keeps-turned}
 use Rattle.rust_direct.proofs.MovesOfTypes.{impl-opens}

@@ -8,9 +8,9 @@ use Rattle.rust_direct.specs.declared.open.Open.TheVariants as opens
 use Rattle.rust_direct.specs.declared.open.Step.TheVariants as steps
 use Rattle.rust_direct.specs.declared.direct.Direct.{Direct}
 use Rattle.rust_direct.specs.Holes.{Opened, Comes, within, path, IsDisambiguatorAt}
-use Rattle.rust_direct.specs.Says.{is_path}
+use Rattle.rust_direct.specs.PrintsInForm.{is_path}
 use Rattle.rust_direct.specs.Written.{Opens}
-use Rattle.rust_direct.specs.Stands.{Stands, IsWriting, IsUnbegun, parked_of}
+use Rattle.rust_direct.specs.WriterInvariant.{Stands, IsWriting, IsUnbegun, parked_of}
 use Rattle.rust_direct.specs.Awaits.{AwaitsPath, AwaitsImplType, AwaitsTraitType, Arrives}
 use Rattle.rust_direct.proofs.Again.{path-needs}
 use Rattle.rust_direct.proofs.MovesOfTypes.{impl-opens, trait-opens}

@@ -9,9 +9,9 @@ use Rattle.rust_grammar.specs.Unfold.{ended_at}
 use Rattle.rust_direct.specs.declared.open.Note.{Note}
 use Rattle.rust_direct.specs.declared.open.Forms.{Forms}
 use Rattle.rust_direct.specs.declared.direct.Direct.{Direct}
-use Rattle.rust_direct.specs.Says.{Says}
+use Rattle.rust_direct.specs.PrintsInForm.{Says}
 use Rattle.rust_direct.specs.Notes.{home, IsNote, NotedAs, IsNumbered, AreNotes}
-use Rattle.rust_direct.specs.Stands.{AreNotesOf, AreRooms, HasRooms, Keeps}
+use Rattle.rust_direct.specs.WriterInvariant.{AreNotesOf, AreRooms, HasRooms, Keeps}
 use Rattle.rust_direct.specs.Written.{Writes, Notes}
 use Rattle.rust_direct.specs.Holes.{with_ended}
 

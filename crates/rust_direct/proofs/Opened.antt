@@ -5,7 +5,7 @@ use Rattle.rust_direct.specs.declared.open.Open.{Open}
 use Rattle.rust_direct.specs.declared.direct.Direct.{Direct}
 use Rattle.rust_direct.specs.Holes.{Opened}
 use Rattle.rust_direct.specs.Written.{Opens}
-use Rattle.rust_direct.specs.Stands.{Stands, Keeps, parked_of}
+use Rattle.rust_direct.specs.WriterInvariant.{Stands, Keeps, parked_of}
 use Rattle.rust_direct.proofs.Kept.{notes-stay, rooms-same}
 use Rattle.rust_direct.proofs.PathsRead.{waits-too}
 

@@ -15,9 +15,9 @@ use Rattle.rust_direct.specs.declared.direct.Direct.{Direct}
 use Rattle.rust_grammar.specs.declared.kind.TheConstants.{PATH}
 use Rattle.rust_direct.specs.Holes.{Opened, Comes, within, behind, with_ended, path, IsNameAt, IsDisambiguatorAt, identifier, is_namespace}
 use Rattle.rust_direct.specs.Prints.{PathPrints}
-use Rattle.rust_direct.specs.Says.{PathHas, HaveRoom, Says, Holds, has_form, is_path}
+use Rattle.rust_direct.specs.PrintsInForm.{PathHas, HaveRoom, Says, Holds, has_form, is_path}
 use Rattle.rust_direct.specs.Written.{Writes, Notes}
-use Rattle.rust_direct.specs.Stands.{Stands, IsWriting, parked_of}
+use Rattle.rust_direct.specs.WriterInvariant.{Stands, IsWriting, parked_of}
 use Rattle.rust_direct.specs.Awaits.{Awaits, AwaitsPath, Arrives, IsEnded, IsEndedWithRoom}
 use Rattle.rust_direct.proofs.Kept.{keeps-same, keeps-written, keeps-noted, reverse-last}
 use Rattle.rust_direct.proofs.Moves.{expects-moved, identifier-comes, crate-comes, nest_awaits, nest-opens, nest-goes-on}

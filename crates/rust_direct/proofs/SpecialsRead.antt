@@ -11,7 +11,7 @@ use Rattle.rust_direct.specs.declared.open.Forms.TheVariants as forms
 use Rattle.rust_direct.specs.declared.open.Open.TheVariants as opens
 use Rattle.rust_direct.specs.declared.direct.Direct.{Direct}
 use Rattle.rust_direct.specs.Holes.{Comes, within, behind, IsNameAt, IsDisambiguatorAt, identifier}
-use Rattle.rust_direct.specs.Says.{PathHas, is_path}
+use Rattle.rust_direct.specs.PrintsInForm.{PathHas, is_path}
 use Rattle.rust_direct.specs.Written.{Writes}
 use Rattle.rust_direct.specs.Specials.{behind_colon, special_text}
 use Rattle.rust_direct.specs.Awaits.{Arrives, IsEnded}

@@ -19,9 +19,9 @@ use Rattle.rust_direct.specs.declared.open.Step.TheVariants as steps
 use Rattle.rust_direct.specs.declared.direct.Direct.{Direct}
 use Rattle.rust_direct.specs.Holes.{Comes, within, path, other_path, IsSuffix, EndsSymbol}
 use Rattle.rust_direct.specs.Prints.{PathPrints}
-use Rattle.rust_direct.specs.Says.{has_form, is_path}
+use Rattle.rust_direct.specs.PrintsInForm.{has_form, is_path}
 use Rattle.rust_direct.specs.Written.{Writes}
-use Rattle.rust_direct.specs.Stands.{Stands, IsWriting, IsWhole, HasRooms, parked_of}
+use Rattle.rust_direct.specs.WriterInvariant.{Stands, IsWriting, IsWhole, HasRooms, parked_of}
 use Rattle.rust_direct.specs.Awaits.{IsFresh, Arrives, IsSymbolEnded}
 use Rattle.rust_direct.proofs.Kept.{keeps-written, keeps-turned, none-noted}
 use Rattle.rust_direct.proofs.MovesOfSymbols.{symbol-starts}

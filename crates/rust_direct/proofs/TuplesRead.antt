@@ -11,9 +11,9 @@ use Rattle.rust_direct.specs.declared.open.Step.TheVariants as steps
 use Rattle.rust_direct.specs.declared.direct.Direct.{Direct}
 use Rattle.rust_direct.specs.Holes.{within, type}
 use Rattle.rust_direct.specs.Prints.{TypePrints}
-use Rattle.rust_direct.specs.Says.{Holds, is_type}
+use Rattle.rust_direct.specs.PrintsInForm.{Holds, is_type}
 use Rattle.rust_direct.specs.Written.{Writes, Pushes, Opens}
-use Rattle.rust_direct.specs.Stands.{Stands, IsWriting, TypesCount, tuple_end, parked_of}
+use Rattle.rust_direct.specs.WriterInvariant.{Stands, IsWriting, TypesCount, tuple_end, parked_of}
 use Rattle.rust_direct.specs.Awaits.{Awaits, Arrives, IsEnded}
 use Rattle.rust_direct.proofs.Kept.{keeps-written}
 use Rattle.rust_direct.proofs.MovesOfArguments.{more_awaits, tuple-opens, element-opens, element-goes-on, types-close}

@@ -12,7 +12,7 @@ use Rattle.rust_direct.specs.declared.open.Note.{Note}
 use Rattle.rust_direct.specs.declared.direct.Direct.{Direct}
 use Rattle.rust_direct.specs.Holes.{Expects, Wanted, path, other_path, type, is_for_type, kind_of, IsNumberAt}
 use Rattle.rust_direct.specs.Prints.{TypePrints}
-use Rattle.rust_direct.specs.Says.{Says, Holds, is_type}
+use Rattle.rust_direct.specs.PrintsInForm.{Says, Holds, is_type}
 use Rattle.rust_direct.specs.Notes.{home}
 use Rattle.rust_direct.specs.Written.{Writes, piece}
 use Rattle.rust_direct.specs.Awaits.{Awaits, IsEnded}

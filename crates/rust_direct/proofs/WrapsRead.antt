@@ -13,9 +13,9 @@ use Rattle.rust_direct.specs.declared.open.Step.TheVariants as steps
 use Rattle.rust_direct.specs.declared.direct.Direct.{Direct}
 use Rattle.rust_direct.specs.Holes.{within, type, TypeGoesOn, IsErasedAt}
 use Rattle.rust_direct.specs.Prints.{TypePrints}
-use Rattle.rust_direct.specs.Says.{Holds, is_type}
+use Rattle.rust_direct.specs.PrintsInForm.{Holds, is_type}
 use Rattle.rust_direct.specs.Written.{Writes, Opens}
-use Rattle.rust_direct.specs.Stands.{Stands, IsWriting, WrapHolds, closing_text, closing_forms, parked_of}
+use Rattle.rust_direct.specs.WriterInvariant.{Stands, IsWriting, WrapHolds, closing_text, closing_forms, parked_of}
 use Rattle.rust_direct.specs.Awaits.{Awaits, Arrives, IsEnded}
 use Rattle.rust_direct.proofs.Kept.{keeps-written}
 use Rattle.rust_direct.proofs.MovesOfTypes.{shared-opens, mutable-opens, const-opens, mut-opens, slice-opens}

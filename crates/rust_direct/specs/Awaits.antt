@@ -7,8 +7,8 @@ use Rattle.rust_direct.specs.declared.open.Open.{Open}
 use Rattle.rust_direct.specs.declared.direct.Direct.{Direct}
 use Rattle.rust_direct.specs.Holes.{Opened, Comes, with_ended, EndsSymbol, TypeGoesOn, ImplementingGoesOn}
 use Rattle.rust_direct.specs.Prints.{PathPrints, TypePrints}
-use Rattle.rust_direct.specs.Says.{Says, Holds, PathHas, HaveRoom}
-use Rattle.rust_direct.specs.Stands.{Stands, TraitPrints, IsAwaited, IsRead, IsListing, separator_of, HasRooms, Keeps, parked_of}
+use Rattle.rust_direct.specs.PrintsInForm.{Says, Holds, PathHas, HaveRoom}
+use Rattle.rust_direct.specs.WriterInvariant.{Stands, TraitPrints, IsAwaited, IsRead, IsListing, separator_of, HasRooms, Keeps, parked_of}
 
 -- nothing is written yet, and no list has too much room
 pub record IsFresh (s : List ℕ) (w : Direct) : Type 0 where

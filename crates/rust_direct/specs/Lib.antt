@@ -2,11 +2,11 @@ pub mod Holes
 pub mod Names
 pub mod Hashes
 pub mod Prints
-pub mod Says
+pub mod PrintsInForm
 pub mod Notes
 pub mod Written
 pub mod Specials
 pub mod Bounds
 pub mod Constants
-pub mod Stands
+pub mod WriterInvariant
 pub mod Awaits

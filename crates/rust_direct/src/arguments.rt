@@ -8,7 +8,7 @@ ghost use Rattle.rust_direct.specs.declared.open.Step.TheVariants as steps;
 ghost use Rattle.rust_direct.specs.declared.open.Open.TheVariants as opens;
 ghost use Rattle.rust_direct.specs.Prints.{opening};
 ghost use Rattle.rust_direct.specs.Written.{Writes};
-ghost use Rattle.rust_direct.specs.Stands.{IsWriting};
+ghost use Rattle.rust_direct.specs.WriterInvariant.{IsWriting};
 ghost use Rattle.rust_direct.specs.Awaits.{AwaitsArgument, Arrives};
 
 use crate::direct::Direct;

@@ -4,8 +4,8 @@ ghost use Rattle.std.specs.Prelude.{◌≡◌, ◌∷◌, [], false, true};
 ghost use Rattle.std.specs.Option.{IfSome};
 ghost use Rattle.sym_direct.specs.Holes.{StandsAt};
 ghost use Rattle.rust_direct.specs.declared.open.Open.TheVariants as opens;
-ghost use Rattle.rust_direct.specs.Says.{has_form};
-ghost use Rattle.rust_direct.specs.Stands.{IsWriting};
+ghost use Rattle.rust_direct.specs.PrintsInForm.{has_form};
+ghost use Rattle.rust_direct.specs.WriterInvariant.{IsWriting};
 ghost use Rattle.rust_direct.specs.Awaits.{Awaits, Arrives};
 
 use crate::direct::Direct;

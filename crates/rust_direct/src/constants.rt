@@ -6,7 +6,7 @@ ghost use Rattle.sym_core.specs.Number.{FitsSymbol};
 ghost use Rattle.sym_direct.specs.Holes.{StandsAt};
 ghost use Rattle.rust_direct.specs.declared.open.Open.TheVariants as opens;
 ghost use Rattle.rust_direct.specs.Constants.{is_signed, is_unsigned, sign_text, BeginsInteger, WritesConstant};
-ghost use Rattle.rust_direct.specs.Stands.{IsWriting};
+ghost use Rattle.rust_direct.specs.WriterInvariant.{IsWriting};
 ghost use Rattle.rust_direct.specs.Awaits.{Awaits, AwaitsArgument, Arrives};
 
 use crate::direct::Direct;

@@ -4,7 +4,7 @@ ghost use Rattle.std.specs.Prelude.{◌≡◌, ◌+◌, ◌∷◌, [], reverse, 
 ghost use Rattle.std.specs.Option.{IfSome};
 ghost use Rattle.sym_direct.specs.Holes.{StandsAt};
 ghost use Rattle.rust_direct.specs.Holes.{HasDisambiguator};
-ghost use Rattle.rust_direct.specs.Stands.{IsWriting, IsUnbegun};
+ghost use Rattle.rust_direct.specs.WriterInvariant.{IsWriting, IsUnbegun};
 ghost use Rattle.rust_direct.specs.Awaits.{AwaitsPath};
 
 use crate::direct::Direct;

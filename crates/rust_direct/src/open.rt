@@ -1,7 +1,7 @@
 // What is open around what is being read, and what comes next.
 
 ghost use Rattle.std.specs.Prelude.{◌≡◌};
-ghost use Rattle.rust_direct.specs.Says.{has_form, is_path, is_type, form_of};
+ghost use Rattle.rust_direct.specs.PrintsInForm.{has_form, is_path, is_type, form_of};
 
 /// What was read at a place, by the text that it wrote.
 #[derive(Clone, Copy)]

@@ -5,10 +5,10 @@ ghost use Rattle.std.specs.Option.{IfSome, OnSome};
 ghost use Rattle.sym_core.specs.Number.{FitsSymbol};
 ghost use Rattle.rust_tree.specs.Shown.{namespace_text};
 ghost use Rattle.rust_direct.specs.declared.open.Open.TheVariants as opens;
-ghost use Rattle.rust_direct.specs.Says.{is_path};
+ghost use Rattle.rust_direct.specs.PrintsInForm.{is_path};
 ghost use Rattle.rust_direct.specs.Written.{Writes};
 ghost use Rattle.rust_direct.specs.Specials.{behind_colon, special_text};
-ghost use Rattle.rust_direct.specs.Stands.{IsWriting};
+ghost use Rattle.rust_direct.specs.WriterInvariant.{IsWriting};
 ghost use Rattle.rust_direct.specs.Awaits.{Arrives};
 
 use crate::direct::Direct;

@@ -4,7 +4,7 @@ ghost use Rattle.std.specs.Prelude.{◌≡◌, ℕ, ◌≤◌, ◌+◌, ◌*◌,
 ghost use Rattle.std.specs.Option.{IfSome, OnSome};
 ghost use Rattle.sym_core.specs.Number.{FitsSymbol};
 ghost use Rattle.rust_direct.specs.declared.open.Open.TheVariants as opens;
-ghost use Rattle.rust_direct.specs.Stands.{IsWriting};
+ghost use Rattle.rust_direct.specs.WriterInvariant.{IsWriting};
 ghost use Rattle.rust_direct.specs.Awaits.{IsFresh, Arrives, IsSymbolEnded};
 
 use crate::direct::Direct;

@@ -4,7 +4,7 @@ ghost use Rattle.std.specs.Prelude.{◌≡◌, ◌+◌, ◌-◌, ◌≤◌, ◌�
 ghost use Rattle.std.specs.Option.{OnSome, IfSome};
 ghost use Rattle.rust_direct.specs.Written.{Writes, Opens, Notes, piece};
 ghost use Rattle.rust_direct.specs.Notes.{home};
-ghost use Rattle.rust_direct.specs.Stands.{IsWriting};
+ghost use Rattle.rust_direct.specs.WriterInvariant.{IsWriting};
 ghost use Rattle.rust_direct.specs.Awaits.{IsEnded};
 
 use crate::direct::Direct;

@@ -5,7 +5,7 @@ ghost use Rattle.std.specs.Prelude.{◌≡◌, ◌≤◌, ◌+◌, ◌*◌, leng
 ghost use Rattle.sym_core.specs.Number.{FitsSymbol};
 ghost use Rattle.sym_print.specs.declared.detail.Detail.TheVariants as details;
 ghost use Rattle.rust_grammar.specs.Mangled.{IsAnswer};
-ghost use Rattle.rust_direct.specs.Stands.{HasRooms};
+ghost use Rattle.rust_direct.specs.WriterInvariant.{HasRooms};
 ghost use Rattle.rust_direct.specs.Awaits.{IsFresh};
 
 use rust_direct::{Direct, Step};

@@ -95,7 +95,7 @@ fn take_alone<L: Linking>(
 // Closes in one place: `#[inline(always)]` holds only up to a size that counts what is inlined in turn. With two places this
 // stayed a call with four productions more in Rust's loop, and the filter took 19 % more instructions.
 #[inline(always)]
-fn settle<L: Linking>(
+fn close_lone_token<L: Linking>(
     language: &mut L,
     symbol: &[u8],
     rows: &[Row],
@@ -159,7 +159,7 @@ fn take<L: Linking>(
         base: parts.len(),
         kept,
     };
-    settle(language, symbol, rows, next + 1, frames, parts, opened)
+    close_lone_token(language, symbol, rows, next + 1, frames, parts, opened)
 }
 
 /// Takes the first row. It answers the number of the next row.
@@ -188,10 +188,10 @@ fn begin<L: Linking>(
         base: 0,
         kept,
     };
-    settle(language, symbol, rows, 1, frames, parts, opened)
+    close_lone_token(language, symbol, rows, 1, frames, parts, opened)
 }
 
-/// Takes the next row, with what `settle` adds to it, or closes the innermost rule after its last row. It answers the number
+/// Takes the next row, with what `close_lone_token` adds to it, or closes the innermost rule after its last row. It answers the number
 /// of the next row, or none where nothing is left to do.
 fn advance<L: Linking>(
     language: &mut L,

@@ -1,5 +1,5 @@
 use Rattle.std.proofs.Common.{ap, length, subst, arith}
-use Rattle.rust_direct.specs.Stands.{IsBefore}
+use Rattle.rust_direct.specs.WriterInvariant.{IsBefore}
 use Rattle.rust_direct.proofs.SymbolsRead.{whole-answer}
 use Rattle.rust_short_way.proofs.run.Goals as goal
 

@@ -1,6 +1,6 @@
 use Rattle.std.proofs.Common.{subst, ap, arith, ◌∷◌, []}
 use Rattle.cpp_direct.specs.Holes.{StandsAt}
-use Rattle.cpp_direct.specs.Ways.{parameter_digits}
+use Rattle.cpp_direct.specs.MidStep.{parameter_digits}
 use Rattle.cpp_direct.proofs.DependentsRead.{digit-stands}
 use Rattle.cpp_direct.proofs.TypesRead.{there}
 use Rattle.cpp_direct.proofs.parameters.parameter_number.Goals as goal

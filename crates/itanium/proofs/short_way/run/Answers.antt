@@ -1,5 +1,5 @@
 use Rattle.std.proofs.Common.{subst, arith}
-use Rattle.cpp_direct.specs.Stands.{IsBefore}
+use Rattle.cpp_direct.specs.WriterInvariant.{IsBefore}
 use Rattle.cpp_direct.specs.Symbol.{symbol_by}
 use Rattle.itanium.proofs.short_way.run.Goals as goal
 

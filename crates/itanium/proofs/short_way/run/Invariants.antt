@@ -1,6 +1,6 @@
 -- The writer has come to the step that is next, and has taken no more than it may.
 use Rattle.std.specs.Prelude.{◌≤◌, ◌-◌, ◌*◌, length}
-use Rattle.cpp_direct.specs.Stands.{IsWriting}
+use Rattle.cpp_direct.specs.WriterInvariant.{IsWriting}
 use Rattle.cpp_direct.specs.Symbol.{symbol_by}
 use Rattle.itanium.proofs.short_way.run.Given as goal
 

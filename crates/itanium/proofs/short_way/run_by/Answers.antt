@@ -1,5 +1,5 @@
 use Rattle.std.proofs.Common.{sym, subst}
-use Rattle.cpp_direct.specs.Stands.{IsWhole}
+use Rattle.cpp_direct.specs.WriterInvariant.{IsWhole}
 use Rattle.cpp_direct.specs.Symbol.{symbol_by}
 use Rattle.itanium.proofs.short_way.run_by.Goals as goal
 

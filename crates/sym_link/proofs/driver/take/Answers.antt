@@ -140,8 +140,8 @@ returns-in_err-kept-clause-more g c =
     (record { rule = 0; from = 0; to = 0; end = 0 }) (g.met.L.Linking.laws c.args.symbol.now)
     (c.requires.1 c.top-frame.result.now (c.top-frame.ensures.0, sym c.deref.ensures.value ∙ c.top-frame.ensures.1))
 
-pub settle-requires : goal.settle-requires
-settle-requires g c =
+pub close_lone_token-requires : goal.close_lone_token-requires
+close_lone_token-requires g c =
     record {
       whole = (c.requires.1 c.top-frame.result.now (c.top-frame.ensures.0, sym c.deref.ensures.value ∙ c.top-frame.ensures.1)).whole;
       steps = c.requires.0;
@@ -173,7 +173,7 @@ settle-requires g c =
 
 pub returns-clause-follows : goal.returns-clause-follows
 returns-clause-follows g c whole left follows =
-    c.settle.ensures.follows whole left _
+    c.close_lone_token.ensures.follows whole left _
     (rule_begun (g.L.Linking.view c.args.symbol.now) c.args.symbol.now c.args.rows.now whole left c.args.language.now
     c.enter.new.self c.args.next c.args.frames.now.items c.top-frame.result.now
     (record {
@@ -218,7 +218,7 @@ returns-in_err-kept-clause-few g c = few_two (g.L.Linking.view c.args.symbol.now
 
 pub returns-clause-few : goal.returns-clause-few
 returns-clause-few g c =
-    c.settle.ensures.few (c.requires.1 c.top-frame.result.now
+    c.close_lone_token.ensures.few (c.requires.1 c.top-frame.result.now
     (c.top-frame.ensures.0, sym c.deref.ensures.value ∙ c.top-frame.ensures.1)).whole c.requires.0 _
     (rule_begun (g.L.Linking.view c.args.symbol.now) c.args.symbol.now c.args.rows.now
     (c.requires.1 c.top-frame.result.now (c.top-frame.ensures.0, sym c.deref.ensures.value ∙ c.top-frame.ensures.1)).whole
@@ -288,18 +288,18 @@ returns-clause-keeps g c =
     let view = g.L.Linking.view c.args.symbol.now in
     let before = all_lists view c.args.language.now c.args.frames.now c.args.parts.now in
     let after_enter = all_lists view c.enter.new.self c.args.frames.now c.enter.new.parts in
-    let after_settle = all_lists view c.settle.new.language c.settle.new.frames c.settle.new.parts in
+    let after_settle = all_lists view c.close_lone_token.new.language c.close_lone_token.new.frames c.close_lone_token.new.parts in
     room_then before after_enter after_settle
-    (omega arith, c.in_ok-kept.ensures.keeps) c.settle.ensures.keeps
+    (omega arith, c.in_ok-kept.ensures.keeps) c.close_lone_token.ensures.keeps
 
 pub returns-clause-full : goal.returns-clause-full
 returns-clause-full g c =
     let view = g.L.Linking.view c.args.symbol.now in
     let before = all_lists view c.args.language.now c.args.frames.now c.args.parts.now in
     let after_enter = all_lists view c.enter.new.self c.args.frames.now c.enter.new.parts in
-    let after_settle = all_lists view c.settle.new.language c.settle.new.frames c.settle.new.parts in
-    only_then (TokenTakesMemory view c.args.symbol.now) before after_enter after_settle c.settle.result
-    (omega arith, c.in_ok-kept.ensures.keeps) c.settle.ensures.full
+    let after_settle = all_lists view c.close_lone_token.new.language c.close_lone_token.new.frames c.close_lone_token.new.parts in
+    only_then (TokenTakesMemory view c.args.symbol.now) before after_enter after_settle c.close_lone_token.result
+    (omega arith, c.in_ok-kept.ensures.keeps) c.close_lone_token.ensures.full
 
 pub returns-in_err-token-clause-full : goal.returns-in_err-token-clause-full
 returns-in_err-token-clause-full g c =

@@ -1,6 +1,6 @@
 -- What is open has the argument that what is left of it has.
 use Rattle.std.proofs.Common.{◌≡◌, length, reverse}
-use Rattle.cpp_direct.specs.Stands.{argument_of}
+use Rattle.cpp_direct.specs.WriterInvariant.{argument_of}
 use Rattle.cpp_direct.proofs.direct.Direct.argument.Given as goal
 
 abbrev pub invariant-marks : goal.invariant-marks

@@ -1,6 +1,6 @@
 use Rattle.std.proofs.Common.{◌∙◌, subst}
 use Rattle.cpp_direct.specs.Symbol.{symbol_by}
-use Rattle.cpp_direct.specs.Stands.{IsKnown}
+use Rattle.cpp_direct.specs.WriterInvariant.{IsKnown}
 use Rattle.cpp_direct.proofs.DependentsRead.{again-inside, argument-within, dependent-again}
 use Rattle.cpp_direct.proofs.direct.Direct.dependent_again.Goals as goal
 

@@ -1,8 +1,8 @@
 use Rattle.std.proofs.Common.{◌∷◌, [], arith, refl, subst}
 use Rattle.cpp_direct.specs.Symbol.{symbol_by}
 use Rattle.cpp_direct.specs.Holes.{StandsAt}
-use Rattle.cpp_direct.specs.Ways.{IsListEnded}
-use Rattle.cpp_direct.specs.Stands.{nowhere}
+use Rattle.cpp_direct.specs.MidStep.{IsListEnded}
+use Rattle.cpp_direct.specs.WriterInvariant.{nowhere}
 use Rattle.cpp_direct.proofs.Listed.{waits-last, empty-pack-ends}
 use Rattle.cpp_direct.proofs.Moves.{stands-join}
 use Rattle.cpp_direct.proofs.direct.Direct.empty_pack.Goals as goal

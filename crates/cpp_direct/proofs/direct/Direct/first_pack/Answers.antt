@@ -1,5 +1,5 @@
 use Rattle.std.proofs.Common.{◌∷◌, ◌++◌, [], refl, ap, ◌∙◌, true}
-use Rattle.cpp_direct.specs.Stands.{nowhere}
+use Rattle.cpp_direct.specs.WriterInvariant.{nowhere}
 use Rattle.cpp_direct.specs.Symbol.{symbol_by}
 use Rattle.cpp_direct.specs.declared.open.Open.TheVariants as opens
 use Rattle.cpp_direct.proofs.PacksRead.{element-begins}

@@ -2,7 +2,7 @@ use Rattle.std.proofs.Common.{◌∷◌, [], true, sym, ◌∙◌, arith, subst}
 use Rattle.std.proofs.lemmas.Bool.{false≢true}
 use Rattle.cpp_direct.specs.Symbol.{symbol_by}
 use Rattle.cpp_direct.specs.declared.open.Step.TheVariants as steps
-use Rattle.cpp_direct.specs.Stands.{IsWriting}
+use Rattle.cpp_direct.specs.WriterInvariant.{IsWriting}
 use Rattle.cpp_direct.specs.Holes.{StandsAt}
 use Rattle.cpp_direct.proofs.Moves.{stands-join}
 use Rattle.cpp_direct.proofs.Listed.{another-expected, first-expected, type-expected}

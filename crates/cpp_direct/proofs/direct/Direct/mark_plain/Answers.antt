@@ -2,7 +2,7 @@ use Rattle.std.proofs.Common.{refl, codes, true, false}
 use Rattle.cpp_grammar.specs.Term.{lvalue, rvalue, qualified}
 use Rattle.cpp_direct.specs.Symbol.{symbol_by}
 use Rattle.cpp_direct.specs.declared.open.Open.TheVariants as opens
-use Rattle.cpp_direct.specs.Stands.{qualifiers}
+use Rattle.cpp_direct.specs.WriterInvariant.{qualifiers}
 use Rattle.cpp_direct.proofs.DependentsRead.{dependent-marked}
 use Rattle.cpp_direct.proofs.Listed.{waits-last}
 use Rattle.cpp_direct.proofs.PrintedTypes.{lvalue-behind, rvalue-behind, const-behind}

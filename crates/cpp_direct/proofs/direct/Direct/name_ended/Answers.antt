@@ -1,6 +1,6 @@
 use Rattle.std.proofs.Common.{subst}
 use Rattle.cpp_direct.specs.Symbol.{symbol_by}
-use Rattle.cpp_direct.specs.Ways.{IsNameEnded}
+use Rattle.cpp_direct.specs.MidStep.{IsNameEnded}
 use Rattle.cpp_direct.proofs.Ending.{object-ended, parameters-begin}
 use Rattle.cpp_direct.proofs.direct.Direct.name_ended.Goals as goal
 

@@ -1,8 +1,8 @@
 use Rattle.std.proofs.Common.{subst, sym, ◌∙◌}
 use Rattle.cpp_direct.specs.Symbol.{symbol_by}
-use Rattle.cpp_direct.specs.Stands.{IsOwn}
-use Rattle.cpp_direct.specs.Ways.{IsNameEnded}
-use Rattle.cpp_direct.specs.WaysOfLocals.{IsEnclosingInstance, IsEnclosingNamed}
+use Rattle.cpp_direct.specs.WriterInvariant.{IsOwn}
+use Rattle.cpp_direct.specs.MidStep.{IsNameEnded}
+use Rattle.cpp_direct.specs.MidStepOfLocals.{IsEnclosingInstance, IsEnclosingNamed}
 use Rattle.cpp_direct.proofs.EnclosingFunctions.{instance-within, name-within}
 use Rattle.cpp_direct.proofs.Nesting.{arguments-noted, left-true, type-ended, name-comes}
 use Rattle.cpp_direct.proofs.direct.Direct.nest_ended.Goals as goal

@@ -5,7 +5,7 @@ use Rattle.sym_core.specs.declared.NumberKind.TheVariants.{Seq36}
 use Rattle.sym_core.specs.Value.{counted_value}
 use Rattle.cpp_direct.specs.Symbol.{symbol_by}
 use Rattle.cpp_direct.specs.Holes.{StandsAt, IsSeqAt}
-use Rattle.cpp_direct.specs.Ways.{IsNestKnown}
+use Rattle.cpp_direct.specs.MidStep.{IsNestKnown}
 use Rattle.cpp_direct.proofs.Moves.{stands-join}
 use Rattle.cpp_direct.proofs.Nesting.{byte-there, candidate-text, reference-begins, abbreviation-begins}
 use Rattle.cpp_direct.proofs.direct.Direct.nest_with_s.Goals as goal

@@ -1,7 +1,7 @@
 use Rattle.std.proofs.Common.{arith, false, subst, sym}
-use Rattle.cpp_direct.specs.Stands.{nowhere}
+use Rattle.cpp_direct.specs.WriterInvariant.{nowhere}
 use Rattle.cpp_direct.specs.Symbol.{symbol_by}
-use Rattle.cpp_direct.specs.Ways.{IsNameEnded}
+use Rattle.cpp_direct.specs.MidStep.{IsNameEnded}
 use Rattle.cpp_direct.proofs.Nesting.{operator-ends}
 use Rattle.cpp_direct.proofs.TypesRead.{there}
 use Rattle.cpp_direct.proofs.direct.Direct.operator_ended.Goals as goal

@@ -1,7 +1,7 @@
 use Rattle.std.proofs.Common.{arith, refl, sym, subst, ap, ◌∙◌, codes, nat_eq}
 use Rattle.std.specs.List.{ends_with}
 use Rattle.cpp_direct.specs.Symbol.{symbol_by}
-use Rattle.cpp_direct.specs.Ways.{AwaitsParameter, AwaitsSignature}
+use Rattle.cpp_direct.specs.MidStep.{AwaitsParameter, AwaitsSignature}
 use Rattle.cpp_direct.proofs.Signatures.{another-next, first-next, signature-closed}
 use Rattle.cpp_direct.proofs.TypesRead.{there}
 use Rattle.cpp_direct.proofs.direct.Direct.parameter_at.Goals as goal

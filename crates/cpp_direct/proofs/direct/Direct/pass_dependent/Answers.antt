@@ -3,7 +3,7 @@ use Rattle.cpp_grammar.specs.Term.{pointer}
 use Rattle.cpp_direct.specs.Symbol.{symbol_by}
 use Rattle.cpp_direct.specs.declared.open.Open.TheVariants as opens
 use Rattle.cpp_direct.specs.declared.open.Step.TheVariants as steps
-use Rattle.cpp_direct.specs.Stands.{IsWriting}
+use Rattle.cpp_direct.specs.WriterInvariant.{IsWriting}
 use Rattle.cpp_direct.proofs.DependentsRead.{dependent-marked, dependent-parameter, dependent-front, dependent-within}
 use Rattle.cpp_direct.proofs.Listed.{waits-last}
 use Rattle.cpp_direct.proofs.PrintedTypes.{pointer-behind}

@@ -3,7 +3,7 @@ use Rattle.cpp_grammar.specs.Term.{pointer, lvalue, rvalue, qualified}
 use Rattle.cpp_direct.specs.Symbol.{symbol_by}
 use Rattle.cpp_direct.specs.declared.open.Open.TheVariants as opens
 use Rattle.cpp_direct.specs.Prints.{Prints}
-use Rattle.cpp_direct.specs.Stands.{qualifiers}
+use Rattle.cpp_direct.specs.WriterInvariant.{qualifiers}
 use Rattle.cpp_direct.proofs.PrintedTypes.{pointer-prints, lvalue-prints, rvalue-prints, const-prints}
 use Rattle.cpp_direct.proofs.Handed.{value-marked}
 use Rattle.cpp_direct.proofs.direct.Direct.pass_to_mark.Goals as goal

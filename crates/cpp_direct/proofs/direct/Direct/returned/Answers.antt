@@ -1,7 +1,7 @@
 use Rattle.std.proofs.Common.{◌≡◌, ◌∷◌, ◌++◌, ap, sym, ◌∙◌, refl, reverse}
 use Rattle.cpp_direct.specs.Symbol.{symbol_by}
 use Rattle.cpp_direct.specs.declared.open.Open.TheVariants as opens
-use Rattle.cpp_direct.specs.Stands.{opening_text}
+use Rattle.cpp_direct.specs.WriterInvariant.{opening_text}
 use Rattle.cpp_direct.proofs.Kept.{reverse-last}
 use Rattle.cpp_direct.proofs.Signatures.{signature-begins}
 use Rattle.cpp_direct.proofs.TypesRead.{popped}

@@ -1,8 +1,8 @@
 use Rattle.std.proofs.Common.{◌+◌, ◌++◌, ◌∷◌, [], length, ◌∙◌, ap, subst}
 use Rattle.cpp_direct.specs.Symbol.{symbol_by}
 use Rattle.cpp_direct.specs.Holes.{StandsAt}
-use Rattle.cpp_direct.specs.Stands.{IsKnown}
-use Rattle.cpp_direct.specs.Ways.{parameter_digits}
+use Rattle.cpp_direct.specs.WriterInvariant.{IsKnown}
+use Rattle.cpp_direct.specs.MidStep.{parameter_digits}
 use Rattle.cpp_direct.proofs.DependentsRead.{argument-inside, parameter-done}
 use Rattle.cpp_direct.proofs.direct.Direct.template_parameter.Goals as goal
 

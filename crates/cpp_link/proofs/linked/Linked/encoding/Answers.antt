@@ -4,12 +4,12 @@ use Rattle.cpp_term.specs.Values.{Value, part}
 use Rattle.cpp_term.specs.Scope.{has_return_type}
 use Rattle.cpp_term.specs.Meaning.{encoding_of}
 use Rattle.cpp_tree.specs.Nodes.{tree_of}
-use Rattle.cpp_link.specs.Parts.{trees_in, values_in, meant_value}
+use Rattle.cpp_link.specs.Parts.{trees_in, values_in, outcome_value}
 use Rattle.cpp_link.proofs.Reading.{made_object, made_function, made_procedure}
 use Rattle.cpp_link.proofs.linked.Linked.encoding.Goals as goal
 
 pub returns-in_default-clause-is : goal.returns-in_default-clause-is
-unfolding meant_value tree_of
+unfolding outcome_value tree_of
 returns-in_default-clause-is c =
     let ts = trees_in c.args.symbol.now c.args.self.now.nodes in
     let v : Value = part (values_in c.args.symbol.now c.args.self.now.nodes c.args.parts.now) 0 in
@@ -17,7 +17,7 @@ returns-in_default-clause-is c =
     ∙ ap (λ t. encoding_of v t) c.list-list.ensures.is)
 
 pub returns-then-returns-clause-is : goal.returns-then-returns-clause-is
-unfolding meant_value tree_of
+unfolding outcome_value tree_of
 returns-then-returns-clause-is c =
     let ts = trees_in c.args.symbol.now c.args.self.now.nodes in
     let v : Value = part (values_in c.args.symbol.now c.args.self.now.nodes c.args.parts.now) 0 in
@@ -25,7 +25,7 @@ returns-then-returns-clause-is c =
     (ap has_return_type (sym c.tree-name.ensures.is) ∙ sym c.if-returns.ensures) c.parameters.ensures.is c.under_word.ensures ∙ ap (λ t. encoding_of v t) c.list-list.ensures.is)
 
 pub returns-clause-is : goal.returns-clause-is
-unfolding meant_value tree_of
+unfolding outcome_value tree_of
 returns-clause-is c =
     let ts = trees_in c.args.symbol.now c.args.self.now.nodes in
     let v : Value = part (values_in c.args.symbol.now c.args.self.now.nodes c.args.parts.now) 0 in

@@ -27,8 +27,8 @@ returns-in_err-made-clause-closes c =
 
 pub returns-clause-closes : goal.returns-clause-closes
 returns-clause-closes c =
-    lambda_put_right c.args.symbol.now c.args.self.now c.close_rare.new.self c.args.frame.now c.args.parts.now.items c.put.new.parts.items _ c.in_ok-made.made c.with_own.result _ c.in_ok-put.field-0
-    (rw c.deref.ensures.value (rest_all c.args.parts.now.items c.args.frame.now.base)) c.requires.lambda c.in_ok-made.ensures.is c.with_own.ensures.value c.with_own.ensures.there c.in_ok-made.ensures.whole c.in_ok-put.ensures.items
+    lambda_put_right c.args.symbol.now c.args.self.now c.close_rare.new.self c.args.frame.now c.args.parts.now.items c.put.new.parts.items _ c.in_ok-made.made c.as_generic_lambda.result _ c.in_ok-put.field-0
+    (rw c.deref.ensures.value (rest_all c.args.parts.now.items c.args.frame.now.base)) c.requires.lambda c.in_ok-made.ensures.is c.as_generic_lambda.ensures.value c.as_generic_lambda.ensures.there c.in_ok-made.ensures.whole c.in_ok-put.ensures.items
 
 pub returns-in_err-made-clause-few : goal.returns-in_err-made-clause-few
 returns-in_err-made-clause-few c =

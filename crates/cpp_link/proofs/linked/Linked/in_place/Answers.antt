@@ -1,14 +1,14 @@
 use Rattle.std.proofs.Common.{sym, ◌∙◌, ap, refl}
 use Rattle.cpp_term.specs.Values.{part, tree_of, is_there}
 use Rattle.cpp_tree.specs.Nodes as nodes
-use Rattle.cpp_link.specs.Making.{nodes_of_meant}
+use Rattle.cpp_link.specs.Making.{nodes_of_outcome}
 use Rattle.cpp_link.specs.NodeCount.{name_at_end, one_if_arguments}
-use Rattle.cpp_link.specs.Parts.{trees_in, values_in, meant_value}
+use Rattle.cpp_link.specs.Parts.{trees_in, values_in, outcome_value}
 use Rattle.cpp_link.proofs.Places.{are_arguments, there_closes}
 use Rattle.cpp_link.proofs.linked.Linked.in_place.Goals as goal
 
 pub returns-in_default : goal.returns-in_default
-unfolding meant_value nodes.tree_of nodes_of_meant name_at_end
+unfolding outcome_value nodes.tree_of nodes_of_outcome name_at_end
 returns-in_default c =
     let ts = trees_in c.args.symbol.now c.args.self.now.nodes in
     let t = tree_of (part (values_in c.args.symbol.now c.args.self.now.nodes c.args.parts.now) 0) in

@@ -7,7 +7,7 @@ use Rattle.cpp_term.specs.Values as values
 use Rattle.cpp_term.specs.Values.{Value, part}
 use Rattle.cpp_term.specs.Between.{between}
 use Rattle.cpp_link.specs.declared.linked.Linked.{Linked}
-use Rattle.cpp_references.specs.declared.around.Kept.{Kept}
+use Rattle.cpp_references.specs.declared.around.Surroundings.{Surroundings}
 use Rattle.cpp_link.specs.declared.part.Step.{Step}
 use Rattle.cpp_link.specs.Parts.{trees_in, value_in, values_in, around_of}
 use Rattle.cpp_link.specs.Reads.{goes_on}
@@ -18,11 +18,11 @@ use Rattle.cpp_link.proofs.Stepping.{none_made}
 use Rattle.cpp_link.proofs.Places.{values_length, none_are, one_is, two_are, three_are, later_are, empty_length, many_more}
 use Rattle.cpp_link.proofs.linked.Linked.step.Goals as goal
 
-abbrev Goes : List ℕ → Linked → Production → (place : ℕ) → Kept → List Value → Step → Type 0
+abbrev Goes : List ℕ → Linked → Production → (place : ℕ) → Surroundings → List Value → Step → Type 0
 Goes s l p place kept vs step =
     (cs : List values.Candidate) → between p (around_of (trees_in s l.nodes) kept) place vs (record { candidates = cs; packs = l.packs }) ≡ goes_on s l.nodes kept vs cs l.packs step
 
-abbrev Refuses : List ℕ → Linked → Production → (place : ℕ) → Kept → List Value → Refusal → Type 0
+abbrev Refuses : List ℕ → Linked → Production → (place : ℕ) → Surroundings → List Value → Refusal → Type 0
 Refuses s l p place kept vs e = (cs : List values.Candidate) → Fails e (between p (around_of (trees_in s l.nodes) kept) place vs (record { candidates = cs; packs = l.packs }))
 
 pub returns-then-is_empty-clause-is : goal.returns-then-is_empty-clause-is

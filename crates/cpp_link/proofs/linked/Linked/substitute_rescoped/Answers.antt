@@ -13,7 +13,7 @@ use Rattle.cpp_link.specs.Making.{state_of}
 use Rattle.cpp_link.specs.Parts.{trees_in, value_in, value_of, values_in, around_of, candidate_of, candidates_of}
 use Rattle.cpp_link.specs.Reads.{maybe_candidate, node_read}
 use Rattle.cpp_references.proofs.Named.{fails_is}
-use Rattle.cpp_link.proofs.Meant.{named_nothing, named_foreign, named_here, foreign_nodes, no_nodes}
+use Rattle.cpp_link.proofs.Outcome.{named_nothing, named_foreign, named_here, foreign_nodes, no_nodes}
 use Rattle.cpp_link.proofs.linked.Linked.substitute_rescoped.Goals as goal
 
 pub returns-in_default-clause-refused : goal.returns-in_default-clause-refused

@@ -32,5 +32,5 @@ returns-in_default c =
       not_integer = c.in_default.not-Integer;
       not_pack = c.in_default.not-Pack;
       not_cell = c.in_default.not-Cell;
-      not_again = c.in_default.not-Again;
+      not_reargued = c.in_default.not-Reargued;
     })

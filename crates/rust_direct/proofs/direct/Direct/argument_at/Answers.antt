@@ -1,6 +1,6 @@
 use Rattle.std.proofs.Common.{subst}
 use Rattle.rust_direct.specs.declared.open.Step.TheVariants as steps
-use Rattle.rust_direct.specs.Stands.{IsWriting}
+use Rattle.rust_direct.specs.WriterInvariant.{IsWriting}
 use Rattle.rust_direct.proofs.ArgumentsRead.{argument-first, argument-separated}
 use Rattle.rust_direct.proofs.direct.Direct.argument_at.Goals as goal
 

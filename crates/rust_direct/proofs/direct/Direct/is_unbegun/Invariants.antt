@@ -1,6 +1,6 @@
 -- If nothing is written yet by what is left, nothing is by all.
 use Rattle.std.specs.Prelude.{length, reverse}
-use Rattle.rust_direct.specs.Stands.{IsUnbegun}
+use Rattle.rust_direct.specs.WriterInvariant.{IsUnbegun}
 use Rattle.rust_direct.proofs.direct.Direct.is_unbegun.Given as goal
 
 abbrev pub invariant-paths : goal.invariant-paths

@@ -21,7 +21,7 @@ use Rattle.rust_direct.specs.Holes.{Opened, Comes, Expects, Wanted, kind_of, is_
 use Rattle.rust_direct.specs.Constants.{SizeGoesOn}
 use Rattle.rust_direct.specs.Bounds.{BoundsBegin, BoundsGoOn}
 use Rattle.rust_direct.specs.Prints.{PathPrints, TypePrints, opening, ArgumentsBegin, TypesBegin}
-use Rattle.rust_direct.specs.Says.{Holds}
+use Rattle.rust_direct.specs.PrintsInForm.{Holds}
 use Rattle.rust_direct.specs.Notes.{AreNotes}
 
 -- The symbol is one with this text.

@@ -4,7 +4,7 @@ use Rattle.sym_link.proofs.Driving.{closing_room, closing_open, closing_place, c
 use Rattle.sym_link.specs.Room.{one_by_one}
 use Rattle.sym_link.specs.Linking.{TokenTakesMemory, lists_with, all_lists}
 use Rattle.sym_link.proofs.Room.{room_then, only_refused, list_more}
-use Rattle.sym_link.proofs.driver.settle.Goals as goal
+use Rattle.sym_link.proofs.driver.close_lone_token.Goals as goal
 
 pub take_alone-requires : goal.take_alone-requires
 take_alone-requires g c = (c.args.frames.now.items, c.requires)

@@ -9,7 +9,7 @@ use Rattle.cpp_link.proofs.NodeCount.{made_before_part}
 use Rattle.cpp_link.proofs.GoingOn.{goes_right, refused_right, adds_right, steps_few, refused_few}
 use Rattle.cpp_link.proofs.Rooms.{same_room, roomy_ok, roomy_refused}
 use Rattle.cpp_link.proofs.Viewing.{open_there, kept_closed}
-use Rattle.cpp_link.proofs.linked.Linked.go_as.Goals as goal
+use Rattle.cpp_link.proofs.linked.Linked.before_as.Goals as goal
 
 pub step-requires-clause-table : goal.step-requires-clause-table
 step-requires-clause-table c = c.requires.open.at.holds.table

@@ -15,7 +15,7 @@ use Rattle.cpp_link.proofs.GoingOn.{adds_right, steps_few, refused_few}
 use Rattle.cpp_link.proofs.Places.{values_length}
 use Rattle.cpp_link.proofs.Rescoped.{generic_is, wide_goes_right, no_pack}
 use Rattle.cpp_link.proofs.Viewing.{open_there}
-use Rattle.cpp_link.proofs.linked.Linked.go_generic.Goals as goal
+use Rattle.cpp_link.proofs.linked.Linked.before_generic.Goals as goal
 
 pub generic-step-requires-clause-digits : goal.generic-step-requires-clause-digits
 generic-step-requires-clause-digits c =

@@ -15,8 +15,8 @@ use Rattle.cpp_direct.specs.Bytes.{is_local}
 use Rattle.cpp_direct.specs.Holes.{StandsAt}
 use Rattle.cpp_direct.specs.Marks.{has_const, called_on, mark_text}
 use Rattle.cpp_direct.specs.Prints.{PrintsName, PrintAll, Encloses}
-use Rattle.cpp_direct.specs.Stands.{AreCandidates, IsEnclosing, ItemsGoOn, LambdaWithin, Stands, TypeWithin, qualifiers, HasArguments, nowhere, named_in}
-use Rattle.cpp_direct.specs.Ways.{IsEncodingEnded}
+use Rattle.cpp_direct.specs.WriterInvariant.{AreCandidates, IsEnclosing, ItemsGoOn, LambdaWithin, Stands, TypeWithin, qualifiers, HasArguments, nowhere, named_in}
+use Rattle.cpp_direct.specs.MidStep.{IsEncodingEnded}
 
 -- ## Local entities
 

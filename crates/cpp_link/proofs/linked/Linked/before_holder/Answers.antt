@@ -13,7 +13,7 @@ use Rattle.cpp_link.proofs.GoingOn.{adds_right, steps_few, refused_few}
 use Rattle.cpp_link.proofs.Held.{holder_alone, holder_step, holder_makes, holder_no_pack, held_refuses, held_goes, held_adds, held_few, held_more}
 use Rattle.cpp_link.proofs.Places.{values_length}
 use Rattle.cpp_link.proofs.Viewing.{open_there}
-use Rattle.cpp_link.proofs.linked.Linked.go_holder.Goals as goal
+use Rattle.cpp_link.proofs.linked.Linked.before_holder.Goals as goal
 
 pub take_step-requires-clause-of : goal.take_step-requires-clause-of
 take_step-requires-clause-of c =

@@ -2,7 +2,7 @@ use Rattle.std.proofs.Common.{refl, arith, subst, ◌∙◌, ap, ◌-◌, ◌<�
 use Rattle.cpp_link.proofs.NodeCount.{quiet_made}
 use Rattle.cpp_link.proofs.GoingOn.{quiet_right, quiet_adds, quiet_few}
 use Rattle.cpp_link.proofs.Rooms.{same_room, roomy_ok}
-use Rattle.cpp_link.proofs.linked.Linked.go_on.Goals as goal
+use Rattle.cpp_link.proofs.linked.Linked.before_part.Goals as goal
 
 pub returns-then-len-frame-clause-goes : goal.returns-then-len-frame-clause-goes
 returns-then-len-frame-clause-goes c =
