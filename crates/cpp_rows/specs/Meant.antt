@@ -13,7 +13,7 @@ use Rattle.cpp_grammar.specs.References.{appended, with_type, with_unqualified, 
 use Rattle.cpp_grammar.specs.Between.{Going, next, in_name, in_types, in_signature, under_expansion, after, inside, extended, with_tag, applied, no_items, index_of}
 use Rattle.cpp_grammar.specs.Meaning.{parameters, discriminator_of, listed_value, with_item}
 use Rattle.cpp_grammar.specs.Unfolding.{number_tested, last_token}
-use Rattle.cpp_grammar.specs.Rescoping.{generic_number, holder_so_far, numbered, with_own}
+use Rattle.cpp_grammar.specs.Rescoping.{generic_number, holder_so_far, numbered, as_generic_lambda}
 use Rattle.cpp_rows.specs.Builders.{Argument, a_tree, some_bytes, a_number, a_truth, some_qualifiers, a_mark, a_signed, a_discriminator, tree_in, truth_in, built}
 use Rattle.cpp_rows.specs.Row.{Source, tree_at, list_at, parameters_at, piece_at, the_name, text_at, digits_at, code, taken, fixed, letter_at, number_at, yes, no, there_at, letter_is, qualifiers_at, qualified_by, ref_at, signed_at, discriminator_at, Made, of, only, extending, tagging, applying, packing, Listing, listed, unlisted, as_part, unless_there, as_part_alone, closure, substitution, Form, handed, finished, the_byte, makes, a_piece, cell, item, a_name, in_place, own, Where, as_before, in_its_name, in_its_types, in_a_signature, under_it, nameless, after_part, after_the_name, Gain, nothing, the_prefix, type_of, unqualified_of, itself, Before, quiet, goes, becomes, tests, holds, Row}
 use Rattle.cpp_rows.specs.Own.{own_meaning}
@@ -80,7 +80,7 @@ meant (own o most) byte around vs = own_meaning o byte around vs
 
 -- by the wide grammar's reading a lambda may have parameters of its own
 unfoldable pub meant_wide : Form → (byte : ℕ) → Around → List Value → Value
-meant_wide (own closure most) byte around vs = with_own (own_meaning closure byte around vs)
+meant_wide (own closure most) byte around vs = as_generic_lambda (own_meaning closure byte around vs)
 meant_wide form byte around vs = meant form byte around vs
 
 -- ## Before a part

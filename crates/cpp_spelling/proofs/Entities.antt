@@ -22,5 +22,5 @@ instance-piece t u a is = ap is_one_piece is ∙ go u
 pub other-piece : (y : ReadSymbol) (node : Node) → is_again node ≡ false → ((template arguments : ℕ) → node ≡ Node.Instance template arguments → ⊥) → is_one_piece (node_tree y node) ≡ is_piece_behind (node_tree y node)
 unfolding is_one_piece is_piece_behind erase tree_of is_again
 other-piece y (Node.Instance template arguments) own never = absurd (never template arguments refl)
-other-piece y (Node.Again t a) own never = absurd (true≢false own)
+other-piece y (Node.Reargued t a) own never = absurd (true≢false own)
 other-piece y _ own never = refl

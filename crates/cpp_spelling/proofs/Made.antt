@@ -52,7 +52,7 @@ below-later s held m n (Node.MemberPointer c t) b most = (omega (arith, b.0, mos
 below-later s held m n (Node.Bounded bound t) b most = (omega (arith, b.0, most), omega (arith, b.1, most))
 below-later s held m n (Node.FunctionType c e k returned parameters) b most = (omega (arith, b.0, most), omega (arith, b.1, most))
 below-later s held m n (Node.Cell first rest) b most = (omega (arith, b.0, most), omega (arith, b.1, most))
-below-later s held m n (Node.Again t a) b most = (omega (arith, b.0, most), omega (arith, b.1, most))
+below-later s held m n (Node.Reargued t a) b most = (omega (arith, b.0, most), omega (arith, b.1, most))
 below-later s held m n (Node.Object name q k) b most = omega (arith, b, most)
 below-later s held m n (Node.Special letter t) b most = omega (arith, b, most)
 below-later s held m n (Node.OfName letter name q k) b most = omega (arith, b, most)
@@ -76,14 +76,14 @@ pub made : (y : Table) (i : ℕ) → IsTable y → i < length y.nodes → IsBelo
 made y i table less = below-later y.bytes (length y.thunks) i (length y.nodes) (entry_at y.nodes i).node (table.each i less).below (omega (arith, less))
 
 -- the tree that is there again is a node's own
-pub again-before : (y : Table) (i t a : ℕ) → IsTable y → i < length y.nodes → (entry_at y.nodes i).node ≡ Node.Again t a
+pub again-before : (y : Table) (i t a : ℕ) → IsTable y → i < length y.nodes → (entry_at y.nodes i).node ≡ Node.Reargued t a
     → (t < length y.nodes) × (is_again (entry_at y.nodes t).node ≡ false)
 again-before y i t a table less is =
     let e = table.each i less in
     let b = subst (λ n. IsBelow y.bytes (length y.thunks) i n) is e.below in
     (omega (arith, b.0, less), subst (λ n. IsFlat y.nodes n) is e.flat)
 
-pub again-tree : (y : Table) (i t a : ℕ) → IsTable y → i < length y.nodes → (entry_at y.nodes i).node ≡ Node.Again t a
+pub again-tree : (y : Table) (i t a : ℕ) → IsTable y → i < length y.nodes → (entry_at y.nodes i).node ≡ Node.Reargued t a
     → erase (tree_at (trees y) i) ≡ erase (tree_of y.bytes y.thunks (trees y) (entry_at y.nodes t).node)
 again-tree y i t a table less is =
     ap erase (table.each i less).built ∙ erased_again y t a (entry_at y.nodes i).node is ∙ ap erase (table.each t (again-before y i t a table less is).0).built

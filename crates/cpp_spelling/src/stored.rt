@@ -19,7 +19,7 @@ pub fn stored(symbol: &Symbol, node: u32) -> Node
 {
     let is = symbol.entry(node).node;
     match is {
-        Node::Again { tree, .. } => symbol.entry(tree).node,
+        Node::Reargued { tree, .. } => symbol.entry(tree).node,
         _ => is,
     }
 }

@@ -14,7 +14,7 @@ use Rattle.cpp_spelling.proofs.names.is_encoding.Goals as goal
 -- a node is an encoding as its tree is
 kept : (s : List ℕ) (us : List Thunk) (ts : List Term) (n : Node) → is_again n ≡ false → nodes.is_encoding n ≡ is_encoding (erase (tree_of s us ts n))
 unfolding nodes.is_encoding is_encoding erase tree_of is_again
-kept s us ts (Node.Again t a) own = absurd (true≢false own)
+kept s us ts (Node.Reargued t a) own = absurd (true≢false own)
 kept s us ts _ own = refl
 
 pub returns : goal.returns
