@@ -557,6 +557,34 @@ def built_good():
         lines.append(f"built_good s new_{tree[0]} xs all = record {{ closed = {closed}; scopes = {joined} }}")
     return lines
 
+# what reads an argument of a sort, annotated
+READ = {BYTES: "bytes", NUMBER: "number", TRUTH: "truth", QUALIFIERS: "qualifiers", MARK: "mark", SIGNED: "signed", DISCRIMINATOR: "discriminator"}
+
+def encodings_in(tree): return [i for i, (name, sort) in enumerate(tree[1:]) if sort in (OWN, OUTSIDE)]
+
+def takes_encodings(): return [f"takes_encodings new_{tree[0]} = true" for tree in makers(grammar.rows()) if encodings_in(tree)] + ["takes_encodings _ = false"]
+
+def are_shut():
+    lines = []
+    for tree in makers(grammar.rows()):
+        facts = [f"is_open (tree_in (argument xs {i})) ≡ false" for i in encodings_in(tree)]
+        if facts: lines.append(f"AreShut new_{tree[0]} xs = " + (facts[0] if len(facts) == 1 else " × ".join(f"({fact})" for fact in facts)))
+    return lines + ["AreShut _ xs = Unit {0}"]
+
+def none_are_taken():
+    return [f"none_are_taken new_{tree[0]} xs h = absurd (true≢false h)" for tree in makers(grammar.rows()) if encodings_in(tree)] + ["none_are_taken _ xs h = tt"]
+
+def built_noted():
+    lines = []
+    for tree in makers(grammar.rows()):
+        apart = encodings_in(tree)
+        def fact(i, sort):
+            if i in apart: return f"(shut_there s xs {i} {'h' if len(apart) == 1 else f'h.{apart.index(i)}'})"
+            return f"({READ.get(sort, 'tree')}_there s xs {i})"
+        facts = [fact(i, sort) for i, (name, sort) in enumerate(tree[1:])]
+        lines.append(f"built_noted s new_{tree[0]} xs h = " + (applied(["ap", "both", "three", "four", "five"][len(facts) - 1], [f"term_.{tree[0]}", *facts]) if facts else "refl"))
+    return lines
+
 # ## Common productions
 
 def is_rare():
@@ -616,6 +644,10 @@ def declarations():
     yield "cpp_term/proofs/Erasing.antt", "erased", erased()
     yield "cpp_grammar/proofs/NoneFree.antt", "built_none", built_none()
     yield "cpp_grammar/proofs/ClosedValues.antt", "built_good", built_good()
+    yield "cpp_term/proofs/MeaningNoted.antt", "takes_encodings", takes_encodings()
+    yield "cpp_term/proofs/MeaningNoted.antt", "AreShut", are_shut()
+    yield "cpp_term/proofs/MeaningNoted.antt", "none_are_taken", none_are_taken()
+    yield "cpp_term/proofs/MeaningNoted.antt", "built_noted", built_noted()
     yield "cpp_grammar/specs/Ranks.antt", "weight", weight_of_scopes()
     yield "cpp_grammar/proofs/RanksFall.antt", "weight_grows", weight_grows()
     yield "cpp_term/specs/Ranks.antt", "weight", weight_of_terms()

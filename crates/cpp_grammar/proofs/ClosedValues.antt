@@ -254,7 +254,7 @@ all_given_good s byte around vs [] pre all k = good_nothing s
 all_given_good s byte around vs (source ∷ ss) pre all zero = given_good s byte around vs source pre all
 all_given_good s byte around vs (source ∷ ss) pre all (suc k) = all_given_good s byte around vs ss pre all k
 
-made_tree_good : (s : Type 0) (byte : ℕ) (around : Around) (vs : List Value) (m : Made) → GoodPrefix s around.prefix → AllGood s vs → Good s (made byte around vs m)
+pub made_tree_good : (s : Type 0) (byte : ℕ) (around : Around) (vs : List Value) (m : Made) → GoodPrefix s around.prefix → AllGood s vs → Good s (made byte around vs m)
 unfolding made with_tag is_open
 made_tree_good s byte around vs (of maker sources) pre all = built_good s maker _ (all_given_good s byte around vs sources pre all)
 made_tree_good s byte around vs (only source) pre all = given_good s byte around vs source pre all

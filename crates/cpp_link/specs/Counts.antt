@@ -10,7 +10,7 @@ use Rattle.cpp_term.specs.References.{parameter_named}
 use Rattle.cpp_grammar.specs.Row.{Before, quiet, goes, becomes, tests, holds, before_part}
 use Rattle.cpp_grammar.specs.Rows.{row_of}
 use Rattle.cpp_term.specs.Between.{between, next, listed_so_far, parameter_so_far, argument_so_far, argument_at, index_of}
-use Rattle.cpp_term.specs.Outcome.{done, made, replaced, tested}
+use Rattle.cpp_term.specs.Meant.{done, made, replaced, tested}
 
 pub parameter_counts : (around : Around) (place k : ℕ) (vs : List Value) (state : State) → IfOk (parameter_so_far around place k vs state) (λ next. length next.values ≡ suc (length vs))
 unfolding parameter_so_far listed_so_far

@@ -718,7 +718,7 @@ impl Linked {
     /// # Errors
     ///
     /// Those of a parameter, and `BadReference` at an `M`, which the ABI's grammar doesn't have.
-    #[tactic(auto, unfolding(cpp_term::specs::Between::between, cpp_term::specs::Between::index_of))]
+    #[tactic(auto, unfolding(cpp_term::specs::Between::between, cpp_term::specs::Between::index_of, cpp_term::specs::Between::parameter_so_far, cpp_term::specs::Between::argument_so_far, cpp_term::specs::Between::listed_so_far, cpp_term::specs::References::parameter_named))]
     #[inline(always)]
     fn step_behind_first(
         &self,
