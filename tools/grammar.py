@@ -354,7 +354,7 @@ def build(extended=True, widened=False):
     kind("OtherOperator", *[rule for a, rule in by_letter.items() if a != "c"])
     # the base class of a constructor that is inherited, and the arguments of the constructor itself: after a name without arguments there
     # may be none, nor after a substitution, where they might be the base class' own
-    OWN_ARGUMENTS = eats("I", "OwnArguments", "ArgumentsFirst", "'E'", before="0: list the name, inside", means="pair(byte, name, i0)")
+    OWN_ARGUMENTS = eats("I", "OwnArguments", "ArgumentsFirst", "'E'", before="0: wide alone", means="pair(byte, name, i0)")
     kind("BaseClass",
         # <nested-name>
         eats("N", "NestedBase", "Nest", "OwnArguments", before="1: after t0", means="part 1, or part 0"),

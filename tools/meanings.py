@@ -18,6 +18,7 @@ The words of a row, of which `1` is a part by its number:
               lvalue(t0)      the first part becomes this tree
               parameter       the first part is the number of a parameter, which is tested (`after its T`, `no candidate`)
               holder          a name gets an M
+              wide alone      what the wide grammar's reading alone does: specs/Rescoping
   candidate=  what becomes a candidate at the end: `itself`, `type 0`, `unqualified 0`
   packs=      `own`: at the end those of the surroundings hold again
   tests=      `number`: that of the last token is tested first
@@ -103,6 +104,7 @@ def closed(text): return f"({text})" if " " in text else text
 def step(text):
     """what is done before a part"""
     if text == "holder": return "holds"
+    if text == "wide alone": return "unread"
     if text in TESTS: return f"tests {TESTS[text]}"
     if m := re.fullmatch(r"list the name, (.*)", text): return f"goes the_prefix {closed(place(m[1]))}"
     if m := re.fullmatch(r"list type (\d)", text): return f"goes (type_of {m[1]}) as_before"
@@ -224,7 +226,7 @@ unfoldable pub row_of : Production → Row
 '''
 ROW_NAMES = """tree_at list_at parameters_at piece_at the_name no_tree text_at digits_at code taken fixed letter_at letter_or_taken number_at yes no there_at letter_is qualifiers_at qualified_by ref_at signed_at
     discriminator_at of only extending tagging applying packing listed unlisted as_part unless_there as_part_alone Form handed finished either the_byte makes a_piece a_pair cell item a_name in_place own
-    as_before in_its_name in_its_types in_a_signature under_it nameless after_part after_the_name Gain nothing the_prefix type_of unqualified_of itself Before quiet goes becomes tests holds Row""".split()
+    as_before in_its_name in_its_types in_a_signature under_it nameless after_part after_the_name Gain nothing the_prefix type_of unqualified_of itself Before quiet goes becomes tests holds unread Row""".split()
 
 def antt_rows(table):
     lines = [f"row_of Production.{p} = {row.definition()}" for p, row in table.items()]

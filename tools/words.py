@@ -55,7 +55,7 @@ def special_front():
     return "\n".join([*lines, f"    {chain}"]) + "\n"
 
 OPERATIONS_HEAD = f'''-- {WRITTEN} How the operations of expressions are printed, by the codes of their operators.
-use Rattle.std.specs.Prelude.{{ℕ, List, [], ◌∷◌, Option, Some, None, codes}}
+use Rattle.std.specs.Prelude.{{ℕ, List, [], ◌∷◌, true, false, Option, Some, None, codes}}
 use Prim.Native.String.{{String}}
 use Rattle.cpp_grammar.specs.Texts.{{same_bytes}}
 '''

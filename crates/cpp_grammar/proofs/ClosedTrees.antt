@@ -260,7 +260,8 @@ opens_apart Production.Substitution o = absurd (false≢true o)
 opens_apart Production.Lambda o = absurd (false≢true o)
 opens_apart Production.ParameterArgument o = absurd (false≢true o)
 opens_apart Production.ParameterExpression o = absurd (false≢true o)
-opens_apart Production.BoundedArray o = absurd (false≢true o)
+opens_apart Production.OwnArguments o = absurd (false≢true o)
+opens_apart Production.Inheriting o = absurd (false≢true o)
 opens_apart Production.Holder o = absurd (false≢true o)
 opens_apart _ o = refl
 

@@ -8,7 +8,7 @@ use Rattle.cpp_grammar.specs.References.{appended, with_type, with_unqualified, 
 use Rattle.cpp_grammar.specs.Surrounding.{Going, next, in_name, in_types, in_signature, under_expansion, after, inside, extended, with_tag, applied, no_items, index_of}
 use Rattle.cpp_grammar.specs.Standing.{parameters, discriminator_of, listed_value, with_item}
 use Rattle.cpp_grammar.specs.Builders.{Argument, a_tree, some_bytes, a_number, a_truth, some_qualifiers, a_mark, a_signed, a_discriminator, tree_in, number_in, truth_in, built}
-use Rattle.cpp_grammar.specs.Row.{Source, tree_at, list_at, parameters_at, piece_at, the_name, no_tree, text_at, digits_at, code, taken, fixed, letter_at, letter_or_taken, number_at, yes, no, there_at, letter_is, qualifiers_at, qualified_by, ref_at, signed_at, discriminator_at, Made, of, only, extending, tagging, applying, packing, Listing, listed, unlisted, as_part, unless_there, as_part_alone, Form, handed, finished, either, the_byte, makes, a_piece, a_pair, cell, item, a_name, in_place, own, Where, as_before, in_its_name, in_its_types, in_a_signature, under_it, nameless, after_part, after_the_name, Gain, nothing, the_prefix, type_of, unqualified_of, itself, Before, quiet, goes, becomes, tests, holds, Row}
+use Rattle.cpp_grammar.specs.Row.{Source, tree_at, list_at, parameters_at, piece_at, the_name, no_tree, text_at, digits_at, code, taken, fixed, letter_at, letter_or_taken, number_at, yes, no, there_at, letter_is, qualifiers_at, qualified_by, ref_at, signed_at, discriminator_at, Made, of, only, extending, tagging, applying, packing, Listing, listed, unlisted, as_part, unless_there, as_part_alone, Form, handed, finished, either, the_byte, makes, a_piece, a_pair, cell, item, a_name, in_place, own, Where, as_before, in_its_name, in_its_types, in_a_signature, under_it, nameless, after_part, after_the_name, Gain, nothing, the_prefix, type_of, unqualified_of, itself, Before, quiet, goes, becomes, tests, holds, unread, Row}
 use Rattle.cpp_grammar.specs.Own.{own_meaning}
 
 -- ## Trees
@@ -120,6 +120,8 @@ done (tests after_t is_name) around place vs state =
     parameter_named around (cond after_t (place - 1) place) k state >>= λ s. tested is_name around (parameter k) vs s state
 -- the ABI's grammar has no M in a name
 done holds around place vs state = Err (BadReference place)
+-- nor a constructor that is inherited
+done unread around place vs state = Err (BadReference place)
 
 -- ## Once its parts are read
 

@@ -173,8 +173,8 @@ abbrev pub no_operation : Operation
 no_operation = record { code = []; precedence = PRIMARY; front = []; left = not_printed; between = []; right = not_printed; back = [] }
 
 -- how the operation of two letters is printed
-unfoldable pub printed : (first second : ℕ) → Operation
-printed first second = elim (operation_of_code (first ∷ second ∷ []) operations) [ Some o ↦ o | None ↦ no_operation ]
+unfoldable pub printed : (a b : ℕ) → Operation
+printed a b = elim (operation_of_code (a ∷ b ∷ []) operations) [ Some o ↦ o | None ↦ no_operation ]
 
 -- what is no operation and no address needs no parentheses
 unfoldable pub precedence_of : Term → ℕ

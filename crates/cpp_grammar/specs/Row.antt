@@ -146,6 +146,8 @@ pub data Before : Type 0 where
   tests : (after_t is_name : Bool) → Before
   -- the first part is an M behind the name so far
   holds : Before
+  -- what the reading of the ABI's grammar refuses
+  unread : Before
 
 pub record Row : Type 0 where
   -- before each part from the first one on, and before each of the others

@@ -2,7 +2,7 @@
 use Rattle.std.specs.Prelude.{List, [], ◌∷◌, true, false}
 use Rattle.cpp_grammar.specs.declared.production.Production.{Production}
 use Rattle.cpp_grammar.specs.Makers.{new_symbol, new_special, new_of_name, new_construction, new_clone, new_in_std, new_instance, new_local, new_abbreviation, new_source, new_operator, new_literal_operator, new_constructor, new_destructor, new_unnamed, new_string_literal, new_conversion, new_builtin, new_sized_float, new_constrained, new_vendor, new_pointer, new_lvalue, new_rvalue, new_array, new_bounded, new_member_pointer, new_function_type, new_qualified, new_vector, new_complex, new_decltype, new_expansion, new_integer, new_boolean, new_null_pointer, new_encoding_literal, new_operation, new_function_parameter, new_pack}
-use Rattle.cpp_grammar.specs.Row.{tree_at, list_at, parameters_at, piece_at, the_name, no_tree, text_at, digits_at, code, taken, fixed, letter_at, letter_or_taken, number_at, yes, no, there_at, letter_is, qualifiers_at, qualified_by, ref_at, signed_at, discriminator_at, of, only, extending, tagging, applying, packing, listed, unlisted, as_part, unless_there, as_part_alone, Form, handed, finished, either, the_byte, makes, a_piece, a_pair, cell, item, a_name, in_place, own, as_before, in_its_name, in_its_types, in_a_signature, under_it, nameless, after_part, after_the_name, Gain, nothing, the_prefix, type_of, unqualified_of, itself, Before, quiet, goes, becomes, tests, holds, Row, by_letters, character, closure, covariant_thunk, elements, enclosed, encoding, first_of_operator, in_default, inheriting, local_name, lvalue_signature, many_digits, negative, nest_end, nested_name, no_parameters, no_value, non_virtual_offset, non_virtual_thunk, one_digit, positive, reference, rvalue_signature, substitution, suffix, virtual_offset, virtual_thunk}
+use Rattle.cpp_grammar.specs.Row.{tree_at, list_at, parameters_at, piece_at, the_name, no_tree, text_at, digits_at, code, taken, fixed, letter_at, letter_or_taken, number_at, yes, no, there_at, letter_is, qualifiers_at, qualified_by, ref_at, signed_at, discriminator_at, of, only, extending, tagging, applying, packing, listed, unlisted, as_part, unless_there, as_part_alone, Form, handed, finished, either, the_byte, makes, a_piece, a_pair, cell, item, a_name, in_place, own, as_before, in_its_name, in_its_types, in_a_signature, under_it, nameless, after_part, after_the_name, Gain, nothing, the_prefix, type_of, unqualified_of, itself, Before, quiet, goes, becomes, tests, holds, unread, Row, by_letters, character, closure, covariant_thunk, elements, enclosed, encoding, first_of_operator, in_default, inheriting, local_name, lvalue_signature, many_digits, negative, nest_end, nested_name, no_parameters, no_value, non_virtual_offset, non_virtual_thunk, one_digit, positive, reference, rvalue_signature, substitution, suffix, virtual_offset, virtual_thunk}
 
 -- nothing is done before the parts, and nothing becomes a candidate at the end
 abbrev plain : Form → Row
@@ -147,7 +147,7 @@ row_of Production.LiteralOperator = plain (a_piece (of new_literal_operator (tex
 row_of Production.NestInstance = after_steps (goes the_prefix nameless ∷ quiet ∷ becomes (of new_instance (the_name ∷ list_at 0 ∷ [])) false true false ∷ []) quiet (handed 2)
 row_of Production.Conversion = after_steps (goes nothing nameless ∷ []) quiet (makes (extending (of new_conversion (tree_at 0 ∷ []))) unlisted)
 row_of Production.OperatorNameWithC = after_steps (quiet ∷ becomes (extending (of new_operator (fixed 99 ∷ letter_at 0 ∷ []))) false true false ∷ []) quiet (a_name unlisted)
-row_of Production.OwnArguments = after_steps (goes the_prefix nameless ∷ []) quiet (a_pair taken (only the_name) (only (list_at 0)))
+row_of Production.OwnArguments = after_steps (unread ∷ []) quiet (a_pair taken (only the_name) (only (list_at 0)))
 row_of Production.NestedBase = after_steps (quiet ∷ goes nothing (after_part 0 unlisted) ∷ []) quiet (either 1 0)
 row_of Production.BaseWithS = plain (handed 0)
 row_of Production.SourceBase = after_steps (quiet ∷ becomes (extending (of new_source (no ∷ text_at 0 ∷ []))) false true false ∷ becomes (applying (only (tree_at 0)) 1) false true false ∷ []) quiet (either 2 0)

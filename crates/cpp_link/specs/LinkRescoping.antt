@@ -15,7 +15,7 @@ use Rattle.cpp_term.specs.Term.{parameter}
 use Rattle.cpp_term.specs.Items.{auto}
 use Rattle.cpp_term.specs.Values.{Candidate, State, Around, Value, tree, text_of, part}
 use Rattle.cpp_term.specs.Unfolding.{first_around, first_state}
-use Rattle.cpp_term.specs.Rescoping.{generic_so_far, is_foreign, as_generic_lambda, close_wide, cpp_wide}
+use Rattle.cpp_term.specs.Rescoping.{generic_so_far, is_foreign, as_generic_lambda, counted_base, close_wide, cpp_wide}
 use Rattle.cpp_term.specs.Between.{Going, next}
 use Rattle.cpp_link.specs.declared.linked.Linked.{Linked}
 use Rattle.cpp_link.specs.declared.rescoping.Rescoping.{Rescoping}
@@ -31,6 +31,7 @@ unfoldable pub link_close_wide : List ℕ → Production → (byte : ℕ) → Ar
     → Result (Found Value State) Refusal
 link_close_wide s Production.Substitution byte around place began vs state = close_wide Production.Substitution byte around place began vs state
 link_close_wide s Production.Lambda byte around place began vs state = Ok (found (as_generic_lambda (link_meaning s Production.Lambda byte place around vs)) state)
+link_close_wide s Production.Inheriting byte around place began vs state = Ok (found (link_meaning s Production.Inheriting byte place around vs) (counted_base around (part vs 1) state))
 link_close_wide s production byte around place began vs state = link_close s production byte around place began vs state
 
 abbrev pub linked_wide : List ℕ → Reading Value State Around
@@ -64,6 +65,18 @@ is_substitution _ = false
 unfoldable pub is_holder : Production → Bool
 is_holder Production.Holder = true
 is_holder _ = false
+
+unfoldable pub is_own_arguments : Production → Bool
+is_own_arguments Production.OwnArguments = true
+is_own_arguments _ = false
+
+unfoldable pub is_inheriting : Production → Bool
+is_inheriting Production.Inheriting = true
+is_inheriting _ = false
+
+-- before the part after these the base class of a constructor that is inherited is counted
+abbrev pub counts_base : Production → (held : ℕ) → Bool
+counts_base p held = is_own_arguments p && nat_eq held 0
 
 -- before the part after these a name becomes a candidate with its M
 abbrev pub names_holder : Production → (held : ℕ) → Bool

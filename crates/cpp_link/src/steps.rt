@@ -199,11 +199,6 @@ impl Linked {
                 then: self.inside(kept),
                 packs: self.packs,
             },
-            Production::OwnArguments => Step::Go {
-                candidate: self.prefix_candidate(symbol, kept),
-                then: self.inside(kept),
-                packs: self.packs,
-            },
             Production::BaseArguments => Step::Go {
                 candidate: self.prefix_candidate(symbol, kept),
                 then: self.inside(kept),
@@ -713,6 +708,25 @@ impl Linked {
         }
     }
 
+    /// What is done before the first part.
+    ///
+    /// # Errors
+    ///
+    /// `BadReference` at the arguments of a constructor that is inherited, which the ABI's grammar doesn't have.
+    #[inline(always)]
+    fn step_begin(
+        &self,
+        symbol: &[u8],
+        production: Production,
+        place: u32,
+        kept: Surroundings,
+    ) -> Result<Step, Refusal> {
+        match production {
+            Production::OwnArguments => Err(Refusal::BadReference { at: place }),
+            _ => Ok(self.step_first(symbol, production, place, kept)),
+        }
+    }
+
     /// What is done before the second part.
     ///
     /// # Errors
@@ -792,7 +806,7 @@ impl Linked {
         ensures bad { IfErr result (λ e. e ≡ refusals.Memory → ⊥) }
     {
         if parts.is_empty() {
-            return Ok(self.step_first(symbol, production, place, kept));
+            return self.step_begin(symbol, production, place, kept);
         }
         let first = self.given(symbol, parts, 0);
         if parts.len() == 1 {

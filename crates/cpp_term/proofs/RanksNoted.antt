@@ -95,6 +95,7 @@ within_falls : (r : ℕ) (c : Context) (prefix p : Term) → Below r c prefix �
 unfolding within_parts rank rank_in
 within_falls r c prefix (constructor digit) h g = (h, (h, tt))
 within_falls r c prefix (destructor digit) h g = (h, (h, tt))
+within_falls r c prefix (inheriting digit class) h g = (h, (h, tt))
 within_falls r c prefix (symbol e suffix) h g = falls_append r (prefix_item c prefix ∷ []) _ (prefix_falls r c prefix h) (g, tt)
 within_falls r c prefix _ h g = falls_append r (prefix_item c prefix ∷ []) _ (prefix_falls r c prefix h) (g, tt)
 
@@ -149,6 +150,22 @@ float_falls : (r : ℕ) (digits : List ℕ) (end : ℕ) → RanksBelow rank r (f
 unfolding float_parts
 float_falls r digits end = falls_choice r (nat_eq end 98) _ _ tt (falls_choice r (nat_eq end 120) _ _ tt tt)
 
+operand_falls : (r : ℕ) (c : Context) (o : Operand) (t : Term) → Below r c t → RanksBelow rank r (operand_parts c o t)
+unfolding operand_parts rank rank_in
+operand_falls r c not_printed t h = tt
+operand_falls r c as_it_is t h = (h, tt)
+operand_falls r c as_type t h = (h, (h, tt))
+operand_falls r c as_list t h = falls_first r c t h
+operand_falls r c (from_precedence least) t h = falls_choice r (nat_le least (precedence_of t)) _ _ (h, tt) (h, tt)
+
+operation_falls : (r : ℕ) (c : Context) (o : Operation) (x y : Term) → Below r c x → Below r c y → RanksBelow rank r (operation_parts c o x y)
+unfolding operation_parts
+operation_falls r c o x y h g =
+    falls_append r (text_part o.front) _ (falls_text r o.front)
+    (falls_append r (operand_parts c o.left x) _ (operand_falls r c o.left x h)
+    (falls_append r (text_part o.between) _ (falls_text r o.between)
+    (falls_append r (operand_parts c o.right y) _ (operand_falls r c o.right y g) (falls_text r o.back))))
+
 -- the entity of a local name weighs no more than what it is in
 entity_weight : (c : Context) (entity : Term) → weight_in c (entity_of entity) ≤ weight_in c entity
 unfolding entity_of weight_in weight
@@ -173,6 +190,8 @@ left_falls d c (member_pointer class t) = member_falls _ c class t (omega arith)
 left_falls d c (qualified q t) = qualified_falls _ c q t (omega arith)
 left_falls d c (expansion t) = expansion_falls c t (packs_of c t)
 left_falls d c (pack elements) = falls_first _ c elements (omega arith)
+left_falls d c (operation a b x y) = operation_falls _ c (printed a b) x y (omega arith) (omega arith)
+left_falls d c (function_parameter digits) = falls_text _ digits
 left_falls d c (integer t n) = integer_falls _ c t n (omega arith)
 left_falls d c _ = first_of (assumption tt, grind arith)
 
@@ -219,6 +238,7 @@ base_within_falls : (r : ℕ) (c : Context) (prefix p : Term) → Below r c pref
 unfolding base_within rank rank_in
 base_within_falls r c prefix (constructor digit) h g = (h, tt)
 base_within_falls r c prefix (destructor digit) h g = (h, tt)
+base_within_falls r c prefix (inheriting digit class) h g = (h, tt)
 base_within_falls r c prefix p h g = piece_falls r c p (omega arith)
 
 untagged_weight : (t : Term) → weight (without_tags t) ≤ weight t

@@ -116,6 +116,7 @@ noted_value s (leaf_.adjusted a) = value_.adjusted a
 noted_value s (leaf_.tree t listed) = value_.tree (annotate s t) listed
 noted_value s (leaf_.piece p) = value_.piece (annotate s p)
 noted_value s (leaf_.named t qualifiers ref) = value_.named (annotate s t) qualifiers ref
+noted_value s (leaf_.pair second left right) = value_.pair second (annotate s left) (annotate s right)
 noted_value s (leaf_.signature t ref) = value_.signature (annotate s t) ref
 
 unfoldable pub noted_prefix : Place → Prefix → value_.Prefix

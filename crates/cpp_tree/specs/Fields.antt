@@ -1,6 +1,6 @@
 -- What a tree has beside its production: numbers, texts and the trees of its parts. The productions are constants of the code.
 use Rattle.std.specs.Prelude.{ℕ, ◌+◌, ◌*◌, List, [], ◌∷◌, ◌-◌, ◌++◌, Bool, true, false, ◌==◌, ◌||◌, nat_lt, if◌then◌else◌, cond, get_or, Option, Some, None}
-use Rattle.cpp_grammar.specs.Term.{Qualifiers, RefQualifier, any_value, lvalue_only, rvalue_only, Signed, non_virtual, by_table, Thunk, adjusting, covariant, Term, symbol, function, object, special, thunk, of_name, construction, clone, alone, in_std, within, instance, local, holder, tagged, of_default, abbreviation, parameter, source, operator, literal_operator, constructor, destructor, lambda, generic_lambda, unnamed, string_literal, conversion, builtin, sized_float, constrained, vendor, pointer, lvalue, rvalue, array, bounded, member_pointer, function_type, qualified, vector, complex, expansion, integer, boolean, null_pointer, encoding_literal, address_of, pack, nil, list, absent}
+use Rattle.cpp_grammar.specs.Term.{Qualifiers, RefQualifier, any_value, lvalue_only, rvalue_only, Signed, non_virtual, by_table, Thunk, adjusting, covariant, Term, symbol, function, object, special, thunk, of_name, construction, clone, alone, in_std, within, instance, local, holder, tagged, of_default, abbreviation, parameter, source, operator, literal_operator, constructor, destructor, inheriting, lambda, generic_lambda, unnamed, string_literal, conversion, builtin, sized_float, constrained, vendor, pointer, lvalue, rvalue, array, bounded, member_pointer, function_type, qualified, vector, complex, decltype, expansion, integer, boolean, null_pointer, encoding_literal, address_of, operation, function_parameter, pack, nil, list, absent}
 use Rattle.cpp_tree.specs.declared.view.Names.{Names}
 use Rattle.cpp_tree.specs.declared.view.TheConstants.{ALONE, IN_STD, NESTED}
 use Rattle.cpp_tree.specs.declared.tree_production.TheConstants.{ABSENT, NIL, LIST, SYMBOL, FUNCTION, OBJECT, SPECIAL, GUARD, OF_NAME, CONSTRUCTION, CLONE, THUNK, TABLE_THUNK, COVARIANT_THUNK, WIDE_THUNK, INSTANCE, LOCAL, NUMBERED_LOCAL, HOLDER, TAGGED, OF_DEFAULT, ABBREVIATION, PARAMETER, BUILTIN, BUILTIN_WITH_D, SIZED_FLOAT, BOUNDED, CONSTRAINED, VENDOR, POINTER, LVALUE, RVALUE, ARRAY, MEMBER_POINTER, FUNCTION_TYPE, QUALIFIED, VECTOR, COMPLEX, EXPANSION, INTEGER, BOOLEAN, NULL_POINTER, ENCODING_LITERAL, ADDRESS_OF, PACK, NO_NODE}
@@ -42,6 +42,7 @@ name_fields names prefix whole (operator first second) = fields names.operator f
 name_fields names prefix whole (literal_operator bytes) = fields names.literal_operator 0 0 bytes prefix
 name_fields names prefix whole (constructor digit) = fields names.constructor digit 0 [] prefix
 name_fields names prefix whole (destructor digit) = fields names.destructor digit 0 [] prefix
+name_fields names prefix whole (inheriting digit base) = fields names.inheriting digit 0 [] (prefix ++ base ∷ [])
 name_fields names prefix whole (lambda parameters number) = fields names.lambda number 0 [] (prefix ++ parameters ∷ [])
 name_fields names prefix whole (generic_lambda parameters number) = fields names.generic_lambda number 0 [] (prefix ++ parameters ∷ [])
 name_fields names prefix whole (unnamed number) = fields names.unnamed number 0 [] prefix
@@ -196,6 +197,7 @@ names_in names given part named =
     ∷ (names.literal_operator, named (literal_operator (text_in given 0)))
     ∷ (names.constructor, named (constructor (number_in given 0)))
     ∷ (names.destructor, named (destructor (number_in given 0)))
+    ∷ (names.inheriting, named (inheriting (number_in given 0) part))
     ∷ (names.lambda, named (lambda part (number_in given 0)))
     ∷ (names.generic_lambda, named (generic_lambda part (number_in given 0)))
     ∷ (names.conversion, named (conversion part))

@@ -95,6 +95,7 @@ piece_of s ts (Piece.Operator first second) = term.operator first second
 piece_of s ts (Piece.LiteralOperator bytes) = term.literal_operator (bytes_at s bytes)
 piece_of s ts (Piece.Constructor digit) = term.constructor digit
 piece_of s ts (Piece.Destructor digit) = term.destructor digit
+piece_of s ts (Piece.Inheriting digit base) = term.inheriting digit (tree_at ts base)
 piece_of s ts (Piece.Lambda parameters number) = term.lambda (tree_at ts parameters) number
 piece_of s ts (Piece.GenericLambda parameters number) = term.generic_lambda (tree_at ts parameters) number
 piece_of s ts (Piece.Unnamed number) = term.unnamed number
@@ -176,6 +177,7 @@ is_encoding _ = false
 abbrev pub IsPieceBelow : List ℕ → ℕ → Piece → Type 0
 IsPieceBelow s n (Piece.Source internal bytes) = IsWithin bytes s
 IsPieceBelow s n (Piece.LiteralOperator bytes) = IsWithin bytes s
+IsPieceBelow s n (Piece.Inheriting digit base) = base < n
 IsPieceBelow s n (Piece.Lambda parameters number) = parameters < n
 IsPieceBelow s n (Piece.GenericLambda parameters number) = parameters < n
 IsPieceBelow s n (Piece.Conversion t) = t < n

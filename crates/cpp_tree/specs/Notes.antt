@@ -31,6 +31,7 @@ both_free (Free.Several m) (Free.Several n) = Free.Several (max m n)
 -- those of a lambda's own signature aren't free outside
 unfoldable pub piece_frees : List Entry → Piece → Free
 piece_frees es (Piece.Lambda parameters number) = free_at es parameters
+piece_frees es (Piece.Inheriting digit base) = free_at es base
 piece_frees es (Piece.Conversion t) = free_at es t
 piece_frees es _ = Free.None
 
@@ -79,6 +80,7 @@ joined l m = record { is_bare = l.is_bare || m.is_bare; head = HeadFrom.Own; emp
 
 unfoldable pub piece_by_argument : List Entry → Piece → ByArgument
 piece_by_argument es (Piece.Lambda parameters number) = passed (by_argument_at es parameters)
+piece_by_argument es (Piece.Inheriting digit base) = passed (by_argument_at es base)
 piece_by_argument es (Piece.Conversion t) = passed (by_argument_at es t)
 piece_by_argument es _ = by_none false
 
@@ -242,6 +244,7 @@ packs_at es i = (entry_at es i).packs
 
 unfoldable pub piece_packs : List Entry → Piece → Option ℕ
 piece_packs es (Piece.Lambda parameters number) = packs_at es parameters
+piece_packs es (Piece.Inheriting digit base) = packs_at es base
 piece_packs es (Piece.Conversion t) = packs_at es t
 piece_packs es _ = None
 
@@ -280,6 +283,7 @@ packing es _ = None
 unfoldable pub is_structor_piece : Piece → Bool
 is_structor_piece (Piece.Constructor digit) = true
 is_structor_piece (Piece.Destructor digit) = true
+is_structor_piece (Piece.Inheriting digit base) = true
 is_structor_piece _ = false
 
 unfoldable pub is_structor_node : Node → Bool
