@@ -170,9 +170,9 @@ good_operator s first v g = g
 -- the name of a constructor that is inherited
 good_inherited : (s : Type 0) (prefix : Prefix) (digit : ℕ) (v : Value) → GoodPrefix s prefix → Good s (held v) → Good s (held (inherited prefix digit v))
 unfolding inherited held is_open
-good_inherited s prefix digit (pair second base own) pre g =
-    let b = good_first s base own g in
-    good_instance s _ own (good_extended s prefix (inheriting digit base) pre (record { closed = b.closed; scopes = b.scopes })) (good_second s base own g)
+good_inherited s prefix digit (pair second base arguments) pre g =
+    let b = good_first s base arguments g in
+    good_instance s _ arguments (good_extended s prefix (inheriting digit base) pre (record { closed = b.closed; scopes = b.scopes })) (good_second s base arguments g)
 good_inherited s prefix digit v pre g =
     let b = good_tree s v g in
     good_extended s prefix (inheriting digit (tree_of v)) pre (record { closed = b.closed; scopes = b.scopes })
@@ -200,7 +200,7 @@ unfolding in_parentheses is_open
 good_in_parentheses s t g = record { closed = λ h. or_no _ _ (g.closed h) refl; scopes = (g.scopes, tt) }
 
 good_argument : (s : Type 0) (v : Value) → Good s (held v) → Good s (held (enclosed_argument v))
-unfolding enclosed_argument
+unfolding enclosed_argument held in_parentheses tree_of
 good_argument s v g = go (ends_arguments (tree_of v))
   where
     go : (b : Bool) → Good s (held (elim b as (λ _. Value) [ true ↦ tree (in_parentheses (tree_of v)) true | false ↦ v ]))
@@ -365,7 +365,7 @@ meant_good s (either k n) byte around vs other pre all = go (is_there (part vs k
 meant_good s the_byte byte around vs other pre all = good_nothing s
 meant_good s (makes m listing) byte around vs other pre all = made_tree_good s byte around vs m pre all
 meant_good s (a_piece m) byte around vs other pre all = made_tree_good s byte around vs m pre all
-meant_good s (a_pair letter left right) byte around vs other pre all = good_list s _ _ (made_tree_good s byte around vs left pre all) (made_tree_good s byte around vs right pre all)
+meant_good s (a_pair second m n) byte around vs other pre all = good_list s _ _ (made_tree_good s byte around vs m pre all) (made_tree_good s byte around vs n pre all)
 meant_good s (cell first rest) byte around vs other pre all = good_pair s vs first rest all
 meant_good s (item first rest) byte around vs other pre all = good_list s _ _ (good_part s vs first all) (good_part s vs rest all)
 meant_good s (a_name listing) byte around vs other pre all = good_applied s _ (part vs 1) (good_part s vs 0 all) (good_part s vs 1 all)

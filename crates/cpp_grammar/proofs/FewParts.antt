@@ -157,7 +157,11 @@ operation_few c o x y h =
     let d = text_part o.between in
     let e = operand_parts c o.right y in
     let f = text_part o.back in
-    omega (arith, h, length-append a (b ++ d ++ e ++ f), length-append b (d ++ e ++ f), length-append d (e ++ f), length-append e f, operand_few c o.left x, operand_few c o.right y)
+    let ab = append_few (length a) (most_parts o.left) a b (omega arith) (operand_few c o.left x) in
+    let abd = append_few (length a + most_parts o.left) (length d) (a ++ b) d ab (omega arith) in
+    let abde = append_few (length a + most_parts o.left + length d) (most_parts o.right) (a ++ b ++ d) e abd (operand_few c o.right y) in
+    let all = append_few (length a + most_parts o.left + length d + most_parts o.right) (length f) (a ++ b ++ d ++ e) f abde (omega arith) in
+    omega (arith, h, all)
 
 left_few : (d : Detail) (c : Context) (t : Term) → HasFew 7 (left_parts d c t)
 unfolding left_parts printed

@@ -113,8 +113,8 @@ none_operator first v g = g
 
 none_inherited : (prefix : Prefix) (digit : ℕ) (v : Value) → PrefixHasNone prefix → HasNone (held v) → HasNone (held (inherited prefix digit v))
 unfolding inherited held is_open
-none_inherited prefix digit (pair second base own) pre g =
-    none_instance (extended prefix (inheriting digit base)) own (none_extended prefix (inheriting digit base) pre (or_left_no (is_open base) (is_open own) g)) (or_right_no (is_open base) (is_open own) g)
+none_inherited prefix digit (pair second base arguments) pre g =
+    none_instance (extended prefix (inheriting digit base)) arguments (none_extended prefix (inheriting digit base) pre (or_left_no (is_open base) (is_open arguments) g)) (or_right_no (is_open base) (is_open arguments) g)
 none_inherited prefix digit v pre g = none_extended prefix (inheriting digit (tree_of v)) pre (none_tree v g)
 
 none_address : (b : Bool) (first second : ℕ) (left right : Term) → HasNone (list left right) → HasNone (operation_or_address b first second left right)
@@ -135,7 +135,7 @@ unfolding in_parentheses is_open
 none_in_parentheses t g = or_no _ _ g refl
 
 none_argument : (v : Value) → HasNone (held v) → HasNone (held (enclosed_argument v))
-unfolding enclosed_argument
+unfolding enclosed_argument held in_parentheses tree_of
 none_argument v g = go (ends_arguments (tree_of v))
   where
     go : (b : Bool) → HasNone (held (elim b as (λ _. Value) [ true ↦ tree (in_parentheses (tree_of v)) true | false ↦ v ]))
@@ -268,7 +268,7 @@ meant_none (either k n) byte around vs pre all = go (is_there (part vs k))
 meant_none the_byte byte around vs pre all = refl
 meant_none (makes m listing) byte around vs pre all = made_none byte around vs m pre all
 meant_none (a_piece m) byte around vs pre all = made_none byte around vs m pre all
-meant_none (a_pair letter left right) byte around vs pre all = or_no _ _ (made_none byte around vs left pre all) (made_none byte around vs right pre all)
+meant_none (a_pair second m n) byte around vs pre all = or_no _ _ (made_none byte around vs m pre all) (made_none byte around vs n pre all)
 meant_none (cell first rest) byte around vs pre all = or_no _ _ (none_part vs first all) (none_no_items (part vs rest) (none_part vs rest all))
 meant_none (item first rest) byte around vs pre all = or_no _ _ (none_part vs first all) (none_part vs rest all)
 meant_none (a_name listing) byte around vs pre all = none_applied _ (part vs 1) (none_part vs 0 all) (none_part vs 1 all)

@@ -64,7 +64,7 @@ weight_grows a b scope (local encoding entity discriminator) h = omega (arith, w
 weight_grows a b scope (holder name) h = omega (arith, weight_grows a b scope name h)
 weight_grows a b scope (tagged of_structor name tag) h = omega (arith, weight_grows a b scope name h)
 weight_grows a b scope (of_default digits entity) h = omega (arith, weight_grows a b scope entity h)
-weight_grows a b scope (inheriting digit base) h = omega (arith, weight_grows a b scope base h)
+weight_grows a b scope (inheriting digit class) h = omega (arith, weight_grows a b scope class h)
 weight_grows a b scope (lambda parameters number) h = omega (arith, weight_grows a b scope parameters h)
 weight_grows a b scope (conversion t) h = omega (arith, weight_grows a b scope t h)
 weight_grows a b scope (constrained letter concept) h = omega (arith, weight_grows a b scope concept h)
@@ -81,7 +81,7 @@ weight_grows a b scope (complex t) h = omega (arith, weight_grows a b scope t h)
 weight_grows a b scope (decltype e) h = omega (arith, weight_grows a b scope e h)
 weight_grows a b scope (expansion pattern) h = omega (arith, weight_grows a b scope pattern h)
 weight_grows a b scope (integer t n) h = omega (arith, weight_grows a b scope t h)
-weight_grows a b scope (operation first second left right) h = omega (arith, weight_grows a b scope left h, weight_grows a b scope right h)
+weight_grows a b scope (operation one two x y) h = omega (arith, weight_grows a b scope x h, weight_grows a b scope y h)
 weight_grows a b scope (pack elements) h = omega (arith, weight_grows a b scope elements h)
 weight_grows a b scope (list e rest) h = omega (arith, weight_grows a b scope e h, weight_grows a b scope rest h)
 weight_grows a b scope _ h = omega arith
@@ -207,10 +207,13 @@ operand_falls r c (from_precedence least) t h = falls_choice r (nat_le least (pr
 operation_falls : (r : ℕ) (c : Context) (o : Operation) (x y : Term) → Below r c x → Below r c y → RanksBelow rank r (operation_parts c o x y)
 unfolding operation_parts
 operation_falls r c o x y h g =
-    falls_append r (text_part o.front) _ (falls_text r o.front)
-    (falls_append r (operand_parts c o.left x) _ (operand_falls r c o.left x h)
-    (falls_append r (text_part o.between) _ (falls_text r o.between)
-    (falls_append r (operand_parts c o.right y) _ (operand_falls r c o.right y g) (falls_text r o.back))))
+    let a = text_part o.front in
+    let b = operand_parts c o.left x in
+    let d = text_part o.between in
+    let e = operand_parts c o.right y in
+    falls_append r (a ++ b ++ d ++ e) (text_part o.back)
+    (falls_append r (a ++ b ++ d) e
+    (falls_append r (a ++ b) d (falls_append r a b (falls_text r o.front) (operand_falls r c o.left x h)) (falls_text r o.between)) (operand_falls r c o.right y g)) (falls_text r o.back)
 
 -- the entity of a local name weighs no more than what it is in
 entity_weight : (c : Context) (entity : Term) → weight_in c (entity_of entity) ≤ weight_in c entity

@@ -51,7 +51,7 @@ inside-shut (local e entity discriminator) x closed (inr i) = inside-shut entity
 inside-shut (holder name) x closed i = prefix-shut name x (Inside name x) closed (inside-shut name x closed) i
 inside-shut (tagged of_structor name tag) x closed i = itself-shut name x (Inside name x) closed (inside-shut name x closed) i
 inside-shut (of_default digits entity) x closed i = inside-shut entity x closed i
-inside-shut (inheriting digit base) x closed i = itself-shut base x (Inside base x) closed (inside-shut base x closed) i
+inside-shut (inheriting digit class) x closed i = itself-shut class x (Inside class x) closed (inside-shut class x closed) i
 inside-shut (lambda parameters k) x closed i = inside-shut parameters x closed i
 inside-shut (conversion type) x closed i = itself-shut type x (Inside type x) closed (inside-shut type x closed) i
 inside-shut (constrained letter concept) x closed i = itself-shut concept x (Inside concept x) closed (inside-shut concept x closed) i
@@ -77,10 +77,10 @@ inside-shut (complex type) x closed i = itself-shut type x (Inside type x) close
 inside-shut (decltype e) x closed i = itself-shut e x (Inside e x) closed (inside-shut e x closed) i
 inside-shut (expansion pattern) x closed i = itself-shut pattern x (Inside pattern x) closed (inside-shut pattern x closed) i
 inside-shut (integer type value) x closed i = itself-shut type x (Inside type x) closed (inside-shut type x closed) i
-inside-shut (operation first second left right) x closed (inl i) =
-    itself-shut left x (Inside left x) (left-shut (is_open left) (is_open right) closed) (inside-shut left x (left-shut (is_open left) (is_open right) closed)) i
-inside-shut (operation first second left right) x closed (inr i) =
-    itself-shut right x (Inside right x) (right-shut (is_open left) (is_open right) closed) (inside-shut right x (right-shut (is_open left) (is_open right) closed)) i
+inside-shut (operation one two x y) x closed (inl i) =
+    itself-shut x x (Inside x x) (left-shut (is_open x) (is_open y) closed) (inside-shut x x (left-shut (is_open x) (is_open y) closed)) i
+inside-shut (operation one two x y) x closed (inr i) =
+    itself-shut y x (Inside y x) (right-shut (is_open x) (is_open y) closed) (inside-shut y x (right-shut (is_open x) (is_open y) closed)) i
 inside-shut (pack elements) x closed i = inside-shut elements x closed i
 inside-shut (list first rest) x closed (inl i) =
     itself-shut first x (Inside first x) (left-shut (is_open first) (is_open rest) closed) (inside-shut first x (left-shut (is_open first) (is_open rest) closed)) i

@@ -42,7 +42,7 @@ closed-packs scope (holder name) closed = closed-packs scope name closed
 closed-packs scope (tagged of_structor name tag) closed = closed-packs scope name closed
 closed-packs scope (of_default digits entity) closed = closed-packs scope entity closed
 closed-packs scope (parameter k) closed = absurd (true≢false closed)
-closed-packs scope (inheriting digit base) closed = closed-packs scope base closed
+closed-packs scope (inheriting digit class) closed = closed-packs scope class closed
 closed-packs scope (lambda parameters k) closed = closed-packs scope parameters closed
 closed-packs scope (conversion type) closed = closed-packs scope type closed
 closed-packs scope (constrained letter concept) closed = closed-packs scope concept closed
@@ -64,9 +64,9 @@ closed-packs scope (vector digits type) closed = closed-packs scope type closed
 closed-packs scope (complex type) closed = closed-packs scope type closed
 closed-packs scope (decltype e) closed = closed-packs scope e closed
 closed-packs scope (integer type value) closed = closed-packs scope type closed
-closed-packs scope (operation first second left right) closed =
-    first-none (pack_length scope left) (pack_length scope right) (closed-packs scope left (left-shut (is_open left) (is_open right) closed))
-    (closed-packs scope right (right-shut (is_open left) (is_open right) closed))
+closed-packs scope (operation one two x y) closed =
+    first-none (pack_length scope x) (pack_length scope y) (closed-packs scope x (left-shut (is_open x) (is_open y) closed))
+    (closed-packs scope y (right-shut (is_open x) (is_open y) closed))
 closed-packs scope (pack elements) closed = closed-packs scope elements closed
 closed-packs scope (list first rest) closed =
     first-none (pack_length scope first) (pack_length scope rest) (closed-packs scope first (left-shut (is_open first) (is_open rest) closed))
