@@ -294,7 +294,7 @@ TREES = [
     ("qualified", ("q", QUALIFIERS), ("t", TREE)),
     ("vector", ("digits", BYTES), ("t", TREE)),
     ("complex", ("t", TREE)),
-    ("decltype", ("e", TREE)),
+    ("decltype", ("operand", TREE)),
     ("expansion", ("pattern", TREE)),
     ("integer", ("t", TREE), ("n", SIGNED)),
     ("boolean", ("b", TRUTH)),

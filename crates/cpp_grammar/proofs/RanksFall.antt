@@ -78,7 +78,7 @@ weight_grows a b scope (function_type c_linkage noexcept ref returned parameters
 weight_grows a b scope (qualified q t) h = omega (arith, weight_grows a b scope t h)
 weight_grows a b scope (vector digits t) h = omega (arith, weight_grows a b scope t h)
 weight_grows a b scope (complex t) h = omega (arith, weight_grows a b scope t h)
-weight_grows a b scope (decltype e) h = omega (arith, weight_grows a b scope e h)
+weight_grows a b scope (decltype operand) h = omega (arith, weight_grows a b scope operand h)
 weight_grows a b scope (expansion pattern) h = omega (arith, weight_grows a b scope pattern h)
 weight_grows a b scope (integer t n) h = omega (arith, weight_grows a b scope t h)
 weight_grows a b scope (operation one two x y) h = omega (arith, weight_grows a b scope x h, weight_grows a b scope y h)

@@ -8,7 +8,7 @@ use Rattle.sym_link.specs.Driving.{Fails}
 use Rattle.sym_link.specs.Reading.{Found, ◌>>=◌}
 use Rattle.sym_link.specs.Unfold.{unfold_tree}
 use Rattle.cpp_grammar.specs.Table.{wide}
-use Rattle.cpp_grammar.specs.Term.{Term, symbol, function, object, special, thunk, of_name, construction, clone, alone, in_std, within, instance, local, holder, tagged, of_default, lambda, generic_lambda, conversion, pointer, lvalue, rvalue, array, constrained, bounded, member_pointer, function_type, qualified, vector, complex, expansion, integer, encoding_literal, address_of, pack, list}
+use Rattle.cpp_grammar.specs.Term.{Term, symbol, function, object, special, thunk, of_name, construction, clone, alone, in_std, within, instance, local, holder, tagged, of_default, lambda, generic_lambda, conversion, pointer, lvalue, rvalue, array, constrained, bounded, member_pointer, function_type, qualified, vector, complex, expansion, integer, encoding_literal, address_of, pack, list, decltype, inheriting, operation}
 use Rattle.cpp_grammar.specs.Unfolding.{unfold_cpp}
 use Rattle.cpp_grammar.specs.Rescoping.{unfold_wide}
 use Rattle.cpp_term.specs.Term as term_
@@ -58,7 +58,7 @@ erased s (function_type c_linkage noexcept ref returned parameters) = both (λ a
 erased s (qualified q t) = ap (λ a. qualified q a) (erased s t)
 erased s (vector digits t) = ap (λ a. vector digits a) (erased s t)
 erased s (complex t) = ap (λ a. complex a) (erased s t)
-erased s (decltype e) = ap (λ a. decltype a) (erased s e)
+erased s (decltype operand) = ap (λ a. decltype a) (erased s operand)
 erased s (expansion pattern) = ap (λ a. expansion a) (erased s pattern)
 erased s (integer t n) = ap (λ a. integer a n) (erased s t)
 erased s (encoding_literal e) = ap (λ a. encoding_literal a) (erased nowhere e)

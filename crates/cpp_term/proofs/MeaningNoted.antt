@@ -254,15 +254,12 @@ ends_noted s (operation first second left right) = refl
 ends_noted s _ = refl
 
 argument_enclosed : (s : Place) (v : Value) → noted_.enclosed_argument (noted_value s v) ≡ noted_value s (meaning_.enclosed_argument v)
-unfolding noted_.enclosed_argument meaning_.enclosed_argument noted_.in_parentheses meaning_.in_parentheses annotate
+unfolding noted_.enclosed_argument meaning_.enclosed_argument noted_.in_parentheses meaning_.in_parentheses noted_value annotate
 argument_enclosed s v = go (noted_.ends_arguments (value_.tree_of (noted_value s v))) (meaning_.ends_arguments (tree_of v)) (ap noted_.ends_arguments (tree_noted s v) ∙ ends_noted s (tree_of v))
   where
     go : (c b : Bool) → c ≡ b → (elim c as (λ _. value_.Value) [ true ↦ value_.tree (noted_.in_parentheses (value_.tree_of (noted_value s v))) true | false ↦ noted_value s v ])
         ≡ noted_value s (elim b as (λ _. Value) [ true ↦ leaf_.tree (meaning_.in_parentheses (tree_of v)) true | false ↦ v ])
-    go true true e = ap (λ t. value_.tree (noted_.in_parentheses t) true) (tree_noted s v) ∙ in_parentheses_noted
-      where
-        in_parentheses_noted : value_.tree (noted_.in_parentheses (annotate s (tree_of v))) true ≡ noted_value s (leaf_.tree (meaning_.in_parentheses (tree_of v)) true)
-        in_parentheses_noted = refl
+    go true true e = ap (λ t. value_.tree (noted_.in_parentheses t) true) (tree_noted s v)
     go false false e = refl
     go true false e = absurd cc
     go false true e = absurd cc

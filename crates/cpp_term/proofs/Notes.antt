@@ -1,7 +1,7 @@
 -- What annotating keeps.
 use Rattle.std.proofs.Common.{◌≡◌, refl, ap, sym, ◌∙◌, subst, nat_eq, max, not, ℕ, zero, suc, Bool, true, false, ◌||◌, ◌&&◌, Option, Some, None}
 use Rattle.std.proofs.lemmas.Bool.{true≢false, eqb-true}
-use Rattle.cpp_grammar.specs.Term.{Term, alone, in_std, within, instance, local, holder, tagged, of_default, parameter, lambda, conversion, pointer, lvalue, rvalue, array, constrained, bounded, member_pointer, function_type, qualified, vector, complex, expansion, integer, pack, list, absent}
+use Rattle.cpp_grammar.specs.Term.{Term, alone, in_std, within, instance, local, holder, tagged, of_default, parameter, lambda, conversion, pointer, lvalue, rvalue, array, constrained, bounded, member_pointer, function_type, qualified, vector, complex, expansion, integer, pack, list, absent, decltype, inheriting, operation}
 use Rattle.cpp_grammar.specs.Scope.{count, element, is_list, is_alone, has_pack, arguments_of, is_open, Free, none_free, one_free, several_free, both_free, free_in, first_of, length_if_pack, pack_length}
 use Rattle.cpp_grammar.specs.Items.{Context, auto, indexed, argument, Head, lref, collapsed, head_with, head_closed, head, packs_of, is_none_of, is_empty}
 use Rattle.cpp_grammar.specs.References.{packs_in}
@@ -83,7 +83,7 @@ open_noted s (function_type c_linkage noexcept ref returned parameters) = both (
 open_noted s (qualified q t) = open_noted s t
 open_noted s (vector digits t) = open_noted s t
 open_noted s (complex t) = open_noted s t
-open_noted s (decltype e) = open_noted s e
+open_noted s (decltype operand) = open_noted s operand
 open_noted s (expansion pattern) = open_noted s pattern
 open_noted s (integer t n) = open_noted s t
 open_noted s (operation one two x y) = both (λ x y. x || y) (open_noted s x) (open_noted s y)
@@ -125,7 +125,7 @@ closed_noted s r (function_type c_linkage noexcept ref returned parameters) e = 
 closed_noted s r (qualified q t) e = ap (term_.qualified q) (closed_noted s r t e)
 closed_noted s r (vector digits t) e = ap (term_.vector digits) (closed_noted s r t e)
 closed_noted s r (complex t) e = ap term_.complex (closed_noted s r t e)
-closed_noted s r (decltype e) e = ap term_.decltype (closed_noted s r first e)
+closed_noted s r (decltype operand) e = ap term_.decltype (closed_noted s r operand e)
 closed_noted s r (expansion pattern) e = ap term_.expansion (closed_noted s r pattern e)
 closed_noted s r (integer t n) e = ap (λ x. term_.integer x n) (closed_noted s r t e)
 closed_noted s r (operation one two x y) e = both (term_.operation one two) (closed_noted s r x (or_left (is_open x) (is_open y) e)) (closed_noted s r y (or_right (is_open x) (is_open y) e))
@@ -199,7 +199,7 @@ renoted r s a (function_type c_linkage noexcept ref returned parameters) e = bot
 renoted r s a (qualified q t) e = ap (term_.qualified q) (renoted r s a t e)
 renoted r s a (vector digits t) e = ap (term_.vector digits) (renoted r s a t e)
 renoted r s a (complex t) e = ap term_.complex (renoted r s a t e)
-renoted r s a (decltype e) e = ap term_.decltype (renoted r s a first e)
+renoted r s a (decltype operand) e = ap term_.decltype (renoted r s a operand e)
 renoted r s a (expansion pattern) e = ap term_.expansion (renoted r s a pattern e)
 renoted r s a (integer t n) e = ap (λ x. term_.integer x n) (renoted r s a t e)
 renoted r s a (operation one two x y) e = both (term_.operation one two) (renoted r s a x (names_both r a (free_in x) (free_in y) e).0) (renoted r s a y (names_both r a (free_in x) (free_in y) e).1)
@@ -232,7 +232,7 @@ free_noted s (function_type c_linkage noexcept ref returned parameters) = both b
 free_noted s (qualified q t) = free_noted s t
 free_noted s (vector digits t) = free_noted s t
 free_noted s (complex t) = free_noted s t
-free_noted s (decltype e) = free_noted s e
+free_noted s (decltype operand) = free_noted s operand
 free_noted s (expansion pattern) = free_noted s pattern
 free_noted s (integer t n) = free_noted s t
 free_noted s (operation one two x y) = both both_free (free_noted s x) (free_noted s y)
@@ -273,7 +273,7 @@ pack_none (function_type c_linkage noexcept ref returned parameters) = both firs
 pack_none (qualified q t) = pack_none t
 pack_none (vector digits t) = pack_none t
 pack_none (complex t) = pack_none t
-pack_none (decltype e) = pack_none e
+pack_none (decltype operand) = pack_none operand
 pack_none (integer t n) = pack_none t
 pack_none (operation one two x y) = both first_of (pack_none x) (pack_none y)
 pack_none (pack elements) = pack_none elements
@@ -306,7 +306,7 @@ pack_own (function_type c_linkage noexcept ref returned parameters) = both first
 pack_own (qualified q t) = pack_own t
 pack_own (vector digits t) = pack_own t
 pack_own (complex t) = pack_own t
-pack_own (decltype e) = pack_own e
+pack_own (decltype operand) = pack_own operand
 pack_own (integer t n) = pack_own t
 pack_own (operation one two x y) = both first_of (pack_own x) (pack_own y)
 pack_own (pack elements) = pack_own elements
@@ -339,7 +339,7 @@ pack_some all (function_type c_linkage noexcept ref returned parameters) = both 
 pack_some all (qualified q t) = pack_some all t
 pack_some all (vector digits t) = pack_some all t
 pack_some all (complex t) = pack_some all t
-pack_some all (decltype e) = pack_some all e
+pack_some all (decltype operand) = pack_some all operand
 pack_some all (integer t n) = pack_some all t
 pack_some all (operation one two x y) = both first_of (pack_some all x) (pack_some all y)
 pack_some all (pack elements) = pack_some all elements

@@ -183,10 +183,13 @@ operand_noted c (from_precedence least) t = choice (nat_le least (leaf_.preceden
 operation_noted : (c : Context) (o : Operation) (x y : Term) → part_.operation_parts (noted_context c) o (annotate (at c) x) (annotate (at c) y) ≡ noted_parts (leaf_.operation_parts c o x y)
 unfolding part_.operation_parts leaf_.operation_parts
 operation_noted c o x y =
-    joins (leaf_.text_part o.front) _ _ _ (text_noted o.front)
-    (joins (leaf_.operand_parts c o.left x) _ _ _ (operand_noted c o.left x)
-    (joins (leaf_.text_part o.between) _ _ _ (text_noted o.between)
-    (joins (leaf_.operand_parts c o.right y) _ _ _ (operand_noted c o.right y) (text_noted o.back))))
+    let a = leaf_.text_part o.front in
+    let b = leaf_.operand_parts c o.left x in
+    let d = leaf_.text_part o.between in
+    let e = leaf_.operand_parts c o.right y in
+    joins (a ++ b ++ d ++ e) _ _ _
+    (joins (a ++ b ++ d) _ _ _
+    (joins (a ++ b) _ _ _ (joins a _ _ _ (text_noted o.front) (operand_noted c o.left x)) (text_noted o.between)) (operand_noted c o.right y)) (text_noted o.back)
 
 entity_noted : (c : Context) (form : Form) (t : Term) → (part_.as_item form (noted_context c) (part_.entity_of (annotate (at c) t)) ∷ []) ≡ noted_parts (leaf_.as_item form c (leaf_.entity_of t) ∷ [])
 unfolding part_.entity_of leaf_.entity_of annotate noted_parts noted_part noted_item

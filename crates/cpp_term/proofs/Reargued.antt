@@ -4,7 +4,7 @@ use Rattle.std.proofs.lemmas.Bool.{true≢false, ltb-true}
 use Rattle.cpp_grammar.specs.Items.{is_none_of, lref, collapsed}
 use Rattle.cpp_grammar.specs.Scope.{Free, none_free, one_free, several_free, both_free, first_of}
 use Rattle.cpp_grammar.specs.Term as term_
-use Rattle.cpp_term.specs.Term.{Term, alone, in_std, within, instance, local, holder, tagged, of_default, parameter, constructor, destructor, lambda, conversion, pointer, lvalue, rvalue, array, constrained, bounded, member_pointer, function_type, qualified, vector, complex, expansion, integer, pack, list, absent}
+use Rattle.cpp_term.specs.Term.{Term, alone, in_std, within, instance, local, holder, tagged, of_default, parameter, constructor, destructor, lambda, conversion, pointer, lvalue, rvalue, array, constrained, bounded, member_pointer, function_type, qualified, vector, complex, expansion, integer, pack, list, absent, decltype, inheriting, operation}
 use Rattle.cpp_term.specs.Scope.{count, element, is_list, is_alone, has_pack, arguments_of, before_arguments, is_structor, without_tags, has_return_type, is_open, free_in, length_if_pack, pack_length}
 use Rattle.cpp_term.specs.Items.{Context, HeadClass, known, of_element, collapsed_of_element, collapsed_class, class_of, packs_of, is_empty}
 use Rattle.cpp_term.specs.Erased.{erase}
@@ -39,7 +39,7 @@ reargued_none (function_type c_linkage noexcept ref returned parameters) = both 
 reargued_none (qualified q t) = ap (λ x. qualified q x) (reargued_none t)
 reargued_none (vector digits t) = ap (λ x. vector digits x) (reargued_none t)
 reargued_none (complex t) = ap (λ x. complex x) (reargued_none t)
-reargued_none (decltype e) = ap (λ x. decltype x) (reargued_none e)
+reargued_none (decltype operand) = ap (λ x. decltype x) (reargued_none operand)
 reargued_none (expansion pattern) = ap (λ x. expansion x) (reargued_none pattern)
 reargued_none (integer t n) = ap (λ x. integer x n) (reargued_none t)
 reargued_none (operation one two x y) = both (λ x y. operation one two x y) (reargued_none x) (reargued_none y)
@@ -73,7 +73,7 @@ reargued_twice c a (function_type c_linkage noexcept ref returned parameters) = 
 reargued_twice c a (qualified q t) = ap (λ x. qualified q x) (reargued_twice c a t)
 reargued_twice c a (vector digits t) = ap (λ x. vector digits x) (reargued_twice c a t)
 reargued_twice c a (complex t) = ap (λ x. complex x) (reargued_twice c a t)
-reargued_twice c a (decltype e) = ap (λ x. decltype x) (reargued_twice c a e)
+reargued_twice c a (decltype operand) = ap (λ x. decltype x) (reargued_twice c a operand)
 reargued_twice c a (expansion pattern) = ap (λ x. expansion x) (reargued_twice c a pattern)
 reargued_twice c a (integer t n) = ap (λ x. integer x n) (reargued_twice c a t)
 reargued_twice c a (operation one two x y) = both (λ x y. operation one two x y) (reargued_twice c a x) (reargued_twice c a y)
@@ -107,7 +107,7 @@ reargued_closed c (function_type c_linkage noexcept ref returned parameters) clo
 reargued_closed c (qualified q t) closed = ap (λ x. qualified q x) (reargued_closed c t closed)
 reargued_closed c (vector digits t) closed = ap (λ x. vector digits x) (reargued_closed c t closed)
 reargued_closed c (complex t) closed = ap (λ x. complex x) (reargued_closed c t closed)
-reargued_closed c (decltype e) closed = ap (λ x. decltype x) (reargued_closed c e closed)
+reargued_closed c (decltype operand) closed = ap (λ x. decltype x) (reargued_closed c operand closed)
 reargued_closed c (expansion pattern) closed = ap (λ x. expansion x) (reargued_closed c pattern closed)
 reargued_closed c (integer t n) closed = ap (λ x. integer x n) (reargued_closed c t closed)
 reargued_closed c (operation one two x y) closed = both (λ x y. operation one two x y) (reargued_closed c x (or_left (is_open x) (is_open y) closed)) (reargued_closed c y (or_right (is_open x) (is_open y) closed))
@@ -142,7 +142,7 @@ open_reargued c (function_type c_linkage noexcept ref returned parameters) = bot
 open_reargued c (qualified q t) = open_reargued c t
 open_reargued c (vector digits t) = open_reargued c t
 open_reargued c (complex t) = open_reargued c t
-open_reargued c (decltype e) = open_reargued c e
+open_reargued c (decltype operand) = open_reargued c operand
 open_reargued c (expansion pattern) = open_reargued c pattern
 open_reargued c (integer t n) = open_reargued c t
 open_reargued c (operation one two x y) = both (λ x y. x || y) (open_reargued c x) (open_reargued c y)
@@ -175,7 +175,7 @@ free_reargued c (function_type c_linkage noexcept ref returned parameters) = bot
 free_reargued c (qualified q t) = free_reargued c t
 free_reargued c (vector digits t) = free_reargued c t
 free_reargued c (complex t) = free_reargued c t
-free_reargued c (decltype e) = free_reargued c e
+free_reargued c (decltype operand) = free_reargued c operand
 free_reargued c (expansion pattern) = free_reargued c pattern
 free_reargued c (integer t n) = free_reargued c t
 free_reargued c (operation one two x y) = both both_free (free_reargued c x) (free_reargued c y)
@@ -208,7 +208,7 @@ erase_reargued c (function_type c_linkage noexcept ref returned parameters) = bo
 erase_reargued c (qualified q t) = ap (λ x. term_.qualified q x) (erase_reargued c t)
 erase_reargued c (vector digits t) = ap (λ x. term_.vector digits x) (erase_reargued c t)
 erase_reargued c (complex t) = ap (λ x. term_.complex x) (erase_reargued c t)
-erase_reargued c (decltype e) = ap (λ x. term_.decltype x) (erase_reargued c e)
+erase_reargued c (decltype operand) = ap (λ x. term_.decltype x) (erase_reargued c operand)
 erase_reargued c (expansion pattern) = ap (λ x. term_.expansion x) (erase_reargued c pattern)
 erase_reargued c (integer t n) = ap (λ x. term_.integer x n) (erase_reargued c t)
 erase_reargued c (operation one two x y) = both (λ x y. term_.operation one two x y) (erase_reargued c x) (erase_reargued c y)
@@ -387,7 +387,7 @@ pack_reargued a (function_type c_linkage noexcept ref returned parameters) = bar
 pack_reargued a (qualified q t) = pack_reargued a t
 pack_reargued a (vector digits t) = pack_reargued a t
 pack_reargued a (complex t) = pack_reargued a t
-pack_reargued a (decltype e) = pack_reargued a e
+pack_reargued a (decltype operand) = pack_reargued a operand
 pack_reargued a (integer t n) = pack_reargued a t
 pack_reargued a (operation one two x y) = bare_first (bare x) (bare y) (length_if_pack a) (pack_reargued a x) (pack_reargued a y)
 pack_reargued a (pack elements) = pack_reargued a elements
@@ -420,7 +420,7 @@ bare_reargued c (function_type c_linkage noexcept ref returned parameters) = bot
 bare_reargued c (qualified q t) = bare_reargued c t
 bare_reargued c (vector digits t) = bare_reargued c t
 bare_reargued c (complex t) = bare_reargued c t
-bare_reargued c (decltype e) = bare_reargued c e
+bare_reargued c (decltype operand) = bare_reargued c operand
 bare_reargued c (expansion pattern) = refl
 bare_reargued c (integer t n) = bare_reargued c t
 bare_reargued c (operation one two x y) = both (λ x y. x || y) (bare_reargued c x) (bare_reargued c y)

@@ -2,7 +2,7 @@
 use Rattle.std.specs.Prelude.{ℕ, List, [], ◌∷◌, Bool, true, false, ◌&&◌, Option, Some, None, Result, Ok, Err}
 use Rattle.sym_core.specs.declared.refusal.Refusal.{Refusal}
 use Rattle.sym_print.specs.Unfold.{PartOf, text, sub}
-use Rattle.cpp_grammar.specs.Term.{Term, symbol, function, object, special, thunk, of_name, construction, clone, alone, in_std, within, instance, local, holder, tagged, of_default, abbreviation, parameter, source, operator, literal_operator, constructor, destructor, lambda, generic_lambda, unnamed, string_literal, conversion, builtin, sized_float, constrained, vendor, pointer, lvalue, rvalue, array, bounded, member_pointer, function_type, qualified, vector, complex, expansion, integer, boolean, null_pointer, encoding_literal, address_of, pack, nil, list, absent}
+use Rattle.cpp_grammar.specs.Term.{Term, symbol, function, object, special, thunk, of_name, construction, clone, alone, in_std, within, instance, local, holder, tagged, of_default, abbreviation, parameter, source, operator, literal_operator, constructor, destructor, lambda, generic_lambda, unnamed, string_literal, conversion, builtin, sized_float, constrained, vendor, pointer, lvalue, rvalue, array, bounded, member_pointer, function_type, qualified, vector, complex, expansion, integer, boolean, null_pointer, encoding_literal, address_of, pack, nil, list, absent, decltype, function_parameter, inheriting, operation}
 use Rattle.cpp_grammar.specs.Values.{Prefix, Around, Value}
 use Rattle.cpp_grammar.specs.Values as leaf_
 use Rattle.cpp_grammar.specs.Items.{Context, Item}
@@ -74,7 +74,7 @@ annotate s (function_type c_linkage noexcept ref returned parameters) = term_.fu
 annotate s (qualified q t) = term_.qualified q (annotate s t)
 annotate s (vector digits t) = term_.vector digits (annotate s t)
 annotate s (complex t) = term_.complex (annotate s t)
-annotate s (decltype e) = term_.decltype (annotate s e)
+annotate s (decltype operand) = term_.decltype (annotate s operand)
 annotate s (expansion pattern) = term_.expansion (annotate s pattern)
 annotate s (integer t n) = term_.integer (annotate s t) n
 annotate s (boolean b) = term_.boolean b

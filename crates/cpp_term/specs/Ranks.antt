@@ -1,7 +1,7 @@
 -- A rank of items that falls from each item to its parts, so that printing ends.
 use Rattle.std.specs.Prelude.{ℕ, ◌+◌, ◌-◌}
 use Rattle.cpp_grammar.specs.Ranks.{or_none}
-use Rattle.cpp_term.specs.Term.{Term, symbol, function, object, special, thunk, of_name, construction, clone, alone, in_std, within, instance, local, holder, tagged, of_default, parameter, lambda, generic_lambda, conversion, pointer, lvalue, rvalue, array, constrained, bounded, member_pointer, function_type, qualified, vector, complex, expansion, integer, encoding_literal, address_of, pack, list}
+use Rattle.cpp_term.specs.Term.{Term, symbol, function, object, special, thunk, of_name, construction, clone, alone, in_std, within, instance, local, holder, tagged, of_default, parameter, lambda, generic_lambda, conversion, pointer, lvalue, rvalue, array, constrained, bounded, member_pointer, function_type, qualified, vector, complex, expansion, integer, encoding_literal, address_of, pack, list, decltype, inheriting, operation}
 use Rattle.cpp_term.specs.Scope.{pack_length}
 use Rattle.cpp_grammar.specs.Items.{Form, expand}
 use Rattle.cpp_term.specs.Items.{Context, Item}
@@ -45,7 +45,7 @@ weight (function_type c_linkage noexcept ref returned parameters) = 1 + weight r
 weight (qualified q t) = 1 + weight t
 weight (vector digits t) = 1 + weight t
 weight (complex t) = 1 + weight t
-weight (decltype e) = 1 + weight e
+weight (decltype operand) = 1 + weight operand
 weight (expansion pattern) = 2 + weight pattern + pack_count pattern
 weight (integer t n) = 1 + weight t
 weight (encoding_literal e) = 1 + weight e

@@ -1,6 +1,6 @@
 -- A tree whose free parameters carry another argument, and what of it depends on that argument.
 use Rattle.std.specs.Prelude.{ℕ, Bool, true, false, ◌||◌, ◌&&◌, Option, Some, None}
-use Rattle.cpp_term.specs.Term.{Term, alone, in_std, within, instance, local, holder, tagged, of_default, parameter, lambda, conversion, pointer, lvalue, rvalue, array, constrained, bounded, member_pointer, function_type, qualified, vector, complex, expansion, integer, pack, nil, list, absent}
+use Rattle.cpp_term.specs.Term.{Term, alone, in_std, within, instance, local, holder, tagged, of_default, parameter, lambda, conversion, pointer, lvalue, rvalue, array, constrained, bounded, member_pointer, function_type, qualified, vector, complex, expansion, integer, pack, nil, list, absent, decltype, inheriting, operation}
 use Rattle.cpp_grammar.specs.Scope.{Free, one_free}
 use Rattle.cpp_term.specs.Scope.{element, is_alone}
 use Rattle.cpp_term.specs.Items.{HeadClass, collapsed_class}
@@ -49,7 +49,7 @@ reargued c (function_type c_linkage noexcept ref returned parameters) = function
 reargued c (qualified q t) = qualified q (reargued c t)
 reargued c (vector digits t) = vector digits (reargued c t)
 reargued c (complex t) = complex (reargued c t)
-reargued c (decltype e) = decltype (reargued c e)
+reargued c (decltype operand) = decltype (reargued c operand)
 reargued c (expansion pattern) = expansion (reargued c pattern)
 reargued c (integer t n) = integer (reargued c t) n
 reargued c (operation one two x y) = operation one two (reargued c x) (reargued c y)
@@ -86,7 +86,7 @@ bare (function_type c_linkage noexcept ref returned parameters) = bare returned 
 bare (qualified q t) = bare t
 bare (vector digits t) = bare t
 bare (complex t) = bare t
-bare (decltype e) = bare e
+bare (decltype operand) = bare operand
 bare (integer t n) = bare t
 bare (operation one two x y) = bare x || bare y
 bare (pack elements) = bare elements

@@ -166,7 +166,7 @@ module _ (y : Table) (table : IsTable y) where
   node-free (Node.Qualified q t) b = at t b
   node-free (Node.Vector digits t) b = at t b.1
   node-free (Node.Complex t) b = at t b
-  node-free (Node.Decltype e) b = at e b
+  node-free (Node.Decltype operand) b = at operand b
   node-free (Node.Expansion pattern) b = at pattern b
   node-free (Node.Integer t n) b = at t b.0
   node-free (Node.Operation one two x y) b = both-are (free_at y.nodes x) (free_at y.nodes y) (at x b.0) (at y b.1)
@@ -207,7 +207,7 @@ module _ (y : Table) (table : IsTable y) where
   node-by-argument (Node.Qualified q t) b = ap (λ l. of_head l.head l) (by-argument-at t b)
   node-by-argument (Node.Vector digits t) b = ap passed (by-argument-at t b.1)
   node-by-argument (Node.Complex t) b = ap passed (by-argument-at t b)
-  node-by-argument (Node.Decltype e) b = ap passed (by-argument-at e b)
+  node-by-argument (Node.Decltype operand) b = ap passed (by-argument-at operand b)
   node-by-argument (Node.Expansion pattern) b = expansion-by-argument (by_argument_at y.nodes pattern) (tree_at (trees y) pattern) (by-argument-at pattern b)
   node-by-argument (Node.Integer t n) b = ap passed (by-argument-at t b.0)
   node-by-argument (Node.Operation one two x y) b = rw (by-argument-at x b.0, by-argument-at y b.1) refl
@@ -524,7 +524,7 @@ module _ (y : Table) (table : IsTable y) where
   node-pack (Node.Qualified q t) b = pack-at t b
   node-pack (Node.Vector digits t) b = pack-at t b.1
   node-pack (Node.Complex t) b = pack-at t b
-  node-pack (Node.Decltype e) b = pack-at e b
+  node-pack (Node.Decltype operand) b = pack-at operand b
   node-pack (Node.Integer t n) b = pack-at t b.0
   node-pack (Node.Operation one two x y) b = rw (pack-at x b.0, pack-at y b.1) refl
   node-pack (Node.Pack elements) b = pack-at elements b

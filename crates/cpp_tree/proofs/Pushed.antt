@@ -92,7 +92,7 @@ module _ (s : List ℕ) (us : List Thunk) (ts : List Term) (t : Term) (i : ℕ) 
   node-stays (Node.Qualified q x) b = rw (early x b) refl
   node-stays (Node.Vector digits x) b = rw (early x b.1) refl
   node-stays (Node.Complex x) b = rw (early x b) refl
-  node-stays (Node.Decltype e) b = rw (early e b) refl
+  node-stays (Node.Decltype operand) b = rw (early operand b) refl
   node-stays (Node.Expansion pattern) b = rw (early pattern b) refl
   node-stays (Node.Integer x n) b = rw (early x b.0) refl
   node-stays (Node.Boolean y) b = refl

@@ -74,7 +74,7 @@ inside-shut (function_type c_linkage noexcept ref returned parameters) x closed 
 inside-shut (qualified q type) x closed i = unqualified-shut type x (Inside type x) closed (inside-shut type x closed) i
 inside-shut (vector digits type) x closed i = itself-shut type x (Inside type x) closed (inside-shut type x closed) i
 inside-shut (complex type) x closed i = itself-shut type x (Inside type x) closed (inside-shut type x closed) i
-inside-shut (decltype e) x closed i = itself-shut e x (Inside e x) closed (inside-shut e x closed) i
+inside-shut (decltype operand) x closed i = itself-shut operand x (Inside operand x) closed (inside-shut operand x closed) i
 inside-shut (expansion pattern) x closed i = itself-shut pattern x (Inside pattern x) closed (inside-shut pattern x closed) i
 inside-shut (integer type value) x closed i = itself-shut type x (Inside type x) closed (inside-shut type x closed) i
 inside-shut (operation one two x y) x closed (inl i) =

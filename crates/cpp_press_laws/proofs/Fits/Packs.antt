@@ -62,7 +62,7 @@ closed-packs scope (function_type c_linkage noexcept ref returned parameters) cl
 closed-packs scope (qualified q type) closed = closed-packs scope type closed
 closed-packs scope (vector digits type) closed = closed-packs scope type closed
 closed-packs scope (complex type) closed = closed-packs scope type closed
-closed-packs scope (decltype e) closed = closed-packs scope e closed
+closed-packs scope (decltype operand) closed = closed-packs scope operand closed
 closed-packs scope (integer type value) closed = closed-packs scope type closed
 closed-packs scope (operation one two x y) closed =
     first-none (pack_length scope x) (pack_length scope y) (closed-packs scope x (left-shut (is_open x) (is_open y) closed))
