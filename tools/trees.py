@@ -468,14 +468,14 @@ def first_of(parts): return parts[0] if len(parts) == 1 else applied("first_of",
 # nodes of which something is noted, by their arguments: numbers of nodes are i and j here
 NOTED = ["nil", "alone", "in_std", "within", "instance", "local", "holder", "tagged", "of_default", "parameter", "constrained", "pointer", "lvalue", "rvalue", "array", "bounded", "member_pointer", "function_type", "qualified",
          "vector", "complex", "decltype", "expansion", "integer", "operation", "pack", "list", "again"]
-SORTS = {PIECE: ("p", "Piece"), BYTES: ("d", "Span"), NUMBER: ("k", "ℕ"), MARK: ("m", "Mark"), QUALIFIERS: ("q", "Qualifiers"), SIGNED: ("v", "Signed"), DISCRIMINATOR: ("d", "Option Span")}
+SORTS = {PIECE: ("p", "Piece"), BYTES: ("d", "Span"), MARK: ("m", "Mark"), QUALIFIERS: ("q", "Qualifiers"), SIGNED: ("v", "Signed"), DISCRIMINATOR: ("d", "Option Span")}
 def noted_nodes():
     """each with its name, and its arguments with their types"""
     known = {tree: (node, args) for node, tree, args in nodes()}
     for tree in NOTED:
         node, args = known[tree]
-        numbers, truths = iter("ij"), iter("xy")
-        yield node, [(next(truths), "Bool") if sort == TRUTH else SORTS[sort] if sort in SORTS else (next(numbers), "ℕ") for name, sort in args]
+        numbers, truths, letters = iter("ij"), iter("xy"), iter("kl")
+        yield node, [(next(truths), "Bool") if sort == TRUTH else (next(letters), "ℕ") if sort == NUMBER else SORTS[sort] if sort in SORTS else (next(numbers), "ℕ") for name, sort in args]
 
 def is_other():
     def line(node, args):

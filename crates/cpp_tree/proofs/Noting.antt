@@ -141,6 +141,7 @@ module _ (y : Table) (table : IsTable y) where
   piece-free : (p : Piece) → IsPieceBelow y.bytes (length y.nodes) p → free_is (piece_frees y.nodes p) ≡ free_in (piece_of y.bytes (trees y) p)
   unfolding piece_frees piece_of free_in free_is
   piece-free (Piece.Lambda parameters number) b = at parameters b
+  piece-free (Piece.Inheriting digit base) b = at base b
   piece-free (Piece.Conversion t) b = at t b
   piece-free _ b = refl
 
@@ -181,6 +182,7 @@ module _ (y : Table) (table : IsTable y) where
   piece-by-argument : (p : Piece) → IsPieceBelow y.bytes (length y.nodes) p → piece_by_argument y.nodes p ≡ passed (by_argument_of (piece_of y.bytes (trees y) p))
   unfolding piece_by_argument piece_of by_argument_of bare head_from is_empty_with head_noted passed
   piece-by-argument (Piece.Lambda parameters number) b = ap passed (by-argument-at parameters b)
+  piece-by-argument (Piece.Inheriting digit base) b = ap passed (by-argument-at base b)
   piece-by-argument (Piece.Conversion t) b = ap passed (by-argument-at t b)
   piece-by-argument _ b = refl
 
@@ -473,6 +475,7 @@ module _ (y : Table) (table : IsTable y) where
   piece-pack : (p : Piece) → IsPieceBelow y.bytes (length y.nodes) p → piece_packs y.nodes p ≡ pack_length (piece_of y.bytes (trees y) p)
   unfolding piece_packs piece_of pack_length
   piece-pack (Piece.Lambda parameters number) b = pack-at parameters b
+  piece-pack (Piece.Inheriting digit base) b = pack-at base b
   piece-pack (Piece.Conversion t) b = pack-at t b
   piece-pack _ b = refl
 

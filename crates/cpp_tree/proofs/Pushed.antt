@@ -52,6 +52,7 @@ module _ (s : List ℕ) (us : List Thunk) (ts : List Term) (t : Term) (i : ℕ) 
   unfolding piece_of
   piece-stays (Piece.Lambda parameters number) below = rw (early parameters below) refl
   piece-stays (Piece.GenericLambda parameters number) below = rw (early parameters below) refl
+  piece-stays (Piece.Inheriting digit base) below = rw (early base below) refl
   piece-stays (Piece.Conversion t) below = rw (early t below) refl
   piece-stays _ below = refl
 
