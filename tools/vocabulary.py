@@ -301,7 +301,7 @@ TREES = [
     ("null_pointer",),
     ("encoding_literal", ("e", OWN)),
     ("address_of", ("e", OWN)),
-    ("operation", ("one", NUMBER), ("two", NUMBER), ("x", TREE), ("y", TREE)),
+    ("operation", ("one", NUMBER), ("two", NUMBER), ("u", TREE), ("w", TREE)),
     ("function_parameter", ("digits", BYTES)),
     ("pack", ("elements", TREE)),
     ("nil",),

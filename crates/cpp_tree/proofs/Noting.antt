@@ -170,7 +170,7 @@ module _ (y : Table) (table : IsTable y) where
   node-free (Node.Decltype operand) b = at operand b
   node-free (Node.Expansion pattern) b = at pattern b
   node-free (Node.Integer t n) b = at t b.0
-  node-free (Node.Operation one two x y) b = both-are (free_at y.nodes x) (free_at y.nodes y) (at x b.0) (at y b.1)
+  node-free (Node.Operation one two u w) b = both-are (free_at y.nodes u) (free_at y.nodes w) (at u b.0) (at w b.1)
   node-free (Node.Pack elements) b = at elements b
   node-free (Node.Cell first rest) b = both-are (free_at y.nodes first) (free_at y.nodes rest) (at first b.0) (at rest b.1)
   node-free (Node.Reargued t a) b = at t b.0 ∙ sym (free_reargued (Some (tree_at (trees y) a)) (tree_at (trees y) t))
@@ -212,7 +212,7 @@ module _ (y : Table) (table : IsTable y) where
   node-by-argument (Node.Decltype operand) b = ap passed (by-argument-at operand b)
   node-by-argument (Node.Expansion pattern) b = expansion-by-argument (by_argument_at y.nodes pattern) (tree_at (trees y) pattern) (by-argument-at pattern b)
   node-by-argument (Node.Integer t n) b = ap passed (by-argument-at t b.0)
-  node-by-argument (Node.Operation one two x y) b = rw (by-argument-at x b.0, by-argument-at y b.1) refl
+  node-by-argument (Node.Operation one two u w) b = rw (by-argument-at u b.0, by-argument-at w b.1) refl
   node-by-argument (Node.Pack elements) b = ap of_pack (by-argument-at elements b)
   node-by-argument (Node.Cell first rest) b = rw (by-argument-at first b.0, by-argument-at rest b.1) refl
   node-by-argument (Node.Reargued t a) b = by-argument-at t b.0 ∙ sym (by_argument_reargued (Some (tree_at (trees y) a)) (tree_at (trees y) t))
@@ -529,7 +529,7 @@ module _ (y : Table) (table : IsTable y) where
   node-pack (Node.Complex t) b = pack-at t b
   node-pack (Node.Decltype operand) b = pack-at operand b
   node-pack (Node.Integer t n) b = pack-at t b.0
-  node-pack (Node.Operation one two x y) b = rw (pack-at x b.0, pack-at y b.1) refl
+  node-pack (Node.Operation one two u w) b = rw (pack-at u b.0, pack-at w b.1) refl
   node-pack (Node.Pack elements) b = pack-at elements b
   node-pack (Node.Cell first rest) b = rw (pack-at first b.0, pack-at rest b.1) refl
   node-pack (Node.Reargued t a) b = again-pack t a b.0 b.1

@@ -100,7 +100,7 @@ module _ (s : List ℕ) (us : List Thunk) (ts : List Term) (t : Term) (i : ℕ) 
   node-stays Node.NullPointer b = refl
   node-stays (Node.EncodingLiteral e) b = rw (early e b) refl
   node-stays (Node.AddressOf e) b = rw (early e b) refl
-  node-stays (Node.Operation one two x y) b = rw (early x b.0, early y b.1) refl
+  node-stays (Node.Operation one two u w) b = rw (early u b.0, early w b.1) refl
   node-stays (Node.FunctionParameter digits) b = refl
   node-stays (Node.Pack elements) b = rw (early elements b) refl
   node-stays (Node.Cell first rest) b = rw (early first b.0, early rest b.1) refl

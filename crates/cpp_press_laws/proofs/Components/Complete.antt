@@ -77,10 +77,10 @@ inside-shut (complex type) x closed i = itself-shut type x (Inside type x) close
 inside-shut (decltype operand) x closed i = itself-shut operand x (Inside operand x) closed (inside-shut operand x closed) i
 inside-shut (expansion pattern) x closed i = itself-shut pattern x (Inside pattern x) closed (inside-shut pattern x closed) i
 inside-shut (integer type value) x closed i = itself-shut type x (Inside type x) closed (inside-shut type x closed) i
-inside-shut (operation one two x y) x closed (inl i) =
-    itself-shut x x (Inside x x) (left-shut (is_open x) (is_open y) closed) (inside-shut x x (left-shut (is_open x) (is_open y) closed)) i
-inside-shut (operation one two x y) x closed (inr i) =
-    itself-shut y x (Inside y x) (right-shut (is_open x) (is_open y) closed) (inside-shut y x (right-shut (is_open x) (is_open y) closed)) i
+inside-shut (operation one two u w) x closed (inl i) =
+    itself-shut u x (Inside u x) (left-shut (is_open u) (is_open w) closed) (inside-shut u x (left-shut (is_open u) (is_open w) closed)) i
+inside-shut (operation one two u w) x closed (inr i) =
+    itself-shut w x (Inside w x) (right-shut (is_open u) (is_open w) closed) (inside-shut w x (right-shut (is_open u) (is_open w) closed)) i
 inside-shut (pack elements) x closed i = inside-shut elements x closed i
 inside-shut (list first rest) x closed (inl i) =
     itself-shut first x (Inside first x) (left-shut (is_open first) (is_open rest) closed) (inside-shut first x (left-shut (is_open first) (is_open rest) closed)) i

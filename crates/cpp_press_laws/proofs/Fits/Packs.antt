@@ -64,9 +64,9 @@ closed-packs scope (vector digits type) closed = closed-packs scope type closed
 closed-packs scope (complex type) closed = closed-packs scope type closed
 closed-packs scope (decltype operand) closed = closed-packs scope operand closed
 closed-packs scope (integer type value) closed = closed-packs scope type closed
-closed-packs scope (operation one two x y) closed =
-    first-none (pack_length scope x) (pack_length scope y) (closed-packs scope x (left-shut (is_open x) (is_open y) closed))
-    (closed-packs scope y (right-shut (is_open x) (is_open y) closed))
+closed-packs scope (operation one two u w) closed =
+    first-none (pack_length scope u) (pack_length scope w) (closed-packs scope u (left-shut (is_open u) (is_open w) closed))
+    (closed-packs scope w (right-shut (is_open u) (is_open w) closed))
 closed-packs scope (pack elements) closed = closed-packs scope elements closed
 closed-packs scope (list first rest) closed =
     first-none (pack_length scope first) (pack_length scope rest) (closed-packs scope first (left-shut (is_open first) (is_open rest) closed))
