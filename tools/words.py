@@ -217,14 +217,18 @@ def layout_codes():
 def layout_operations():
     def text(t): return f"texts::OPERATION + {OPERATION_TEXTS.index(t)}" if t else "texts::NONE"
     def how(o): return f"Operand::From({o})" if isinstance(o, int) else {words.NONE: "Operand::NotPrinted", words.LEFT: "Operand::AsItIs", words.BOTH: "Operand::AsType", words.LIST: "Operand::AsList"}[o]
-    out = [f"// {WRITTEN} How the operations of expressions are printed, by the codes of their operators.", "#![tactic(auto)]", "", "use crate::texts;", "",
+    out = [f"// {WRITTEN} How the operations of expressions are printed, by the codes of their operators.", "#![tactic(auto)]", "", "ghost use Rattle.std.specs.Prelude.{◌≡◌};", "ghost use Rattle.cpp_grammar.specs.Parts.{printed};",
+           "ghost use Rattle.cpp_layout.specs.Operations.{IsOperation, HasTexts};", "", "use crate::texts;", "",
            "/// How an operand is printed: not at all, as it is, as a type, as a list, or in parentheses if its precedence is at least this.", "#[derive(Clone, Copy)]", "pub enum Operand {",
            "    NotPrinted,", "    AsItIs,", "    AsType,", "    AsList,", "    From(u8),", "}", "",
            "/// The precedence of an operation, and what is printed: the numbers of texts, and how its operands are.", "#[derive(Clone, Copy)]", "pub struct Operation {",
            "    pub precedence: u8,", "    pub front: u16,", "    pub left: Operand,", "    pub between: u16,", "    pub right: Operand,", "    pub back: u16,", "}", "",
-           "/// One of these parts.", "fn printed_as(", "    precedence: u8,", "    front: u16,", "    left: Operand,", "    between: u16,", "    right: Operand,", "    back: u16,", ") -> Operation {", "    Operation {",
+           "/// One of these parts.", "fn printed_as(", "    precedence: u8,", "    front: u16,", "    left: Operand,", "    between: u16,", "    right: Operand,", "    back: u16,", ") -> Operation",
+           "    ensures { result ≡ record { precedence = precedence; front = front; left = left; between = between; right = right; back = back } }", "{", "    Operation {",
            "        precedence,", "        front,", "        left,", "        between,", "        right,", "        back,", "    }", "}", "",
-           "/// The operation of two letters.", "pub(crate) fn operation(first: u8, second: u8) -> Operation {", "    match first as u16 * 256 + second as u16 {"]
+           "/// The operation of two letters.", "pub(crate) fn operation_of(first: u8, second: u8) -> Operation",
+           "    ensures is { IsOperation result (printed first second) }", "    ensures texts { HasTexts result }", "{",
+           "    match first as u16 * 256 + second as u16 {"]
     for code, own, front, left, between, right, back in words.OPERATIONS:
         out += [f"        // {code}", f"        {ord(code[0]) * 256 + ord(code[1])} => printed_as(", *[f"            {value}," for value in (own, text(front), how(left), text(between), how(right), text(back))], "        ),"]
     out += ["        _ => printed_as(", *[f"            {value}," for value in (0, "texts::NONE", "Operand::NotPrinted", "texts::NONE", "Operand::NotPrinted", "texts::NONE")], "        ),", "    }", "}"]
