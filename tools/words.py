@@ -234,6 +234,25 @@ def layout_operations():
     out += ["        _ => printed_as(", *[f"            {value}," for value in (0, "texts::NONE", "Operand::NotPrinted", "texts::NONE", "Operand::NotPrinted", "texts::NONE")], "        ),", "    }", "}"]
     return "\n".join(out) + "\n"
 
+def operation_answers():
+    """each arm's operation is the one of the table"""
+    fields = "record { precedence = refl; front = refl; left = refl; between = refl; right = refl; back = refl }"
+    computed = "unfolding printed operation_of_code operations same_bytes builtin_texts operator_texts abbreviation_texts special_texts named_special_texts literal_endings"
+    numbers = [ord(code[0]) * 256 + ord(code[1]) for code, *rest in words.OPERATIONS]
+    both = "c.args.first * 256 + c.args.second"
+    out = [f"-- {WRITTEN}", "use Rattle.std.proofs.Common.{◌≡◌, refl, arith, lit<, ◌+◌, ◌*◌, false}", "use Rattle.std.proofs.lemmas.Bool.{ne_eqb}",
+           "use Rattle.cpp_grammar.specs.Texts.{same_bytes, builtin_texts, operator_texts, abbreviation_texts, special_texts, named_special_texts, literal_endings}",
+           "use Rattle.cpp_grammar.specs.Operations.{operations, operation_of_code}", "use Rattle.cpp_grammar.specs.Parts.{printed}",
+           "use Rattle.cpp_layout.proofs.Operating.{printed-by, any_number, none-printed}", "use Rattle.cpp_layout.proofs.operation_rows.operation_of.Goals as goal"]
+    for n in numbers:
+        called = "printed_as" if n == numbers[0] else f"printed_as-in-{n}"
+        out += ["", f"pub returns-in-{n}-clause-is : goal.returns-in-{n}-clause-is", computed,
+                f"returns-in-{n}-clause-is c = printed-by c.args.first c.args.second {n // 256} {n % 256} c.{called}.result c.ranges.second.fits (lit< tt) (omega (arith, c.in-{n}.is)) (rw c.{called}.ensures {fields})"]
+    off = ", ".join(f"ne_eqb ({both}) {n} (omega (arith, c.in_default))" for n in numbers)
+    out += ["", "pub returns-in_default-clause-is : goal.returns-in_default-clause-is", "unfolding operations",
+            f"returns-in_default-clause-is c = none-printed c.args.first c.args.second c.printed_as-in_default.result (let n : any_number operations ({both}) ≡ false = rw ({off}) refl in n) (rw c.printed_as-in_default.ensures {fields})"]
+    return "\n".join(out) + "\n"
+
 def code_letters():
     out = [f"-- {WRITTEN} The letters that are codes, by what they are codes of.", "use Rattle.std.proofs.Common.{ℕ, List, codes}"]
     done = set()
@@ -326,6 +345,7 @@ def files(productions, rows):
     yield "cpp_layout/src/texts.rt", layout_texts()
     yield "cpp_layout/src/numbered.rt", layout_codes()
     yield "cpp_layout/proofs/CodeLetters.antt", code_letters()
+    yield "cpp_layout/proofs/operation_rows/operation_of/Answers.antt", operation_answers()
     for name, text in code_answers(): yield f"cpp_layout/proofs/numbered/{name}/Answers.antt", text
     yield "cpp_direct/specs/Letters.antt", direct_letters()
     yield "cpp_direct/src/letters.rt", direct_tests()
