@@ -282,7 +282,7 @@ bare-argument around place k state n bare e =
 -- a lambda's signature has no scope, nor has what is in one
 lambdas-go : (p : Production) (around : Around) (place : ℕ) (vs : List Value) (state : State) (n : Next Value State Around)
     → LambdasAreBare around → between p around place vs state ≡ Ok n → LambdasAreBare n.context
-unfolding between named_so_far listed_so_far after inside in_signature in_name in_types under_expansion
+unfolding between named_so_far listed_so_far after inside in_signature in_name in_types under_expansion parameter_so_far parameter_named argument_so_far
 lambdas-go Production.Encoding around place [] state n bare e = bare-next (in_name place) [] state n (λ is. absurd (false≢true is)) e
 lambdas-go Production.Encoding around place (v ∷ vs) state n bare e =
     bare-next (in_types place (tree_of v)) (v ∷ vs) state n (λ is. absurd (false≢true is)) e

@@ -135,7 +135,7 @@ argument-goes around place k state next outside e =
 
 between-outside : (p : Production) (around : Around) (place : ℕ) (vs : List Value) (state : State) (next : Next Value State Around)
     → NoExpansion p → around.in_expansion ≡ false → between p around place vs state ≡ Ok next → Outside state next
-unfolding between named_so_far listed_so_far after inside in_name in_types in_signature appended
+unfolding between named_so_far listed_so_far after inside in_name in_types in_signature appended parameter_so_far parameter_named argument_so_far
 between-outside Production.Encoding around place [] state next no_ outside e = goes state _ _ state next refl refl e
 between-outside Production.Encoding around place (v ∷ vs) state next no_ outside e = goes state _ _ state next refl refl e
 between-outside Production.Special around place vs state next no_ outside e = goes state _ _ state next refl refl e

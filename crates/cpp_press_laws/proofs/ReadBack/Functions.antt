@@ -82,7 +82,7 @@ parameter-passes p around allowed at k cs is goes s same packs =
 pub parameter-solid : (kind : ℕ) (around : Around) (allowed : Option ℕ) (k place : ℕ) (cs : List Component) → IsInScope around allowed k
     → TakesRule abi kind (rule_of Production.Parameter) (84 ∷ [])
     → ReadsAt around allowed (OfKind kind) (Is (tree (parameter k) true)) place cs (written (84 ∷ ordinal k) (more around cs (parameter k)))
-unfolding choose alternatives pick is_in in_ranges among kinds is_chain parts_of number_of_kind may_be_empty between opening close unfolding_.behind meaning applied tree_of is_there part byte_of
+unfolding choose alternatives pick is_in in_ranges among kinds is_chain parts_of number_of_kind may_be_empty between opening close unfolding_.behind meaning applied tree_of is_there part byte_of parameter_so_far parameter_named listed_so_far
 parameter-solid kind around allowed k place cs is takes =
     let digits : Written = written (((ordinal_token k).before ++ ordinal_digits k) ++ (95 ∷ [])) cs in
     let after_it : List Component = more around cs (parameter k) in
