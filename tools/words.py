@@ -157,7 +157,7 @@ def layout_texts():
     remaining += [(at["NAMED_SPECIAL"] + i, t) for i, (c, t) in enumerate(words.NAMED_SPECIALS)]
     remaining += [(at["ENDING"] + i, t) for i, (c, t) in enumerate(words.ENDINGS)]
     remaining += [(at["BLANKED"] + 1 + i, t) for i, t in enumerate(BLANKED)]
-    out += function("operation_text", "A text of an operation.", at["OPERATION"], [], [(at["OPERATION"] + i, t) for i, t in enumerate(OPERATION_TEXTS)], 'b""')
+    out += function("operation_text", "A text of an operation.", at["OPERATION"], ALL_TABLES, [(at["OPERATION"] + i, t) for i, t in enumerate(OPERATION_TEXTS)], 'b""')
     out += function("remaining_text", "A text after the operators: an abbreviation, a special name, an ending, a qualifier.", at["ABBREVIATION"], ALL_TABLES,
                     remaining + [("OPERATOR_ALONE", "operator")], "operation_text(number)")
     out += function("operator_text", "The name of an operator.", at["OPERATOR"], ALL_TABLES[:2],

@@ -146,7 +146,7 @@ pub const OPERATION: u16 = 209;
 pub const COUNT: u16 = 274;
 
 /// A text of an operation.
-#[tactic(auto, unfolding(crate::specs::Texts::fixed_text))]
+#[tactic(auto, unfolding(crate::specs::Texts::fixed_text, cpp_grammar::specs::Texts::builtin_texts, cpp_grammar::specs::Texts::operator_texts, cpp_grammar::specs::Texts::abbreviation_texts, cpp_grammar::specs::Texts::special_texts, cpp_grammar::specs::Texts::named_special_texts, cpp_grammar::specs::Texts::literal_endings))]
 #[inline(always)]
 fn operation_text(number: u16) -> &'static [u8]
     requires { 209 ≤ number }
