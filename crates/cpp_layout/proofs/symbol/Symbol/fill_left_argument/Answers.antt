@@ -35,5 +35,9 @@ pub returns-in-AddressOf-clause-shows : goal.returns-in-AddressOf-clause-shows
 unfolding tree_of left_parts reargued
 returns-in-AddressOf-clause-shows g c = fills c.args.self.now c.args.ctx.detail _ _ _ c.fill_encoding_literal-in-AddressOf.ensures.shows (ap (λ n. left_parts c.args.ctx.detail (context_of c.args.ctx) (node_shown c.args.self.now c.args.ctx n)) (sym c.in-AddressOf.is))
 
+pub returns-in-Decltype-clause-shows : goal.returns-in-Decltype-clause-shows
+unfolding tree_of left_parts reargued
+returns-in-Decltype-clause-shows g c = fills c.args.self.now c.args.ctx.detail _ _ _ c.fill_decltype.ensures.shows (ap (λ n. left_parts c.args.ctx.detail (context_of c.args.ctx) (node_shown c.args.self.now c.args.ctx n)) (sym c.in-Decltype.is))
+
 pub returns-in_default-clause-shows : goal.returns-in_default-clause-shows
-returns-in_default-clause-shows g c = fills c.args.self.now c.args.ctx.detail _ _ _ (starts c.args.self.now c.args.ctx.detail _) (left-none _ _ _ _ c.args.ctx.detail (context_of c.args.ctx) c.args.node (no-type-flat c.args.node c.requires.kind) c.requires.kind c.in_default.not-Expansion c.in_default.not-Pack c.in_default.not-Integer c.in_default.not-Boolean c.in_default.not-NullPointer c.in_default.not-EncodingLiteral c.in_default.not-AddressOf)
+returns-in_default-clause-shows g c = fills c.args.self.now c.args.ctx.detail _ _ _ (starts c.args.self.now c.args.ctx.detail _) (left-none _ _ _ _ c.args.ctx.detail (context_of c.args.ctx) c.args.node (no-type-flat c.args.node c.requires.kind) c.requires.kind c.in_default.not-Expansion c.in_default.not-Pack c.in_default.not-Integer c.in_default.not-Boolean c.in_default.not-NullPointer c.in_default.not-EncodingLiteral c.in_default.not-AddressOf c.in_default.not-Decltype c.in_default.not-Operation c.in_default.not-FunctionParameter)
