@@ -33,7 +33,7 @@ const UNARY: u8 = 2;
 
 /// The precedence of an expression: what is no operation and no address needs no parentheses.
 fn precedence_of(node: Node) -> u8
-    ensures tree { (s : List ℕ) (us : List Thunk) (ts : List Term) → is_again node ≡ false → result ≡ trees_.precedence_of (tree_of s us ts node) }
+    ensures { (s : List ℕ) (us : List Thunk) (ts : List Term) → is_again node ≡ false → result ≡ trees_.precedence_of (tree_of s us ts node) }
 {
     match node {
         Node::Operation { first, second, .. } => operation_of(first, second).precedence,
