@@ -10,7 +10,7 @@ use Rattle.cpp_press_laws.specs.Fits.{has_letters}
 use Rattle.cpp_press_laws.specs.Components.{Component, Spelling, components_of, is_same}
 use Rattle.cpp_press_laws.proofs.Components.Parts.{IsComponent, ItselfOr, PrefixOr, UnqualifiedOr, Inside, Whole, Has, has-before, has-either, has-itself, same-means, has-closed, prefix-whole}
 use Rattle.cpp_press_laws.proofs.Components.Known.{KeepsTo, known-has}
-use Rattle.cpp_press_laws.proofs.Short.Worth.{is_among, has-among, is_again, full, worth, worths, full-some, worth-some, worths-one}
+use Rattle.cpp_press_laws.proofs.Short.Worth.{is_among, has-among, is_again, full, worth, worths, full-some, worths-one}
 
 -- ## What is in a closed tree is closed
 

@@ -1,15 +1,11 @@
 -- Each kind's bytes pay for what is read as it, and so a symbol's bytes for what is pressed of it.
-use Rattle.std.proofs.Common.{◌≡◌, ℕ, ◌+◌, ◌*◌, ◌-◌, ◌≤◌, ◌⊎◌, inl, inr, length, List, [], ◌∷◌, ◌++◌, Bool, true, false, cond, Option, Some, None, Result, Ok, Err, refl, ap, sym, subst, ◌∙◌, arith, length-append}
-use Rattle.std.proofs.lemmas.Bool.{false≢true, true≢false}
+use Rattle.std.proofs.Common.{◌≡◌, ℕ, inl, inr, length, List, [], ◌∷◌, true, refl, sym, subst, ◌∙◌, arith}
+use Rattle.std.proofs.lemmas.Bool.{false≢true}
 use Rattle.sym_shape.specs.declared.rule.Rule.{Rule}
-use Rattle.sym_shape.specs.declared.rule.Sym.TheVariants.{Kind as OfKind}
-use Rattle.sym_shape.specs.Tree.{Tree as Shape, Forest, branch, empty, token, fixed, spell, spell_all, IsTree}
-use Rattle.sym_link.specs.Reading.{Found, ◌>>=◌}
-use Rattle.sym_link.specs.Unfold.{found, unfold_tree}
+use Rattle.sym_shape.specs.Tree.{Tree as Shape, Forest, branch, empty, spell}
+use Rattle.sym_link.specs.Unfold.{found}
 use Rattle.cpp_grammar.specs.declared.kind.Kind.{Kind}
-use Rattle.cpp_grammar.specs.declared.production.Production.{Production}
-use Rattle.cpp_grammar.specs.Grammar.{Alternative, alternatives, number_of_kind, may_be_empty}
-use Rattle.cpp_grammar.specs.Table.{abi}
+use Rattle.cpp_grammar.specs.Grammar.{alternatives, number_of_kind, may_be_empty}
 use Rattle.cpp_grammar.specs.Values.{State, Around, Value, nothing_there}
 use Rattle.cpp_grammar.specs.Unfolding.{cpp}
 use Rattle.cpp_grammar.proofs.Choosing.{empty_at_kind}

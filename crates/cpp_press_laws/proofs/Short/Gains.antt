@@ -1,30 +1,23 @@
 -- What is read of a symbol pays for what is pressed of it: eight for each byte. The candidates are worth what was paid for them, and so
 -- is what isn't a candidate yet.
-use Rattle.std.proofs.Common.{◌≡◌, ℕ, ◌+◌, ◌*◌, ◌-◌, ◌<◌, ◌≤◌, ◌⊎◌, inl, inr, length, List, [], ◌∷◌, ◌++◌, Bool, true, false, cond, Option, Some, None, Result, Ok, Err, refl, ap, sym, subst, ◌∙◌, arith, length-append}
-use Rattle.std.specs.Prelude.{◌&&◌, ◌||◌}
-use Rattle.std.proofs.lemmas.Bool.{false≢true, true≢false}
-use Rattle.sym_shape.specs.declared.rule.Sym.{Sym}
-use Rattle.sym_shape.specs.declared.rule.Sym.TheVariants.{Kind as OfKind, Name, Number, Byte}
-use Rattle.sym_shape.specs.Tree.{Tree as Shape, Forest, branch, empty, token, fixed, nothing, grown, spell, spell_all, IsTree}
-use Rattle.sym_link.specs.Reading.{Found, Next}
+use Rattle.std.proofs.Common.{◌≡◌, ℕ, ◌+◌, ◌*◌, ◌-◌, ◌≤◌, ◌⊎◌, length, List, [], ◌∷◌, ◌++◌, Bool, true, false, cond, Ok, refl, sym, subst, arith}
+use Rattle.sym_shape.specs.declared.rule.Sym.TheVariants.{Kind as OfKind}
+use Rattle.sym_shape.specs.Tree.{Tree as Shape, spell, IsTree}
 use Rattle.sym_link.specs.Unfold.{found, unfold_tree}
 use Rattle.cpp_grammar.specs.declared.kind.Kind.{Kind}
-use Rattle.cpp_grammar.specs.declared.production.Production.{Production}
-use Rattle.cpp_grammar.specs.Grammar.{number_of_kind, parts_of, is_chain}
+use Rattle.cpp_grammar.specs.Grammar.{number_of_kind}
 use Rattle.cpp_grammar.specs.Table.{abi}
-use Rattle.cpp_grammar.specs.Term.{Term, any_value, lvalue_only}
-use Rattle.cpp_grammar.specs.Values.{Candidate, State, Prefix, outermost, behind, Around, prefix_tree, prefix_listed, Value, nothing_there, letter, text, signed, adjusted, tree, piece, named, signature, tree_of, piece_of, is_listed, qualifiers_of, ref_of, is_there, text_of, signed_of, adjustment_of}
-use Rattle.cpp_grammar.specs.References.{is_function_type, appended, with_type, with_unqualified, with_prefix}
+use Rattle.cpp_grammar.specs.Term.{Term, lvalue_only}
+use Rattle.cpp_grammar.specs.Values.{Candidate, State, Prefix, outermost, behind, Around, prefix_tree, prefix_listed, Value, nothing_there, letter, text, signed, tree, tree_of, piece_of, is_listed, qualifiers_of, ref_of, is_there, adjustment_of}
+use Rattle.cpp_grammar.specs.References.{is_function_type, appended, with_type, with_prefix}
 use Rattle.cpp_grammar.specs.Between.{no_items}
 use Rattle.cpp_grammar.specs.Meaning.{discriminator_of, signature_or}
-use Rattle.cpp_grammar.specs.Unfolding.{cpp, close, byte_of}
-use Rattle.cpp_grammar.proofs.ClosedStates.{ok_same}
+use Rattle.cpp_grammar.specs.Unfolding.{cpp}
 use Rattle.cpp_press_laws.specs.Texts.{signed_text, offset_text, name_letters, discriminator_text}
-use Rattle.cpp_press_laws.specs.Components.{Component, is_same, components_of}
+use Rattle.cpp_press_laws.specs.Components.{components_of}
 use Rattle.cpp_press_laws.specs.Pressing.{is_encoding}
 use Rattle.cpp_press_laws.proofs.Components.Parts.{has-itself}
 use Rattle.cpp_press_laws.proofs.Components.Complete.{worths-named, candidates-one}
-use Rattle.cpp_press_laws.proofs.ByKind.Rules.{PartGoes, PartsGo}
 use Rattle.cpp_press_laws.proofs.Short.Size.{size, part, front_of, lettered}
 use Rattle.cpp_press_laws.proofs.Short.Worth.{is_among, has-among, full, worth, worths, worth-full}
 

@@ -1,12 +1,11 @@
 -- What a symbol is read as has few pressed bytes for those of the symbol.
-use Rattle.std.proofs.Common.{◌≡◌, ℕ, ◌+◌, ◌*◌, ◌≤◌, inl, inr, length, List, [], ◌∷◌, true, Result, Ok, Err, refl, ap, sym, subst, ◌∙◌, arith}
+use Rattle.std.proofs.Common.{◌≡◌, ℕ, ◌+◌, ◌*◌, ◌≤◌, inl, inr, length, [], ◌∷◌, true, Result, Ok, Err, refl, ap, sym, subst, ◌∙◌, arith}
 use Rattle.std.proofs.lemmas.Bool.{false≢true}
 use Rattle.sym_core.specs.declared.TheConstants.{MOST_BYTES}
 use Rattle.sym_core.specs.declared.refusal.Refusal.{Refusal}
 use Rattle.sym_core.specs.declared.refusal.Refusal.TheVariants.{Malformed}
 use Rattle.sym_shape.specs.declared.rule.Sym.TheVariants.{Kind as OfKind}
 use Rattle.sym_shape.specs.Tree.{Tree as Shape, branch, empty, token, fixed, spell, IsTree}
-use Rattle.sym_link.specs.Reading.{◌>>=◌}
 use Rattle.sym_link.specs.Unfold.{found, unfold_tree}
 use Rattle.sym_demangle.specs.Mangled.{misshapen, well_shaped}
 use Rattle.cpp_grammar.specs.declared.kind.Kind.{Kind}

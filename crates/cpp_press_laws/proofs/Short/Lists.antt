@@ -1,31 +1,27 @@
 -- What is paid for what has no components of its own: numbers, pieces of names, lists and encodings.
-use Rattle.std.proofs.Common.{◌≡◌, ℕ, zero, suc, ◌+◌, ◌*◌, ◌-◌, ◌≤◌, ◌⊎◌, inl, inr, length, List, [], ◌∷◌, ◌++◌, Bool, true, false, cond, Option, Some, None, Result, Ok, Err, refl, ap, sym, subst, ◌∙◌, arith, length-append}
-use Rattle.std.specs.Prelude.{codes, not, ◌&&◌, ◌||◌, nat_eq, slice_get}
-use Rattle.std.proofs.lemmas.Bool.{false≢true, true≢false}
-use Rattle.sym_core.specs.declared.NumberKind.TheVariants.{Decimal, Seq36}
+use Rattle.std.proofs.Common.{◌≡◌, ℕ, ◌+◌, ◌*◌, ◌-◌, ◌≤◌, inr, length, List, [], ◌∷◌, ◌++◌, Bool, true, false, cond, Some, refl, ap, sym, subst, arith, length-append}
+use Rattle.std.specs.Prelude.{codes, not, ◌&&◌}
+use Rattle.sym_core.specs.declared.NumberKind.TheVariants.{Decimal}
 use Rattle.sym_core.specs.Value.{counted_value}
-use Rattle.sym_link.specs.Reading.{Found, Next}
-use Rattle.sym_link.specs.Unfold.{found}
 use Rattle.cpp_grammar.specs.declared.kind.Kind.{Kind}
 use Rattle.cpp_grammar.specs.declared.production.Production.{Production}
 use Rattle.cpp_grammar.specs.Grammar.{parts_of, is_chain}
-use Rattle.cpp_grammar.specs.Term.{Qualifiers, RefQualifier, any_value, lvalue_only, rvalue_only, Signed, Adjustment, non_virtual, by_table, adjusting, covariant, Term, symbol, function, object, special, thunk, of_name, alone, in_std, within, instance, local, abbreviation, parameter, source, operator, literal_operator, constructor, destructor, lambda, unnamed, string_literal, builtin, vendor, pointer, lvalue, rvalue, array, member_pointer, function_type, qualified, vector, complex, expansion, integer, boolean, null_pointer, encoding_literal, address_of, pack, nil, list, absent}
+use Rattle.cpp_grammar.specs.Term.{RefQualifier, any_value, lvalue_only, rvalue_only, Signed, non_virtual, by_table, adjusting, covariant, Term, symbol, function, special, thunk, of_name, source, operator, literal_operator, lambda, unnamed, lvalue, rvalue, pack, nil, list, absent}
 use Rattle.cpp_grammar.specs.Scope.{has_return_type}
 use Rattle.cpp_grammar.specs.Values as values
 use Rattle.cpp_grammar.specs.Values.{State, Prefix, outermost, Around, prefix_tree, prefix_listed, Value, nothing_there, letter, text, signed, adjusted, tree, piece, named, signature, unqualified, tree_of, piece_of, is_listed, qualifiers_of, ref_of, letter_of, is_there, mark_of, text_of, signed_of, adjustment_of, normal, is_zero, signed_digits, local_number}
-use Rattle.cpp_grammar.specs.References.{is_function_type, appended, with_type, with_unqualified, with_prefix}
-use Rattle.cpp_grammar.specs.Between.{in_name, in_types, in_signature, under_expansion, after, inside, extended, applied, no_items, named_so_far, listed_so_far, piece_so_far, index_of, between}
-use Rattle.cpp_grammar.specs.Meaning.{is_void, is_nil, parameters, encoding_of, qualified_by, listed_value, discriminator_of, function_of, with_item, reference_to, signature_or, operator_or_literal, meaning}
+use Rattle.cpp_grammar.specs.References.{is_function_type}
+use Rattle.cpp_grammar.specs.Between.{in_name, in_types, in_signature, inside, no_items, between}
+use Rattle.cpp_grammar.specs.Meaning.{parameters, encoding_of, discriminator_of, with_item, signature_or, operator_or_literal, meaning}
 use Rattle.cpp_grammar.specs.Unfolding as unfolding_
 use Rattle.cpp_grammar.specs.Unfolding.{close}
-use Rattle.cpp_press_laws.specs.Texts.{counted, ordinal, signed_text, qualifier_letters, mark_letter, name_letters, offset_text, thunk_text, discriminator_text}
-use Rattle.cpp_press_laws.specs.Components.{components_of}
+use Rattle.cpp_press_laws.specs.Texts.{ordinal, signed_text, name_letters, offset_text, thunk_text, discriminator_text}
 use Rattle.cpp_press_laws.specs.Pressing.{is_encoding}
-use Rattle.cpp_press_laws.proofs.Short.Size.{is_component, part_of, front_of, bare_of, name_of, with_void, lettered, size, over, part, front-part, name-own, over-most, size-some, part-some}
-use Rattle.cpp_press_laws.proofs.Short.Worth.{is_among, is_again, full, worth, full-most, worth-full}
-use Rattle.cpp_press_laws.proofs.Short.Gains.{wealth, IsSmall, AllSmall, front, name, type, bare, unit, whole, items, arguments, given, leaf, mark, offset, discriminator, rest, after_mark, second, unread, Class, class_of, typed, letters_in, held, need, lent, owed, loan, returned, grant, SmallPrefix, IsBehind, MayEnd, ready_for, Ready, IsKnown, IsKept, Gains, Gained, KindGains, appended-wealth, Grown, appended-grown, typed-grown, prefix-grown, appended-among}
-use Rattle.cpp_press_laws.proofs.Short.Paid.{PaidPart, Paid, Ended, comes-to}
-use Rattle.cpp_press_laws.proofs.Short.Types.{Idle, Free, made, listed, normal-short, parameters-most, letters-short, held-signed}
+use Rattle.cpp_press_laws.proofs.Short.Size.{is_component, part_of, front_of, lettered, size, over, size-some, part-some}
+use Rattle.cpp_press_laws.proofs.Short.Worth.{full}
+use Rattle.cpp_press_laws.proofs.Short.Gains.{wealth, AllSmall, front, unit, whole, items, arguments, given, leaf, mark, offset, discriminator, rest, after_mark, second, class_of, typed, letters_in, held, need, lent, loan, returned, grant, SmallPrefix, ready_for, Ready, IsKnown, IsKept, Gains, Gained, appended-grown, prefix-grown}
+use Rattle.cpp_press_laws.proofs.Short.Paid.{Ended, comes-to}
+use Rattle.cpp_press_laws.proofs.Short.Types.{Idle, Free, normal-short, parameters-most, held-signed}
 
 pub held-text : (v : Value) → 8 * length (text_of v) ≤ held v
 unfolding held text_of

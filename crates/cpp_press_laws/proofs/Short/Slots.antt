@@ -1,5 +1,5 @@
 -- A function type that is a component is spelled out again at most once for each set of qualifiers.
-use Rattle.std.proofs.Common.{◌≡◌, ℕ, ◌+◌, ◌*◌, ◌-◌, ◌≤◌, ◌⊎◌, inl, inr, length, List, [], ◌∷◌, ◌++◌, Bool, true, false, refl, ap, sym, subst, ◌∙◌, arith, append_assoc, append-nil}
+use Rattle.std.proofs.Common.{◌≡◌, ℕ, ◌+◌, ◌*◌, ◌-◌, ◌≤◌, ◌⊎◌, inl, inr, length, List, [], ◌∷◌, ◌++◌, Bool, true, false, refl, ap, sym, subst, ◌∙◌, arith}
 use Rattle.std.specs.Prelude.{cond, codes, ◌&&◌, ◌||◌}
 use Rattle.std.proofs.lemmas.Bool.{false≢true}
 use Rattle.cpp_grammar.specs.Term.{Qualifiers, Term, symbol, function_type, qualified}
@@ -10,10 +10,10 @@ use Rattle.cpp_press_laws.specs.Same.{same_truth, same_qualifiers}
 use Rattle.cpp_press_laws.specs.Components.{Component, is_same}
 use Rattle.cpp_press_laws.specs.Fits.{has_letters}
 use Rattle.cpp_press_laws.specs.MarkedComponents.{Marked, unmarked}
-use Rattle.cpp_press_laws.specs.Apart.{IsNew, IsApart, AreApartBehind, IsNeverReferred}
+use Rattle.cpp_press_laws.specs.Apart.{IsNew, IsApart, AreApartBehind}
 use Rattle.cpp_press_laws.proofs.Components.Sameness.{equal-qualifiers}
 use Rattle.cpp_press_laws.proofs.Components.Parts.{Has, has-before, has-itself, has-closed, same-means}
-use Rattle.cpp_press_laws.proofs.Short.Size.{is_name, is_component, size, over, part_of, bare_of, name_of, over-most}
+use Rattle.cpp_press_laws.proofs.Short.Size.{is_name, size, over, part_of, bare_of, name_of}
 use Rattle.cpp_press_laws.proofs.Short.Worth.{is_among, has-among, among-has, is_again, full, worth, worths}
 use Rattle.cpp_press_laws.proofs.Short.Spelled.{cost, costs}
 

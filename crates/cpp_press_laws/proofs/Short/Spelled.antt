@@ -1,11 +1,11 @@
 -- What is pressed has at most the bytes of its tree, and those of the components that it spells out.
-use Rattle.std.proofs.Common.{◌≡◌, ℕ, zero, suc, ◌+◌, ◌-◌, ◌<◌, ◌≤◌, length, List, [], ◌∷◌, ◌++◌, Option, Some, None, Bool, true, false, refl, arith, ap, sym, subst, ◌∙◌, length-append}
+use Rattle.std.proofs.Common.{◌≡◌, ℕ, zero, suc, ◌+◌, ◌-◌, ◌<◌, ◌≤◌, length, List, [], ◌∷◌, ◌++◌, Option, Some, None, Bool, true, false, refl, arith, sym, subst, length-append}
 use Rattle.std.specs.Prelude.{cond, codes, ◌&&◌}
 use Rattle.sym_spell.specs.Pressing as spell
 use Rattle.sym_spell.specs.Pressing.{◌and◌, text, nothing}
 use Rattle.sym_spell.specs.Digits.{digit36}
 use Rattle.sym_spell.proofs.DigitValues.{Divides, digits-count}
-use Rattle.cpp_grammar.specs.Term.{Qualifiers, RefQualifier, any_value, lvalue_only, rvalue_only, Term, symbol, function, object, special, thunk, of_name, construction, clone, alone, in_std, within, instance, local, holder, tagged, of_default, abbreviation, parameter, source, operator, literal_operator, constructor, destructor, lambda, generic_lambda, unnamed, string_literal, conversion, builtin, sized_float, constrained, vendor, pointer, lvalue, rvalue, array, bounded, member_pointer, function_type, qualified, vector, complex, expansion, integer, boolean, null_pointer, encoding_literal, address_of, pack, nil, list, absent}
+use Rattle.cpp_grammar.specs.Term.{RefQualifier, any_value, lvalue_only, rvalue_only, Term, symbol, function, object, special, thunk, of_name, construction, clone, alone, in_std, within, instance, local, holder, tagged, of_default, abbreviation, parameter, source, operator, literal_operator, constructor, destructor, lambda, generic_lambda, unnamed, string_literal, conversion, builtin, sized_float, constrained, vendor, pointer, lvalue, rvalue, array, bounded, member_pointer, function_type, qualified, vector, complex, expansion, integer, boolean, null_pointer, encoding_literal, address_of, pack, nil, list, absent}
 use Rattle.cpp_grammar.specs.References.{is_function_type}
 use Rattle.cpp_grammar.specs.Meaning.{is_nil}
 use Rattle.cpp_press_laws.specs.Texts.{counted, ordinal, signed_text, qualifier_letters, mark_letter, name_letters, special_code, thunk_text, discriminator_text}
@@ -13,7 +13,7 @@ use Rattle.cpp_press_laws.specs.Components.{Component, first_equal, is_same, seq
 use Rattle.cpp_press_laws.specs.Pressing.{is_operator, is_one_piece, is_encoding}
 use Rattle.cpp_press_laws.specs.MarkedComponents.{Marked, unmarked, Spelling, ended, reference, referred, component}
 use Rattle.cpp_press_laws.specs.MarkedPressing.{Ways, no_ways, type_ways, function_text, in_N_and_E, with_letters, name_ways, template_before, entity_text, local_text, begun, encoding_ways, piece_ways, argument_ways, ways_of}
-use Rattle.cpp_press_laws.proofs.Short.Size.{is_component, is_name, part_of, front_of, bare_of, name_of, with_void, lettered, size, over, part, over-least, front-part, name-own, name-part}
+use Rattle.cpp_press_laws.proofs.Short.Size.{is_component, is_name, part_of, front_of, bare_of, name_of, with_void, lettered, size, over, part, over-least, front-part, name-part}
 
 -- ## What components take
 

@@ -1,9 +1,9 @@
 -- What components are worth: the bytes that each takes where it is spelled out, beside those of a reference. A function type is worth
 -- what it takes as a whole, since it is spelled out again under each set of qualifiers; right under them, one that was a component
 -- before is worth nothing.
-use Rattle.std.proofs.Common.{◌≡◌, ℕ, ◌+◌, ◌-◌, ◌≤◌, ◌⊎◌, inl, inr, length, List, [], ◌∷◌, ◌++◌, Bool, true, false, refl, ap, sym, subst, ◌∙◌, arith, append_assoc, append-nil}
+use Rattle.std.proofs.Common.{◌≡◌, ℕ, ◌+◌, ◌≤◌, ◌⊎◌, inl, inr, length, List, [], ◌∷◌, ◌++◌, Bool, true, false, refl, ap, sym, ◌∙◌, arith, append_assoc, append-nil}
 use Rattle.std.specs.Prelude.{cond, ◌&&◌, ◌||◌}
-use Rattle.cpp_grammar.specs.Term.{Term, symbol, function_type, qualified}
+use Rattle.cpp_grammar.specs.Term.{Term, qualified}
 use Rattle.cpp_grammar.specs.References.{is_function_type}
 use Rattle.cpp_press_laws.specs.Components.{Component, is_same}
 use Rattle.cpp_press_laws.specs.Fits.{has_letters}
