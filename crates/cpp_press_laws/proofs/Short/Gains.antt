@@ -50,7 +50,8 @@ pub data Class : Type 0 where
   items : Class
   arguments : Class
   given : Class
-  -- what may be a mark, or digits; a letter; an offset; a discriminator; the rest of a function type; the same after a mark; an operator's second letter
+  -- what may be a mark, or digits; a letter; an offset; a discriminator; the rest of a function type; the same after a mark; the second
+  -- letter of an operator that begins with an l
   leaf : Class
   mark : Class
   offset : Class
@@ -158,7 +159,8 @@ held (text bytes) = 8 * length bytes
 held (signed n) = length (signed_text n)
 held _ = 0
 
--- what is left of what was paid: enough for the value as it is used next
+-- What is left of what was paid, for the value as it is used next: a name is spelled out, or becomes a candidate that is referred to;
+-- a type becomes a candidate, if it's none yet, and is referred to.
 unfoldable pub need : Class → Around → Value → State → ℕ
 need name around v s = size (tree_of v) + letters_in v + 9
 need type around v s = typed v
@@ -178,7 +180,7 @@ need after_mark around v s = size (tree_of (signature_or lvalue_only v)) + 7
 need second around v s = size (piece_of v) + 6
 need unread around v s = 0
 
--- the name so far, which goes on, or comes before arguments
+-- what is left for the name so far, where it goes on, and where arguments may come
 unfoldable pub lent : Prefix → ℕ
 lent outermost = 0
 lent (behind t true) = front t

@@ -19,7 +19,8 @@ use Rattle.cpp_press_laws.proofs.Short.Size.{is_component, part_of, front_of, le
 use Rattle.cpp_press_laws.proofs.Short.Worth.{full, full-most}
 use Rattle.cpp_press_laws.proofs.Short.Gains.{wealth, IsSmall, AllSmall, front, name, arguments, class_of, typed, letters_in, need, lent, owed, loan, returned, grant, SmallPrefix, IsBehind, MayEnd, ready_for, Ready, IsKnown, IsKept, Gains, Gained, Grown, appended-grown, prefix-grown}
 use Rattle.cpp_press_laws.proofs.Short.Paid.{Ended, comes-to}
-use Rattle.cpp_press_laws.proofs.Short.Types.{Free, listed, letters-short}
+use Rattle.cpp_press_laws.proofs.Short.Slots.{letters-short}
+use Rattle.cpp_press_laws.proofs.Short.Types.{Free, listed}
 use Rattle.sym_core.specs.declared.refusal.Refusal.{Refusal}
 use Rattle.sym_link.specs.Reading.{◌>>=◌}
 use Rattle.cpp_grammar.specs.References.{parameter_named}

@@ -31,7 +31,8 @@ use Rattle.cpp_press_laws.specs.Fits.{has_letters}
 use Rattle.cpp_press_laws.proofs.Components.Parts.{Has, has-before, has-itself, has-closed}
 use Rattle.cpp_press_laws.proofs.Fits.References.{Substituted, substitution-refers}
 use Rattle.cpp_press_laws.proofs.Short.Worth.{worths, has-among}
-use Rattle.cpp_press_laws.proofs.Short.Types.{Idle, Free, listed, reference-gains, letters-short, held-signed}
+use Rattle.cpp_press_laws.proofs.Short.Slots.{letters-short}
+use Rattle.cpp_press_laws.proofs.Short.Types.{Idle, Free, listed, reference-gains, held-signed}
 use Rattle.cpp_press_laws.proofs.Short.Names.{parameter-goes}
 
 -- ## Conversions

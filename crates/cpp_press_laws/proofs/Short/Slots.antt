@@ -180,7 +180,7 @@ seven f =
     f (set true true true) + f (set true true false) + f (set true false true) + f (set true false false) + f (set false true true)
     + f (set false true false) + f (set false false true)
 
-letters-short : (q : Qualifiers) → length (qualifier_letters q) ≤ 3
+pub letters-short : (q : Qualifiers) → length (qualifier_letters q) ≤ 3
 unfolding qualifier_letters
 letters-short q = go q.restrict q.volatile q.const
   where

@@ -1,11 +1,11 @@
 -- What is paid for types.
-use Rattle.std.proofs.Common.{◌≡◌, ℕ, suc, ◌+◌, ◌*◌, ◌-◌, ◌≤◌, length, List, [], ◌∷◌, ◌++◌, Bool, true, false, cond, refl, ap, sym, subst, ◌∙◌, arith}
-use Rattle.std.specs.Prelude.{codes, ◌&&◌, nat_eq}
+use Rattle.std.proofs.Common.{◌≡◌, ℕ, suc, ◌+◌, ◌*◌, ◌-◌, ◌≤◌, length, List, [], ◌∷◌, Bool, true, false, cond, refl, ap, sym, subst, ◌∙◌, arith}
+use Rattle.std.specs.Prelude.{◌&&◌, nat_eq}
 use Rattle.std.proofs.lemmas.Bool.{false≢true, true≢false}
 use Rattle.cpp_grammar.specs.declared.kind.Kind.{Kind}
 use Rattle.cpp_grammar.specs.declared.production.Production.{Production}
 use Rattle.cpp_grammar.specs.Grammar.{parts_of, is_chain}
-use Rattle.cpp_grammar.specs.Term.{Qualifiers, Term, symbol, abbreviation, builtin, vendor, pointer, lvalue, rvalue, array, member_pointer, function_type, vector, complex, expansion, integer, boolean, null_pointer, encoding_literal, address_of, nil, list}
+use Rattle.cpp_grammar.specs.Term.{Term, symbol, abbreviation, builtin, vendor, pointer, lvalue, rvalue, array, member_pointer, function_type, vector, complex, expansion, integer, boolean, null_pointer, encoding_literal, address_of, nil, list}
 use Rattle.cpp_grammar.specs.Values as values
 use Rattle.cpp_grammar.specs.Values.{State, Prefix, outermost, Around, prefix_tree, prefix_listed, Value, nothing_there, letter, text, signed, adjusted, tree, piece, named, signature, unqualified, tree_of, piece_of, is_listed, qualifiers_of, ref_of, letter_of, is_there, mark_of, text_of, signed_of, adjustment_of, normal, is_zero, signed_digits, local_number}
 use Rattle.cpp_grammar.specs.References.{is_function_type, appended, with_type}
@@ -13,7 +13,7 @@ use Rattle.cpp_grammar.specs.Between.{under_expansion, between}
 use Rattle.cpp_grammar.specs.Meaning.{is_void, is_nil, parameters, listed_value, function_of, reference_to, meaning}
 use Rattle.cpp_grammar.specs.Unfolding as unfolding_
 use Rattle.cpp_grammar.specs.Unfolding.{close}
-use Rattle.cpp_press_laws.specs.Texts.{signed_text, qualifier_letters}
+use Rattle.cpp_press_laws.specs.Texts.{signed_text}
 use Rattle.cpp_press_laws.specs.Components.{components_of}
 use Rattle.cpp_press_laws.specs.Pressing.{is_encoding}
 use Rattle.cpp_press_laws.proofs.Short.Size.{is_component, part_of, with_void, size, over, part, size-some, part-some}
@@ -77,24 +77,6 @@ parameters-most (list first others) = go (is_void first && is_nil others)
 parameters-most nil = omega arith
 parameters-most (symbol e suffix) = omega arith
 parameters-most t = omega arith
-
-mark-few : (mark : Bool) → cond mark 1 0 ≤ 1
-mark-few true = omega arith
-mark-few false = omega arith
-
-pub letters-short : (q : Qualifiers) → length (qualifier_letters q) ≤ 3
-unfolding qualifier_letters
-letters-short q = go q.restrict q.volatile q.const
-  where
-    go : (r v c : Bool) → length (cond r (codes "r") [] ++ cond v (codes "V") [] ++ cond c (codes "K") []) ≤ 3
-    go true true true = omega arith
-    go true true false = omega arith
-    go true false true = omega arith
-    go true false false = omega arith
-    go false true true = omega arith
-    go false true false = omega arith
-    go false false true = omega arith
-    go false false false = omega arith
 
 pub pointer-gains : Idle Production.Pointer type
 unfolding parts_of between is_chain close unfolding_.behind meaning values.part class_of grant Gained Ready ready_for need typed loan returned IsKnown IsKept full over size part_of is_component is_function_type is_encoding
