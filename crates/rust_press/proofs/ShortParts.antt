@@ -1,4 +1,6 @@
--- What a part of a symbol adds to a pressed spelling: few bytes, and the components that end in it.
+-- What a part of a symbol adds to a pressed spelling: at most four bytes for each of its own (`ShortTokens` for numbers and names),
+-- and the components that end in it. `ShortRules` has what a rule makes of its parts, `ShortGrammar` each rule of the grammar, and
+-- `ShortSymbol` the induction over a symbol's shape.
 use Rattle.std.proofs.Common.{◌≡◌, ◌⊎◌, ℕ, zero, suc, ◌+◌, ◌-◌, ◌*◌, ◌≤◌, inl, inr, length, List, [], ◌∷◌, Option, Some, None, Bool, true, false, refl, ap, arith, sym, subst, ◌∙◌, length-append}
 use Rattle.rust_tree.specs.Symbol as tree
 use Rattle.rust_tree.specs.Tree.{Tree, of_path, of_type, of_constant}

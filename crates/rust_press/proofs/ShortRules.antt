@@ -1,4 +1,4 @@
--- How each rule of the grammar is pressed, by what its parts are pressed as.
+-- What the parts of a rule may be, and what the rule makes of them, by how both are pressed.
 use Rattle.std.proofs.Common.{◌≡◌, ℕ, ◌+◌, ◌*◌, ◌≤◌, length, List, [], ◌∷◌, ◌++◌, Option, Some, None, Bool, true, arith}
 use Rattle.std.specs.Prelude.{if◌then◌else◌, get_or}
 use Rattle.sym_core.specs.declared.NumberKind.TheVariants.{Base62, Hex}

@@ -137,7 +137,8 @@ fn press_tasks(alloc: Global, symbol: &Symbol, numbering: &Numbers) -> Result<Ve
 /// equal to an earlier one is a reference to the first such one, and numbers and names have their shortest form. Symbols of
 /// one tree have one pressed spelling; disambiguators, the instantiating crate and the suffix are part of the tree.
 ///
-/// Each repeated part is compared by its number and spelled out at most once, however large the tree is.
+/// Each repeated part is compared by its number and spelled out at most once, however large the tree is. So there are at most 4
+/// bytes for each byte of the symbol.
 ///
 /// # Errors
 ///
