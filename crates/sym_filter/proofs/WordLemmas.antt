@@ -16,7 +16,7 @@ use Rattle.sym_filter.specs.Bytes.{is_byte_of}
 use Rattle.sym_filter.specs.Kinds.{kind_of}
 use Rattle.sym_filter.specs.Held.{IsHeld}
 use Rattle.sym_filter.specs.Places.{START, from_word, may_begin, place_after, place_of, with_word}
-use Rattle.sym_filter.specs.Runs.{Answering, IsTally, answers_at, changed, filtered_at, first_run, fits, is_begun, is_named, later_runs, name_in, named_in, named_words, replaced_at, tally_counted, tally_with, tally_with_word, text_for, with_later_runs, word_in, word_of, written}
+use Rattle.sym_filter.specs.Runs.{Answering, IsTally, answers_at, changed, filtered_at, first_run, fits, is_begun, is_named, later_runs, name_in, named_in, named_words, replaced_at, tally_at, tally_counted, tally_with, tally_with_word, text_for, with_later_runs, word_in, word_of, written}
 use Rattle.sym_filter.specs.Words.{held_of, rest_of, named_of, rest_after, tally_after, behind, Takes}
 use Rattle.sym_filter.specs.Plain.{is_plain}
 use Rattle.sym_filter.proofs.TallyLemmas.{tally_with-append, tally_with_word-named, tally_with_word-unnamed}
@@ -174,6 +174,11 @@ pub named_of-nothing : (letters : Letters) (words : Words) (more : List ℕ) →
 named_of-nothing letters words more same nothing past start =
     ap (λ (l : Letters). named_of l (held_of words) words.past words.place more) same ∙ ap (λ (h : List ℕ). named_of letters h words.past words.place more) nothing
     ∙ ap₂ (λ (p : Bool) (b : Place). named_of letters [] p b more) past start ∙ named_of-start letters more
+
+pub tally_after-nothing : (letters : Letters) (answers : Answering) (words : Words) (more : List ℕ) → words.letters ≡ letters → held_of words ≡ [] → words.past ≡ false → words.place ≡ START → words.tally ≡ record { words = 0; replaced = 0; refused = 0 } → tally_at letters answers more ≡ tally_after answers words more
+tally_after-nothing letters answers words more same nothing past start counted =
+    ap₂ (λ (t : Tally) (names : List (List ℕ)). tally_with (answers_at letters answers) t names) (sym counted) (sym (named_of-nothing letters words more same nothing past start))
+    ∙ ap (λ (l : Letters). tally_with (answers_at l answers) words.tally (named_of words.letters (held_of words) words.past words.place more)) (sym same)
 
 -- it goes on with the letters that it had
 pub rest_after-same : (letters : Letters) (answers : Answering) (words : Words) (more : List ℕ) → words.letters ≡ letters → rest_of letters answers (held_of words) words.past words.place more ≡ rest_after answers words more

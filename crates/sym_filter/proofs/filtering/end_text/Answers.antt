@@ -1,6 +1,6 @@
 use Rattle.std.proofs.Common.{◌≡◌, ◌++◌, ◌∙◌, [], List, ℕ, sym, ap, subst, replicate}
 use Rattle.std.proofs.lemmas.List.{append-nil}
-use Rattle.sym_filter.specs.Runs.{written}
+use Rattle.sym_filter.specs.Runs.{answers_at, written}
 use Rattle.sym_filter.specs.Words.{rest_after}
 use Rattle.sym_filter.specs.Streams.{Puts}
 use Rattle.sym_filter.proofs.WordLemmas.{rest_of-end, tally-end}
@@ -50,4 +50,4 @@ returns-clause-ok g c =
 pub returns-clause-counts : goal.returns-clause-counts
 returns-clause-counts g c =
     let words = c.args.words.now in
-    c.in_ok-dots.ensures.counts ∙ tally-end words.letters (answers_at words.letters (g.D.Demangler.answer c.args.demangler.now)) words.tally words.held.items words.dots words.past words.passes words.is_counted words.is_held
+    c.in_ok-dots.ensures.counts ∙ tally-end words.letters (answers_at words.letters (g.D.Demangler.answer c.args.demangler.now)) words.tally words.held.items words.dots words.past words.place words.is_held
