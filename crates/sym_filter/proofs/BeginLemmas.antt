@@ -3,10 +3,8 @@ use Rattle.std.proofs.Common.{◌≡◌, ℕ, ◌<◌, Bool, true, false, cond, 
 use Rattle.std.specs.List.{list_all}
 use Rattle.std.specs.Prelude.{is_some}
 use Rattle.std.proofs.lemmas.Bool.{and_parts, and_from, and_left, cond-true, cond-false, not-true, true≢false}
-use Rattle.std.proofs.lemmas.List.{append-nil}
 use Rattle.sym_filter.specs.declared.kinds.Letters.{Letters}
 use Rattle.sym_filter.specs.declared.kinds.Letters.TheVariants.{Any, Ascii, Within}
-use Rattle.sym_filter.specs.declared.kinds.TheConstants.{LONGEST_WORD}
 use Rattle.sym_filter.specs.declared.places.Place.{Place}
 use Rattle.sym_filter.specs.Bytes.{is_byte_of}
 use Rattle.sym_filter.specs.Kinds.{kind_of}
@@ -14,7 +12,7 @@ use Rattle.sym_filter.specs.Places.{START, begins_within, from_word, in_stretch,
 use Rattle.sym_filter.specs.Runs.{Answering, answers_at, changed, filtered_at, first_run, fits, is_begun, is_named, later_runs, named_in, named_words, replaced, replaced_at, with_later_runs, within, word_in, word_of, word_or_text, dots_behind}
 use Rattle.sym_filter.specs.Words.{named_of, rest_of}
 use Rattle.sym_filter.proofs.PlainLemmas.{may_begin-after}
-use Rattle.sym_filter.proofs.RunLemmas.{filter-front, first_run-append, kind_of-other, later_runs-append, replaced-unnamed, word_of-word}
+use Rattle.sym_filter.proofs.RunLemmas.{kind_of-other, replaced-unnamed, word_of-word}
 
 pub answers-within : (letters : Letters) (answers : Answering) → begins_within letters ≡ true → answers_at letters answers ≡ within answers
 answers-within Any answers h = cc

@@ -1,4 +1,4 @@
-use Rattle.std.proofs.Common.{◌≡◌, ◌+◌, ◌≤◌, ◌∙◌, ap, sym, arith, drop, length}
+use Rattle.std.proofs.Common.{◌+◌, ◌≤◌, ◌∙◌, ap, sym, arith, drop, length}
 use Rattle.std.proofs.lemmas.List.{length-drop}
 use Rattle.sym_filter.specs.Marks.{from_mark}
 use Rattle.sym_filter.proofs.NameLemmas.{before_name, byte_before, name_there, no_name}
