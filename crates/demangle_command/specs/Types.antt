@@ -6,7 +6,8 @@ use Rattle.std.specs.Result.{result_ok}
 use Rattle.sym_filter.specs.declared.kinds.Lang.TheVariants.{Cpp}
 use Rattle.sym_filter.specs.declared.kinds.Letters.TheVariants.{Any}
 use Rattle.sym_filter.specs.declared.kinds.TheConstants.{LONGEST_WORD}
-use Rattle.sym_filter.specs.Runs.{Answering, is_byte_of}
+use Rattle.sym_filter.specs.Bytes.{is_byte_of}
+use Rattle.sym_filter.specs.Runs.{Answering}
 
 -- the bytes of a type: those of words but for the dot, from which on a symbol has a suffix
 abbrev pub is_type_byte : ℕ → Bool

@@ -1,11 +1,11 @@
 use Rattle.std.proofs.Common.{◌≡◌, ◌-◌, ◌≤◌, length, take, true}
 use Rattle.sym_filter.specs.Plain.{is_plain}
-use Rattle.sym_filter.proofs.words.plain_front.Given as goal
+use Rattle.sym_filter.proofs.places.plain_front.Given as goal
 
 abbrev pub invariant-bytes : goal.invariant-bytes
 invariant-bytes l = record {
   within : l.length ≤ length l.text;
-  plain : is_plain l.letters l.closed (take l.length l.text) ≡ true;
+  plain : is_plain l.letters l.place (take l.length l.text) ≡ true;
 }
 
 abbrev pub decreases-bytes : goal.decreases-bytes
