@@ -1,4 +1,4 @@
-"""What each production does, from the rows of grammar.py: writes them as definitions of crate cpp_rows, and counts what they make. grammar.py
+"""What each production does, from the rows of grammar.py: writes them as definitions of cpp_grammar, and counts what they make. grammar.py
 calls it.
 
 The words of a row, of which `1` is a part by its number:
@@ -178,7 +178,7 @@ def antt_builders(table):
            "use Rattle.std.specs.Prelude.{ℕ, zero, suc, List, [], ◌∷◌, Bool, false, Option, None}",
            f"use Rattle.cpp_grammar.specs.Term.{{Qualifiers, RefQualifier, any_value, Signed, Term, {', '.join(tree[0] for tree in trees)}, absent}}",
            "use Rattle.cpp_grammar.specs.Values.{unqualified}",
-           f"use Rattle.cpp_rows.specs.Makers.{{Maker, {', '.join('new_' + tree[0] for tree in trees)}}}", "",
+           f"use Rattle.cpp_grammar.specs.Makers.{{Maker, {', '.join('new_' + tree[0] for tree in trees)}}}", "",
            "-- an argument of a tree", "pub data Argument : Type 0 where", *[f"  {case} : {type} → Argument" for _, case, type, _ in arguments], ""]
     for name, case, type, none in arguments: out += [f"unfoldable pub {name} : Argument → {type}", f"{name} ({case} x) = x", f"{name} _ = {none}", ""]
     out += ["-- the argument of a number", "unfoldable pub argument : List Argument → ℕ → Argument", "argument [] k = a_number 0", "argument (x ∷ xs) zero = x", "argument (x ∷ xs) (suc k) = argument xs k", "",
@@ -191,8 +191,8 @@ def antt_builders(table):
 ROWS_HEAD = f'''-- {WRITTEN} What each production does: a row a production.
 use Rattle.std.specs.Prelude.{{List, [], ◌∷◌, true, false}}
 use Rattle.cpp_grammar.specs.declared.production.Production.{{Production}}
-use Rattle.cpp_rows.specs.Makers.{{MAKERS}}
-use Rattle.cpp_rows.specs.Row.{{ROW}}
+use Rattle.cpp_grammar.specs.Makers.{{MAKERS}}
+use Rattle.cpp_grammar.specs.Row.{{ROW}}
 
 -- nothing is done before the parts, and nothing becomes a candidate at the end
 abbrev plain : Form → Row
@@ -224,6 +224,6 @@ def antt_rows(table):
 
 def files(table):
     """what is written of these rows: each file's path in the folder of the crates, and its text"""
-    yield "cpp_rows/specs/Makers.antt", antt_makers(table)
-    yield "cpp_rows/specs/Builders.antt", antt_builders(table)
-    yield "cpp_rows/specs/Rows.antt", antt_rows(table)
+    yield "cpp_grammar/specs/Makers.antt", antt_makers(table)
+    yield "cpp_grammar/specs/Builders.antt", antt_builders(table)
+    yield "cpp_grammar/specs/Rows.antt", antt_rows(table)

@@ -13,7 +13,7 @@ use Rattle.cpp_grammar.specs.Term.{Term, within, instance, source, operator, con
 use Rattle.cpp_grammar.specs.Values.{State, Around, prefix_tree, prefix_listed, Value, nothing_there, text, letter, tree, piece}
 use Rattle.cpp_grammar.specs.Values.{tree_of, piece_of, text_of, letter_of, is_there, part}
 use Rattle.cpp_grammar.specs.References.{appended, with_prefix}
-use Rattle.cpp_grammar.specs.Between.{between, after, inside, extended, applied, no_items, named_so_far, listed_so_far, piece_so_far}
+use Rattle.cpp_grammar.specs.Between.{between, after, inside, extended, applied, no_items, named_so_far, listed_so_far}
 use Rattle.cpp_grammar.specs.Meaning.{meaning}
 use Rattle.cpp_grammar.specs.Unfolding as unfolding_
 use Rattle.cpp_grammar.specs.Unfolding.{opening, close, byte_of}
@@ -196,7 +196,7 @@ named-by s os p taken at0 around before u at st closes outer expects = record {
 pub component-source : (s : Symbol) (os : List Opened) (around : Around) (t : Term) (at : ℕ) (st : State) (name : List ℕ) (end : ℕ)
     → Expects s Kind.Component (after t true around) os at st → IsNameAt s.bytes at name end
     → Named s os around (within t (source false name)) end st
-unfolding choose alternatives pick is_in in_ranges among is_chain parts_of number_of_kind between opening close unfolding_.behind meaning piece_so_far named_so_far extended after text_of tree_of part
+unfolding choose alternatives pick is_in in_ranges among is_chain parts_of number_of_kind between opening close unfolding_.behind meaning named_so_far extended after text_of tree_of part
 component-source s os around t at st name end expects is =
     let p : Production = Production.SourceName in
     let here : Around = after t true around in
@@ -210,7 +210,7 @@ component-source s os around t at st name end expects is =
 pub component-internal : (s : Symbol) (os : List Opened) (around : Around) (t : Term) (at : ℕ) (st : State) (name : List ℕ) (end : ℕ)
     → Expects s Kind.Component (after t true around) os at st → StandsAt s.bytes at (76 ∷ []) → IsNameAt s.bytes (at + 1) name end
     → Named s os around (within t (source true name)) end st
-unfolding choose alternatives pick is_in in_ranges among is_chain parts_of number_of_kind between opening close unfolding_.behind meaning piece_so_far named_so_far extended after text_of tree_of part
+unfolding choose alternatives pick is_in in_ranges among is_chain parts_of number_of_kind between opening close unfolding_.behind meaning named_so_far extended after text_of tree_of part
 component-internal s os around t at st name end expects stands is =
     let p : Production = Production.InternalName in
     let here : Around = after t true around in
@@ -224,7 +224,7 @@ component-internal s os around t at st name end expects stands is =
 other-operator : (s : Symbol) (os : List Opened) (around : Around) (t : Term) (at : ℕ) (st : State) (first second : ℕ) (is : IsOperator first second)
     → choose Kind.OtherOperator first ≡ Some is.production → Expects s Kind.Component (after t true around) os at st → StandsAt s.bytes at (first ∷ second ∷ [])
     → Named s os around (within t (operator first second)) (at + 2) st
-unfolding choose alternatives pick is_in in_ranges among is_chain parts_of number_of_kind between opening close unfolding_.behind meaning piece_so_far named_so_far extended after byte_of piece_of tree_of part
+unfolding choose alternatives pick is_in in_ranges among is_chain parts_of number_of_kind between opening close unfolding_.behind meaning named_so_far extended after byte_of piece_of tree_of part
 other-operator s os around t at st first second is chosen expects stands =
     let p : Production = Production.OtherOperatorName in
     let here : Around = after t true around in
@@ -260,7 +260,7 @@ operator-behind-c : (s : Symbol) (os : List Opened) (around : Around) (t : Term)
     → choose Kind.OperatorAfterC second ≡ Some Production.Mark → second < 256
     → Expects s Kind.Component (after t true around) os at st → StandsAt s.bytes at (99 ∷ second ∷ [])
     → Named s os around (within t (operator 99 second)) (at + 2) st
-unfolding choose alternatives pick is_in in_ranges among is_chain parts_of number_of_kind between opening close unfolding_.behind meaning piece_so_far named_so_far extended after letter_of tree_of part
+unfolding choose alternatives pick is_in in_ranges among is_chain parts_of number_of_kind between opening close unfolding_.behind meaning named_so_far extended after letter_of tree_of part
 operator-behind-c s os around t at st second marked small expects stands =
     let p : Production = Production.OperatorNameWithC in
     let q : Production = Production.ComponentWithC in
@@ -318,7 +318,7 @@ destructor-digit s os around at st digit (inr (wide, is)) expects stands =
 pub component-constructor : (s : Symbol) (os : List Opened) (around : Around) (t : Term) (at : ℕ) (st : State) (digit : ℕ)
     → Expects s Kind.Component (after t true around) os at st → StandsAt s.bytes at (67 ∷ digit ∷ []) → IsConstructorDigit s.is_wide digit
     → Named s os around (within t (constructor digit)) (at + 2) st
-unfolding choose alternatives pick is_in in_ranges among is_chain parts_of number_of_kind between opening close unfolding_.behind meaning piece_so_far named_so_far extended after letter_of tree_of part
+unfolding choose alternatives pick is_in in_ranges among is_chain parts_of number_of_kind between opening close unfolding_.behind meaning named_so_far extended after letter_of tree_of part
 component-constructor s os around t at st digit expects stands is =
     let p : Production = Production.Constructor in
     let here : Around = after t true around in
@@ -336,7 +336,7 @@ component-constructor s os around t at st digit expects stands is =
 pub component-destructor : (s : Symbol) (os : List Opened) (around : Around) (t : Term) (at : ℕ) (st : State) (digit : ℕ)
     → Expects s Kind.Component (after t true around) os at st → StandsAt s.bytes at (68 ∷ digit ∷ []) → IsDestructorDigit s.is_wide digit
     → Named s os around (within t (destructor digit)) (at + 2) st
-unfolding choose alternatives pick is_in in_ranges among is_chain parts_of number_of_kind between opening close unfolding_.behind meaning piece_so_far named_so_far extended after letter_of tree_of part
+unfolding choose alternatives pick is_in in_ranges among is_chain parts_of number_of_kind between opening close unfolding_.behind meaning named_so_far extended after letter_of tree_of part
 component-destructor s os around t at st digit expects stands is =
     let p : Production = Production.Destructor in
     let here : Around = after t true around in

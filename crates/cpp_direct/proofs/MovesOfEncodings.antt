@@ -18,7 +18,7 @@ use Rattle.cpp_grammar.specs.Grammar.{in_ranges, among, is_in, pick, number_of_k
 use Rattle.cpp_grammar.specs.Table.{rule_of}
 use Rattle.cpp_grammar.specs.Term.{RefQualifier, any_value, lvalue_only, rvalue_only, non_virtual, by_table, Term, symbol, special, alone, source}
 use Rattle.cpp_grammar.specs.Values.{State, outermost, Around, Value, nothing_there, letter, text, signed, tree, tree_of, text_of, signed_of, signed_digits, is_there, mark_of, part}
-use Rattle.cpp_grammar.specs.Between.{Going, between, after, in_name, in_types, extended, applied, piece_so_far, named_so_far}
+use Rattle.cpp_grammar.specs.Between.{Going, between, after, in_name, in_types, extended, applied, named_so_far}
 use Rattle.cpp_grammar.specs.Meaning.{meaning}
 use Rattle.cpp_grammar.specs.Unfolding as unfolding_
 use Rattle.cpp_grammar.specs.Unfolding.{opening, close, byte_of, first_around, first_state, first_tree, unfold_cpp}
@@ -268,7 +268,7 @@ name-nested s os around const on at st expects stands = go on stands
 pub name-source : (s : Symbol) (os : List Opened) (around : Around) (at : ℕ) (name : List ℕ) (end : ℕ) (st : State)
     → Expects s Kind.CompleteName around os at st → around.prefix ≡ outermost → IsNameAt s.bytes at name end
     → Named s os around (alone (source false name)) end st
-unfolding choose alternatives pick is_in in_ranges among is_chain parts_of between piece_so_far named_so_far extended applied opening close unfolding_.behind meaning part tree_of is_there text_of
+unfolding choose alternatives pick is_in in_ranges among is_chain parts_of between named_so_far extended applied opening close unfolding_.behind meaning part tree_of is_there text_of
 name-source s os around at name end st expects first is =
     let p = Production.SourceName in
     let rule = standing (rule_of p) [] at around st in
@@ -290,7 +290,7 @@ name-source s os around at name end st expects first is =
 pub name-internal : (s : Symbol) (os : List Opened) (around : Around) (at : ℕ) (name : List ℕ) (end : ℕ) (st : State)
     → Expects s Kind.CompleteName around os at st → around.prefix ≡ outermost → StandsAt s.bytes at (76 ∷ []) → IsNameAt s.bytes (at + 1) name end
     → Named s os around (alone (source true name)) end st
-unfolding choose alternatives pick is_in in_ranges among is_chain parts_of between piece_so_far named_so_far extended applied opening close unfolding_.behind meaning part tree_of is_there text_of
+unfolding choose alternatives pick is_in in_ranges among is_chain parts_of between named_so_far extended applied opening close unfolding_.behind meaning part tree_of is_there text_of
 name-internal s os around at name end st expects first stands is =
     let p = Production.InternalName in
     let rule = standing (rule_of p) (76 ∷ []) at around st in

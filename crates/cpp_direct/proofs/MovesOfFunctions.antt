@@ -11,7 +11,7 @@ use Rattle.cpp_grammar.specs.Table.{rule_of}
 use Rattle.cpp_grammar.specs.Term.{Term, any_value, lvalue, rvalue, list, nil}
 use Rattle.cpp_grammar.specs.Values.{State, Around, Value, outermost, nothing_there, tree, tree_of, ref_of, signature, is_there, part}
 use Rattle.cpp_grammar.specs.Between.{Going, between}
-use Rattle.cpp_grammar.specs.Meaning.{meaning, function_of, with_item, signature_or}
+use Rattle.cpp_grammar.specs.Meaning.{meaning, with_item, signature_or}
 use Rattle.cpp_grammar.specs.References.{appended}
 use Rattle.cpp_grammar.specs.Unfolding as unfolding_
 use Rattle.cpp_grammar.specs.Unfolding.{opening, close, byte_of}
@@ -26,7 +26,7 @@ use Rattle.cpp_direct.proofs.MovesOfTypes.{whole-opens, pointer-opens}
 -- the return type of a function type is expected after its F
 pub function-opens : (s : Symbol) (kind : Kind) (os : List Opened) (around : Around) (at : ℕ) (st : State) → IsQualifiable kind
     → around.prefix ≡ outermost → Expects s kind around os at st → StandsAt s.bytes at (70 ∷ []) → FunctionOpened s os around false (at + 1) st
-unfolding choose alternatives pick is_in in_ranges among is_chain parts_of number_of_kind may_be_empty between opening close unfolding_.behind meaning function_of part tree_of ref_of is_there
+unfolding choose alternatives pick is_in in_ranges among is_chain parts_of number_of_kind may_be_empty between opening close unfolding_.behind meaning part tree_of ref_of is_there
 function-opens s kind os around at st whole outside expects stands =
     let p = Production.Function in
     let w = whole-opens s kind around os at st whole expects in

@@ -15,7 +15,7 @@ use Rattle.cpp_grammar.specs.Table.{rule_of, padded}
 use Rattle.cpp_grammar.specs.Term.{Term, source, within, lambda, builtin, nil, list, of_name}
 use Rattle.cpp_grammar.specs.Values.{State, Around, outermost, normal, nothing_there, letter, text, tree, piece, tree_of, text_of, piece_of, is_listed, qualifiers_of, ref_of, is_there, local_number, part}
 use Rattle.cpp_grammar.specs.References.{with_type}
-use Rattle.cpp_grammar.specs.Between.{between, no_items, after, in_signature, in_name, extended, applied, piece_so_far, named_so_far}
+use Rattle.cpp_grammar.specs.Between.{between, no_items, after, in_signature, in_name, extended, applied, named_so_far}
 use Rattle.cpp_grammar.specs.Meaning.{meaning, parameters, is_void, is_nil, listed_value}
 use Rattle.cpp_grammar.specs.Unfolding as unfolding_
 use Rattle.cpp_grammar.specs.Unfolding.{cpp, opening, close, byte_of, last_token, number_tested}
@@ -86,7 +86,7 @@ discriminator-comes s os around at (by_digits digits) end st expects is =
 source-comes : (s : Symbol) (kind : Kind) (os : List Opened) (around : Around) (e : Term) (at : ℕ) (name : List ℕ) (end : ℕ) (st : State)
     → choose kind 48 ≡ Some Production.SourceName → Expects s kind (after e true around) os at st → IsNameAt s.bytes at name end
     → Comes s os (tree (within e (source false name)) false) end st
-unfolding is_chain parts_of between piece_so_far named_so_far extended applied after opening close unfolding_.behind meaning part tree_of is_there text_of may_be_empty
+unfolding is_chain parts_of between named_so_far extended applied after opening close unfolding_.behind meaning part tree_of is_there text_of may_be_empty
 source-comes s kind os around e at name end st chosen expects is =
     let p = Production.SourceName in
     let here : Around = after e true around in
@@ -105,7 +105,7 @@ source-comes s kind os around e at name end st chosen expects is =
 internal-comes : (s : Symbol) (os : List Opened) (around : Around) (e : Term) (at : ℕ) (name : List ℕ) (end : ℕ) (st : State)
     → Expects s Kind.Entity (after e true around) os at st → StandsAt s.bytes at (76 ∷ []) → IsNameAt s.bytes (at + 1) name end
     → Comes s os (tree (within e (source true name)) false) end st
-unfolding choose alternatives pick is_in in_ranges among is_chain parts_of between piece_so_far named_so_far extended applied after opening close unfolding_.behind meaning part tree_of is_there text_of may_be_empty
+unfolding choose alternatives pick is_in in_ranges among is_chain parts_of between named_so_far extended applied after opening close unfolding_.behind meaning part tree_of is_there text_of may_be_empty
 internal-comes s os around e at name end st expects stands is =
     let p = Production.InternalName in
     let here : Around = after e true around in
@@ -242,7 +242,7 @@ small-tested at digits st small =
 -- a lambda without parameters is the name of a type
 pub lambda-piece : (s : Symbol) (at : ℕ) (digit : Option ℕ) (end : ℕ) → IsLambdaDigit digit → StandsAt s.bytes at (85 ∷ lambda_bytes (lambda_digits digit))
     → end ≡ at + length (85 ∷ lambda_bytes (lambda_digits digit)) → IsPieceAt s at (lambda nil (local_number (lambda_digits digit))) end
-unfolding choose alternatives pick is_in in_ranges among is_chain parts_of between piece_so_far named_so_far extended applied after opening close unfolding_.behind meaning part tree_of is_there piece_of may_be_empty
+unfolding choose alternatives pick is_in in_ranges among is_chain parts_of between named_so_far extended applied after opening close unfolding_.behind meaning part tree_of is_there piece_of may_be_empty
 lambda-piece s at digit end is stands ends_ os around e st expects =
     let p = Production.LocalTypeName in
     let here : Around = after e true around in
@@ -324,7 +324,7 @@ pub record LambdaOpened (s : Symbol) (os : List Opened) (e : Term) (at : ℕ) (s
 -- a lambda begins in a symbol without long numbers
 pub lambda-opens : (s : Symbol) (os : List Opened) (around : Around) (e : Term) (at : ℕ) (st : State) → short_numbers 0 s.bytes ≡ true
     → Expects s Kind.TypeEntity (after e true around) os at st → StandsAt s.bytes at (85 ∷ 108 ∷ []) → LambdaOpened s os e (at + 2) st
-unfolding choose alternatives pick is_in in_ranges among is_chain parts_of between piece_so_far named_so_far extended applied after in_signature opening
+unfolding choose alternatives pick is_in in_ranges among is_chain parts_of between named_so_far extended applied after in_signature opening
     close unfolding_.behind meaning part tree_of text_of is_there piece_of may_be_empty
 lambda-opens s os around e at st short expects stands =
     let p = Production.LocalTypeName in

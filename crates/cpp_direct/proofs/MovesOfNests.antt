@@ -19,7 +19,7 @@ use Rattle.cpp_grammar.specs.Scope.{is_open, pack_length}
 use Rattle.cpp_grammar.specs.Values.{Candidate, State, outermost, Around, Value, nothing_there, text, tree, piece}
 use Rattle.cpp_grammar.specs.Values.{tree_of, piece_of, text_of, is_there, part}
 use Rattle.cpp_grammar.specs.References.{with_packs, packs_in, substituted}
-use Rattle.cpp_grammar.specs.Between.{between, after, extended, applied, named_so_far, listed_so_far, piece_so_far}
+use Rattle.cpp_grammar.specs.Between.{between, after, extended, applied, named_so_far, listed_so_far}
 use Rattle.cpp_grammar.specs.Meaning.{meaning}
 use Rattle.cpp_grammar.specs.Unfolding as unfolding_
 use Rattle.cpp_grammar.specs.Unfolding.{opening, close, byte_of}
@@ -101,7 +101,7 @@ reference-comes s os around at st digits end c expects is there bound none =
 pub nest-source : (s : Symbol) (os : List Opened) (around : Around) (at : ℕ) (st : State) (name : List ℕ) (end : ℕ)
     → around.prefix ≡ outermost → Expects s Kind.Nest around os at st → IsNameAt s.bytes at name end
     → NestGoesOn s Kind.NestRestAlone os around (alone (source false name)) false end st
-unfolding choose alternatives pick is_in in_ranges among is_chain parts_of number_of_kind between opening close unfolding_.behind meaning piece_so_far named_so_far extended text_of part
+unfolding choose alternatives pick is_in in_ranges among is_chain parts_of number_of_kind between opening close unfolding_.behind meaning named_so_far extended text_of part
 nest-source s os around at st name end first expects is =
     let p : Production = Production.NestSource in
     let u : Term = alone (source false name) in

@@ -10,7 +10,7 @@ use Rattle.cpp_grammar.specs.Wide.{wide_alternatives, wide_choose}
 use Rattle.cpp_grammar.specs.Table.{rule_of}
 use Rattle.cpp_grammar.specs.Term.{Term, instance}
 use Rattle.cpp_grammar.specs.Values.{State, Around, prefix_tree, nothing_there, text, tree, tree_of, text_of, is_there, part}
-use Rattle.cpp_grammar.specs.Between.{between, after, applied, with_tag, named_so_far, tag_so_far}
+use Rattle.cpp_grammar.specs.Between.{between, after, applied, with_tag, named_so_far}
 use Rattle.cpp_grammar.specs.Meaning.{meaning}
 use Rattle.cpp_grammar.specs.Unfolding as unfolding_
 use Rattle.cpp_grammar.specs.Unfolding.{opening, close}
@@ -29,7 +29,7 @@ pub record Tagged (s : Symbol) (outer : List Opened) (around : Around) (t : Term
 pub tag-follows : (s : Symbol) (os : List Opened) (around : Around) (t : Term) (at : ℕ) (st : State) (tag : List ℕ) (end : ℕ) → s.is_wide ≡ true
     → Expects s Kind.MaybeArguments (after t false around) os at st → IsTagAt s.bytes at tag end → Tagged s os around (with_tag t tag) end st
 unfolding wide_choose wide_alternatives pick is_in in_ranges among is_chain parts_of number_of_kind between opening close unfolding_.behind meaning
-    after tag_so_far named_so_far with_tag prefix_tree applied is_there text_of tree_of part
+    after named_so_far with_tag prefix_tree applied is_there text_of tree_of part
 tag-follows s os around t at st tag end wide expects (stands, is) =
     let p : Production = Production.Tag in
     let here : Around = after t false around in

@@ -17,8 +17,8 @@ use Rattle.cpp_grammar.specs.Term.{Term, alone, in_std, abbreviation, source, bu
 use Rattle.cpp_grammar.specs.Scope.{is_open, pack_length}
 use Rattle.cpp_grammar.specs.Values.{Candidate, State, outermost, Around, Value, nothing_there, text, tree, piece, tree_of, piece_of, is_listed, is_there, text_of, part}
 use Rattle.cpp_grammar.specs.References.{appended, is_function_type, with_type, with_unqualified, with_packs, packs_in, substituted}
-use Rattle.cpp_grammar.specs.Between.{between, after, extended, applied, named_so_far, piece_so_far}
-use Rattle.cpp_grammar.specs.Meaning.{meaning, listed_value, qualified_by, reference_to}
+use Rattle.cpp_grammar.specs.Between.{between, after, extended, applied, named_so_far}
+use Rattle.cpp_grammar.specs.Meaning.{meaning, listed_value, reference_to}
 use Rattle.cpp_grammar.specs.Unfolding as unfolding_
 use Rattle.cpp_grammar.specs.Unfolding.{opening, close, byte_of}
 use Rattle.cpp_direct.specs.Symbol.{Symbol}
@@ -261,7 +261,7 @@ rvalue-opens s kind around os at st typed expects stands =
 -- a plain type is expected after a K
 pub const-opens : (s : Symbol) (kind : Kind) (around : Around) (os : List Opened) (at : ℕ) (st : State) → IsQualifiable kind
     → Expects s kind around os at st → StandsAt s.bytes at (75 ∷ []) → TypeOpens s Kind.Plain os around as_const (at + 1) st
-unfolding choose alternatives pick is_in in_ranges among is_chain parts_of number_of_kind between opening close unfolding_.behind meaning listed_value qualified_by byte_of tree_of is_there part appended
+unfolding choose alternatives pick is_in in_ranges among is_chain parts_of number_of_kind between opening close unfolding_.behind meaning listed_value byte_of tree_of is_there part appended
 const-opens s Kind.Type around os at st typed expects stands = record {
   inner = opened (standing (rule_of Production.ConstType) (75 ∷ []) at around st) [] [] ∷ os;
   awaits = first-of s Kind.Type Production.ConstType 75 around os at st (OfKind PLAIN) [] around [] st refl (omega arith) refl (λ f. refl) refl refl
@@ -323,7 +323,7 @@ nest-taken _ is_named = absurd is_named
 pub source-opens : (s : Symbol) (kind : Kind) (around : Around) (os : List Opened) (at : ℕ) (st : State) (name : List ℕ) (end : ℕ) → IsNamedKind kind
     → around.prefix ≡ outermost → TreeOpens s kind os around at st → IsNameAt s.bytes at name end
     → TypeNamed s os around (alone (source false name)) false end st
-unfolding choose alternatives pick is_in in_ranges among is_chain parts_of number_of_kind between opening close unfolding_.behind meaning byte_of tree_of is_there part text_of applied named_so_far piece_so_far extended after
+unfolding choose alternatives pick is_in in_ranges among is_chain parts_of number_of_kind between opening close unfolding_.behind meaning byte_of tree_of is_there part text_of applied named_so_far extended after
 source-opens s kind around os at st name end is_named first solid is =
     let named = alone (source false name) in
     let rest = opened (standing (rule_of Production.SourceName) [] at around st) (tree named false ∷ []) [] ∷ solid.inner in

@@ -10,7 +10,7 @@ use Rattle.cpp_grammar.specs.Table.{rule_of}
 use Rattle.cpp_grammar.specs.Term.{Term, alone, in_std, instance, operator}
 use Rattle.cpp_grammar.specs.Values.{State, Around, outermost, Value, nothing_there, letter, tree, piece}
 use Rattle.cpp_grammar.specs.Values.{tree_of, piece_of, is_there, part}
-use Rattle.cpp_grammar.specs.Between.{between, after, extended, applied, named_so_far, piece_so_far}
+use Rattle.cpp_grammar.specs.Between.{between, after, extended, applied, named_so_far}
 use Rattle.cpp_grammar.specs.Meaning.{meaning}
 use Rattle.cpp_grammar.specs.Unfolding as unfolding_
 use Rattle.cpp_grammar.specs.Unfolding.{opening, close, byte_of}
@@ -39,7 +39,7 @@ operator-comes s os around at st first second is expects stands =
 pub name-operator : (s : Symbol) (os : List Opened) (around : Around) (at : ℕ) (st : State) (first second : ℕ) → IsOperator first second
     → Expects s Kind.CompleteName around os at st → around.prefix ≡ outermost → StandsAt s.bytes at (first ∷ second ∷ [])
     → Named s os around (alone (operator first second)) (at + 2) st
-unfolding choose alternatives pick is_in in_ranges among is_chain parts_of number_of_kind between opening close unfolding_.behind meaning piece_so_far named_so_far extended after byte_of piece_of tree_of part
+unfolding choose alternatives pick is_in in_ranges among is_chain parts_of number_of_kind between opening close unfolding_.behind meaning named_so_far extended after byte_of piece_of tree_of part
 name-operator s os around at st first second is expects outside stands =
     let p : Production = Production.OperatorName in
     let u : Term = alone (operator first second) in

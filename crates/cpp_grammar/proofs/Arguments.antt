@@ -16,7 +16,8 @@ use Rattle.cpp_grammar.specs.Grammar.{Alternative, in_ranges, among, is_in, pick
 use Rattle.cpp_grammar.specs.Wide.{wide_alternatives}
 use Rattle.cpp_grammar.specs.Table.{rule_of, rule_taken, padded, sheet, abi, wide_sheet, wide, sheet_with}
 use Rattle.cpp_grammar.specs.Values.{State, Around, Value, nothing_there, text, part}
-use Rattle.cpp_grammar.specs.Between.{parameter_so_far, index_of, between}
+use Rattle.cpp_grammar.specs.References.{parameter_named}
+use Rattle.cpp_grammar.specs.Between.{parameter_so_far, index_of, between, listed_so_far}
 use Rattle.cpp_grammar.specs.Meaning.{meaning}
 use Rattle.cpp_grammar.specs.Unfolding as unfolding_
 use Rattle.cpp_grammar.specs.Unfolding.{opening, close, production_at, byte_of, cpp}
@@ -79,7 +80,7 @@ with_t parts = branch (rule_of Production.ArgumentWithT) (84 ∷ []) (grown (bra
 -- it is named at its T
 named_same : (digits : Token) (arguments : Tree) (around : Around) (place : ℕ) (state : State) →
     unfold_tree cpp around place (with_t (grown (token digits) (grown arguments nothing))) state ≡ unfold_tree cpp around place (as_type digits arguments) state
-unfolding cpp opening production_at productions rule_of number_of between close unfolding_.behind meaning part byte_of
+unfolding cpp opening production_at productions rule_of number_of between close unfolding_.behind meaning part byte_of parameter_named parameter_so_far listed_so_far index_of
 named_same digits arguments around place state =
     let at = place + 1 in
     let new = standing (rule_of Production.ArgumentWithT) (84 ∷ []) place around state in

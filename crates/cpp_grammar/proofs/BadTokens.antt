@@ -1,5 +1,5 @@
 -- A well shaped symbol is refused for a bad token alone.
-use Rattle.std.proofs.Common.{ℕ, ◌+◌, ◌-◌, ◌^◌, List, [], ◌∷◌, ◌++◌, length, Bool, true, false, not, ◌||◌, ◌&&◌, nat_eq, nat_lt, slice_get, Option, Some, None, Result, Ok, Err}
+use Rattle.std.proofs.Common.{ℕ, ◌+◌, ◌-◌, ◌^◌, List, [], ◌∷◌, ◌++◌, length, Bool, true, false, not, ◌||◌, ◌&&◌, cond, nat_eq, nat_lt, slice_get, Option, Some, None, Result, Ok, Err}
 use Rattle.std.specs.Result.{IfErr}
 use Rattle.sym_core.specs.declared.refusal.Refusal.{Refusal}
 use Rattle.sym_core.specs.declared.refusal.Refusal.TheVariants.{BadReference, BadValue}
@@ -14,7 +14,10 @@ use Rattle.cpp_grammar.specs.Term.{Term, holder, parameter}
 use Rattle.cpp_grammar.specs.Scope.{count, element, is_list, has_pack, length_if_pack, is_open, pack_length, Free, none_free, one_free, several_free, free_in}
 use Rattle.cpp_grammar.specs.Values.{Candidate, State, Around, prefix_tree, Value, tree, text_of, part, local_number}
 use Rattle.cpp_grammar.specs.References.{appended, with_packs, packs_in, substituted, parameter_named}
-use Rattle.cpp_grammar.specs.Between.{named_so_far, listed_so_far, piece_so_far, tag_so_far, parameter_so_far, index_of, between, next, argument_so_far}
+use Rattle.cpp_grammar.specs.Between.{listed_so_far, parameter_so_far, index_of, between, next, argument_so_far}
+use Rattle.cpp_grammar.specs.Row.{Before, quiet, goes, becomes, tests, holds, before_part}
+use Rattle.cpp_grammar.specs.Meant.{tested as tested_, done}
+use Rattle.cpp_grammar.specs.Rows.{row_of}
 use Rattle.cpp_grammar.specs.Rescoping.{generic_so_far, parameter_here, is_foreign, in_scope, under_scope, with_free, restated, substituted_wide, numbered, is_counted_alike, with_holder, is_instance, holder_so_far, between_wide, close_wide, cpp_wide, unfold_wide, argument_here, generic_number}
 use Rattle.cpp_grammar.proofs.Ways.{Way, reading_by, abi_way, wide_way}
 use Rattle.cpp_grammar.specs.Unfolding.{last_token, number_tested, opening, close, production_at, byte_of, cpp, first_around, first_state, first_tree, unfold_cpp}
@@ -98,23 +101,20 @@ opening_bad Production.Lambda parts place state = number_bad (place - 1) (last_t
 opening_bad Production.Unnamed parts place state = number_bad (place - 1) (last_token parts []) state
 opening_bad _ parts place state = tt
 
+done_bad : (b : Before) (around : Around) (place : ℕ) (vs : List Value) (state : State) → IsBad (done b around place vs state)
+unfolding done tested_
+done_bad quiet around place vs state = tt
+done_bad (goes gain w) around place vs state = tt
+done_bad (becomes m is_in is_name is_candidate) around place vs state = tt
+done_bad (tests after_t is_name) around place vs state =
+    let k = index_of (part vs 0) in
+    let at = cond after_t (place - 1) place in
+    bad_bind (parameter_named around at k state) (λ s. tested_ is_name around (parameter k) vs s state) (named_bad around at k state) (λ s. tt)
+done_bad holds around place vs state = tt
+
 between_bad : (p : Production) (around : Around) (place : ℕ) (vs : List Value) (state : State) → IsBad (between p around place vs state)
-unfolding between named_so_far listed_so_far piece_so_far tag_so_far
-between_bad Production.NestParameter around place (v ∷ []) state = parameter_bad around place (index_of v) [] state
-between_bad Production.Parameter around place (v ∷ []) state = parameter_bad around place (index_of v) [] state
-between_bad Production.ParameterArgument around place (v ∷ []) state = parameter_bad around (place - 1) (index_of v) [] state
-between_bad Production.ParameterExpression around place (v ∷ []) state = argument_bad around place (index_of v) state
-between_bad Production.BoundedArray around place (v ∷ []) state = argument_bad around place (index_of v) state
-between_bad Production.Holder around place (v ∷ []) state = tt
-between_bad Production.Symbol around place [] state = tt
-between_bad _ around place [] state = tt
-between_bad _ around place (v ∷ []) state = tt
-between_bad Production.Symbol around place (v ∷ w ∷ []) state = tt
-between_bad _ around place (v ∷ w ∷ []) state = tt
-between_bad Production.Symbol around place (v ∷ w ∷ x ∷ []) state = tt
-between_bad _ around place (v ∷ w ∷ x ∷ []) state = tt
-between_bad Production.Symbol around place (v ∷ w ∷ x ∷ y ∷ vs) state = tt
-between_bad _ around place (v ∷ w ∷ x ∷ y ∷ vs) state = tt
+unfolding between
+between_bad p around place vs state = done_bad (before_part (row_of p) (length vs)) around place vs state
 
 close_bad : (p : Production) (byte : ℕ) (around : Around) (place : ℕ) (began : State) (vs : List Value) (state : State) → IsBad (close p byte around place began vs state)
 unfolding close

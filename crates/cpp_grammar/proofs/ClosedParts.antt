@@ -1,18 +1,22 @@
 -- What is done between the parts of a production keeps to what is closed.
-use Rattle.std.proofs.Common.{◌≡◌, refl, sym, ◌∙◌, subst, ℕ, ◌-◌, List, [], ◌∷◌, Bool, true, false, None, Ok, Err}
+use Rattle.std.proofs.Common.{◌≡◌, refl, sym, ◌∙◌, subst, ℕ, ◌-◌, List, [], ◌∷◌, length, Bool, true, false, cond, None, Ok, Err}
 use Rattle.sym_core.specs.declared.refusal.Refusal.TheVariants.{BadReference}
-use Rattle.std.proofs.lemmas.Bool.{true≢false}
-use Rattle.sym_link.specs.Reading.{Next}
+use Rattle.std.proofs.lemmas.Bool.{true≢false, false≢true}
+use Rattle.sym_link.specs.Reading.{Next, ◌>>=◌}
 use Rattle.cpp_grammar.specs.declared.production.Production.{Production}
 use Rattle.cpp_grammar.specs.Rescoping.{generic_number, generic_so_far, parameter_here, argument_here, with_holder, is_instance, holder_so_far, between_wide}
-use Rattle.cpp_grammar.specs.Term.{Term, in_std, instance, holder, parameter, lvalue, rvalue, pack, source, operator, constructor, destructor}
+use Rattle.cpp_grammar.specs.Term.{Term, holder, parameter}
 use Rattle.cpp_grammar.specs.Scope.{is_open}
-use Rattle.cpp_grammar.specs.Values.{State, Around, prefix_tree, Value, tree, tree_of, piece_of, is_listed, letter_of, text_of}
-use Rattle.cpp_grammar.specs.References.{appended, with_type, with_prefix, parameter_named}
-use Rattle.cpp_grammar.specs.Between.{in_signature, under_expansion, after, inside, extended, applied, no_items, Going, named_so_far, listed_so_far, piece_so_far, with_tag, tag_so_far, parameter_so_far, argument_so_far, index_of, next, between}
+use Rattle.cpp_grammar.specs.Values.{State, Around, prefix_tree, Value, nothing_there, tree, tree_of, part}
+use Rattle.cpp_grammar.specs.References.{appended, parameter_named}
+use Rattle.cpp_grammar.specs.Between.{in_signature, under_expansion, after, inside, Going, listed_so_far, parameter_so_far, argument_so_far, index_of, next, between}
+use Rattle.cpp_grammar.specs.Row.{Where, as_before, in_its_name, in_its_types, in_a_signature, under_it, nameless, after_part, after_the_name, Before, quiet, goes, becomes, tests, holds, before_part}
+use Rattle.cpp_grammar.specs.Meant.{made, is_listing, around_part, packs_within, gained, replaced, tested, done}
+use Rattle.cpp_grammar.specs.Rows.{row_of}
 use Rattle.cpp_grammar.proofs.Ways.{has_signature}
-use Rattle.cpp_grammar.proofs.ClosedValues.{all_where, Good, AllGood, GoodPrefix, held, good_tree, good_piece, good_no_items, good_applied, good_instance, good_extended, good_prefix}
-use Rattle.cpp_grammar.proofs.ClosedStates.{Bare, Within, Grows, grows_same, grows_one, grows_held, with_prefix_grows, with_type_grows, parameter_good, parameter_grows, ok_same, behind_bind}
+use Rattle.cpp_grammar.proofs.Steps.{all_pass, step_passes, is_here, goes_here}
+use Rattle.cpp_grammar.proofs.ClosedValues.{all_where, Good, AllGood, GoodPrefix, held, good_nothing, good_part, good_prefix, made_tree_good}
+use Rattle.cpp_grammar.proofs.ClosedStates.{Bare, Within, Grows, grows_same, grows_one, grows_held, grows_packs, gained_grows, parameter_good, parameter_grows, ok_same, behind_bind}
 
 -- what surrounds a part, which is in the same encoding
 pub record Fits (own : Bool) (around inner : Around) : Type 0 where
@@ -43,9 +47,9 @@ record FitsBare (own : Bool) (around inner : Around) : Type 0 where
   fits : Fits own around inner
   bare : Bare own around → Bare own inner
 
-goes : (own : Bool) (around : Around) (at : ℕ) (state : State) (vs : List Value) (inner : Around) (new : State) (n : Next Value State Around) →
+goes_to : (own : Bool) (around : Around) (at : ℕ) (state : State) (vs : List Value) (inner : Around) (new : State) (n : Next Value State Around) →
     AllGood (Bare own around) vs → Grows own around at state new → FitsBare own around inner → ◌≡◌ {A = Going} (Ok (record { context = inner; values = vs; state = new })) (Ok n) → GoesOn own around at state n
-goes own around at state vs inner new n values grows fits e = goes_by own (Bare own around) around at state vs inner new n values grows fits.fits fits.bare e
+goes_to own around at state vs inner new n values grows fits e = goes_by own (Bare own around) around at state vs inner new n values grows fits.fits fits.bare e
 
 fits_same : (own : Bool) (around : Around) → GoodPrefix (Bare own around) around.prefix → FitsBare own around around
 fits_same own around pre = record { fits = record { encoding = refl; scope = λ h. h; back = λ h f. (h, f); prefix = pre }; bare = λ h. h }
@@ -73,126 +77,80 @@ StaysInside Production.Special = ⊥
 StaysInside Production.OtherSpecial = ⊥
 StaysInside _ = Unit {0}
 
-named_goes : (own : Bool) (around : Around) (at : ℕ) (state : State) (t : Term) (listed : Bool) (vs : List Value) (new : State) (n : Next Value State Around) →
-    Good (Bare own around) t → AllGood (Bare own around) vs → Grows own around at state new → ◌≡◌ {A = Going} (Ok (record { context = after t listed around; values = tree t listed ∷ vs; state = new })) (Ok n) →
-    GoesOn own around at state n
+replaced_good : (s : Type 0) (v : Value) (vs : List Value) → Good s (held v) → AllGood s vs → AllGood s (replaced v vs)
+unfolding replaced
+replaced_good s v [] good all = tt
+replaced_good s v (w ∷ ws) good all = (good, all.1)
+
+-- the first value is a tree now, which may be the name so far
+becomes_goes : (own : Bool) (around : Around) (at : ℕ) (state : State) (t : Term) (is_in is_name : Bool) (vs : List Value) (new : State) (n : Next Value State Around) → GoodPrefix (Bare own around) around.prefix →
+    Good (Bare own around) t → AllGood (Bare own around) vs → Grows own around at state new →
+    ◌≡◌ {A = Going} (Ok (record { context = cond is_name (after t is_in around) around; values = replaced (tree t is_in) vs; state = new })) (Ok n) → GoesOn own around at state n
 unfolding held
-named_goes own around at state t listed vs new n good all grows e = goes own around at state (tree t listed ∷ vs) (after t listed around) new n (good, all) grows (fits_after own around t listed good) e
+becomes_goes own around at state t is_in true vs new n pre good all grows e =
+    goes_to own around at state (replaced (tree t is_in) vs) (after t is_in around) new n (replaced_good (Bare own around) (tree t is_in) vs good all) grows (fits_after own around t is_in good) e
+becomes_goes own around at state t is_in false vs new n pre good all grows e =
+    goes_to own around at state (replaced (tree t is_in) vs) around new n (replaced_good (Bare own around) (tree t is_in) vs good all) grows (fits_same own around pre) e
 
-piece_goes : (own : Bool) (around : Around) (at : ℕ) (state : State) (p : Term) (n : Next Value State Around) → GoodPrefix (Bare own around) around.prefix → Good (Bare own around) p → piece_so_far around p [] state ≡ Ok n → GoesOn own around at state n
-unfolding piece_so_far named_so_far
-piece_goes own around at state p n pre good e = named_goes own around at state (extended around.prefix p) false [] state n (good_extended (Bare own around) around.prefix p pre good) tt (grows_same own around at state state refl) e
-
-tag_goes : (own : Bool) (around : Around) (at : ℕ) (state : State) (tag : List ℕ) (n : Next Value State Around) → GoodPrefix (Bare own around) around.prefix → tag_so_far around tag state ≡ Ok n → GoesOn own around at state n
-unfolding tag_so_far with_tag named_so_far is_open
-tag_goes own around at state tag n pre e =
-    let g = good_prefix (Bare own around) around.prefix pre in
-    named_goes own around at state (with_tag (prefix_tree around.prefix) tag) false [] state n (record { closed = g.closed; scopes = g.scopes }) tt (grows_same own around at state state refl) e
-
-parameter_goes : (own : Bool) (around : Around) (place at : ℕ) (state : State) (k : ℕ) (n : Next Value State Around) → parameter_so_far around place k [] state ≡ Ok n → GoesOn own around at state n
-unfolding parameter_so_far listed_so_far
-parameter_goes own around place at state k n e =
-    let b = behind_bind (parameter_named around place k state) (λ s. listed_so_far around (parameter k) [] s) n e in
-    let named = parameter_grows own around place k at state b.value b.is in
-    named_goes own around at state (parameter k) true [] b.value n (parameter_good own around k named.scoped) tt named.grows b.next
-
-same_goes : (own : Bool) (around : Around) (at : ℕ) (state : State) (vs : List Value) (n : Next Value State Around) → GoodPrefix (Bare own around) around.prefix → AllGood (Bare own around) vs →
-    ◌≡◌ {A = Going} (Ok (record { context = around; values = vs; state = state })) (Ok n) → GoesOn own around at state n
-same_goes own around at state vs n pre all e = goes own around at state vs around state n all (grows_same own around at state state refl) (fits_same own around pre) e
+candidate_grows : (own : Bool) (around : Around) (at : ℕ) (t : Term) (state : State) (is_candidate : Bool) → Good (Bare own around) t → Grows own around at state (cond is_candidate (appended around t state) state)
+candidate_grows own around at t state true good = grows_one own around at t state good
+candidate_grows own around at t state false good = grows_same own around at state state refl
 
 -- a parameter that is an argument itself leaves the candidates
-argument_goes : (own : Bool) (around : Around) (place at : ℕ) (state : State) (k : ℕ) (n : Next Value State Around) → GoodPrefix (Bare own around) around.prefix → argument_so_far around place k state ≡ Ok n →
-    GoesOn own around at state n
-unfolding argument_so_far held
-argument_goes own around place at state k n pre e =
-    let b = behind_bind (parameter_named around place k state) (λ s. next (tree (parameter k) true ∷ []) around (record s { candidates = state.candidates })) n e in
-    let named = parameter_grows own around place k at state b.value b.is in
-    let new : State = record b.value { candidates = state.candidates } in
-    goes own around at state (tree (parameter k) true ∷ []) around new n (parameter_good own around k named.scoped, tt) (grows_same own around at state new refl) (fits_same own around pre) b.next
+kept_grows : (own : Bool) (around : Around) (at : ℕ) (state now : State) (is_name : Bool) → Grows own around at state now → Grows own around at state (cond is_name now (record now { candidates = state.candidates }))
+kept_grows own around at state now true grows = grows
+kept_grows own around at state now false grows = grows_same own around at state (record now { candidates = state.candidates }) refl
 
-good_leaf : (s : Type 0) (internal : Bool) (bytes : List ℕ) → Good s (source internal bytes)
-unfolding is_open
-good_leaf s internal bytes = record { closed = λ h. refl; scopes = tt }
+tests_goes : (own : Bool) (around : Around) (place at : ℕ) (state : State) (k : ℕ) (is_name : Bool) (vs : List Value) (n : Next Value State Around) → GoodPrefix (Bare own around) around.prefix → AllGood (Bare own around) vs →
+    (parameter_named around place k state >>= λ s. tested is_name around (parameter k) vs s state) ≡ Ok n → GoesOn own around at state n
+unfolding tested
+tests_goes own around place at state k is_name vs n pre all e =
+    let b = behind_bind (parameter_named around place k state) (λ s. tested is_name around (parameter k) vs s state) n e in
+    let named = parameter_grows own around place k at state b.value b.is in
+    becomes_goes own around at state (parameter k) true is_name vs (cond is_name b.value (record b.value { candidates = state.candidates })) n pre (parameter_good own around k named.scoped) all
+    (kept_grows own around at state b.value is_name named.grows) b.next
+
+-- what surrounds a part that is in the encoding around it, and in no signature
+around_fits : (own : Bool) (w : Where) (around : Around) (place : ℕ) (vs : List Value) → is_here w ≡ true → GoodPrefix (Bare own around) around.prefix → AllGood (Bare own around) vs → FitsBare own around (around_part around place vs w)
+unfolding is_here around_part
+around_fits own in_its_name around place vs here pre all = absurd (false≢true here)
+around_fits own in_its_types around place vs here pre all = absurd (false≢true here)
+around_fits own in_a_signature around place vs here pre all = absurd (false≢true here)
+around_fits own as_before around place vs here pre all = fits_same own around pre
+around_fits own under_it around place vs here pre all = fits_expansion own around pre
+around_fits own nameless around place vs here pre all = fits_inside own around
+around_fits own (after_part k listing) around place vs here pre all = fits_after own around (tree_of (part vs k)) (is_listing vs listing) (good_part (Bare own around) vs k all)
+around_fits own after_the_name around place vs here pre all = fits_after own around (prefix_tree around.prefix) true (good_prefix (Bare own around) around.prefix pre)
+
+packs_grow : (own : Bool) (w : Where) (around : Around) (at : ℕ) (state new : State) → Grows own around at state new → Grows own around at state (packs_within w new)
+unfolding packs_within
+packs_grow own under_it around at state new grows = grows_packs own around at state new None grows
+packs_grow own _ around at state new grows = grows
+
+done_goes : (own : Bool) (b : Before) (around : Around) (place : ℕ) (vs : List Value) (state : State) (n : Next Value State Around) (at : ℕ) → goes_here b ≡ true →
+    GoodPrefix (Bare own around) around.prefix → AllGood (Bare own around) vs → done b around place vs state ≡ Ok n → GoesOn own around at state n
+unfolding goes_here done tree_of
+done_goes own quiet around place vs state n at here pre all e = goes_to own around at state vs around state n all (grows_same own around at state state refl) (fits_same own around pre) e
+done_goes own (goes gain w) around place vs state n at here pre all e =
+    goes_to own around at state vs (around_part around place vs w) (packs_within w (gained gain around vs nothing_there state)) n all
+    (packs_grow own w around at state (gained gain around vs nothing_there state) (gained_grows own gain around vs nothing_there state at pre all (good_nothing (Bare own around)))) (around_fits own w around place vs here pre all) e
+done_goes own (becomes m is_in is_name is_candidate) around place vs state n at here pre all e =
+    let t = made 0 around vs m in
+    let good = made_tree_good (Bare own around) 0 around vs m pre all in
+    becomes_goes own around at state t is_in is_name vs (cond is_candidate (appended around t state) state) n pre good all (candidate_grows own around at t state is_candidate good) e
+done_goes own (tests after_t is_name) around place vs state n at here pre all e = tests_goes own around (cond after_t (place - 1) place) at state (index_of (part vs 0)) is_name vs n pre all e
+done_goes own holds around place vs state n at here pre all e = let clash : ◌≡◌ {A = Going} (Err (BadReference place)) (Ok n) = e in absurd cc
 
 between_goes : (own : Bool) (production : Production) (around : Around) (place : ℕ) (vs : List Value) (state : State) (n : Next Value State Around) (at : ℕ) → StaysInside production → has_signature production ≡ false →
     GoodPrefix (Bare own around) around.prefix → AllGood (Bare own around) vs → between production around place vs state ≡ Ok n → GoesOn own around at state n
-unfolding has_signature between held is_open named_so_far listed_so_far
-between_goes own Production.LocalName around place [] state n at stays apart pre all e = same_goes own around at state [] n pre all e
-between_goes own Production.LocalName around place (v ∷ vs) state n at stays apart pre all e =
-    goes own around at state (v ∷ vs) (after (tree_of v) true around) state n all (grows_same own around at state state refl) (fits_after own around (tree_of v) true (good_tree _ v all.0)) e
-between_goes own Production.LocalType around place [] state n at stays apart pre all e = same_goes own around at state [] n pre all e
-between_goes own Production.LocalType around place (v ∷ vs) state n at stays apart pre all e =
-    goes own around at state (v ∷ vs) (after (tree_of v) true around) state n all (grows_same own around at state state refl) (fits_after own around (tree_of v) true (good_tree _ v all.0)) e
-between_goes own Production.InternalName around place (v ∷ []) state n at stays apart pre all e = piece_goes own around at state (source true (text_of v)) n pre (good_leaf _ true (text_of v)) e
-between_goes own Production.SourceName around place (v ∷ []) state n at stays apart pre all e = piece_goes own around at state (source false (text_of v)) n pre (good_leaf _ false (text_of v)) e
-between_goes own Production.LocalTypeName around place (v ∷ []) state n at stays apart pre all e = piece_goes own around at state (piece_of v) n pre (good_piece _ v all.0) e
-between_goes own Production.OperatorName around place (v ∷ []) state n at stays apart pre all e = piece_goes own around at state (piece_of v) n pre (good_piece _ v all.0) e
-between_goes own Production.OtherOperatorName around place (v ∷ []) state n at stays apart pre all e = piece_goes own around at state (piece_of v) n pre (good_piece _ v all.0) e
-between_goes own Production.OperatorNameWithC around place (v ∷ []) state n at stays apart pre all e = piece_goes own around at state (operator 99 (letter_of v)) n pre (record { closed = λ h. refl; scopes = tt }) e
-between_goes own Production.Conversion around place [] state n at stays apart pre all e = goes own around at state [] (inside around) state n tt (grows_same own around at state state refl) (fits_inside own around) e
-between_goes own Production.Constructor around place (v ∷ []) state n at stays apart pre all e = piece_goes own around at state (constructor (letter_of v)) n pre (record { closed = λ h. refl; scopes = tt }) e
-between_goes own Production.Destructor around place (v ∷ []) state n at stays apart pre all e = piece_goes own around at state (destructor (letter_of v)) n pre (record { closed = λ h. refl; scopes = tt }) e
-between_goes own Production.StdName around place (v ∷ []) state n at stays apart pre all e =
-    let g = good_piece (Bare own around) v all.0 in
-    named_goes own around at state (in_std (piece_of v)) false [] state n (record { closed = g.closed; scopes = g.scopes }) tt (grows_same own around at state state refl) e
-between_goes own Production.AbbreviatedName around place (v ∷ []) state n at stays apart pre all e = named_goes own around at state (tree_of v) true [] state n (good_tree _ v all.0) tt (grows_same own around at state state refl) e
-between_goes own Production.NestStd around place (v ∷ []) state n at stays apart pre all e =
-    let g = good_piece (Bare own around) v all.0 in
-    named_goes own around at state (in_std (piece_of v)) false [] state n (record { closed = g.closed; scopes = g.scopes }) tt (grows_same own around at state state refl) e
-between_goes own Production.NestStd around place (v ∷ w ∷ []) state n at stays apart pre all e =
-    named_goes own around at state (applied (tree_of v) w) false (w ∷ []) state n (good_applied _ (tree_of v) w (good_tree _ v all.0) (good_tree _ w all.1.0)) all.1 (grows_same own around at state state refl) e
-between_goes own Production.NestTemplate around place (v ∷ []) state n at stays apart pre all e = named_goes own around at state (tree_of v) true [] state n (good_tree _ v all.0) tt (grows_same own around at state state refl) e
-between_goes own Production.NestParameter around place (v ∷ []) state n at stays apart pre all e = parameter_goes own around place at state (index_of v) n e
-between_goes own Production.NestInternal around place (v ∷ []) state n at stays apart pre all e = piece_goes own around at state (source true (text_of v)) n pre (good_leaf _ true (text_of v)) e
-between_goes own Production.NestSource around place (v ∷ []) state n at stays apart pre all e = piece_goes own around at state (source false (text_of v)) n pre (good_leaf _ false (text_of v)) e
-between_goes own Production.NestLocalType around place (v ∷ []) state n at stays apart pre all e = piece_goes own around at state (piece_of v) n pre (good_piece _ v all.0) e
-between_goes own Production.NestArguments around place [] state n at stays apart pre all e = goes own around at state [] (inside around) (with_prefix around state) n tt (with_prefix_grows own around at state pre) (fits_inside own around) e
-between_goes own Production.NestArguments around place (v ∷ w ∷ []) state n at stays apart pre all e =
-    let t = instance (prefix_tree around.prefix) (no_items v) in
-    let good = good_instance (Bare own around) _ _ (good_prefix (Bare own around) around.prefix pre) (good_no_items (Bare own around) v (good_tree _ v all.0)) in
-    named_goes own around at state t true (w ∷ []) (appended around t state) n good all.1 (grows_one own around at t state good) e
-between_goes own Production.NestArguments around place (v ∷ w ∷ x ∷ []) state n at stays apart pre all e =
-    goes own around at state (v ∷ w ∷ x ∷ []) (after (tree_of x) false around) state n all (grows_same own around at state state refl) (fits_after own around (tree_of x) false (good_tree _ x all.1.1.0)) e
-between_goes own Production.NestInstance around place [] state n at stays apart pre all e = goes own around at state [] (inside around) (with_prefix around state) n tt (with_prefix_grows own around at state pre) (fits_inside own around) e
-between_goes own Production.NestInstance around place (v ∷ w ∷ []) state n at stays apart pre all e =
-    named_goes own around at state (instance (prefix_tree around.prefix) (no_items v)) false (w ∷ []) state n
-    (good_instance (Bare own around) _ _ (good_prefix (Bare own around) around.prefix pre) (good_no_items (Bare own around) v (good_tree _ v all.0))) all.1 (grows_same own around at state state refl) e
-between_goes own Production.NestTag around place (v ∷ []) state n at stays apart pre all e = tag_goes own around at state (text_of v) n pre e
-between_goes own Production.Tag around place (v ∷ []) state n at stays apart pre all e = tag_goes own around at state (text_of v) n pre e
-between_goes own Production.TypeTag around place (v ∷ []) state n at stays apart pre all e = tag_goes own around at state (text_of v) n pre e
-between_goes own Production.TaggedStdType around place (v ∷ []) state n at stays apart pre all e =
-    let g = good_piece (Bare own around) v all.0 in
-    named_goes own around at state (in_std (piece_of v)) false [] state n (record { closed = g.closed; scopes = g.scopes }) tt (grows_same own around at state state refl) e
-between_goes own Production.NestNext around place [] state n at stays apart pre all e =
-    goes own around at state [] (after (prefix_tree around.prefix) true around) (with_prefix around state) n tt (with_prefix_grows own around at state pre)
-    (fits_after own around (prefix_tree around.prefix) true (good_prefix (Bare own around) around.prefix pre)) e
-between_goes own Production.NestNext around place (v ∷ []) state n at stays apart pre all e =
-    goes own around at state (v ∷ []) (after (tree_of v) false around) state n all (grows_same own around at state state refl) (fits_after own around (tree_of v) false (good_tree _ v all.0)) e
-between_goes own Production.Holder around place (v ∷ []) state n at stays apart pre all e = let clash : ◌≡◌ {A = Going} (Err (BadReference place)) (Ok n) = e in absurd cc
-between_goes own Production.Arguments around place [] state n at stays apart pre all e = goes own around at state [] (inside around) (with_prefix around state) n tt (with_prefix_grows own around at state pre) (fits_inside own around) e
-between_goes own Production.PackArgument around place (v ∷ []) state n at stays apart pre all e =
-    let g = good_no_items (Bare own around) v (good_tree _ v all.0) in
-    goes own around at state (tree (pack (no_items v)) true ∷ []) around state n (record { closed = g.closed; scopes = g.scopes }, tt) (grows_same own around at state state refl) (fits_same own around pre) e
+unfolding has_signature between all_pass goes_here is_here
+between_goes own Production.Encoding around place vs state n at stays apart pre all e = absurd stays
+between_goes own Production.Special around place vs state n at stays apart pre all e = absurd stays
+between_goes own Production.OtherSpecial around place vs state n at stays apart pre all e = absurd stays
 between_goes own Production.Lambda around place vs state n at stays apart pre all e = absurd (true≢false apart)
-between_goes own Production.Expansion around place vs state n at stays apart pre all e =
-    goes own around at state vs (under_expansion around) (record state { packs = None }) n all (grows_same own around at state (record state { packs = None }) refl) (fits_expansion own around pre) e
-between_goes own Production.Parameter around place (v ∷ []) state n at stays apart pre all e = parameter_goes own around place at state (index_of v) n e
 between_goes own Production.ValueOf around place vs state n at stays apart pre all e = absurd (true≢false apart)
 between_goes own Production.OfConcept around place vs state n at stays apart pre all e = absurd (true≢false apart)
-between_goes own Production.ParameterArgument around place (v ∷ []) state n at stays apart pre all e = parameter_goes own around (place - 1) at state (index_of v) n e
-between_goes own Production.ParameterExpression around place (v ∷ []) state n at stays apart pre all e = argument_goes own around place at state (index_of v) n pre e
-between_goes own Production.BoundedArray around place (v ∷ []) state n at stays apart pre all e = argument_goes own around place at state (index_of v) n pre e
-between_goes own Production.TypeWithS around place (v ∷ []) state n at stays apart pre all e =
-    goes own around at state (v ∷ []) (after (tree_of v) (is_listed v) around) state n all (grows_same own around at state state refl) (fits_after own around (tree_of v) (is_listed v) (good_tree _ v all.0)) e
-between_goes own Production.LvalueItem around place (v ∷ []) state n at stays apart pre all e =
-    let g : Good (Bare own around) (lvalue (tree_of v)) = record { closed = (good_tree _ v all.0).closed; scopes = (good_tree _ v all.0).scopes } in
-    goes own around at state (tree (lvalue (tree_of v)) true ∷ []) around (appended around (lvalue (tree_of v)) state) n (g, tt) (grows_one own around at (lvalue (tree_of v)) state g) (fits_same own around pre) e
-between_goes own Production.RvalueItem around place (v ∷ []) state n at stays apart pre all e =
-    let g : Good (Bare own around) (rvalue (tree_of v)) = record { closed = (good_tree _ v all.0).closed; scopes = (good_tree _ v all.0).scopes } in
-    goes own around at state (tree (rvalue (tree_of v)) true ∷ []) around (appended around (rvalue (tree_of v)) state) n (g, tt) (grows_one own around at (rvalue (tree_of v)) state g) (fits_same own around pre) e
-between_goes own Production.IntegerLiteral around place (v ∷ []) state n at stays apart pre all e =
-    goes own around at state (v ∷ []) around (with_type around v state) n all (with_type_grows own around at v state (good_tree _ v all.0)) (fits_same own around pre) e
-between_goes own _ around place vs state n at stays apart pre all e = first_of (search stays, search (same_goes, pre, all, e))
+between_goes own p around place vs state n at stays apart pre all e = done_goes own (before_part (row_of p) (length vs)) around place vs state n at (step_passes goes_here (row_of p) refl (length vs)) pre all e
 
 within : (own : Bool) (p : Production) (around : Around) (at : ℕ) (state : State) (n : Next Value State Around) → GoesOn own around at state n → Goes own (Within own p around) around at state n
 within own p around at state n g = record { values = all_where (Bare own around) (Within own p around) n.values (λ w. w.0) g.values; grows = g.grows; fits = g.fits; bare = λ w. g.bare w.0 }
@@ -215,27 +173,33 @@ goes_within own p around place vs state n at stays pre all e =
 
 -- ## The reading of the wide grammar
 
+named_goes : (around : Around) (at : ℕ) (state new : State) (t : Term) (n : Next Value State Around) → Good (Bare true around) t → Grows true around at state new →
+    listed_so_far around t [] new ≡ Ok n → GoesOn true around at state n
+unfolding listed_so_far held
+named_goes around at state new t n good grows e = goes_to true around at state (tree t true ∷ []) (after t true around) new n (good, tt) grows (fits_after true around t true good) e
+
 generic_goes : (around : Around) (at : ℕ) (state : State) (k : ℕ) (n : Next Value State Around) → around.in_lambda ≡ true → generic_so_far around k [] state ≡ Ok n → GoesOn true around at state n
-unfolding generic_so_far listed_so_far
+unfolding generic_so_far
 generic_goes around at state k n is e =
     let t = parameter (generic_number k) in
     let good : Good (Bare true around) t = record { closed = λ bare. absurd (true≢false (sym is ∙ bare.1 refl)); scopes = tt } in
-    named_goes true around at state t true [] (appended around t state) n good tt (grows_one true around at t state good) e
+    named_goes around at state (appended around t state) t n good (grows_one true around at t state good) e
 
-here_goes : (around : Around) (place at : ℕ) (state : State) (k : ℕ) (n : Next Value State Around) → parameter_here around place k [] state ≡ Ok n → GoesOn true around at state n
-unfolding parameter_here
-here_goes around place at state k n e = go around.in_lambda refl e
+here_goes : (around : Around) (place at : ℕ) (state : State) (k : ℕ) (n : Next Value State Around) → GoodPrefix (Bare true around) around.prefix → parameter_here around place k [] state ≡ Ok n → GoesOn true around at state n
+unfolding parameter_here parameter_so_far listed_so_far tested replaced held
+here_goes around place at state k n pre e = go around.in_lambda refl e
   where
     go : (b : Bool) → around.in_lambda ≡ b → ◌≡◌ {A = Going} (elim b [ true ↦ generic_so_far around k [] state | false ↦ parameter_so_far around place k [] state ]) (Ok n) → GoesOn true around at state n
     go true is h = generic_goes around at state k n is h
-    go false is h = parameter_goes true around place at state k n h
+    go false is h = tests_goes true around place at state k true (nothing_there ∷ []) n pre (good_nothing (Bare true around), tt) h
 
-here_within : (p : Production) (around : Around) (place at : ℕ) (state : State) (k : ℕ) (n : Next Value State Around) → parameter_here around place k [] state ≡ Ok n → Goes true (Within true p around) around at state n
-here_within p around place at state k n e = within true p around at state n (here_goes around place at state k n e)
+here_within : (p : Production) (around : Around) (place at : ℕ) (state : State) (k : ℕ) (n : Next Value State Around) → GoodPrefix (Bare true around) around.prefix → parameter_here around place k [] state ≡ Ok n →
+    Goes true (Within true p around) around at state n
+here_within p around place at state k n pre e = within true p around at state n (here_goes around place at state k n pre e)
 
 argument_here_goes : (around : Around) (place at : ℕ) (state : State) (k : ℕ) (n : Next Value State Around) → GoodPrefix (Bare true around) around.prefix → argument_here around place k state ≡ Ok n →
     GoesOn true around at state n
-unfolding argument_here held
+unfolding argument_here argument_so_far tested replaced held
 argument_here_goes around place at state k n pre e = go around.in_lambda refl e
   where
     named : Term
@@ -245,11 +209,11 @@ argument_here_goes around place at state k n pre e = go around.in_lambda refl e
         GoesOn true around at state n
     go true is h =
         let good : Good (Bare true around) named = record { closed = λ bare. absurd (true≢false (sym is ∙ bare.1 refl)); scopes = tt } in
-        goes true around at state (tree named true ∷ []) around state n (good, tt) (grows_same true around at state state refl) (fits_same true around pre) h
-    go false is h = argument_goes true around place at state k n pre h
+        goes_to true around at state (tree named true ∷ []) around state n (good, tt) (grows_same true around at state state refl) (fits_same true around pre) h
+    go false is h = tests_goes true around place at state k false (nothing_there ∷ []) n pre (good_nothing (Bare true around), tt) h
 
 holder_goes : (around : Around) (place at : ℕ) (state : State) (n : Next Value State Around) → GoodPrefix (Bare true around) around.prefix → holder_so_far around place state ≡ Ok n → GoesOn true around at state n
-unfolding holder_so_far listed_so_far is_open
+unfolding holder_so_far is_open
 holder_goes around place at state n pre e = go (is_instance (prefix_tree around.prefix)) e
   where
     named : Term
@@ -260,17 +224,17 @@ holder_goes around place at state n pre e = go (is_instance (prefix_tree around.
     go false h =
         let g = good_prefix (Bare true around) around.prefix pre in
         let good : Good (Bare true around) named = record { closed = g.closed; scopes = g.scopes } in
-        named_goes true around at state named true [] (with_holder around named state) n good tt (grows_held true around at named state good) h
+        named_goes around at state (with_holder around named state) named n good (grows_held true around at named state good) h
 
 pub wide_goes : (production : Production) (around : Around) (place : ℕ) (vs : List Value) (state : State) (n : Next Value State Around) (at : ℕ) → StaysInside production →
     GoodPrefix (Bare true around) around.prefix → AllGood (Within true production around) vs → between_wide production around place vs state ≡ Ok n → Goes true (Within true production around) around at state n
 unfolding between_wide
-wide_goes Production.Parameter around place (v ∷ []) state n at stays pre all e = here_within Production.Parameter around place at state (index_of v) n e
-wide_goes Production.ParameterArgument around place (v ∷ []) state n at stays pre all e = here_within Production.ParameterArgument around (place - 1) at state (index_of v) n e
+wide_goes Production.Parameter around place (v ∷ []) state n at stays pre all e = here_within Production.Parameter around place at state (index_of v) n pre e
+wide_goes Production.ParameterArgument around place (v ∷ []) state n at stays pre all e = here_within Production.ParameterArgument around (place - 1) at state (index_of v) n pre e
 wide_goes Production.ParameterExpression around place (v ∷ []) state n at stays pre all e =
     within true Production.ParameterExpression around at state n (argument_here_goes around place at state (index_of v) n pre e)
 wide_goes Production.BoundedArray around place (v ∷ []) state n at stays pre all e =
     within true Production.BoundedArray around at state n (argument_here_goes around place at state (index_of v) n pre e)
 wide_goes Production.Holder around place (v ∷ []) state n at stays pre all e = within true Production.Holder around at state n (holder_goes around place at state n pre e)
-wide_goes Production.NestParameter around place (v ∷ []) state n at stays pre all e = here_within Production.NestParameter around place at state (index_of v) n e
+wide_goes Production.NestParameter around place (v ∷ []) state n at stays pre all e = here_within Production.NestParameter around place at state (index_of v) n pre e
 wide_goes p around place vs state n at stays pre all e = goes_within true p around place vs state n at stays pre all e

@@ -1,5 +1,5 @@
 -- The candidates that a part appends are closed where no parameters are named around it.
-use Rattle.std.proofs.Common.{◌≡◌, refl, ap, sym, ◌∙◌, subst, ℕ, zero, suc, ◌-◌, ◌<◌, ◌≤◌, List, [], ◌∷◌, ◌++◌, Bool, true, false, not, ◌||◌, ◌&&◌, nat_eq, nat_lt, slice_get, Option, Some, None, Result, Ok, Err, ◌⊎◌, inl, inr, arith}
+use Rattle.std.proofs.Common.{◌≡◌, refl, ap, sym, ◌∙◌, subst, ℕ, zero, suc, ◌-◌, ◌<◌, ◌≤◌, List, [], ◌∷◌, ◌++◌, Bool, true, false, not, ◌||◌, ◌&&◌, cond, nat_eq, nat_lt, slice_get, Option, Some, None, Result, Ok, Err, ◌⊎◌, inl, inr, arith}
 use Rattle.std.proofs.lemmas.Bool.{eqb-true, true≢false, false≢true}
 use Rattle.std.proofs.lemmas.List.{append_assoc, append-nil}
 use Rattle.sym_core.specs.declared.refusal.Refusal.{Refusal}
@@ -19,6 +19,9 @@ use Rattle.cpp_grammar.specs.Meaning.{parameters, meaning}
 use Rattle.cpp_grammar.specs.Unfolding as unfolding_
 use Rattle.cpp_grammar.specs.Unfolding.{close}
 use Rattle.cpp_grammar.specs.Between.{no_items}
+use Rattle.cpp_grammar.specs.Row.{Gain, nothing, the_prefix, type_of, unqualified_of, itself}
+use Rattle.cpp_grammar.specs.Meant.{gained}
+use Rattle.cpp_grammar.specs.Rows.{row_of}
 use Rattle.cpp_grammar.proofs.Ways.{has_signature}
 use Rattle.cpp_grammar.proofs.ClosedValues.{all_where, prefix_where, Good, AllGood, GoodPrefix, HasClosedName, held, good_tree, good_part, good_prefix, meaning_good}
 
@@ -269,21 +272,33 @@ with_prefix_grows own around end state good = go (prefix_listed around.prefix)
     go true = grows_same own around end state state refl
     go false = grows_one own around end (prefix_tree around.prefix) state (good_prefix (Bare own around) around.prefix good)
 
-behind_grows : (own : Bool) (production : Production) (byte : ℕ) (around : Around) (began : State) (vs : List Value) (state : State) (end : ℕ) →
-    GoodPrefix (Bare own around) around.prefix → AllGood (Bare own around) vs → Grows own around end state (unfolding_.behind production byte around began vs state)
+pub gained_grows : (own : Bool) (gain : Gain) (around : Around) (vs : List Value) (v : Value) (state : State) (end : ℕ) →
+    GoodPrefix (Bare own around) around.prefix → AllGood (Bare own around) vs → Good (Bare own around) (tree_of v) → Grows own around end state (gained gain around vs v state)
+unfolding gained
+gained_grows own nothing around vs v state end pre all good = grows_same own around end state state refl
+gained_grows own the_prefix around vs v state end pre all good = with_prefix_grows own around end state pre
+gained_grows own (type_of k) around vs v state end pre all good = with_type_grows own around end (part vs k) state (good_part (Bare own around) vs k all)
+gained_grows own (unqualified_of k) around vs v state end pre all good = with_unqualified_grows own around end (part vs k) state (good_part (Bare own around) vs k all)
+gained_grows own itself around vs v state end pre all good = grows_one own around end (tree_of v) state good
+
+-- other packs are no matter
+pub grows_packs : (own : Bool) (around : Around) (end : ℕ) (old new : State) (packs : Option ℕ) → Grows own around end old new → Grows own around end old (record new { packs = packs })
+grows_packs own around end old new packs grows = record { more = grows.more; is = grows.is; each = grows.each }
+
+behind_grows : (own : Bool) (production : Production) (byte : ℕ) (around : Around) (began : State) (vs : List Value) (state : State) (end : ℕ) → GoodPrefix (Bare own around) around.prefix → AllGood (Bare own around) vs →
+    HasClosedName production vs → Grows own around end state (unfolding_.behind production byte around began vs state)
 unfolding unfolding_.behind
-behind_grows own Production.RestrictType byte around began vs state end pre all = grows_one own around end _ state (good_tree (Bare own around) (meaning Production.RestrictType byte around vs) (meaning_good (Bare own around) Production.RestrictType byte around vs pre all tt))
-behind_grows own Production.VolatileType byte around began vs state end pre all = grows_one own around end _ state (good_tree (Bare own around) (meaning Production.VolatileType byte around vs) (meaning_good (Bare own around) Production.VolatileType byte around vs pre all tt))
-behind_grows own Production.ConstType byte around began vs state end pre all = grows_one own around end _ state (good_tree (Bare own around) (meaning Production.ConstType byte around vs) (meaning_good (Bare own around) Production.ConstType byte around vs pre all tt))
-behind_grows own Production.ReferenceType byte around began vs state end pre all = grows_one own around end _ state (good_tree (Bare own around) (meaning Production.ReferenceType byte around vs) (meaning_good (Bare own around) Production.ReferenceType byte around vs pre all tt))
-behind_grows own Production.PlainType byte around began vs state end pre all = with_type_grows own around end (part vs 0) state (good_part (Bare own around) vs 0 all)
-behind_grows own Production.PlainArgument byte around began vs state end pre all = with_type_grows own around end (part vs 0) state (good_part (Bare own around) vs 0 all)
-behind_grows own Production.ArgumentWithT byte around began vs state end pre all = with_type_grows own around end (part vs 0) state (good_part (Bare own around) vs 0 all)
-behind_grows own Production.TypeWithD byte around began vs state end pre all = with_type_grows own around end (part vs 0) state (good_part (Bare own around) vs 0 all)
-behind_grows own Production.ItemWithD byte around began vs state end pre all = with_type_grows own around end (part vs 0) state (good_part (Bare own around) vs 0 all)
-behind_grows own Production.QualifiedPlain byte around began vs state end pre all = with_unqualified_grows own around end (part vs 0) state (good_part (Bare own around) vs 0 all)
-behind_grows own Production.PlainWithD byte around began vs state end pre all = with_unqualified_grows own around end (part vs 0) state (good_part (Bare own around) vs 0 all)
-behind_grows own _ byte around began vs state end pre all = grows_same own around end state _ refl
+behind_grows own production byte around began vs state end pre all name = go (row_of production).restores_packs
+  where
+    v : Value
+    v = meaning production byte around vs
+
+    gains : Grows own around end state (gained (row_of production).gain around vs v state)
+    gains = gained_grows own (row_of production).gain around vs v state end pre all (good_tree (Bare own around) v (meaning_good (Bare own around) production byte around vs pre all name))
+
+    go : (b : Bool) → Grows own around end state (cond b (record (gained (row_of production).gain around vs v state) { packs = began.packs }) (gained (row_of production).gain around vs v state))
+    go true = grows_packs own around end state (gained (row_of production).gain around vs v state) began.packs gains
+    go false = gains
 
 -- what a part comes to is good, and the candidates grow
 pub record Comes (own : Bool) (around : Around) (end : ℕ) (old : State) (r : Found Value State) : Type 0 where
@@ -295,7 +310,7 @@ made_good : (own : Bool) (production : Production) (byte : ℕ) (around : Around
     ◌≡◌ {A = Result (Found Value State) Refusal} (Ok (found (meaning production byte around vs) (unfolding_.behind production byte around began vs state))) (Ok r) → Comes own around end state r
 made_good own production byte around began vs state r end pre all name e =
     subst (λ x. Comes own around end state x) (ok_same (found (meaning production byte around vs) (unfolding_.behind production byte around began vs state)) r e)
-    (record { good = meaning_good (Bare own around) production byte around vs pre all name; grows = behind_grows own production byte around began vs state end pre all })
+    (record { good = meaning_good (Bare own around) production byte around vs pre all name; grows = behind_grows own production byte around began vs state end pre all name })
 
 pub close_good : (production : Production) (byte : ℕ) (around : Around) (place : ℕ) (began : State) (vs : List Value) (state : State) (r : Found Value State) (end : ℕ) →
     AllOld false around end state.candidates → GoodPrefix (Bare false around) around.prefix → AllGood (Within false production around) vs → HasClosedName production vs →

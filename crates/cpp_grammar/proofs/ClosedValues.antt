@@ -2,12 +2,18 @@
 use Rattle.std.proofs.Common.{◌≡◌, refl, ℕ, zero, suc, List, [], ◌∷◌, Bool, true, false, ◌||◌, ◌&&◌, cond, nat_eq}
 use Rattle.std.proofs.lemmas.Bool.{true≢false}
 use Rattle.cpp_grammar.specs.declared.production.Production.{Production}
-use Rattle.cpp_grammar.specs.Term.{RefQualifier, lvalue_only, rvalue_only, Term, symbol, function, within, instance, local, of_default, string_literal, conversion, lvalue, rvalue, member_pointer, function_type, nil, list, absent, bounded}
+use Rattle.cpp_grammar.specs.Term.{RefQualifier, lvalue_only, rvalue_only, Term, symbol, function, within, instance, local, of_default, lvalue, rvalue, nil, list, absent}
 use Rattle.cpp_grammar.specs.Scope.{arguments_of, is_open, has_return_type}
 use Rattle.cpp_grammar.specs.Closed.{HasNoneFree, ScopesAreClosed}
-use Rattle.cpp_grammar.specs.Values.{Around, Prefix, outermost, behind, prefix_tree, Value, nothing_there, letter, tree, piece, named, signature, tree_of, text_of, piece_of, qualifiers_of, ref_of, is_there, part}
-use Rattle.cpp_grammar.specs.Between.{extended, applied, no_items}
-use Rattle.cpp_grammar.specs.Meaning.{is_void, is_nil, parameters, encoding_of, default_entity, qualified_by, listed_value, function_of, with_item, reference_to, signature_or, operator_or_literal, meaning}
+use Rattle.cpp_grammar.specs.Values.{Around, Prefix, outermost, behind, prefix_tree, Value, nothing_there, letter, tree, piece, named, signature, tree_of, piece_of, qualifiers_of, ref_of, is_there, part}
+use Rattle.cpp_grammar.specs.Between.{extended, applied, no_items, with_tag}
+use Rattle.cpp_grammar.specs.Meaning.{is_void, is_nil, parameters, encoding_of, default_entity, listed_value, with_item, reference_to, signature_or, operator_or_literal, meaning}
+use Rattle.cpp_grammar.specs.Makers.{Maker, new_symbol, new_special, new_of_name, new_construction, new_clone, new_in_std, new_instance, new_local, new_abbreviation, new_source, new_operator, new_literal_operator, new_constructor, new_destructor, new_unnamed, new_string_literal, new_conversion, new_builtin, new_sized_float, new_constrained, new_vendor, new_pointer, new_lvalue, new_rvalue, new_array, new_bounded, new_member_pointer, new_function_type, new_qualified, new_vector, new_complex, new_expansion, new_integer, new_boolean, new_null_pointer, new_encoding_literal, new_address_of, new_pack}
+use Rattle.cpp_grammar.specs.Builders.{Argument, argument, built, tree_in}
+use Rattle.cpp_grammar.specs.Row.{Source, tree_at, list_at, parameters_at, piece_at, the_name, qualified_by, Made, of, only, extending, tagging, applying, packing, Own, nested_name, encoding, non_virtual_thunk, virtual_thunk, covariant_thunk, local_name, in_default, nest_end, closure, first_of_operator, reference, lvalue_signature, rvalue_signature, Form, handed, finished, the_byte, makes, a_piece, cell, item, a_name, in_place, own}
+use Rattle.cpp_grammar.specs.Own.{own_meaning}
+use Rattle.cpp_grammar.specs.Meant.{all_given, given, made, meant}
+use Rattle.cpp_grammar.specs.Rows.{row_of}
 
 -- the tree is closed under a condition, and so are the scopes in it
 pub record Good (s : Type 0) (t : Term) : Type 0 where
@@ -81,14 +87,6 @@ good_within : (s : Type 0) (a b : Term) → Good s a → Good s b → Good s (wi
 unfolding is_open
 good_within s a b g h = record { closed = λ c. or_no _ _ (g.closed c) (h.closed c); scopes = (g.scopes, h.scopes) }
 
-good_member : (s : Type 0) (a b : Term) → Good s a → Good s b → Good s (member_pointer a b)
-unfolding is_open
-good_member s a b g h = record { closed = λ c. or_no _ _ (g.closed c) (h.closed c); scopes = (g.scopes, h.scopes) }
-
-good_bounded : (s : Type 0) (a b : Term) → Good s a → Good s b → Good s (bounded a b)
-unfolding is_open
-good_bounded s a b g h = record { closed = λ c. or_no _ _ (g.closed c) (h.closed c); scopes = (g.scopes, h.scopes) }
-
 good_nil : (s : Type 0) → Good s nil
 unfolding is_open
 good_nil s = record { closed = λ h. refl; scopes = tt }
@@ -134,12 +132,6 @@ unfolding prefix_tree
 good_prefix s outermost g = good_nothing s
 good_prefix s (behind t listed) g = g
 
-good_function : (s : Type 0) (c_linkage noexcept : Bool) (ref : RefQualifier) (a b : Term) → Good s a → Good s b → Good s (function_type c_linkage noexcept ref a (parameters b))
-unfolding is_open
-good_function s c_linkage noexcept ref a b g h =
-    let p = good_parameters s b h in
-    record { closed = λ c. or_no _ _ (g.closed c) (p.closed c); scopes = (g.scopes, p.scopes) }
-
 good_reference : (s : Type 0) (byte : ℕ) (v : Value) → Good s (tree_of v) → Good s (tree_of (reference_to byte v))
 unfolding reference_to tree_of is_open
 good_reference s byte v g = go (nat_eq byte 82)
@@ -163,7 +155,7 @@ good_operator s first v g = g
 none_free : (t : Term) → is_open t ≡ false → HasNoneFree (arguments_of t)
 unfolding arguments_of is_open
 none_free (instance template arguments) h = or_right_no (is_open template) (is_open arguments) h
-none_free (local encoding entity discriminator) h = none_free entity h
+none_free (local e entity discriminator) h = none_free entity h
 none_free (of_default digits entity) h = none_free entity h
 none_free (symbol e suffix) h = tt
 none_free _ h = tt
@@ -200,122 +192,114 @@ HasClosedName _ vs = Unit {0}
 good_pair : (s : Type 0) (vs : List Value) (j k : ℕ) → AllGood s vs → Good s (list (tree_of (part vs j)) (no_items (part vs k)))
 good_pair s vs j k all = good_list s _ _ (good_part s vs j all) (good_no_items s (part vs k) (good_part s vs k all))
 
-good_name : (s : Type 0) (vs : List Value) → AllGood s vs → Good s (applied (tree_of (part vs 0)) (part vs 1))
-good_name s vs all = good_applied s _ (part vs 1) (good_part s vs 0 all) (good_part s vs 1 all)
+-- ## Rows
 
-good_default_entity : (s : Type 0) (vs : List Value) → AllGood s vs → Good s (held (default_entity (text_of (part vs 0)) (part vs 1)))
-unfolding default_entity held is_open
-good_default_entity s vs all = let g = good_part s vs 1 all in record { closed = g.closed; scopes = g.scopes }
+-- Generated by tools/trees.py. What a maker makes of good arguments is good
+built_good : (s : Type 0) (m : Maker) (xs : List Argument) → ((k : ℕ) → Good s (tree_in (argument xs k))) → Good s (built m xs)
+unfolding built is_open
+built_good s new_symbol xs all = record { closed = λ h. refl; scopes = (all 0).scopes }
+built_good s new_special xs all = record { closed = λ h. refl; scopes = (all 1).scopes }
+built_good s new_of_name xs all = record { closed = λ h. refl; scopes = (all 1).scopes }
+built_good s new_construction xs all = record { closed = λ h. refl; scopes = ((all 0).scopes, (all 2).scopes) }
+built_good s new_clone xs all = record { closed = λ h. refl; scopes = (all 1).scopes }
+built_good s new_in_std xs all = record { closed = (all 0).closed; scopes = (all 0).scopes }
+built_good s new_instance xs all = record { closed = λ h. or_no _ _ ((all 0).closed h) ((all 1).closed h); scopes = ((all 0).scopes, (all 1).scopes) }
+built_good s new_local xs all = record { closed = (all 1).closed; scopes = ((all 0).scopes, (all 1).scopes) }
+built_good s new_abbreviation xs all = record { closed = λ h. refl; scopes = tt }
+built_good s new_source xs all = record { closed = λ h. refl; scopes = tt }
+built_good s new_operator xs all = record { closed = λ h. refl; scopes = tt }
+built_good s new_literal_operator xs all = record { closed = λ h. refl; scopes = tt }
+built_good s new_constructor xs all = record { closed = λ h. refl; scopes = tt }
+built_good s new_destructor xs all = record { closed = λ h. refl; scopes = tt }
+built_good s new_unnamed xs all = record { closed = λ h. refl; scopes = tt }
+built_good s new_string_literal xs all = record { closed = λ h. refl; scopes = tt }
+built_good s new_conversion xs all = record { closed = (all 0).closed; scopes = (all 0).scopes }
+built_good s new_builtin xs all = record { closed = λ h. refl; scopes = tt }
+built_good s new_sized_float xs all = record { closed = λ h. refl; scopes = tt }
+built_good s new_constrained xs all = record { closed = (all 1).closed; scopes = (all 1).scopes }
+built_good s new_vendor xs all = record { closed = λ h. refl; scopes = tt }
+built_good s new_pointer xs all = record { closed = (all 0).closed; scopes = (all 0).scopes }
+built_good s new_lvalue xs all = record { closed = (all 0).closed; scopes = (all 0).scopes }
+built_good s new_rvalue xs all = record { closed = (all 0).closed; scopes = (all 0).scopes }
+built_good s new_array xs all = record { closed = (all 1).closed; scopes = (all 1).scopes }
+built_good s new_bounded xs all = record { closed = λ h. or_no _ _ ((all 0).closed h) ((all 1).closed h); scopes = ((all 0).scopes, (all 1).scopes) }
+built_good s new_member_pointer xs all = record { closed = λ h. or_no _ _ ((all 0).closed h) ((all 1).closed h); scopes = ((all 0).scopes, (all 1).scopes) }
+built_good s new_function_type xs all = record { closed = λ h. or_no _ _ ((all 3).closed h) ((all 4).closed h); scopes = ((all 3).scopes, (all 4).scopes) }
+built_good s new_qualified xs all = record { closed = (all 1).closed; scopes = (all 1).scopes }
+built_good s new_vector xs all = record { closed = (all 1).closed; scopes = (all 1).scopes }
+built_good s new_complex xs all = record { closed = (all 0).closed; scopes = (all 0).scopes }
+built_good s new_expansion xs all = record { closed = (all 0).closed; scopes = (all 0).scopes }
+built_good s new_integer xs all = record { closed = (all 0).closed; scopes = (all 0).scopes }
+built_good s new_boolean xs all = record { closed = λ h. refl; scopes = tt }
+built_good s new_null_pointer xs all = record { closed = λ h. refl; scopes = tt }
+built_good s new_encoding_literal xs all = record { closed = λ h. refl; scopes = (all 0).scopes }
+built_good s new_address_of xs all = record { closed = λ h. refl; scopes = (all 0).scopes }
+built_good s new_pack xs all = record { closed = (all 0).closed; scopes = (all 0).scopes }
+
+given_good : (s : Type 0) (byte : ℕ) (around : Around) (vs : List Value) (source : Source) → GoodPrefix s around.prefix → AllGood s vs → Good s (tree_in (given byte around vs source))
+unfolding given tree_in
+given_good s byte around vs (tree_at k) pre all = good_part s vs k all
+given_good s byte around vs (list_at k) pre all = good_no_items s (part vs k) (good_part s vs k all)
+given_good s byte around vs (parameters_at k) pre all = good_parameters s (tree_of (part vs k)) (good_part s vs k all)
+given_good s byte around vs (piece_at k) pre all = good_piece s (part vs k) (good_held s vs k all)
+given_good s byte around vs the_name pre all = good_prefix s around.prefix pre
+given_good s byte around vs (qualified_by r v c) pre all = good_nothing s
+given_good s byte around vs _ pre all = good_nothing s
+
+all_given_good : (s : Type 0) (byte : ℕ) (around : Around) (vs : List Value) (ss : List Source) → GoodPrefix s around.prefix → AllGood s vs → (k : ℕ) → Good s (tree_in (argument (all_given byte around vs ss) k))
+unfolding all_given argument tree_in
+all_given_good s byte around vs [] pre all k = good_nothing s
+all_given_good s byte around vs (source ∷ ss) pre all zero = given_good s byte around vs source pre all
+all_given_good s byte around vs (source ∷ ss) pre all (suc k) = all_given_good s byte around vs ss pre all k
+
+pub made_tree_good : (s : Type 0) (byte : ℕ) (around : Around) (vs : List Value) (m : Made) → GoodPrefix s around.prefix → AllGood s vs → Good s (made byte around vs m)
+unfolding made with_tag is_open
+made_tree_good s byte around vs (of maker sources) pre all = built_good s maker _ (all_given_good s byte around vs sources pre all)
+made_tree_good s byte around vs (only source) pre all = given_good s byte around vs source pre all
+made_tree_good s byte around vs (extending m) pre all = good_extended s around.prefix _ pre (made_tree_good s byte around vs m pre all)
+made_tree_good s byte around vs (tagging k) pre all = let g = good_prefix s around.prefix pre in record { closed = g.closed; scopes = g.scopes }
+made_tree_good s byte around vs (applying m k) pre all = good_applied s _ (part vs k) (made_tree_good s byte around vs m pre all) (good_part s vs k all)
+made_tree_good s byte around vs (packing k) pre all = let g = good_no_items s (part vs k) (good_part s vs k all) in record { closed = g.closed; scopes = g.scopes }
+
+-- all but an encoding, whose name is known to be closed
+abbrev IsOther : Form → Type 0
+IsOther (own encoding most) = ⊥
+IsOther _ = Unit {0}
+
+own_good : (s : Type 0) (o : Own) (most byte : ℕ) (around : Around) (vs : List Value) → IsOther (own o most) → GoodPrefix s around.prefix → AllGood s vs → Good s (held (own_meaning o byte around vs))
+unfolding own_meaning held is_open default_entity listed_value
+own_good s encoding most byte around vs other pre all = absurd other
+own_good s non_virtual_thunk most byte around vs other pre all = let g = good_part s vs 2 all in record { closed = λ h. refl; scopes = g.scopes }
+own_good s virtual_thunk most byte around vs other pre all = let g = good_part s vs 4 all in record { closed = λ h. refl; scopes = g.scopes }
+own_good s covariant_thunk most byte around vs other pre all = let g = good_part s vs 2 all in record { closed = λ h. refl; scopes = g.scopes }
+own_good s nested_name most byte around vs other pre all = good_part s vs 4 all
+own_good s local_name most byte around vs other pre all =
+    let e = good_part s vs 0 all in let g = good_part s vs 2 all in record { closed = g.closed; scopes = (e.scopes, g.scopes) }
+own_good s in_default most byte around vs other pre all = let g = good_part s vs 1 all in record { closed = g.closed; scopes = g.scopes }
+own_good s nest_end most byte around vs other pre all = good_prefix s around.prefix pre
+own_good s closure most byte around vs other pre all = let g = good_parameters s _ (good_pair s vs 0 1 all) in record { closed = g.closed; scopes = g.scopes }
+own_good s first_of_operator most byte around vs other pre all = good_operator s byte (part vs 0) (good_held s vs 0 all)
+own_good s reference most byte around vs other pre all = good_reference s byte (part vs 0) (good_part s vs 0 all)
+own_good s lvalue_signature most byte around vs other pre all = good_signature_or s lvalue_only (part vs 0) (good_held s vs 0 all)
+own_good s rvalue_signature most byte around vs other pre all = good_signature_or s rvalue_only (part vs 0) (good_held s vs 0 all)
+own_good s _ most byte around vs other pre all = record { closed = λ h. refl; scopes = tt }
+
+meant_good : (s : Type 0) (f : Form) (byte : ℕ) (around : Around) (vs : List Value) → IsOther f → GoodPrefix s around.prefix → AllGood s vs → Good s (held (meant f byte around vs))
+unfolding meant held is_open listed_value with_item
+meant_good s (handed k) byte around vs other pre all = good_held s vs k all
+meant_good s (finished k) byte around vs other pre all = good_part s vs k all
+meant_good s the_byte byte around vs other pre all = good_nothing s
+meant_good s (makes m listing) byte around vs other pre all = made_tree_good s byte around vs m pre all
+meant_good s (a_piece m) byte around vs other pre all = made_tree_good s byte around vs m pre all
+meant_good s (cell first rest) byte around vs other pre all = good_pair s vs first rest all
+meant_good s (item first rest) byte around vs other pre all = good_list s _ _ (good_part s vs first all) (good_part s vs rest all)
+meant_good s (a_name listing) byte around vs other pre all = good_applied s _ (part vs 1) (good_part s vs 0 all) (good_part s vs 1 all)
+meant_good s in_place byte around vs other pre all = good_applied s _ (part vs 1) (good_part s vs 0 all) (good_part s vs 1 all)
+meant_good s (own o most) byte around vs other pre all = own_good s o most byte around vs other pre all
 
 pub meaning_good : (s : Type 0) (production : Production) (byte : ℕ) (around : Around) (vs : List Value) → GoodPrefix s around.prefix → AllGood s vs → HasClosedName production vs →
     Good s (held (meaning production byte around vs))
-unfolding meaning held tree_of is_open listed_value qualified_by function_of with_item
-meaning_good s Production.Symbol byte around vs pre all name = let g = good_part s vs 1 all in record { closed = λ h. refl; scopes = g.scopes }
-meaning_good s Production.Special byte around vs pre all name = good_held s vs 0 all
+unfolding meaning held
 meaning_good s Production.Encoding byte around vs pre all name =
     good_encoding s (part vs 0) (no_items (part vs 1)) name (good_part s vs 0 all).scopes (good_no_items s (part vs 1) (good_part s vs 1 all)).scopes
-meaning_good s Production.SpecialType byte around vs pre all name = let g = good_part s vs 0 all in record { closed = λ h. refl; scopes = g.scopes }
-meaning_good s Production.SpecialName byte around vs pre all name = let g = good_part s vs 0 all in record { closed = λ h. refl; scopes = g.scopes }
-meaning_good s Production.ConstructionVtable byte around vs pre all name =
-    let g = good_part s vs 0 all in let b = good_part s vs 3 all in record { closed = λ h. refl; scopes = (g.scopes, b.scopes) }
-meaning_good s Production.OtherSpecial byte around vs pre all name = good_held s vs 1 all
-meaning_good s Production.Clone byte around vs pre all name = let g = good_part s vs 1 all in record { closed = λ h. refl; scopes = g.scopes }
-meaning_good s Production.NonVirtualThunk byte around vs pre all name = let g = good_part s vs 2 all in record { closed = λ h. refl; scopes = g.scopes }
-meaning_good s Production.VirtualThunk byte around vs pre all name = let g = good_part s vs 4 all in record { closed = λ h. refl; scopes = g.scopes }
-meaning_good s Production.CovariantThunk byte around vs pre all name = let g = good_part s vs 2 all in record { closed = λ h. refl; scopes = g.scopes }
-meaning_good s Production.NestedName byte around vs pre all name = good_part s vs 4 all
-meaning_good s Production.NameWithS byte around vs pre all name = good_held s vs 0 all
-meaning_good s Production.LocalName byte around vs pre all name =
-    let e = good_part s vs 0 all in let g = good_part s vs 2 all in record { closed = g.closed; scopes = (e.scopes, g.scopes) }
-meaning_good s Production.DefaultEntity byte around vs pre all name = good_default_entity s vs all
-meaning_good s Production.DefaultTypeEntity byte around vs pre all name = good_default_entity s vs all
-meaning_good s Production.InternalName byte around vs pre all name = good_name s vs all
-meaning_good s Production.SourceName byte around vs pre all name = good_name s vs all
-meaning_good s Production.LocalTypeName byte around vs pre all name = good_name s vs all
-meaning_good s Production.OperatorName byte around vs pre all name = good_name s vs all
-meaning_good s Production.OtherOperatorName byte around vs pre all name = good_name s vs all
-meaning_good s Production.OperatorNameWithC byte around vs pre all name = good_name s vs all
-meaning_good s Production.ComponentWithC byte around vs pre all name = good_held s vs 0 all
-meaning_good s Production.Conversion byte around vs pre all name =
-    let g = good_part s vs 0 all in good_extended s around.prefix (conversion (tree_of (part vs 0))) pre (record { closed = g.closed; scopes = g.scopes })
-meaning_good s Production.Constructor byte around vs pre all name = good_name s vs all
-meaning_good s Production.Destructor byte around vs pre all name = good_name s vs all
-meaning_good s Production.StdName byte around vs pre all name = good_name s vs all
-meaning_good s Production.AbbreviatedName byte around vs pre all name = good_name s vs all
-meaning_good s Production.Tag byte around vs pre all name = good_name s vs all
-meaning_good s Production.TypeTag byte around vs pre all name = good_name s vs all
-meaning_good s Production.LocalTypePiece byte around vs pre all name = good_held s vs 0 all
-meaning_good s Production.OperatorPiece byte around vs pre all name = good_held s vs 0 all
-meaning_good s Production.NestWithS byte around vs pre all name = good_held s vs 0 all
-meaning_good s Production.NestParameter byte around vs pre all name = good_held s vs 1 all
-meaning_good s Production.NestTag byte around vs pre all name = good_held s vs 1 all
-meaning_good s Production.NestInternal byte around vs pre all name = good_held s vs 1 all
-meaning_good s Production.NestLocalType byte around vs pre all name = good_held s vs 1 all
-meaning_good s Production.NestSource byte around vs pre all name = good_held s vs 1 all
-meaning_good s Production.NestStd byte around vs pre all name = good_held s vs 2 all
-meaning_good s Production.NestTemplate byte around vs pre all name = good_held s vs 1 all
-meaning_good s Production.NestArguments byte around vs pre all name = good_held s vs 3 all
-meaning_good s Production.NestInstance byte around vs pre all name = good_held s vs 2 all
-meaning_good s Production.NestNext byte around vs pre all name = good_held s vs 1 all
-meaning_good s Production.Holder byte around vs pre all name = good_held s vs 1 all
-meaning_good s Production.NestEnd byte around vs pre all name = good_prefix s around.prefix pre
-meaning_good s Production.StringLiteral byte around vs pre all name = good_extended s around.prefix string_literal pre (record { closed = λ h. refl; scopes = tt })
-meaning_good s Production.NestedType byte around vs pre all name = good_held s vs 0 all
-meaning_good s Production.Discriminator byte around vs pre all name = good_held s vs 0 all
-meaning_good s Production.Lambda byte around vs pre all name = let g = good_parameters s _ (good_pair s vs 0 1 all) in record { closed = g.closed; scopes = g.scopes }
-meaning_good s Production.RestrictType byte around vs pre all name = let g = good_part s vs 2 all in record { closed = g.closed; scopes = g.scopes }
-meaning_good s Production.VolatileType byte around vs pre all name = let g = good_part s vs 1 all in record { closed = g.closed; scopes = g.scopes }
-meaning_good s Production.ConstType byte around vs pre all name = let g = good_part s vs 0 all in record { closed = g.closed; scopes = g.scopes }
-meaning_good s Production.ReferenceType byte around vs pre all name = good_reference s byte (part vs 0) (good_part s vs 0 all)
-meaning_good s Production.PlainType byte around vs pre all name = good_part s vs 0 all
-meaning_good s Production.QualifiedPlain byte around vs pre all name = good_part s vs 0 all
-meaning_good s Production.TypeWithD byte around vs pre all name = good_part s vs 0 all
-meaning_good s Production.PlainWithD byte around vs pre all name = good_part s vs 0 all
-meaning_good s Production.ItemWithD byte around vs pre all name = good_part s vs 0 all
-meaning_good s Production.ItemIsType byte around vs pre all name = good_held s vs 0 all
-meaning_good s Production.Expansion byte around vs pre all name = let g = good_part s vs 0 all in record { closed = g.closed; scopes = g.scopes }
-meaning_good s Production.Vector byte around vs pre all name = let g = good_part s vs 2 all in record { closed = g.closed; scopes = g.scopes }
-meaning_good s Production.NoexceptFunction byte around vs pre all name = good_function s (is_there (part vs 1)) true (ref_of (part vs 3)) _ _ (good_part s vs 2 all) (good_part s vs 3 all)
-meaning_good s Production.Function byte around vs pre all name = good_function s (is_there (part vs 0)) false (ref_of (part vs 2)) _ _ (good_part s vs 1 all) (good_part s vs 2 all)
-meaning_good s Production.Complex byte around vs pre all name = let g = good_part s vs 0 all in record { closed = g.closed; scopes = g.scopes }
-meaning_good s Production.Pointer byte around vs pre all name = let g = good_part s vs 0 all in record { closed = g.closed; scopes = g.scopes }
-meaning_good s Production.ArrayType byte around vs pre all name = good_held s vs 0 all
-meaning_good s Production.AnyArray byte around vs pre all name = good_held s vs 0 all
-meaning_good s Production.LengthArray byte around vs pre all name = let g = good_part s vs 1 all in record { closed = g.closed; scopes = g.scopes }
-meaning_good s Production.BoundedArray byte around vs pre all name = good_bounded s _ _ (good_part s vs 0 all) (good_part s vs 2 all)
-meaning_good s Production.MemberPointer byte around vs pre all name = good_member s _ _ (good_part s vs 0 all) (good_part s vs 1 all)
-meaning_good s Production.Parameter byte around vs pre all name = good_name s vs all
-meaning_good s Production.TypeWithS byte around vs pre all name = good_name s vs all
-meaning_good s Production.LocalType byte around vs pre all name =
-    let e = good_part s vs 0 all in let g = good_part s vs 2 all in record { closed = g.closed; scopes = (e.scopes, g.scopes) }
-meaning_good s Production.TypeInStd byte around vs pre all name = good_held s vs 0 all
-meaning_good s Production.TaggedStdType byte around vs pre all name = good_name s vs all
-meaning_good s Production.AbbreviatedType byte around vs pre all name = good_held s vs 0 all
-meaning_good s Production.RestLvalue byte around vs pre all name = good_signature_or s lvalue_only (part vs 0) (good_held s vs 0 all)
-meaning_good s Production.RestRvalue byte around vs pre all name = good_signature_or s rvalue_only (part vs 0) (good_held s vs 0 all)
-meaning_good s Production.LvalueItem byte around vs pre all name = good_list s _ _ (good_part s vs 0 all) (good_part s vs 1 all)
-meaning_good s Production.RvalueItem byte around vs pre all name = good_list s _ _ (good_part s vs 0 all) (good_part s vs 1 all)
-meaning_good s Production.RestItem byte around vs pre all name = good_list s _ _ (good_part s vs 0 all) (good_part s vs 1 all)
-meaning_good s Production.Items byte around vs pre all name = good_pair s vs 0 1 all
-meaning_good s Production.Arguments byte around vs pre all name = good_no_items s (part vs 0) (good_part s vs 0 all)
-meaning_good s Production.PackArgument byte around vs pre all name = good_pair s vs 0 2 all
-meaning_good s Production.LiteralArgument byte around vs pre all name = good_pair s vs 0 2 all
-meaning_good s Production.AnyArgument byte around vs pre all name = good_pair s vs 0 1 all
-meaning_good s Production.AnyElement byte around vs pre all name = good_pair s vs 0 1 all
-meaning_good s Production.PlainArgument byte around vs pre all name = good_part s vs 0 all
-meaning_good s Production.ArgumentWithT byte around vs pre all name = good_part s vs 0 all
-meaning_good s Production.ParameterArgument byte around vs pre all name = good_name s vs all
-meaning_good s Production.DeclaredArgument byte around vs pre all name = good_part s vs 1 all
-meaning_good s Production.OneLiteral byte around vs pre all name = good_held s vs 0 all
-meaning_good s Production.OnePack byte around vs pre all name = let g = good_no_items s (part vs 0) (good_part s vs 0 all) in record { closed = g.closed; scopes = g.scopes }
-meaning_good s Production.ConstrainedAuto byte around vs pre all name = let g = good_part s vs 0 all in record { closed = g.closed; scopes = g.scopes }
-meaning_good s Production.Expression byte around vs pre all name = good_held s vs 0 all
-meaning_good s Production.AddressExpression byte around vs pre all name = good_held s vs 1 all
-meaning_good s Production.ParameterExpression byte around vs pre all name = good_held s vs 0 all
-meaning_good s Production.LiteralElement byte around vs pre all name = good_pair s vs 0 2 all
-meaning_good s Production.Address byte around vs pre all name = let g = good_part s vs 2 all in record { closed = λ h. refl; scopes = g.scopes }
-meaning_good s Production.EncodingLiteral byte around vs pre all name = let g = good_part s vs 1 all in record { closed = λ h. refl; scopes = g.scopes }
-meaning_good s Production.LiteralWithD byte around vs pre all name = good_held s vs 0 all
-meaning_good s Production.IntegerLiteral byte around vs pre all name = let g = good_part s vs 0 all in record { closed = g.closed; scopes = g.scopes }
-meaning_good s Production.OperatorL byte around vs pre all name = good_operator s byte (part vs 0) (good_held s vs 0 all)
-meaning_good s _ byte around vs pre all name = record { closed = λ h. refl; scopes = tt }
+meaning_good s production byte around vs pre all name = meant_good s (row_of production).form byte around vs tt pre all

@@ -11,6 +11,7 @@ pub mod ListedRows
 pub mod RescopedRows
 pub mod GeneratedRows
 pub mod Ways
+pub mod Steps
 pub mod ClosedValues
 pub mod ClosedStates
 pub mod ClosedParts

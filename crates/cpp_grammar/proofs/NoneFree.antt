@@ -1,12 +1,18 @@
 -- Of values in which no parameters are free a production makes one in which none are.
 use Rattle.std.proofs.Common.{◌≡◌, refl, ℕ, zero, suc, List, [], ◌∷◌, Bool, true, false, ◌&&◌, cond, nat_eq}
 use Rattle.cpp_grammar.specs.declared.production.Production.{Production}
-use Rattle.cpp_grammar.specs.Term.{RefQualifier, lvalue_only, rvalue_only, Term, symbol, function, within, instance, string_literal, conversion, lvalue, rvalue, member_pointer, function_type, nil, list, absent, bounded}
+use Rattle.cpp_grammar.specs.Term.{RefQualifier, lvalue_only, rvalue_only, Term, symbol, function, within, instance, lvalue, rvalue, nil, list, absent}
 use Rattle.cpp_grammar.specs.Scope.{is_open, has_return_type}
-use Rattle.cpp_grammar.specs.Values.{Around, Prefix, outermost, behind, prefix_tree, Value, nothing_there, letter, piece, named, tree_of, text_of, piece_of, qualifiers_of, ref_of, is_there, part}
-use Rattle.cpp_grammar.specs.Between.{extended, applied, no_items}
-use Rattle.cpp_grammar.specs.Meaning.{is_void, is_nil, parameters, encoding_of, default_entity, qualified_by, listed_value, function_of, with_item, reference_to, signature_or, operator_or_literal, meaning}
+use Rattle.cpp_grammar.specs.Values.{Around, Prefix, outermost, behind, prefix_tree, Value, nothing_there, letter, piece, named, tree_of, piece_of, qualifiers_of, ref_of, is_there, part}
+use Rattle.cpp_grammar.specs.Between.{extended, applied, no_items, with_tag}
+use Rattle.cpp_grammar.specs.Meaning.{is_void, is_nil, parameters, encoding_of, default_entity, listed_value, with_item, reference_to, signature_or, operator_or_literal, meaning}
 use Rattle.cpp_grammar.proofs.ClosedValues.{held, or_no}
+use Rattle.cpp_grammar.specs.Makers.{Maker, new_symbol, new_special, new_of_name, new_construction, new_clone, new_in_std, new_instance, new_local, new_abbreviation, new_source, new_operator, new_literal_operator, new_constructor, new_destructor, new_unnamed, new_string_literal, new_conversion, new_builtin, new_sized_float, new_constrained, new_vendor, new_pointer, new_lvalue, new_rvalue, new_array, new_bounded, new_member_pointer, new_function_type, new_qualified, new_vector, new_complex, new_expansion, new_integer, new_boolean, new_null_pointer, new_encoding_literal, new_address_of, new_pack}
+use Rattle.cpp_grammar.specs.Builders.{Argument, argument, built, tree_in}
+use Rattle.cpp_grammar.specs.Row.{Source, tree_at, list_at, parameters_at, piece_at, the_name, qualified_by, Made, of, only, extending, tagging, applying, packing, Own, nested_name, encoding, local_name, in_default, nest_end, closure, first_of_operator, reference, lvalue_signature, rvalue_signature, Form, handed, finished, the_byte, makes, a_piece, cell, item, a_name, in_place, own}
+use Rattle.cpp_grammar.specs.Own.{own_meaning}
+use Rattle.cpp_grammar.specs.Meant.{all_given, given, made, meant}
+use Rattle.cpp_grammar.specs.Rows.{row_of}
 
 -- no parameters are free in the tree
 abbrev pub HasNone : Term → Type 0
@@ -39,10 +45,6 @@ none_part vs k all = none_tree (part vs k) (none_held vs k all)
 
 -- ## Terms
 
-none_list : (a b : Term) → HasNone a → HasNone b → HasNone (list a b)
-unfolding is_open
-none_list a b g h = or_no _ _ g h
-
 pub none_instance : (a b : Term) → HasNone a → HasNone b → HasNone (instance a b)
 unfolding is_open
 none_instance a b g h = or_no _ _ g h
@@ -50,14 +52,6 @@ none_instance a b g h = or_no _ _ g h
 none_within : (a b : Term) → HasNone a → HasNone b → HasNone (within a b)
 unfolding is_open
 none_within a b g h = or_no _ _ g h
-
-none_member : (a b : Term) → HasNone a → HasNone b → HasNone (member_pointer a b)
-unfolding is_open
-none_member a b g h = or_no _ _ g h
-
-none_bounded : (a b : Term) → HasNone a → HasNone b → HasNone (bounded a b)
-unfolding is_open
-none_bounded a b g h = or_no _ _ g h
 
 pub none_no_items : (v : Value) → HasNone (tree_of v) → HasNone (no_items v)
 unfolding no_items tree_of is_open
@@ -96,10 +90,6 @@ unfolding prefix_tree is_open
 none_prefix outermost g = refl
 none_prefix (behind t listed) g = g
 
-none_function : (c_linkage noexcept : Bool) (ref : RefQualifier) (a b : Term) → HasNone a → HasNone b → HasNone (function_type c_linkage noexcept ref a (parameters b))
-unfolding is_open
-none_function c_linkage noexcept ref a b g h = or_no _ _ g (none_parameters b h)
-
 none_reference : (byte : ℕ) (v : Value) → HasNone (tree_of v) → HasNone (tree_of (reference_to byte v))
 unfolding reference_to tree_of is_open
 none_reference byte v g = go (nat_eq byte 82)
@@ -132,115 +122,107 @@ none_encoding v (list a b) = go (has_return_type (tree_of v))
     go false = refl
 none_encoding v _ = refl
 
--- ## Productions
-
-none_pair : (vs : List Value) (j k : ℕ) → AllNone vs → HasNone (list (tree_of (part vs j)) (no_items (part vs k)))
-none_pair vs j k all = none_list _ _ (none_part vs j all) (none_no_items (part vs k) (none_part vs k all))
-
-none_name : (vs : List Value) → AllNone vs → HasNone (applied (tree_of (part vs 0)) (part vs 1))
-none_name vs all = none_applied _ (part vs 1) (none_part vs 0 all) (none_part vs 1 all)
-
-none_default_entity : (vs : List Value) → AllNone vs → HasNone (held (default_entity (text_of (part vs 0)) (part vs 1)))
-unfolding default_entity held is_open
-none_default_entity vs all = none_part vs 1 all
-
 -- the parameters of a lambda
 pub none_signature : (vs : List Value) → AllNone vs → HasNone (parameters (list (tree_of (part vs 0)) (no_items (part vs 1))))
-none_signature vs all = none_parameters (list (tree_of (part vs 0)) (no_items (part vs 1))) (none_pair vs 0 1 all)
+unfolding is_open
+none_signature vs all = none_parameters (list (tree_of (part vs 0)) (no_items (part vs 1))) (or_no _ _ (none_part vs 0 all) (none_no_items (part vs 1) (none_part vs 1 all)))
+
+-- ## Rows
+
+-- Generated by tools/trees.py. In what a maker makes of arguments in which none are free
+built_none : (m : Maker) (xs : List Argument) → ((k : ℕ) → HasNone (tree_in (argument xs k))) → HasNone (built m xs)
+unfolding built is_open
+built_none new_symbol xs all = refl
+built_none new_special xs all = refl
+built_none new_of_name xs all = refl
+built_none new_construction xs all = refl
+built_none new_clone xs all = refl
+built_none new_in_std xs all = all 0
+built_none new_instance xs all = or_no _ _ (all 0) (all 1)
+built_none new_local xs all = all 1
+built_none new_abbreviation xs all = refl
+built_none new_source xs all = refl
+built_none new_operator xs all = refl
+built_none new_literal_operator xs all = refl
+built_none new_constructor xs all = refl
+built_none new_destructor xs all = refl
+built_none new_unnamed xs all = refl
+built_none new_string_literal xs all = refl
+built_none new_conversion xs all = all 0
+built_none new_builtin xs all = refl
+built_none new_sized_float xs all = refl
+built_none new_constrained xs all = all 1
+built_none new_vendor xs all = refl
+built_none new_pointer xs all = all 0
+built_none new_lvalue xs all = all 0
+built_none new_rvalue xs all = all 0
+built_none new_array xs all = all 1
+built_none new_bounded xs all = or_no _ _ (all 0) (all 1)
+built_none new_member_pointer xs all = or_no _ _ (all 0) (all 1)
+built_none new_function_type xs all = or_no _ _ (all 3) (all 4)
+built_none new_qualified xs all = all 1
+built_none new_vector xs all = all 1
+built_none new_complex xs all = all 0
+built_none new_expansion xs all = all 0
+built_none new_integer xs all = all 0
+built_none new_boolean xs all = refl
+built_none new_null_pointer xs all = refl
+built_none new_encoding_literal xs all = refl
+built_none new_address_of xs all = refl
+built_none new_pack xs all = all 0
+
+given_none : (byte : ℕ) (around : Around) (vs : List Value) (s : Source) → PrefixHasNone around.prefix → AllNone vs → HasNone (tree_in (given byte around vs s))
+unfolding given tree_in is_open
+given_none byte around vs (tree_at k) pre all = none_part vs k all
+given_none byte around vs (list_at k) pre all = none_no_items (part vs k) (none_part vs k all)
+given_none byte around vs (parameters_at k) pre all = none_parameters (tree_of (part vs k)) (none_part vs k all)
+given_none byte around vs (piece_at k) pre all = none_piece (part vs k) (none_held vs k all)
+given_none byte around vs the_name pre all = none_prefix around.prefix pre
+given_none byte around vs (qualified_by r v c) pre all = refl
+given_none byte around vs _ pre all = refl
+
+all_given_none : (byte : ℕ) (around : Around) (vs : List Value) (ss : List Source) → PrefixHasNone around.prefix → AllNone vs → (k : ℕ) → HasNone (tree_in (argument (all_given byte around vs ss) k))
+unfolding all_given argument tree_in is_open
+all_given_none byte around vs [] pre all k = refl
+all_given_none byte around vs (s ∷ ss) pre all zero = given_none byte around vs s pre all
+all_given_none byte around vs (s ∷ ss) pre all (suc k) = all_given_none byte around vs ss pre all k
+
+pub made_none : (byte : ℕ) (around : Around) (vs : List Value) (m : Made) → PrefixHasNone around.prefix → AllNone vs → HasNone (made byte around vs m)
+unfolding made with_tag is_open
+made_none byte around vs (of maker sources) pre all = built_none maker _ (all_given_none byte around vs sources pre all)
+made_none byte around vs (only source) pre all = given_none byte around vs source pre all
+made_none byte around vs (extending m) pre all = none_extended around.prefix _ pre (made_none byte around vs m pre all)
+made_none byte around vs (tagging k) pre all = none_prefix around.prefix pre
+made_none byte around vs (applying m k) pre all = none_applied _ (part vs k) (made_none byte around vs m pre all) (none_part vs k all)
+made_none byte around vs (packing k) pre all = none_no_items (part vs k) (none_part vs k all)
+
+own_none : (o : Own) (byte : ℕ) (around : Around) (vs : List Value) → PrefixHasNone around.prefix → AllNone vs → HasNone (held (own_meaning o byte around vs))
+unfolding own_meaning held is_open default_entity listed_value
+own_none nested_name byte around vs pre all = none_part vs 4 all
+own_none encoding byte around vs pre all = none_encoding (part vs 0) (no_items (part vs 1))
+own_none local_name byte around vs pre all = none_part vs 2 all
+own_none in_default byte around vs pre all = none_part vs 1 all
+own_none nest_end byte around vs pre all = none_prefix around.prefix pre
+own_none closure byte around vs pre all = none_signature vs all
+own_none first_of_operator byte around vs pre all = none_operator byte (part vs 0) (none_held vs 0 all)
+own_none reference byte around vs pre all = none_reference byte (part vs 0) (none_part vs 0 all)
+own_none lvalue_signature byte around vs pre all = none_signature_or lvalue_only (part vs 0) (none_held vs 0 all)
+own_none rvalue_signature byte around vs pre all = none_signature_or rvalue_only (part vs 0) (none_held vs 0 all)
+own_none _ byte around vs pre all = refl
+
+meant_none : (f : Form) (byte : ℕ) (around : Around) (vs : List Value) → PrefixHasNone around.prefix → AllNone vs → HasNone (held (meant f byte around vs))
+unfolding meant held is_open listed_value with_item
+meant_none (handed k) byte around vs pre all = none_held vs k all
+meant_none (finished k) byte around vs pre all = none_part vs k all
+meant_none the_byte byte around vs pre all = refl
+meant_none (makes m listing) byte around vs pre all = made_none byte around vs m pre all
+meant_none (a_piece m) byte around vs pre all = made_none byte around vs m pre all
+meant_none (cell first rest) byte around vs pre all = or_no _ _ (none_part vs first all) (none_no_items (part vs rest) (none_part vs rest all))
+meant_none (item first rest) byte around vs pre all = or_no _ _ (none_part vs first all) (none_part vs rest all)
+meant_none (a_name listing) byte around vs pre all = none_applied _ (part vs 1) (none_part vs 0 all) (none_part vs 1 all)
+meant_none in_place byte around vs pre all = none_applied _ (part vs 1) (none_part vs 0 all) (none_part vs 1 all)
+meant_none (own o most) byte around vs pre all = own_none o byte around vs pre all
 
 pub meaning_none : (production : Production) (byte : ℕ) (around : Around) (vs : List Value) → PrefixHasNone around.prefix → AllNone vs → HasNone (held (meaning production byte around vs))
-unfolding meaning held tree_of is_open listed_value qualified_by function_of with_item
-meaning_none Production.Encoding byte around vs pre all = none_encoding (part vs 0) (no_items (part vs 1))
-meaning_none Production.Special byte around vs pre all = none_held vs 0 all
-meaning_none Production.OtherSpecial byte around vs pre all = none_held vs 1 all
-meaning_none Production.NestedName byte around vs pre all = none_part vs 4 all
-meaning_none Production.NameWithS byte around vs pre all = none_held vs 0 all
-meaning_none Production.LocalName byte around vs pre all = none_part vs 2 all
-meaning_none Production.DefaultEntity byte around vs pre all = none_default_entity vs all
-meaning_none Production.DefaultTypeEntity byte around vs pre all = none_default_entity vs all
-meaning_none Production.InternalName byte around vs pre all = none_name vs all
-meaning_none Production.SourceName byte around vs pre all = none_name vs all
-meaning_none Production.LocalTypeName byte around vs pre all = none_name vs all
-meaning_none Production.OperatorName byte around vs pre all = none_name vs all
-meaning_none Production.OtherOperatorName byte around vs pre all = none_name vs all
-meaning_none Production.OperatorNameWithC byte around vs pre all = none_name vs all
-meaning_none Production.ComponentWithC byte around vs pre all = none_held vs 0 all
-meaning_none Production.Conversion byte around vs pre all = none_extended around.prefix (conversion (tree_of (part vs 0))) pre (none_part vs 0 all)
-meaning_none Production.Constructor byte around vs pre all = none_name vs all
-meaning_none Production.Destructor byte around vs pre all = none_name vs all
-meaning_none Production.StdName byte around vs pre all = none_name vs all
-meaning_none Production.AbbreviatedName byte around vs pre all = none_name vs all
-meaning_none Production.Tag byte around vs pre all = none_name vs all
-meaning_none Production.TypeTag byte around vs pre all = none_name vs all
-meaning_none Production.LocalTypePiece byte around vs pre all = none_held vs 0 all
-meaning_none Production.OperatorPiece byte around vs pre all = none_held vs 0 all
-meaning_none Production.NestWithS byte around vs pre all = none_held vs 0 all
-meaning_none Production.NestParameter byte around vs pre all = none_held vs 1 all
-meaning_none Production.NestTag byte around vs pre all = none_held vs 1 all
-meaning_none Production.NestInternal byte around vs pre all = none_held vs 1 all
-meaning_none Production.NestLocalType byte around vs pre all = none_held vs 1 all
-meaning_none Production.NestSource byte around vs pre all = none_held vs 1 all
-meaning_none Production.NestStd byte around vs pre all = none_held vs 2 all
-meaning_none Production.NestTemplate byte around vs pre all = none_held vs 1 all
-meaning_none Production.NestArguments byte around vs pre all = none_held vs 3 all
-meaning_none Production.NestInstance byte around vs pre all = none_held vs 2 all
-meaning_none Production.NestNext byte around vs pre all = none_held vs 1 all
-meaning_none Production.Holder byte around vs pre all = none_held vs 1 all
-meaning_none Production.NestEnd byte around vs pre all = none_prefix around.prefix pre
-meaning_none Production.StringLiteral byte around vs pre all = none_extended around.prefix string_literal pre refl
-meaning_none Production.NestedType byte around vs pre all = none_held vs 0 all
-meaning_none Production.Discriminator byte around vs pre all = none_held vs 0 all
-meaning_none Production.Lambda byte around vs pre all = none_signature vs all
-meaning_none Production.RestrictType byte around vs pre all = none_part vs 2 all
-meaning_none Production.VolatileType byte around vs pre all = none_part vs 1 all
-meaning_none Production.ConstType byte around vs pre all = none_part vs 0 all
-meaning_none Production.ReferenceType byte around vs pre all = none_reference byte (part vs 0) (none_part vs 0 all)
-meaning_none Production.PlainType byte around vs pre all = none_part vs 0 all
-meaning_none Production.QualifiedPlain byte around vs pre all = none_part vs 0 all
-meaning_none Production.TypeWithD byte around vs pre all = none_part vs 0 all
-meaning_none Production.PlainWithD byte around vs pre all = none_part vs 0 all
-meaning_none Production.ItemWithD byte around vs pre all = none_part vs 0 all
-meaning_none Production.ItemIsType byte around vs pre all = none_held vs 0 all
-meaning_none Production.Expansion byte around vs pre all = none_part vs 0 all
-meaning_none Production.Vector byte around vs pre all = none_part vs 2 all
-meaning_none Production.NoexceptFunction byte around vs pre all = none_function (is_there (part vs 1)) true (ref_of (part vs 3)) (tree_of (part vs 2)) (tree_of (part vs 3)) (none_part vs 2 all) (none_part vs 3 all)
-meaning_none Production.Function byte around vs pre all = none_function (is_there (part vs 0)) false (ref_of (part vs 2)) (tree_of (part vs 1)) (tree_of (part vs 2)) (none_part vs 1 all) (none_part vs 2 all)
-meaning_none Production.Complex byte around vs pre all = none_part vs 0 all
-meaning_none Production.Pointer byte around vs pre all = none_part vs 0 all
-meaning_none Production.ArrayType byte around vs pre all = none_held vs 0 all
-meaning_none Production.AnyArray byte around vs pre all = none_held vs 0 all
-meaning_none Production.LengthArray byte around vs pre all = none_part vs 1 all
-meaning_none Production.BoundedArray byte around vs pre all = none_bounded (tree_of (part vs 0)) (tree_of (part vs 2)) (none_part vs 0 all) (none_part vs 2 all)
-meaning_none Production.MemberPointer byte around vs pre all = none_member (tree_of (part vs 0)) (tree_of (part vs 1)) (none_part vs 0 all) (none_part vs 1 all)
-meaning_none Production.Parameter byte around vs pre all = none_name vs all
-meaning_none Production.TypeWithS byte around vs pre all = none_name vs all
-meaning_none Production.LocalType byte around vs pre all = none_part vs 2 all
-meaning_none Production.TypeInStd byte around vs pre all = none_held vs 0 all
-meaning_none Production.TaggedStdType byte around vs pre all = none_name vs all
-meaning_none Production.AbbreviatedType byte around vs pre all = none_held vs 0 all
-meaning_none Production.RestLvalue byte around vs pre all = none_signature_or lvalue_only (part vs 0) (none_held vs 0 all)
-meaning_none Production.RestRvalue byte around vs pre all = none_signature_or rvalue_only (part vs 0) (none_held vs 0 all)
-meaning_none Production.LvalueItem byte around vs pre all = none_list (tree_of (part vs 0)) (tree_of (part vs 1)) (none_part vs 0 all) (none_part vs 1 all)
-meaning_none Production.RvalueItem byte around vs pre all = none_list (tree_of (part vs 0)) (tree_of (part vs 1)) (none_part vs 0 all) (none_part vs 1 all)
-meaning_none Production.RestItem byte around vs pre all = none_list (tree_of (part vs 0)) (tree_of (part vs 1)) (none_part vs 0 all) (none_part vs 1 all)
-meaning_none Production.Items byte around vs pre all = none_pair vs 0 1 all
-meaning_none Production.Arguments byte around vs pre all = none_no_items (part vs 0) (none_part vs 0 all)
-meaning_none Production.PackArgument byte around vs pre all = none_pair vs 0 2 all
-meaning_none Production.LiteralArgument byte around vs pre all = none_pair vs 0 2 all
-meaning_none Production.AnyArgument byte around vs pre all = none_pair vs 0 1 all
-meaning_none Production.AnyElement byte around vs pre all = none_pair vs 0 1 all
-meaning_none Production.PlainArgument byte around vs pre all = none_part vs 0 all
-meaning_none Production.ArgumentWithT byte around vs pre all = none_part vs 0 all
-meaning_none Production.ParameterArgument byte around vs pre all = none_name vs all
-meaning_none Production.DeclaredArgument byte around vs pre all = none_part vs 1 all
-meaning_none Production.OneLiteral byte around vs pre all = none_held vs 0 all
-meaning_none Production.OnePack byte around vs pre all = none_no_items (part vs 0) (none_part vs 0 all)
-meaning_none Production.ConstrainedAuto byte around vs pre all = none_part vs 0 all
-meaning_none Production.Expression byte around vs pre all = none_held vs 0 all
-meaning_none Production.AddressExpression byte around vs pre all = none_held vs 1 all
-meaning_none Production.ParameterExpression byte around vs pre all = none_held vs 0 all
-meaning_none Production.LiteralElement byte around vs pre all = none_pair vs 0 2 all
-meaning_none Production.LiteralWithD byte around vs pre all = none_held vs 0 all
-meaning_none Production.IntegerLiteral byte around vs pre all = none_part vs 0 all
-meaning_none Production.OperatorL byte around vs pre all = none_operator byte (part vs 0) (none_held vs 0 all)
-meaning_none _ byte around vs pre all = refl
+unfolding meaning
+meaning_none production byte around vs pre all = meant_none (row_of production).form byte around vs pre all

@@ -1,6 +1,6 @@
 -- What the reading of the ABI's grammar doesn't refuse is the same in that of the wide grammar: no parameters are free in what it reads in
 -- a lambda's signature.
-use Rattle.std.proofs.Common.{◌≡◌, refl, ap, sym, ◌∙◌, subst, ℕ, zero, suc, ◌+◌, ◌-◌, List, [], ◌∷◌, ◌++◌, length, Bool, true, false, not, ◌||◌, ◌&&◌, cond, nat_eq, nat_lt, ◌<◌, ◌≤◌, slice_get, Option, Some, None, Result, Ok, Err, lit≤, arith}
+use Rattle.std.proofs.Common.{◌≡◌, refl, ap, sym, ◌∙◌, subst, ℕ, zero, suc, ◌+◌, ◌-◌, List, [], ◌∷◌, ◌++◌, length, Bool, true, false, not, ◌||◌, ◌&&◌, cond, nat_eq, nat_lt, ◌<◌, slice_get, Option, Some, None, Result, Ok, Err, lit≤, arith}
 use Rattle.std.proofs.lemmas.Bool.{true≢false, false≢true}
 use Rattle.std.specs.Result.{IfOk}
 use Rattle.sym_core.specs.declared.refusal.Refusal.{Refusal}
@@ -21,11 +21,14 @@ use Rattle.cpp_grammar.specs.KindNumbers.{SYMBOL, SPECIAL, SPECIAL_MARK, SPECIAL
 use Rattle.cpp_grammar.specs.Grammar.{Alternative, is_in, pick, kinds, number_of_kind, parts_of}
 use Rattle.cpp_grammar.specs.Wide.{wide_alternatives, wide_choose}
 use Rattle.cpp_grammar.specs.Table.{wide, rule_of, rule_taken}
-use Rattle.cpp_grammar.specs.Term.{Term, in_std, instance, parameter, lvalue, rvalue, source, operator, constructor, destructor, lambda, generic_lambda, list}
+use Rattle.cpp_grammar.specs.Term.{Term, parameter, lambda, generic_lambda, list}
 use Rattle.cpp_grammar.specs.Scope.{count, element, is_open, length_if_pack}
-use Rattle.cpp_grammar.specs.Values.{Candidate, State, Around, prefix_tree, prefix_listed, Value, nothing_there, text, tree, piece, tree_of, piece_of, is_listed, letter_of, text_of, local_number, part}
+use Rattle.cpp_grammar.specs.Values.{Candidate, State, Around, prefix_tree, prefix_listed, Value, nothing_there, text, tree, piece, tree_of, is_listed, text_of, local_number, part}
 use Rattle.cpp_grammar.specs.References.{appended, is_function_type, with_type, with_unqualified, with_prefix, with_packs, packs_in, substituted, parameter_named}
-use Rattle.cpp_grammar.specs.Between.{in_name, in_types, in_signature, under_expansion, after, inside, extended, applied, no_items, Going, named_so_far, listed_so_far, piece_so_far, with_tag, tag_so_far, parameter_so_far, index_of, between, next, argument_so_far}
+use Rattle.cpp_grammar.specs.Between.{in_name, in_types, in_signature, under_expansion, after, inside, no_items, Going, listed_so_far, parameter_so_far, index_of, between, next, argument_so_far}
+use Rattle.cpp_grammar.specs.Row.{Gain, nothing, the_prefix, type_of, unqualified_of, itself, Where, as_before, in_its_name, in_its_types, in_a_signature, under_it, nameless, after_part, after_the_name, Before, quiet, goes, becomes, tests, holds, before_part}
+use Rattle.cpp_grammar.specs.Meant.{made, is_listing, around_part, packs_within, gained, replaced, tested as tested_, done}
+use Rattle.cpp_grammar.specs.Rows.{row_of}
 use Rattle.cpp_grammar.specs.Meaning.{parameters, meaning}
 use Rattle.cpp_grammar.specs.Unfolding as unfolding_
 use Rattle.cpp_grammar.specs.Unfolding.{opening, close, production_at, byte_of, cpp, first_around, first_state, first_tree, unfold_cpp}
@@ -35,7 +38,8 @@ use Rattle.cpp_grammar.proofs.Choosing.{kinds_numbered, number_at, wide_rule_at,
 use Rattle.cpp_grammar.proofs.ClosedValues.{held}
 use Rattle.cpp_grammar.proofs.ClosedStates.{ok_same, behind_bind}
 use Rattle.cpp_grammar.proofs.ClosedTrees.{opens, at_number, its_symbols, taken_rule, same_rule, opening_keeps, known}
-use Rattle.cpp_grammar.proofs.NoneFree.{HasNone, AllNone, none_tree, none_piece, none_part, none_instance, none_no_items, none_applied, PrefixHasNone, none_extended, none_prefix, none_encoding, none_signature, meaning_none}
+use Rattle.cpp_grammar.proofs.NoneFree.{HasNone, AllNone, none_tree, none_part, PrefixHasNone, none_prefix, none_encoding, none_signature, made_none, meaning_none}
+use Rattle.cpp_grammar.proofs.Steps.{first_of_both, second_of_both, all_pass, step_passes, is_here, goes_here}
 
 -- ## What is closed
 
@@ -162,39 +166,73 @@ expansion_none : (around : Around) → Settled around → Settled (under_expansi
 unfolding under_expansion
 expansion_none around settled = record { prefix = settled.prefix; bare = settled.bare }
 
-named_none : (around : Around) (t : Term) (listed : Bool) (vs : List Value) (state : State) → Settled around → (around.in_lambda ≡ true → HasNone t) → (around.in_lambda ≡ true → AllNone vs) → AllHaveNone state.candidates →
-    NextHasNone around.in_lambda false (record { values = tree t listed ∷ vs; context = after t listed around; state = state })
+replaced_none : (v : Value) (vs : List Value) → HasNone (held v) → AllNone vs → AllNone (replaced v vs)
+unfolding replaced
+replaced_none v [] none all = tt
+replaced_none v (w ∷ vs) none all = (none, all.1)
+
+gained_none : (gain : Gain) (around : Around) (vs : List Value) (v : Value) (state : State) → Settled around → (around.in_lambda ≡ true → AllNone vs) → (around.in_lambda ≡ true → HasNone (tree_of v)) → AllHaveNone state.candidates →
+    AllHaveNone (gained gain around vs v state).candidates
+unfolding gained
+gained_none nothing around vs v state settled all none cs = cs
+gained_none the_prefix around vs v state settled all none cs = prefixed_none around state settled cs
+gained_none (type_of k) around vs v state settled all none cs = typed_none around (part vs k) state (λ l. none_part vs k (all l)) cs
+gained_none (unqualified_of k) around vs v state settled all none cs = unqualified_none around (part vs k) state (λ l. none_part vs k (all l)) cs
+gained_none itself around vs v state settled all none cs = appended_none around (tree_of v) state none cs
+
+goes_none : (w : Where) (around : Around) (place : ℕ) (vs : List Value) (state : State) → is_here w ≡ true → Settled around → (around.in_lambda ≡ true → AllNone vs) → AllHaveNone state.candidates →
+    NextHasNone around.in_lambda false (record { values = vs; context = around_part around place vs w; state = packs_within w state })
+unfolding is_here around_part packs_within after inside under_expansion
+goes_none in_its_name around place vs state here settled all cs = absurd (false≢true here)
+goes_none in_its_types around place vs state here settled all cs = absurd (false≢true here)
+goes_none in_a_signature around place vs state here settled all cs = absurd (false≢true here)
+goes_none as_before around place vs state here settled all cs = record { values = all; inside = λ l. l; context = settled; candidates = cs }
+goes_none under_it around place vs state here settled all cs = record { values = all; inside = λ l. l; context = expansion_none around settled; candidates = cs }
+goes_none nameless around place vs state here settled all cs = record { values = all; inside = λ l. l; context = inside_none around settled; candidates = cs }
+goes_none (after_part k listing) around place vs state here settled all cs =
+    record { values = all; inside = λ l. l; context = after_none around (tree_of (part vs k)) (is_listing vs listing) settled (λ l. none_part vs k (all l)); candidates = cs }
+goes_none after_the_name around place vs state here settled all cs =
+    record { values = all; inside = λ l. l; context = after_none around (prefix_tree around.prefix) true settled (λ l. none_prefix around.prefix (settled.prefix l)); candidates = cs }
+
+becomes_none : (around : Around) (t : Term) (is_in is_name : Bool) (vs : List Value) (state : State) → Settled around → (around.in_lambda ≡ true → HasNone t) → (around.in_lambda ≡ true → AllNone vs) → AllHaveNone state.candidates →
+    NextHasNone around.in_lambda false (record { values = replaced (tree t is_in) vs; context = cond is_name (after t is_in around) around; state = state })
 unfolding after held
-named_none around t listed vs state settled g all cs = record { values = λ l. (g l, all l); inside = λ l. l; context = after_none around t listed settled g; candidates = cs }
+becomes_none around t is_in true vs state settled none all cs = record { values = λ l. replaced_none (tree t is_in) vs (none l) (all l); inside = λ l. l; context = after_none around t is_in settled none; candidates = cs }
+becomes_none around t is_in false vs state settled none all cs = record { values = λ l. replaced_none (tree t is_in) vs (none l) (all l); inside = λ l. l; context = settled; candidates = cs }
 
-piece_none : (around : Around) (p : Term) (state : State) → Settled around → (around.in_lambda ≡ true → HasNone p) → AllHaveNone state.candidates →
-    NextHasNone around.in_lambda false (record { values = tree (extended around.prefix p) false ∷ []; context = after (extended around.prefix p) false around; state = state })
-piece_none around p state settled g cs = named_none around (extended around.prefix p) false [] state settled (λ l. none_extended around.prefix p (settled.prefix l) (g l)) (λ l. tt) cs
+candidate_none : (is_candidate : Bool) (around : Around) (t : Term) (state : State) → (around.in_lambda ≡ true → HasNone t) → AllHaveNone state.candidates → AllHaveNone (cond is_candidate (appended around t state) state).candidates
+candidate_none true around t state none cs = appended_none around t state none cs
+candidate_none false around t state none cs = cs
 
-tag_none : (around : Around) (tag : List ℕ) (state : State) → Settled around → AllHaveNone state.candidates → IfOk (tag_so_far around tag state) (NextHasNone around.in_lambda false)
-unfolding tag_so_far with_tag named_so_far is_open
-tag_none around tag state settled cs = named_none around (with_tag (prefix_tree around.prefix) tag) false [] state settled (λ l. none_prefix around.prefix (settled.prefix l)) (λ l. tt) cs
-
-parameter_none : (around : Around) (place k : ℕ) (state : State) → Settled around → AllHaveNone state.candidates → IfOk (parameter_so_far around place k [] state) (NextHasNone around.in_lambda false)
-unfolding parameter_so_far parameter_named listed_so_far
-parameter_none around place k state settled cs = go around.scope refl
+tests_none : (is_name : Bool) (around : Around) (place k : ℕ) (vs : List Value) (state : State) → Settled around → (around.in_lambda ≡ true → AllNone vs) → AllHaveNone state.candidates →
+    IfOk (parameter_named around place k state >>= λ s. tested_ is_name around (parameter k) vs s state) (NextHasNone around.in_lambda false)
+unfolding parameter_named tested_
+tests_none is_name around place k vs state settled all cs = go around.scope refl
   where
     -- arguments are named in no signature
     never : (arguments : Term) → around.scope ≡ Some arguments → around.in_lambda ≡ true → HasNone (parameter k)
     never arguments is l = let clash : ◌≡◌ {A = Option Term} None (Some arguments) = sym (settled.bare l) ∙ is in absurd cc
 
+    -- one that is an argument itself is no candidate
+    kept : (b : Bool) (now : State) → AllHaveNone now.candidates → AllHaveNone (cond b now (record now { candidates = state.candidates })).candidates
+    kept true now all_ = all_
+    kept false now all_ = cs
+
     packed : (arguments : Term) → around.scope ≡ Some arguments → (m : Result State Refusal) → IfOk m (λ s. s.candidates ≡ state.candidates) →
-        IfOk ((m >>= λ s. Ok (appended around (parameter k) s)) >>= λ s. listed_so_far around (parameter k) [] s) (NextHasNone around.in_lambda false)
+        IfOk ((m >>= λ s. Ok (appended around (parameter k) s)) >>= λ s. tested_ is_name around (parameter k) vs s state) (NextHasNone around.in_lambda false)
     packed arguments is (Ok s) same =
-        named_none around (parameter k) true [] (appended around (parameter k) s) settled (never arguments is) (λ l. tt) (appended_none around (parameter k) s (never arguments is) (subst AllHaveNone (sym same) cs))
+        let now = appended around (parameter k) s in
+        let none = never arguments is in
+        becomes_none around (parameter k) true is_name vs (cond is_name now (record now { candidates = state.candidates })) settled none all
+        (kept is_name now (appended_none around (parameter k) s none (subst AllHaveNone (sym same) cs)))
     packed arguments is (Err e) same = tt
 
-    tested : (arguments : Term) → around.scope ≡ Some arguments → (b : Bool) → IfOk ((elim b as (λ _. Result State Refusal) [
+    in_range : (arguments : Term) → around.scope ≡ Some arguments → (b : Bool) → IfOk ((elim b as (λ _. Result State Refusal) [
       | false ↦ Err (BadReference place)
       | true ↦ with_packs place around.in_expansion (length_if_pack (element arguments k)) state >>= λ s. Ok (appended around (parameter k) s)
-    ]) >>= λ s. listed_so_far around (parameter k) [] s) (NextHasNone around.in_lambda false)
-    tested arguments is false = tt
-    tested arguments is true = packed arguments is (with_packs place around.in_expansion (length_if_pack (element arguments k)) state) (packs_none place around.in_expansion (length_if_pack (element arguments k)) state)
+    ]) >>= λ s. tested_ is_name around (parameter k) vs s state) (NextHasNone around.in_lambda false)
+    in_range arguments is false = tt
+    in_range arguments is true = packed arguments is (with_packs place around.in_expansion (length_if_pack (element arguments k)) state) (packs_none place around.in_expansion (length_if_pack (element arguments k)) state)
 
     go : (o : Option Term) → around.scope ≡ o → IfOk ((elim o as (λ _. Result State Refusal) [
       | None ↦ Err (BadReference place)
@@ -202,100 +240,33 @@ parameter_none around place k state settled cs = go around.scope refl
         | false ↦ Err (BadReference place)
         | true ↦ with_packs place around.in_expansion (length_if_pack (element arguments k)) state >>= λ s. Ok (appended around (parameter k) s)
       ]
-    ]) >>= λ s. listed_so_far around (parameter k) [] s) (NextHasNone around.in_lambda false)
+    ]) >>= λ s. tested_ is_name around (parameter k) vs s state) (NextHasNone around.in_lambda false)
     go None is = tt
-    go (Some arguments) is = tested arguments is (nat_lt k (count arguments))
+    go (Some arguments) is = in_range arguments is (nat_lt k (count arguments))
 
--- a parameter that is an argument itself is no candidate
-argument_none : (around : Around) (place k : ℕ) (state : State) → Settled around → AllHaveNone state.candidates → IfOk (argument_so_far around place k state) (NextHasNone around.in_lambda false)
-unfolding argument_so_far parameter_named held
-argument_none around place k state settled cs = go around.scope refl
-  where
-    never : (arguments : Term) → around.scope ≡ Some arguments → around.in_lambda ≡ true → HasNone (parameter k)
-    never arguments is l = let clash : ◌≡◌ {A = Option Term} None (Some arguments) = sym (settled.bare l) ∙ is in absurd cc
-
-    named : (arguments : Term) → around.scope ≡ Some arguments → (m : Result State Refusal) →
-        IfOk {T = Next Value State Around} (m >>= λ s. next (tree (parameter k) true ∷ []) around (record s { candidates = state.candidates })) (NextHasNone around.in_lambda false)
-    named arguments is (Ok s) = record { values = λ l. (never arguments is l, tt); inside = λ l. l; context = settled; candidates = cs }
-    named arguments is (Err e) = tt
-
-    go : (o : Option Term) → around.scope ≡ o → IfOk {T = Next Value State Around} ((elim o as (λ _. Result State Refusal) [
-      | None ↦ Err (BadReference place)
-      | Some arguments ↦ elim (nat_lt k (count arguments)) [
-        | false ↦ Err (BadReference place)
-        | true ↦ with_packs place around.in_expansion (length_if_pack (element arguments k)) state >>= λ s. Ok (appended around (parameter k) s)
-      ]
-    ]) >>= λ s. next (tree (parameter k) true ∷ []) around (record s { candidates = state.candidates })) (NextHasNone around.in_lambda false)
-    go None is = tt
-    go (Some arguments) is = named arguments is (elim (nat_lt k (count arguments)) as (λ _. Result State Refusal) [
-      | false ↦ Err (BadReference place)
-      | true ↦ with_packs place around.in_expansion (length_if_pack (element arguments k)) state >>= λ s. Ok (appended around (parameter k) s)
-    ])
+done_none : (b : Before) (around : Around) (place : ℕ) (vs : List Value) (state : State) → goes_here b ≡ true → Settled around → (around.in_lambda ≡ true → AllNone vs) → AllHaveNone state.candidates →
+    IfOk (done b around place vs state) (NextHasNone around.in_lambda false)
+unfolding goes_here done tree_of is_open
+done_none quiet around place vs state here settled all cs = record { values = all; inside = λ l. l; context = settled; candidates = cs }
+done_none (goes gain w) around place vs state here settled all cs =
+    goes_none w around place vs (gained gain around vs nothing_there state) here settled all (gained_none gain around vs nothing_there state settled all (λ l. refl) cs)
+done_none (becomes m is_in is_name is_candidate) around place vs state here settled all cs =
+    let t = made 0 around vs m in
+    let none : around.in_lambda ≡ true → HasNone (made 0 around vs m) = λ l. made_none 0 around vs m (settled.prefix l) (all l) in
+    becomes_none around t is_in is_name vs (cond is_candidate (appended around t state) state) settled none all (candidate_none is_candidate around t state none cs)
+done_none (tests after_t is_name) around place vs state here settled all cs = tests_none is_name around (cond after_t (place - 1) place) (index_of (part vs 0)) vs state settled all cs
+done_none holds around place vs state here settled all cs = tt
 
 between_none : (p : Production) (around : Around) (place : ℕ) (vs : List Value) (state : State) → Settled around → (are_closed p around ≡ true → AllNone vs) → AllHaveNone state.candidates → IfOk (between p around place vs state) (NextHasNone (are_closed p around) (has_specials p))
-unfolding are_closed has_closed_parts has_specials opens after inside under_expansion in_signature between held is_open named_so_far listed_so_far piece_so_far
+unfolding are_closed has_closed_parts has_specials opens in_signature between all_pass goes_here is_here
 between_none Production.Encoding around place [] state settled all cs = record { values = λ l. absurd (false≢true l); inside = λ l. absurd (false≢true l); context = name_none place; candidates = cs }
 between_none Production.Encoding around place (v ∷ vs) state settled all cs = record { values = λ l. absurd (false≢true l); inside = λ l. absurd (false≢true l); context = types_none place (tree_of v); candidates = cs }
 between_none Production.Special around place vs state settled all cs = record { values = all; inside = λ l. refl; context = name_none place; candidates = cs }
 between_none Production.OtherSpecial around place vs state settled all cs = record { values = all; inside = λ l. refl; context = name_none place; candidates = cs }
-between_none Production.LocalName around place (v ∷ vs) state settled all cs = record { inside = λ l. l; values = all; context = after_none around (tree_of v) true settled (λ l. none_tree v (all l).0); candidates = cs }
-between_none Production.LocalType around place (v ∷ vs) state settled all cs = record { inside = λ l. l; values = all; context = after_none around (tree_of v) true settled (λ l. none_tree v (all l).0); candidates = cs }
-between_none Production.InternalName around place (v ∷ []) state settled all cs = piece_none around (source true (text_of v)) state settled (λ l. refl) cs
-between_none Production.SourceName around place (v ∷ []) state settled all cs = piece_none around (source false (text_of v)) state settled (λ l. refl) cs
-between_none Production.LocalTypeName around place (v ∷ []) state settled all cs = piece_none around (piece_of v) state settled (λ l. none_piece v (all l).0) cs
-between_none Production.OperatorName around place (v ∷ []) state settled all cs = piece_none around (piece_of v) state settled (λ l. none_piece v (all l).0) cs
-between_none Production.OtherOperatorName around place (v ∷ []) state settled all cs = piece_none around (piece_of v) state settled (λ l. none_piece v (all l).0) cs
-between_none Production.OperatorNameWithC around place (v ∷ []) state settled all cs = piece_none around (operator 99 (letter_of v)) state settled (λ l. refl) cs
-between_none Production.Conversion around place [] state settled all cs = record { inside = λ l. l; values = λ l. tt; context = inside_none around settled; candidates = cs }
-between_none Production.Constructor around place (v ∷ []) state settled all cs = piece_none around (constructor (letter_of v)) state settled (λ l. refl) cs
-between_none Production.Destructor around place (v ∷ []) state settled all cs = piece_none around (destructor (letter_of v)) state settled (λ l. refl) cs
-between_none Production.StdName around place (v ∷ []) state settled all cs = named_none around (in_std (piece_of v)) false [] state settled (λ l. none_piece v (all l).0) (λ l. tt) cs
-between_none Production.ParameterArgument around place (v ∷ []) state settled all cs = parameter_none around (place - 1) (index_of v) state settled cs
 between_none Production.ValueOf around place vs state settled all cs = record { values = all; inside = λ l. refl; context = signature_none around; candidates = cs }
 between_none Production.OfConcept around place vs state settled all cs = record { values = all; inside = λ l. refl; context = signature_none around; candidates = cs }
-between_none Production.ParameterExpression around place (v ∷ []) state settled all cs = argument_none around place (index_of v) state settled cs
-between_none Production.BoundedArray around place (v ∷ []) state settled all cs = argument_none around place (index_of v) state settled cs
-between_none Production.TaggedStdType around place (v ∷ []) state settled all cs = named_none around (in_std (piece_of v)) false [] state settled (λ l. none_piece v (all l).0) (λ l. tt) cs
-between_none Production.AbbreviatedName around place (v ∷ []) state settled all cs = named_none around (tree_of v) true [] state settled (λ l. none_tree v (all l).0) (λ l. tt) cs
-between_none Production.NestStd around place (v ∷ []) state settled all cs = named_none around (in_std (piece_of v)) false [] state settled (λ l. none_piece v (all l).0) (λ l. tt) cs
-between_none Production.NestStd around place (v ∷ w ∷ []) state settled all cs =
-    named_none around (applied (tree_of v) w) false (w ∷ []) state settled (λ l. none_applied (tree_of v) w (none_tree v (all l).0) (none_tree w (all l).1.0)) (λ l. (all l).1) cs
-between_none Production.NestTemplate around place (v ∷ []) state settled all cs = named_none around (tree_of v) true [] state settled (λ l. none_tree v (all l).0) (λ l. tt) cs
-between_none Production.NestParameter around place (v ∷ []) state settled all cs = parameter_none around place (index_of v) state settled cs
-between_none Production.NestInternal around place (v ∷ []) state settled all cs = piece_none around (source true (text_of v)) state settled (λ l. refl) cs
-between_none Production.NestSource around place (v ∷ []) state settled all cs = piece_none around (source false (text_of v)) state settled (λ l. refl) cs
-between_none Production.NestLocalType around place (v ∷ []) state settled all cs = piece_none around (piece_of v) state settled (λ l. none_piece v (all l).0) cs
-between_none Production.NestArguments around place [] state settled all cs = record { inside = λ l. l; values = λ l. tt; context = inside_none around settled; candidates = prefixed_none around state settled cs }
-between_none Production.NestArguments around place (v ∷ w ∷ []) state settled all cs =
-    let t = instance (prefix_tree around.prefix) (no_items v) in
-    let g : around.in_lambda ≡ true → HasNone (instance (prefix_tree around.prefix) (no_items v)) = λ l. none_instance (prefix_tree around.prefix) (no_items v) (none_prefix around.prefix (settled.prefix l)) (none_no_items v (none_tree v (all l).0)) in
-    named_none around t true (w ∷ []) (appended around t state) settled g (λ l. (all l).1) (appended_none around t state g cs)
-between_none Production.NestArguments around place (v ∷ w ∷ x ∷ []) state settled all cs = record { inside = λ l. l; values = all; context = after_none around (tree_of x) false settled (λ l. none_tree x (all l).1.1.0); candidates = cs }
-between_none Production.NestInstance around place [] state settled all cs = record { inside = λ l. l; values = λ l. tt; context = inside_none around settled; candidates = prefixed_none around state settled cs }
-between_none Production.NestInstance around place (v ∷ w ∷ []) state settled all cs =
-    let g : around.in_lambda ≡ true → HasNone (instance (prefix_tree around.prefix) (no_items v)) = λ l. none_instance (prefix_tree around.prefix) (no_items v) (none_prefix around.prefix (settled.prefix l)) (none_no_items v (none_tree v (all l).0)) in
-    named_none around (instance (prefix_tree around.prefix) (no_items v)) false (w ∷ []) state settled g (λ l. (all l).1) cs
-between_none Production.NestTag around place (v ∷ []) state settled all cs = tag_none around (text_of v) state settled cs
-between_none Production.Tag around place (v ∷ []) state settled all cs = tag_none around (text_of v) state settled cs
-between_none Production.TypeTag around place (v ∷ []) state settled all cs = tag_none around (text_of v) state settled cs
-between_none Production.NestNext around place [] state settled all cs = record {
-  values = λ l. tt;
-  inside = λ l. l;
-  context = after_none around (prefix_tree around.prefix) true settled (λ l. none_prefix around.prefix (settled.prefix l));
-  candidates = prefixed_none around state settled cs;
-}
-between_none Production.NestNext around place (v ∷ []) state settled all cs = record { inside = λ l. l; values = all; context = after_none around (tree_of v) false settled (λ l. none_tree v (all l).0); candidates = cs }
-between_none Production.Holder around place (v ∷ []) state settled all cs = tt
-between_none Production.Arguments around place [] state settled all cs = record { inside = λ l. l; values = λ l. tt; context = inside_none around settled; candidates = prefixed_none around state settled cs }
-between_none Production.PackArgument around place (v ∷ []) state settled all cs = record { inside = λ l. l; values = λ l. (none_no_items v (none_tree v (all l).0), tt); context = settled; candidates = cs }
 between_none Production.Lambda around place vs state settled all cs = record { values = all; inside = λ l. refl; context = signature_none around; candidates = cs }
-between_none Production.Expansion around place vs state settled all cs = record { inside = λ l. l; values = all; context = expansion_none around settled; candidates = cs }
-between_none Production.Parameter around place (v ∷ []) state settled all cs = parameter_none around place (index_of v) state settled cs
-between_none Production.TypeWithS around place (v ∷ []) state settled all cs = record { inside = λ l. l; values = all; context = after_none around (tree_of v) (is_listed v) settled (λ l. none_tree v (all l).0); candidates = cs }
-between_none Production.LvalueItem around place (v ∷ []) state settled all cs = record { inside = λ l. l; values = λ l. (none_tree v (all l).0, tt); context = settled; candidates = appended_none around (lvalue (tree_of v)) state (λ l. none_tree v (all l).0) cs }
-between_none Production.RvalueItem around place (v ∷ []) state settled all cs = record { inside = λ l. l; values = λ l. (none_tree v (all l).0, tt); context = settled; candidates = appended_none around (rvalue (tree_of v)) state (λ l. none_tree v (all l).0) cs }
-between_none Production.IntegerLiteral around place (v ∷ []) state settled all cs = record { inside = λ l. l; values = all; context = settled; candidates = typed_none around v state (λ l. none_tree v (all l).0) cs }
-between_none _ around place vs state settled all cs = record { inside = λ l. l; values = all; context = settled; candidates = cs }
+between_none p around place vs state settled all cs = done_none (before_part (row_of p) (length vs)) around place vs state (step_passes goes_here (row_of p) refl (length vs)) settled all cs
 
 -- ## After the parts of a production
 
@@ -308,25 +279,15 @@ means_none Production.OtherSpecial byte around vs settled all l = meaning_none P
 means_none Production.Lambda byte around vs settled all l = meaning_none Production.Lambda byte around vs (settled.prefix l) (all refl)
 means_none p byte around vs settled all l = meaning_none p byte around vs (settled.prefix l) (all l)
 
-made_none : (p : Production) (byte : ℕ) (around : Around) (vs : List Value) (state : State) → Settled around → (are_closed p around ≡ true → AllNone vs) → AllHaveNone state.candidates →
-    AllHaveNone (appended around (tree_of (meaning p byte around vs)) state).candidates
-made_none p byte around vs state settled all cs = appended_none around (tree_of (meaning p byte around vs)) state (λ l. none_tree (meaning p byte around vs) (means_none p byte around vs settled all l)) cs
-
 behind_none : (p : Production) (byte : ℕ) (around : Around) (began : State) (vs : List Value) (state : State) → Settled around → (are_closed p around ≡ true → AllNone vs) → AllHaveNone state.candidates →
     AllHaveNone (unfolding_.behind p byte around began vs state).candidates
 unfolding are_closed has_closed_parts opens unfolding_.behind
-behind_none Production.RestrictType byte around began vs state settled all cs = made_none Production.RestrictType byte around vs state settled all cs
-behind_none Production.VolatileType byte around began vs state settled all cs = made_none Production.VolatileType byte around vs state settled all cs
-behind_none Production.ConstType byte around began vs state settled all cs = made_none Production.ConstType byte around vs state settled all cs
-behind_none Production.ReferenceType byte around began vs state settled all cs = made_none Production.ReferenceType byte around vs state settled all cs
-behind_none Production.PlainType byte around began vs state settled all cs = typed_none around (part vs 0) state (λ l. none_part vs 0 (all l)) cs
-behind_none Production.PlainArgument byte around began vs state settled all cs = typed_none around (part vs 0) state (λ l. none_part vs 0 (all l)) cs
-behind_none Production.ArgumentWithT byte around began vs state settled all cs = typed_none around (part vs 0) state (λ l. none_part vs 0 (all l)) cs
-behind_none Production.TypeWithD byte around began vs state settled all cs = typed_none around (part vs 0) state (λ l. none_part vs 0 (all l)) cs
-behind_none Production.ItemWithD byte around began vs state settled all cs = typed_none around (part vs 0) state (λ l. none_part vs 0 (all l)) cs
-behind_none Production.QualifiedPlain byte around began vs state settled all cs = unqualified_none around (part vs 0) state (λ l. none_part vs 0 (all l)) cs
-behind_none Production.PlainWithD byte around began vs state settled all cs = unqualified_none around (part vs 0) state (λ l. none_part vs 0 (all l)) cs
-behind_none _ byte around began vs state settled all cs = cs
+behind_none Production.Encoding byte around began vs state settled all cs = cs
+behind_none Production.Special byte around began vs state settled all cs = cs
+behind_none Production.OtherSpecial byte around began vs state settled all cs = cs
+behind_none Production.Lambda byte around began vs state settled all cs = cs
+behind_none p byte around began vs state settled all cs =
+    gained_none (row_of p).gain around vs (meaning p byte around vs) state settled all (λ l. none_tree (meaning p byte around vs) (meaning_none p byte around vs (settled.prefix l) (all l))) cs
 
 -- ## References
 
@@ -367,7 +328,7 @@ argument_stays around place k state n settled e = go around.in_lambda refl
     go false is = e
 
 between_stays : (p : Production) (around : Around) (place : ℕ) (vs : List Value) (state : State) (n : Next Value State Around) → Settled around → between p around place vs state ≡ Ok n → between_wide p around place vs state ≡ Ok n
-unfolding between between_wide
+unfolding between between_wide parameter_so_far parameter_named listed_so_far argument_so_far
 between_stays Production.Parameter around place (v ∷ []) state n settled e = here_stays around place (index_of v) state n settled e
 between_stays Production.NestParameter around place (v ∷ []) state n settled e = here_stays around place (index_of v) state n settled e
 between_stays Production.ParameterArgument around place (v ∷ []) state n settled e = here_stays around (place - 1) (index_of v) state n settled e
@@ -517,14 +478,6 @@ special_or : (p x l : Bool) → (p ≡ true → x ≡ true) → (p || l) ≡ tru
 special_or p true l f h = refl
 special_or true false l f h = absurd (false≢true (f refl))
 special_or false false l f h = h
-
-first_of_both : (x y : Bool) → (x && y) ≡ true → x ≡ true
-first_of_both true y h = refl
-first_of_both false y h = absurd (false≢true h)
-
-second_of_both : (x y : Bool) → (x && y) ≡ true → y ≡ true
-second_of_both true y h = h
-second_of_both false y h = absurd (false≢true h)
 
 picked_special : (all : List Alternative) (byte : ℕ) (p : Production) → make_special all ≡ true → pick all byte ≡ Some p → makes_special p ≡ true
 unfolding pick make_special

@@ -9,6 +9,14 @@ pub mod Term
 pub mod Scope
 pub mod Values
 pub mod References
+pub mod Surrounding
+pub mod Standing
+pub mod Makers
+pub mod Row
+pub mod Builders
+pub mod Own
+pub mod Meant
+pub mod Rows
 pub mod Between
 pub mod Meaning
 pub mod Unfolding

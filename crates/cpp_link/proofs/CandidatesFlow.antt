@@ -13,9 +13,9 @@ use Rattle.cpp_grammar.specs.Grammar.{parts_of, number_of_kind}
 use Rattle.cpp_grammar.proofs.ClosedStates.{ok_same}
 use Rattle.cpp_term.specs.Term.{Term, source, operator, constructor, destructor, in_std, instance, pack, lvalue, rvalue}
 use Rattle.cpp_term.specs.Values.{State, Around, prefix_tree, prefix_listed, Value, nothing_there, tree, named, tree_of, piece_of, letter_of, text_of, is_listed, is_there, part}
-use Rattle.cpp_term.specs.References.{appended, with_type, with_unqualified, with_prefix}
-use Rattle.cpp_term.specs.Between.{Going, in_name, in_types, in_signature, under_expansion, after, inside, extended, applied, no_items, named_so_far, listed_so_far, piece_so_far, with_tag, tag_so_far, index_of, between}
-use Rattle.cpp_term.specs.Meaning.{meaning, listed_value, function_of}
+use Rattle.cpp_term.specs.References.{appended, with_type, with_unqualified, with_prefix, parameter_named}
+use Rattle.cpp_term.specs.Between.{Going, in_name, in_types, in_signature, under_expansion, after, inside, extended, applied, no_items, named_so_far, listed_so_far, with_tag, index_of, between, parameter_so_far, argument_so_far}
+use Rattle.cpp_term.specs.Meaning.{meaning, listed_value}
 use Rattle.cpp_term.specs.Unfolding.{behind, close}
 use Rattle.cpp_link.specs.Owed.{made_before, made_at_end}
 use Rattle.cpp_link.specs.NodeCount.{makes_before, makes_at_end, one_if_there, one_if_arguments, std_before, name_at_end}
@@ -24,7 +24,7 @@ use Rattle.cpp_link.proofs.CandidatesFew.{unlisted, unlisted_around, is_componen
 -- ## Names
 
 internal-name : (around : Around) (place : ℕ) → Flow Production.InternalName around place (Name ∷ OfKind MAYBE_ARGUMENTS ∷ []) [] 0
-unfolding pending_around between piece_so_far named_so_far makes_before made_before makes_at_end name_at_end part leaves makes_name close behind
+unfolding pending_around between named_so_far makes_before made_before makes_at_end name_at_end part leaves makes_name close behind
 internal-name around place =
     name-flow Production.InternalName around place Name (λ v. extended around.prefix (source true (text_of v))) (λ a v. refl)
     (λ state. refl)
@@ -32,35 +32,35 @@ internal-name around place =
     (meaning Production.InternalName byte around vs) state one e)
 
 source-name : (around : Around) (place : ℕ) → Flow Production.SourceName around place (Name ∷ OfKind MAYBE_ARGUMENTS ∷ []) [] 0
-unfolding pending_around between piece_so_far named_so_far makes_before made_before makes_at_end name_at_end part leaves makes_name close behind
+unfolding pending_around between named_so_far makes_before made_before makes_at_end name_at_end part leaves makes_name close behind
 source-name around place =
     name-flow Production.SourceName around place Name (λ v. extended around.prefix (source false (text_of v))) (λ a v. refl) (λ state. refl)
     (λ v state. refl) (λ v. refl) (λ u w. refl) (λ v. omega arith) (λ byte began vs state one e. still
     (meaning Production.SourceName byte around vs) state one e)
 
 local-type-name : (around : Around) (place : ℕ) → Flow Production.LocalTypeName around place (OfKind ANONYMOUS ∷ OfKind MAYBE_ARGUMENTS ∷ []) [] 0
-unfolding pending_around goes_on is_arguments between piece_so_far named_so_far makes_before made_before makes_at_end name_at_end part leaves makes_name close behind
+unfolding pending_around goes_on is_arguments between named_so_far makes_before made_before makes_at_end name_at_end part leaves makes_name close behind
 local-type-name around place =
     name-flow Production.LocalTypeName around place (OfKind ANONYMOUS) (λ v. extended around.prefix (piece_of v)) (λ a v. refl) (λ state. refl)
     (λ v state. refl) (λ v. refl) (λ u w. refl) (λ v. omega arith) (λ byte began vs state one e. still
     (meaning Production.LocalTypeName byte around vs) state one e)
 
 operator-name : (around : Around) (place : ℕ) → Flow Production.OperatorName around place (OfKind OPERATOR ∷ OfKind MAYBE_ARGUMENTS ∷ []) [] 0
-unfolding pending_around goes_on is_arguments between piece_so_far named_so_far makes_before made_before makes_at_end name_at_end part leaves makes_name close behind
+unfolding pending_around goes_on is_arguments between named_so_far makes_before made_before makes_at_end name_at_end part leaves makes_name close behind
 operator-name around place =
     name-flow Production.OperatorName around place (OfKind OPERATOR) (λ v. extended around.prefix (piece_of v)) (λ a v. refl) (λ state. refl)
     (λ v state. refl) (λ v. refl) (λ u w. refl) (λ v. omega arith) (λ byte began vs state one e. still
     (meaning Production.OperatorName byte around vs) state one e)
 
 other-operator-name : (around : Around) (place : ℕ) → Flow Production.OtherOperatorName around place (OfKind OTHER_OPERATOR ∷ OfKind MAYBE_ARGUMENTS ∷ []) [] 0
-unfolding pending_around goes_on is_arguments between piece_so_far named_so_far makes_before made_before makes_at_end name_at_end part leaves makes_name close behind
+unfolding pending_around goes_on is_arguments between named_so_far makes_before made_before makes_at_end name_at_end part leaves makes_name close behind
 other-operator-name around place =
     name-flow Production.OtherOperatorName around place (OfKind OTHER_OPERATOR) (λ v. extended around.prefix (piece_of v)) (λ a v. refl) (λ state. refl)
     (λ v state. refl) (λ v. refl) (λ u w. refl) (λ v. omega arith) (λ byte began vs state one e. still
     (meaning Production.OtherOperatorName byte around vs) state one e)
 
 operator-name-with-c : (around : Around) (place : ℕ) → Flow Production.OperatorNameWithC around place (OfKind OPERATOR_AFTER_C ∷ OfKind MAYBE_ARGUMENTS ∷ []) [] 0
-unfolding pending_around goes_on is_arguments between piece_so_far named_so_far makes_before made_before makes_at_end name_at_end part leaves makes_name close behind
+unfolding pending_around goes_on is_arguments between named_so_far makes_before made_before makes_at_end name_at_end part leaves makes_name close behind
 operator-name-with-c around place =
     name-flow Production.OperatorNameWithC around place (OfKind OPERATOR_AFTER_C) (λ v. extended around.prefix (operator 99 (letter_of v))) (λ a v. refl) (λ state. refl)
     (λ v state. refl) (λ v. refl) (λ u w. refl) (λ v. omega arith) (λ byte began vs state one e. still
@@ -80,7 +80,7 @@ component-with-c around place = λ state next e. came (going [] around state) ne
 })
 
 constructor-name : (around : Around) (place : ℕ) → Flow Production.Constructor around place (OfKind CONSTRUCTOR_DIGIT ∷ OfKind MAYBE_ARGUMENTS ∷ []) [] 0
-unfolding pending_around goes_on is_arguments between piece_so_far named_so_far makes_before made_before makes_at_end name_at_end part leaves makes_name close behind
+unfolding pending_around goes_on is_arguments between named_so_far makes_before made_before makes_at_end name_at_end part leaves makes_name close behind
 constructor-name around place =
     name-flow Production.Constructor around place (OfKind CONSTRUCTOR_DIGIT) (λ v. extended around.prefix (constructor (letter_of v))) (λ a v. refl)
     (λ state. refl)
@@ -88,7 +88,7 @@ constructor-name around place =
     (meaning Production.Constructor byte around vs) state one e)
 
 destructor-name : (around : Around) (place : ℕ) → Flow Production.Destructor around place (OfKind DESTRUCTOR_DIGIT ∷ OfKind MAYBE_ARGUMENTS ∷ []) [] 0
-unfolding pending_around goes_on is_arguments between piece_so_far named_so_far makes_before made_before makes_at_end name_at_end part leaves makes_name close behind
+unfolding pending_around goes_on is_arguments between named_so_far makes_before made_before makes_at_end name_at_end part leaves makes_name close behind
 destructor-name around place =
     name-flow Production.Destructor around place (OfKind DESTRUCTOR_DIGIT) (λ v. extended around.prefix (destructor (letter_of v))) (λ a v. refl)
     (λ state. refl)
@@ -96,14 +96,14 @@ destructor-name around place =
     (meaning Production.Destructor byte around vs) state one e)
 
 std-name : (around : Around) (place : ℕ) → Flow Production.StdName around place (OfKind UNQUALIFIED ∷ OfKind MAYBE_ARGUMENTS ∷ []) [] 0
-unfolding pending_around goes_on is_arguments between piece_so_far named_so_far makes_before made_before makes_at_end name_at_end part leaves makes_name may_leave close behind
+unfolding pending_around goes_on is_arguments between named_so_far makes_before made_before makes_at_end name_at_end part leaves makes_name may_leave close behind
 std-name around place =
     name-flow Production.StdName around place (OfKind UNQUALIFIED) (λ v. in_std (piece_of v)) (λ a v. refl) (λ state. refl)
     (λ v state. refl) (λ v. refl) (λ u w. refl) (λ v. omega arith) (λ byte began vs state one e. still
     (meaning Production.StdName byte around vs) state one e)
 
 tag-name : (around : Around) (place : ℕ) → Flow Production.Tag around place (Name ∷ OfKind MAYBE_ARGUMENTS ∷ []) [] 0
-unfolding pending_around between tag_so_far named_so_far makes_before made_before makes_at_end name_at_end part leaves makes_name close behind
+unfolding pending_around between named_so_far makes_before made_before makes_at_end name_at_end part leaves makes_name close behind
 tag-name around place =
     name-flow Production.Tag around place Name (λ v. with_tag (prefix_tree around.prefix) (text_of v)) (λ a v. refl) (λ state. refl)
     (λ v state. refl) (λ v. refl) (λ u w. refl) (λ v. omega arith) (λ byte began vs state one e. still
@@ -138,7 +138,7 @@ tagged-std-type around place =
     at_most_one false = omega arith
 
 type-tag : (around : Around) (place : ℕ) → Flow Production.TypeTag around place (Name ∷ OfKind MAYBE_TAGS ∷ []) [] 0
-unfolding pending pending_around goes_on is_arguments is_component becomes_candidate between tag_so_far named_so_far makes_before made_before makes_at_end name_at_end part leaves makes_name close behind
+unfolding pending pending_around goes_on is_arguments is_component becomes_candidate between named_so_far makes_before made_before makes_at_end name_at_end part leaves makes_name close behind
 type-tag around place =
     made-flow Production.TypeTag around place Name (OfKind MAYBE_TAGS) (λ v. with_tag (prefix_tree around.prefix) (text_of v)) (λ a v. refl) (λ v. refl) (λ a v. refl)
     (λ state. refl) (λ v state. refl) (λ v. refl) (λ u w. refl) (λ v. omega arith) (λ byte began vs state one e. still
@@ -201,7 +201,7 @@ spent-behind false _ = omega arith
 
 -- a parameter is a candidate before its arguments
 parameter-type : (around : Around) (place : ℕ) → Flow Production.Parameter around place (Number Decimal ∷ OfKind ARGUMENTS_ALONE ∷ []) [] 0
-unfolding pending pending_around unlisted_around goes_on is_arguments is_component becomes_candidate after prefix_listed between makes_before made_before makes_at_end name_at_end part leaves makes_name may_leave unlisted is_listed meaning one_if_there close behind
+unfolding pending pending_around unlisted_around goes_on is_arguments is_component becomes_candidate after prefix_listed between makes_before made_before makes_at_end name_at_end part leaves makes_name may_leave unlisted is_listed meaning one_if_there close behind parameter_so_far parameter_named listed_so_far
 parameter-type around place = λ state next e. came (going [] around state) next e
     (quiet (going [] around state) (omega arith) (λ v. refl) begun)
   where
@@ -222,7 +222,7 @@ parameter-type around place = λ state next e. came (going [] around state) next
 
 -- the same after its T
 parameter-behind-t : (around : Around) (place : ℕ) → Flow Production.ParameterArgument around place (Number Decimal ∷ OfKind ARGUMENTS_ALONE ∷ []) [] 0
-unfolding pending pending_around unlisted_around goes_on is_arguments is_component becomes_candidate after prefix_listed between makes_before made_before makes_at_end name_at_end part leaves makes_name may_leave unlisted is_listed meaning one_if_there close behind
+unfolding pending pending_around unlisted_around goes_on is_arguments is_component becomes_candidate after prefix_listed between makes_before made_before makes_at_end name_at_end part leaves makes_name may_leave unlisted is_listed meaning one_if_there close behind parameter_so_far parameter_named listed_so_far
 parameter-behind-t around place = λ state next e. came (going [] around state) next e
     (quiet (going [] around state) (omega arith) (λ v. refl) begun)
   where
@@ -265,26 +265,26 @@ with-s-type around place = λ state next e. came (going [] around state) next e 
 -- ## Nested names
 
 nest-internal : (around : Around) (place : ℕ) → Flow Production.NestInternal around place (Name ∷ OfKind NEST_REST ∷ []) [] 0
-unfolding pending_around between piece_so_far named_so_far makes_before made_before part leaves makes_name may_leave meaning close behind
+unfolding pending_around between named_so_far makes_before made_before part leaves makes_name may_leave meaning close behind
 nest-internal around place =
     nest-flow Production.NestInternal around place Name (λ v. extended around.prefix (source true (text_of v))) (λ a v. refl)
     (λ state. refl)
     (λ v state. refl) (λ v. refl) (λ v. refl) (λ byte began state u w. refl)
 
 nest-source : (around : Around) (place : ℕ) → Flow Production.NestSource around place (Name ∷ OfKind NEST_REST ∷ []) [] 0
-unfolding pending_around between piece_so_far named_so_far makes_before made_before part leaves makes_name may_leave meaning close behind
+unfolding pending_around between named_so_far makes_before made_before part leaves makes_name may_leave meaning close behind
 nest-source around place =
     nest-flow Production.NestSource around place Name (λ v. extended around.prefix (source false (text_of v))) (λ a v. refl) (λ state. refl)
     (λ v state. refl) (λ v. refl) (λ v. refl) (λ byte began state u w. refl)
 
 nest-tag : (around : Around) (place : ℕ) → Flow Production.NestTag around place (Name ∷ OfKind NEST_REST ∷ []) [] 0
-unfolding pending_around between tag_so_far named_so_far makes_before made_before part leaves makes_name may_leave meaning close behind
+unfolding pending_around between named_so_far makes_before made_before part leaves makes_name may_leave meaning close behind
 nest-tag around place =
     nest-flow Production.NestTag around place Name (λ v. with_tag (prefix_tree around.prefix) (text_of v)) (λ a v. refl) (λ state. refl)
     (λ v state. refl) (λ v. refl) (λ v. refl) (λ byte began state u w. refl)
 
 nest-local-type : (around : Around) (place : ℕ) → Flow Production.NestLocalType around place (OfKind ANONYMOUS ∷ OfKind NEST_REST ∷ []) [] 0
-unfolding pending_around goes_on is_arguments between piece_so_far named_so_far makes_before made_before part leaves makes_name may_leave meaning close behind
+unfolding pending_around goes_on is_arguments between named_so_far makes_before made_before part leaves makes_name may_leave meaning close behind
 nest-local-type around place =
     nest-flow Production.NestLocalType around place (OfKind ANONYMOUS) (λ v. extended around.prefix (piece_of v)) (λ a v. refl) (λ state. refl)
     (λ v state. refl) (λ v. refl) (λ v. refl) (λ byte began state u w. refl)
@@ -300,7 +300,7 @@ nest-template around place = λ state next e. came (going [] around state) next 
     (λ w. same-closes Production.NestTemplate around place (tree (tree_of v) true ∷ w ∷ []) w (λ u. refl) (λ byte began last. refl)))))
 
 nest-parameter : (around : Around) (place : ℕ) → Flow Production.NestParameter around place (Number Decimal ∷ OfKind NEST_REST_ALONE ∷ []) [] 0
-unfolding pending pending_around goes_on is_arguments is_component becomes_candidate between makes_before made_before part leaves makes_name may_leave meaning close behind
+unfolding pending pending_around goes_on is_arguments is_component becomes_candidate between makes_before made_before part leaves makes_name may_leave meaning close behind parameter_so_far parameter_named listed_so_far
 nest-parameter around place = λ state next e. came (going [] around state) next e
     (quiet (going [] around state) (omega arith) (λ v. refl) begun)
   where
@@ -475,14 +475,14 @@ pack-keeps around place (v ∷ w ∷ vs) state next e = kept (v ∷ w ∷ vs) ar
     (makes_before Production.PackArgument (v ∷ w ∷ vs)) e
 
 parameter-keeps : (around : Around) (place : ℕ) → Keeps Production.ParameterExpression around place
-unfolding between makes_before made_before
+unfolding between makes_before made_before argument_so_far parameter_named
 parameter-keeps around place [] state next e = kept [] around state next 0 e
 parameter-keeps around place (v ∷ []) state next e = omega (arith, argument-none around place (index_of v) state next e)
 parameter-keeps around place (v ∷ w ∷ vs) state next e = kept (v ∷ w ∷ vs) around state next
     (makes_before Production.ParameterExpression (v ∷ w ∷ vs)) e
 
 bounded-keeps : (around : Around) (place : ℕ) → Keeps Production.BoundedArray around place
-unfolding between makes_before made_before
+unfolding between makes_before made_before argument_so_far parameter_named
 bounded-keeps around place [] state next e = kept [] around state next 0 e
 bounded-keeps around place (v ∷ []) state next e = omega (arith, argument-none around place (index_of v) state next e)
 bounded-keeps around place (v ∷ w ∷ vs) state next e = kept (v ∷ w ∷ vs) around state next
@@ -540,7 +540,7 @@ plain-closes p around place means same few vs = λ byte began state one e. (
     (omega (arith, ap length (same byte began vs state), few byte vs)))
 
 pub flows : (p : Production) (around : Around) (place : ℕ) → Flow p around place (parts_of p) [] (starts_with p around)
-unfolding parts_of number_of_kind starts_with takes_name begins_arguments take_nothing takes_pending pending pending_around goes_on is_arguments is_component becomes_candidate between makes_before made_before makes_at_end made_at_end close behind leaves makes_name may_leave unlisted is_listed listed_value meaning function_of part
+unfolding parts_of number_of_kind starts_with takes_name begins_arguments take_nothing takes_pending pending pending_around goes_on is_arguments is_component becomes_candidate between makes_before made_before makes_at_end made_at_end close behind leaves makes_name may_leave unlisted is_listed listed_value meaning part
 flows Production.InternalName around place = internal-name around place
 flows Production.LocalTypeName around place = local-type-name around place
 flows Production.SourceName around place = source-name around place

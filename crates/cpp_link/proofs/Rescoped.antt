@@ -22,7 +22,8 @@ use Rattle.cpp_term.specs.Values as values
 use Rattle.cpp_term.specs.Values.{State, Value, tree, Around, part, text_of}
 use Rattle.sym_core.specs.Value.{counted_value}
 use Rattle.sym_core.specs.declared.NumberKind.TheVariants.{Decimal}
-use Rattle.cpp_term.specs.Between.{Going, next, parameter_so_far, argument_so_far, index_of, between}
+use Rattle.cpp_term.specs.References.{parameter_named}
+use Rattle.cpp_term.specs.Between.{Going, next, parameter_so_far, argument_so_far, index_of, between, listed_so_far}
 use Rattle.cpp_term.specs.Unfolding.{cpp, behind}
 use Rattle.cpp_term.specs.Rescoping.{generic_so_far, parameter_here, argument_here, numbered, lambda_with, as_generic_lambda, between_wide, close_wide, cpp_wide}
 use Rattle.cpp_term.proofs.Notes.{both}
@@ -52,7 +53,7 @@ use Rattle.cpp_link.proofs.Within.{at_plain}
 -- where no parameter of a lambda is named, and no name with its M, it goes as in the other reading
 apart_between : (p : Production) (around : Around) (place : ℕ) (vs : List Value) (state : State) → names_generic p around.in_lambda (length vs) ≡ false
     → names_holder p (length vs) ≡ false → between_wide p around place vs state ≡ between p around place vs state
-unfolding between_wide between is_parameter is_holder parameter_here argument_here
+unfolding between_wide between is_parameter is_holder parameter_here argument_here parameter_named parameter_so_far listed_so_far argument_so_far
 apart_between Production.Parameter around place (v ∷ []) state apart unheld = go around.in_lambda apart
   where
     go : (b : Bool) → (b && true && nat_eq (length (v ∷ [])) 1) ≡ false

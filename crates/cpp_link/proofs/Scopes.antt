@@ -1,16 +1,19 @@
 -- The arguments that are named are those of a name in which no parameter is free: none is free in them, nor in one of them.
-use Rattle.std.proofs.Common.{◌≡◌, subst, ℕ, ◌-◌, List, [], ◌∷◌, Bool, true, false, Result, Ok, Err}
+use Rattle.std.proofs.Common.{◌≡◌, subst, ℕ, ◌-◌, List, [], ◌∷◌, length, Bool, true, false, cond, Result, Ok, Err}
 use Rattle.std.specs.Prelude.{IfOk}
 use Rattle.sym_core.specs.declared.refusal.Refusal.{Refusal}
 use Rattle.sym_core.specs.declared.refusal.Refusal.TheVariants.{BadReference}
 use Rattle.sym_link.specs.Reading.{Next, ◌>>=◌}
 use Rattle.cpp_grammar.specs.declared.production.Production.{Production}
-use Rattle.cpp_term.specs.Term.{holder, parameter}
+use Rattle.cpp_grammar.specs.Row.{Where, as_before, in_its_name, in_its_types, in_a_signature, under_it, nameless, after_part, after_the_name, Before, quiet, goes, becomes, tests, holds, before_part}
+use Rattle.cpp_grammar.specs.Rows.{row_of}
+use Rattle.cpp_term.specs.Term.{Term, holder, parameter}
 use Rattle.cpp_term.specs.Items.{auto}
 use Rattle.cpp_grammar.specs.Rescoping.{generic_number}
-use Rattle.cpp_term.specs.Values.{State, Around, prefix_tree, Value, tree, tree_of}
+use Rattle.cpp_term.specs.Values.{State, Around, prefix_tree, Value, tree, tree_of, part}
 use Rattle.cpp_term.specs.References.{parameter_named}
-use Rattle.cpp_term.specs.Between.{Going, in_name, in_types, in_signature, under_expansion, after, inside, named_so_far, listed_so_far, piece_so_far, tag_so_far, parameter_so_far, argument_so_far, argument_at, index_of, next, between}
+use Rattle.cpp_term.specs.Between.{Going, in_name, in_types, in_signature, under_expansion, after, inside, listed_so_far, parameter_so_far, argument_so_far, argument_at, index_of, next, between}
+use Rattle.cpp_term.specs.Meant.{made, around_part, tested, done}
 use Rattle.cpp_term.specs.Rescoping.{parameter_here, argument_here, generic_so_far, with_holder, is_instance, holder_so_far, between_wide}
 use Rattle.cpp_references.proofs.Arguments.{closed_are}
 use Rattle.cpp_link.specs.Parts.{IsClosed}
@@ -20,163 +23,68 @@ use Rattle.cpp_link.specs.Parts.{IsClosed}
 abbrev GoesClosed : Going → Type 0
 GoesClosed going = IfOk going (λ n. IsClosed n.context)
 
-parameter_closed : (around : Around) (place k : ℕ) (vs : List Value) (state : State) → IsClosed around → GoesClosed (parameter_so_far around place k vs state)
-unfolding parameter_so_far listed_so_far after
-parameter_closed around place k vs state closed = by (parameter_named around place k state)
-  where
-    by : (r : Result State Refusal) → GoesClosed (r >>= λ s. listed_so_far around (parameter k (argument_at around k)) vs s)
-    by (Ok s) = closed
-    by (Err e) = tt
+around_closed : (w : Where) (around : Around) (place : ℕ) (vs : List Value) → IsClosed around → IsClosed (around_part around place vs w)
+unfolding around_part in_name in_types in_signature under_expansion after inside
+around_closed as_before around place vs closed = closed
+around_closed in_its_name around place vs closed = tt
+around_closed in_its_types around place vs closed = closed_are (tree_of (part vs 0))
+around_closed in_a_signature around place vs closed = tt
+around_closed under_it around place vs closed = closed
+around_closed nameless around place vs closed = closed
+around_closed (after_part k listing) around place vs closed = closed
+around_closed after_the_name around place vs closed = closed
 
-lone_closed : (around : Around) (place k : ℕ) (state : State) → IsClosed around → GoesClosed (argument_so_far around place k state)
-unfolding argument_so_far
-lone_closed around place k state closed = by (parameter_named around place k state)
+name_closed : (is_name : Bool) (around : Around) (t : Term) (is_in : Bool) → IsClosed around → IsClosed (cond is_name (after t is_in around) around)
+unfolding after
+name_closed true around t is_in closed = closed
+name_closed false around t is_in closed = closed
+
+done_closed : (b : Before) (around : Around) (place : ℕ) (vs : List Value) (state : State) → IsClosed around → GoesClosed (done b around place vs state)
+unfolding done tested
+done_closed quiet around place vs state closed = closed
+done_closed (goes gain w) around place vs state closed = around_closed w around place vs closed
+done_closed (becomes m is_in is_name is_candidate) around place vs state closed = name_closed is_name around (made 0 around vs m) is_in closed
+done_closed (tests after_t is_name) around place vs state closed = by (parameter_named around (cond after_t (place - 1) place) (index_of (part vs 0)) state)
   where
-    by : (r : Result State Refusal) → GoesClosed (r >>= λ s. next (tree (parameter k (argument_at around k)) true ∷ []) around (record s { candidates = state.candidates }))
-    by (Ok s) = closed
+    t : Term
+    t = parameter (index_of (part vs 0)) (argument_at around (index_of (part vs 0)))
+
+    by : (r : Result State Refusal) → GoesClosed (r >>= λ s. tested is_name around t vs s state)
+    by (Ok s) = name_closed is_name around t true closed
     by (Err e) = tt
+done_closed holds around place vs state closed = tt
 
 goes_closed : (p : Production) (around : Around) (place : ℕ) (vs : List Value) (state : State) → IsClosed around → GoesClosed (between p around place vs state)
-unfolding between in_name in_types in_signature under_expansion after inside named_so_far listed_so_far piece_so_far tag_so_far
-goes_closed Production.Encoding around place [] state closed = tt
-goes_closed Production.Encoding around place (name ∷ vs) state closed = closed_are (tree_of name)
-goes_closed Production.Special around place vs state closed = tt
-goes_closed Production.OtherSpecial around place vs state closed = tt
-goes_closed Production.Lambda around place vs state closed = tt
-goes_closed Production.Parameter around place (v ∷ []) state closed = parameter_closed around place (index_of v) [] state closed
-goes_closed Production.NestParameter around place (v ∷ []) state closed = parameter_closed around place (index_of v) [] state closed
-goes_closed Production.Parameter around place [] state closed = closed
-goes_closed Production.Parameter around place (v ∷ w ∷ vs) state closed = closed
-goes_closed Production.NestParameter around place [] state closed = closed
-goes_closed Production.NestParameter around place (v ∷ w ∷ vs) state closed = closed
-goes_closed Production.LocalName around place [] state closed = closed
-goes_closed Production.LocalName around place (v ∷ vs) state closed = closed
-goes_closed Production.LocalType around place [] state closed = closed
-goes_closed Production.LocalType around place (v ∷ vs) state closed = closed
-goes_closed Production.InternalName around place [] state closed = closed
-goes_closed Production.InternalName around place (v ∷ []) state closed = closed
-goes_closed Production.InternalName around place (v ∷ w ∷ vs) state closed = closed
-goes_closed Production.SourceName around place [] state closed = closed
-goes_closed Production.SourceName around place (v ∷ []) state closed = closed
-goes_closed Production.SourceName around place (v ∷ w ∷ vs) state closed = closed
-goes_closed Production.LocalTypeName around place [] state closed = closed
-goes_closed Production.LocalTypeName around place (v ∷ []) state closed = closed
-goes_closed Production.LocalTypeName around place (v ∷ w ∷ vs) state closed = closed
-goes_closed Production.OperatorName around place [] state closed = closed
-goes_closed Production.OperatorName around place (v ∷ []) state closed = closed
-goes_closed Production.OperatorName around place (v ∷ w ∷ vs) state closed = closed
-goes_closed Production.OtherOperatorName around place [] state closed = closed
-goes_closed Production.OtherOperatorName around place (v ∷ []) state closed = closed
-goes_closed Production.OtherOperatorName around place (v ∷ w ∷ vs) state closed = closed
-goes_closed Production.OperatorNameWithC around place [] state closed = closed
-goes_closed Production.OperatorNameWithC around place (v ∷ []) state closed = closed
-goes_closed Production.OperatorNameWithC around place (v ∷ w ∷ vs) state closed = closed
-goes_closed Production.Conversion around place [] state closed = closed
-goes_closed Production.Conversion around place (v ∷ vs) state closed = closed
-goes_closed Production.Constructor around place [] state closed = closed
-goes_closed Production.Constructor around place (v ∷ []) state closed = closed
-goes_closed Production.Constructor around place (v ∷ w ∷ vs) state closed = closed
-goes_closed Production.Destructor around place [] state closed = closed
-goes_closed Production.Destructor around place (v ∷ []) state closed = closed
-goes_closed Production.Destructor around place (v ∷ w ∷ vs) state closed = closed
-goes_closed Production.StdName around place [] state closed = closed
-goes_closed Production.StdName around place (v ∷ []) state closed = closed
-goes_closed Production.StdName around place (v ∷ w ∷ vs) state closed = closed
-goes_closed Production.AbbreviatedName around place [] state closed = closed
-goes_closed Production.AbbreviatedName around place (v ∷ []) state closed = closed
-goes_closed Production.AbbreviatedName around place (v ∷ w ∷ vs) state closed = closed
-goes_closed Production.NestStd around place [] state closed = closed
-goes_closed Production.NestStd around place (v ∷ []) state closed = closed
-goes_closed Production.NestStd around place (v ∷ w ∷ []) state closed = closed
-goes_closed Production.NestStd around place (v ∷ w ∷ x ∷ vs) state closed = closed
-goes_closed Production.NestTemplate around place [] state closed = closed
-goes_closed Production.NestTemplate around place (v ∷ []) state closed = closed
-goes_closed Production.NestTemplate around place (v ∷ w ∷ vs) state closed = closed
-goes_closed Production.NestInternal around place [] state closed = closed
-goes_closed Production.NestInternal around place (v ∷ []) state closed = closed
-goes_closed Production.NestInternal around place (v ∷ w ∷ vs) state closed = closed
-goes_closed Production.NestSource around place [] state closed = closed
-goes_closed Production.NestSource around place (v ∷ []) state closed = closed
-goes_closed Production.NestSource around place (v ∷ w ∷ vs) state closed = closed
-goes_closed Production.NestLocalType around place [] state closed = closed
-goes_closed Production.NestLocalType around place (v ∷ []) state closed = closed
-goes_closed Production.NestLocalType around place (v ∷ w ∷ vs) state closed = closed
-goes_closed Production.NestArguments around place [] state closed = closed
-goes_closed Production.NestArguments around place (v ∷ []) state closed = closed
-goes_closed Production.NestArguments around place (v ∷ w ∷ []) state closed = closed
-goes_closed Production.NestArguments around place (v ∷ w ∷ x ∷ []) state closed = closed
-goes_closed Production.NestArguments around place (v ∷ w ∷ x ∷ y ∷ vs) state closed = closed
-goes_closed Production.NestInstance around place [] state closed = closed
-goes_closed Production.NestInstance around place (v ∷ []) state closed = closed
-goes_closed Production.NestInstance around place (v ∷ w ∷ []) state closed = closed
-goes_closed Production.NestInstance around place (v ∷ w ∷ x ∷ vs) state closed = closed
-goes_closed Production.NestTag around place [] state closed = closed
-goes_closed Production.NestTag around place (v ∷ []) state closed = closed
-goes_closed Production.NestTag around place (v ∷ w ∷ vs) state closed = closed
-goes_closed Production.NestNext around place [] state closed = closed
-goes_closed Production.NestNext around place (v ∷ []) state closed = closed
-goes_closed Production.NestNext around place (v ∷ w ∷ vs) state closed = closed
-goes_closed Production.Holder around place [] state closed = closed
-goes_closed Production.Holder around place (v ∷ []) state closed = tt
-goes_closed Production.Holder around place (v ∷ w ∷ vs) state closed = closed
-goes_closed Production.Tag around place [] state closed = closed
-goes_closed Production.Tag around place (v ∷ []) state closed = closed
-goes_closed Production.Tag around place (v ∷ w ∷ vs) state closed = closed
-goes_closed Production.TypeTag around place [] state closed = closed
-goes_closed Production.TypeTag around place (v ∷ []) state closed = closed
-goes_closed Production.TypeTag around place (v ∷ w ∷ vs) state closed = closed
-goes_closed Production.Arguments around place [] state closed = closed
-goes_closed Production.Arguments around place (v ∷ vs) state closed = closed
-goes_closed Production.PackArgument around place [] state closed = closed
-goes_closed Production.PackArgument around place (v ∷ []) state closed = closed
-goes_closed Production.PackArgument around place (v ∷ w ∷ vs) state closed = closed
-goes_closed Production.TaggedStdType around place [] state closed = closed
-goes_closed Production.TaggedStdType around place (v ∷ []) state closed = closed
-goes_closed Production.TaggedStdType around place (v ∷ w ∷ vs) state closed = closed
-goes_closed Production.TypeWithS around place [] state closed = closed
-goes_closed Production.TypeWithS around place (v ∷ []) state closed = closed
-goes_closed Production.TypeWithS around place (v ∷ w ∷ vs) state closed = closed
-goes_closed Production.LvalueItem around place [] state closed = closed
-goes_closed Production.LvalueItem around place (v ∷ []) state closed = closed
-goes_closed Production.LvalueItem around place (v ∷ w ∷ vs) state closed = closed
-goes_closed Production.RvalueItem around place [] state closed = closed
-goes_closed Production.RvalueItem around place (v ∷ []) state closed = closed
-goes_closed Production.RvalueItem around place (v ∷ w ∷ vs) state closed = closed
-goes_closed Production.IntegerLiteral around place [] state closed = closed
-goes_closed Production.IntegerLiteral around place (v ∷ []) state closed = closed
-goes_closed Production.IntegerLiteral around place (v ∷ w ∷ vs) state closed = closed
-goes_closed Production.ValueOf around place vs state closed = tt
-goes_closed Production.OfConcept around place vs state closed = tt
-goes_closed Production.ParameterArgument around place [] state closed = closed
-goes_closed Production.ParameterArgument around place (v ∷ []) state closed = parameter_closed around (place - 1) (index_of v) [] state closed
-goes_closed Production.ParameterArgument around place (v ∷ w ∷ vs) state closed = closed
-goes_closed Production.ParameterExpression around place [] state closed = closed
-goes_closed Production.ParameterExpression around place (v ∷ []) state closed = lone_closed around place (index_of v) state closed
-goes_closed Production.ParameterExpression around place (v ∷ w ∷ vs) state closed = closed
-goes_closed Production.BoundedArray around place [] state closed = closed
-goes_closed Production.BoundedArray around place (v ∷ []) state closed = lone_closed around place (index_of v) state closed
-goes_closed Production.BoundedArray around place (v ∷ w ∷ vs) state closed = closed
-goes_closed _ around place vs state closed = closed
+unfolding between
+goes_closed p around place vs state closed = done_closed (before_part (row_of p) (length vs)) around place vs state closed
 
 -- what surrounds the next part is closed too
 pub between_closed : (p : Production) (around : Around) (place : ℕ) (vs : List Value) (state : State) (n : Next Value State Around) → between p around place vs state ≡ Ok n → IsClosed around → IsClosed n.context
 between_closed p around place vs state n is closed = subst (λ going. GoesClosed going) is (goes_closed p around place vs state closed)
 
 here_closed : (around : Around) (place k : ℕ) (state : State) → IsClosed around → GoesClosed (parameter_here around place k [] state)
-unfolding parameter_here generic_so_far listed_so_far after
+unfolding parameter_here generic_so_far parameter_so_far listed_so_far after
 here_closed around place k state closed = by around.in_lambda
   where
+    named_closed : (r : Result State Refusal) → GoesClosed (r >>= λ s. listed_so_far around (parameter k (argument_at around k)) [] s)
+    named_closed (Ok s) = closed
+    named_closed (Err e) = tt
+
     by : (b : Bool) → GoesClosed (elim b as (λ _. Going) [ true ↦ generic_so_far around k [] state | false ↦ parameter_so_far around place k [] state ])
     by true = closed
-    by false = parameter_closed around place k [] state closed
+    by false = named_closed (parameter_named around place k state)
 
 argument_here_closed : (around : Around) (place k : ℕ) (state : State) → IsClosed around → GoesClosed (argument_here around place k state)
-unfolding argument_here
+unfolding argument_here argument_so_far
 argument_here_closed around place k state closed = by around.in_lambda
   where
+    named_closed : (r : Result State Refusal) → GoesClosed (r >>= λ s. next (tree (parameter k (argument_at around k)) true ∷ []) around (record s { candidates = state.candidates }))
+    named_closed (Ok s) = closed
+    named_closed (Err e) = tt
+
     by : (b : Bool) → GoesClosed (elim b as (λ _. Going) [ true ↦ next (tree (parameter (generic_number k) auto) true ∷ []) around state | false ↦ argument_so_far around place k state ])
     by true = closed
-    by false = lone_closed around place k state closed
+    by false = named_closed (parameter_named around place k state)
 
 holder_closed : (around : Around) (place : ℕ) (state : State) → IsClosed around → GoesClosed (holder_so_far around place state)
 unfolding holder_so_far listed_so_far after
@@ -193,22 +101,10 @@ wide_goes_closed : (p : Production) (around : Around) (place : ℕ) (vs : List V
 unfolding between_wide
 wide_goes_closed Production.Parameter around place (v ∷ []) state closed = here_closed around place (index_of v) state closed
 wide_goes_closed Production.NestParameter around place (v ∷ []) state closed = here_closed around place (index_of v) state closed
-wide_goes_closed Production.Parameter around place [] state closed = goes_closed Production.Parameter around place [] state closed
-wide_goes_closed Production.Parameter around place (v ∷ w ∷ vs) state closed = goes_closed Production.Parameter around place (v ∷ w ∷ vs) state closed
-wide_goes_closed Production.NestParameter around place [] state closed = goes_closed Production.NestParameter around place [] state closed
-wide_goes_closed Production.NestParameter around place (v ∷ w ∷ vs) state closed = goes_closed Production.NestParameter around place (v ∷ w ∷ vs) state closed
-wide_goes_closed Production.ParameterArgument around place [] state closed = goes_closed Production.ParameterArgument around place [] state closed
 wide_goes_closed Production.ParameterArgument around place (v ∷ []) state closed = here_closed around (place - 1) (index_of v) state closed
-wide_goes_closed Production.ParameterArgument around place (v ∷ w ∷ vs) state closed = goes_closed Production.ParameterArgument around place (v ∷ w ∷ vs) state closed
-wide_goes_closed Production.ParameterExpression around place [] state closed = goes_closed Production.ParameterExpression around place [] state closed
 wide_goes_closed Production.ParameterExpression around place (v ∷ []) state closed = argument_here_closed around place (index_of v) state closed
-wide_goes_closed Production.ParameterExpression around place (v ∷ w ∷ vs) state closed = goes_closed Production.ParameterExpression around place (v ∷ w ∷ vs) state closed
-wide_goes_closed Production.BoundedArray around place [] state closed = goes_closed Production.BoundedArray around place [] state closed
 wide_goes_closed Production.BoundedArray around place (v ∷ []) state closed = argument_here_closed around place (index_of v) state closed
-wide_goes_closed Production.BoundedArray around place (v ∷ w ∷ vs) state closed = goes_closed Production.BoundedArray around place (v ∷ w ∷ vs) state closed
-wide_goes_closed Production.Holder around place [] state closed = goes_closed Production.Holder around place [] state closed
 wide_goes_closed Production.Holder around place (v ∷ []) state closed = holder_closed around place state closed
-wide_goes_closed Production.Holder around place (v ∷ w ∷ vs) state closed = goes_closed Production.Holder around place (v ∷ w ∷ vs) state closed
 wide_goes_closed p around place vs state closed = goes_closed p around place vs state closed
 
 pub wide_between_closed : (p : Production) (around : Around) (place : ℕ) (vs : List Value) (state : State) (n : Next Value State Around) → between_wide p around place vs state ≡ Ok n → IsClosed around → IsClosed n.context

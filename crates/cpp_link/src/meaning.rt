@@ -78,7 +78,7 @@ fn qualified(restrict: bool, volatile: bool, const_: bool, ty: u32) -> Outcome
 impl Linked {
     /// What a rare production that begins at a place stands for, given its parts. The stack frame has room for the locals of
     /// every arm.
-    #[tactic(auto, unfolding(crate::specs::LinkReading::link_meaning, cpp_term::specs::Meaning::meaning, cpp_term::specs::Meaning::qualified_by, cpp_term::specs::Meaning::listed_value, cpp_term::specs::Meaning::function_of, cpp_term::specs::Meaning::with_item, cpp_term::specs::Values::tree_of, cpp_term::specs::Values::is_there, crate::specs::Parts::around_of, crate::specs::Parts::outcome_value, crate::specs::Parts::value_of, cpp_tree::specs::Nodes::tree_of, cpp_tree::specs::Nodes::piece_of, cpp_tree::specs::Nodes::thunk_of, cpp_tree::specs::Nodes::adjustment_of, crate::specs::Owed::made_at_end, crate::specs::Closes::ends_of, crate::specs::Making::nodes_of_outcome, crate::specs::NodeCount::makes_at_end))]
+    #[tactic(auto, unfolding(crate::specs::LinkReading::link_meaning, cpp_term::specs::Meaning::meaning, cpp_term::specs::Meaning::listed_value, cpp_term::specs::Meaning::with_item, cpp_term::specs::Values::tree_of, cpp_term::specs::Values::is_there, crate::specs::Parts::around_of, crate::specs::Parts::outcome_value, crate::specs::Parts::value_of, cpp_tree::specs::Nodes::tree_of, cpp_tree::specs::Nodes::piece_of, cpp_tree::specs::Nodes::thunk_of, cpp_tree::specs::Nodes::adjustment_of, crate::specs::Owed::made_at_end, crate::specs::Closes::ends_of, crate::specs::Making::nodes_of_outcome, crate::specs::NodeCount::makes_at_end))]
     #[inline(never)]
     pub fn outcome_of_rare(
         &self,
@@ -579,7 +579,7 @@ impl Linked {
     }
 
     /// What a common production that begins at a place stands for, given its parts.
-    #[tactic(auto, unfolding(cpp_term::specs::Meaning::meaning, cpp_term::specs::Meaning::qualified_by, cpp_term::specs::Meaning::listed_value, cpp_term::specs::Meaning::function_of, cpp_term::specs::Meaning::with_item, cpp_term::specs::Values::tree_of, cpp_term::specs::Values::is_there, crate::specs::Parts::around_of, crate::specs::Parts::outcome_value, crate::specs::Parts::value_of, cpp_tree::specs::Nodes::tree_of, cpp_tree::specs::Nodes::piece_of, cpp_tree::specs::Nodes::thunk_of, cpp_tree::specs::Nodes::adjustment_of, crate::specs::Owed::made_at_end, crate::specs::Closes::ends_of, crate::specs::Making::nodes_of_outcome, crate::specs::NodeCount::makes_at_end))]
+    #[tactic(auto, unfolding(cpp_term::specs::Meaning::meaning, cpp_term::specs::Meaning::listed_value, cpp_term::specs::Meaning::with_item, cpp_term::specs::Values::tree_of, cpp_term::specs::Values::is_there, crate::specs::Parts::around_of, crate::specs::Parts::outcome_value, crate::specs::Parts::value_of, cpp_tree::specs::Nodes::tree_of, cpp_tree::specs::Nodes::piece_of, cpp_tree::specs::Nodes::thunk_of, cpp_tree::specs::Nodes::adjustment_of, crate::specs::Owed::made_at_end, crate::specs::Closes::ends_of, crate::specs::Making::nodes_of_outcome, crate::specs::NodeCount::makes_at_end))]
     #[inline(always)]
     pub fn outcome(
         &self,

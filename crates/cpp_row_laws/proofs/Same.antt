@@ -2,8 +2,8 @@
 use Rattle.std.proofs.Common.{◌≡◌, refl, ℕ, List, [], ◌∷◌, length, Bool, true, false}
 use Rattle.std.specs.Prelude.{if◌then◌else◌, cond, ◌&&◌}
 use Rattle.cpp_grammar.specs.declared.production.Production.{Production}
-use Rattle.cpp_rows.specs.Row.{before_part, most_made, most_at_end, quiet_before, quiet_from}
-use Rattle.cpp_rows.specs.Rows.{row_of}
+use Rattle.cpp_grammar.specs.Row.{before_part, most_made, most_at_end, quiet_before, quiet_from}
+use Rattle.cpp_grammar.specs.Rows.{row_of}
 use Rattle.cpp_term.specs.Values.{Value, part, tree_of}
 use Rattle.cpp_term.specs.Between.{no_items}
 use Rattle.cpp_term.specs.Meaning.{is_void, is_nil}

@@ -1,6 +1,6 @@
 -- How many nodes a row makes of parts with these values.
 use Rattle.std.specs.Prelude.{ℕ, List, ◌&&◌, cond}
-use Rattle.cpp_rows.specs.Row.{Made, only, applying, packing, Own, closure, substitution, Form, makes, cell, item, a_name, in_place, own, Before, becomes, tests, holds}
+use Rattle.cpp_grammar.specs.Row.{Made, only, applying, packing, Own, closure, substitution, Form, makes, cell, item, a_name, in_place, own, Before, becomes, tests, holds}
 use Rattle.cpp_term.specs.Values.{Value, part, tree_of}
 use Rattle.cpp_term.specs.Between.{no_items}
 use Rattle.cpp_term.specs.Meaning.{is_void, is_nil}

@@ -1,8 +1,8 @@
 // The linker's counts of each production are its row's.
 ghost use Rattle.std.specs.Prelude.{◌≡◌, List, length};
 ghost use Rattle.cpp_grammar.specs.declared.production.Production.{Production};
-ghost use Rattle.cpp_rows.specs.Row.{before_part, most_at_end, most_before, quiet_before};
-ghost use Rattle.cpp_rows.specs.Rows.{row_of};
+ghost use Rattle.cpp_grammar.specs.Row.{before_part, most_at_end, most_before, quiet_before};
+ghost use Rattle.cpp_grammar.specs.Rows.{row_of};
 ghost use Rattle.cpp_term.specs.Values.{Value};
 ghost use Rattle.cpp_link.specs.NodeCount.{makes_at_end, makes_before};
 ghost use Rattle.cpp_link.specs.Owed.{made_at_end};

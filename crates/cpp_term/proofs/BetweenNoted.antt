@@ -1,5 +1,5 @@
 -- What is done between and after the parts of a production, annotated.
-use Rattle.std.proofs.Common.{◌≡◌, refl, ap, sym, ◌∙◌, subst, ℕ, ◌-◌, List, [], ◌∷◌, Bool, true, false, slice_get, Option, Some, None, Result, Ok, Err, ◌&&◌, nat_lt, ◌⊎◌, inl, inr}
+use Rattle.std.proofs.Common.{◌≡◌, refl, ap, sym, ◌∙◌, subst, ℕ, suc, ◌-◌, List, [], ◌∷◌, length, Bool, true, false, cond, slice_get, Option, Some, None, Result, Ok, Err, ◌&&◌, nat_lt, ◌⊎◌, inl, inr}
 use Rattle.std.proofs.lemmas.Bool.{false≢true}
 use Rattle.sym_core.specs.declared.refusal.Refusal.{Refusal}
 use Rattle.sym_core.specs.declared.refusal.Refusal.TheVariants.{BadReference}
@@ -10,16 +10,20 @@ use Rattle.sym_core.specs.Value.{counted_value}
 use Rattle.cpp_grammar.specs.declared.production.Production.{Production}
 use Rattle.cpp_grammar.specs.Rescoping.{generic_number, generic_so_far, parameter_here, argument_here, lambda_with, as_generic_lambda, with_holder, is_instance, holder_so_far, numbered, between_wide, close_wide}
 use Rattle.cpp_grammar.specs.Scope.{count, element, is_open, length_if_pack}
-use Rattle.cpp_grammar.specs.Term.{Term, lambda, generic_lambda, list, in_std, instance, holder, parameter, lvalue, rvalue, source, operator, constructor, destructor}
+use Rattle.cpp_grammar.specs.Term.{Term, lambda, generic_lambda, list, instance, holder, parameter}
 use Rattle.cpp_grammar.specs.Values as leaf_
-use Rattle.cpp_grammar.specs.Values.{Around, prefix_tree, Value, State, Candidate, local_number, tree_of, piece_of, is_listed, text_of, letter_of, part}
-use Rattle.cpp_grammar.specs.References.{appended, with_type, with_unqualified, with_prefix, with_packs, substituted, parameter_named}
-use Rattle.cpp_grammar.specs.Between.{in_signature, under_expansion, after, inside, extended, applied, no_items, named_so_far, listed_so_far, piece_so_far, with_tag, tag_so_far, next, parameter_so_far, argument_so_far, index_of, between}
+use Rattle.cpp_grammar.specs.Values.{Around, prefix_tree, Value, State, Candidate, local_number, tree_of, text_of, part}
+use Rattle.cpp_grammar.specs.References.{appended, with_type, with_unqualified, with_packs, substituted, parameter_named}
+use Rattle.cpp_grammar.specs.Between.{in_signature, under_expansion, after, inside, no_items, listed_so_far, next, parameter_so_far, argument_so_far, index_of, between}
 use Rattle.cpp_grammar.specs.Meaning.{parameters, meaning}
 use Rattle.cpp_grammar.specs.Unfolding as unfolding_
 use Rattle.cpp_grammar.specs.Unfolding.{close}
+use Rattle.cpp_grammar.specs.Row.{Gain, nothing, the_prefix, type_of, unqualified_of, itself, Where, as_before, in_its_name, in_its_types, in_a_signature, under_it, nameless, after_part, after_the_name, Before, quiet, goes, becomes, tests, holds, Row, before_part}
+use Rattle.cpp_grammar.specs.Meant.{made, is_listing, around_part, packs_within, gained, replaced, tested, done}
+use Rattle.cpp_grammar.specs.Rows.{row_of}
 use Rattle.cpp_grammar.proofs.ClosedParts.{StaysInside}
 use Rattle.cpp_grammar.proofs.Ways.{has_signature}
+use Rattle.cpp_grammar.proofs.Steps.{all_pass, step_passes, is_here}
 use Rattle.cpp_term.specs.Items as item_
 use Rattle.cpp_term.specs.Scope as scope_
 use Rattle.cpp_term.specs.Term as term_
@@ -27,11 +31,12 @@ use Rattle.cpp_term.specs.Values as value_
 use Rattle.cpp_term.specs.References as reference_
 use Rattle.cpp_term.specs.Between as between_
 use Rattle.cpp_term.specs.Meaning as noted_
+use Rattle.cpp_term.specs.Meant as meant_
 use Rattle.cpp_term.specs.Unfolding as unfolded_
 use Rattle.cpp_term.specs.Rescoping as wide_
 use Rattle.cpp_term.specs.Annotated.{Place, around_place, place_in, in_own, argument_in, annotate, noted_scope, noted_value, noted_values, noted_prefix, noted_around}
 use Rattle.cpp_term.proofs.Notes.{both, open_noted, closed_noted}
-use Rattle.cpp_term.proofs.MeaningNoted.{structor_noted, part_noted, tree_noted, piece_noted, text_noted, letter_noted, listed_noted, items_noted, applied_noted, text_part_, extended_noted, prefix_tree_noted, Inside, lambda_noted, meaning_noted}
+use Rattle.cpp_term.proofs.MeaningNoted.{part_noted, tree_part, tree_noted, text_noted, text_part_, prefix_tree_noted, Inside, lambda_noted, takes_encodings, is_of_none, made_inside, made_noted, listing_noted, meaning_noted}
 use Rattle.cpp_term.proofs.StatesNoted.{IsOutside, Settled, own_place, Alike, alike_bind, Same, Moves, moves_none, one_moves, type_moves, unqualified_moves, prefix_moves, Comes, get_noted, substituted_noted, wide_numbered_noted, held_moves, parameter_noted}
 
 -- what is inside has the same scope, or none
@@ -64,18 +69,6 @@ same_goes : (own : Bool) (around : Around) (x : State) (y : value_.State) (vs : 
     Goes own (around_place own around) around x y (record { context = around; values = vs; state = x }) (record { context = noted_around own around; values = noted_values (around_place own around) vs; state = y })
 same_goes own around x y vs packs = record { values = refl; context = refl; moves = moves_none own around x x y y refl refl packs; scope = inl (refl, refl); place = inl refl }
 
-after_goes : (own : Bool) (around : Around) (x new : State) (y other : value_.State) (v : Value) (t : Term) (u : term_.Term) (listed : Bool) (vs : List Value) → u ≡ annotate (around_place own around) t → Moves own around x y new other →
-    Goes own (around_place own around) around x y (record { context = after t listed around; values = vs; state = new }) (record { context = between_.after u listed (noted_around own around); values = noted_values (around_place own around) vs; state = other })
-unfolding after
-after_goes own around x new y other v t u listed vs e m = record { values = refl; context = after_noted own around t u listed e; moves = m; scope = inl (refl, refl); place = inl refl }
-
-piece_goes : (own : Bool) (around : Around) (x : State) (y : value_.State) (t : Term) (u : term_.Term) → y.packs ≡ x.packs → u ≡ annotate (around_place own around) t →
-    Alike (Goes own (around_place own around) around x y) (piece_so_far around t [] x) (between_.piece_so_far (noted_around own around) u [] y)
-unfolding piece_so_far between_.piece_so_far named_so_far between_.named_so_far noted_values noted_around
-piece_goes own around x y t u packs e =
-    named_goes own around x x y y (extended around.prefix t) (between_.extended (noted_prefix (around_place own around) around.prefix) u) false [] []
-    (ap (between_.extended (noted_prefix (around_place own around) around.prefix)) e ∙ extended_noted (around_place own around) around.prefix t) refl (moves_none own around x x y y refl refl packs)
-
 -- a parameter that is good names an argument
 named_argument : (own : Bool) (around : Around) (place k : ℕ) (x a : State) → parameter_named around place k x ≡ Ok a → term_.parameter k (between_.argument_at (noted_around own around) k) ≡ annotate (around_place own around) (parameter k)
 unfolding parameter_named between_.argument_at noted_around noted_scope place_in argument_in annotate
@@ -91,58 +84,12 @@ named_argument own around place k x a e = go around.scope e
     go None h = let clash : ◌≡◌ {A = Result State Refusal} (Err (BadReference place)) (Ok a) = h in absurd cc
     go (Some arguments) h = refl
 
-parameter_goes : (own : Bool) (around : Around) (x : State) (y : value_.State) (place k : ℕ) → y.packs ≡ x.packs →
-    Alike (Goes own (around_place own around) around x y) (parameter_so_far around place k [] x) (between_.parameter_so_far (noted_around own around) place k [] y)
-unfolding parameter_so_far between_.parameter_so_far listed_so_far between_.listed_so_far noted_values
-parameter_goes own around x y place k packs =
-    alike_bind (Moves own around x y) (Goes own (around_place own around) around x y) (parameter_named around place k x) (reference_.parameter_named (noted_around own around) place k y) (λ s. listed_so_far around (parameter k) [] s)
-    (λ s. between_.listed_so_far (noted_around own around) (term_.parameter k (between_.argument_at (noted_around own around) k)) [] s)
-    (parameter_noted own around place k x y packs)
-    (λ a b h m. named_goes own around x a y b (parameter k) (term_.parameter k (between_.argument_at (noted_around own around) k)) true [] [] (named_argument own around place k x a h) refl m)
-
 index_noted : (s : Place) (v : Value) → between_.index_of (noted_value s v) ≡ index_of v
 unfolding between_.index_of index_of
 index_noted s v = ap (counted_value Decimal) (text_noted s v)
 
-named_parameter : (own : Bool) (around : Around) (x : State) (y : value_.State) (place : ℕ) (v : Value) → y.packs ≡ x.packs →
-    Alike (Goes own (around_place own around) around x y) (parameter_so_far around place (index_of v) [] x) (between_.parameter_so_far (noted_around own around) place (between_.index_of (noted_value (around_place own around) v)) [] y)
-named_parameter own around x y place v packs =
-    subst (λ k. Alike (Goes own (around_place own around) around x y) (parameter_so_far around place (index_of v) [] x) (between_.parameter_so_far (noted_around own around) place k [] y)) (sym (index_noted (around_place own around) v))
-    (parameter_goes own around x y place (index_of v) packs)
-
--- a parameter that is an argument itself leaves the candidates
-argument_goes : (own : Bool) (around : Around) (x : State) (y : value_.State) (place k : ℕ) → y.packs ≡ x.packs →
-    Alike (Goes own (around_place own around) around x y) (argument_so_far around place k x) (between_.argument_so_far (noted_around own around) place k y)
-unfolding argument_so_far between_.argument_so_far noted_values noted_value
-argument_goes own around x y place k packs =
-    alike_bind (Moves own around x y) (Goes own (around_place own around) around x y) (parameter_named around place k x) (reference_.parameter_named (noted_around own around) place k y)
-    (λ s. next (leaf_.tree (parameter k) true ∷ []) around (record s { candidates = x.candidates }))
-    (λ s. between_.next (value_.tree (term_.parameter k (between_.argument_at (noted_around own around) k)) true ∷ []) (noted_around own around) (record s { candidates = y.candidates }))
-    (parameter_noted own around place k x y packs)
-    (λ a b h m. record {
-      values = ap (λ u. value_.tree u true ∷ []) (named_argument own around place k x a h);
-      context = refl;
-      moves = moves_none own around x (record a { candidates = x.candidates }) y (record b { candidates = y.candidates }) refl refl m.packs;
-      scope = inl (refl, refl);
-      place = inl refl;
-    })
-
-lone_parameter : (own : Bool) (around : Around) (x : State) (y : value_.State) (place : ℕ) (v : Value) → y.packs ≡ x.packs →
-    Alike (Goes own (around_place own around) around x y) (argument_so_far around place (index_of v) x) (between_.argument_so_far (noted_around own around) place (between_.index_of (noted_value (around_place own around) v)) y)
-lone_parameter own around x y place v packs =
-    subst (λ k. Alike (Goes own (around_place own around) around x y) (argument_so_far around place (index_of v) x) (between_.argument_so_far (noted_around own around) place k y)) (sym (index_noted (around_place own around) v))
-    (argument_goes own around x y place (index_of v) packs)
-
-inside_goes : (own : Bool) (around : Around) (x : State) (y : value_.State) → y.packs ≡ x.packs →
-    Goes own (around_place own around) around x y (record { context = inside around; values = []; state = with_prefix around x }) (record { context = between_.inside (noted_around own around); values = []; state = reference_.with_prefix (noted_around own around) y })
-unfolding noted_values inside between_.inside noted_around noted_prefix
-inside_goes own around x y packs = record { values = refl; context = refl; moves = prefix_moves own around x y packs; scope = inl (refl, refl); place = inl refl }
-
--- in a part that no name so far goes on
-unnamed_goes : (own : Bool) (around : Around) (x : State) (y : value_.State) → y.packs ≡ x.packs →
-    Goes own (around_place own around) around x y (record { context = inside around; values = []; state = x }) (record { context = between_.inside (noted_around own around); values = []; state = y })
-unfolding noted_values inside between_.inside noted_around noted_prefix
-unnamed_goes own around x y packs = record { values = refl; context = refl; moves = moves_none own around x x y y refl refl packs; scope = inl (refl, refl); place = inl refl }
+index_part : (s : Place) (vs : List Value) → between_.index_of (value_.part (noted_values s vs) 0) ≡ index_of (part vs 0)
+index_part s vs = ap between_.index_of (part_noted s vs 0) ∙ index_noted s (part vs 0)
 
 signature_goes : (own : Bool) (s : Place) (around : Around) (x : State) (y : value_.State) (vs : List Value) → (around_place own (in_signature around) ≡ s) ⊎ (((in_signature around).scope ≡ None) × (own ≡ false)) → y.packs ≡ x.packs →
     Goes own s around x y (record { context = in_signature around; values = vs; state = x }) (record { context = between_.in_signature (noted_around own around); values = noted_values s vs; state = y })
@@ -154,157 +101,168 @@ unfolding in_signature parts_place has_signature place_in
 signature_place true around = inl refl
 signature_place false around = inr (refl, refl)
 
-expansion_goes : (own : Bool) (around : Around) (x : State) (y : value_.State) (vs : List Value) →
-    Goes own (around_place own around) around x y (record { context = under_expansion around; values = vs; state = record x { packs = None } }) (record { context = between_.under_expansion (noted_around own around); values = noted_values (around_place own around) vs; state = record y { packs = None } })
-unfolding under_expansion between_.under_expansion noted_around
-expansion_goes own around x y vs = record { values = refl; context = refl; moves = moves_none own around x (record x { packs = None }) y (record y { packs = None }) refl refl refl; scope = inl (refl, refl); place = inl refl }
+values_noted : (s : Place) (vs : List Value) → length (noted_values s vs) ≡ length vs
+unfolding noted_values
+values_noted s [] = refl
+values_noted s (v ∷ vs) = ap suc (values_noted s vs)
 
-listed_goes : (own : Bool) (around : Around) (x : State) (y : value_.State) (v : Value) → y.packs ≡ x.packs →
-    Goes own (around_place own around) around x y (record { context = after (tree_of v) (is_listed v) around; values = v ∷ []; state = x })
-    (record { context = between_.after (value_.tree_of (noted_value (around_place own around) v)) (value_.is_listed (noted_value (around_place own around) v)) (noted_around own around); values = noted_value (around_place own around) v ∷ []; state = y })
-unfolding after noted_values
-listed_goes own around x y v packs = record {
+replaced_noted : (s : Place) (t : Term) (u : term_.Term) (is_in : Bool) (vs : List Value) → u ≡ annotate s t → meant_.replaced (value_.tree u is_in) (noted_values s vs) ≡ noted_values s (replaced (leaf_.tree t is_in) vs)
+unfolding meant_.replaced replaced noted_values noted_value
+replaced_noted s t u is_in [] e = refl
+replaced_noted s t u is_in (v ∷ vs) e = ap (λ w. value_.tree w is_in ∷ noted_values s vs) e
+
+-- the first value is a tree now, which may be the name so far
+becomes_goes : (own : Bool) (around : Around) (x new : State) (y other : value_.State) (t : Term) (u : term_.Term) (is_in is_name : Bool) (vs : List Value) → u ≡ annotate (around_place own around) t → Moves own around x y new other →
+    Goes own (around_place own around) around x y (record { context = cond is_name (after t is_in around) around; values = replaced (leaf_.tree t is_in) vs; state = new })
+    (record { context = cond is_name (between_.after u is_in (noted_around own around)) (noted_around own around); values = meant_.replaced (value_.tree u is_in) (noted_values (around_place own around) vs); state = other })
+unfolding after
+becomes_goes own around x new y other t u is_in true vs e m =
+    record { values = replaced_noted (around_place own around) t u is_in vs e; context = after_noted own around t u is_in e; moves = m; scope = inl (refl, refl); place = inl refl }
+becomes_goes own around x new y other t u is_in false vs e m = record { values = replaced_noted (around_place own around) t u is_in vs e; context = refl; moves = m; scope = inl (refl, refl); place = inl refl }
+
+candidate_moves : (own : Bool) (around : Around) (x : State) (y : value_.State) (t : Term) (u : term_.Term) (is_candidate : Bool) → y.packs ≡ x.packs → u ≡ annotate (around_place own around) t →
+    Moves own around x y (cond is_candidate (appended around t x) x) (cond is_candidate (reference_.appended (noted_around own around) u y) y)
+candidate_moves own around x y t u true packs e = one_moves own around t u x y packs e
+candidate_moves own around x y t u false packs e = moves_none own around x x y y refl refl packs
+
+-- a parameter that is an argument itself leaves the candidates
+kept_moves : (own : Bool) (around : Around) (x a : State) (y b : value_.State) (is_name : Bool) → Moves own around x y a b →
+    Moves own around x y (cond is_name a (record a { candidates = x.candidates })) (cond is_name b (record b { candidates = y.candidates }))
+kept_moves own around x a y b true m = m
+kept_moves own around x a y b false m = moves_none own around x (record a { candidates = x.candidates }) y (record b { candidates = y.candidates }) refl refl m.packs
+
+tests_goes : (own : Bool) (around : Around) (x : State) (y : value_.State) (place k : ℕ) (is_name : Bool) (vs : List Value) → y.packs ≡ x.packs →
+    Alike (Goes own (around_place own around) around x y) (parameter_named around place k x >>= λ s. tested is_name around (parameter k) vs s x)
+    (reference_.parameter_named (noted_around own around) place k y
+    >>= λ s. meant_.tested is_name (noted_around own around) (term_.parameter k (between_.argument_at (noted_around own around) k)) (noted_values (around_place own around) vs) s y)
+unfolding tested meant_.tested
+tests_goes own around x y place k is_name vs packs =
+    let u = term_.parameter k (between_.argument_at (noted_around own around) k) in
+    alike_bind (Moves own around x y) (Goes own (around_place own around) around x y) (parameter_named around place k x) (reference_.parameter_named (noted_around own around) place k y)
+    (λ s. tested is_name around (parameter k) vs s x) (λ s. meant_.tested is_name (noted_around own around) (term_.parameter k (between_.argument_at (noted_around own around) k)) (noted_values (around_place own around) vs) s y)
+    (parameter_noted own around place k x y packs)
+    (λ a b h m. becomes_goes own around x (cond is_name a (record a { candidates = x.candidates })) y (cond is_name b (record b { candidates = y.candidates })) (parameter k) u true is_name vs (named_argument own around place k x a h)
+    (kept_moves own around x a y b is_name m))
+
+part_moves : (own : Bool) (around : Around) (vs : List Value) (k : ℕ) (x : State) (y : value_.State) → y.packs ≡ x.packs →
+    Moves own around x y (with_type around (part vs k) x) (reference_.with_type (noted_around own around) (value_.part (noted_values (around_place own around) vs) k) y)
+part_moves own around vs k x y packs = subst (λ v. Moves own around x y (with_type around (part vs k) x) (reference_.with_type (noted_around own around) v y)) (sym (part_noted (around_place own around) vs k)) (type_moves own around (part vs k) x y packs)
+
+plain_moves : (own : Bool) (around : Around) (vs : List Value) (k : ℕ) (x : State) (y : value_.State) → y.packs ≡ x.packs →
+    Moves own around x y (with_unqualified around (part vs k) x) (reference_.with_unqualified (noted_around own around) (value_.part (noted_values (around_place own around) vs) k) y)
+plain_moves own around vs k x y packs =
+    subst (λ v. Moves own around x y (with_unqualified around (part vs k) x) (reference_.with_unqualified (noted_around own around) v y)) (sym (part_noted (around_place own around) vs k)) (unqualified_moves own around (part vs k) x y packs)
+
+gained_moves : (own : Bool) (gain : Gain) (around : Around) (vs : List Value) (v : Value) (w : value_.Value) (x : State) (y : value_.State) → value_.tree_of w ≡ annotate (around_place own around) (tree_of v) → y.packs ≡ x.packs →
+    Moves own around x y (gained gain around vs v x) (meant_.gained gain (noted_around own around) (noted_values (around_place own around) vs) w y)
+unfolding gained meant_.gained
+gained_moves own nothing around vs v w x y e packs = moves_none own around x x y y refl refl packs
+gained_moves own the_prefix around vs v w x y e packs = prefix_moves own around x y packs
+gained_moves own (type_of k) around vs v w x y e packs = part_moves own around vs k x y packs
+gained_moves own (unqualified_of k) around vs v w x y e packs = plain_moves own around vs k x y packs
+gained_moves own itself around vs v w x y e packs = one_moves own around (tree_of v) (value_.tree_of w) x y packs e
+
+packs_move : (own : Bool) (around : Around) (x new : State) (y other : value_.State) (m n : Option ℕ) → n ≡ m → Moves own around x y new other → Moves own around x y (record new { packs = m }) (record other { packs = n })
+packs_move own around x new y other m n e moves = record { more = moves.more; others = moves.others; is = moves.is; so = moves.so; each = moves.each; packs = e }
+
+goes_noted : (own : Bool) (w : Where) (around : Around) (place : ℕ) (vs : List Value) (x new : State) (y other : value_.State) → is_here w ≡ true → Moves own around x y new other →
+    Goes own (around_place own around) around x y (record { context = around_part around place vs w; values = vs; state = packs_within w new })
+    (record { context = meant_.around_part (noted_around own around) place (noted_values (around_place own around) vs) w; values = noted_values (around_place own around) vs; state = meant_.packs_within w other })
+unfolding is_here around_part meant_.around_part packs_within meant_.packs_within after inside under_expansion between_.inside between_.under_expansion noted_around noted_prefix
+goes_noted own in_its_name around place vs x new y other here m = absurd (false≢true here)
+goes_noted own in_its_types around place vs x new y other here m = absurd (false≢true here)
+goes_noted own in_a_signature around place vs x new y other here m = absurd (false≢true here)
+goes_noted own as_before around place vs x new y other here m = record { values = refl; context = refl; moves = m; scope = inl (refl, refl); place = inl refl }
+goes_noted own under_it around place vs x new y other here m = record { values = refl; context = refl; moves = packs_move own around x new y other None None refl m; scope = inl (refl, refl); place = inl refl }
+goes_noted own nameless around place vs x new y other here m = record { values = refl; context = refl; moves = m; scope = inl (refl, refl); place = inl refl }
+goes_noted own (after_part k listing) around place vs x new y other here m = record {
   values = refl;
-  context = ap (λ b. between_.after (value_.tree_of (noted_value (around_place own around) v)) b (noted_around own around)) (listed_noted (around_place own around) v)
-      ∙ after_noted own around (tree_of v) (value_.tree_of (noted_value (around_place own around) v)) (is_listed v) (tree_noted (around_place own around) v);
-  moves = moves_none own around x x y y refl refl packs;
+  context = ap (λ b. between_.after (value_.tree_of (value_.part (noted_values (around_place own around) vs) k)) b (noted_around own around)) (listing_noted (around_place own around) vs listing)
+      ∙ after_noted own around (tree_of (part vs k)) (value_.tree_of (value_.part (noted_values (around_place own around) vs) k)) (is_listing vs listing) (tree_part (around_place own around) vs k);
+  moves = m;
   scope = inl (refl, refl);
   place = inl refl;
 }
+goes_noted own after_the_name around place vs x new y other here m =
+    record { values = refl; context = after_noted own around (prefix_tree around.prefix) _ true (prefix_tree_noted (around_place own around) around.prefix); moves = m; scope = inl (refl, refl); place = inl refl }
 
-tag_noted : (s : Place) (t : Term) (u : term_.Term) (tag other : List ℕ) → u ≡ annotate s t → other ≡ tag → between_.with_tag u other ≡ annotate s (with_tag t tag)
-unfolding between_.with_tag with_tag annotate
-tag_noted s t u tag other is same = rw (is, same) (ap (λ b. term_.tagged b (annotate s t) tag) (structor_noted s t))
+-- what is done is as in the encoding around it, and a tree is made of no encodings
+unfoldable is_plain : Before → Bool
+is_plain (goes gain w) = is_here w
+is_plain (becomes m is_in is_name is_candidate) = is_of_none m
+is_plain _ = true
 
-tag_goes : (own : Bool) (around : Around) (x : State) (y : value_.State) (v : Value) → y.packs ≡ x.packs →
-    Alike (Goes own (around_place own around) around x y) (tag_so_far around (text_of v) x) (between_.tag_so_far (noted_around own around) (value_.text_of (noted_value (around_place own around) v)) y)
-unfolding tag_so_far between_.tag_so_far named_so_far between_.named_so_far noted_around noted_values
-tag_goes own around x y v packs =
-    named_goes own around x x y y (with_tag (prefix_tree around.prefix) (text_of v)) _ false [] []
-    (tag_noted (around_place own around) (prefix_tree around.prefix) _ (text_of v) _ (prefix_tree_noted (around_place own around) around.prefix) (text_noted (around_place own around) v))
-    refl (moves_none own around x x y y refl refl packs)
+done_noted : (own : Bool) (b : Before) (around : Around) (place : ℕ) (vs : List Value) (x : State) (y : value_.State) → is_plain b ≡ true → y.packs ≡ x.packs →
+    Alike (Goes own (around_place own around) around x y) (done b around place vs x) (meant_.done b (noted_around own around) place (noted_values (around_place own around) vs) y)
+unfolding is_plain done meant_.done tree_of value_.tree_of annotate
+done_noted own quiet around place vs x y plain packs = same_goes own around x y vs packs
+done_noted own (goes gain w) around place vs x y plain packs =
+    goes_noted own w around place vs x (gained gain around vs leaf_.nothing_there x) y (meant_.gained gain (noted_around own around) (noted_values (around_place own around) vs) value_.nothing_there y) plain
+    (gained_moves own gain around vs leaf_.nothing_there value_.nothing_there x y refl packs)
+done_noted own (becomes m is_in is_name is_candidate) around place vs x y plain packs =
+    let t = made 0 around vs m in
+    let u = meant_.made 0 (noted_around own around) (noted_values (around_place own around) vs) m in
+    let e = made_noted own 0 around vs m (made_inside 0 around vs m plain) in
+    becomes_goes own around x (cond is_candidate (appended around t x) x) y (cond is_candidate (reference_.appended (noted_around own around) u y) y) t u is_in is_name vs e (candidate_moves own around x y t u is_candidate packs e)
+done_noted own (tests after_t is_name) around place vs x y plain packs =
+    let at = cond after_t (place - 1) place in
+    subst (λ k. Alike (Goes own (around_place own around) around x y) (done (tests after_t is_name) around place vs x) (reference_.parameter_named (noted_around own around) at k y
+    >>= λ s. meant_.tested is_name (noted_around own around) (term_.parameter k (between_.argument_at (noted_around own around) k)) (noted_values (around_place own around) vs) s y))
+    (sym (index_part (around_place own around) vs)) (tests_goes own around x y at (index_of (part vs 0)) is_name vs packs)
+done_noted own holds around place vs x y plain packs = refl
+
+row_noted : (own : Bool) (row : Row) (around : Around) (place : ℕ) (vs : List Value) (x : State) (y : value_.State) → all_pass is_plain row.before row.onward ≡ true → y.packs ≡ x.packs →
+    Alike (Goes own (around_place own around) around x y) (done (before_part row (length vs)) around place vs x)
+    (meant_.done (before_part row (length (noted_values (around_place own around) vs))) (noted_around own around) place (noted_values (around_place own around) vs) y)
+row_noted own row around place vs x y plain packs =
+    subst (λ n. Alike (Goes own (around_place own around) around x y) (done (before_part row (length vs)) around place vs x)
+    (meant_.done (before_part row n) (noted_around own around) place (noted_values (around_place own around) vs) y)) (sym (values_noted (around_place own around) vs))
+    (done_noted own (before_part row (length vs)) around place vs x y (step_passes is_plain row plain (length vs)) packs)
 
 pub between_noted : (own : Bool) (production : Production) (around : Around) (place : ℕ) (vs : List Value) (x : State) (y : value_.State) → StaysInside production → y.packs ≡ x.packs →
     Alike (Goes own (parts_place own production around) around x y) (between production around place vs x) (between_.between production (noted_around own around) place (noted_values (parts_place own production around) vs) y)
-unfolding parts_place has_signature after inside under_expansion between between_.between noted_values noted_value named_so_far between_.named_so_far listed_so_far between_.listed_so_far annotate noted_around noted_prefix
-between_noted own Production.LocalName around place [] x y stays packs = same_goes own around x y [] packs
-between_noted own Production.LocalName around place (v ∷ vs) x y stays packs = after_goes own around x x y y v (tree_of v) _ true (v ∷ vs) (tree_noted (around_place own around) v) (moves_none own around x x y y refl refl packs)
-between_noted own Production.LocalType around place [] x y stays packs = same_goes own around x y [] packs
-between_noted own Production.LocalType around place (v ∷ vs) x y stays packs = after_goes own around x x y y v (tree_of v) _ true (v ∷ vs) (tree_noted (around_place own around) v) (moves_none own around x x y y refl refl packs)
-between_noted own Production.InternalName around place (v ∷ []) x y stays packs = piece_goes own around x y (source true (text_of v)) _ packs (ap (term_.source true) (text_noted (around_place own around) v))
-between_noted own Production.SourceName around place (v ∷ []) x y stays packs = piece_goes own around x y (source false (text_of v)) _ packs (ap (term_.source false) (text_noted (around_place own around) v))
-between_noted own Production.LocalTypeName around place (v ∷ []) x y stays packs = piece_goes own around x y (piece_of v) _ packs (piece_noted (around_place own around) v)
-between_noted own Production.OperatorName around place (v ∷ []) x y stays packs = piece_goes own around x y (piece_of v) _ packs (piece_noted (around_place own around) v)
-between_noted own Production.OtherOperatorName around place (v ∷ []) x y stays packs = piece_goes own around x y (piece_of v) _ packs (piece_noted (around_place own around) v)
-between_noted own Production.OperatorNameWithC around place (v ∷ []) x y stays packs = piece_goes own around x y (operator 99 (letter_of v)) _ packs (ap (term_.operator 99) (letter_noted (around_place own around) v))
-between_noted own Production.Conversion around place [] x y stays packs = unnamed_goes own around x y packs
-between_noted own Production.Constructor around place (v ∷ []) x y stays packs = piece_goes own around x y (constructor (letter_of v)) _ packs (ap term_.constructor (letter_noted (around_place own around) v))
-between_noted own Production.Destructor around place (v ∷ []) x y stays packs = piece_goes own around x y (destructor (letter_of v)) _ packs (ap term_.destructor (letter_noted (around_place own around) v))
-between_noted own Production.StdName around place (v ∷ []) x y stays packs = named_goes own around x x y y (in_std (piece_of v)) _ false [] [] (ap term_.in_std (piece_noted (around_place own around) v)) refl (moves_none own around x x y y refl refl packs)
-between_noted own Production.TaggedStdType around place (v ∷ []) x y stays packs = named_goes own around x x y y (in_std (piece_of v)) _ false [] [] (ap term_.in_std (piece_noted (around_place own around) v)) refl (moves_none own around x x y y refl refl packs)
-between_noted own Production.AbbreviatedName around place (v ∷ []) x y stays packs = named_goes own around x x y y (tree_of v) _ true [] [] (tree_noted (around_place own around) v) refl (moves_none own around x x y y refl refl packs)
-between_noted own Production.NestStd around place (v ∷ []) x y stays packs = named_goes own around x x y y (in_std (piece_of v)) _ false [] [] (ap term_.in_std (piece_noted (around_place own around) v)) refl (moves_none own around x x y y refl refl packs)
-between_noted own Production.NestStd around place (v ∷ w ∷ []) x y stays packs =
-    named_goes own around x x y y (applied (tree_of v) w) _ false (w ∷ []) (noted_value (around_place own around) w ∷ [])
-    (ap (λ t. between_.applied t (noted_value (around_place own around) w)) (tree_noted (around_place own around) v) ∙ applied_noted (around_place own around) (tree_of v) w) refl (moves_none own around x x y y refl refl packs)
-between_noted own Production.NestTemplate around place (v ∷ []) x y stays packs = named_goes own around x x y y (tree_of v) _ true [] [] (tree_noted (around_place own around) v) refl (moves_none own around x x y y refl refl packs)
-between_noted own Production.NestParameter around place (v ∷ []) x y stays packs = named_parameter own around x y place v packs
-between_noted own Production.NestInternal around place (v ∷ []) x y stays packs = piece_goes own around x y (source true (text_of v)) _ packs (ap (term_.source true) (text_noted (around_place own around) v))
-between_noted own Production.NestSource around place (v ∷ []) x y stays packs = piece_goes own around x y (source false (text_of v)) _ packs (ap (term_.source false) (text_noted (around_place own around) v))
-between_noted own Production.NestLocalType around place (v ∷ []) x y stays packs = piece_goes own around x y (piece_of v) _ packs (piece_noted (around_place own around) v)
-between_noted own Production.NestArguments around place [] x y stays packs = inside_goes own around x y packs
-between_noted own Production.NestArguments around place (v ∷ w ∷ []) x y stays packs =
-    let e = both term_.instance (prefix_tree_noted (around_place own around) around.prefix) (items_noted (around_place own around) v) in
-    named_goes own around x (appended around (instance (prefix_tree around.prefix) (no_items v)) x) y _ (instance (prefix_tree around.prefix) (no_items v)) _ true (w ∷ []) (noted_value (around_place own around) w ∷ []) e refl
-    (one_moves own around (instance (prefix_tree around.prefix) (no_items v)) _ x y packs e)
-between_noted own Production.NestArguments around place (v ∷ w ∷ u ∷ []) x y stays packs = after_goes own around x x y y v (tree_of u) _ false (v ∷ w ∷ u ∷ []) (tree_noted (around_place own around) u) (moves_none own around x x y y refl refl packs)
-between_noted own Production.NestInstance around place [] x y stays packs = inside_goes own around x y packs
-between_noted own Production.NestInstance around place (v ∷ w ∷ []) x y stays packs =
-    let e = both term_.instance (prefix_tree_noted (around_place own around) around.prefix) (items_noted (around_place own around) v) in
-    named_goes own around x x y y (instance (prefix_tree around.prefix) (no_items v)) _ false (w ∷ []) (noted_value (around_place own around) w ∷ []) e refl (moves_none own around x x y y refl refl packs)
-between_noted own Production.NestTag around place (v ∷ []) x y stays packs = tag_goes own around x y v packs
-between_noted own Production.Tag around place (v ∷ []) x y stays packs = tag_goes own around x y v packs
-between_noted own Production.TypeTag around place (v ∷ []) x y stays packs = tag_goes own around x y v packs
-between_noted own Production.NestNext around place [] x y stays packs =
-    after_goes own around x (with_prefix around x) y _ leaf_.nothing_there (prefix_tree around.prefix) _ true [] (prefix_tree_noted (around_place own around) around.prefix) (prefix_moves own around x y packs)
-between_noted own Production.NestNext around place (v ∷ []) x y stays packs = after_goes own around x x y y v (tree_of v) _ false (v ∷ []) (tree_noted (around_place own around) v) (moves_none own around x x y y refl refl packs)
-between_noted own Production.Holder around place (v ∷ []) x y stays packs = refl
-between_noted own Production.Arguments around place [] x y stays packs = inside_goes own around x y packs
-between_noted own Production.PackArgument around place (v ∷ []) x y stays packs = record {
-  values = ap (λ t. value_.tree (term_.pack t) true ∷ []) (items_noted (around_place own around) v);
-  context = refl;
-  moves = moves_none own around x x y y refl refl packs;
-  scope = inl (refl, refl);
-  place = inl refl;
-}
-between_noted own Production.Lambda around place vs x y stays packs = signature_goes own (parts_place own Production.Lambda around) around x y vs (signature_place own around) packs
-between_noted own Production.Expansion around place vs x y stays packs = expansion_goes own around x y vs
-between_noted own Production.Parameter around place (v ∷ []) x y stays packs = named_parameter own around x y place v packs
-between_noted own Production.ValueOf around place vs x y stays packs = signature_goes own (parts_place own Production.ValueOf around) around x y vs (signature_place own around) packs
-between_noted own Production.OfConcept around place vs x y stays packs = signature_goes own (parts_place own Production.OfConcept around) around x y vs (signature_place own around) packs
-between_noted own Production.ParameterArgument around place (v ∷ []) x y stays packs = named_parameter own around x y (place - 1) v packs
-between_noted own Production.ParameterExpression around place (v ∷ []) x y stays packs = lone_parameter own around x y place v packs
-between_noted own Production.BoundedArray around place (v ∷ []) x y stays packs = lone_parameter own around x y place v packs
-between_noted own Production.TypeWithS around place (v ∷ []) x y stays packs = listed_goes own around x y v packs
-between_noted own Production.LvalueItem around place (v ∷ []) x y stays packs = record {
-  values = ap (λ t. value_.tree (term_.lvalue t) true ∷ []) (tree_noted (around_place own around) v);
-  context = refl;
-  moves = one_moves own around (lvalue (tree_of v)) _ x y packs (ap term_.lvalue (tree_noted (around_place own around) v));
-  scope = inl (refl, refl);
-  place = inl refl;
-}
-between_noted own Production.RvalueItem around place (v ∷ []) x y stays packs = record {
-  values = ap (λ t. value_.tree (term_.rvalue t) true ∷ []) (tree_noted (around_place own around) v);
-  context = refl;
-  moves = one_moves own around (rvalue (tree_of v)) _ x y packs (ap term_.rvalue (tree_noted (around_place own around) v));
-  scope = inl (refl, refl);
-  place = inl refl;
-}
-between_noted own Production.IntegerLiteral around place (v ∷ []) x y stays packs = record { values = refl; context = refl; moves = type_moves own around v x y packs; scope = inl (refl, refl); place = inl refl }
+unfolding parts_place has_signature between between_.between all_pass is_plain is_here is_of_none takes_encodings
 between_noted own Production.Encoding around place vs x y stays packs = absurd stays
 between_noted own Production.Special around place vs x y stays packs = absurd stays
 between_noted own Production.OtherSpecial around place vs x y stays packs = absurd stays
-between_noted own _ around place vs x y stays packs = same_goes own around x y vs packs
+between_noted own Production.Lambda around place vs x y stays packs = signature_goes own (parts_place own Production.Lambda around) around x y vs (signature_place own around) packs
+between_noted own Production.ValueOf around place vs x y stays packs = signature_goes own (parts_place own Production.ValueOf around) around x y vs (signature_place own around) packs
+between_noted own Production.OfConcept around place vs x y stays packs = signature_goes own (parts_place own Production.OfConcept around) around x y vs (signature_place own around) packs
+between_noted own p around place vs x y stays packs = row_noted own (row_of p) around place vs x y refl packs
 
 -- ## After a production
 
-made_moves : (own : Bool) (production : Production) (byte : ℕ) (around : Around) (vs : List Value) (x : State) (y : value_.State) → Inside production vs → y.packs ≡ x.packs →
-    Moves own around x y (appended around (tree_of (meaning production byte around vs)) x)
-    (reference_.appended (noted_around own around) (value_.tree_of (noted_.meaning production byte (noted_around own around) (noted_values (around_place own around) vs))) y)
-made_moves own production byte around vs x y h packs =
-    one_moves own around (tree_of (meaning production byte around vs)) _ x y packs (ap value_.tree_of (meaning_noted own production byte around vs h) ∙ tree_noted (around_place own around) (meaning production byte around vs))
-
-part_moves : (own : Bool) (around : Around) (vs : List Value) (x : State) (y : value_.State) → y.packs ≡ x.packs →
-    Moves own around x y (with_type around (part vs 0) x) (reference_.with_type (noted_around own around) (value_.part (noted_values (around_place own around) vs) 0) y)
-part_moves own around vs x y packs = subst (λ v. Moves own around x y (with_type around (part vs 0) x) (reference_.with_type (noted_around own around) v y)) (sym (part_noted (around_place own around) vs 0)) (type_moves own around (part vs 0) x y packs)
-
-plain_moves : (own : Bool) (around : Around) (vs : List Value) (x : State) (y : value_.State) → y.packs ≡ x.packs →
-    Moves own around x y (with_unqualified around (part vs 0) x) (reference_.with_unqualified (noted_around own around) (value_.part (noted_values (around_place own around) vs) 0) y)
-plain_moves own around vs x y packs = subst (λ v. Moves own around x y (with_unqualified around (part vs 0) x) (reference_.with_unqualified (noted_around own around) v y)) (sym (part_noted (around_place own around) vs 0)) (unqualified_moves own around (part vs 0) x y packs)
-
-behind_noted : (own : Bool) (production : Production) (byte : ℕ) (around : Around) (began : State) (first : value_.State) (vs : List Value) (x : State) (y : value_.State) → y.packs ≡ x.packs → first.packs ≡ began.packs →
+behind_noted : (own : Bool) (production : Production) (byte : ℕ) (around : Around) (began : State) (first : value_.State) (vs : List Value) (x : State) (y : value_.State) → Inside production vs →
+    y.packs ≡ x.packs → first.packs ≡ began.packs →
     Moves own around x y (unfolding_.behind production byte around began vs x) (unfolded_.behind production byte (noted_around own around) first (noted_values (around_place own around) vs) y)
 unfolding unfolding_.behind unfolded_.behind
-behind_noted own Production.RestrictType byte around began first vs x y packs e = made_moves own Production.RestrictType byte around vs x y tt packs
-behind_noted own Production.VolatileType byte around began first vs x y packs e = made_moves own Production.VolatileType byte around vs x y tt packs
-behind_noted own Production.ConstType byte around began first vs x y packs e = made_moves own Production.ConstType byte around vs x y tt packs
-behind_noted own Production.ReferenceType byte around began first vs x y packs e = made_moves own Production.ReferenceType byte around vs x y tt packs
-behind_noted own Production.PlainType byte around began first vs x y packs e = part_moves own around vs x y packs
-behind_noted own Production.PlainArgument byte around began first vs x y packs e = part_moves own around vs x y packs
-behind_noted own Production.ArgumentWithT byte around began first vs x y packs e = part_moves own around vs x y packs
-behind_noted own Production.TypeWithD byte around began first vs x y packs e = part_moves own around vs x y packs
-behind_noted own Production.ItemWithD byte around began first vs x y packs e = part_moves own around vs x y packs
-behind_noted own Production.QualifiedPlain byte around began first vs x y packs e = plain_moves own around vs x y packs
-behind_noted own Production.PlainWithD byte around began first vs x y packs e = plain_moves own around vs x y packs
-behind_noted own Production.Expansion byte around began first vs x y packs e = moves_none own around x (record x { packs = began.packs }) y (record y { packs = first.packs }) refl refl e
-behind_noted own _ byte around began first vs x y packs e = moves_none own around x x y y refl refl packs
+behind_noted own production byte around began first vs x y h packs e = go (row_of production).restores_packs
+  where
+    v : Value
+    v = meaning production byte around vs
+
+    w : value_.Value
+    w = noted_.meaning production byte (noted_around own around) (noted_values (around_place own around) vs)
+
+    new : State
+    new = gained (row_of production).gain around vs v x
+
+    other : value_.State
+    other = meant_.gained (row_of production).gain (noted_around own around) (noted_values (around_place own around) vs) w y
+
+    moves_ : Moves own around x y new other
+    moves_ = gained_moves own (row_of production).gain around vs v w x y (ap value_.tree_of (meaning_noted own production byte around vs h) ∙ tree_noted (around_place own around) v) packs
+
+    go : (b : Bool) → Moves own around x y (cond b (record new { packs = began.packs }) new) (cond b (record other { packs = first.packs }) other)
+    go true = packs_move own around x new y other began.packs first.packs e moves_
+    go false = moves_
 
 -- what a production comes to, both ways
 made_close : (own : Bool) (production : Production) (byte : ℕ) (around : Around) (began : State) (first : value_.State) (vs : List Value) (x : State) (y : value_.State) → Inside production vs → Same own around x y → first.packs ≡ began.packs →
     Comes own around x y (found (meaning production byte around vs) (unfolding_.behind production byte around began vs x))
     (found (noted_.meaning production byte (noted_around own around) (noted_values (around_place own around) vs)) (unfolded_.behind production byte (noted_around own around) first (noted_values (around_place own around) vs) y))
 made_close own production byte around began first vs x y h same e =
-    record { value = meaning_noted own production byte around vs h; moves = behind_noted own production byte around began first vs x y same.packs e }
+    record { value = meaning_noted own production byte around vs h; moves = behind_noted own production byte around began first vs x y h same.packs e }
 
 pub close_noted : (production : Production) (byte : ℕ) (around : Around) (place : ℕ) (began : State) (first : value_.State) (vs : List Value) (x : State) (y : value_.State) → Inside production vs →
     Settled around → Same false around x y → first.packs ≡ began.packs →
@@ -334,7 +292,7 @@ generic_goes around x y k is settled packs =
 
 here_goes : (around : Around) (x : State) (y : value_.State) (place : ℕ) (v : Value) → Settled around → y.packs ≡ x.packs →
     Alike (Goes true (around_place true around) around x y) (parameter_here around place (index_of v) [] x) (wide_.parameter_here (noted_around true around) place (between_.index_of (noted_value (around_place true around) v)) [] y)
-unfolding parameter_here wide_.parameter_here noted_around
+unfolding parameter_here wide_.parameter_here parameter_so_far between_.parameter_so_far listed_so_far between_.listed_so_far done meant_.done tested meant_.tested replaced meant_.replaced part value_.part noted_values is_plain noted_around
 here_goes around x y place v settled packs = go around.in_lambda refl
   where
     s : Place
@@ -344,7 +302,7 @@ here_goes around x y place v settled packs = go around.in_lambda refl
         (elim b [ true ↦ generic_so_far around (index_of v) [] x | false ↦ parameter_so_far around place (index_of v) [] x ])
         (elim b [ true ↦ wide_.generic_so_far (noted_around true around) (between_.index_of (noted_value s v)) [] y | false ↦ between_.parameter_so_far (noted_around true around) place (between_.index_of (noted_value s v)) [] y ])
     go true is = subst (λ k. Alike (Goes true s around x y) (generic_so_far around (index_of v) [] x) (wide_.generic_so_far (noted_around true around) k [] y)) (sym (index_noted s v)) (generic_goes around x y (index_of v) is settled packs)
-    go false is = named_parameter true around x y place v packs
+    go false is = done_noted true (tests false true) around place (v ∷ []) x y refl packs
 
 own_argument_goes : (around : Around) (x : State) (y : value_.State) (k : ℕ) → around.in_lambda ≡ true → Settled around → y.packs ≡ x.packs →
     Alike (Goes true (around_place true around) around x y) (next (leaf_.tree (parameter (generic_number k)) true ∷ []) around x)
@@ -358,7 +316,7 @@ own_argument_goes around x y k is settled packs =
 
 argument_here_goes : (around : Around) (x : State) (y : value_.State) (place : ℕ) (v : Value) → Settled around → y.packs ≡ x.packs →
     Alike (Goes true (around_place true around) around x y) (argument_here around place (index_of v) x) (wide_.argument_here (noted_around true around) place (between_.index_of (noted_value (around_place true around) v)) y)
-unfolding argument_here wide_.argument_here noted_around
+unfolding argument_here wide_.argument_here argument_so_far between_.argument_so_far done meant_.done tested meant_.tested replaced meant_.replaced part value_.part noted_values is_plain noted_around
 argument_here_goes around x y place v settled packs = go around.in_lambda refl
   where
     s : Place
@@ -371,7 +329,7 @@ argument_here_goes around x y place v settled packs = go around.in_lambda refl
         (elim b [ true ↦ next (leaf_.tree (parameter (generic_number (index_of v))) true ∷ []) around x | false ↦ argument_so_far around place (index_of v) x ])
         (elim b [ true ↦ named (between_.index_of (noted_value s v)) | false ↦ between_.argument_so_far (noted_around true around) place (between_.index_of (noted_value s v)) y ])
     go true is = subst (λ k. Alike (Goes true s around x y) (next (leaf_.tree (parameter (generic_number (index_of v))) true ∷ []) around x) (named k)) (sym (index_noted s v)) (own_argument_goes around x y (index_of v) is settled packs)
-    go false is = lone_parameter true around x y place v packs
+    go false is = done_noted true (tests false false) around place (v ∷ []) x y refl packs
 
 instance_noted : (s : Place) (t : Term) → wide_.is_instance (annotate s t) ≡ is_instance t
 unfolding is_instance wide_.is_instance annotate

@@ -1,18 +1,29 @@
 -- What productions stand for, annotated.
 use Rattle.std.proofs.Common.{◌≡◌, refl, ap, sym, ◌∙◌, ℕ, zero, suc, List, [], ◌∷◌, Bool, true, false, not, ◌&&◌, cond, nat_eq, Option, Some, None}
+use Rattle.std.proofs.lemmas.Bool.{true≢false, false≢true}
 use Rattle.cpp_grammar.specs.declared.production.Production.{Production}
-use Rattle.cpp_grammar.specs.Term.{RefQualifier, any_value, lvalue_only, rvalue_only, non_virtual, by_table, adjusting, covariant, Term, function, within, instance, local, tagged, of_default, constructor, destructor, string_literal, conversion, builtin, lvalue, rvalue, nil, list, absent, lambda}
+use Rattle.cpp_grammar.specs.Term.{RefQualifier, any_value, lvalue_only, rvalue_only, non_virtual, by_table, adjusting, covariant, Term, function, within, instance, local, tagged, of_default, constructor, destructor, builtin, lvalue, rvalue, nil, list, absent, lambda}
 use Rattle.cpp_grammar.specs.Scope.{arguments_of, before_arguments, is_structor, has_return_type, is_open}
 use Rattle.cpp_grammar.specs.Values as leaf_
 use Rattle.cpp_grammar.specs.Values.{Around, Prefix, prefix_tree, prefix_listed, Value, unqualified, tree_of, piece_of, is_listed, qualifiers_of, ref_of, letter_of, is_there, mark_of, text_of, signed_of, adjustment_of, normal, signed_digits, local_number, part}
 use Rattle.cpp_grammar.specs.Between as going_
 use Rattle.cpp_grammar.specs.Meaning as meaning_
 use Rattle.cpp_grammar.specs.Meaning.{meaning}
+use Rattle.cpp_grammar.specs.Makers.{Maker, new_symbol, new_special, new_of_name, new_construction, new_clone, new_in_std, new_instance, new_local, new_abbreviation, new_source, new_operator, new_literal_operator, new_constructor, new_destructor, new_unnamed, new_string_literal, new_conversion, new_builtin, new_sized_float, new_constrained, new_vendor, new_pointer, new_lvalue, new_rvalue, new_array, new_bounded, new_member_pointer, new_function_type, new_qualified, new_vector, new_complex, new_expansion, new_integer, new_boolean, new_null_pointer, new_encoding_literal, new_address_of, new_pack}
+use Rattle.cpp_grammar.specs.Builders.{Argument, a_tree, some_bytes, a_number, a_truth, some_qualifiers, a_mark, a_signed, a_discriminator, tree_in, bytes_in, number_in, truth_in, qualifiers_in, mark_in, signed_in, discriminator_in, argument, built}
+use Rattle.cpp_grammar.specs.Row as row_
+use Rattle.cpp_grammar.specs.Row.{Source, Made, Listing, Own, Form}
+use Rattle.cpp_grammar.specs.Own.{own_meaning}
+use Rattle.cpp_grammar.specs.Meant.{given, all_given, made, is_listing, meant}
+use Rattle.cpp_grammar.specs.Rows.{row_of}
 use Rattle.cpp_term.specs.Term as term_
 use Rattle.cpp_term.specs.Scope as scope_
 use Rattle.cpp_term.specs.Values as value_
 use Rattle.cpp_term.specs.Between as between_
 use Rattle.cpp_term.specs.Meaning as noted_
+use Rattle.cpp_term.specs.Builders as builder_
+use Rattle.cpp_term.specs.Own as code_
+use Rattle.cpp_term.specs.Meant as meant_
 use Rattle.cpp_term.specs.Annotated.{Place, nowhere, around_place, place_of, place_in, annotate, noted_value, noted_values, noted_prefix, noted_around}
 use Rattle.cpp_term.proofs.Notes.{both, arguments_noted, noted_in, types_place, closed_noted}
 
@@ -150,11 +161,6 @@ listed_whole : (s : Place) (vs : List Value) (k : ℕ) → noted_.listed_value (
 unfolding noted_.listed_value meaning_.listed_value noted_value
 listed_whole s vs k = ap (λ t. value_.tree t true) (tree_part s vs k)
 
-with_item_noted : (s : Place) (vs : List Value) →
-    noted_.with_item (value_.tree_of (value_.part (noted_values s vs) 0)) (value_.part (noted_values s vs) 1) ≡ noted_value s (meaning_.with_item (tree_of (part vs 0)) (part vs 1))
-unfolding noted_.with_item meaning_.with_item noted_value annotate
-with_item_noted s vs = three (λ x y z. value_.signature (term_.list x y) z) (tree_part s vs 0) (tree_part s vs 1) (ref_part s vs 1)
-
 void_noted : (s : Place) (t : Term) → noted_.is_void (annotate s t) ≡ meaning_.is_void t
 unfolding noted_.is_void meaning_.is_void annotate
 void_noted s (builtin []) = refl
@@ -178,15 +184,8 @@ parameters_noted s (list e rest) = go (meaning_.is_void e && meaning_.is_nil res
     go false true e = absurd cc
 parameters_noted s _ = refl
 
-function_of_noted : (s : Place) (noexcept : Bool) (u v w : Value) → noted_.function_of noexcept (noted_value s u) (noted_value s v) (noted_value s w) ≡ noted_value s (meaning_.function_of noexcept u v w)
-unfolding noted_.function_of meaning_.function_of noted_value annotate
-function_of_noted s noexcept u v w =
-    four (λ a b c d. value_.tree (term_.function_type a noexcept b c d) false) (there_noted s u) (ref_noted s w) (tree_noted s v) (ap noted_.parameters (tree_noted s w) ∙ parameters_noted s (tree_of w))
-
-qualified_by_noted : (s : Place) (restrict : Bool) (u v w : Value) → noted_.qualified_by restrict (noted_value s u) (noted_value s v) (noted_value s w) ≡ noted_value s (meaning_.qualified_by restrict u v w)
-unfolding noted_.qualified_by meaning_.qualified_by noted_value annotate
-qualified_by_noted s restrict u v w =
-    three (λ a b c. value_.tree (term_.qualified (record { restrict = restrict; volatile = a; const = b }) c) false) (there_noted s u) (there_noted s v) (tree_noted s w)
+parameters_part : (s : Place) (vs : List Value) (k : ℕ) → noted_.parameters (value_.tree_of (value_.part (noted_values s vs) k)) ≡ annotate s (meaning_.parameters (tree_of (part vs k)))
+parameters_part s vs k = ap noted_.parameters (tree_part s vs k) ∙ parameters_noted s (tree_of (part vs k))
 
 listed_value_noted : (s : Place) (v : Value) → noted_.listed_value (noted_value s v) ≡ noted_value s (meaning_.listed_value v)
 unfolding noted_.listed_value meaning_.listed_value noted_value
@@ -315,153 +314,315 @@ pub lambda_noted : (s : Place) (vs : List Value) →
 unfolding annotate
 lambda_noted s vs = both (λ x d. value_.piece (term_.lambda x (local_number d))) (both (λ x y. noted_.parameters (term_.list x y)) (tree_part s vs 0) (items_part s vs 1) ∙ parameters_noted s (list (tree_of (part vs 0)) (going_.no_items (part vs 1)))) (text_part_ s vs 3)
 
+tag_noted : (s : Place) (t : Term) (u : term_.Term) (tag other : List ℕ) → u ≡ annotate s t → other ≡ tag → between_.with_tag u other ≡ annotate s (going_.with_tag t tag)
+unfolding between_.with_tag going_.with_tag annotate
+tag_noted s t u tag other is same = rw (is, same) (ap (λ b. term_.tagged b (annotate s t) tag) (structor_noted s t))
+
+-- ## What rows make
+
+-- an argument of a tree
+unfoldable noted_argument : Place → Argument → builder_.Argument
+noted_argument s (a_tree t) = builder_.a_tree (annotate s t)
+noted_argument s (some_bytes x) = builder_.some_bytes x
+noted_argument s (a_number x) = builder_.a_number x
+noted_argument s (a_truth x) = builder_.a_truth x
+noted_argument s (some_qualifiers x) = builder_.some_qualifiers x
+noted_argument s (a_mark x) = builder_.a_mark x
+noted_argument s (a_signed x) = builder_.a_signed x
+noted_argument s (a_discriminator x) = builder_.a_discriminator x
+
+unfoldable noted_arguments : Place → List Argument → List builder_.Argument
+noted_arguments s [] = []
+noted_arguments s (x ∷ xs) = noted_argument s x ∷ noted_arguments s xs
+
+argument_noted : (s : Place) (xs : List Argument) (k : ℕ) → builder_.argument (noted_arguments s xs) k ≡ noted_argument s (argument xs k)
+unfolding builder_.argument argument noted_arguments noted_argument
+argument_noted s [] k = refl
+argument_noted s (x ∷ xs) zero = refl
+argument_noted s (x ∷ xs) (suc k) = argument_noted s xs k
+
+tree_in_noted : (s : Place) (x : Argument) → builder_.tree_in (noted_argument s x) ≡ annotate s (tree_in x)
+unfolding builder_.tree_in tree_in noted_argument annotate
+tree_in_noted s (a_tree x) = refl
+tree_in_noted s _ = refl
+
+tree_there : (s : Place) (xs : List Argument) (k : ℕ) → builder_.tree_in (builder_.argument (noted_arguments s xs) k) ≡ annotate s (tree_in (argument xs k))
+tree_there s xs k = ap builder_.tree_in (argument_noted s xs k) ∙ tree_in_noted s (argument xs k)
+
+bytes_in_noted : (s : Place) (x : Argument) → builder_.bytes_in (noted_argument s x) ≡ bytes_in x
+unfolding builder_.bytes_in bytes_in noted_argument
+bytes_in_noted s (some_bytes x) = refl
+bytes_in_noted s _ = refl
+
+bytes_there : (s : Place) (xs : List Argument) (k : ℕ) → builder_.bytes_in (builder_.argument (noted_arguments s xs) k) ≡ bytes_in (argument xs k)
+bytes_there s xs k = ap builder_.bytes_in (argument_noted s xs k) ∙ bytes_in_noted s (argument xs k)
+
+number_in_noted : (s : Place) (x : Argument) → builder_.number_in (noted_argument s x) ≡ number_in x
+unfolding builder_.number_in number_in noted_argument
+number_in_noted s (a_number x) = refl
+number_in_noted s _ = refl
+
+number_there : (s : Place) (xs : List Argument) (k : ℕ) → builder_.number_in (builder_.argument (noted_arguments s xs) k) ≡ number_in (argument xs k)
+number_there s xs k = ap builder_.number_in (argument_noted s xs k) ∙ number_in_noted s (argument xs k)
+
+truth_in_noted : (s : Place) (x : Argument) → builder_.truth_in (noted_argument s x) ≡ truth_in x
+unfolding builder_.truth_in truth_in noted_argument
+truth_in_noted s (a_truth x) = refl
+truth_in_noted s _ = refl
+
+truth_there : (s : Place) (xs : List Argument) (k : ℕ) → builder_.truth_in (builder_.argument (noted_arguments s xs) k) ≡ truth_in (argument xs k)
+truth_there s xs k = ap builder_.truth_in (argument_noted s xs k) ∙ truth_in_noted s (argument xs k)
+
+qualifiers_in_noted : (s : Place) (x : Argument) → builder_.qualifiers_in (noted_argument s x) ≡ qualifiers_in x
+unfolding builder_.qualifiers_in qualifiers_in noted_argument
+qualifiers_in_noted s (some_qualifiers x) = refl
+qualifiers_in_noted s _ = refl
+
+qualifiers_there : (s : Place) (xs : List Argument) (k : ℕ) → builder_.qualifiers_in (builder_.argument (noted_arguments s xs) k) ≡ qualifiers_in (argument xs k)
+qualifiers_there s xs k = ap builder_.qualifiers_in (argument_noted s xs k) ∙ qualifiers_in_noted s (argument xs k)
+
+mark_in_noted : (s : Place) (x : Argument) → builder_.mark_in (noted_argument s x) ≡ mark_in x
+unfolding builder_.mark_in mark_in noted_argument
+mark_in_noted s (a_mark x) = refl
+mark_in_noted s _ = refl
+
+mark_there : (s : Place) (xs : List Argument) (k : ℕ) → builder_.mark_in (builder_.argument (noted_arguments s xs) k) ≡ mark_in (argument xs k)
+mark_there s xs k = ap builder_.mark_in (argument_noted s xs k) ∙ mark_in_noted s (argument xs k)
+
+signed_in_noted : (s : Place) (x : Argument) → builder_.signed_in (noted_argument s x) ≡ signed_in x
+unfolding builder_.signed_in signed_in noted_argument
+signed_in_noted s (a_signed x) = refl
+signed_in_noted s _ = refl
+
+signed_there : (s : Place) (xs : List Argument) (k : ℕ) → builder_.signed_in (builder_.argument (noted_arguments s xs) k) ≡ signed_in (argument xs k)
+signed_there s xs k = ap builder_.signed_in (argument_noted s xs k) ∙ signed_in_noted s (argument xs k)
+
+discriminator_in_noted : (s : Place) (x : Argument) → builder_.discriminator_in (noted_argument s x) ≡ discriminator_in x
+unfolding builder_.discriminator_in discriminator_in noted_argument
+discriminator_in_noted s (a_discriminator x) = refl
+discriminator_in_noted s _ = refl
+
+discriminator_there : (s : Place) (xs : List Argument) (k : ℕ) → builder_.discriminator_in (builder_.argument (noted_arguments s xs) k) ≡ discriminator_in (argument xs k)
+discriminator_there s xs k = ap builder_.discriminator_in (argument_noted s xs k) ∙ discriminator_in_noted s (argument xs k)
+
+shut_there : (s : Place) (xs : List Argument) (k : ℕ) → is_open (tree_in (argument xs k)) ≡ false → builder_.tree_in (builder_.argument (noted_arguments s xs) k) ≡ annotate nowhere (tree_in (argument xs k))
+shut_there s xs k h = tree_there s xs k ∙ closed_noted s nowhere (tree_in (argument xs k)) h
+
+-- Generated by tools/trees.py. Makers that take an encoding, or what is in one
+unfoldable pub takes_encodings : Maker → Bool
+takes_encodings new_symbol = true
+takes_encodings new_special = true
+takes_encodings new_of_name = true
+takes_encodings new_construction = true
+takes_encodings new_clone = true
+takes_encodings new_local = true
+takes_encodings new_encoding_literal = true
+takes_encodings new_address_of = true
+takes_encodings _ = false
+
+-- Generated by tools/trees.py. No parameters are free in the encodings
+abbrev AreShut : Maker → List Argument → Type 0
+AreShut new_symbol xs = is_open (tree_in (argument xs 0)) ≡ false
+AreShut new_special xs = is_open (tree_in (argument xs 1)) ≡ false
+AreShut new_of_name xs = is_open (tree_in (argument xs 1)) ≡ false
+AreShut new_construction xs = (is_open (tree_in (argument xs 0)) ≡ false) × (is_open (tree_in (argument xs 2)) ≡ false)
+AreShut new_clone xs = is_open (tree_in (argument xs 1)) ≡ false
+AreShut new_local xs = is_open (tree_in (argument xs 0)) ≡ false
+AreShut new_encoding_literal xs = is_open (tree_in (argument xs 0)) ≡ false
+AreShut new_address_of xs = is_open (tree_in (argument xs 0)) ≡ false
+AreShut _ xs = Unit {0}
+
+-- Generated by tools/trees.py.
+none_are_taken : (m : Maker) (xs : List Argument) → takes_encodings m ≡ false → AreShut m xs
+unfolding takes_encodings
+none_are_taken new_symbol xs h = absurd (true≢false h)
+none_are_taken new_special xs h = absurd (true≢false h)
+none_are_taken new_of_name xs h = absurd (true≢false h)
+none_are_taken new_construction xs h = absurd (true≢false h)
+none_are_taken new_clone xs h = absurd (true≢false h)
+none_are_taken new_local xs h = absurd (true≢false h)
+none_are_taken new_encoding_literal xs h = absurd (true≢false h)
+none_are_taken new_address_of xs h = absurd (true≢false h)
+none_are_taken _ xs h = tt
+
+-- Generated by tools/trees.py.
+built_noted : (s : Place) (m : Maker) (xs : List Argument) → AreShut m xs → builder_.built m (noted_arguments s xs) ≡ annotate s (built m xs)
+unfolding builder_.built built annotate
+built_noted s new_symbol xs h = both term_.symbol (shut_there s xs 0 h) (bytes_there s xs 1)
+built_noted s new_special xs h = both term_.special (number_there s xs 0) (shut_there s xs 1 h)
+built_noted s new_of_name xs h = four term_.of_name (number_there s xs 0) (shut_there s xs 1 h) (qualifiers_there s xs 2) (mark_there s xs 3)
+built_noted s new_construction xs h = three term_.construction (shut_there s xs 0 h.0) (bytes_there s xs 1) (shut_there s xs 2 h.1)
+built_noted s new_clone xs h = both term_.clone (number_there s xs 0) (shut_there s xs 1 h)
+built_noted s new_in_std xs h = ap term_.in_std (tree_there s xs 0)
+built_noted s new_instance xs h = both term_.instance (tree_there s xs 0) (tree_there s xs 1)
+built_noted s new_local xs h = three term_.local (shut_there s xs 0 h) (tree_there s xs 1) (discriminator_there s xs 2)
+built_noted s new_abbreviation xs h = ap term_.abbreviation (number_there s xs 0)
+built_noted s new_source xs h = both term_.source (truth_there s xs 0) (bytes_there s xs 1)
+built_noted s new_operator xs h = both term_.operator (number_there s xs 0) (number_there s xs 1)
+built_noted s new_literal_operator xs h = ap term_.literal_operator (bytes_there s xs 0)
+built_noted s new_constructor xs h = ap term_.constructor (number_there s xs 0)
+built_noted s new_destructor xs h = ap term_.destructor (number_there s xs 0)
+built_noted s new_unnamed xs h = ap term_.unnamed (number_there s xs 0)
+built_noted s new_string_literal xs h = refl
+built_noted s new_conversion xs h = ap term_.conversion (tree_there s xs 0)
+built_noted s new_builtin xs h = ap term_.builtin (bytes_there s xs 0)
+built_noted s new_sized_float xs h = both term_.sized_float (bytes_there s xs 0) (number_there s xs 1)
+built_noted s new_constrained xs h = both term_.constrained (number_there s xs 0) (tree_there s xs 1)
+built_noted s new_vendor xs h = ap term_.vendor (bytes_there s xs 0)
+built_noted s new_pointer xs h = ap term_.pointer (tree_there s xs 0)
+built_noted s new_lvalue xs h = ap term_.lvalue (tree_there s xs 0)
+built_noted s new_rvalue xs h = ap term_.rvalue (tree_there s xs 0)
+built_noted s new_array xs h = both term_.array (bytes_there s xs 0) (tree_there s xs 1)
+built_noted s new_bounded xs h = both term_.bounded (tree_there s xs 0) (tree_there s xs 1)
+built_noted s new_member_pointer xs h = both term_.member_pointer (tree_there s xs 0) (tree_there s xs 1)
+built_noted s new_function_type xs h = five term_.function_type (truth_there s xs 0) (truth_there s xs 1) (mark_there s xs 2) (tree_there s xs 3) (tree_there s xs 4)
+built_noted s new_qualified xs h = both term_.qualified (qualifiers_there s xs 0) (tree_there s xs 1)
+built_noted s new_vector xs h = both term_.vector (bytes_there s xs 0) (tree_there s xs 1)
+built_noted s new_complex xs h = ap term_.complex (tree_there s xs 0)
+built_noted s new_expansion xs h = ap term_.expansion (tree_there s xs 0)
+built_noted s new_integer xs h = both term_.integer (tree_there s xs 0) (signed_there s xs 1)
+built_noted s new_boolean xs h = ap term_.boolean (truth_there s xs 0)
+built_noted s new_null_pointer xs h = refl
+built_noted s new_encoding_literal xs h = ap term_.encoding_literal (shut_there s xs 0 h)
+built_noted s new_address_of xs h = ap term_.address_of (shut_there s xs 0 h)
+built_noted s new_pack xs h = ap term_.pack (tree_there s xs 0)
+
+given_noted : (own : Bool) (byte : ℕ) (around : Around) (vs : List Value) (source : Source) →
+    meant_.given byte (noted_around own around) (noted_values (around_place own around) vs) source ≡ noted_argument (around_place own around) (given byte around vs source)
+unfolding meant_.given given noted_around noted_argument
+given_noted own byte around vs (row_.tree_at k) = ap builder_.a_tree (tree_part (around_place own around) vs k)
+given_noted own byte around vs (row_.list_at k) = ap builder_.a_tree (items_part (around_place own around) vs k)
+given_noted own byte around vs (row_.parameters_at k) = ap builder_.a_tree (parameters_part (around_place own around) vs k)
+given_noted own byte around vs (row_.piece_at k) = ap (λ v. builder_.a_tree (value_.piece_of v)) (part_noted (around_place own around) vs k) ∙ ap builder_.a_tree (piece_noted (around_place own around) (part vs k))
+given_noted own byte around vs row_.the_name = ap builder_.a_tree (prefix_tree_noted (around_place own around) around.prefix)
+given_noted own byte around vs (row_.text_at k) = ap builder_.some_bytes (text_part_ (around_place own around) vs k)
+given_noted own byte around vs (row_.digits_at k) = ap (λ x. builder_.some_bytes (normal x)) (text_part_ (around_place own around) vs k)
+given_noted own byte around vs (row_.code front) = refl
+given_noted own byte around vs row_.taken = refl
+given_noted own byte around vs (row_.fixed n) = refl
+given_noted own byte around vs (row_.letter_at k) = ap builder_.a_number (letter_part (around_place own around) vs k)
+given_noted own byte around vs (row_.number_at k) = ap (λ x. builder_.a_number (local_number x)) (text_part_ (around_place own around) vs k)
+given_noted own byte around vs row_.yes = refl
+given_noted own byte around vs row_.no = refl
+given_noted own byte around vs (row_.there_at k) = ap builder_.a_truth (there_part (around_place own around) vs k)
+given_noted own byte around vs (row_.letter_is k n) = ap (λ x. builder_.a_truth (nat_eq x n)) (letter_part (around_place own around) vs k)
+given_noted own byte around vs (row_.qualifiers_at k) = ap builder_.some_qualifiers (qualifiers_part (around_place own around) vs k)
+given_noted own byte around vs (row_.qualified_by r v c) =
+    three (λ x y z. builder_.some_qualifiers (record { restrict = x; volatile = y; const = z })) (truth r (given_noted own byte around vs r)) (truth v (given_noted own byte around vs v)) (truth c (given_noted own byte around vs c))
+  where
+    truth : (source : Source) → meant_.given byte (noted_around own around) (noted_values (around_place own around) vs) source ≡ noted_argument (around_place own around) (given byte around vs source) →
+        builder_.truth_in (meant_.given byte (noted_around own around) (noted_values (around_place own around) vs) source) ≡ truth_in (given byte around vs source)
+    truth source e = ap builder_.truth_in e ∙ truth_in_noted (around_place own around) (given byte around vs source)
+given_noted own byte around vs (row_.ref_at k) = ap builder_.a_mark (ref_part (around_place own around) vs k)
+given_noted own byte around vs (row_.signed_at k) = ap builder_.a_signed (signed_part (around_place own around) vs k)
+given_noted own byte around vs (row_.discriminator_at k) = ap builder_.a_discriminator (discriminator_part (around_place own around) vs k)
+
+all_given_noted : (own : Bool) (byte : ℕ) (around : Around) (vs : List Value) (sources : List Source) →
+    meant_.all_given byte (noted_around own around) (noted_values (around_place own around) vs) sources ≡ noted_arguments (around_place own around) (all_given byte around vs sources)
+unfolding meant_.all_given all_given noted_arguments
+all_given_noted own byte around vs [] = refl
+all_given_noted own byte around vs (s ∷ ss) = both (λ x xs. x ∷ xs) (given_noted own byte around vs s) (all_given_noted own byte around vs ss)
+
+abbrev pub MadeInside : (byte : ℕ) → Around → List Value → Made → Type 0
+MadeInside byte around vs (row_.of maker sources) = AreShut maker (all_given byte around vs sources)
+MadeInside byte around vs (row_.extending m) = MadeInside byte around vs m
+MadeInside byte around vs (row_.applying m k) = MadeInside byte around vs m
+MadeInside byte around vs _ = Unit {0}
+
+-- a tree that is made of no encodings
+unfoldable pub is_of_none : Made → Bool
+is_of_none (row_.of maker sources) = not (takes_encodings maker)
+is_of_none (row_.extending m) = is_of_none m
+is_of_none (row_.applying m k) = is_of_none m
+is_of_none _ = true
+
+pub made_inside : (byte : ℕ) (around : Around) (vs : List Value) (m : Made) → is_of_none m ≡ true → MadeInside byte around vs m
+unfolding is_of_none
+made_inside byte around vs (row_.of maker sources) h = none_are_taken maker (all_given byte around vs sources) (none (takes_encodings maker) h)
+  where
+    none : (b : Bool) → not b ≡ true → b ≡ false
+    none true h_ = absurd (false≢true h_)
+    none false h_ = refl
+made_inside byte around vs (row_.extending m) h = made_inside byte around vs m h
+made_inside byte around vs (row_.applying m k) h = made_inside byte around vs m h
+made_inside byte around vs _ h = tt
+
+pub made_noted : (own : Bool) (byte : ℕ) (around : Around) (vs : List Value) (m : Made) → MadeInside byte around vs m →
+    meant_.made byte (noted_around own around) (noted_values (around_place own around) vs) m ≡ annotate (around_place own around) (made byte around vs m)
+unfolding meant_.made made noted_around annotate
+made_noted own byte around vs (row_.of maker sources) h = ap (builder_.built maker) (all_given_noted own byte around vs sources) ∙ built_noted (around_place own around) maker (all_given byte around vs sources) h
+made_noted own byte around vs (row_.only source) h = ap builder_.tree_in (given_noted own byte around vs source) ∙ tree_in_noted (around_place own around) (given byte around vs source)
+made_noted own byte around vs (row_.extending m) h = ap (between_.extended (noted_prefix (around_place own around) around.prefix)) (made_noted own byte around vs m h) ∙ extended_noted (around_place own around) around.prefix (made byte around vs m)
+made_noted own byte around vs (row_.tagging k) h = tag_noted (around_place own around) (prefix_tree around.prefix) _ (text_of (part vs k)) _ (prefix_tree_noted (around_place own around) around.prefix) (text_part_ (around_place own around) vs k)
+made_noted own byte around vs (row_.applying m k) h = both between_.applied (made_noted own byte around vs m h) (part_noted (around_place own around) vs k) ∙ applied_noted (around_place own around) (made byte around vs m) (part vs k)
+made_noted own byte around vs (row_.packing k) h = ap term_.pack (items_part (around_place own around) vs k)
+
+pub listing_noted : (s : Place) (vs : List Value) (listing : Listing) → meant_.is_listing (noted_values s vs) listing ≡ is_listing vs listing
+unfolding meant_.is_listing is_listing
+listing_noted s vs row_.listed = refl
+listing_noted s vs row_.unlisted = refl
+listing_noted s vs (row_.as_part k) = listed_part s vs k
+listing_noted s vs (row_.unless_there k) = ap not (there_part s vs k)
+listing_noted s vs (row_.as_part_alone k n) = both (λ x y. x && not y) (listed_part s vs k) (there_part s vs n)
+
+abbrev OwnInside : Own → List Value → Type 0
+OwnInside row_.encoding vs = ⊥
+OwnInside row_.non_virtual_thunk vs = is_open (tree_of (part vs 2)) ≡ false
+OwnInside row_.virtual_thunk vs = is_open (tree_of (part vs 4)) ≡ false
+OwnInside row_.covariant_thunk vs = is_open (tree_of (part vs 2)) ≡ false
+OwnInside row_.local_name vs = is_open (tree_of (part vs 0)) ≡ false
+OwnInside _ vs = Unit {0}
+
+own_noted : (own : Bool) (o : Own) (byte : ℕ) (around : Around) (vs : List Value) → OwnInside o vs →
+    code_.own_meaning o byte (noted_around own around) (noted_values (around_place own around) vs) ≡ noted_value (around_place own around) (own_meaning o byte around vs)
+unfolding code_.own_meaning own_meaning noted_value noted_around annotate
+own_noted own row_.nested_name byte around vs h = five (λ x a b c m. value_.named x (record { restrict = a; volatile = b; const = c }) m) (tree_part (around_place own around) vs 4) (there_part (around_place own around) vs 0) (there_part (around_place own around) vs 1) (there_part (around_place own around) vs 2) (mark_part (around_place own around) vs 3)
+own_noted own row_.encoding byte around vs h = absurd h
+own_noted own row_.non_virtual_thunk byte around vs h = both (λ x y. value_.tree (term_.thunk (adjusting (non_virtual x)) y) true) (signed_part (around_place own around) vs 0) (closed_part (around_place own around) vs 2 h)
+own_noted own row_.virtual_thunk byte around vs h = three (λ x y z. value_.tree (term_.thunk (adjusting (by_table x y)) z) true) (signed_part (around_place own around) vs 0) (signed_part (around_place own around) vs 2) (closed_part (around_place own around) vs 4 h)
+own_noted own row_.covariant_thunk byte around vs h = three (λ x y z. value_.tree (term_.thunk (covariant x y) z) true) (adjustment_part (around_place own around) vs 0) (adjustment_part (around_place own around) vs 1) (closed_part (around_place own around) vs 2 h)
+own_noted own row_.local_name byte around vs h = five (λ x y d q r. value_.named (term_.local x y d) q r) (closed_part (around_place own around) vs 0 h) (tree_part (around_place own around) vs 2) (discriminator_part (around_place own around) vs 3) (qualifiers_part (around_place own around) vs 2) (ref_part (around_place own around) vs 2)
+own_noted own row_.in_default byte around vs h = default_noted (around_place own around) vs
+own_noted own row_.nest_end byte around vs h = both value_.tree (prefix_tree_noted (around_place own around) around.prefix) (prefix_listed_noted (around_place own around) around.prefix)
+own_noted own row_.closure byte around vs h = lambda_noted (around_place own around) vs
+own_noted own row_.substitution byte around vs h = refl
+own_noted own row_.first_of_operator byte around vs h = ap (noted_.operator_or_literal byte) (part_noted (around_place own around) vs 0) ∙ operator_noted (around_place own around) byte (part vs 0)
+own_noted own row_.reference byte around vs h = ap noted_.listed_value (ap (noted_.reference_to byte) (part_noted (around_place own around) vs 0) ∙ reference_to_noted (around_place own around) byte (part vs 0)) ∙ listed_value_noted (around_place own around) (meaning_.reference_to byte (part vs 0))
+own_noted own row_.lvalue_signature byte around vs h = ap (noted_.signature_or lvalue_only) (part_noted (around_place own around) vs 0) ∙ signature_or_noted (around_place own around) lvalue_only (part vs 0)
+own_noted own row_.rvalue_signature byte around vs h = ap (noted_.signature_or rvalue_only) (part_noted (around_place own around) vs 0) ∙ signature_or_noted (around_place own around) rvalue_only (part vs 0)
+own_noted own row_.no_parameters byte around vs h = refl
+own_noted own row_.no_value byte around vs h = refl
+own_noted own row_.character byte around vs h = ap (λ x. value_.tree (term_.integer (term_.builtin (68 ∷ byte ∷ [])) x) true) (signed_part (around_place own around) vs 0)
+own_noted own row_.suffix byte around vs h = ap (λ x. value_.text (byte ∷ x)) (text_part_ (around_place own around) vs 0)
+own_noted own row_.non_virtual_offset byte around vs h = ap (λ x. value_.adjusted (non_virtual x)) (signed_part (around_place own around) vs 0)
+own_noted own row_.virtual_offset byte around vs h = both (λ x y. value_.adjusted (by_table x y)) (signed_part (around_place own around) vs 0) (signed_part (around_place own around) vs 2)
+own_noted own row_.negative byte around vs h = ap (λ x. value_.signed (signed_digits true x)) (text_part_ (around_place own around) vs 0)
+own_noted own row_.positive byte around vs h = ap (λ x. value_.signed (signed_digits false x)) (text_part_ (around_place own around) vs 0)
+own_noted own row_.one_digit byte around vs h = refl
+own_noted own row_.many_digits byte around vs h = ap (λ x. value_.text (normal x)) (text_part_ (around_place own around) vs 0)
+
+abbrev FormInside : Form → (byte : ℕ) → Around → List Value → Type 0
+FormInside (row_.makes m listing) byte around vs = MadeInside byte around vs m
+FormInside (row_.a_piece m) byte around vs = MadeInside byte around vs m
+FormInside (row_.own o most) byte around vs = OwnInside o vs
+FormInside _ byte around vs = Unit {0}
+
+meant_noted : (own : Bool) (form : Form) (byte : ℕ) (around : Around) (vs : List Value) → FormInside form byte around vs →
+    meant_.meant form byte (noted_around own around) (noted_values (around_place own around) vs) ≡ noted_value (around_place own around) (meant form byte around vs)
+unfolding meant_.meant meant noted_.with_item meaning_.with_item noted_value annotate
+meant_noted own (row_.handed k) byte around vs h = part_noted (around_place own around) vs k
+meant_noted own (row_.finished k) byte around vs h = listed_whole (around_place own around) vs k
+meant_noted own row_.the_byte byte around vs h = refl
+meant_noted own (row_.makes m listing) byte around vs h = both value_.tree (made_noted own byte around vs m h) (listing_noted (around_place own around) vs listing)
+meant_noted own (row_.a_piece m) byte around vs h = ap value_.piece (made_noted own byte around vs m h)
+meant_noted own (row_.cell i j) byte around vs h = both (λ x y. value_.tree (term_.list x y) true) (tree_part (around_place own around) vs i) (items_part (around_place own around) vs j)
+meant_noted own (row_.item i j) byte around vs h = three (λ x y z. value_.signature (term_.list x y) z) (tree_part (around_place own around) vs i) (tree_part (around_place own around) vs j) (ref_part (around_place own around) vs j)
+meant_noted own (row_.a_name listing) byte around vs h = both value_.tree (applied_part (around_place own around) vs 0 1) (listing_noted (around_place own around) vs listing)
+meant_noted own row_.in_place byte around vs h = ap (λ x. value_.named x unqualified any_value) (applied_part (around_place own around) vs 0 1)
+meant_noted own (row_.own o most) byte around vs h = own_noted own o byte around vs h
+
 pub meaning_noted : (own : Bool) (production : Production) (byte : ℕ) (around : Around) (vs : List Value) → Inside production vs →
     noted_.meaning production byte (noted_around own around) (noted_values (around_place own around) vs) ≡ noted_value (around_place own around) (meaning production byte around vs)
-unfolding noted_.meaning meaning noted_value noted_around annotate
+unfolding noted_.meaning meaning all_given given argument tree_in
 meaning_noted own Production.Encoding byte around vs h = absurd h
-meaning_noted own Production.Special byte around vs h = part_noted (around_place own around) vs 0
-meaning_noted own Production.OtherSpecial byte around vs h = part_noted (around_place own around) vs 1
-meaning_noted own Production.Clone byte around vs h = both (λ x y. value_.tree (term_.clone x y) true) (letter_part (around_place own around) vs 0) (closed_part (around_place own around) vs 1 h)
-meaning_noted own Production.NestedName byte around vs h = five (λ x a b c m. value_.named x (record { restrict = a; volatile = b; const = c }) m) (tree_part (around_place own around) vs 4) (there_part (around_place own around) vs 0) (there_part (around_place own around) vs 1) (there_part (around_place own around) vs 2) (mark_part (around_place own around) vs 3)
-meaning_noted own Production.LocalName byte around vs h = five (λ x y d q r. value_.named (term_.local x y d) q r) (closed_part (around_place own around) vs 0 h) (tree_part (around_place own around) vs 2) (discriminator_part (around_place own around) vs 3) (qualifiers_part (around_place own around) vs 2) (ref_part (around_place own around) vs 2)
-meaning_noted own Production.DefaultEntity byte around vs h = default_noted (around_place own around) vs
-meaning_noted own Production.DefaultTypeEntity byte around vs h = default_noted (around_place own around) vs
-meaning_noted own Production.Lambda byte around vs h = lambda_noted (around_place own around) vs
-meaning_noted own Production.NestEnd byte around vs h = both value_.tree (prefix_tree_noted (around_place own around) around.prefix) (prefix_listed_noted (around_place own around) around.prefix)
-meaning_noted own Production.StringLiteral byte around vs h = ap (λ x. value_.tree x true) (extended_noted (around_place own around) around.prefix string_literal)
-meaning_noted own Production.Substitution byte around vs h = refl
-meaning_noted own Production.RestrictType byte around vs h = ap noted_.listed_value (three (noted_.qualified_by true) (part_noted (around_place own around) vs 0) (part_noted (around_place own around) vs 1) (part_noted (around_place own around) vs 2) ∙ qualified_by_noted (around_place own around) true (part vs 0) (part vs 1) (part vs 2)) ∙ listed_value_noted (around_place own around) (meaning_.qualified_by true (part vs 0) (part vs 1) (part vs 2))
-meaning_noted own Production.VolatileType byte around vs h = ap noted_.listed_value (both (noted_.qualified_by false (value_.letter 86)) (part_noted (around_place own around) vs 0) (part_noted (around_place own around) vs 1) ∙ qualified_by_noted (around_place own around) false (leaf_.letter 86) (part vs 0) (part vs 1)) ∙ listed_value_noted (around_place own around) (meaning_.qualified_by false (leaf_.letter 86) (part vs 0) (part vs 1))
-meaning_noted own Production.ConstType byte around vs h = ap noted_.listed_value (ap (noted_.qualified_by false value_.nothing_there (value_.letter 75)) (part_noted (around_place own around) vs 0) ∙ qualified_by_noted (around_place own around) false leaf_.nothing_there (leaf_.letter 75) (part vs 0)) ∙ listed_value_noted (around_place own around) (meaning_.qualified_by false leaf_.nothing_there (leaf_.letter 75) (part vs 0))
-meaning_noted own Production.ReferenceType byte around vs h = ap noted_.listed_value (ap (noted_.reference_to byte) (part_noted (around_place own around) vs 0) ∙ reference_to_noted (around_place own around) byte (part vs 0)) ∙ listed_value_noted (around_place own around) (meaning_.reference_to byte (part vs 0))
-meaning_noted own Production.NoexceptFunction byte around vs h = three (noted_.function_of true) (part_noted (around_place own around) vs 1) (part_noted (around_place own around) vs 2) (part_noted (around_place own around) vs 3) ∙ function_of_noted (around_place own around) true (part vs 1) (part vs 2) (part vs 3)
-meaning_noted own Production.Function byte around vs h = three (noted_.function_of false) (part_noted (around_place own around) vs 0) (part_noted (around_place own around) vs 1) (part_noted (around_place own around) vs 2) ∙ function_of_noted (around_place own around) false (part vs 0) (part vs 1) (part vs 2)
-meaning_noted own Production.RestLvalue byte around vs h = ap (noted_.signature_or lvalue_only) (part_noted (around_place own around) vs 0) ∙ signature_or_noted (around_place own around) lvalue_only (part vs 0)
-meaning_noted own Production.RestRvalue byte around vs h = ap (noted_.signature_or rvalue_only) (part_noted (around_place own around) vs 0) ∙ signature_or_noted (around_place own around) rvalue_only (part vs 0)
-meaning_noted own Production.OperatorL byte around vs h = ap (noted_.operator_or_literal byte) (part_noted (around_place own around) vs 0) ∙ operator_noted (around_place own around) byte (part vs 0)
-meaning_noted own Production.Symbol byte around vs h = both (λ x y. value_.tree (term_.symbol x y) true) (closed_part (around_place own around) vs 1 h) (text_part_ (around_place own around) vs 2)
-meaning_noted own Production.Suffix byte around vs h = ap (λ x. value_.text (byte ∷ x)) (text_part_ (around_place own around) vs 0)
-meaning_noted own Production.SuffixByte byte around vs h = ap (λ x. value_.text (byte ∷ x)) (text_part_ (around_place own around) vs 0)
-meaning_noted own Production.SpecialType byte around vs h = ap (λ x. value_.tree (term_.special byte x) true) (closed_part (around_place own around) vs 0 h)
-meaning_noted own Production.SpecialName byte around vs h = three (λ x y z. value_.tree (term_.of_name byte x y z) true) (closed_part (around_place own around) vs 0 h) (qualifiers_part (around_place own around) vs 0) (ref_part (around_place own around) vs 0)
-meaning_noted own Production.ConstructionVtable byte around vs h = three (λ x d y. value_.tree (term_.construction x (normal d) y) true) (closed_part (around_place own around) vs 0 h.0) (text_part_ (around_place own around) vs 1) (closed_part (around_place own around) vs 3 h.1)
-meaning_noted own Production.NonVirtualThunk byte around vs h = both (λ x y. value_.tree (term_.thunk (adjusting (non_virtual x)) y) true) (signed_part (around_place own around) vs 0) (closed_part (around_place own around) vs 2 h)
-meaning_noted own Production.VirtualThunk byte around vs h = three (λ x y z. value_.tree (term_.thunk (adjusting (by_table x y)) z) true) (signed_part (around_place own around) vs 0) (signed_part (around_place own around) vs 2) (closed_part (around_place own around) vs 4 h)
-meaning_noted own Production.CovariantThunk byte around vs h = three (λ x y z. value_.tree (term_.thunk (covariant x y) z) true) (adjustment_part (around_place own around) vs 0) (adjustment_part (around_place own around) vs 1) (closed_part (around_place own around) vs 2 h)
-meaning_noted own Production.NonVirtualOffset byte around vs h = ap (λ x. value_.adjusted (non_virtual x)) (signed_part (around_place own around) vs 0)
-meaning_noted own Production.VirtualOffset byte around vs h = both (λ x y. value_.adjusted (by_table x y)) (signed_part (around_place own around) vs 0) (signed_part (around_place own around) vs 2)
-meaning_noted own Production.Negative byte around vs h = ap (λ x. value_.signed (signed_digits true x)) (text_part_ (around_place own around) vs 0)
-meaning_noted own Production.Positive byte around vs h = ap (λ x. value_.signed (signed_digits false x)) (text_part_ (around_place own around) vs 0)
-meaning_noted own Production.NameWithS byte around vs h = part_noted (around_place own around) vs 0
-meaning_noted own Production.InternalName byte around vs h = ap (λ x. value_.tree x false) (applied_part (around_place own around) vs 0 1)
-meaning_noted own Production.SourceName byte around vs h = ap (λ x. value_.tree x false) (applied_part (around_place own around) vs 0 1)
-meaning_noted own Production.LocalTypeName byte around vs h = ap (λ x. value_.tree x false) (applied_part (around_place own around) vs 0 1)
-meaning_noted own Production.OperatorName byte around vs h = ap (λ x. value_.tree x false) (applied_part (around_place own around) vs 0 1)
-meaning_noted own Production.OtherOperatorName byte around vs h = ap (λ x. value_.tree x false) (applied_part (around_place own around) vs 0 1)
-meaning_noted own Production.OperatorNameWithC byte around vs h = ap (λ x. value_.tree x false) (applied_part (around_place own around) vs 0 1)
-meaning_noted own Production.ComponentWithC byte around vs h = part_noted (around_place own around) vs 0
-meaning_noted own Production.Conversion byte around vs h =
-    ap (λ x. value_.tree (between_.extended (noted_prefix (around_place own around) around.prefix) (term_.conversion x)) false) (tree_part (around_place own around) vs 0)
-    ∙ ap (λ x. value_.tree x false) (extended_noted (around_place own around) around.prefix (conversion (tree_of (part vs 0))))
-meaning_noted own Production.Constructor byte around vs h = ap (λ x. value_.tree x false) (applied_part (around_place own around) vs 0 1)
-meaning_noted own Production.Destructor byte around vs h = ap (λ x. value_.tree x false) (applied_part (around_place own around) vs 0 1)
-meaning_noted own Production.StdName byte around vs h = ap (λ x. value_.tree x false) (applied_part (around_place own around) vs 0 1)
-meaning_noted own Production.TypeTag byte around vs h = ap (λ x. value_.named x unqualified any_value) (applied_part (around_place own around) vs 0 1)
-meaning_noted own Production.TaggedStdType byte around vs h = ap (λ x. value_.tree x false) (applied_part (around_place own around) vs 0 1)
-meaning_noted own Production.TypeInStd byte around vs h = part_noted (around_place own around) vs 0
-meaning_noted own Production.Tag byte around vs h = ap (λ x. value_.named x unqualified any_value) (applied_part (around_place own around) vs 0 1)
-meaning_noted own Production.NestTag byte around vs h = part_noted (around_place own around) vs 1
-meaning_noted own Production.AbbreviatedName byte around vs h = ap (λ x. value_.tree x false) (applied_part (around_place own around) vs 0 1)
-meaning_noted own Production.InternalPiece byte around vs h = ap (λ x. value_.piece (term_.source true x)) (text_part_ (around_place own around) vs 0)
-meaning_noted own Production.LocalTypePiece byte around vs h = part_noted (around_place own around) vs 0
-meaning_noted own Production.SourcePiece byte around vs h = ap (λ x. value_.piece (term_.source false x)) (text_part_ (around_place own around) vs 0)
-meaning_noted own Production.OperatorPiece byte around vs h = part_noted (around_place own around) vs 0
-meaning_noted own Production.NestWithS byte around vs h = part_noted (around_place own around) vs 0
-meaning_noted own Production.NestParameter byte around vs h = part_noted (around_place own around) vs 1
-meaning_noted own Production.NestInternal byte around vs h = part_noted (around_place own around) vs 1
-meaning_noted own Production.NestLocalType byte around vs h = part_noted (around_place own around) vs 1
-meaning_noted own Production.NestSource byte around vs h = part_noted (around_place own around) vs 1
-meaning_noted own Production.NestStd byte around vs h = part_noted (around_place own around) vs 2
-meaning_noted own Production.NestTemplate byte around vs h = part_noted (around_place own around) vs 1
-meaning_noted own Production.NestArguments byte around vs h = part_noted (around_place own around) vs 3
-meaning_noted own Production.NestInstance byte around vs h = part_noted (around_place own around) vs 2
-meaning_noted own Production.NestNext byte around vs h = part_noted (around_place own around) vs 1
-meaning_noted own Production.Holder byte around vs h = part_noted (around_place own around) vs 1
-meaning_noted own Production.Abbreviation byte around vs h = refl
-meaning_noted own Production.NestedType byte around vs h = part_noted (around_place own around) vs 0
-meaning_noted own Production.Discriminator byte around vs h = part_noted (around_place own around) vs 0
-meaning_noted own Production.OneDigit byte around vs h = refl
-meaning_noted own Production.ManyDigits byte around vs h = ap (λ x. value_.text (normal x)) (text_part_ (around_place own around) vs 0)
-meaning_noted own Production.Unnamed byte around vs h = ap (λ x. value_.piece (term_.unnamed (local_number x))) (text_part_ (around_place own around) vs 0)
-meaning_noted own Production.PlainType byte around vs h = listed_whole (around_place own around) vs 0
-meaning_noted own Production.QualifiedPlain byte around vs h = listed_whole (around_place own around) vs 0
-meaning_noted own Production.TypeWithD byte around vs h = listed_whole (around_place own around) vs 0
-meaning_noted own Production.PlainWithD byte around vs h = listed_whole (around_place own around) vs 0
-meaning_noted own Production.ItemWithD byte around vs h = listed_whole (around_place own around) vs 0
-meaning_noted own Production.ItemIsType byte around vs h = part_noted (around_place own around) vs 0
-meaning_noted own Production.Expansion byte around vs h = ap (λ x. value_.tree (term_.expansion x) false) (tree_part (around_place own around) vs 0)
-meaning_noted own Production.BuiltinWithD byte around vs h = refl
-meaning_noted own Production.SizedFloat byte around vs h = both (λ x y. value_.tree (term_.sized_float (normal x) y) true) (text_part_ (around_place own around) vs 0) (letter_part (around_place own around) vs 1)
-meaning_noted own Production.Vector byte around vs h = both (λ x y. value_.tree (term_.vector (normal x) y) false) (text_part_ (around_place own around) vs 0) (tree_part (around_place own around) vs 2)
-meaning_noted own Production.Builtin byte around vs h = refl
-meaning_noted own Production.Vendor byte around vs h = ap (λ x. value_.tree (term_.vendor x) false) (text_part_ (around_place own around) vs 0)
-meaning_noted own Production.ArrayType byte around vs h = part_noted (around_place own around) vs 0
-meaning_noted own Production.AnyArray byte around vs h = part_noted (around_place own around) vs 0
-meaning_noted own Production.LengthArray byte around vs h = both (λ x y. value_.tree (term_.array (normal x) y) false) (text_part_ (around_place own around) vs 0) (tree_part (around_place own around) vs 1)
-meaning_noted own Production.BoundedArray byte around vs h = both (λ x y. value_.tree (term_.bounded x y) false) (tree_part (around_place own around) vs 0) (tree_part (around_place own around) vs 2)
-meaning_noted own Production.Complex byte around vs h = ap (λ x. value_.tree (term_.complex x) false) (tree_part (around_place own around) vs 0)
-meaning_noted own Production.Pointer byte around vs h = ap (λ x. value_.tree (term_.pointer x) false) (tree_part (around_place own around) vs 0)
-meaning_noted own Production.MemberPointer byte around vs h = both (λ x y. value_.tree (term_.member_pointer x y) false) (tree_part (around_place own around) vs 0) (tree_part (around_place own around) vs 1)
-meaning_noted own Production.Parameter byte around vs h = both (λ x y. value_.tree x (not y)) (applied_part (around_place own around) vs 0 1) (there_part (around_place own around) vs 1)
-meaning_noted own Production.TypeWithS byte around vs h = three (λ x y z. value_.tree x (y && not z)) (applied_part (around_place own around) vs 0 1) (listed_part (around_place own around) vs 0) (there_part (around_place own around) vs 1)
-meaning_noted own Production.LocalType byte around vs h = three (λ x y z. value_.tree (term_.local x y z) false) (closed_part (around_place own around) vs 0 h) (tree_part (around_place own around) vs 2) (discriminator_part (around_place own around) vs 3)
-meaning_noted own Production.AbbreviatedType byte around vs h = part_noted (around_place own around) vs 0
-meaning_noted own Production.RestEnd byte around vs h = refl
-meaning_noted own Production.RefEnd byte around vs h = refl
-meaning_noted own Production.LvalueItem byte around vs h = with_item_noted (around_place own around) vs
-meaning_noted own Production.RvalueItem byte around vs h = with_item_noted (around_place own around) vs
-meaning_noted own Production.RestItem byte around vs h = with_item_noted (around_place own around) vs
-meaning_noted own Production.Items byte around vs h = both (λ x y. value_.tree (term_.list x y) true) (tree_part (around_place own around) vs 0) (items_part (around_place own around) vs 1)
-meaning_noted own Production.Arguments byte around vs h = ap (λ x. value_.tree x true) (items_part (around_place own around) vs 0)
-meaning_noted own Production.PackArgument byte around vs h = both (λ x y. value_.tree (term_.list x y) true) (tree_part (around_place own around) vs 0) (items_part (around_place own around) vs 2)
-meaning_noted own Production.LiteralArgument byte around vs h = both (λ x y. value_.tree (term_.list x y) true) (tree_part (around_place own around) vs 0) (items_part (around_place own around) vs 2)
-meaning_noted own Production.AnyArgument byte around vs h = both (λ x y. value_.tree (term_.list x y) true) (tree_part (around_place own around) vs 0) (items_part (around_place own around) vs 1)
-meaning_noted own Production.LiteralElement byte around vs h = both (λ x y. value_.tree (term_.list x y) true) (tree_part (around_place own around) vs 0) (items_part (around_place own around) vs 2)
-meaning_noted own Production.AnyElement byte around vs h = both (λ x y. value_.tree (term_.list x y) true) (tree_part (around_place own around) vs 0) (items_part (around_place own around) vs 1)
-meaning_noted own Production.PlainArgument byte around vs h = listed_whole (around_place own around) vs 0
-meaning_noted own Production.ArgumentWithT byte around vs h = listed_whole (around_place own around) vs 0
-meaning_noted own Production.DeclaredArgument byte around vs h = listed_whole (around_place own around) vs 1
-meaning_noted own Production.ParameterArgument byte around vs h = both (λ x y. value_.tree x (not y)) (applied_part (around_place own around) vs 0 1) (there_part (around_place own around) vs 1)
-meaning_noted own Production.OneLiteral byte around vs h = part_noted (around_place own around) vs 0
-meaning_noted own Production.OnePack byte around vs h = ap (λ x. value_.tree (term_.pack x) true) (items_part (around_place own around) vs 0)
-meaning_noted own Production.ConstrainedAuto byte around vs h = ap (λ x. value_.tree (term_.constrained byte x) true) (tree_part (around_place own around) vs 0)
-meaning_noted own Production.AnyType byte around vs h = refl
-meaning_noted own Production.ValueOf byte around vs h = refl
-meaning_noted own Production.OfConcept byte around vs h = refl
-meaning_noted own Production.TemplateOf byte around vs h = refl
-meaning_noted own Production.PackOf byte around vs h = refl
-meaning_noted own Production.Declarations byte around vs h = refl
-meaning_noted own Production.Expression byte around vs h = part_noted (around_place own around) vs 0
-meaning_noted own Production.AddressExpression byte around vs h = part_noted (around_place own around) vs 1
-meaning_noted own Production.ParameterExpression byte around vs h = part_noted (around_place own around) vs 0
-meaning_noted own Production.Address byte around vs h = ap (λ x. value_.tree (term_.address_of x) true) (closed_part (around_place own around) vs 2 h)
-meaning_noted own Production.EncodingLiteral byte around vs h = ap (λ x. value_.tree (term_.encoding_literal x) true) (closed_part (around_place own around) vs 1 h)
-meaning_noted own Production.BoolLiteral byte around vs h = ap (λ x. value_.tree (term_.boolean (nat_eq x 49)) true) (letter_part (around_place own around) vs 0)
-meaning_noted own Production.LiteralWithD byte around vs h = part_noted (around_place own around) vs 0
-meaning_noted own Production.IntegerLiteral byte around vs h = both (λ x y. value_.tree (term_.integer x y) true) (tree_part (around_place own around) vs 0) (signed_part (around_place own around) vs 1)
-meaning_noted own Production.NullLiteral byte around vs h = refl
-meaning_noted own Production.CharLiteral byte around vs h = ap (λ x. value_.tree (term_.integer (term_.builtin (68 ∷ byte ∷ [])) x) true) (signed_part (around_place own around) vs 0)
-meaning_noted own Production.OperatorN byte around vs h = ap (λ x. value_.piece (term_.operator byte x)) (letter_part (around_place own around) vs 0)
-meaning_noted own Production.OperatorD byte around vs h = ap (λ x. value_.piece (term_.operator byte x)) (letter_part (around_place own around) vs 0)
-meaning_noted own Production.OperatorA byte around vs h = ap (λ x. value_.piece (term_.operator byte x)) (letter_part (around_place own around) vs 0)
-meaning_noted own Production.OperatorP byte around vs h = ap (λ x. value_.piece (term_.operator byte x)) (letter_part (around_place own around) vs 0)
-meaning_noted own Production.OperatorC byte around vs h = ap (λ x. value_.piece (term_.operator byte x)) (letter_part (around_place own around) vs 0)
-meaning_noted own Production.OperatorM byte around vs h = ap (λ x. value_.piece (term_.operator byte x)) (letter_part (around_place own around) vs 0)
-meaning_noted own Production.OperatorR byte around vs h = ap (λ x. value_.piece (term_.operator byte x)) (letter_part (around_place own around) vs 0)
-meaning_noted own Production.OperatorO byte around vs h = ap (λ x. value_.piece (term_.operator byte x)) (letter_part (around_place own around) vs 0)
-meaning_noted own Production.OperatorE byte around vs h = ap (λ x. value_.piece (term_.operator byte x)) (letter_part (around_place own around) vs 0)
-meaning_noted own Production.OperatorS byte around vs h = ap (λ x. value_.piece (term_.operator byte x)) (letter_part (around_place own around) vs 0)
-meaning_noted own Production.OperatorI byte around vs h = ap (λ x. value_.piece (term_.operator byte x)) (letter_part (around_place own around) vs 0)
-meaning_noted own Production.OperatorG byte around vs h = ap (λ x. value_.piece (term_.operator byte x)) (letter_part (around_place own around) vs 0)
-meaning_noted own Production.LiteralOperator byte around vs h = ap (λ x. value_.piece (term_.literal_operator x)) (text_part_ (around_place own around) vs 0)
-meaning_noted own Production.Mark byte around vs h = refl
+meaning_noted own production byte around vs h = meant_noted own (row_of production).form byte around vs h

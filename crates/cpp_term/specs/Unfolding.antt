@@ -12,8 +12,10 @@ use Rattle.cpp_grammar.specs.declared.production.Production.{Production}
 use Rattle.cpp_term.specs.Term.{Term, absent}
 use Rattle.cpp_term.specs.Values.{State, outermost, Around, Value, nothing_there, text, tree_of, text_of, part}
 use Rattle.cpp_grammar.specs.Values.{local_number}
-use Rattle.cpp_term.specs.References.{appended, with_type, with_unqualified, substituted}
+use Rattle.cpp_term.specs.References.{substituted}
 use Rattle.cpp_term.specs.Between.{between}
+use Rattle.cpp_term.specs.Meant.{gained, state_after}
+use Rattle.cpp_grammar.specs.Rows.{row_of}
 use Rattle.cpp_term.specs.Meaning.{meaning}
 use Rattle.cpp_grammar.specs.Unfolding.{last_token, production_at, byte_of}
 
@@ -33,19 +35,8 @@ opening _ parts place state = Ok state
 -- The state after a production that began in another: types become candidates here, and after an expansion the length of the
 -- packs around it holds again.
 unfoldable pub behind : Production → (byte : ℕ) → Around → (began : State) → List Value → State → State
-behind Production.RestrictType byte around began vs state = appended around (tree_of (meaning Production.RestrictType byte around vs)) state
-behind Production.VolatileType byte around began vs state = appended around (tree_of (meaning Production.VolatileType byte around vs)) state
-behind Production.ConstType byte around began vs state = appended around (tree_of (meaning Production.ConstType byte around vs)) state
-behind Production.ReferenceType byte around began vs state = appended around (tree_of (meaning Production.ReferenceType byte around vs)) state
-behind Production.PlainType byte around began vs state = with_type around (part vs 0) state
-behind Production.PlainArgument byte around began vs state = with_type around (part vs 0) state
-behind Production.ArgumentWithT byte around began vs state = with_type around (part vs 0) state
-behind Production.TypeWithD byte around began vs state = with_type around (part vs 0) state
-behind Production.ItemWithD byte around began vs state = with_type around (part vs 0) state
-behind Production.QualifiedPlain byte around began vs state = with_unqualified around (part vs 0) state
-behind Production.PlainWithD byte around began vs state = with_unqualified around (part vs 0) state
-behind Production.Expansion byte around began vs state = record state { packs = began.packs }
-behind _ byte around began vs state = state
+unfolding row_of state_after gained
+behind p byte around began vs state = state_after (row_of p) around began (meaning p byte around vs) vs state
 
 -- What a production stands for, that begins at a place, once its parts are read; a substitution may be refused at its S, one
 -- byte before.

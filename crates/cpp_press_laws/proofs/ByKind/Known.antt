@@ -20,7 +20,7 @@ use Rattle.cpp_grammar.specs.Table.{abi}
 use Rattle.cpp_grammar.specs.Term.{Term, Thunk, special, thunk, of_name, parameter, literal_operator}
 use Rattle.cpp_grammar.specs.Values.{State, outermost, behind, Around, Value, nothing_there, letter, text, tree, piece, tree_of, piece_of, qualifiers_of, ref_of, letter_of, text_of, signed_of, adjustment_of}
 use Rattle.cpp_grammar.specs.References.{with_prefix, parameter_named}
-use Rattle.cpp_grammar.specs.Between.{in_name, in_types, in_signature, under_expansion, after, inside, Going, named_so_far, listed_so_far, piece_so_far, tag_so_far, parameter_so_far, argument_so_far, index_of, between}
+use Rattle.cpp_grammar.specs.Between.{in_name, in_types, in_signature, under_expansion, after, inside, Going, named_so_far, listed_so_far, parameter_so_far, argument_so_far, index_of, between}
 use Rattle.cpp_grammar.specs.Meaning.{discriminator_of}
 use Rattle.cpp_grammar.specs.Unfolding.{cpp, opening, close, byte_of}
 use Rattle.cpp_grammar.proofs.ClosedValues.{AllGood, GoodPrefix, held, good_where}
@@ -282,7 +282,7 @@ bare-argument around place k state n bare e =
 -- a lambda's signature has no scope, nor has what is in one
 lambdas-go : (p : Production) (around : Around) (place : ℕ) (vs : List Value) (state : State) (n : Next Value State Around)
     → LambdasAreBare around → between p around place vs state ≡ Ok n → LambdasAreBare n.context
-unfolding between piece_so_far named_so_far listed_so_far tag_so_far after inside in_signature in_name in_types under_expansion
+unfolding between named_so_far listed_so_far after inside in_signature in_name in_types under_expansion parameter_so_far parameter_named argument_so_far
 lambdas-go Production.Encoding around place [] state n bare e = bare-next (in_name place) [] state n (λ is. absurd (false≢true is)) e
 lambdas-go Production.Encoding around place (v ∷ vs) state n bare e =
     bare-next (in_types place (tree_of v)) (v ∷ vs) state n (λ is. absurd (false≢true is)) e

@@ -8,8 +8,8 @@ use Rattle.cpp_grammar.specs.KindNumbers.{ARGUMENTS_ALONE}
 use Rattle.cpp_grammar.specs.Grammar.{alternatives, number_of_kind, parts_of}
 use Rattle.cpp_grammar.specs.Term.{Term, in_std, instance, parameter}
 use Rattle.cpp_grammar.specs.Values.{State, outermost, Around, prefix_tree, prefix_listed, Value, tree, tree_of, piece_of, is_listed, is_there, qualifiers_of, ref_of, part}
-use Rattle.cpp_grammar.specs.References.{appended, with_prefix}
-use Rattle.cpp_grammar.specs.Between.{after, inside, extended, applied, no_items, named_so_far, listed_so_far, index_of, between}
+use Rattle.cpp_grammar.specs.References.{appended, with_prefix, parameter_named}
+use Rattle.cpp_grammar.specs.Between.{after, inside, extended, applied, no_items, named_so_far, listed_so_far, index_of, between, parameter_so_far}
 use Rattle.cpp_grammar.specs.Meaning.{meaning}
 use Rattle.cpp_grammar.specs.Unfolding as unfolding_
 use Rattle.cpp_grammar.specs.Unfolding.{byte_of}
@@ -161,7 +161,7 @@ with-s-solid takes kind around at old v new front outer o =
 pub parameter-solid : (takes : Slot → Bool) (kind : Kind) (around : Around) (at : ℕ) (old : State) (v : Value) (new : State)
     → InFront (OfKind (number_of_kind kind)) around at old → around.prefix ≡ outermost
     → OpenedRead kind around at old v new Production.Parameter → SolidFits takes around v old new
-unfolding parts_of number_of_kind between tree_of is_listed meaning part unfolding_.behind
+unfolding parts_of number_of_kind between tree_of is_listed meaning part unfolding_.behind parameter_so_far parameter_named listed_so_far
 parameter-solid takes kind around at old v new front outer o =
     let a = o.goes tt in
     let k : ℕ = index_of a.value in
@@ -178,7 +178,7 @@ parameter-solid takes kind around at old v new front outer o =
 parameter-argument : (around : Around) (at : ℕ) (old : State) (v : Value) (new : State)
     → InFront (OfKind (number_of_kind Kind.ArgumentAfterT)) around at old
     → OpenedRead Kind.ArgumentAfterT around at old v new Production.ParameterArgument → SolidFits takes_all around v old new
-unfolding parts_of number_of_kind between tree_of is_listed meaning part unfolding_.behind
+unfolding parts_of number_of_kind between tree_of is_listed meaning part unfolding_.behind parameter_so_far parameter_named listed_so_far
 parameter-argument around at old v new front o =
     let a = o.goes tt in
     let k : ℕ = index_of a.value in

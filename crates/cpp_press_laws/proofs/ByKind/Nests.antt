@@ -11,7 +11,7 @@ use Rattle.cpp_grammar.specs.Grammar.{alternatives, number_of_kind, parts_of}
 use Rattle.cpp_grammar.specs.Term.{Term, in_std, instance, parameter, source}
 use Rattle.cpp_grammar.specs.Values.{State, Around, prefix_tree, prefix_listed, Value, tree, tree_of, piece_of, text_of, part}
 use Rattle.cpp_grammar.specs.References.{appended, with_prefix, parameter_named}
-use Rattle.cpp_grammar.specs.Between.{after, inside, extended, applied, no_items, named_so_far, listed_so_far, piece_so_far, parameter_so_far, index_of, between}
+use Rattle.cpp_grammar.specs.Between.{after, inside, extended, applied, no_items, named_so_far, listed_so_far, parameter_so_far, index_of, between}
 use Rattle.cpp_grammar.specs.Meaning.{meaning}
 use Rattle.cpp_grammar.specs.Unfolding as unfolding_
 use Rattle.cpp_grammar.specs.Unfolding.{byte_of}
@@ -222,7 +222,7 @@ nest-with-s around at old v new begins o =
 
 nest-internal : (around : Around) (at : ℕ) (old : State) (v : Value) (new : State) → BeginsName around
     → OpenedRead Kind.Nest around at old v new Production.NestInternal → NestRead around v old new
-unfolding parts_of number_of_kind between piece_so_far named_so_far begins_name meaning part unfolding_.behind
+unfolding parts_of number_of_kind between named_so_far begins_name meaning part unfolding_.behind
 nest-internal around at old v new begins o =
     let a = o.goes tt in
     let b = a.onward in
@@ -234,7 +234,7 @@ nest-internal around at old v new begins o =
 
 nest-source : (around : Around) (at : ℕ) (old : State) (v : Value) (new : State) → BeginsName around
     → OpenedRead Kind.Nest around at old v new Production.NestSource → NestRead around v old new
-unfolding parts_of number_of_kind between piece_so_far named_so_far begins_name meaning part unfolding_.behind
+unfolding parts_of number_of_kind between named_so_far begins_name meaning part unfolding_.behind
 nest-source around at old v new begins o =
     let a = o.goes tt in
     let b = a.onward in
@@ -246,7 +246,7 @@ nest-source around at old v new begins o =
 
 nest-local-type : (around : Around) (at : ℕ) (old : State) (v : Value) (new : State) → BeginsName around
     → OpenedRead Kind.Nest around at old v new Production.NestLocalType → NestRead around v old new
-unfolding parts_of number_of_kind between piece_so_far named_so_far meaning part unfolding_.behind
+unfolding parts_of number_of_kind between named_so_far meaning part unfolding_.behind
 nest-local-type around at old v new begins o =
     let a = o.goes tt in
     let b = a.onward in

@@ -13,7 +13,7 @@ use Rattle.cpp_grammar.specs.Term.{Term, parameter}
 use Rattle.cpp_grammar.specs.Scope.{count, element, length_if_pack, is_open}
 use Rattle.cpp_grammar.specs.Values.{Candidate, State, Around, Value, tree, prefix_tree, prefix_listed, is_listed, text_of, tree_of, part}
 use Rattle.cpp_grammar.specs.References.{appended, is_function_type, with_type, with_unqualified, with_prefix, with_packs, packs_in, substituted, parameter_named}
-use Rattle.cpp_grammar.specs.Between.{in_name, in_types, in_signature, after, inside, Going, named_so_far, listed_so_far, piece_so_far, tag_so_far, parameter_so_far, argument_so_far, index_of, between}
+use Rattle.cpp_grammar.specs.Between.{in_name, in_types, in_signature, after, inside, Going, named_so_far, listed_so_far, parameter_so_far, argument_so_far, index_of, between}
 use Rattle.cpp_grammar.specs.Unfolding as unfolding_
 use Rattle.cpp_grammar.specs.Unfolding.{opening, close, production_at, byte_of, cpp}
 use Rattle.cpp_grammar.proofs.ClosedStates.{ok_same, behind_bind}
@@ -135,7 +135,7 @@ argument-goes around place k state next outside e =
 
 between-outside : (p : Production) (around : Around) (place : ℕ) (vs : List Value) (state : State) (next : Next Value State Around)
     → NoExpansion p → around.in_expansion ≡ false → between p around place vs state ≡ Ok next → Outside state next
-unfolding between named_so_far listed_so_far piece_so_far tag_so_far after inside in_name in_types in_signature appended
+unfolding between named_so_far listed_so_far after inside in_name in_types in_signature appended parameter_so_far parameter_named argument_so_far
 between-outside Production.Encoding around place [] state next no_ outside e = goes state _ _ state next refl refl e
 between-outside Production.Encoding around place (v ∷ vs) state next no_ outside e = goes state _ _ state next refl refl e
 between-outside Production.Special around place vs state next no_ outside e = goes state _ _ state next refl refl e

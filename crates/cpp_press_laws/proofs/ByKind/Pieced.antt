@@ -6,7 +6,7 @@ use Rattle.cpp_grammar.specs.declared.production.Production.{Production}
 use Rattle.cpp_grammar.specs.Grammar.{number_of_kind, parts_of}
 use Rattle.cpp_grammar.specs.Term.{Term, source, operator, constructor, destructor}
 use Rattle.cpp_grammar.specs.Values.{State, Around, Value, tree, tree_of, piece_of, letter_of, text_of, part}
-use Rattle.cpp_grammar.specs.Between.{after, extended, applied, named_so_far, piece_so_far, between}
+use Rattle.cpp_grammar.specs.Between.{after, extended, applied, named_so_far, between}
 use Rattle.cpp_grammar.specs.Meaning.{meaning}
 use Rattle.cpp_grammar.specs.Unfolding as unfolding_
 use Rattle.cpp_grammar.specs.Unfolding.{byte_of}
@@ -48,7 +48,7 @@ name-piece around internal v old new read =
 
 pub source-comes : (kind : Kind) (around : Around) (at : ℕ) (old : State) (v : Value) (new : State)
     → OpenedRead kind around at old v new Production.SourceName → PieceRead names_type around v old new
-unfolding parts_of number_of_kind between piece_so_far named_so_far names_type begins_name tree_of meaning part unfolding_.behind
+unfolding parts_of number_of_kind between named_so_far names_type begins_name tree_of meaning part unfolding_.behind
 source-comes kind around at old v new o =
     let a = o.goes tt in
     let b = a.onward in
@@ -67,7 +67,7 @@ source-comes kind around at old v new o =
 
 pub internal-comes : (kind : Kind) (around : Around) (at : ℕ) (old : State) (v : Value) (new : State)
     → OpenedRead kind around at old v new Production.InternalName → PieceRead begins_name around v old new
-unfolding parts_of number_of_kind between piece_so_far named_so_far begins_name tree_of meaning part unfolding_.behind
+unfolding parts_of number_of_kind between named_so_far begins_name tree_of meaning part unfolding_.behind
 internal-comes kind around at old v new o =
     let a = o.goes tt in
     let b = a.onward in
@@ -86,7 +86,7 @@ internal-comes kind around at old v new o =
 
 pub local-type-comes : (kind : Kind) (around : Around) (at : ℕ) (old : State) (v : Value) (new : State)
     → OpenedRead kind around at old v new Production.LocalTypeName → PieceRead names_type around v old new
-unfolding parts_of number_of_kind between piece_so_far named_so_far tree_of meaning part unfolding_.behind
+unfolding parts_of number_of_kind between named_so_far tree_of meaning part unfolding_.behind
 local-type-comes kind around at old v new o =
     let a = o.goes tt in
     let b = a.onward in
@@ -105,7 +105,7 @@ local-type-comes kind around at old v new o =
 
 pub operator-comes : (kind : Kind) (around : Around) (at : ℕ) (old : State) (v : Value) (new : State)
     → OpenedRead kind around at old v new Production.OperatorName → PieceRead names_function around v old new
-unfolding parts_of number_of_kind between piece_so_far named_so_far tree_of meaning part unfolding_.behind
+unfolding parts_of number_of_kind between named_so_far tree_of meaning part unfolding_.behind
 operator-comes kind around at old v new o =
     let a = o.goes tt in
     let b = a.onward in
@@ -124,7 +124,7 @@ operator-comes kind around at old v new o =
 
 pub other-operator-comes : (kind : Kind) (around : Around) (at : ℕ) (old : State) (v : Value) (new : State)
     → OpenedRead kind around at old v new Production.OtherOperatorName → PieceRead names_function around v old new
-unfolding parts_of number_of_kind between piece_so_far named_so_far tree_of meaning part unfolding_.behind
+unfolding parts_of number_of_kind between named_so_far tree_of meaning part unfolding_.behind
 other-operator-comes kind around at old v new o =
     let a = o.goes tt in
     let b = a.onward in
@@ -144,7 +144,7 @@ other-operator-comes kind around at old v new o =
 -- an operator, after its c
 pub operator-with-c-comes : (kind : Kind) (around : Around) (at : ℕ) (old : State) (v : Value) (new : State)
     → OpenedRead kind around at old v new Production.OperatorNameWithC → PieceRead names_function around v old new
-unfolding parts_of number_of_kind between piece_so_far named_so_far names_function tree_of meaning part unfolding_.behind
+unfolding parts_of number_of_kind between named_so_far names_function tree_of meaning part unfolding_.behind
 operator-with-c-comes kind around at old v new o =
     let a = o.goes tt in
     let b = a.onward in
@@ -165,7 +165,7 @@ operator-with-c-comes kind around at old v new o =
 
 pub constructor-comes : (kind : Kind) (around : Around) (at : ℕ) (old : State) (v : Value) (new : State)
     → OpenedRead kind around at old v new Production.Constructor → PieceRead names_member around v old new
-unfolding parts_of number_of_kind between piece_so_far named_so_far names_member tree_of meaning part unfolding_.behind
+unfolding parts_of number_of_kind between named_so_far names_member tree_of meaning part unfolding_.behind
 constructor-comes kind around at old v new o =
     let a = o.goes tt in
     let b = a.onward in
@@ -186,7 +186,7 @@ constructor-comes kind around at old v new o =
 
 pub destructor-comes : (kind : Kind) (around : Around) (at : ℕ) (old : State) (v : Value) (new : State)
     → OpenedRead kind around at old v new Production.Destructor → PieceRead names_member around v old new
-unfolding parts_of number_of_kind between piece_so_far named_so_far names_member tree_of meaning part unfolding_.behind
+unfolding parts_of number_of_kind between named_so_far names_member tree_of meaning part unfolding_.behind
 destructor-comes kind around at old v new o =
     let a = o.goes tt in
     let b = a.onward in

@@ -8,7 +8,7 @@ use Rattle.cpp_grammar.specs.Term.{lvalue_only, rvalue_only, Term, abbreviation,
 use Rattle.cpp_grammar.specs.Values.{Candidate, State, Around, Value, nothing_there, tree, tree_of, is_listed, is_there, text_of, ref_of, normal, part}
 use Rattle.cpp_grammar.specs.References.{with_type, with_prefix, appended, is_function_type, with_unqualified}
 use Rattle.cpp_grammar.specs.Between.{after, no_items, under_expansion}
-use Rattle.cpp_grammar.specs.Meaning.{signature_or, meaning, listed_value, qualified_by, reference_to, function_of, with_item, parameters}
+use Rattle.cpp_grammar.specs.Meaning.{signature_or, meaning, listed_value, reference_to, with_item, parameters}
 use Rattle.cpp_grammar.specs.Unfolding as unfolding_
 use Rattle.cpp_press_laws.specs.Fits.{Slot, any_type, bare_type, item_type, parameter_type, literal_type, takes_all, takes_qualified, takes_expansions, has_letters, IsAbbreviation}
 use Rattle.cpp_press_laws.specs.Spellable.{AreSpellableDigits}
@@ -159,7 +159,7 @@ expansion-item around byte v old new one = expansion-fits around (tree_of v) old
 pub const-type : (around : Around) (byte : ℕ) (began : State) (slot : Slot) → takes_qualified slot ≡ true → (v : Value) (old new : State)
     → KindFits Kind.Plain around v old new → TypeFits around slot (tree_of (Meant Production.ConstType byte around (v ∷ []))) old
     (Later Production.ConstType byte around began (v ∷ []) new)
-unfolding meaning listed_value qualified_by tree_of is_there part unfolding_.behind has_letters
+unfolding meaning listed_value tree_of is_there part unfolding_.behind has_letters
 const-type around byte began slot take v old new one =
     qualified-fits around (record { restrict = false; volatile = false; const = true }) (tree_of v) slot old new take refl one
 
@@ -167,7 +167,7 @@ pub volatile-type : (around : Around) (byte : ℕ) (began : State) (slot : Slot)
     (old new : State) → KindFits Kind.Plain around v old new
     → TypeFits around slot (tree_of (Meant Production.VolatileType byte around (const ∷ v ∷ []))) old
     (Later Production.VolatileType byte around began (const ∷ v ∷ []) new)
-unfolding meaning listed_value qualified_by tree_of is_there part unfolding_.behind has_letters
+unfolding meaning listed_value tree_of is_there part unfolding_.behind has_letters
 volatile-type around byte began slot take const v old new one =
     qualified-fits around (record { restrict = false; volatile = true; const = is_there const }) (tree_of v) slot old new take refl one
 
@@ -175,7 +175,7 @@ pub restrict-type : (around : Around) (byte : ℕ) (began : State) (slot : Slot)
     (old new : State) → KindFits Kind.Plain around v old new
     → TypeFits around slot (tree_of (Meant Production.RestrictType byte around (volatile ∷ const ∷ v ∷ []))) old
     (Later Production.RestrictType byte around began (volatile ∷ const ∷ v ∷ []) new)
-unfolding meaning listed_value qualified_by tree_of is_there part unfolding_.behind has_letters
+unfolding meaning listed_value tree_of is_there part unfolding_.behind has_letters
 restrict-type around byte began slot take volatile const v old new one =
     qualified-fits around (record { restrict = true; volatile = is_there volatile; const = is_there const }) (tree_of v) slot old new take
     refl one
@@ -251,7 +251,7 @@ pub solid-function : (around : Around) (byte : ℕ) (began : State) (linkage v r
     → KindFits Kind.Type around v old mid → KindFits Kind.FunctionRest around rest mid new
     → KindFits Kind.Solid around (Meant Production.Function byte around (linkage ∷ v ∷ rest ∷ [])) old
     (Later Production.Function byte around began (linkage ∷ v ∷ rest ∷ []) new)
-unfolding meaning function_of part unfolding_.behind
+unfolding meaning part unfolding_.behind
 solid-function around byte began linkage v rest old mid new one other =
     function-fits around (is_there linkage) false (ref_of rest) (tree_of v) (parameters (tree_of rest)) old mid new one
     (parameters-fit around parameter_type (tree_of rest) mid new other.0 other.1)
@@ -260,7 +260,7 @@ pub solid-noexcept : (around : Around) (byte : ℕ) (began : State) (mark linkag
     → KindFits Kind.Type around v old mid → KindFits Kind.FunctionRest around rest mid new
     → KindFits Kind.AfterD around (Meant Production.NoexceptFunction byte around (mark ∷ linkage ∷ v ∷ rest ∷ [])) old
     (Later Production.NoexceptFunction byte around began (mark ∷ linkage ∷ v ∷ rest ∷ []) new)
-unfolding meaning function_of part unfolding_.behind
+unfolding meaning part unfolding_.behind
 solid-noexcept around byte began mark linkage v rest old mid new one other =
     function-fits around (is_there linkage) true (ref_of rest) (tree_of v) (parameters (tree_of rest)) old mid new one
     (parameters-fit around parameter_type (tree_of rest) mid new other.0 other.1)

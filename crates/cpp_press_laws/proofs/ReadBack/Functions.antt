@@ -19,7 +19,7 @@ use Rattle.cpp_grammar.specs.Values as value
 use Rattle.cpp_grammar.specs.Values.{State, Around, Value, nothing_there, letter, tree, signature, tree_of, ref_of, text_of, is_there, part}
 use Rattle.cpp_grammar.specs.References.{appended, with_packs, parameter_named}
 use Rattle.cpp_grammar.specs.Between.{between, after, applied, listed_so_far, parameter_so_far, index_of}
-use Rattle.cpp_grammar.specs.Meaning.{meaning, listed_value, qualified_by, function_of, with_item, signature_or, parameters}
+use Rattle.cpp_grammar.specs.Meaning.{meaning, listed_value, with_item, signature_or, parameters}
 use Rattle.cpp_grammar.specs.Unfolding as unfolding_
 use Rattle.cpp_grammar.specs.Unfolding.{opening, close, byte_of}
 use Rattle.cpp_press_laws.specs.Components.{components_of, Component}
@@ -82,7 +82,7 @@ parameter-passes p around allowed at k cs is goes s same packs =
 pub parameter-solid : (kind : ℕ) (around : Around) (allowed : Option ℕ) (k place : ℕ) (cs : List Component) → IsInScope around allowed k
     → TakesRule abi kind (rule_of Production.Parameter) (84 ∷ [])
     → ReadsAt around allowed (OfKind kind) (Is (tree (parameter k) true)) place cs (written (84 ∷ ordinal k) (more around cs (parameter k)))
-unfolding choose alternatives pick is_in in_ranges among kinds is_chain parts_of number_of_kind may_be_empty between opening close unfolding_.behind meaning applied tree_of is_there part byte_of
+unfolding choose alternatives pick is_in in_ranges among kinds is_chain parts_of number_of_kind may_be_empty between opening close unfolding_.behind meaning applied tree_of is_there part byte_of parameter_so_far parameter_named listed_so_far
 parameter-solid kind around allowed k place cs is takes =
     let digits : Written = written (((ordinal_token k).before ++ ordinal_digits k) ++ (95 ∷ [])) cs in
     let after_it : List Component = more around cs (parameter k) in
@@ -137,7 +137,7 @@ pub const-reads : (around : Around) (allowed : Option ℕ) (k : ℕ) (t : Term) 
     → ReadsAt around allowed (OfKind PLAIN) (Is (tree t true)) (place + 1) cs w
     → ReadsAt around allowed (OfKind k) (Is (tree (qualified_with false false true t) true)) place cs
     (written (75 ∷ w.bytes) (more around w.components (qualified_with false false true t)))
-unfolding parts_of number_of_kind between opening close unfolding_.behind meaning listed_value qualified_by tree_of is_there part
+unfolding parts_of number_of_kind between opening close unfolding_.behind meaning listed_value tree_of is_there part
 const-reads around allowed k t place cs w takes one =
     whole-more Production.ConstType k (75 ∷ []) around allowed place (tree t true ∷ []) (tree (qualified_with false false true t) true)
     (qualified_with false false true t) cs (OfKind PLAIN ∷ []) w takes refl
@@ -149,7 +149,7 @@ pub volatile-reads : (around : Around) (allowed : Option ℕ) (k : ℕ) (const :
     → ReadsAt around allowed (OfKind PLAIN) (Is (tree t true)) (place + 1 + length (mark_bytes const 75)) cs w
     → ReadsAt around allowed (OfKind k) (Is (tree (qualified_with false true const t) true)) place cs
     (written (86 ∷ (mark_bytes const 75 ++ w.bytes)) (more around w.components (qualified_with false true const t)))
-unfolding choose alternatives pick is_in in_ranges among kinds parts_of number_of_kind may_be_empty between opening close unfolding_.behind meaning listed_value qualified_by tree_of is_there part
+unfolding choose alternatives pick is_in in_ranges among kinds parts_of number_of_kind may_be_empty between opening close unfolding_.behind meaning listed_value tree_of is_there part
 volatile-reads around allowed k const t place cs w takes one =
     whole-more Production.VolatileType k (86 ∷ []) around allowed place (mark_value const 75 ∷ tree t true ∷ [])
     (tree (qualified_with false true const t) true) (qualified_with false true const t) cs (OfKind MAYBE_CONST ∷ OfKind PLAIN ∷ [])
@@ -173,7 +173,7 @@ pub restrict-reads : (around : Around) (allowed : Option ℕ) (k : ℕ) (volatil
     → ReadsAt around allowed (OfKind k) (Is (tree (qualified_with true volatile const t) true)) place cs
     (written (114 ∷ (mark_bytes volatile 86 ++ (mark_bytes const 75 ++ w.bytes)))
     (more around w.components (qualified_with true volatile const t)))
-unfolding choose alternatives pick is_in in_ranges among kinds parts_of number_of_kind may_be_empty between opening close unfolding_.behind meaning listed_value qualified_by tree_of is_there part
+unfolding choose alternatives pick is_in in_ranges among kinds parts_of number_of_kind may_be_empty between opening close unfolding_.behind meaning listed_value tree_of is_there part
 restrict-reads around allowed k volatile const t place cs w takes one =
     whole-more Production.RestrictType k (114 ∷ []) around allowed place (mark_value volatile 86 ∷ mark_value const 75 ∷ tree t true ∷ [])
     (tree (qualified_with true volatile const t) true) (qualified_with true volatile const t) cs (OfKind MAYBE_VOLATILE ∷ OfKind MAYBE_CONST ∷ OfKind PLAIN ∷ [])
@@ -328,7 +328,7 @@ pub function-solid : (around : Around) (allowed : Option ℕ) (c_linkage : Bool)
     first.components rest
     → ReadsAt around allowed (OfKind SOLID) (Is (tree (function_type c_linkage false ref returned (parameters items)) false)) place cs
     (written (70 ∷ (mark_bytes c_linkage 89 ++ (first.bytes ++ rest.bytes))) rest.components)
-unfolding choose alternatives pick is_in in_ranges among kinds is_chain parts_of number_of_kind may_be_empty between opening close unfolding_.behind meaning function_of tree_of ref_of is_there part
+unfolding choose alternatives pick is_in in_ranges among kinds is_chain parts_of number_of_kind may_be_empty between opening close unfolding_.behind meaning tree_of ref_of is_there part
 function-solid around allowed c_linkage returned items ref place cs first rest one two =
     let mark : List ℕ = mark_bytes c_linkage 89 in
     whole-same Production.Function 34 (70 ∷ []) around allowed place (mark_value c_linkage 89 ∷ tree returned true ∷ signature items ref ∷ [])
@@ -359,7 +359,7 @@ pub noexcept-behind-d : (around : Around) (allowed : Option ℕ) (c_linkage : Bo
     first.components rest
     → ReadsAt around allowed (OfKind AFTER_D) (Is (tree (function_type c_linkage true ref returned (parameters items)) false)) place cs
     (written (111 ∷ 70 ∷ (mark_bytes c_linkage 89 ++ (first.bytes ++ rest.bytes))) rest.components)
-unfolding choose alternatives pick is_in in_ranges among kinds is_chain parts_of number_of_kind may_be_empty between opening close unfolding_.behind meaning function_of tree_of ref_of is_there part
+unfolding choose alternatives pick is_in in_ranges among kinds is_chain parts_of number_of_kind may_be_empty between opening close unfolding_.behind meaning tree_of ref_of is_there part
 noexcept-behind-d around allowed c_linkage returned items ref place cs first rest one two =
     let mark : List ℕ = mark_bytes c_linkage 89 in
     whole-same Production.NoexceptFunction 33 (111 ∷ []) around allowed place

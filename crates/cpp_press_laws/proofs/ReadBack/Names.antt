@@ -13,7 +13,7 @@ use Rattle.cpp_grammar.specs.Term.{Term, source, operator, constructor, destruct
 use Rattle.cpp_grammar.specs.Values as value
 use Rattle.cpp_grammar.specs.Values.{State, behind, prefix_tree, prefix_listed, Around, Value, nothing_there, letter, tree, piece, tree_of, piece_of, letter_of, text_of, part}
 use Rattle.cpp_grammar.specs.References.{appended, with_prefix}
-use Rattle.cpp_grammar.specs.Between.{Going, between, after, inside, extended, applied, no_items, named_so_far, piece_so_far}
+use Rattle.cpp_grammar.specs.Between.{Going, between, after, inside, extended, applied, no_items, named_so_far}
 use Rattle.cpp_grammar.specs.Meaning.{meaning}
 use Rattle.cpp_grammar.specs.Unfolding as unfolding_
 use Rattle.cpp_grammar.specs.Unfolding.{opening, close, byte_of}
@@ -138,7 +138,7 @@ pub source-name : (k : ℕ) (around : Around) (allowed : Option ℕ) (name : Lis
     cs rest
     → ReadsAt around allowed (OfKind k) (Is (tree (applied (extended around.prefix (source false name)) last) false)) place cs
     (written (counted name ++ rest.bytes) rest.components)
-unfolding parts_of number_of_kind between opening close unfolding_.behind meaning piece_so_far named_so_far tree_of text_of part
+unfolding parts_of number_of_kind between opening close unfolding_.behind meaning named_so_far tree_of text_of part
 source-name k around allowed name last place cs rest takes good one =
     name-with Production.SourceName k [] around allowed place Name (value.text name) (extended around.prefix (source false name)) last cs
     (written (counted name) cs) rest takes refl (λ s. refl) (λ s. refl) (λ f s. refl) (λ began s. refl)
@@ -152,7 +152,7 @@ pub internal-name : (k : ℕ) (around : Around) (allowed : Option ℕ) (name : L
     cs rest
     → ReadsAt around allowed (OfKind k) (Is (tree (applied (extended around.prefix (source true name)) last) false)) place cs
     (written (76 ∷ (counted name ++ rest.bytes)) rest.components)
-unfolding parts_of number_of_kind between opening close unfolding_.behind meaning piece_so_far named_so_far tree_of text_of part
+unfolding parts_of number_of_kind between opening close unfolding_.behind meaning named_so_far tree_of text_of part
 internal-name k around allowed name last place cs rest takes good one =
     name-with Production.InternalName k (76 ∷ []) around allowed place Name (value.text name) (extended around.prefix (source true name)) last cs
     (written (counted name) cs) rest takes refl (λ s. refl) (λ s. refl) (λ f s. refl) (λ began s. refl)
@@ -167,7 +167,7 @@ pub operator-name : (k : ℕ) (around : Around) (allowed : Option ℕ) (p : Term
     → ReadsAt (after (extended around.prefix p) false around) allowed (OfKind MAYBE_ARGUMENTS) (Is last) (place + 0 + length first.bytes) first.components rest
     → ReadsAt around allowed (OfKind k) (Is (tree (applied (extended around.prefix p) last) false)) place cs
     (written (first.bytes ++ rest.bytes) rest.components)
-unfolding parts_of number_of_kind between opening close unfolding_.behind meaning piece_so_far named_so_far tree_of piece_of part
+unfolding parts_of number_of_kind between opening close unfolding_.behind meaning named_so_far tree_of piece_of part
 operator-name k around allowed p last place cs first rest takes one two =
     name-with Production.OperatorName k [] around allowed place (OfKind OPERATOR) (piece p) (extended around.prefix p) last cs first rest takes refl
     (λ s. refl) (λ s. refl) (λ f s. refl) (λ began s. refl) one two
@@ -178,7 +178,7 @@ pub other-operator-name : (around : Around) (allowed : Option ℕ) (p : Term) (l
     → ReadsAt (after (extended around.prefix p) false around) allowed (OfKind MAYBE_ARGUMENTS) (Is last) (place + 0 + length first.bytes) first.components rest
     → ReadsAt around allowed (OfKind COMPONENT) (Is (tree (applied (extended around.prefix p) last) false)) place cs
     (written (first.bytes ++ rest.bytes) rest.components)
-unfolding choose alternatives pick is_in in_ranges among kinds is_chain parts_of number_of_kind between opening close unfolding_.behind meaning piece_so_far named_so_far tree_of piece_of part
+unfolding choose alternatives pick is_in in_ranges among kinds is_chain parts_of number_of_kind between opening close unfolding_.behind meaning named_so_far tree_of piece_of part
 other-operator-name around allowed p last place cs first rest one two =
     name-with Production.OtherOperatorName COMPONENT [] around allowed place (OfKind OTHER_OPERATOR) (piece p) (extended around.prefix p) last cs first rest
     (takes-none COMPONENT Kind.Component Production.OtherOperatorName 110 refl refl (omega arith) refl) refl
@@ -190,7 +190,7 @@ pub operator-name-with-c : (around : Around) (allowed : Option ℕ) (second : �
     → ReadsAt (after (extended around.prefix (operator 99 second)) false around) allowed (OfKind MAYBE_ARGUMENTS) (Is last) (place + 1 + 0 + 1) cs rest
     → ReadsAt around allowed (OfKind COMPONENT) (Is (tree (applied (extended around.prefix (operator 99 second)) last) false)) place cs
     (written (99 ∷ second ∷ rest.bytes) rest.components)
-unfolding choose alternatives pick is_in in_ranges among kinds is_chain parts_of number_of_kind between opening close unfolding_.behind meaning piece_so_far named_so_far tree_of letter_of part
+unfolding choose alternatives pick is_in in_ranges among kinds is_chain parts_of number_of_kind between opening close unfolding_.behind meaning named_so_far tree_of letter_of part
 operator-name-with-c around allowed second last place cs rest one two =
     let v : Value = tree (applied (extended around.prefix (operator 99 second)) last) false in
     one-part Production.ComponentWithC COMPONENT (99 ∷ []) around allowed place (OfKind COMPONENT_AFTER_C) v v cs (written (second ∷ rest.bytes) rest.components)
@@ -207,7 +207,7 @@ pub local-type-name : (k : ℕ) (around : Around) (allowed : Option ℕ) (p : Te
     → ReadsAt (after (extended around.prefix p) false around) allowed (OfKind MAYBE_ARGUMENTS) (Is last) (place + 1 + length first.bytes) first.components rest
     → ReadsAt around allowed (OfKind k) (Is (tree (applied (extended around.prefix p) last) false)) place cs
     (written (85 ∷ (first.bytes ++ rest.bytes)) rest.components)
-unfolding parts_of number_of_kind between opening close unfolding_.behind meaning piece_so_far named_so_far tree_of piece_of part
+unfolding parts_of number_of_kind between opening close unfolding_.behind meaning named_so_far tree_of piece_of part
 local-type-name k around allowed p last place cs first rest takes one two =
     name-with Production.LocalTypeName k (85 ∷ []) around allowed place (OfKind ANONYMOUS) (piece p) (extended around.prefix p) last cs first rest takes
     refl (λ s. refl) (λ s. refl) (λ f s. refl) (λ began s. refl) one two
@@ -218,7 +218,7 @@ pub constructor-name : (around : Around) (allowed : Option ℕ) (digit : ℕ) (l
     first.components rest
     → ReadsAt around allowed (OfKind COMPONENT) (Is (tree (applied (extended around.prefix (constructor digit)) last) false)) place cs
     (written (67 ∷ (first.bytes ++ rest.bytes)) rest.components)
-unfolding choose alternatives pick is_in in_ranges among kinds is_chain parts_of number_of_kind between opening close unfolding_.behind meaning piece_so_far named_so_far tree_of letter_of part
+unfolding choose alternatives pick is_in in_ranges among kinds is_chain parts_of number_of_kind between opening close unfolding_.behind meaning named_so_far tree_of letter_of part
 constructor-name around allowed digit last place cs first rest one two =
     name-with Production.Constructor 19 (67 ∷ []) around allowed place (OfKind CONSTRUCTOR_DIGIT) (letter digit) (extended around.prefix (constructor digit))
     last cs first rest
@@ -231,7 +231,7 @@ pub destructor-name : (around : Around) (allowed : Option ℕ) (digit : ℕ) (la
     first.components rest
     → ReadsAt around allowed (OfKind COMPONENT) (Is (tree (applied (extended around.prefix (destructor digit)) last) false)) place cs
     (written (68 ∷ (first.bytes ++ rest.bytes)) rest.components)
-unfolding choose alternatives pick is_in in_ranges among kinds is_chain parts_of number_of_kind between opening close unfolding_.behind meaning piece_so_far named_so_far tree_of letter_of part
+unfolding choose alternatives pick is_in in_ranges among kinds is_chain parts_of number_of_kind between opening close unfolding_.behind meaning named_so_far tree_of letter_of part
 destructor-name around allowed digit last place cs first rest one two =
     name-with Production.Destructor 19 (68 ∷ []) around allowed place (OfKind DESTRUCTOR_DIGIT) (letter digit) (extended around.prefix (destructor digit)) last
     cs first rest

@@ -13,8 +13,8 @@ use Rattle.cpp_grammar.specs.Table.{abi, rule_of}
 use Rattle.cpp_grammar.specs.Term.{Term, source, in_std, instance, parameter}
 use Rattle.cpp_grammar.specs.Values as value
 use Rattle.cpp_grammar.specs.Values.{State, behind, prefix_tree, prefix_listed, Around, Value, nothing_there, tree, piece, tree_of, piece_of, text_of, part}
-use Rattle.cpp_grammar.specs.References.{appended, with_prefix}
-use Rattle.cpp_grammar.specs.Between.{Going, between, after, inside, extended, applied, no_items, named_so_far, listed_so_far, piece_so_far}
+use Rattle.cpp_grammar.specs.References.{appended, with_prefix, parameter_named}
+use Rattle.cpp_grammar.specs.Between.{Going, between, after, inside, extended, applied, no_items, named_so_far, listed_so_far, parameter_so_far}
 use Rattle.cpp_grammar.specs.Meaning.{meaning}
 use Rattle.cpp_grammar.specs.Unfolding as unfolding_
 use Rattle.cpp_grammar.specs.Unfolding.{opening, close, byte_of}
@@ -51,7 +51,7 @@ first-with p k m taken around allowed place x u t listed v cs middle first rest 
 
 pub nest-source : (around : Around) (allowed : Option ℕ) (name : List ℕ) (place : ℕ) (cs : List Component) → IsSpellableName name
     → SoFar around allowed (extended around.prefix (source false name)) false 17 place cs (written (counted name) cs)
-unfolding choose alternatives pick is_in in_ranges among kinds is_chain parts_of number_of_kind between opening close unfolding_.behind meaning piece_so_far named_so_far text_of part
+unfolding choose alternatives pick is_in in_ranges among kinds is_chain parts_of number_of_kind between opening close unfolding_.behind meaning named_so_far text_of part
 nest-source around allowed name place cs good v rest second =
     first-with Production.NestSource 15 17 [] around allowed place Name (value.text name) (extended around.prefix (source false name)) false v cs
     cs (written (counted name) cs) rest
@@ -66,7 +66,7 @@ nest-source around allowed name place cs good v rest second =
 
 pub nest-internal : (around : Around) (allowed : Option ℕ) (name : List ℕ) (place : ℕ) (cs : List Component) → IsSpellableName name
     → SoFar around allowed (extended around.prefix (source true name)) false 17 place cs (written (76 ∷ counted name) cs)
-unfolding choose alternatives pick is_in in_ranges among kinds is_chain parts_of number_of_kind between opening close unfolding_.behind meaning piece_so_far named_so_far text_of part
+unfolding choose alternatives pick is_in in_ranges among kinds is_chain parts_of number_of_kind between opening close unfolding_.behind meaning named_so_far text_of part
 nest-internal around allowed name place cs good v rest second =
     first-with Production.NestInternal 15 17 (76 ∷ []) around allowed place Name (value.text name) (extended around.prefix (source true name))
     false v cs cs (written (counted name) cs) rest
@@ -82,7 +82,7 @@ nest-internal around allowed name place cs good v rest second =
 pub nest-local-type : (around : Around) (allowed : Option ℕ) (p : Term) (place : ℕ) (cs : List Component) (first : Written)
     → ReadsAt around allowed (OfKind ANONYMOUS) (Is (piece p)) (place + 1) cs first
     → SoFar around allowed (extended around.prefix p) false 17 place cs (written (85 ∷ first.bytes) first.components)
-unfolding choose alternatives pick is_in in_ranges among kinds is_chain parts_of number_of_kind between opening close unfolding_.behind meaning piece_so_far named_so_far piece_of part
+unfolding choose alternatives pick is_in in_ranges among kinds is_chain parts_of number_of_kind between opening close unfolding_.behind meaning named_so_far piece_of part
 nest-local-type around allowed p place cs first one v rest second =
     first-with Production.NestLocalType 15 17 (85 ∷ []) around allowed place (OfKind ANONYMOUS) (piece p) (extended around.prefix p) false v cs
     first.components first rest
@@ -94,7 +94,7 @@ nest-local-type around allowed p place cs first one v rest second =
 
 pub nest-parameter : (around : Around) (allowed : Option ℕ) (k place : ℕ) (cs : List Component) → IsInScope around allowed k
     → SoFar around allowed (parameter k) true 17 place cs (written (84 ∷ ordinal k) (more around cs (parameter k)))
-unfolding choose alternatives pick is_in in_ranges among kinds is_chain parts_of number_of_kind between opening close unfolding_.behind meaning part
+unfolding choose alternatives pick is_in in_ranges among kinds is_chain parts_of number_of_kind between opening close unfolding_.behind meaning part parameter_so_far parameter_named listed_so_far
 nest-parameter around allowed k place cs is v rest second =
     first-with Production.NestParameter 15 68 (84 ∷ []) around allowed place (Number Decimal) (value.text (ordinal_digits k)) (parameter k) true
     v cs (more around cs (parameter k)) (written (ordinal k) cs) rest

@@ -13,7 +13,7 @@ use Rattle.cpp_grammar.specs.Table.{abi, rule_of}
 use Rattle.cpp_grammar.specs.Term.{Term, instance, parameter}
 use Rattle.cpp_grammar.specs.Values as value
 use Rattle.cpp_grammar.specs.Values.{Around, Value, tree, tree_of, is_there, part}
-use Rattle.cpp_grammar.specs.Between.{between, after, inside, applied, no_items}
+use Rattle.cpp_grammar.specs.Between.{between, after, inside, applied, no_items, parameter_so_far, listed_so_far}
 use Rattle.cpp_grammar.specs.Meaning.{meaning}
 use Rattle.cpp_grammar.specs.Unfolding as unfolding_
 use Rattle.cpp_grammar.specs.Unfolding.{opening, close}
@@ -32,6 +32,7 @@ use Rattle.cpp_press_laws.proofs.ReadBack.Named.{NameRule, type-rule, literal-ty
 use Rattle.cpp_press_laws.proofs.ReadBack.Between.{in_I_and_E, ElementsRead}
 use Rattle.cpp_press_laws.specs.Fits.{Slot, any_type, bare_type, item_type, parameter_type, literal_type, names_type, IsFirst, Fitting, as_template}
 use Rattle.cpp_press_laws.proofs.ReadBack.Slots.{solid_kind}
+use Rattle.cpp_grammar.specs.References.{parameter_named}
 
 -- ## Kinds of template names
 
@@ -123,7 +124,7 @@ instanced-behind-s false k around allowed t eight place cs w one items last args
 pub parameter-instanced : (kind : ℕ) (around : Around) (allowed : Option ℕ) (k place : ℕ) (cs : List Component) → IsInScope around allowed k
     → TakesRule abi kind (rule_of Production.Parameter) (84 ∷ [])
     → InstancedAt around allowed kind (parameter k) place cs (written (84 ∷ ordinal k) (more around cs (parameter k)))
-unfolding parts_of number_of_kind between opening close unfolding_.behind meaning applied tree_of is_there part
+unfolding parts_of number_of_kind between opening close unfolding_.behind meaning applied tree_of is_there part parameter_so_far parameter_named listed_so_far
 parameter-instanced kind around allowed k place cs is takes items last args are one =
     let digits : Written = written (((ordinal_token k).before ++ ordinal_digits k) ++ (95 ∷ [])) cs in
     let behind : Written = written (in_I_and_E args.bytes) args.components in

@@ -1,7 +1,7 @@
 -- What a row says of a production: what is done before its parts, what it stands for, and what becomes a candidate once they are read.
 -- A part is named by its number. No tree and no function is in a row, so rows are the same for each sort of trees.
 use Rattle.std.specs.Prelude.{ℕ, ◌+◌, List, [], ◌∷◌, get_or, Bool}
-use Rattle.cpp_rows.specs.Makers.{Maker}
+use Rattle.cpp_grammar.specs.Makers.{Maker}
 
 -- where an argument of a tree comes from: a part, the name so far, the byte that the production takes, or the row itself
 pub data Source : Type 0 where

@@ -1,0 +1,63 @@
+-- Of what productions stand for: parameters, encodings, references, signatures.
+use Rattle.std.specs.Prelude.{ℕ, List, [], ◌∷◌, Bool, true, false, cond, ◌&&◌, nat_eq, Option, Some, None}
+use Rattle.cpp_grammar.specs.Term.{RefQualifier, Term, function, object, of_default, operator, builtin, lvalue, rvalue, function_type, qualified, nil, list, absent}
+use Rattle.cpp_grammar.specs.Scope.{has_return_type}
+use Rattle.cpp_grammar.specs.Values.{Value, nothing_there, letter, text, tree, piece, named, signature, tree_of, qualifiers_of, ref_of, is_there, normal}
+
+-- a lone void is no parameters
+unfoldable pub is_void : Term → Bool
+is_void (builtin (b ∷ [])) = nat_eq b 118
+is_void _ = false
+
+unfoldable pub is_nil : Term → Bool
+is_nil nil = true
+is_nil _ = false
+
+unfoldable pub parameters : Term → Term
+parameters (list first rest) = elim (is_void first && is_nil rest) [ true ↦ nil | false ↦ list first rest ]
+parameters t = t
+
+-- an encoding without items is data; with items it's a function
+unfoldable pub encoding_of : Value → Term → Term
+encoding_of name (list first rest) =
+    elim (has_return_type (tree_of name)) [
+      | true ↦ function (tree_of name) (qualifiers_of name) (ref_of name) first (parameters rest)
+      | false ↦ function (tree_of name) (qualifiers_of name) (ref_of name) absent (parameters (list first rest))
+    ]
+encoding_of name _ = object (tree_of name) (qualifiers_of name) (ref_of name)
+
+unfoldable pub qualified_by : Bool → Value → Value → Value → Value
+qualified_by restrict volatile const inner =
+    tree (qualified (record { restrict = restrict; volatile = is_there volatile; const = is_there const }) (tree_of inner)) false
+
+unfoldable pub listed_value : Value → Value
+listed_value v = tree (tree_of v) true
+
+unfoldable pub discriminator_of : Value → Option (List ℕ)
+discriminator_of (text digits) = Some digits
+discriminator_of _ = None
+
+-- The type of a function: its linkage mark, what it returns, and its signature.
+unfoldable pub function_of : Bool → Value → Value → Value → Value
+function_of noexcept linkage returned rest =
+    tree (function_type (is_there linkage) noexcept (ref_of rest) (tree_of returned) (parameters (tree_of rest))) false
+
+-- one more parameter before those of a signature
+unfoldable pub with_item : Term → Value → Value
+with_item t rest = signature (list t (tree_of rest)) (ref_of rest)
+
+unfoldable pub reference_to : ℕ → Value → Value
+reference_to byte v = tree (cond (nat_eq byte 82) (lvalue (tree_of v)) (rvalue (tree_of v))) false
+
+unfoldable pub signature_or : RefQualifier → Value → Value
+signature_or ref nothing_there = signature nil ref
+signature_or ref v = v
+
+-- an entity in a default argument, with the qualifiers that belong to the encoding
+unfoldable pub default_entity : (digits : List ℕ) → Value → Value
+default_entity digits entity = named (of_default (normal digits) (tree_of entity)) (qualifiers_of entity) (ref_of entity)
+
+-- the operator of two letters that begins with l, or a literal operator
+unfoldable pub operator_or_literal : ℕ → Value → Value
+operator_or_literal first (letter second) = piece (operator first second)
+operator_or_literal first v = v

@@ -1,0 +1,85 @@
+-- What surrounds the parts of a production, and the name that grows from part to part: each piece is added to the name so far.
+use Rattle.std.specs.Prelude.{ℕ, List, [], ◌∷◌, Bool, true, false, None, Result, Ok}
+use Rattle.sym_core.specs.declared.refusal.Refusal.{Refusal}
+use Rattle.sym_core.specs.declared.NumberKind.TheVariants.{Decimal}
+use Rattle.sym_core.specs.Value.{counted_value}
+use Rattle.sym_link.specs.Reading.{Next, ◌>>=◌}
+use Rattle.cpp_grammar.specs.Term.{Term, alone, within, instance, tagged, parameter, nil}
+use Rattle.cpp_grammar.specs.Scope.{arguments_of, is_structor}
+use Rattle.cpp_grammar.specs.Values.{State, Prefix, outermost, behind, Around, prefix_tree, Value, nothing_there, tree, named, tree_of, is_there, text_of}
+use Rattle.cpp_grammar.specs.References.{parameter_named}
+
+-- ## What surrounds a part
+
+-- inside an encoding that begins here, in its name
+unfoldable pub in_name : ℕ → Around
+in_name place = record { scope = None; encoding = place; in_lambda = false; in_expansion = false; prefix = outermost }
+
+-- in the types of an encoding with this name
+unfoldable pub in_types : ℕ → Term → Around
+in_types place name = record { scope = arguments_of name; encoding = place; in_lambda = false; in_expansion = false; prefix = outermost }
+
+unfoldable pub in_signature : Around → Around
+in_signature around = record { scope = None; encoding = around.encoding; in_lambda = true; in_expansion = around.in_expansion; prefix = outermost }
+
+unfoldable pub under_expansion : Around → Around
+under_expansion around = record { scope = around.scope; encoding = around.encoding; in_lambda = around.in_lambda; in_expansion = true; prefix = around.prefix }
+
+unfoldable pub after : Term → Bool → Around → Around
+after t listed around = record { scope = around.scope; encoding = around.encoding; in_lambda = around.in_lambda; in_expansion = around.in_expansion; prefix = behind t listed }
+
+unfoldable pub inside : Around → Around
+inside around = record { scope = around.scope; encoding = around.encoding; in_lambda = around.in_lambda; in_expansion = around.in_expansion; prefix = outermost }
+
+-- the name so far with one more piece
+unfoldable pub extended : Prefix → Term → Term
+extended outermost piece = alone piece
+extended (behind t listed) piece = within t piece
+
+-- a name with one more tag
+unfoldable pub with_tag : Term → List ℕ → Term
+with_tag t tag = tagged (is_structor t) t tag
+
+-- A name, with arguments where there are some. A name that follows it is the same with tags, and perhaps arguments after
+-- these: it takes its place.
+unfoldable pub applied : Term → Value → Term
+applied t (named u qualifiers ref) = u
+applied t v = elim (is_there v) [ true ↦ instance t (tree_of v) | false ↦ t ]
+
+unfoldable pub no_items : Value → Term
+no_items nothing_there = nil
+no_items v = tree_of v
+
+-- these values so far, these surroundings of the next part, and this state before it
+abbrev pub Going : Type 0
+Going = Result (Next Value State Around) Refusal
+
+abbrev pub next : List Value → Around → State → Going
+next vs around state = Ok (record { values = vs; context = around; state = state })
+
+-- a name that has been made comes before its arguments
+unfoldable pub named_so_far : Around → Term → List Value → State → Going
+named_so_far around t vs state = next (tree t false ∷ vs) (after t false around) state
+
+-- a name that is a candidate already, or never is one
+unfoldable pub listed_so_far : Around → Term → List Value → State → Going
+listed_so_far around t vs state = next (tree t true ∷ vs) (after t true around) state
+
+-- a piece is added to the name so far
+unfoldable pub piece_so_far : Around → Term → List Value → State → Going
+piece_so_far around p vs state = named_so_far around (extended around.prefix p) vs state
+
+-- the name so far with one more tag
+unfoldable pub tag_so_far : Around → List ℕ → State → Going
+tag_so_far around tag state = named_so_far around (with_tag (prefix_tree around.prefix) tag) [] state
+
+-- a parameter is tested, and becomes a candidate, where its number ends
+unfoldable pub parameter_so_far : Around → (place : ℕ) → ℕ → List Value → State → Going
+parameter_so_far around place k vs state = parameter_named around place k state >>= λ s. listed_so_far around (parameter k) vs s
+
+-- a parameter that is an argument itself, or the length of an array, is tested in the same way, and no candidate
+unfoldable pub argument_so_far : Around → (place : ℕ) → ℕ → State → Going
+argument_so_far around place k state = parameter_named around place k state >>= λ s. next (tree (parameter k) true ∷ []) around (record s { candidates = state.candidates })
+
+unfoldable pub index_of : Value → ℕ
+index_of v = counted_value Decimal (text_of v)
