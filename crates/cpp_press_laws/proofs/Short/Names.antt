@@ -476,7 +476,7 @@ parameter-goes around place k vs old G all goes = go (parameter_named around pla
     go (Ok mid) is h = record { mid = mid; grown = parameter-mid around place k old mid all is; goes = h }
 
 pub nest-parameter : Free Production.NestParameter name 0
-unfolding parts_of between is_chain close unfolding_.behind meaning values.part class_of grant Gained Ready ready_for need typed loan returned IsKnown IsKept tree_of piece_so_far named_so_far after SmallPrefix index_of IsBehind lent full over size part_of front_of is_component is_encoding is_function_type
+unfolding parts_of between is_chain close unfolding_.behind meaning values.part class_of grant Gained Ready ready_for need typed loan returned IsKnown IsKept tree_of piece_so_far named_so_far after SmallPrefix index_of IsBehind lent full over size part_of front_of is_component is_encoding is_function_type parameter_so_far parameter_named listed_so_far
 nest-parameter around at old v new b small all o =
     let p0 = o.paid in
     let g0 = p0.gains in

@@ -11,8 +11,8 @@ use Rattle.cpp_grammar.specs.Grammar.{parts_of, is_chain}
 use Rattle.cpp_grammar.specs.Term.{Qualifiers, Term, symbol, instance, parameter, lvalue, rvalue, function_type, qualified, integer}
 use Rattle.cpp_grammar.specs.Values as values
 use Rattle.cpp_grammar.specs.Values.{State, Prefix, outermost, Around, prefix_tree, prefix_listed, Value, nothing_there, letter, text, signed, adjusted, tree, piece, named, signature, unqualified, tree_of, piece_of, is_listed, qualifiers_of, ref_of, letter_of, is_there, mark_of, text_of, signed_of, adjustment_of, normal, is_zero, signed_digits, local_number}
-use Rattle.cpp_grammar.specs.References.{is_function_type, appended, with_type, with_unqualified}
-use Rattle.cpp_grammar.specs.Between.{after, applied, named_so_far, listed_so_far, piece_so_far, index_of, between}
+use Rattle.cpp_grammar.specs.References.{is_function_type, appended, parameter_named, with_type, with_unqualified}
+use Rattle.cpp_grammar.specs.Between.{after, applied, named_so_far, listed_so_far, parameter_so_far, piece_so_far, index_of, between}
 use Rattle.cpp_grammar.specs.Meaning.{parameters, qualified_by, listed_value, reference_to, meaning}
 use Rattle.cpp_grammar.specs.Unfolding as unfolding_
 use Rattle.cpp_grammar.specs.Unfolding.{close}
@@ -24,7 +24,7 @@ use Rattle.cpp_press_laws.proofs.Short.Worth.{is_among, is_again, full, worth, f
 use Rattle.cpp_press_laws.proofs.Short.Gains.{wealth, IsSmall, AllSmall, name, type, bare, arguments, Class, class_of, typed, held, need, lent, owed, loan, returned, grant, SmallPrefix, ready_for, Ready, IsKnown, IsKept, Gains, Gained, appended-wealth, appended-grown, typed-grown}
 use Rattle.cpp_press_laws.proofs.Short.Paid.{Ended, comes-to}
 use Rattle.cpp_grammar.specs.Values.{Candidate}
-use Rattle.cpp_grammar.specs.Scope.{is_open}
+use Rattle.cpp_grammar.specs.Scope.{element, is_open}
 use Rattle.cpp_grammar.specs.References.{substituted}
 use Rattle.cpp_press_laws.specs.Components.{Component}
 use Rattle.cpp_press_laws.specs.Fits.{has_letters}
@@ -307,7 +307,7 @@ type-with-s-gains around at old v new b idle small all o =
     (omega (arith, o.sum, g0.few, p0.sum, p1.sum, p1.onward.1)))
 
 pub parameter-gains : Idle Production.Parameter type
-unfolding parts_of between is_chain close unfolding_.behind meaning values.part class_of grant Gained Ready ready_for need typed loan returned IsKnown IsKept tree_of piece_so_far named_so_far after SmallPrefix index_of full over size part_of is_component is_function_type is_encoding
+unfolding parts_of between is_chain close unfolding_.behind meaning values.part class_of grant Gained Ready ready_for need typed loan returned IsKnown IsKept tree_of piece_so_far named_so_far after SmallPrefix index_of full over size part_of is_component is_function_type is_encoding parameter_so_far parameter_named element appended listed_so_far
 parameter-gains around at old v new b idle small all o =
     let p0 = o.paid in
     let g0 = p0.gains in
@@ -327,7 +327,7 @@ Granted p =
     → AllSmall old.candidates → Ended p around at old v new b → Gains type 8 around v old new b
 
 pub parameter-argument-gains : Granted Production.ParameterArgument
-unfolding parts_of between is_chain close unfolding_.behind meaning values.part class_of grant Gained Ready ready_for need typed loan returned IsKnown IsKept tree_of piece_so_far named_so_far after SmallPrefix index_of full over size part_of is_component is_function_type is_encoding
+unfolding parts_of between is_chain close unfolding_.behind meaning values.part class_of grant Gained Ready ready_for need typed loan returned IsKnown IsKept tree_of piece_so_far named_so_far after SmallPrefix index_of full over size part_of is_component is_function_type is_encoding parameter_so_far parameter_named element appended listed_so_far
 parameter-argument-gains around at old v new b idle small all o =
     let p0 = o.paid in
     let g0 = p0.gains in
