@@ -89,6 +89,10 @@ take-none (suc n) xs h = absurd (omega arith)
 pub room-back : (new items : List ℕ) (len : ℕ) → length new ≡ len → take len (new ++ drop (length new) items) ≡ new
 room-back new items len h = ap (λ n. take n (new ++ drop (length new) items)) (sym h) ∙ take-append_seam new (drop (length new) items)
 
+-- no dot waits before the first
+pub dots-first : (dots left count : ℕ) → dots ≡ 0 → count ≡ left → count < 2 ^ 64 → dots + READ_SIZE * left < 2 ^ 64 * READ_SIZE
+dots-first dots left count none same fits = omega arith
+
 -- each read brings at most 65,536 dots, so their count has room
 pub dots-step : (dots dots' left left' count : ℕ) (bytes piece : List ℕ) → dots + READ_SIZE * left < 2 ^ 64 * READ_SIZE → left' < left → dots' ≤ dots + length piece → take count bytes ≡ piece → length bytes ≡ READ_SIZE → dots' + READ_SIZE * left' < 2 ^ 64 * READ_SIZE
 dots-step dots dots' left left' count bytes piece room fewer more same whole =

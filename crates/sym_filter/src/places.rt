@@ -119,6 +119,7 @@ pub(crate) struct Front {
 }
 
 /// The front of a text at a place, up to the first `_` that begins a word.
+#[inline(always)]
 pub(crate) fn plain_front(letters: Letters, text: &[u8], place: Place) -> Front
     ensures within { result.length ≤ length text.now }
     ensures plain { is_plain letters place (take result.length text.now) ≡ true }
@@ -167,8 +168,25 @@ fn is_open(letters: Letters, text: &[u8], at: usize, place: Place) -> bool
     !closes(letters, text[at - 1])
 }
 
-/// The place that a text, which begins at one, comes to. No byte is looked at but those of its last stretch.
+/// The place that a text, which begins at one, comes to.
+#[inline(always)]
 fn place_at(letters: Letters, text: &[u8], at: usize, place: Place) -> Place
+    requires { at ≤ length text.now }
+    ensures { result ≡ place_of letters place (take at text.now) }
+{
+    if at == 0 {
+        return place;
+    }
+    if !in_stretch(letters, text[at - 1]) {
+        return START;
+    }
+    place_in_stretch(letters, text, at, place)
+}
+
+/// The same, by the bytes of the last stretch alone.
+// out of line, so that all others pay nothing for it
+#[inline(never)]
+fn place_in_stretch(letters: Letters, text: &[u8], at: usize, place: Place) -> Place
     requires { at ≤ length text.now }
     ensures { result ≡ place_of letters place (take at text.now) }
 {

@@ -1,6 +1,6 @@
 use Rattle.std.proofs.Common.{◌≡◌, ◌-◌, ◌≤◌, take}
 use Rattle.sym_filter.specs.Places.{place_of}
-use Rattle.sym_filter.proofs.places.place_at.Given as goal
+use Rattle.sym_filter.proofs.places.place_in_stretch.Given as goal
 
 abbrev pub invariant-bytes : goal.invariant-bytes
 invariant-bytes l = record {
