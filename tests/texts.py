@@ -80,6 +80,8 @@ SYMFILT = {
 DEMANGLE = {
     "quotes that aren't ASCII": ([], "‘_ZN1A1fEi’ »_Z1fv« 関数_Z1fvで _Z7größei\n", "‘A::f(int)’ »f()« 関数f()で größe(int)\n"),
     "sections of a linker's map": ([], " .text._Z3foov\n .rodata._ZTS1A .data.rel.ro._ZTV1A\n", " .text.foo()\n .rodata.typeinfo name for A .data.rel.ro.vtable for A\n"),
+    "sections of MinGW, thunks of imports": ([], ".text$_ZN1A1fEv __imp__Z1fv _GLOBAL__sub_I__ZN1AC2Ev\n", ".text$A::f() __imp_f() _GLOBAL__sub_I_A::A()\n"),
+    "members in source code": ([], "self._Zoom y._RC4_FLAG m_Zoom self._Z1fv\n", "self._Zoom y._RC4_FLAG m_Zoom self.f()\n"),
     "a byte beside a symbol": ([], b"_Z1gi\x80\n", b"g(int)\x80\n"),
     "stacks": (["-p", "--brief"], f"main;{VECTOR};_ZN1A1fIiEEvT_ 42\n", "main;std::vector::push_back;A::f 42\n"),
     "legacy Rust names": ([], f"{LEGACY}\n", "demo::main\n"),

@@ -175,6 +175,13 @@ def check_press(program, word, pressed):
     return differences(words, program.answers(["--press", "--limit=0"], words), wanted)
 
 
+def check_tree(program, word, tree):
+    """No program shows nodes: what has a tree has a text, and other symbols are refused."""
+    found = program.answers([], [word])[0]
+    is_right = found == tree if tree.startswith(REASONS) else not found.startswith(REASONS)
+    return [] if is_right else [f"{word!r}: {found!r}, and its tree is {tree!r}"]
+
+
 def changed(change, word, place):
     return word[:place] if change == b"cut" else word[:place] + PUT[change] + word[place + 1 :]
 
@@ -232,6 +239,7 @@ CHECKS = {
     b"oversize": check_oversize,
     b"nameless": check_nameless,
     b"press": check_press,
+    b"tree": check_tree,
     b"filter": check_filter,
     b"command": check_command,
     b"demangle": check_demangle,

@@ -2,6 +2,7 @@
 
 use crate::answer::{Verdict, unspelled};
 use crate::library::ask_library_to_filter;
+use crate::streams::{ask_sinks, ask_streams};
 use std::alloc::{AllocError, Global};
 use std::str;
 use sym_command::{FAULT, Run};
@@ -109,13 +110,17 @@ pub fn ask_to_filter(
 ) -> Result<(), AllocError> {
     let words = words_of(verdict, "symfilt", options)?;
     let text = unspelled(verdict.alloc, text)?;
+    let filtered = unspelled(verdict.alloc, wanted)?;
     let ending = Ending {
         status: 0,
         out: wanted,
         err: b"",
     };
     match asked_of_symfilt(verdict, &words, ending) {
-        Run::Filter(filtering) => ask_library_to_filter(verdict, &text, filtering, wanted),
+        Run::Filter(filtering) => {
+            ask_library_to_filter(verdict, &text, filtering, wanted);
+            ask_streams(verdict, filtering, &text, &filtered);
+        }
         Run::Done(_) => verdict.require(false),
     }
     run_symfilt(verdict, &words, &text, ending);
@@ -135,6 +140,7 @@ pub fn ask_to_end(
     let words = words_of(verdict, "symfilt", words)?;
     let is_done = matches!(asked_of_symfilt(verdict, &words, wanted), Run::Done(_));
     verdict.require(is_done);
+    ask_sinks(verdict, &words);
     Ok(())
 }
 

@@ -323,6 +323,9 @@ fn ask_alone(verdict: &mut Verdict, asked: Asked<'_>, told: Outcome, left: &[u8]
         return;
     };
     let one = outcome_of(verdict, asked, &mut buffer);
+    if told.status == MEMORY {
+        verdict.lack();
+    }
     verdict.require(
         told.status == one.status && told.length == one.length && told.offset == one.offset,
     );

@@ -6,6 +6,7 @@ mod answer;
 mod calls;
 mod changes;
 mod commands;
+mod example;
 mod feeding;
 mod languages;
 mod library;
@@ -14,6 +15,9 @@ mod mangling;
 mod printing;
 mod row;
 mod rows;
+mod scripted;
+mod streams;
+mod trees;
 
 use languages::AllLists;
 use rows::verdict_of;

@@ -6,9 +6,12 @@ use crate::answer::{Verdict, spelled};
 use crate::calls::ask_pressing;
 use crate::changes::{Change, ask_each_place};
 use crate::commands::{Ending, ask_to_demangle, ask_to_end, ask_to_filter};
+use crate::example::ask_example;
 use crate::languages::{AllLists, ask_cut, ask_demangler, ask_each, ask_pressed, ask_unpressed};
 use crate::library::{ask_library_to_press, ask_nameless, ask_oversize};
 use crate::row::{Row, TOO_LONG};
+use crate::streams::ask_long_word;
+use crate::trees::ask_tree;
 use rust_v0::{Detail, V0};
 use std::alloc::{AllocError, Global};
 use std::str;
@@ -79,6 +82,12 @@ fn ask_for_text(verdict: &mut Verdict, lists: &mut AllLists, row: Row<'_>) {
     if !row.legacy {
         ask_cut(verdict, row);
     }
+    if fits(row.s) {
+        match row.kind.lang {
+            Lang::Rust => ask_example(verdict, row),
+            Lang::Cpp => {}
+        }
+    }
 }
 
 /// Asks for the reason why a symbol is refused, whatever the limit. One that is too long at others may have a text at the greatest.
@@ -129,6 +138,7 @@ fn ask_for_length(verdict: &mut Verdict, lists: &mut AllLists, row: Row<'_>, len
                 ..row
             };
             ask_demangler(verdict, lists, spelled);
+            ask_long_word(verdict, row, &text);
         }
         Ok(None) => verdict.require(false),
         // no row has an empty reason
@@ -304,6 +314,18 @@ fn of_press(verdict: &mut Verdict, lists: &mut Lists<Abi>, fields: &[&[u8]]) {
     }
 }
 
+/// Asks what a row `tree` says.
+fn of_tree(verdict: &mut Verdict, fields: &[&[u8]]) {
+    let [word, tree] = fields else {
+        verdict.require(false);
+        return;
+    };
+    match row_of(word) {
+        Some(row) => ask_tree(verdict, row.with(LIMIT, tree)),
+        None => verdict.require(false),
+    }
+}
+
 /// How a program has to end by three fields.
 fn ending<'a>(verdict: &mut Verdict, status: &[u8], out: &'a [u8], err: &'a [u8]) -> Ending<'a> {
     let status = number(status);
@@ -365,6 +387,25 @@ fn of_changes(
     }
 }
 
+/// Asks what a row says that is of no text and of no refusal.
+fn of_other(
+    verdict: &mut Verdict,
+    lists: &mut AllLists,
+    what: &[u8],
+    fields: &[&[u8]],
+) -> Result<(), AllocError> {
+    match what {
+        b"long" => of_long(verdict, lists, fields),
+        b"repeated" => of_repeated(verdict, lists, fields)?,
+        b"oversize" => of_oversize(verdict, fields)?,
+        b"nameless" => of_nameless(verdict, fields),
+        b"press" => of_press(verdict, &mut lists.abi, fields),
+        b"tree" => of_tree(verdict, fields),
+        _ => of_program(verdict, what, fields)?,
+    }
+    Ok(())
+}
+
 /// Asks each call what a row of these fields says.
 fn ask_fields(
     verdict: &mut Verdict,
@@ -377,6 +418,7 @@ fn ask_fields(
     }
     match what {
         b"text" => of_text(verdict, lists, fields, false, false),
+        b"refused" => of_refused(verdict, lists, fields, false, false),
         b"wide text" => of_text(verdict, lists, fields, true, false),
         b"wide refused" => of_refused(verdict, lists, fields, true, false),
         b"legacy text" => {
@@ -387,13 +429,7 @@ fn ask_fields(
             of_refused(verdict, lists, fields, false, true);
             of_refused(verdict, lists, fields, true, true);
         }
-        b"long" => of_long(verdict, lists, fields),
-        b"repeated" => of_repeated(verdict, lists, fields)?,
-        b"refused" => of_refused(verdict, lists, fields, false, false),
-        b"oversize" => of_oversize(verdict, fields)?,
-        b"nameless" => of_nameless(verdict, fields),
-        b"press" => of_press(verdict, &mut lists.abi, fields),
-        _ => of_program(verdict, what, fields)?,
+        _ => return of_other(verdict, lists, what, fields),
     }
     Ok(())
 }

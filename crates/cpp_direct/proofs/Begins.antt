@@ -9,7 +9,7 @@ use Rattle.cpp_grammar.specs.Values.{State, Value, tree, named, tree_of, signed_
 use Rattle.cpp_grammar.specs.Between.{in_name, in_types, no_items}
 use Rattle.cpp_grammar.specs.Meaning.{encoding_of}
 use Rattle.cpp_grammar.specs.Unfolding.{first_around, first_state}
-use Rattle.cpp_direct.specs.Symbol.{Symbol}
+use Rattle.cpp_direct.specs.Symbol.{Symbol, detail_of}
 use Rattle.cpp_direct.specs.declared.marks.MarkPlace.{MarkPlace}
 use Rattle.cpp_direct.specs.declared.open.Mark.{Mark}
 use Rattle.cpp_direct.specs.declared.open.Purpose.TheVariants as purposes
@@ -70,7 +70,7 @@ encoding-awaited s w no_text no_candidate starts at_is apart =
           whole-behind s w.text.list.items e at apart (record {
             made = e;
             encoded = encoded-whole s opened_ e at st comes;
-            shows = λ bytes p. subst (λ l. Shows e (l ++ bytes)) (sym no_text) p;
+            shows = λ bytes p. subst (λ l. Shows (detail_of s) e (l ++ bytes)) (sym no_text) p;
           });
     }
 
@@ -118,7 +118,7 @@ thunk-awaited s opened_ by w apart thunk_ text_is no_candidate = record {
       whole-behind s w.text.list.items e at apart (record {
         made = thunk (adjusting by) e;
         encoded = encoded-whole s opened_ (thunk (adjusting by) e) at st (thunk_.onward e at st comes);
-        shows = λ bytes p. subst (λ l. Shows (thunk (adjusting by) e) (l ++ bytes)) (sym text_is) (thunk-shows (adjusting by) e bytes p);
+        shows = λ bytes p. subst (λ l. Shows (detail_of s) (thunk (adjusting by) e) (l ++ bytes)) (sym text_is) (thunk-shows (detail_of s) (adjusting by) e bytes p);
       });
 }
 

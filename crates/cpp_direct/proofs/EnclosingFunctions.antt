@@ -2,6 +2,7 @@
 use Rattle.std.proofs.Common.{◌≡◌, ◌≢◌, refl, ap, sym, ◌∙◌, subst, inl, inr, ℕ, ◌+◌, List, [], ◌∷◌, ◌++◌, length, reverse, true, false, Option, None, Some, arith, codes, append-nil, append_assoc}
 use Rattle.std.specs.Prelude.{decimal}
 use Rattle.std.proofs.lemmas.Fmt.{decimal_digit}
+use Rattle.sym_print.specs.declared.detail.Detail.TheVariants.{Full}
 use Rattle.cpp_grammar.specs.declared.kind.Kind.{Kind}
 use Rattle.cpp_grammar.specs.Grammar.{may_be_empty}
 use Rattle.cpp_grammar.specs.Term.{Term, function, alone, lambda, source, builtin, nil, list, absent}
@@ -392,8 +393,8 @@ unfolding no_items may_be_empty
 object-within s w mark from p =
     let b = p.name in
     let q = mark_text mark in
-    let shows : Shows (encoding_of p.v nil) (b ++ q) =
-    subst (λ l. Shows (encoding_of p.v nil) (b ++ l)) (qualifiers-text p.v mark p.qualifiers_are p.mark_is)
+    let shows : Shows Full (encoding_of p.v nil) (b ++ q) =
+    subst (λ l. Shows Full (encoding_of p.v nil) (b ++ l)) (qualifiers-text p.v mark p.qualifiers_are p.mark_is)
     (object-encoded p.v b (subst (λ t. PrintsName t b) (sym p.tree_is) p.prints)) in
     record {
       state = p.state;
@@ -403,7 +404,7 @@ object-within s w mark from p =
       bytes = b ++ q;
       written = ap (λ l. l ++ q) p.written ∙ behind-two p.front b q;
       from_is = p.from_is;
-      encloses = object-enclosing p.v (b ++ q) shows;
+      encloses = object-enclosing Full p.v (b ++ q) shows;
       within = p.goes.onward nothing_there w.at p.state (expects-empty s Kind.Items p.goes.around p.goes.inner w.at p.state p.goes.awaits refl);
     }
 
@@ -434,8 +435,8 @@ void-within s w here new mark from argument p stands text candidates waiting at 
     let q = mark_text mark in
     let e = p.make (list_of (builtin (118 ∷ []) ∷ [])) in
     let below = Stands s (reverse w.waiting.list.items) in
-    let shows : Shows (function f.own (qualifiers (has_const mark)) (called_on mark) absent nil) (b ++ codes "()" ++ q) =
-    subst (λ l. Shows (function f.own (qualifiers (has_const mark)) (called_on mark) absent nil) (b ++ codes "()" ++ l)) (plain-text mark)
+    let shows : Shows Full (function f.own (qualifiers (has_const mark)) (called_on mark) absent nil) (b ++ codes "()" ++ q) =
+    subst (λ l. Shows Full (function f.own (qualifiers (has_const mark)) (called_on mark) absent nil) (b ++ codes "()" ++ l)) (plain-text mark)
     (void-shows f.own b f.prints (qualifiers (has_const mark)) (called_on mark)) in
     record {
       state = p.state;
@@ -448,7 +449,7 @@ void-within s w here new mark from argument p stands text candidates waiting at 
       written = ap (λ l. l ++ q) (one.text ∙ ap (λ v. v.list.items ++ codes "()") text ∙ ap (λ l. l ++ codes "()") p.written)
           ∙ behind-three p.front b (codes "()") q;
       from_is = p.from_is;
-      encloses = subst (λ t. Encloses t (b ++ codes "()" ++ q)) (sym (enclosed-void f.own f.returned mark p.make f.makes))
+      encloses = subst (λ t. Encloses Full t (b ++ codes "()" ++ q)) (sym (enclosed-void f.own f.returned mark p.make f.makes))
           (returned-encloses f.own (qualifiers (has_const mark)) (called_on mark) f.returned nil (b ++ codes "()" ++ q) shows);
       within = subst (λ v. TypeWithin s (Stands s (reverse v.list.items)) p.front e new.at p.state) (sym (one.waiting ∙ waiting))
           (subst (λ n. TypeWithin s below p.front e n p.state) (sym (one.at ∙ at))
@@ -472,8 +473,8 @@ function-within s w last new mark from argument p apart one text candidates at w
     let within_ : TypeWithin s below p.front e w.at p.state = subst (λ u. TypeWithin s below p.front (p.make u) w.at p.state) (list-ends p.ts)
     (p.goes.onward nothing_there w.at p.state (expects-empty s Kind.Items p.goes.around p.goes.inner w.at p.state p.goes.awaits refl)) in
     let known = candidates-written w last (codes ")") p.state.candidates one p.candidates in
-    let shows : Shows (function f.own (qualifiers (has_const mark)) (called_on mark) absent (list_of p.ts)) (b ++ codes "(" ++ l ++ codes ")" ++ q) =
-    subst (λ x. Shows (function f.own (qualifiers (has_const mark)) (called_on mark) absent (list_of p.ts)) (b ++ codes "(" ++ l ++ codes ")" ++ x))
+    let shows : Shows Full (function f.own (qualifiers (has_const mark)) (called_on mark) absent (list_of p.ts)) (b ++ codes "(" ++ l ++ codes ")" ++ q) =
+    subst (λ x. Shows Full (function f.own (qualifiers (has_const mark)) (called_on mark) absent (list_of p.ts)) (b ++ codes "(" ++ l ++ codes ")" ++ x))
     (plain-text mark)
     (function-shows f.own b f.prints p.ts l f.elements (qualifiers (has_const mark)) (called_on mark)) in
     record {
@@ -486,7 +487,7 @@ function-within s w last new mark from argument p apart one text candidates at w
       written = ap (λ x. x ++ q) (ap (λ v. v.list.items) text ∙ one.text ∙ ap (λ x. x ++ codes ")") p.written)
           ∙ behind-five p.front b (codes "(") l (codes ")") q;
       from_is = p.from_is;
-      encloses = subst (λ t. Encloses t (b ++ codes "(" ++ l ++ codes ")" ++ q)) (sym is)
+      encloses = subst (λ t. Encloses Full t (b ++ codes "(" ++ l ++ codes ")" ++ q)) (sym is)
           (returned-encloses f.own (qualifiers (has_const mark)) (called_on mark) f.returned (list_of p.ts) (b ++ codes "(" ++ l ++ codes ")" ++ q) shows);
       within = subst (λ ws. TypeWithin s (Stands s ws) p.front e new.at p.state) (sym waits)
           (subst (λ n. TypeWithin s below p.front e n p.state) (sym (at ∙ one.at)) within_);

@@ -5,7 +5,8 @@ use Rattle.std.specs.List.{ends_with}
 use Rattle.std.specs.Cmp.Lexicographic.{pointwise}
 use Rattle.std.proofs.lemmas.Bool.{false≢true}
 use Rattle.std.proofs.lemmas.List.{length-append, length-drop, take_rest}
-use Rattle.std.proofs.Math.Seq.{drop-append_seam}
+use Rattle.std.proofs.Math.Seq.{drop-append_seam, take-append_seam}
+use Rattle.sym_print.specs.declared.detail.Detail.TheVariants.{Full, NoParameters}
 use Rattle.cpp_grammar.specs.declared.kind.Kind.{Kind}
 use Rattle.cpp_grammar.specs.Term.{Term, symbol, function, nil, list, builtin, absent}
 use Rattle.cpp_grammar.specs.Grammar.{may_be_empty, among}
@@ -13,50 +14,56 @@ use Rattle.cpp_grammar.specs.Parts.{encoding_text, qualifier_text, ref_text, typ
 use Rattle.cpp_grammar.specs.Between.{no_items}
 use Rattle.cpp_grammar.specs.Meaning.{encoding_of}
 use Rattle.cpp_grammar.specs.Values.{State, Value, nothing_there, tree, tree_of, qualifiers_of, ref_of}
-use Rattle.cpp_direct.specs.Symbol.{Symbol}
+use Rattle.cpp_direct.specs.Symbol.{Symbol, detail_by, detail_of}
 use Rattle.cpp_direct.specs.declared.open.Arguments.{Arguments}
 use Rattle.cpp_direct.specs.declared.open.Mark.{Mark}
 use Rattle.cpp_direct.specs.declared.open.Mark.TheVariants as marks
 use Rattle.cpp_direct.specs.declared.open.Open.TheVariants as opens
 use Rattle.cpp_direct.specs.declared.open.Step.TheVariants as steps
 use Rattle.cpp_direct.specs.declared.direct.Direct.{Direct}
-use Rattle.cpp_direct.specs.Bytes.{is_builtin, is_local}
+use Rattle.cpp_direct.specs.Bytes.{has_bracket, is_bracket, is_builtin, is_local}
 use Rattle.cpp_direct.specs.Holes.{StandsAt, ListGoesOn}
 use Rattle.cpp_direct.specs.HolesOfLists.{IsSuffix}
 use Rattle.cpp_direct.specs.Marks.{has_const, called_on, mark_text}
 use Rattle.cpp_direct.specs.Prints.{PrintsName, Shows, Encloses, list_of}
-use Rattle.cpp_direct.specs.WriterInvariant.{AreCandidates, AwaitsItems, Encoded, EndsBehind, EncodedBehind, IsWhole, IsWriting, HasScope, IsFunction, IsScoped, ItemsGoOn, ParametersGoOn, Stands, qualifiers, list_with, in_front_of_next, encoding_place, named_in}
-use Rattle.cpp_direct.specs.MidStep.{AwaitsNextParameter, IsNameEnded, AwaitsParameters, IsParameterEnded, IsEncodingEnded, IsSymbolEnded}
+use Rattle.cpp_direct.specs.WriterInvariant.{AreCandidates, AwaitsItems, Encoded, EndsBehind, EncodedBehind, Fronts, IsWhole, IsWriting, HasScope, IsFunction, IsScoped, ItemsGoOn, ParametersGoOn, Stands, qualifiers, list_with, in_front_of_next, encoding_place, named_in}
+use Rattle.cpp_direct.specs.MidStep.{AwaitsNextParameter, IsNameEnded, AwaitsParameters, IsParameterEnded, IsFunctionEnded, IsEncodingEnded, IsSymbolEnded, IsSymbolWritten}
 use Rattle.cpp_direct.specs.Written.{Writes, Cuts}
 use Rattle.cpp_direct.proofs.Kept.{candidates-written, reverse-last}
 use Rattle.cpp_direct.proofs.Moves.{expects-empty}
 use Rattle.cpp_direct.proofs.MovesOfLists.{element-awaits}
 use Rattle.cpp_direct.proofs.MovesOfTypes.{builtin-comes}
 use Rattle.cpp_direct.proofs.PrintedLists.{none-print-in}
-use Rattle.cpp_direct.proofs.PrintedLocals.{object-enclosing, function-encloses}
+use Rattle.cpp_direct.proofs.PrintedLocals.{object-enclosing, function-encloses, name-shows}
 use Rattle.cpp_direct.proofs.Scopes.{function-stays, parameters-scoped, arguments-named}
-use Rattle.cpp_direct.proofs.PrintedSymbols.{function-shows, void-shows, object-encoded, encoding-plain, made-with, made-void, symbol-text, symbol-cost, suffix-text, suffix-cost, parameters-kept}
+use Rattle.cpp_direct.proofs.PrintedSymbols.{function-shows, void-shows, object-encoded, encoding-plain, made-with, made-void, symbol-text, symbol-cost, suffix-text, suffix-cost, parameters-kept, none_bracketed}
+use Rattle.cpp_direct.proofs.WithoutParameters.{bare-shows, free-back, free-join}
 
 -- ## The end
 
+-- what has no brackets is shown the same without parameters
+pub shows-by : (is_bare : Bool) (e : Term) (b : List ℕ) → (is_bare ≡ true → has_bracket b ≡ false) → Shows Full e b → Shows (detail_by is_bare) e b
+shows-by true e b free shows = bare-shows e b (free refl) shows
+shows-by false e b free shows = shows
+
 -- an encoding that ends with the symbol is the symbol
-pub whole-plain : (s : Symbol) (e : Term) (at : ℕ) (text : List ℕ) → Encoded s e at → Shows e text → at ≡ length s.bytes → IsWhole s text
+pub whole-plain : (s : Symbol) (e : Term) (at : ℕ) (text : List ℕ) → Encoded s e at → Shows (detail_of s) e text → at ≡ length s.bytes → IsWhole s text
 whole-plain s e at text encoded shows ended = record {
   whole = symbol e [];
   stands = encoded.ends ended;
-  text_is = symbol-text e text shows;
-  cost = symbol-cost e text shows;
+  text_is = symbol-text (detail_of s) e text shows;
+  cost = symbol-cost (detail_of s) e text shows;
 }
 
 -- with a suffix it is the symbol too
-pub whole-suffixed : (s : Symbol) (e : Term) (at : ℕ) (text suffix : List ℕ) → Encoded s e at → Shows e text → StandsAt s.bytes at suffix
+pub whole-suffixed : (s : Symbol) (e : Term) (at : ℕ) (text suffix : List ℕ) → Encoded s e at → Shows (detail_of s) e text → StandsAt s.bytes at suffix
     → at + length suffix ≡ length s.bytes → IsSuffix suffix → IsWhole s (text ++ codes " (" ++ suffix ++ codes ")")
 whole-suffixed s e at text [] encoded shows stands ended is = absurd is
 whole-suffixed s e at text (d ∷ rest) encoded shows stands ended is = record {
   whole = symbol e (d ∷ rest);
   stands = encoded.ends_in (d ∷ rest) stands ended is;
-  text_is = suffix-text e text shows d rest;
-  cost = suffix-cost e text shows d rest;
+  text_is = suffix-text (detail_of s) e text shows d rest;
+  cost = suffix-cost (detail_of s) e text shows d rest;
 }
 
 -- what a symbol has from a place on is there, and ends with it
@@ -90,8 +97,18 @@ symbol-ended s w p apart =
       candidates = p.candidates;
       e = behind.made;
       encoded = behind.encoded;
-      shows = subst (λ l. Shows behind.made l) (sym p.written ∙ append-nil w.text.list.items) (behind.shows p.bytes p.shows);
+      shows = subst (λ l. Shows (detail_of s) behind.made l) (sym p.written ∙ append-nil w.text.list.items) (behind.shows p.bytes p.shows);
     }
+
+-- what is written in full, and has no brackets if functions are shown by their names alone, is written as it is to be shown
+pub special-ended : (s : Symbol) (w : Direct) → IsSymbolWritten Full s w → (s.is_bare ≡ true → has_bracket w.text.list.items ≡ false) → IsSymbolEnded s w
+special-ended s w p free = record {
+  state = p.state;
+  candidates = p.candidates;
+  e = p.e;
+  encoded = p.encoded;
+  shows = shows-by s.is_bare p.e w.text.list.items free p.shows;
+}
 
 -- the symbol is written where it has no suffix
 pub ends-plain : (s : Symbol) (suffix : List ℕ) (w : Direct) → IsSymbolEnded s w → w.at ≤ length s.bytes → suffix ≡ take (length s.bytes - w.at) (drop w.at s.bytes)
@@ -137,6 +154,21 @@ pub qualifiers-text : (v : Value) (mark : Mark) → qualifiers_of v ≡ qualifie
     → encoding_text (qualifiers_of v) (ref_of v) ≡ mark_text mark
 qualifiers-text v mark e f = rw (e, f) (plain-text mark)
 
+-- which has no brackets
+mark-free : (mark : Mark) → has_bracket (mark_text mark) ≡ false
+unfolding is_bracket
+mark-free marks.Plain = refl
+mark-free marks.Const = refl
+mark-free marks.Lvalue = refl
+mark-free marks.ConstLvalue = refl
+mark-free marks.Rvalue = refl
+mark-free marks.ConstRvalue = refl
+
+-- the name of an encoding has no brackets, if what is written has none
+pub name-free : (s : Symbol) (w : Direct) (mark : Mark) (is_instance : Bool) (argument_ : Arguments) (from : ℕ)
+    → (p : IsNameEnded s w mark is_instance argument_ from) → has_bracket w.text.list.items ≡ false → has_bracket p.name ≡ false
+name-free s w mark is_instance argument_ from p free = free-back p.lead p.name (ap has_bracket (sym p.written) ∙ free)
+
 -- what follows a text is written in two or more pieces
 pub behind-two : (lead a q : List ℕ) → lead ++ a ++ q ≡ lead ++ (a ++ q)
 behind-two lead a q = append_assoc lead a q
@@ -150,17 +182,18 @@ behind-five lead a b c d q =
 
 -- a name without items is an encoding
 pub object-ended : (s : Symbol) (w : Direct) (mark : Mark) (is_instance : Bool) (argument_ : Arguments) (from : ℕ)
-    → IsNameEnded s w mark is_instance argument_ from
+    → (p : IsNameEnded s w mark is_instance argument_ from) → (s.is_bare ≡ true → has_bracket p.name ≡ false)
     → IsEncodingEnded s w mark
 unfolding no_items may_be_empty
-object-ended s w mark is_instance argument_ from p =
+object-ended s w mark is_instance argument_ from p free =
     let b = p.name in
     let q = mark_text mark in
     let behind : EncodedBehind s p.lead (encoding_of p.v nil) w.at = p.awaits.onward nothing_there w.at p.state
     (expects-empty s Kind.Items p.awaits.around p.awaits.inner w.at p.state p.awaits.awaits refl) in
-    let shows : Shows (encoding_of p.v nil) (b ++ q) =
-    subst (λ l. Shows (encoding_of p.v nil) (b ++ l)) (qualifiers-text p.v mark p.qualifiers_are p.mark_is)
-    (object-encoded p.v b (subst (λ t. PrintsName t b) (sym p.tree_is) p.prints)) in
+    let shows : Shows (detail_of s) (encoding_of p.v nil) (b ++ q) =
+    shows-by s.is_bare (encoding_of p.v nil) (b ++ q) (λ bare. free-join b q (free bare) (mark-free mark))
+    (subst (λ l. Shows Full (encoding_of p.v nil) (b ++ l)) (qualifiers-text p.v mark p.qualifiers_are p.mark_is)
+    (object-encoded p.v b (subst (λ t. PrintsName t b) (sym p.tree_is) p.prints))) in
     record {
       state = p.state;
       candidates = p.candidates;
@@ -169,7 +202,7 @@ object-ended s w mark is_instance argument_ from p =
       bytes = b ++ q;
       written = ap (λ l. l ++ q) p.written ∙ behind-two p.lead b q;
       shows = shows;
-      encloses = object-enclosing p.v (b ++ q) shows;
+      encloses = object-enclosing (detail_of s) p.v (b ++ q) shows;
       behind = behind;
     }
 
@@ -215,14 +248,14 @@ parameter-expected s w mark start argument a =
     let p = a.goes in
     let element = element-awaits s Kind.Items p.inner p.around w.at a.state tt p.awaits in
     let stands : Stands s (opens.Parameters mark start argument ∷ a.rest) element.inner w.text.list.items = (
-      a.aside,
+      a.front,
       a.lead,
       a.make,
       a.ts,
       a.name,
       a.texts,
       a.is_function,
-      a.start_is,
+      a.fronts,
       a.written,
       λ t here now comes. parameter-goes_on s argument (λ e there then_. EncodedBehind s a.lead e there) a.make a.ts w.at a.state p t here now
           (element.onward t here now comes),
@@ -262,15 +295,23 @@ name-scoped s w mark is_instance argument_ from place p first place_is k o =
       λ real. (p.awaits.encoding_is (no-text p.lead from p.from_is (first real)) ∙ sym (place_is real), p.awaits.no_lambda),
     )
 
+-- the front of a function that has no return type
+fronts-of : (is_bare : Bool) (front : List ℕ) (start : ℕ) (lead name : List ℕ) → front ≡ lead ++ name → (is_bare ≡ false → start ≡ 0)
+    → (is_bare ≡ true → start ≡ length front) → (is_bare ≡ true → has_bracket name ≡ false) → Fronts is_bare front start lead name
+fronts-of true front start lead name is none all free =
+    ([], is ∙ sym (append-nil (lead ++ name)), all refl ∙ ap length is, free refl)
+fronts-of false front start lead name is none all free = ([], is, none refl)
+
 -- the name of a function is read that has no return type
-pub parameters-begin : (s : Symbol) (w : Direct) (mark : Mark) (is_instance : Bool) (argument_ : Arguments) (from place : ℕ)
-    → IsNameEnded s w mark is_instance argument_ from → is_instance ≡ false → (place ≢ 0 → from ≡ 0) → (place ≢ 0 → place ≡ encoding_place s.bytes)
-    → AwaitsParameters s w mark 0 (named_in place argument_)
-parameters-begin s w mark is_instance argument_ from place p plain first place_is = record {
+pub parameters-begin : (s : Symbol) (w : Direct) (mark : Mark) (is_instance : Bool) (argument_ : Arguments) (from place start : ℕ)
+    → (p : IsNameEnded s w mark is_instance argument_ from) → is_instance ≡ false → (place ≢ 0 → from ≡ 0) → (place ≢ 0 → place ≡ encoding_place s.bytes)
+    → (s.is_bare ≡ false → start ≡ 0) → (s.is_bare ≡ true → start ≡ length w.text.list.items) → (s.is_bare ≡ true → has_bracket p.name ≡ false)
+    → AwaitsParameters s w mark start (named_in place argument_)
+parameters-begin s w mark is_instance argument_ from place start p plain first place_is none all free = record {
   state = p.state;
   candidates = p.candidates;
   make = λ l. encoding_of p.v l;
-  aside = [];
+  front = w.text.list.items;
   lead = p.lead;
   name = p.name;
   is_function = record {
@@ -280,8 +321,8 @@ parameters-begin s w mark is_instance argument_ from place p plain first place_i
     elements = none-print-in (types_of p.own) 6;
     names = arguments-named w.text.list.items place argument_ p.own p.names;
   };
-  start_is = refl;
-  written = p.written;
+  fronts = fronts-of s.is_bare w.text.list.items start p.lead p.name p.written none all free;
+  written = refl;
   goes = none-go_on s (named_in place argument_) p.lead p.v w.at p.state p.awaits
       (name-scoped s w mark is_instance argument_ from place p first place_is);
 }
@@ -305,14 +346,14 @@ first-expected s w first last mark start argument p one text candidates at waiti
       open_is = ap reverse waiting ∙ reverse-last first.waiting.list.items (opens.Parameters mark start argument);
       make = p.make;
       ts = [];
-      aside = p.aside;
+      front = p.front;
       lead = p.lead;
       name = p.name;
       texts = [];
       is_function = subst (λ l. IsFunction l argument mark p.make [] p.name []) (sym grown)
           (function-stays w.text.list.items (codes "(") argument mark p.make [] p.name [] p.is_function);
-      start_is = p.start_is;
-      written = grown ∙ ap (λ l. l ++ codes "(") p.written ∙ sym (append-nil (p.aside ++ p.lead ++ p.name ++ codes "("));
+      fronts = p.fronts;
+      written = grown ∙ ap (λ l. l ++ codes "(") p.written ∙ sym (append-nil (p.front ++ codes "("));
       goes = subst (λ n. ParametersGoOn s argument p.lead p.make [] n p.state) (sym (at ∙ one.at)) p.goes;
     }
 
@@ -320,7 +361,7 @@ first-expected s w first last mark start argument p one text candidates at waiti
 pub next-expected : (s : Symbol) (w last : Direct) (mark : Mark) (start : ℕ) (argument : Arguments) → IsParameterEnded s w mark start argument → Writes w last (codes ", ")
     → AwaitsNextParameter s last mark start argument
 next-expected s w last mark start argument p one =
-    let front = p.aside ++ p.lead ++ p.name ++ codes "(" in
+    let front = p.front ++ codes "(" in
     record {
       state = p.state;
       candidates = candidates-written w last (codes ", ") p.state.candidates one p.candidates;
@@ -328,13 +369,13 @@ next-expected s w last mark start argument p one =
       open_is = ap (λ l. reverse l.list.items) one.waiting ∙ p.open_is;
       make = p.make;
       ts = p.ts;
-      aside = p.aside;
+      front = p.front;
       lead = p.lead;
       name = p.name;
       texts = p.texts;
       is_function = subst (λ l. IsFunction l argument mark p.make p.ts p.name p.texts) (sym one.text)
           (function-stays w.text.list.items (codes ", ") argument mark p.make p.ts p.name p.texts p.is_function);
-      start_is = p.start_is;
+      fronts = p.fronts;
       written = one.text ∙ ap (λ l. l ++ codes ", ") p.written ∙ append_assoc front p.texts (codes ", ")
           ∙ ap (λ l. front ++ l) (sym (next-written p.ts p.texts p.some));
       goes = subst (λ n. ParametersGoOn s argument p.lead p.make p.ts n p.state) (sym one.at) p.goes;
@@ -376,12 +417,12 @@ void-read s argument becomes make at st p stands =
     p.onward (tree (list t nil) true) (at + 1) st
     (goes.passes nothing_there (at + 1) st (expects-empty s Kind.Items p.around goes.inner (at + 1) st goes.awaits refl))
 
--- a name with a lone void is an encoding
-pub void-ended : (s : Symbol) (w first here last new : Direct) (mark : Mark) (start : ℕ) (argument : Arguments) → AwaitsParameters s w mark start argument
+-- a name with a lone void is a function
+pub void-ended : (s : Symbol) (w first here : Direct) (mark : Mark) (start : ℕ) (argument : Arguments) → AwaitsParameters s w mark start argument
     → StandsAt s.bytes w.at (118 ∷ [])
     → Writes w first (codes "(") → here.text ≡ first.text → here.candidates ≡ first.candidates → here.at ≡ first.at + 1
-    → Writes here last (codes ")") → Cuts last new start → IsEncodingEnded s new mark
-void-ended s w first here last new mark start argument p stands one text candidates at two cuts =
+    → IsFunctionEnded s here mark start
+void-ended s w first here mark start argument p stands one text candidates at =
     let f = p.is_function in
     let b = p.name in
     let q = mark_text mark in
@@ -390,64 +431,131 @@ void-ended s w first here last new mark start argument p stands one text candida
     let is : e ≡ made = made-void mark f.own p.make f.makes in
     let behind : EncodedBehind s p.lead e (w.at + 1) =
     void-read s argument (λ u there then_. EncodedBehind s p.lead u there) p.make w.at p.state p.goes stands in
-    let written : last.text.list.items ≡ p.aside ++ p.lead ++ b ++ codes "()" =
-    two.text ∙ ap (λ l. l.list.items ++ codes ")") text ∙ ap (λ l. l ++ codes ")") one.text ∙ append_assoc w.text.list.items (codes "(") (codes ")")
-    ∙ ap (λ l. l ++ codes "()") p.written in
-    let left_over : new.text.list.items ≡ p.lead ++ b ++ codes "()" =
-    cut-text last new start p.aside (p.lead ++ b ++ codes "()") cuts p.start_is (written ∙ behind-three p.aside p.lead b (codes "()")) in
     let known = candidates-written w first (codes "(") p.state.candidates one p.candidates in
     let moved : AreCandidates here.text.list.items here.candidates.list.items p.state.candidates =
     subst (λ l. AreCandidates l.list.items here.candidates.list.items p.state.candidates) (sym text)
     (subst (λ l. AreCandidates first.text.list.items l.list.items p.state.candidates) (sym candidates) known) in
-    let now = cut-candidates last new start p.state cuts (candidates-written here last (codes ")") p.state.candidates two moved) in
-    let shows : Shows made (b ++ codes "()" ++ q) =
-    subst (λ l. Shows made (b ++ codes "()" ++ l)) (plain-text mark) (void-shows f.own b f.prints (qualifiers (has_const mark)) (called_on mark)) in
+    let shows : Shows Full made (b ++ codes "()" ++ q) =
+    subst (λ l. Shows Full made (b ++ codes "()" ++ l)) (plain-text mark) (void-shows f.own b f.prints (qualifiers (has_const mark)) (called_on mark)) in
     record {
-      state = now.0;
-      candidates = now.1;
+      state = p.state;
+      candidates = moved;
+      own = f.own;
+      items = nil;
       e = e;
+      e_is = is;
+      front = p.front;
       lead = p.lead;
-      bytes = b ++ codes "()" ++ q;
-      written = ap (λ l. l ++ q) left_over ∙ behind-three p.lead b (codes "()") q;
-      shows = subst (λ t. Shows t (b ++ codes "()" ++ q)) (sym is) shows;
-      encloses = subst (λ t. Encloses t (b ++ codes "()" ++ q)) (sym is)
-          (function-encloses f.own (qualifiers (has_const mark)) (called_on mark) nil (b ++ codes "()" ++ q) shows);
-      behind = subst (λ n. EncodedBehind s p.lead e n) (omega (arith, cuts.at, two.at, at, one.at)) behind;
+      name = b;
+      texts = [];
+      prints = f.prints;
+      fronts = p.fronts;
+      written = ap (λ l. l.list.items) text ∙ one.text ∙ ap (λ l. l ++ codes "(") p.written ∙ sym (append-nil (p.front ++ codes "("));
+      shows = subst (λ t. Shows Full t (b ++ codes "(" ++ [] ++ codes ")" ++ q)) (sym is)
+          (subst (λ l. Shows Full made l) (sym (none_bracketed b q)) shows);
+      behind = subst (λ n. EncodedBehind s p.lead e n) (omega (arith, at, one.at)) behind;
     }
 
--- a function with its parameters is an encoding, unless they are a lone void
-pub function-ended : (s : Symbol) (w last new : Direct) (mark : Mark) (start : ℕ) (argument : Arguments) (p : IsParameterEnded s w mark start argument)
-    → p.texts ≢ codes "void" → Writes w last (codes ")") → Cuts last new start → IsEncodingEnded s new mark
+-- and so is a name with its parameters, unless they are a lone void
+pub function-ended : (s : Symbol) (w : Direct) (mark : Mark) (start : ℕ) (argument : Arguments) (p : IsParameterEnded s w mark start argument)
+    → p.texts ≢ codes "void" → IsFunctionEnded s w mark start
 unfolding no_items may_be_empty
-function-ended s w last new mark start argument p apart one cuts =
+function-ended s w mark start argument p apart =
     let f = p.is_function in
     let e = p.make (list_of p.ts) in
     let b = p.name in
     let l = p.texts in
-    let q = mark_text mark in
     let made = function f.own (qualifiers (has_const mark)) (called_on mark) absent (list_of p.ts) in
     let is : e ≡ made = made-with mark f.own p.make f.makes p.ts p.some (parameters-kept (types_of f.own) 6 p.ts l f.elements apart) in
     let behind : EncodedBehind s p.lead e w.at = subst (λ u. EncodedBehind s p.lead (p.make u) w.at) (list-ends p.ts)
     (p.goes.onward nothing_there w.at p.state (expects-empty s Kind.Items p.goes.around p.goes.inner w.at p.state p.goes.awaits refl)) in
+    record {
+      state = p.state;
+      candidates = p.candidates;
+      own = f.own;
+      items = list_of p.ts;
+      e = e;
+      e_is = is;
+      front = p.front;
+      lead = p.lead;
+      name = b;
+      texts = l;
+      prints = f.prints;
+      fronts = p.fronts;
+      written = p.written;
+      shows = subst (λ t. Shows Full t (b ++ codes "(" ++ l ++ codes ")" ++ mark_text mark)) (sym is)
+          (subst (λ x. Shows Full made (b ++ codes "(" ++ l ++ codes ")" ++ x)) (plain-text mark)
+          (function-shows f.own b f.prints p.ts l f.elements (qualifiers (has_const mark)) (called_on mark)));
+      behind = behind;
+    }
+
+-- a function is an encoding once its last bracket is written, and what comes before its text is taken away
+pub function-closed : (s : Symbol) (w last new : Direct) (mark : Mark) (start : ℕ) → IsFunctionEnded s w mark start → s.is_bare ≡ false
+    → Writes w last (codes ")") → Cuts last new start → IsEncodingEnded s new mark
+function-closed s w last new mark start p whole_ one cuts =
+    let b = p.name in
+    let l = p.texts in
+    let q = mark_text mark in
+    let full_ : detail_of s ≡ Full = ap detail_by whole_ in
+    let made = function p.own (qualifiers (has_const mark)) (called_on mark) absent p.items in
+    let fronts = subst (λ bare. Fronts bare p.front start p.lead p.name) whole_ p.fronts in
     let left_over : new.text.list.items ≡ p.lead ++ b ++ codes "(" ++ l ++ codes ")" =
-    cut-text last new start p.aside (p.lead ++ b ++ codes "(" ++ l ++ codes ")") cuts p.start_is
-    (one.text ∙ ap (λ x. x ++ codes ")") p.written ∙ behind-five p.aside p.lead b (codes "(") l (codes ")")) in
+    cut-text last new start fronts.0 (p.lead ++ b ++ codes "(" ++ l ++ codes ")") cuts fronts.2
+    (one.text ∙ ap (λ x. x ++ codes ")") p.written ∙ ap (λ x. x ++ codes "(" ++ l ++ codes ")") fronts.1
+    ∙ behind-five fronts.0 p.lead b (codes "(") l (codes ")")) in
     let now = cut-candidates last new start p.state cuts (candidates-written w last (codes ")") p.state.candidates one p.candidates) in
-    let shows : Shows made (b ++ codes "(" ++ l ++ codes ")" ++ q) =
-    subst (λ x. Shows made (b ++ codes "(" ++ l ++ codes ")" ++ x)) (plain-text mark)
-    (function-shows f.own b f.prints p.ts l f.elements (qualifiers (has_const mark)) (called_on mark)) in
+    let text = b ++ codes "(" ++ l ++ codes ")" ++ q in
     record {
       state = now.0;
       candidates = now.1;
-      e = e;
+      e = p.e;
       lead = p.lead;
-      bytes = b ++ codes "(" ++ l ++ codes ")" ++ q;
+      bytes = text;
       written = ap (λ x. x ++ q) left_over ∙ behind-five p.lead b (codes "(") l (codes ")") q;
-      shows = subst (λ t. Shows t (b ++ codes "(" ++ l ++ codes ")" ++ q)) (sym is) shows;
-      encloses = subst (λ t. Encloses t (b ++ codes "(" ++ l ++ codes ")" ++ q)) (sym is)
-          (function-encloses f.own (qualifiers (has_const mark)) (called_on mark) (list_of p.ts) (b ++ codes "(" ++ l ++ codes ")" ++ q) shows);
-      behind = subst (λ n. EncodedBehind s p.lead e n) (sym (cuts.at ∙ one.at)) behind;
+      shows = subst (λ d. Shows d p.e text) (sym full_) p.shows;
+      encloses = subst (λ d. Encloses d p.e text) (sym full_) (subst (λ t. Encloses Full t text) (sym p.e_is)
+          (function-encloses Full p.own (qualifiers (has_const mark)) (called_on mark) p.items text (subst (λ t. Shows Full t text) p.e_is p.shows)));
+      behind = subst (λ n. EncodedBehind s p.lead p.e n) (sym (cuts.at ∙ one.at)) p.behind;
     }
+
+-- and where functions are shown by their names alone, once what follows the name is taken away: the name is written again, and all
+-- that is before that
+pub function-named : (s : Symbol) (w last new : Direct) (mark : Mark) (start end : ℕ) (p : IsFunctionEnded s w mark start) → s.is_bare ≡ true
+    → end ≡ length w.text.list.items → Writes w last (take (start - 0) (drop 0 w.text.list.items)) → Cuts last new end → IsEncodingEnded s new marks.Plain
+function-named s w last new mark start end p bare end_is one cuts =
+    let alone_ : detail_of s ≡ NoParameters = ap detail_by bare in
+    let fronts = subst (λ b. Fronts b p.front start p.lead p.name) bare p.fronts in
+    let named = p.lead ++ p.name in
+    let behind_ = fronts.0 ++ codes "(" ++ p.texts in
+    let whole_ : w.text.list.items ≡ named ++ behind_ =
+    p.written ∙ ap (λ x. x ++ codes "(" ++ p.texts) fronts.1 ∙ behind-three named fronts.0 (codes "(") p.texts in
+    let again : take (start - 0) (drop 0 w.text.list.items) ≡ named =
+    ap (λ n. take n w.text.list.items) (omega (arith, fronts.2)) ∙ ap (λ l. take (length named) l) whole_ ∙ take-append_seam named behind_ in
+    let left_over : new.text.list.items ≡ named =
+    cut-text last new end w.text.list.items named cuts end_is (one.text ∙ ap (λ l. w.text.list.items ++ l) again) in
+    let now = cut-candidates last new end p.state cuts
+    (candidates-written w last (take (start - 0) (drop 0 w.text.list.items)) p.state.candidates one p.candidates) in
+    let made = function p.own (qualifiers (has_const mark)) (called_on mark) absent p.items in
+    let shows : Shows NoParameters made p.name = name-shows p.own p.name p.prints fronts.3 (qualifiers (has_const mark)) (called_on mark) absent p.items in
+    record {
+      state = now.0;
+      candidates = now.1;
+      e = p.e;
+      lead = p.lead;
+      bytes = p.name;
+      written = append-nil new.text.list.items ∙ left_over;
+      shows = subst (λ d. Shows d p.e p.name) (sym alone_) (subst (λ t. Shows NoParameters t p.name) (sym p.e_is) shows);
+      encloses = subst (λ d. Encloses d p.e p.name) (sym alone_) (subst (λ t. Encloses NoParameters t p.name) (sym p.e_is)
+          (function-encloses NoParameters p.own (qualifiers (has_const mark)) (called_on mark) p.items p.name shows));
+      behind = subst (λ n. EncodedBehind s p.lead p.e n) (sym (cuts.at ∙ one.at)) p.behind;
+    }
+
+-- the name is within what is written
+pub name-within : (s : Symbol) (w : Direct) (mark : Mark) (start : ℕ) (p : IsFunctionEnded s w mark start) → s.is_bare ≡ true → start ≤ length w.text.list.items
+name-within s w mark start p bare =
+    let fronts = subst (λ b. Fronts b p.front start p.lead p.name) bare p.fronts in
+    let named = p.lead ++ p.name in
+    omega (arith, fronts.2, ap length p.written, length-append (p.front ++ codes "(") p.texts, length-append p.front (codes "("), ap length fronts.1, length-append named fronts.0)
 
 -- what ends in a lone void ends so
 void-last : (text front : List ℕ) → text ≡ front ++ codes "(void" → ends_with nat_eq text (codes "(void") ≡ true

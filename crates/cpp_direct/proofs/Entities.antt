@@ -9,7 +9,7 @@ use Rattle.cpp_grammar.specs.Values.{State, Value, nothing_there, tree, named, u
 use Rattle.cpp_grammar.specs.Between.{in_name, in_types, no_items}
 use Rattle.cpp_grammar.specs.Meaning.{encoding_of, discriminator_of}
 use Rattle.cpp_grammar.specs.Unfolding.{first_around, first_state}
-use Rattle.cpp_direct.specs.Symbol.{Symbol}
+use Rattle.cpp_direct.specs.Symbol.{Symbol, detail_of}
 use Rattle.cpp_direct.specs.declared.direct.Direct.{Direct}
 use Rattle.cpp_direct.specs.Holes.{StandsAt, Comes, IsNameAt}
 use Rattle.cpp_direct.specs.HolesOfLists.{SymbolOpened, EncodingOpened, IsDigitsAt}
@@ -64,8 +64,8 @@ local-begins s w fresh starts letter =
               encoded = encoded-whole s opened_ made end st
                   (object-comes s opened_ encoding_ (named t unqualified any_value) end st (here.onward e at st comes internal name digit end is));
               shows = λ bytes p.
-                  subst (λ l. Shows made (l ++ (bytes ++ codes "::" ++ source_text name))) (sym fresh.no_text)
-                  (entity-shows e bytes p internal name (discriminator_of (discriminator_value digit)));
+                  subst (λ l. Shows (detail_of s) made (l ++ (bytes ++ codes "::" ++ source_text name))) (sym fresh.no_text)
+                  (entity-shows (detail_of s) e bytes p internal name (discriminator_of (discriminator_value digit)));
             };
       };
     }
@@ -99,8 +99,8 @@ guard-begins s old new fresh starts marks letter stands writes =
               encoded = encoded-whole s opened_ made end st
                   (guard_.onward (named t unqualified any_value) end st (here.onward e at st comes internal name digit end is));
               shows = λ bytes p.
-                  subst (λ l. Shows made (l ++ (bytes ++ codes "::" ++ source_text name))) (sym text_is)
-                  (guard-shows e bytes p internal name (discriminator_of (discriminator_value digit)));
+                  subst (λ l. Shows (detail_of s) made (l ++ (bytes ++ codes "::" ++ source_text name))) (sym text_is)
+                  (guard-shows (detail_of s) e bytes p internal name (discriminator_of (discriminator_value digit)));
             };
       };
     }
@@ -132,7 +132,7 @@ entity-ended s internal old pushed read last p one name is_name filled two digit
       candidates = candidates-read old last (codes "::" ++ n ++ []) e.state.candidates whole e.candidates;
       e = behind.made;
       encoded = behind.encoded;
-      shows = subst (λ l. Shows behind.made l) (sym written) (behind.shows e.bytes e.encloses);
+      shows = subst (λ l. Shows (detail_of s) behind.made l) (sym written) (behind.shows e.bytes e.encloses);
     }
 
 -- ## Discriminators

@@ -210,7 +210,7 @@ expansion-read s old begun last new mark start argument a pack_ ordered few stan
     let n = f.names 0 ordered in
     let ts = n.elements in
     let first = n.alone pack_ in
-    let front = a.aside ++ a.lead ++ a.name ++ codes "(" in
+    let front = a.front ++ codes "(" in
     let bytes = fw.bytes in
     let t = expansion (rvalue (parameter 0)) in
     let around = a.goes.around in
@@ -244,7 +244,7 @@ expansion-read s old begun last new mark start argument a pack_ ordered few stan
       make = a.make;
       ts = a.ts ++ t ∷ [];
       some = some-elements a.ts t;
-      aside = a.aside;
+      front = a.front;
       lead = a.lead;
       name = a.name;
       texts = in_front_of_next a.ts a.texts ++ bytes;
@@ -256,7 +256,7 @@ expansion-read s old begun last new mark start argument a pack_ ordered few stan
             (expansion-element f.own ts bytes (some-there ts n.own first.1) alone prints);
         names = subst (λ l. HasArguments l argument f.own) (sym grown) (arguments-stay old.text.list.items bytes argument f.own f.names);
       };
-      start_is = a.start_is;
+      fronts = a.fronts;
       written = grown ∙ ap (λ l. l ++ bytes) a.written ∙ append_assoc front (in_front_of_next a.ts a.texts) bytes;
       goes = subst (λ k. ParametersGoOn s argument a.lead a.make (a.ts ++ t ∷ []) k later) (sym (at ∙ fw.writes.at ∙ begun_at)) goes;
     }

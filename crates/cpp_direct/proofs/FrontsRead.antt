@@ -1,14 +1,15 @@
 -- Functions that have a return type: it is read after the name, and written before it.
-use Rattle.cpp_direct.proofs.PrintedLocals.{returned-enclosing}
+use Rattle.cpp_direct.proofs.PrintedLocals.{returned-enclosing, returned-shows}
 use Rattle.std.proofs.Common.{◌≡◌, refl, ap, sym, ◌∙◌, subst, ℕ, ◌-◌, List, [], ◌∷◌, ◌++◌, length, take, drop, reverse, inl, inr, Bool, true, false, arith, codes, append_assoc, ◌≢◌}
 use Rattle.std.proofs.lemmas.Bool.{false≢true}
 use Rattle.std.proofs.Math.Seq.{take-append_seam}
+use Rattle.sym_print.specs.declared.detail.Detail.TheVariants.{Full, NoParameters}
 use Rattle.cpp_grammar.specs.declared.kind.Kind.{Kind}
-use Rattle.cpp_grammar.specs.Term.{Term, list}
+use Rattle.cpp_grammar.specs.Term.{Term, function, list}
 use Rattle.cpp_grammar.specs.Between.{no_items}
 use Rattle.cpp_grammar.specs.Meaning.{parameters, encoding_of}
 use Rattle.cpp_grammar.specs.Values.{Value}
-use Rattle.cpp_direct.specs.Symbol.{Symbol}
+use Rattle.cpp_direct.specs.Symbol.{Symbol, detail_by, detail_of}
 use Rattle.cpp_direct.specs.declared.open.Mark.{Mark}
 use Rattle.cpp_direct.specs.Marks.{has_const, called_on}
 use Rattle.cpp_direct.specs.declared.open.Open.TheVariants as opens
@@ -16,10 +17,10 @@ use Rattle.cpp_direct.specs.declared.open.Arguments.{Arguments}
 use Rattle.cpp_grammar.specs.Parts.{types_of}
 use Rattle.cpp_direct.specs.declared.open.Step.TheVariants as steps
 use Rattle.cpp_direct.specs.declared.direct.Direct.{Direct}
-use Rattle.cpp_direct.specs.Bytes.{is_local}
+use Rattle.cpp_direct.specs.Bytes.{has_bracket, is_local}
 use Rattle.cpp_direct.specs.Holes.{Expects}
 use Rattle.cpp_direct.specs.Prints.{PrintsIn, Shows, Encloses}
-use Rattle.cpp_direct.specs.WriterInvariant.{AreCandidates, EncodedBehind, HasArguments, IsScoped, IsWriting, IsInstance, named_in, ParametersGoOn, Stands, qualifiers, plain_encoding, encoding_place}
+use Rattle.cpp_direct.specs.WriterInvariant.{AreCandidates, EncodedBehind, Fronts, HasArguments, IsScoped, IsWriting, IsInstance, named_in, ParametersGoOn, Stands, qualifiers, plain_encoding, encoding_place}
 use Rattle.cpp_direct.specs.MidStep.{IsNameEnded, IsFrontRead, AwaitsParameters}
 use Rattle.cpp_direct.specs.Written.{Writes}
 use Rattle.cpp_direct.proofs.Ending.{name-scoped, no-text, none-go_on, parameter-goes_on}
@@ -30,11 +31,11 @@ use Rattle.cpp_direct.proofs.Scopes.{arguments-named, arguments-stay, front-scop
 use Rattle.cpp_direct.proofs.PrintedSymbols.{encoding-returned, front-shows}
 
 -- the return type of a function is expected after its name
-pub front-begins : (s : Symbol) (w new : Direct) (mark : Mark) (argument_ : Arguments) (from start place : ℕ) → IsNameEnded s w mark true argument_ from
-    → (is_local s.bytes ≡ false → from ≡ 0) → (place ≢ 0 → from ≡ 0) → (place ≢ 0 → place ≡ encoding_place s.bytes)
+pub front-begins : (s : Symbol) (w new : Direct) (mark : Mark) (argument_ : Arguments) (from start place : ℕ) (p : IsNameEnded s w mark true argument_ from)
+    → (s.is_bare ≡ true → has_bracket p.name ≡ false) → (is_local s.bytes ≡ false → from ≡ 0) → (place ≢ 0 → from ≡ 0) → (place ≢ 0 → place ≡ encoding_place s.bytes)
     → start ≡ length w.text.list.items → new.text ≡ w.text → new.candidates ≡ w.candidates → new.at ≡ w.at
     → new.waiting.list.items ≡ w.waiting.list.items ++ opens.Front mark start (named_in place argument_) ∷ [] → IsWriting s new steps.Type
-front-begins s w new mark argument_ from start place p apart first place_is start_is text candidates at waiting =
+front-begins s w new mark argument_ from start place p bare apart first place_is start_is text candidates at waiting =
     let argument = named_in place argument_ in
     let instance_ : IsInstance w.text.list.items argument mark p.v p.name = record {
       own = p.own;
@@ -58,6 +59,7 @@ front-begins s w new mark argument_ from start place p apart first place_is star
       start_is,
       λ t here now comes. parameter-goes_on s argument (λ e there then_. EncodedBehind s p.lead e there) (λ l. encoding_of p.v l) [] w.at p.state goes
           t here now (element.onward t here now comes),
+      bare,
     ) in
     record {
       state = p.state;
@@ -78,26 +80,28 @@ front-begins s w new mark argument_ from start place p apart first place_is star
 
 -- a function's return type comes before what it shows without one
 turned : (s : Symbol) (argument : Arguments) (mark : Mark) (v : Value) (name : List ℕ) (text : List ℕ) (is : IsInstance text argument mark v name) (r : Term) (b : List ℕ)
-    (is_reference : Bool) → PrintsIn (types_of is.own) 2 r b is_reference → (items : Term) (at : ℕ) → is_local s.bytes ≡ false → EncodedBehind s [] (encoding_of v (list r items)) at
+    (is_reference : Bool) → PrintsIn (types_of is.own) 2 r b is_reference → (items : Term) (at : ℕ) → s.is_bare ≡ false → is_local s.bytes ≡ false → EncodedBehind s [] (encoding_of v (list r items)) at
     → EncodedBehind s (b ++ codes " ") (plain_encoding mark is.own items) at
-turned s argument mark v name text is r b is_reference prints items at apart p = record {
+turned s argument mark v name text is r b is_reference prints items at whole_ apart p = let full_ : detail_of s ≡ Full = ap detail_by whole_ in record {
   whole = λ e. let w = p.whole e in record {
     made = w.made;
     encoded = w.encoded;
     shows = λ bytes shows. w.shows (b ++ codes " " ++ bytes)
-        (subst (λ t. Shows t (b ++ codes " " ++ bytes))
+        (subst (λ t. Shows (detail_of s) t (b ++ codes " " ++ bytes))
         (sym (encoding-returned v mark is.own is.tree_is is.qualifiers_are is.mark_is is.returns r items))
-        (front-shows is.own (qualifiers (has_const mark)) (called_on mark) (parameters items) bytes shows r b is_reference prints));
+        (subst (λ d. Shows d (function is.own (qualifiers (has_const mark)) (called_on mark) r (parameters items)) (b ++ codes " " ++ bytes)) (sym full_)
+        (front-shows is.own (qualifiers (has_const mark)) (called_on mark) (parameters items) bytes
+        (subst (λ d. Shows d (plain_encoding mark is.own items) bytes) full_ shows) r b is_reference prints)));
   };
   entity = λ e. absurd (false≢true (sym apart ∙ e));
 }
 
 -- the return type is read, and after it the name is written once more
 pub front-turned : (s : Symbol) (w here first last : Direct) (mark : Mark) (start : ℕ) (argument : Arguments) → IsFrontRead s w mark start argument
-    → is_local s.bytes ≡ false
+    → s.is_bare ≡ false → is_local s.bytes ≡ false
     → here.text ≡ w.text → here.candidates ≡ w.candidates → here.at ≡ w.at → Writes here first (codes " ")
     → Writes first last (take (start - 0) (drop 0 first.text.list.items)) → AwaitsParameters s last mark start argument
-front-turned s w here first last mark start argument p plain text candidates at one two =
+front-turned s w here first last mark start argument p whole_ plain text candidates at one two =
     let is = p.is_instance in
     let lead = p.bytes ++ codes " " in
     let none : p.lead ≡ [] = p.apart plain in
@@ -115,7 +119,7 @@ front-turned s w here first last mark start argument p plain text candidates at 
       candidates = candidates-written first last (take (start - 0) (drop 0 first.text.list.items)) p.state.candidates two
           (candidates-written here first (codes " ") p.state.candidates one known);
       make = λ l. plain_encoding mark is.own l;
-      aside = p.front;
+      front = p.front ++ lead ++ p.name;
       lead = lead;
       name = p.name;
       is_function = record {
@@ -126,7 +130,7 @@ front-turned s w here first last mark start argument p plain text candidates at 
         names = subst (λ l. HasArguments l argument is.own) (sym written)
             (arguments-stay (p.front ++ lead) p.front argument is.own (arguments-stay p.front lead argument is.own is.names));
       };
-      start_is = p.start_is;
+      fronts = subst (λ b. Fronts b (p.front ++ lead ++ p.name) start lead p.name) (sym whole_) (p.front, refl, p.start_is);
       written = written ∙ ap (λ l. p.front ++ lead ++ l) named;
       goes = record {
         around = p.goes.around;
@@ -134,7 +138,7 @@ front-turned s w here first last mark start argument p plain text candidates at 
         outside = p.goes.outside;
         scoped = p.goes.scoped;
         awaits = subst (λ n. Expects s Kind.Items p.goes.around p.goes.inner n p.state) (sym (two.at ∙ one.at ∙ at)) p.goes.awaits;
-        onward = λ l there then_ comes. turned s argument mark p.v p.name p.front is p.returned p.bytes p.is_reference p.prints (no_items l) there plain
+        onward = λ l there then_ comes. turned s argument mark p.v p.name p.front is p.returned p.bytes p.is_reference p.prints (no_items l) there whole_ plain
             (subst (λ x. EncodedBehind s x (encoding_of p.v (list p.returned (no_items l))) there) none (p.goes.onward l there then_ comes));
       };
     }
@@ -149,17 +153,17 @@ hidden-return s lead argument mark v name text is r local_ items at p = record {
     made = w.made;
     encoded = w.encoded;
     shows = λ bytes encloses. w.shows bytes
-        (subst (λ t. Encloses t bytes)
+        (subst (λ t. Encloses (detail_of s) t bytes)
         (sym (encoding-returned v mark is.own is.tree_is is.qualifiers_are is.mark_is is.returns r items))
-        (returned-enclosing is.own (qualifiers (has_const mark)) (called_on mark) r (parameters items) bytes encloses));
+        (returned-enclosing (detail_of s) is.own (qualifiers (has_const mark)) (called_on mark) r (parameters items) bytes encloses));
   };
 }
 
 -- the return type is read, and after it the name is written once more, with what comes before it
 pub front-hidden : (s : Symbol) (w last : Direct) (mark : Mark) (start begins : ℕ) (argument : Arguments) → IsFrontRead s w mark start argument
-    → is_local s.bytes ≡ true → begins ≡ length w.text.list.items → Writes w last (take (start - 0) (drop 0 w.text.list.items))
+    → s.is_bare ≡ false → is_local s.bytes ≡ true → begins ≡ length w.text.list.items → Writes w last (take (start - 0) (drop 0 w.text.list.items))
     → AwaitsParameters s last mark begins argument
-front-hidden s w last mark start begins argument p local_ begins_is one =
+front-hidden s w last mark start begins argument p whole_ local_ begins_is one =
     let is = p.is_instance in
     let aside = p.front ++ p.bytes in
     let again : take (start - 0) (drop 0 w.text.list.items) ≡ p.front =
@@ -169,7 +173,7 @@ front-hidden s w last mark start begins argument p local_ begins_is one =
       state = p.state;
       candidates = candidates-written w last (take (start - 0) (drop 0 w.text.list.items)) p.state.candidates one p.candidates;
       make = λ l. plain_encoding mark is.own l;
-      aside = aside;
+      front = aside ++ p.lead ++ p.name;
       lead = p.lead;
       name = p.name;
       is_function = record {
@@ -180,7 +184,7 @@ front-hidden s w last mark start begins argument p local_ begins_is one =
         names = subst (λ l. HasArguments l argument is.own) (sym written)
             (arguments-stay aside p.front argument is.own (arguments-stay p.front p.bytes argument is.own is.names));
       };
-      start_is = begins_is ∙ ap length p.written;
+      fronts = subst (λ b. Fronts b (aside ++ p.lead ++ p.name) begins p.lead p.name) (sym whole_) (aside, refl, begins_is ∙ ap length p.written);
       written = written ∙ ap (λ l. aside ++ l) p.front_is ∙ sym (append_assoc aside p.lead p.name);
       goes = record {
         around = p.goes.around;
@@ -189,6 +193,67 @@ front-hidden s w last mark start begins argument p local_ begins_is one =
         scoped = p.goes.scoped;
         awaits = subst (λ n. Expects s Kind.Items p.goes.around p.goes.inner n p.state) (sym one.at) p.goes.awaits;
         onward = λ l there then_ comes. hidden-return s p.lead argument mark p.v p.name p.front is p.returned local_ (no_items l) there
+            (p.goes.onward l there then_ comes);
+      };
+    }
+
+-- where functions are shown by their names alone none shows a return type
+bare-return : (s : Symbol) (lead : List ℕ) (argument : Arguments) (mark : Mark) (v : Value) (name text : List ℕ) (is : IsInstance text argument mark v name)
+    (r : Term) → s.is_bare ≡ true → (items : Term) (at : ℕ) → EncodedBehind s lead (encoding_of v (list r items)) at
+    → EncodedBehind s lead (plain_encoding mark is.own items) at
+bare-return s lead argument mark v name text is r bare items at p =
+    let alone_ : detail_of s ≡ NoParameters = ap detail_by bare in
+    let returns = sym (encoding-returned v mark is.own is.tree_is is.qualifiers_are is.mark_is is.returns r items) in
+    record {
+      whole = λ e. let w = p.whole e in record {
+        made = w.made;
+        encoded = w.encoded;
+        shows = λ bytes shows. w.shows bytes
+            (subst (λ t. Shows (detail_of s) t bytes) returns
+            (subst (λ d. Shows d (function is.own (qualifiers (has_const mark)) (called_on mark) r (parameters items)) bytes) (sym alone_)
+            (returned-shows is.own (qualifiers (has_const mark)) (called_on mark) r (parameters items) bytes
+            (subst (λ d. Shows d (plain_encoding mark is.own items) bytes) alone_ shows))));
+      };
+      entity = λ e internal called digit end told. let w = p.entity e internal called digit end told in record {
+        made = w.made;
+        encoded = w.encoded;
+        shows = λ bytes encloses. w.shows bytes
+            (subst (λ t. Encloses (detail_of s) t bytes) returns
+            (returned-enclosing (detail_of s) is.own (qualifiers (has_const mark)) (called_on mark) r (parameters items) bytes encloses));
+      };
+    }
+
+-- the return type is read, and the parameters are written after it
+pub front-bare : (s : Symbol) (w last : Direct) (mark : Mark) (start : ℕ) (argument : Arguments) → IsFrontRead s w mark start argument
+    → s.is_bare ≡ true → last.text ≡ w.text → last.candidates ≡ w.candidates → last.at ≡ w.at → AwaitsParameters s last mark start argument
+front-bare s w last mark start argument p bare text candidates at =
+    let is = p.is_instance in
+    let written : last.text.list.items ≡ p.front ++ p.bytes = ap (λ v. v.list.items) text ∙ p.written in
+    record {
+      state = p.state;
+      candidates = subst (λ v. AreCandidates v.list.items last.candidates.list.items p.state.candidates) (sym text)
+          (subst (λ v. AreCandidates w.text.list.items v.list.items p.state.candidates) (sym candidates) p.candidates);
+      make = λ l. plain_encoding mark is.own l;
+      front = p.front ++ p.bytes;
+      lead = p.lead;
+      name = p.name;
+      is_function = record {
+        own = is.own;
+        makes = λ t rest. refl;
+        prints = is.prints;
+        elements = none-print-in (types_of is.own) 6;
+        names = subst (λ l. HasArguments l argument is.own) (sym written) (arguments-stay p.front p.bytes argument is.own is.names);
+      };
+      fronts = subst (λ b. Fronts b (p.front ++ p.bytes) start p.lead p.name) (sym bare)
+          (p.bytes, ap (λ l. l ++ p.bytes) p.front_is, p.start_is ∙ ap length p.front_is, p.bare bare);
+      written = written;
+      goes = record {
+        around = p.goes.around;
+        inner = p.goes.inner;
+        outside = p.goes.outside;
+        scoped = p.goes.scoped;
+        awaits = subst (λ n. Expects s Kind.Items p.goes.around p.goes.inner n p.state) (sym at) p.goes.awaits;
+        onward = λ l there then_ comes. bare-return s p.lead argument mark p.v p.name p.front is p.returned bare (no_items l) there
             (p.goes.onward l there then_ comes);
       };
     }

@@ -1,6 +1,7 @@
 -- A type was read, and is handed to what waits for it.
 use Rattle.std.proofs.Common.{◌≡◌, ℕ, ◌-◌, length, List, [], ◌∷◌, ◌++◌, reverse, slice_get, Bool, true, false, Some, refl, ap, sym, ◌∙◌, subst, codes, append_assoc}
 use Rattle.std.proofs.lemmas.Bool.{false≢true}
+use Rattle.sym_print.specs.declared.detail.Detail.TheVariants.{Full}
 use Rattle.cpp_grammar.specs.Term.{Term, special}
 use Rattle.cpp_grammar.specs.Parts.{types_of}
 use Rattle.cpp_grammar.specs.Values.{State, tree}
@@ -15,7 +16,7 @@ use Rattle.cpp_direct.specs.declared.direct.Direct.{Direct}
 use Rattle.cpp_direct.specs.Holes.{Opened, Comes}
 use Rattle.cpp_direct.specs.Prints.{Prints, PrintsIn, IsElementIn, Shows}
 use Rattle.cpp_direct.specs.WriterInvariant.{AreCandidates, HasArguments, IsTemplate, IsWriting, Marks, AwaitsEnumerator, Belongs, Listing, of_template, of_pack, Stands, opening_text, extra_of, led_by, in_front_of_next, argument_of}
-use Rattle.cpp_direct.specs.MidStep.{AwaitsMark, AwaitsNumber, AwaitsSignature, IsElementRead, IsFrontRead, IsParameterEnded, IsReturned, IsSymbolEnded}
+use Rattle.cpp_direct.specs.MidStep.{AwaitsMark, AwaitsNumber, AwaitsSignature, IsElementRead, IsFrontRead, IsParameterEnded, IsReturned, IsSymbolWritten}
 use Rattle.cpp_direct.proofs.Listed.{TakesElements, last-found, list-waits, listing-at, some-elements}
 use Rattle.cpp_direct.proofs.PrintedLists.{element-in, next-prints, next-prints-in, type-element}
 use Rattle.cpp_direct.proofs.PrintedTypes.{prints-in}
@@ -85,7 +86,7 @@ pub parameter-got : (s : Symbol) (w : Direct) (mark : Mark) (start : ℕ) (argum
     → w.text.list.items ≡ front ++ bytes → Comes s os (tree t true) w.at st → IsElementIn (types_of waits.6.own) 6 t bytes
     → IsParameterEnded s w mark start argument
 parameter-got s w mark start argument st opened_ os t front bytes waits candidates open_is written comes element =
-    let aside = waits.0 in
+    let before = waits.0 in
     let lead = waits.1 in
     let ts = waits.3 in
     let name = waits.4 in
@@ -99,7 +100,7 @@ parameter-got s w mark start argument st opened_ os t front bytes waits candidat
       make = waits.2;
       ts = ts ++ t ∷ [];
       some = some-elements ts t;
-      aside = aside;
+      front = before;
       lead = lead;
       name = name;
       texts = in_front_of_next ts texts ++ bytes;
@@ -111,8 +112,8 @@ parameter-got s w mark start argument st opened_ os t front bytes waits candidat
         names = subst (λ l. HasArguments l argument is_function.own) (sym written)
             (arguments-stay front bytes argument is_function.own is_function.names);
       };
-      start_is = waits.7;
-      written = written ∙ ap (λ l. l ++ bytes) waits.8 ∙ append_assoc (aside ++ lead ++ name ++ codes "(") (in_front_of_next ts texts) bytes;
+      fronts = waits.7;
+      written = written ∙ ap (λ l. l ++ bytes) waits.8 ∙ append_assoc (before ++ codes "(") (in_front_of_next ts texts) bytes;
       goes = waits.9 t w.at st comes;
     }
 
@@ -123,7 +124,7 @@ parameter-read s w mark start argument p =
     (element-in (types_of p.stands.6.own) 6 p.own p.bytes (p.element 6))
 
 -- what a special object is of was read
-pub special-read : (s : Symbol) (w : Direct) → IsElementRead s w opens.Special → IsSymbolEnded s w
+pub special-read : (s : Symbol) (w : Direct) → IsElementRead s w opens.Special → IsSymbolWritten Full s w
 special-read s w p =
     let waits = p.stands in
     let letter = waits.0 in
@@ -134,7 +135,7 @@ special-read s w p =
       candidates = p.candidates;
       e = special letter p.own;
       encoded = waits.3 p.own w.at p.state p.comes;
-      shows = subst (λ l. Shows (special letter p.own) l) (sym (p.written ∙ ap (λ l. l ++ p.bytes) front_is))
+      shows = subst (λ l. Shows Full (special letter p.own) l) (sym (p.written ∙ ap (λ l. l ++ p.bytes) front_is))
           (special-shows letter (λ e. filled (front_is ∙ e)) p.own p.bytes (p.element 0));
     }
 
@@ -262,6 +263,7 @@ front-got s w is_reference mark start argument st rest os t front bytes waits ca
   is_reference = is_reference;
   prints = prints;
   written = written;
+  bare = waits.8;
   goes = waits.7 t w.at st comes;
 }
 

@@ -54,3 +54,4 @@ pub mod Signatures
 pub mod Tables
 pub mod TypesRead
 pub mod UnscopedNames
+pub mod WithoutParameters

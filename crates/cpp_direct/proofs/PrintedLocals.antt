@@ -1,6 +1,8 @@
 -- Entities in encodings, and their guard variables.
-use Rattle.std.proofs.Common.{◌≡◌, refl, ap, sym, ◌∙◌, ℕ, ◌+◌, ◌*◌, ◌≤◌, List, [], ◌∷◌, ◌++◌, length, Bool, false, Option, None, arith, codes, length-append, append-nil, subst}
-use Rattle.sym_print.specs.declared.detail.Detail.TheVariants.{Full}
+use Rattle.std.proofs.Common.{◌≡◌, refl, ap, sym, ◌∙◌, ℕ, ◌+◌, ◌*◌, ◌≤◌, List, [], ◌∷◌, ◌++◌, length, Bool, false, Option, None, true, arith, codes, length-append, append-nil, subst}
+use Rattle.sym_print.specs.declared.detail.Detail.{Detail}
+use Rattle.sym_print.specs.declared.detail.Detail.TheVariants.{Full, NoParameters}
+use Rattle.sym_print.specs.Details.{has_parameters}
 use Rattle.sym_print.specs.Unfold.{text}
 use Rattle.sym_print.specs.Unshared.{text_of, cost_of}
 use Rattle.cpp_grammar.specs.Term.{Qualifiers, RefQualifier, any_value, Term, function, object, of_name, local, within, source, nil, absent}
@@ -9,38 +11,48 @@ use Rattle.cpp_grammar.specs.Texts.{look_up, same_bytes, named_special_texts}
 use Rattle.cpp_grammar.specs.Items.{full, bare, left, piece, Context, closed}
 use Rattle.cpp_grammar.specs.Values.{Value, unqualified, tree_of, qualifiers_of, ref_of}
 use Rattle.cpp_grammar.specs.Meaning.{encoding_of}
-use Rattle.cpp_grammar.specs.Parts.{as_item, says, text_part, source_text, prefix_item, within_parts, qualifier_text, ref_text, encoding_text, function_full, full_parts, bare_parts, left_parts, entity_of, parts_in, not_empty}
-use Rattle.cpp_direct.specs.Prints.{in_form, Shows, Encloses}
-use Rattle.cpp_direct.proofs.PrintedParts.{printed_by, prints_parts, text_by, cost_by}
+use Rattle.cpp_grammar.specs.Parts.{as_item, says, text_part, source_text, prefix_item, within_parts, qualifier_text, ref_text, encoding_text, function_bare, function_full, full_parts, bare_parts, left_parts, entity_of, parts_in, not_empty}
+use Rattle.cpp_direct.specs.Prints.{in_form, shown_in, PrintsName, Shows, Encloses}
+use Rattle.cpp_direct.proofs.PrintedParts.{shown_by, shows_parts, prints_parts, text_shown, cost_shown}
+use Rattle.cpp_direct.specs.Bytes.{has_bracket}
 use Rattle.cpp_direct.proofs.PrintedNames.{piece-text, piece-cost}
 use Rattle.cpp_direct.proofs.PrintedNests.{joins}
 use Rattle.cpp_direct.proofs.PrintedSymbols.{encoding-object}
+use Rattle.cpp_direct.proofs.WithoutParameters.{bare-alike}
 
 -- ## Encodings before an entity
 
-bare-same : (t : Term) → bare_parts Full t ≡ full_parts Full t → in_form bare closed t ≡ in_form full closed t
+bare-same : (d : Detail) (t : Term) → bare_parts d t ≡ full_parts d t → shown_in d bare closed t ≡ shown_in d full closed t
 unfolding parts_in
-bare-same t e = prints_parts bare closed t ∙ ap printed_by e ∙ sym (prints_parts full closed t)
+bare-same d t e = shows_parts d bare closed t ∙ ap (λ ps. shown_by d ps) e ∙ sym (shows_parts d full closed t)
 
-encloses-as : (t : Term) (b : List ℕ) → bare_parts Full t ≡ full_parts Full t → ((context : Context) → prefix_item context t ≡ as_item bare closed t)
-    → is_open t ≡ false → ((scope : Term) → pack_length scope t ≡ None) → Shows t b → Encloses t b
-encloses-as t b same front shut packless p = record {
+encloses-as : (d : Detail) (t : Term) (b : List ℕ) → bare_parts d t ≡ full_parts d t → ((context : Context) → prefix_item context t ≡ as_item bare closed t)
+    → is_open t ≡ false → ((scope : Term) → pack_length scope t ≡ None) → Shows d t b → Encloses d t b
+encloses-as d t b same front shut packless p = record {
   as_prefix = front;
-  bare_text = ap text_of (bare-same t same) ∙ p.shown_text;
-  bare_cost = omega (arith, p.shown_cost, ap cost_of (bare-same t same));
+  bare_text = ap text_of (bare-same d t same) ∙ p.shown_text;
+  bare_cost = omega (arith, p.shown_cost, ap cost_of (bare-same d t same));
   is_closed = shut;
   packless = packless;
 }
 
+-- without a return type a function shows the same either way
+bare-is-full : (parameters_shown : Bool) (name : Term) (q : Qualifiers) (ref : RefQualifier) (items : Term)
+    → function_bare parameters_shown name q ref items ≡ function_full parameters_shown name q ref absent items
+unfolding function_full
+bare-is-full true name q ref items = refl
+bare-is-full false name q ref items = refl
+
 -- So do functions that have no return type.
-pub function-encloses : (name : Term) (q : Qualifiers) (ref : RefQualifier) (items : Term) (b : List ℕ)
-    → Shows (function name q ref absent items) b → Encloses (function name q ref absent items) b
-unfolding bare_parts full_parts function_full prefix_item is_open pack_length
-function-encloses name q ref items b p = encloses-as (function name q ref absent items) b refl (λ c. refl) refl (λ k. refl) p
+pub function-encloses : (d : Detail) (name : Term) (q : Qualifiers) (ref : RefQualifier) (items : Term) (b : List ℕ)
+    → Shows d (function name q ref absent items) b → Encloses d (function name q ref absent items) b
+unfolding bare_parts full_parts prefix_item is_open pack_length
+function-encloses d name q ref items b p =
+    encloses-as d (function name q ref absent items) b (bare-is-full (has_parameters d) name q ref items) (λ c. refl) refl (λ k. refl) p
 
 -- Of one that has a return type this isn't shown there.
 pub returned-encloses : (name : Term) (q : Qualifiers) (ref : RefQualifier) (returned items : Term) (b : List ℕ)
-    → Shows (function name q ref absent items) b → Encloses (function name q ref returned items) b
+    → Shows Full (function name q ref absent items) b → Encloses Full (function name q ref returned items) b
 unfolding bare_parts full_parts function_full prefix_item is_open pack_length parts_in
 returned-encloses name q ref returned items b p =
     let e = function name q ref returned items in
@@ -55,13 +67,13 @@ returned-encloses name q ref returned items b p =
     }
 
 -- It has the same text there as without.
-pub returned-enclosing : (name : Term) (q : Qualifiers) (ref : RefQualifier) (returned items : Term) (b : List ℕ)
-    → Encloses (function name q ref absent items) b → Encloses (function name q ref returned items) b
+pub returned-enclosing : (d : Detail) (name : Term) (q : Qualifiers) (ref : RefQualifier) (returned items : Term) (b : List ℕ)
+    → Encloses d (function name q ref absent items) b → Encloses d (function name q ref returned items) b
 unfolding bare_parts prefix_item is_open pack_length parts_in
-returned-enclosing name q ref returned items b p =
+returned-enclosing d name q ref returned items b p =
     let e = function name q ref returned items in
-    let same : in_form bare closed e ≡ in_form bare closed (function name q ref absent items) =
-    prints_parts bare closed e ∙ sym (prints_parts bare closed (function name q ref absent items)) in
+    let same : shown_in d bare closed e ≡ shown_in d bare closed (function name q ref absent items) =
+    shows_parts d bare closed e ∙ sym (shows_parts d bare closed (function name q ref absent items)) in
     record {
       as_prefix = λ c. refl;
       bare_text = ap text_of same ∙ p.bare_text;
@@ -70,88 +82,113 @@ returned-enclosing name q ref returned items b p =
       packless = λ scope. refl;
     }
 
-object-encloses : (name : Term) (q : Qualifiers) (ref : RefQualifier) (b : List ℕ) → Shows (object name q ref) b → Encloses (object name q ref) b
+object-encloses : (d : Detail) (name : Term) (q : Qualifiers) (ref : RefQualifier) (b : List ℕ) → Shows d (object name q ref) b → Encloses d (object name q ref) b
 unfolding bare_parts full_parts prefix_item is_open pack_length
-object-encloses name q ref b p = encloses-as (object name q ref) b refl (λ c. refl) refl (λ k. refl) p
+object-encloses d name q ref b p = encloses-as d (object name q ref) b refl (λ c. refl) refl (λ k. refl) p
 
 -- Data print the same before an entity.
-pub object-enclosing : (v : Value) (b : List ℕ) → Shows (encoding_of v nil) b → Encloses (encoding_of v nil) b
-object-enclosing v b p =
+pub object-enclosing : (d : Detail) (v : Value) (b : List ℕ) → Shows d (encoding_of v nil) b → Encloses d (encoding_of v nil) b
+object-enclosing d v b p =
     let e = encoding-object v in
-    subst (λ t. Encloses t b) (sym e) (object-encloses (tree_of v) (qualifiers_of v) (ref_of v) b (subst (λ t. Shows t b) e p))
+    subst (λ t. Encloses d t b) (sym e) (object-encloses d (tree_of v) (qualifiers_of v) (ref_of v) b (subst (λ t. Shows d t b) e p))
+
+-- ## Functions by their names alone
+
+-- A function shows its name, if that has no brackets, whatever it returns.
+pub name-shows : (name : Term) (b : List ℕ) → PrintsName name b → has_bracket b ≡ false → (q : Qualifiers) (ref : RefQualifier) (returned items : Term)
+    → Shows NoParameters (function name q ref returned items) b
+unfolding parts_in full_parts function_full function_bare not_empty
+name-shows name b p free q ref returned items =
+    let f = function name q ref returned items in
+    let same = bare-alike left closed name (ap has_bracket (p.left_text closed) ∙ free) in
+    record {
+      shown_text = text_shown NoParameters full closed f (as_item left closed name ∷ []) refl
+          ∙ append-nil (text_of (shown_in NoParameters left closed name)) ∙ ap text_of (sym same) ∙ p.left_text closed;
+      shown_cost = omega (arith, p.cost closed, cost_shown NoParameters full closed f (as_item left closed name ∷ []) refl, ap cost_of same);
+    }
+
+-- A return type isn't shown there.
+pub returned-shows : (name : Term) (q : Qualifiers) (ref : RefQualifier) (returned items : Term) (b : List ℕ)
+    → Shows NoParameters (function name q ref absent items) b → Shows NoParameters (function name q ref returned items) b
+unfolding parts_in full_parts function_full
+returned-shows name q ref returned items b p =
+    let e = function name q ref returned items in
+    let same : shown_in NoParameters full closed e ≡ shown_in NoParameters full closed (function name q ref absent items) =
+    shows_parts NoParameters full closed e ∙ sym (shows_parts NoParameters full closed (function name q ref absent items)) in
+    record { shown_text = ap text_of same ∙ p.shown_text; shown_cost = omega (arith, p.shown_cost, ap cost_of same) }
 
 -- ## Entities
 
-inside-text : (e : Term) (b : List ℕ) → Encloses e b → (internal : Bool) (name : List ℕ)
-    → text_of (in_form left closed (within e (source internal name))) ≡ b ++ codes "::" ++ source_text name
+inside-text : (d : Detail) (e : Term) (b : List ℕ) → Encloses d e b → (internal : Bool) (name : List ℕ)
+    → text_of (shown_in d left closed (within e (source internal name))) ≡ b ++ codes "::" ++ source_text name
 unfolding parts_in left_parts within_parts not_empty
-inside-text e b p internal name =
+inside-text d e b p internal name =
     let n = source internal name in
-    text_by left closed (within e n) (as_item bare closed e ∷ says "::" ∷ as_item piece closed n ∷ [])
+    text_shown d left closed (within e n) (as_item bare closed e ∷ says "::" ∷ as_item piece closed n ∷ [])
     (ap (λ i. i ∷ says "::" ∷ as_item piece closed n ∷ []) (p.as_prefix closed))
-    ∙ joins (text_of (in_form bare closed e)) (codes "::") (text_of (in_form piece closed n)) b (source_text name) p.bare_text (piece-text closed internal name)
+    ∙ joins (text_of (shown_in d bare closed e)) (codes "::") (text_of (shown_in d piece closed n)) b (source_text name) p.bare_text (piece-text d closed internal name)
 
-inside-cost : (e : Term) (b : List ℕ) → Encloses e b → (internal : Bool) (name : List ℕ)
-    → cost_of (in_form left closed (within e (source internal name))) ≡ cost_of (in_form bare closed e) + 4 + length (source_text name)
+inside-cost : (d : Detail) (e : Term) (b : List ℕ) → Encloses d e b → (internal : Bool) (name : List ℕ)
+    → cost_of (shown_in d left closed (within e (source internal name))) ≡ cost_of (shown_in d bare closed e) + 4 + length (source_text name)
 unfolding parts_in left_parts within_parts not_empty
-inside-cost e b p internal name =
+inside-cost d e b p internal name =
     let n = source internal name in
     omega (
       arith,
-      cost_by left closed (within e n) (as_item bare closed e ∷ says "::" ∷ as_item piece closed n ∷ [])
+      cost_shown d left closed (within e n) (as_item bare closed e ∷ says "::" ∷ as_item piece closed n ∷ [])
           (ap (λ i. i ∷ says "::" ∷ as_item piece closed n ∷ []) (p.as_prefix closed)),
-      piece-cost closed internal name,
+      piece-cost d closed internal name,
     )
 
-entity-text : (e : Term) (b : List ℕ) → Encloses e b → (internal : Bool) (name : List ℕ) (d : Option (List ℕ))
-    → text_of (in_form left closed (local e (within e (source internal name)) d)) ≡ b ++ codes "::" ++ source_text name
+entity-text : (d : Detail) (e : Term) (b : List ℕ) → Encloses d e b → (internal : Bool) (name : List ℕ) (digit : Option (List ℕ))
+    → text_of (shown_in d left closed (local e (within e (source internal name)) digit)) ≡ b ++ codes "::" ++ source_text name
 unfolding parts_in left_parts entity_of not_empty
-entity-text e b p internal name d =
+entity-text d e b p internal name digit =
     let w = within e (source internal name) in
-    text_by left closed (local e w d) (as_item left closed w ∷ []) refl ∙ append-nil (text_of (in_form left closed w)) ∙ inside-text e b p internal name
+    text_shown d left closed (local e w digit) (as_item left closed w ∷ []) refl ∙ append-nil (text_of (shown_in d left closed w)) ∙ inside-text d e b p internal name
 
-entity-cost : (e : Term) (b : List ℕ) → Encloses e b → (internal : Bool) (name : List ℕ) (d : Option (List ℕ))
-    → 3 + cost_of (in_form left closed (local e (within e (source internal name)) d)) ≤ 4 * length (b ++ codes "::" ++ source_text name)
+entity-cost : (d : Detail) (e : Term) (b : List ℕ) → Encloses d e b → (internal : Bool) (name : List ℕ) (digit : Option (List ℕ))
+    → 3 + cost_of (shown_in d left closed (local e (within e (source internal name)) digit)) ≤ 4 * length (b ++ codes "::" ++ source_text name)
 unfolding parts_in left_parts entity_of not_empty
-entity-cost e b p internal name d =
+entity-cost d e b p internal name digit =
     let w = within e (source internal name) in
     omega (
       arith,
       p.bare_cost,
-      cost_by left closed (local e w d) (as_item left closed w ∷ []) refl,
-      inside-cost e b p internal name,
+      cost_shown d left closed (local e w digit) (as_item left closed w ∷ []) refl,
+      inside-cost d e b p internal name,
       length-append (b ++ codes "::") (source_text name),
       length-append b (codes "::"),
     )
 
 -- A local entity shows the encoding that it is in, and its name.
-pub entity-shows : (e : Term) (b : List ℕ) → Encloses e b → (internal : Bool) (name : List ℕ) (d : Option (List ℕ))
-    → Shows (object (local e (within e (source internal name)) d) unqualified any_value) (b ++ codes "::" ++ source_text name)
+pub entity-shows : (d : Detail) (e : Term) (b : List ℕ) → Encloses d e b → (internal : Bool) (name : List ℕ) (digit : Option (List ℕ))
+    → Shows d (object (local e (within e (source internal name)) digit) unqualified any_value) (b ++ codes "::" ++ source_text name)
 unfolding parts_in full_parts encoding_text qualifier_text ref_text text_part not_empty
-entity-shows e b p internal name d =
-    let t = local e (within e (source internal name)) d in
+entity-shows d e b p internal name digit =
+    let t = local e (within e (source internal name)) digit in
     let o = object t unqualified any_value in
     record {
-      shown_text = text_by full closed o (as_item left closed t ∷ []) refl ∙ append-nil (text_of (in_form left closed t))
-          ∙ entity-text e b p internal name d;
-      shown_cost = omega (arith, entity-cost e b p internal name d, cost_by full closed o (as_item left closed t ∷ []) refl);
+      shown_text = text_shown d full closed o (as_item left closed t ∷ []) refl ∙ append-nil (text_of (shown_in d left closed t))
+          ∙ entity-text d e b p internal name digit;
+      shown_cost = omega (arith, entity-cost d e b p internal name digit, cost_shown d full closed o (as_item left closed t ∷ []) refl);
     }
 
 -- Its guard variable shows that it is one, and the same.
-pub guard-shows : (e : Term) (b : List ℕ) → Encloses e b → (internal : Bool) (name : List ℕ) (d : Option (List ℕ))
-    → Shows (of_name 86 (local e (within e (source internal name)) d) unqualified any_value) (codes "guard variable for " ++ (b ++ codes "::" ++ source_text name))
+pub guard-shows : (d : Detail) (e : Term) (b : List ℕ) → Encloses d e b → (internal : Bool) (name : List ℕ) (digit : Option (List ℕ))
+    → Shows d (of_name 86 (local e (within e (source internal name)) digit) unqualified any_value) (codes "guard variable for " ++ (b ++ codes "::" ++ source_text name))
 unfolding look_up same_bytes named_special_texts parts_in full_parts encoding_text qualifier_text ref_text text_part not_empty
-guard-shows e b p internal name d =
-    let t = local e (within e (source internal name)) d in
+guard-shows d e b p internal name digit =
+    let t = local e (within e (source internal name)) digit in
     let g = of_name 86 t unqualified any_value in
     let k : List ℕ = codes "guard variable for " in
     record {
-      shown_text = text_by full closed g (text k ∷ as_item left closed t ∷ []) refl
-          ∙ ap (λ l. k ++ l) (append-nil (text_of (in_form left closed t)) ∙ entity-text e b p internal name d);
+      shown_text = text_shown d full closed g (text k ∷ as_item left closed t ∷ []) refl
+          ∙ ap (λ l. k ++ l) (append-nil (text_of (shown_in d left closed t)) ∙ entity-text d e b p internal name digit);
       shown_cost = omega (
         arith,
-        entity-cost e b p internal name d,
-        cost_by full closed g (text k ∷ as_item left closed t ∷ []) refl,
+        entity-cost d e b p internal name digit,
+        cost_shown d full closed g (text k ∷ as_item left closed t ∷ []) refl,
         length-append k (b ++ codes "::" ++ source_text name),
       );
     }

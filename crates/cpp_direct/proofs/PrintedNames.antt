@@ -1,6 +1,7 @@
 -- Names and types that are one text: source names, abbreviations and builtin types.
 use Rattle.std.proofs.Common.{◌≡◌, ◌≢◌, refl, ap, sym, ◌∙◌, ℕ, ◌+◌, ◌≤◌, List, [], ◌∷◌, ◌++◌, length, Bool, true, false, arith, codes, length-append, append-nil, subst, nat_eq, ◌||◌, inl, inr}
 use Rattle.std.proofs.lemmas.Bool.{eqb-true}
+use Rattle.sym_print.specs.declared.detail.Detail.{Detail}
 use Rattle.sym_print.specs.declared.detail.Detail.TheVariants.{Full}
 use Rattle.sym_print.specs.Unfold.{text}
 use Rattle.sym_print.specs.Unshared.{text_of, cost_of}
@@ -12,8 +13,8 @@ use Rattle.cpp_grammar.specs.Items.{left, right, base, piece, Context, head_with
 use Rattle.cpp_grammar.specs.Meaning.{is_void}
 use Rattle.cpp_grammar.specs.Parts.{as_item, says, source_text, prefix_item, last_piece, opening_text, piece_parts, left_parts, right_parts, base_parts, parts_in, not_empty, is_plain_integer}
 use Rattle.cpp_direct.specs.Names.{is_angle, operator_text}
-use Rattle.cpp_direct.specs.Prints.{in_form, EndsAsInteger, Prints, PrintsName, NamesClass}
-use Rattle.cpp_direct.proofs.PrintedParts.{text_by, cost_by, text_alone, cost_first, length-filled}
+use Rattle.cpp_direct.specs.Prints.{in_form, shown_in, EndsAsInteger, Prints, PrintsName, NamesClass}
+use Rattle.cpp_direct.proofs.PrintedParts.{text_by, text_shown, cost_by, cost_shown, text_alone, alone_shown, cost_first, first_cost_shown, length-filled}
 
 -- the text of a source name isn't empty
 pub source-filled : (name : List ℕ) → name ≢ [] → 1 ≤ length (source_text name)
@@ -90,17 +91,17 @@ source-class internal name filled = let t = alone (source internal name) in reco
 }
 
 -- a source name as a piece
-pub piece-text : (c : Context) (internal : Bool) (name : List ℕ) → text_of (in_form piece c (source internal name)) ≡ source_text name
+pub piece-text : (d : Detail) (c : Context) (internal : Bool) (name : List ℕ) → text_of (shown_in d piece c (source internal name)) ≡ source_text name
 unfolding parts_in piece_parts
-piece-text c internal name = text_by piece c (source internal name) (text (source_text name) ∷ []) refl ∙ text_alone (source_text name)
+piece-text d c internal name = text_shown d piece c (source internal name) (text (source_text name) ∷ []) refl ∙ alone_shown d (source_text name)
 
 -- and what it costs
-pub piece-cost : (c : Context) (internal : Bool) (name : List ℕ) → cost_of (in_form piece c (source internal name)) ≡ 1 + length (source_text name)
+pub piece-cost : (d : Detail) (c : Context) (internal : Bool) (name : List ℕ) → cost_of (shown_in d piece c (source internal name)) ≡ 1 + length (source_text name)
 unfolding parts_in piece_parts not_empty
-piece-cost c internal name = omega (
+piece-cost d c internal name = omega (
   arith,
-  cost_by piece c (source internal name) (text (source_text name) ∷ []) refl,
-  cost_first (source_text name) [],
+  cost_shown d piece c (source internal name) (text (source_text name) ∷ []) refl,
+  first_cost_shown d (source_text name) [],
 )
 
 -- an operator as a piece
@@ -124,7 +125,7 @@ std-left : (c : Context) (internal : Bool) (name : List ℕ)
 unfolding parts_in left_parts not_empty
 std-left c internal name =
     text_by left c (in_std (source internal name)) (says "std::" ∷ as_item piece c (source internal name) ∷ []) refl
-    ∙ ap (λ s. codes "std::" ++ (s ++ [])) (piece-text c internal name) ∙ ap (λ s. codes "std::" ++ s) (append-nil (source_text name))
+    ∙ ap (λ s. codes "std::" ++ (s ++ [])) (piece-text Full c internal name) ∙ ap (λ s. codes "std::" ++ s) (append-nil (source_text name))
 
 std-cost : (c : Context) (internal : Bool) (name : List ℕ) → cost_of (in_form left c (in_std (source internal name))) ≡ 7 + length (source_text name)
 unfolding parts_in left_parts not_empty
@@ -132,7 +133,7 @@ std-cost c internal name =
     omega (
       arith,
       cost_by left c (in_std (source internal name)) (says "std::" ∷ as_item piece c (source internal name) ∷ []) refl,
-      piece-cost c internal name,
+      piece-cost Full c internal name,
     )
 
 -- A source name in std prints so.

@@ -1,5 +1,6 @@
 -- Names in other names, constructors and destructors, and names with arguments.
 use Rattle.std.proofs.Common.{◌≡◌, ◌≢◌, refl, ap, sym, ◌∙◌, ℕ, ◌+◌, ◌*◌, ◌≤◌, List, [], ◌∷◌, ◌++◌, length, Bool, true, false, None, arith, codes, length-append, append-nil, append_assoc}
+use Rattle.sym_print.specs.declared.detail.Detail.TheVariants.{Full}
 use Rattle.sym_print.specs.Unfold.{text}
 use Rattle.sym_print.specs.Unshared.{text_of, cost_of}
 use Rattle.cpp_grammar.specs.Term.{Term, within, instance, source, operator, constructor, destructor}
@@ -38,8 +39,8 @@ pub record IsPiece (p : Term) (x : List ℕ) : Type 0 where
 pub source-piece : (internal : Bool) (name : List ℕ) → name ≢ [] → IsPiece (source internal name) (source_text name)
 unfolding within_parts base_within base_tagged own_piece without_tags piece_parts is_open pack_length is_structor
 source-piece internal name filled = record {
-  piece_text = λ c. piece-text c internal name;
-  piece_cost = λ c. piece-cost c internal name;
+  piece_text = λ c. piece-text Full c internal name;
+  piece_cost = λ c. piece-cost Full c internal name;
   within_is = λ c t. refl;
   base_is = λ c t. refl;
   tagged_is = λ c t. refl;

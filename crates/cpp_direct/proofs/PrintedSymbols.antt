@@ -1,5 +1,6 @@
 -- Encodings of which the text is known, and the symbols that they are.
 use Rattle.std.proofs.Common.{◌≡◌, ◌≢◌, refl, ap, sym, ◌∙◌, ℕ, ◌*◌, ◌≤◌, List, [], ◌∷◌, ◌++◌, length, Bool, true, false, ◌&&◌, arith, codes, length-append, append-nil, append_assoc, subst}
+use Rattle.sym_print.specs.declared.detail.Detail.{Detail}
 use Rattle.sym_print.specs.declared.detail.Detail.TheVariants.{Full}
 use Rattle.sym_print.specs.Unfold.{text}
 use Rattle.sym_print.specs.Unshared.{text_of, cost_of}
@@ -13,9 +14,9 @@ use Rattle.cpp_grammar.specs.Parts.{as_item, says, text_part, list_part, types_o
 use Rattle.cpp_grammar.specs.Answer.{shown, root_item}
 use Rattle.cpp_direct.specs.declared.open.Mark.{Mark}
 use Rattle.cpp_direct.specs.Marks.{has_const, called_on}
-use Rattle.cpp_direct.specs.Prints.{in_form, PrintsName, PrintsIn, IsElement, Shows, list_of, joined, PrintEachIn, PrintAllIn}
+use Rattle.cpp_direct.specs.Prints.{in_form, shown_in, PrintsName, PrintsIn, IsElement, Shows, list_of, joined, PrintEachIn, PrintAllIn}
 use Rattle.cpp_direct.specs.WriterInvariant.{qualifiers, plain_encoding}
-use Rattle.cpp_direct.proofs.PrintedParts.{printed_by, text_by, cost_by, text_first, cost_first, text_append, cost_append, part-text, part-cost, length-filled}
+use Rattle.cpp_direct.proofs.PrintedParts.{printed_by, text_by, text_shown, cost_by, cost_shown, text_first, first_shown, cost_first, first_cost_shown, text_append, cost_append, part-text, part-cost, length-filled}
 use Rattle.cpp_direct.proofs.PrintedLists.{list-text-in, list-cost-in, none-print-in}
 
 -- ## Functions
@@ -27,7 +28,7 @@ signed_text x y z b l q e f g =
 -- A function that has no return type prints its name, its parameters and its qualifiers.
 pub function-shows : (name : Term) (b : List ℕ) → PrintsName name b → (ts : List Term) (l : List ℕ) → PrintAllIn (types_of name) 6 ts l
     → (q : Qualifiers) (ref : RefQualifier)
-    → Shows (function name q ref absent (list_of ts)) (b ++ codes "(" ++ l ++ codes ")" ++ encoding_text q ref)
+    → Shows Full (function name q ref absent (list_of ts)) (b ++ codes "(" ++ l ++ codes ")" ++ encoding_text q ref)
 unfolding parts_in full_parts function_full function_bare not_empty
 function-shows name b p ts l all q ref =
     let c = types_of name in
@@ -71,8 +72,8 @@ fronted_text : (x y z b l : List ℕ) → x ≡ b → y ≡ l → z ≡ [] → (
 fronted_text x y z b l e f g = rw (e, f, g) (append-nil (b ++ codes " " ++ l))
 
 -- A function that has a return type prints it before what it prints without.
-pub front-shows : (name : Term) (q : Qualifiers) (ref : RefQualifier) (items : Term) (l : List ℕ) → Shows (function name q ref absent items) l
-    → (r : Term) (b : List ℕ) (is_reference : Bool) → PrintsIn (types_of name) 2 r b is_reference → Shows (function name q ref r items) (b ++ codes " " ++ l)
+pub front-shows : (name : Term) (q : Qualifiers) (ref : RefQualifier) (items : Term) (l : List ℕ) → Shows Full (function name q ref absent items) l
+    → (r : Term) (b : List ℕ) (is_reference : Bool) → PrintsIn (types_of name) 2 r b is_reference → Shows Full (function name q ref r items) (b ++ codes " " ++ l)
 unfolding parts_in full_parts function_full not_empty
 front-shows name q ref items l shows r b is_reference p =
     let c = types_of name in
@@ -102,7 +103,7 @@ front-shows name q ref items l shows r b is_reference p =
 
 -- Data print their name.
 pub object-shows : (name : Term) (b : List ℕ) → PrintsName name b → (q : Qualifiers) (ref : RefQualifier)
-    → Shows (object name q ref) (b ++ encoding_text q ref)
+    → Shows Full (object name q ref) (b ++ encoding_text q ref)
 unfolding parts_in full_parts not_empty
 object-shows name b p q ref =
     let ps = as_item left closed name ∷ text_part (encoding_text q ref) in
@@ -124,7 +125,7 @@ element_text x r k b e = ap (λ l. k ++ (x ++ l)) (append-nil r) ∙ ap (λ l. k
 
 -- What the compiler makes for a type prints what it is, and the type.
 pub special-shows : (letter : ℕ) → look_up (letter ∷ []) special_texts ≢ [] → (t : Term) (b : List ℕ) → IsElement 0 t b
-    → Shows (special letter t) (look_up (letter ∷ []) special_texts ++ b)
+    → Shows Full (special letter t) (look_up (letter ∷ []) special_texts ++ b)
 unfolding parts_in full_parts not_empty
 special-shows letter filled t b p =
     let k = look_up (letter ∷ []) special_texts in
@@ -149,19 +150,19 @@ thunk-filled (adjusting (by_table a b)) = omega arith
 thunk-filled (covariant a b) = omega arith
 
 -- A thunk prints what it is, and the encoding that it calls.
-pub thunk-shows : (kind : Thunk) (e : Term) (b : List ℕ) → Shows e b → Shows (thunk kind e) (thunk_text kind ++ b)
+pub thunk-shows : (d : Detail) (kind : Thunk) (e : Term) (b : List ℕ) → Shows d e b → Shows d (thunk kind e) (thunk_text kind ++ b)
 unfolding parts_in full_parts not_empty
-thunk-shows kind e b p =
+thunk-shows d kind e b p =
     let k = thunk_text kind in
     let behind = as_item full closed e ∷ [] in
     record {
-      shown_text = text_by full closed (thunk kind e) (text k ∷ behind) refl ∙ text_first k behind
-          ∙ ap (λ s. k ++ s) (append-nil (text_of (in_form full closed e)) ∙ p.shown_text);
+      shown_text = text_shown d full closed (thunk kind e) (text k ∷ behind) refl ∙ first_shown d k behind
+          ∙ ap (λ s. k ++ s) (append-nil (text_of (shown_in d full closed e)) ∙ p.shown_text);
       shown_cost = omega (
         arith,
         p.shown_cost,
-        cost_by full closed (thunk kind e) (text k ∷ behind) refl,
-        cost_first k behind,
+        cost_shown d full closed (thunk kind e) (text k ∷ behind) refl,
+        first_cost_shown d k behind,
         thunk-filled kind,
         length-append k b,
       );
@@ -228,54 +229,54 @@ pub encoding-object : (v : Value) → encoding_of v nil ≡ object (tree_of v) (
 unfolding encoding_of
 encoding-object v = refl
 
-none_bracketed : (b q : List ℕ) → b ++ codes "(" ++ [] ++ codes ")" ++ q ≡ b ++ codes "()" ++ q
+pub none_bracketed : (b q : List ℕ) → b ++ codes "(" ++ [] ++ codes ")" ++ q ≡ b ++ codes "()" ++ q
 none_bracketed b q = ap (λ s. s ++ codes ")" ++ q) (append-nil (b ++ codes "(")) ∙ ap (λ s. s ++ q) (append_assoc b (codes "(") (codes ")"))
 
 -- A function without parameters shows its name and its qualifiers.
 pub void-shows : (name : Term) (b : List ℕ) → PrintsName name b → (q : Qualifiers) (ref : RefQualifier)
-    → Shows (function name q ref absent nil) (b ++ codes "()" ++ encoding_text q ref)
+    → Shows Full (function name q ref absent nil) (b ++ codes "()" ++ encoding_text q ref)
 void-shows name b p q ref =
-    subst (λ l. Shows (function name q ref absent nil) l) (none_bracketed b (encoding_text q ref)) (function-shows name b p [] [] (none-print-in (types_of name) 6) q ref)
+    subst (λ l. Shows Full (function name q ref absent nil) l) (none_bracketed b (encoding_text q ref)) (function-shows name b p [] [] (none-print-in (types_of name) 6) q ref)
 
 -- Without items it shows the name.
 pub object-encoded : (v : Value) (b : List ℕ) → PrintsName (tree_of v) b
-    → Shows (encoding_of v nil) (b ++ encoding_text (qualifiers_of v) (ref_of v))
-object-encoded v b p = subst (λ f. Shows f (b ++ encoding_text (qualifiers_of v) (ref_of v))) (sym (encoding-object v))
+    → Shows Full (encoding_of v nil) (b ++ encoding_text (qualifiers_of v) (ref_of v))
+object-encoded v b p = subst (λ f. Shows Full f (b ++ encoding_text (qualifiers_of v) (ref_of v))) (sym (encoding-object v))
     (object-shows (tree_of v) b p (qualifiers_of v) (ref_of v))
 
 -- ## Symbols
 
 -- A symbol shows its encoding.
-pub symbol-text : (e : Term) (b : List ℕ) → Shows e b → text_of (shown Full (root_item (symbol e []))) ≡ b
+pub symbol-text : (d : Detail) (e : Term) (b : List ℕ) → Shows d e b → text_of (shown d (root_item (symbol e []))) ≡ b
 unfolding parts_in root_parts not_empty
-symbol-text e b s = text_by root closed (symbol e []) (as_item full closed e ∷ []) refl ∙ append-nil (text_of (in_form full closed e)) ∙ s.shown_text
+symbol-text d e b s = text_shown d root closed (symbol e []) (as_item full closed e ∷ []) refl ∙ append-nil (text_of (shown_in d full closed e)) ∙ s.shown_text
 
 -- It costs at most four for each byte of the text.
-pub symbol-cost : (e : Term) (b : List ℕ) → Shows e b → cost_of (shown Full (root_item (symbol e []))) ≤ 4 * length b
+pub symbol-cost : (d : Detail) (e : Term) (b : List ℕ) → Shows d e b → cost_of (shown d (root_item (symbol e []))) ≤ 4 * length b
 unfolding parts_in root_parts not_empty
-symbol-cost e b s = omega (arith, s.shown_cost, cost_by root closed (symbol e []) (as_item full closed e ∷ []) refl)
+symbol-cost d e b s = omega (arith, s.shown_cost, cost_shown d root closed (symbol e []) (as_item full closed e ∷ []) refl)
 
 suffixed : (x b s : List ℕ) → x ≡ b → x ++ (codes " (" ++ (s ++ (codes ")" ++ []))) ≡ b ++ codes " (" ++ s ++ codes ")"
 suffixed x b s e = rw e (sym (append_assoc b (codes " (") (s ++ codes ")")) ∙ sym (append_assoc (b ++ codes " (") s (codes ")")))
 
 -- With a suffix it shows that too.
-pub suffix-text : (e : Term) (b : List ℕ) → Shows e b → (d : ℕ) (rest : List ℕ)
-    → text_of (shown Full (root_item (symbol e (d ∷ rest)))) ≡ b ++ codes " (" ++ (d ∷ rest) ++ codes ")"
+pub suffix-text : (d : Detail) (e : Term) (b : List ℕ) → Shows d e b → (c : ℕ) (rest : List ℕ)
+    → text_of (shown d (root_item (symbol e (c ∷ rest)))) ≡ b ++ codes " (" ++ (c ∷ rest) ++ codes ")"
 unfolding parts_in root_parts not_empty
-suffix-text e b s d rest =
-    text_by root closed (symbol e (d ∷ rest)) (as_item full closed e ∷ says " (" ∷ text (d ∷ rest) ∷ says ")" ∷ []) refl
-    ∙ suffixed (text_of (in_form full closed e)) b (d ∷ rest) s.shown_text
+suffix-text d e b s c rest =
+    text_shown d root closed (symbol e (c ∷ rest)) (as_item full closed e ∷ says " (" ∷ text (c ∷ rest) ∷ says ")" ∷ []) refl
+    ∙ suffixed (text_of (shown_in d full closed e)) b (c ∷ rest) s.shown_text
 
 -- That costs at most four for each byte of the text as well.
-pub suffix-cost : (e : Term) (b : List ℕ) → Shows e b → (d : ℕ) (rest : List ℕ)
-    → cost_of (shown Full (root_item (symbol e (d ∷ rest)))) ≤ 4 * length (b ++ codes " (" ++ (d ∷ rest) ++ codes ")")
+pub suffix-cost : (d : Detail) (e : Term) (b : List ℕ) → Shows d e b → (c : ℕ) (rest : List ℕ)
+    → cost_of (shown d (root_item (symbol e (c ∷ rest)))) ≤ 4 * length (b ++ codes " (" ++ (c ∷ rest) ++ codes ")")
 unfolding parts_in root_parts not_empty
-suffix-cost e b s d rest =
+suffix-cost d e b s c rest =
     omega (
       arith,
       s.shown_cost,
-      cost_by root closed (symbol e (d ∷ rest)) (as_item full closed e ∷ says " (" ∷ text (d ∷ rest) ∷ says ")" ∷ []) refl,
-      length-append (b ++ codes " (" ++ (d ∷ rest)) (codes ")"),
-      length-append (b ++ codes " (") (d ∷ rest),
+      cost_shown d root closed (symbol e (c ∷ rest)) (as_item full closed e ∷ says " (" ∷ text (c ∷ rest) ∷ says ")" ∷ []) refl,
+      length-append (b ++ codes " (" ++ (c ∷ rest)) (codes ")"),
+      length-append (b ++ codes " (") (c ∷ rest),
       length-append b (codes " ("),
     )

@@ -1,6 +1,7 @@
 -- Types that are in functions, and their names.
 use Rattle.std.proofs.Common.{◌≡◌, refl, ap, sym, ◌∙◌, append_assoc, ℕ, ◌+◌, List, [], ◌∷◌, ◌++◌, length, false, arith, codes, length-append, append-nil}
 use Rattle.std.specs.Prelude.{decimal}
+use Rattle.sym_print.specs.declared.detail.Detail.TheVariants.{Full}
 use Rattle.sym_print.specs.Unfold.{text}
 use Rattle.sym_print.specs.Unshared.{text_of, cost_of}
 use Rattle.cpp_grammar.specs.Term.{Term, within, lambda, nil}
@@ -95,7 +96,7 @@ lambda-list-prints ts l all number digits is =
       opening = refl;
     }
 
-within-text : (c : Context) (e : Term) (b : List ℕ) → Encloses e b → (p : Term) (n : List ℕ) → PrintsPiece p n
+within-text : (c : Context) (e : Term) (b : List ℕ) → Encloses Full e b → (p : Term) (n : List ℕ) → PrintsPiece p n
     → text_of (in_form left c (within e p)) ≡ b ++ codes "::" ++ n
 unfolding parts_in left_parts not_empty
 within-text c e b h p n q =
@@ -103,7 +104,7 @@ within-text c e b h p n q =
     (q.as_component c e ∙ ap (λ i. i ∷ says "::" ∷ as_item piece c p ∷ []) (h.as_prefix c))
     ∙ joins (text_of (in_form bare closed e)) (codes "::") (text_of (in_form piece c p)) b n h.bare_text (q.piece_text c)
 
-within-cost : (c : Context) (e : Term) (b : List ℕ) → Encloses e b → (p : Term) (n : List ℕ) → PrintsPiece p n
+within-cost : (c : Context) (e : Term) (b : List ℕ) → Encloses Full e b → (p : Term) (n : List ℕ) → PrintsPiece p n
     → cost_of (in_form left c (within e p)) ≡ cost_of (in_form bare closed e) + 3 + cost_of (in_form piece c p)
 unfolding parts_in left_parts not_empty
 within-cost c e b h p n q =
@@ -114,7 +115,7 @@ within-cost c e b h p n q =
     )
 
 -- A type in a function prints the function and its own name.
-pub local-prints : (e : Term) (b : List ℕ) → Encloses e b → (p : Term) (n : List ℕ) → PrintsPiece p n → (digit : Discriminator)
+pub local-prints : (e : Term) (b : List ℕ) → Encloses Full e b → (p : Term) (n : List ℕ) → PrintsPiece p n → (digit : Discriminator)
     → Prints (local_in e p digit) (b ++ codes "::" ++ n) false
 unfolding parts_in left_parts entity_of right_parts not_empty head head_with is_reference is_funarr is_empty is_open pack_length length_if_pack first_of is_function_type
     prefix_item last_piece is_void is_plain_integer

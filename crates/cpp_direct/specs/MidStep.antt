@@ -1,8 +1,10 @@
 -- Where a writer is between two of its functions, within a step.
 use Rattle.std.specs.Prelude.{◌≡◌, ◌≢◌, ◌⊎◌, ℕ, zero, suc, ◌+◌, List, [], ◌∷◌, ◌++◌, length, reverse, ◌≤◌, Bool, true, false, cond, Some, codes, ◌-◌, take, drop, slice_get}
 use Rattle.cpp_direct.specs.Written.{Writes}
+use Rattle.sym_print.specs.declared.detail.Detail.{Detail}
+use Rattle.sym_print.specs.declared.detail.Detail.TheVariants.{Full}
 use Rattle.cpp_grammar.specs.declared.kind.Kind.{Kind}
-use Rattle.cpp_grammar.specs.Term.{Term, Signed, array, instance, builtin, pack, list, nil}
+use Rattle.cpp_grammar.specs.Term.{Term, Signed, absent, array, function, instance, builtin, pack, list, nil}
 use Rattle.cpp_grammar.specs.Texts.{look_up, builtin_texts, literal_endings}
 use Rattle.cpp_grammar.specs.Parts.{is_plain_integer, types_of}
 use Rattle.cpp_grammar.specs.Scope.{has_return_type, is_structor}
@@ -10,7 +12,7 @@ use Rattle.cpp_grammar.specs.Between.{after, in_name, with_tag}
 use Rattle.cpp_grammar.specs.Meaning.{encoding_of}
 use Rattle.cpp_grammar.specs.Values as values
 use Rattle.cpp_grammar.specs.Values.{State, Around, Value, nothing_there, tree, outermost, tree_of, qualifiers_of, ref_of}
-use Rattle.cpp_direct.specs.Symbol.{Symbol}
+use Rattle.cpp_direct.specs.Symbol.{Symbol, detail_of}
 use Rattle.cpp_direct.specs.declared.open.Mark.{Mark}
 use Rattle.cpp_direct.specs.declared.open.Candidate.{Candidate}
 use Rattle.cpp_direct.specs.declared.open.Access.{Access}
@@ -20,7 +22,7 @@ use Rattle.cpp_direct.specs.declared.open.Argument.{Argument}
 use Rattle.cpp_direct.specs.declared.open.Arguments.{Arguments}
 use Rattle.cpp_direct.specs.declared.open.Open.TheVariants as opens
 use Rattle.cpp_direct.specs.declared.direct.Direct.{Direct}
-use Rattle.cpp_direct.specs.Bytes.{is_local}
+use Rattle.cpp_direct.specs.Bytes.{has_bracket, is_local}
 use Rattle.cpp_direct.specs.Holes.{Opened, StandsAt, Comes, Expects, IsReferable, IsTyped, TypeNamed, NestGoesOn, NestNamed, bare_name, with_candidate, IsSeqAt}
 use Rattle.sym_core.specs.Value.{counted_value}
 use Rattle.sym_core.specs.declared.NumberKind.TheVariants.{Seq36}
@@ -29,7 +31,7 @@ use Rattle.cpp_direct.specs.HolesOfArrays.{accessed, with_accessed}
 use Rattle.cpp_direct.specs.HolesOfTypes.{IsNamedKind, NoReference, TreeOpens}
 use Rattle.cpp_direct.specs.Marks.{has_const, called_on, mark_text}
 use Rattle.cpp_direct.specs.Prints.{NamesClass, Prints, PrintsName, IsElement, PrintAll, Shows, Encloses, sign_text, PrintsIn, NamesArgument, list_of, PrintAllBy, forwarded}
-use Rattle.cpp_direct.specs.WriterInvariant.{AreCandidates, AwaitsItems, Encoded, EncodedBehind, IsFunction, IsInstance, IsListing, IsNest, IsTail, IsTemplate, GoesOn, EnumeratorGoesOn, Owns, ParametersGoOn, Serves, Stands, TakesFunction, opening_text, qualifiers, extra_of, led_by, list_with, in_front_of_next, IsPlaced, IsAmong, AreAmong, HasArguments, IsKnown, IsScoped, argument_of, place_of, of_pack, IsPlain, ArgumentsGoOn, encoding_place}
+use Rattle.cpp_direct.specs.WriterInvariant.{AreCandidates, AwaitsItems, Encoded, EncodedBehind, Fronts, IsFunction, IsInstance, IsListing, IsNest, IsTail, IsTemplate, GoesOn, EnumeratorGoesOn, Owns, ParametersGoOn, Serves, Stands, TakesFunction, opening_text, qualifiers, extra_of, led_by, list_with, in_front_of_next, IsPlaced, IsAmong, AreAmong, HasArguments, IsKnown, IsScoped, argument_of, place_of, of_pack, IsPlain, ArgumentsGoOn, encoding_place}
 
 -- the digits after the T of a parameter with this number
 abbrev pub parameter_digits : (number : ℕ) → List ℕ
@@ -451,6 +453,7 @@ pub record IsFrontRead (s : Symbol) (w : Direct) (mark : Mark) (start : ℕ) (ar
   pub is_reference : Bool
   pub prints : PrintsIn (types_of is_instance.own) 2 returned bytes is_reference
   pub written : w.text.list.items ≡ front ++ bytes
+  pub bare : s.is_bare ≡ true → has_bracket name ≡ false
   pub goes : ParametersGoOn s argument lead (encoding_of v) (returned ∷ []) w.at state
 
 -- A function's name was read and written, and what comes before it. Its parameters are expected.
@@ -458,12 +461,12 @@ pub record AwaitsParameters (s : Symbol) (w : Direct) (mark : Mark) (start : ℕ
   pub state : State
   pub candidates : AreCandidates w.text.list.items w.candidates.list.items state.candidates
   pub make : Term → Term
-  pub aside : List ℕ
+  pub front : List ℕ
   pub lead : List ℕ
   pub name : List ℕ
   pub is_function : IsFunction w.text.list.items argument mark make [] name []
-  pub start_is : start ≡ length aside
-  pub written : w.text.list.items ≡ aside ++ lead ++ name
+  pub fronts : Fronts s.is_bare front start lead name
+  pub written : w.text.list.items ≡ front
   pub goes : ParametersGoOn s argument lead make [] w.at state
 
 -- A parameter of a function is expected.
@@ -474,13 +477,13 @@ pub record AwaitsNextParameter (s : Symbol) (w : Direct) (mark : Mark) (start : 
   pub open_is : reverse w.waiting.list.items ≡ opens.Parameters mark start argument ∷ rest
   pub make : Term → Term
   pub ts : List Term
-  pub aside : List ℕ
+  pub front : List ℕ
   pub lead : List ℕ
   pub name : List ℕ
   pub texts : List ℕ
   pub is_function : IsFunction w.text.list.items argument mark make ts name texts
-  pub start_is : start ≡ length aside
-  pub written : w.text.list.items ≡ aside ++ lead ++ name ++ codes "(" ++ in_front_of_next ts texts
+  pub fronts : Fronts s.is_bare front start lead name
+  pub written : w.text.list.items ≡ front ++ codes "(" ++ in_front_of_next ts texts
   pub goes : ParametersGoOn s argument lead make ts w.at state
 
 -- what comes before the element of a list with this number
@@ -516,14 +519,32 @@ pub record IsParameterEnded (s : Symbol) (w : Direct) (mark : Mark) (start : ℕ
   pub make : Term → Term
   pub ts : List Term
   pub some : ts ≢ []
-  pub aside : List ℕ
+  pub front : List ℕ
   pub lead : List ℕ
   pub name : List ℕ
   pub texts : List ℕ
   pub is_function : IsFunction w.text.list.items argument mark make ts name texts
-  pub start_is : start ≡ length aside
-  pub written : w.text.list.items ≡ aside ++ lead ++ name ++ codes "(" ++ texts
+  pub fronts : Fronts s.is_bare front start lead name
+  pub written : w.text.list.items ≡ front ++ codes "(" ++ texts
   pub goes : ParametersGoOn s argument lead make ts w.at state
+
+-- A function was read and written but for its last bracket and its qualifiers.
+pub record IsFunctionEnded (s : Symbol) (w : Direct) (mark : Mark) (start : ℕ) : Type 0 where
+  pub state : State
+  pub candidates : AreCandidates w.text.list.items w.candidates.list.items state.candidates
+  pub own : Term
+  pub items : Term
+  pub e : Term
+  pub e_is : e ≡ function own (qualifiers (has_const mark)) (called_on mark) absent items
+  pub front : List ℕ
+  pub lead : List ℕ
+  pub name : List ℕ
+  pub texts : List ℕ
+  pub prints : PrintsName own name
+  pub fronts : Fronts s.is_bare front start lead name
+  pub written : w.text.list.items ≡ front ++ codes "(" ++ texts
+  pub shows : Shows Full e (name ++ codes "(" ++ texts ++ codes ")" ++ mark_text mark)
+  pub behind : EncodedBehind s lead e w.at
 
 -- An encoding was read and written after a text, but for its qualifier.
 pub record IsEncodingEnded (s : Symbol) (w : Direct) (mark : Mark) : Type 0 where
@@ -533,17 +554,21 @@ pub record IsEncodingEnded (s : Symbol) (w : Direct) (mark : Mark) : Type 0 wher
   pub lead : List ℕ
   pub bytes : List ℕ
   pub written : w.text.list.items ++ mark_text mark ≡ lead ++ bytes
-  pub shows : Shows e bytes
-  pub encloses : Encloses e bytes
+  pub shows : Shows (detail_of s) e bytes
+  pub encloses : Encloses (detail_of s) e bytes
   pub behind : EncodedBehind s lead e w.at
 
--- The encoding of a symbol was read and written.
-pub record IsSymbolEnded (s : Symbol) (w : Direct) : Type 0 where
+-- The encoding of a symbol was read and written, as it is shown in a detail.
+pub record IsSymbolWritten (detail : Detail) (s : Symbol) (w : Direct) : Type 0 where
   pub state : State
   pub candidates : AreCandidates w.text.list.items w.candidates.list.items state.candidates
   pub e : Term
   pub encoded : Encoded s e w.at
-  pub shows : Shows e w.text.list.items
+  pub shows : Shows detail e w.text.list.items
+
+-- as it is to be shown
+abbrev pub IsSymbolEnded : Symbol → Direct → Type 0
+IsSymbolEnded s w = IsSymbolWritten (detail_of s) s w
 
 -- ## Function types
 

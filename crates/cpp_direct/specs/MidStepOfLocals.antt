@@ -1,5 +1,6 @@
 -- Where a writer is between two of its functions within a step: local entities, and types in functions.
 use Rattle.std.specs.Prelude.{◌≡◌, ◌≢◌, ℕ, ◌+◌, List, [], ◌∷◌, ◌++◌, length, reverse, Bool, true, false, cond, codes}
+use Rattle.sym_print.specs.declared.detail.Detail.TheVariants.{Full}
 use Rattle.cpp_grammar.specs.Term.{Term}
 use Rattle.cpp_grammar.specs.Scope.{has_return_type}
 use Rattle.cpp_grammar.specs.Meaning.{encoding_of}
@@ -105,7 +106,7 @@ pub record IsEnclosingRead (s : Symbol) (w : Direct) (mark : Mark) (from : ℕ) 
   pub bytes : List ℕ
   pub written : w.text.list.items ++ mark_text mark ≡ front ++ bytes
   pub from_is : from ≡ length front
-  pub encloses : Encloses e bytes
+  pub encloses : Encloses Full e bytes
   pub within : TypeWithin s (Stands s (reverse w.waiting.list.items)) front e w.at state
 
 -- The name of a type is expected after the E of the function that it is in, which was written from a place on.
@@ -124,7 +125,7 @@ pub record IsLambdaParameterRead (s : Symbol) (w : Direct) (from : ℕ) : Type 0
   pub front : List ℕ
   pub e : Term
   pub bytes : List ℕ
-  pub encloses : Encloses e bytes
+  pub encloses : Encloses Full e bytes
   pub ts : List Term
   pub some : ts ≢ []
   pub texts : List ℕ

@@ -1,5 +1,6 @@
 -- Trees of which the text is known: those that print it at the left and nothing at the right, wherever they are.
 use Rattle.std.specs.Prelude.{◌≡◌, ℕ, ◌+◌, ◌*◌, ◌≤◌, List, [], ◌∷◌, ◌++◌, length, Bool, true, false, cond, None, codes, ◌⊎◌}
+use Rattle.sym_print.specs.declared.detail.Detail.{Detail}
 use Rattle.sym_print.specs.declared.detail.Detail.TheVariants.{Full}
 use Rattle.sym_print.specs.Unshared.{Unshared, text_of, cost_of}
 use Rattle.cpp_grammar.specs.Term.{Signed, Term, nil, list}
@@ -10,9 +11,13 @@ use Rattle.cpp_grammar.specs.Meaning.{is_void}
 use Rattle.cpp_grammar.specs.Parts.{as_item, says, prefix_item, within_parts, last_piece, opening_text, is_plain_integer}
 use Rattle.cpp_grammar.specs.Answer.{shown}
 
--- what a tree prints in a form, wherever it is
+-- what a tree prints in a form, wherever it is, in a detail
+abbrev pub shown_in : Detail → Form → Context → Term → Unshared
+shown_in detail form context t = shown detail (record { tree = t; form = form; context = context })
+
+-- and in full
 abbrev pub in_form : Form → Context → Term → Unshared
-in_form form context t = shown Full (record { tree = t; form = form; context = context })
+in_form form context t = shown_in Full form context t
 
 -- the name of a builtin type whose integers are without it is one of these words, or ends in one after a blank
 abbrev pub EndsAsInteger : List ℕ → Type 0
@@ -85,16 +90,16 @@ pub record PrintsPiece (p : Term) (bytes : List ℕ) : Type 0 where
   pub packless : (scope : Term) → pack_length scope p ≡ None
   pub opening : opening_text p ≡ codes "<"
 
--- An encoding with this text.
-pub record Shows (t : Term) (bytes : List ℕ) : Type 0 where
-  pub shown_text : text_of (in_form full closed t) ≡ bytes
-  pub shown_cost : 1 + cost_of (in_form full closed t) ≤ 4 * length bytes
+-- An encoding with this text in a detail.
+pub record Shows (detail : Detail) (t : Term) (bytes : List ℕ) : Type 0 where
+  pub shown_text : text_of (shown_in detail full closed t) ≡ bytes
+  pub shown_cost : 1 + cost_of (shown_in detail full closed t) ≤ 4 * length bytes
 
--- An encoding that has this text before what is in it.
-pub record Encloses (t : Term) (bytes : List ℕ) : Type 0 where
+-- An encoding that has this text before what is in it, in a detail.
+pub record Encloses (detail : Detail) (t : Term) (bytes : List ℕ) : Type 0 where
   pub as_prefix : (context : Context) → prefix_item context t ≡ as_item bare closed t
-  pub bare_text : text_of (in_form bare closed t) ≡ bytes
-  pub bare_cost : 1 + cost_of (in_form bare closed t) ≤ 4 * length bytes
+  pub bare_text : text_of (shown_in detail bare closed t) ≡ bytes
+  pub bare_cost : 1 + cost_of (shown_in detail bare closed t) ≤ 4 * length bytes
   pub is_closed : is_open t ≡ false
   pub packless : (scope : Term) → pack_length scope t ≡ None
 

@@ -14,7 +14,7 @@ use Rattle.cpp_grammar.specs.Values as values
 use Rattle.cpp_grammar.specs.Values.{State, Around, Value, tree, named, outermost, tree_of, qualifiers_of, ref_of, signed_digits}
 use Rattle.cpp_grammar.specs.Between.{no_items}
 use Rattle.cpp_grammar.specs.Meaning.{parameters, encoding_of}
-use Rattle.cpp_direct.specs.Symbol.{Symbol, mangled_of}
+use Rattle.cpp_direct.specs.Symbol.{Symbol, detail_of, mangled_of}
 use Rattle.cpp_direct.specs.declared.open.Candidate.{Candidate}
 use Rattle.cpp_direct.specs.declared.open.Nest.{Nest}
 use Rattle.cpp_direct.specs.declared.open.Mark.{Mark}
@@ -27,7 +27,7 @@ use Rattle.cpp_direct.specs.declared.open.Open.TheVariants as opens
 use Rattle.cpp_direct.specs.declared.open.Step.{Step}
 use Rattle.cpp_direct.specs.declared.open.Step.TheVariants as steps
 use Rattle.cpp_direct.specs.declared.direct.Direct.{Direct}
-use Rattle.cpp_direct.specs.Bytes.{is_local}
+use Rattle.cpp_direct.specs.Bytes.{has_bracket, is_local}
 use Rattle.cpp_direct.specs.Holes.{Opened, Comes, Expects, StandsAt, TypePasses, NestGoesOn, AwaitsComponent, with_candidate, unless_listed}
 use Rattle.cpp_direct.specs.HolesOfFunctions.{SignatureGoesOn, plain_function}
 use Rattle.cpp_direct.specs.HolesOfArrays.{accessed, with_accessed}
@@ -166,13 +166,13 @@ pub record Encoded (s : Symbol) (e : Term) (at : ℕ) : Type 0 where
 pub record EndsBehind (s : Symbol) (lead : List ℕ) (e : Term) (at : ℕ) : Type 0 where
   pub made : Term
   pub encoded : Encoded s made at
-  pub shows : (bytes : List ℕ) → Shows e bytes → Shows made (lead ++ bytes)
+  pub shows : (bytes : List ℕ) → Shows (detail_of s) e bytes → Shows (detail_of s) made (lead ++ bytes)
 
 -- The same of an entity in the encoding, with this name: it shows the text, and that of the encoding and of the name.
 pub record EntityBehind (s : Symbol) (lead : List ℕ) (e : Term) (name : List ℕ) (at : ℕ) : Type 0 where
   pub made : Term
   pub encoded : Encoded s made at
-  pub shows : (bytes : List ℕ) → Encloses e bytes → Shows made (lead ++ (bytes ++ codes "::" ++ source_text name))
+  pub shows : (bytes : List ℕ) → Encloses (detail_of s) e bytes → Shows (detail_of s) made (lead ++ (bytes ++ codes "::" ++ source_text name))
 
 -- An encoding with this tree ends at the place, after a text. It ends the symbol, or a local entity comes after it.
 pub record EncodedBehind (s : Symbol) (lead : List ℕ) (e : Term) (at : ℕ) : Type 0 where
@@ -199,8 +199,8 @@ pub record AwaitsItems (s : Symbol) (lead : List ℕ) (v : Value) (at : ℕ) (st
 pub record IsWhole (s : Symbol) (text : List ℕ) : Type 0 where
   pub whole : Term
   pub stands : StandsFor (mangled_of s) s.bytes (Ok whole)
-  pub text_is : text_of (shown Full (root_item whole)) ≡ text
-  pub cost : cost_of (shown Full (root_item whole)) ≤ 4 * length text
+  pub text_is : text_of (shown (detail_of s) (root_item whole)) ≡ text
+  pub cost : cost_of (shown (detail_of s) (root_item whole)) ≤ 4 * length text
 
 -- ## Names
 
@@ -262,6 +262,13 @@ pub record IsFunction (text : List ℕ) (argument : Arguments) (mark : Mark) (ma
   pub prints : PrintsName own name
   pub elements : PrintAllIn (types_of own) 6 ts texts
   pub names : HasArguments text argument own
+
+-- What is written of a function before its parameters. Its text begins at this place in it. Where functions are shown by their names
+-- alone, it ends there, and the name has no brackets: so nothing in it is shown otherwise.
+abbrev pub Fronts : (is_bare : Bool) → (front : List ℕ) → (start : ℕ) → (lead name : List ℕ) → Type 0
+Fronts false front start lead name = (aside : List ℕ) × (front ≡ aside ++ lead ++ name) × (start ≡ length aside)
+Fronts true front start lead name =
+    (aside : List ℕ) × (front ≡ lead ++ name ++ aside) × (start ≡ length (lead ++ name)) × (has_bracket name ≡ false)
 
 -- The same of a function in which a type is. All parameters make one that has some return type, or none.
 pub record IsEnclosing (text : List ℕ) (argument : Arguments) (mark : Mark) (make : Term → Term) (ts : List Term) (name texts : List ℕ) : Type 0 where
@@ -483,10 +490,11 @@ Stands s (opens.Front mark start argument ∷ rest) os text =
     (v : Value) × (lead : List ℕ) × (name : List ℕ) × IsInstance text argument mark v name × (is_local s.bytes ≡ false → lead ≡ [])
     × (text ≡ lead ++ name) × (start ≡ length text)
     × ((t : Term) (at : ℕ) (st : State) → Comes s os (tree t true) at st → ParametersGoOn s argument lead (encoding_of v) (t ∷ []) at st)
+    × (s.is_bare ≡ true → has_bracket name ≡ false)
 Stands s (opens.Parameters mark start argument ∷ rest) os text =
-    (aside : List ℕ) × (lead : List ℕ) × (make : Term → Term) × (ts : List Term) × (name : List ℕ) × (texts : List ℕ)
-    × IsFunction text argument mark make ts name texts × (start ≡ length aside)
-    × (text ≡ aside ++ lead ++ name ++ codes "(" ++ in_front_of_next ts texts)
+    (front : List ℕ) × (lead : List ℕ) × (make : Term → Term) × (ts : List Term) × (name : List ℕ) × (texts : List ℕ)
+    × IsFunction text argument mark make ts name texts × Fronts s.is_bare front start lead name
+    × (text ≡ front ++ codes "(" ++ in_front_of_next ts texts)
     × ((t : Term) (at : ℕ) (st : State) → Comes s os (tree t true) at st → ParametersGoOn s argument lead make (ts ++ t ∷ []) at st)
 Stands s (opens.Enclosing mark from argument ∷ rest) os text =
     (front : List ℕ) × (make : Term → Term) × (ts : List Term) × (name : List ℕ) × (texts : List ℕ)
@@ -495,7 +503,7 @@ Stands s (opens.Enclosing mark from argument ∷ rest) os text =
     → ItemsGoOn s argument (TypeWithin s (Stands s rest) front) make (ts ++ t ∷ []) at st)
 Stands s (opens.Lambda from ∷ rest) os text =
     (front : List ℕ) × (e : Term) × (bytes : List ℕ) × (ts : List Term) × (texts : List ℕ)
-    × Encloses e bytes × PrintAll 0 ts texts × (from ≡ length front)
+    × Encloses Full e bytes × PrintAll 0 ts texts × (from ≡ length front)
     × (text ≡ front ++ (bytes ++ codes "::{lambda(") ++ in_front_of_next ts texts)
     × ((t : Term) (at : ℕ) (st : State) → Comes s os (tree t true) at st
     → ItemsGoOn s nowhere (LambdaWithin s (Stands s rest) front e) (λ l. l) (ts ++ t ∷ []) at st)

@@ -1,19 +1,21 @@
 // A symbol from its first byte to its last.
 
-ghost use Rattle.std.specs.Prelude.{◌≡◌, ◌≢◌, ◌+◌, ◌∷◌, [], true, false};
+ghost use Rattle.std.specs.Prelude.{◌≡◌, ◌≢◌, ◌+◌, ◌∷◌, [], length, true, false};
 ghost use Rattle.std.specs.Option.{IfSome};
+ghost use Rattle.sym_print.specs.declared.detail.Detail.TheVariants.{Full};
+ghost use Rattle.cpp_direct.specs.declared.open.Mark.TheVariants as marks;
 ghost use Rattle.cpp_direct.specs.Holes.{StandsAt};
 ghost use Rattle.cpp_direct.specs.Names.{IsReadable};
 ghost use Rattle.cpp_direct.specs.WriterInvariant.{IsWriting, encoding_place};
-ghost use Rattle.cpp_direct.specs.Bytes.{is_local};
-ghost use Rattle.cpp_direct.specs.MidStep.{IsFresh, AwaitsEncoding, IsNameEnded, IsFrontRead, AwaitsParameters, IsParameterEnded, IsEncodingEnded, IsSymbolEnded};
+ghost use Rattle.cpp_direct.specs.Bytes.{has_bracket, is_local};
+ghost use Rattle.cpp_direct.specs.MidStep.{IsFresh, AwaitsEncoding, IsNameEnded, IsFrontRead, AwaitsParameters, IsParameterEnded, IsEncodingEnded, IsFunctionEnded, IsSymbolEnded, IsSymbolWritten};
 ghost use Rattle.cpp_direct.specs.Symbol.{symbol_by};
 
 use crate::direct::Direct;
 use crate::grammar::Grammar;
 use crate::marks::mark_at;
 use crate::open::{Argument, Arguments, Mark, Nest, Open, Purpose, Step};
-use crate::tokens::{byte_at, is_local, is_suffix, may_end};
+use crate::tokens::{byte_at, has_bracket, is_local, is_suffix, may_end};
 
 /// Before the first nested name.
 pub const NO_NEST: Nest = Nest {
@@ -73,8 +75,8 @@ impl Direct {
     #[inline(always)]
     pub fn take<G: Grammar>(&mut self, s: &[u8], step: Step) -> Option<Step>
         requires fits { IsReadable s.now }
-        requires writing { IsWriting (symbol_by G.IS_WIDE s.now) self.old step }
-        ensures { IfSome result (IsWriting (symbol_by G.IS_WIDE s.now) self.new) }
+        requires writing { IsWriting (symbol_by G.IS_WIDE G.IS_BARE s.now) self.old step }
+        ensures { IfSome result (IsWriting (symbol_by G.IS_WIDE G.IS_BARE s.now) self.new) }
     {
         match step {
             Step::Type => self.type_at::<G>(s, false),
@@ -99,7 +101,7 @@ impl Direct {
     pub fn begin<G: Grammar>(&mut self, s: &[u8]) -> Option<Step>
         requires fits { IsReadable s.now }
         requires fresh { IsFresh self.old }
-        ensures { IfSome result (IsWriting (symbol_by G.IS_WIDE s.now) self.new) }
+        ensures { IfSome result (IsWriting (symbol_by G.IS_WIDE G.IS_BARE s.now) self.new) }
     {
         if byte_at(s, 0) != b'_' || byte_at(s, 1) != b'Z' {
             return None;
@@ -122,8 +124,8 @@ impl Direct {
     // <encoding> ::= <function name> <bare-function-type> | <data name>
     pub(crate) fn begin_encoding<G: Grammar>(&mut self, s: &[u8]) -> Option<Step>
         requires fits { IsReadable s.now }
-        requires awaits { AwaitsEncoding (symbol_by G.IS_WIDE s.now) self.old }
-        ensures { IfSome result (IsWriting (symbol_by G.IS_WIDE s.now) self.new) }
+        requires awaits { AwaitsEncoding (symbol_by G.IS_WIDE G.IS_BARE s.now) self.old }
+        ensures { IfSome result (IsWriting (symbol_by G.IS_WIDE G.IS_BARE s.now) self.new) }
     {
         match byte_at(s, self.at) {
             b'N' => self.begin_nested::<G>(s),
@@ -144,7 +146,7 @@ impl Direct {
         requires fresh { IsFresh self.old }
         requires starts { StandsAt s.now 0 (95 ∷ 90 ∷ []) }
         requires letter { StandsAt s.now 2 (84 ∷ []) }
-        ensures { IfSome result (IsWriting (symbol_by G.IS_WIDE s.now) self.new) }
+        ensures { IfSome result (IsWriting (symbol_by G.IS_WIDE G.IS_BARE s.now) self.new) }
     {
         let text = cpp_layout::special_text(byte_at(s, 3));
         if text.is_empty() {
@@ -159,9 +161,9 @@ impl Direct {
     // <nested-name> ::= N [<CV-qualifiers>] [<ref-qualifier>] <prefix> <unqualified-name> E
     fn begin_nested<G: Grammar>(&mut self, s: &[u8]) -> Option<Step>
         requires fits { IsReadable s.now }
-        requires awaits { AwaitsEncoding (symbol_by G.IS_WIDE s.now) self.old }
+        requires awaits { AwaitsEncoding (symbol_by G.IS_WIDE G.IS_BARE s.now) self.old }
         requires letter { StandsAt s.now self.old.at (78 ∷ []) }
-        ensures { IfSome result (IsWriting (symbol_by G.IS_WIDE s.now) self.new) }
+        ensures { IfSome result (IsWriting (symbol_by G.IS_WIDE G.IS_BARE s.now) self.new) }
     {
         self.at = self.at.checked_add(1)?;
         let place = mark_at(s, self.at)?;
@@ -180,9 +182,12 @@ impl Direct {
         from: u32,
     ) -> Option<Step>
         requires fits { IsReadable s.now }
-        requires ended { IsNameEnded (symbol_by G.IS_WIDE s.now) self.old mark is_instance argument from }
-        ensures { IfSome result (IsWriting (symbol_by G.IS_WIDE s.now) self.new) }
+        requires ended { IsNameEnded (symbol_by G.IS_WIDE G.IS_BARE s.now) self.old mark is_instance argument from }
+        ensures { IfSome result (IsWriting (symbol_by G.IS_WIDE G.IS_BARE s.now) self.new) }
     {
+        if !self.is_as_shown::<G>() {
+            return None;
+        }
         if may_end(byte_at(s, self.at)) {
             return self.end::<G>(s, mark);
         }
@@ -193,7 +198,31 @@ impl Direct {
             encoding: encoding_place(s, from),
             ..argument
         };
-        self.begin_parameters::<G>(s, mark, 0, argument)
+        let start = self.start::<G>();
+        self.begin_parameters::<G>(s, mark, start, argument)
+    }
+
+    /// Whether what is written is shown so: without parameters a text that has no brackets is, since no function in it has any.
+    #[inline(always)]
+    fn is_as_shown<G: Grammar>(&self) -> bool
+        ensures { result ≡ true → G.IS_BARE ≡ true → has_bracket self.now.text.list.items ≡ false }
+    {
+        if !G::IS_BARE {
+            return true;
+        }
+        !has_bracket(self.text.as_slice())
+    }
+
+    /// Where the text of a function that has no return type begins, after its name was written, or where it ends if that is all of it.
+    #[inline(always)]
+    fn start<G: Grammar>(&self) -> u32
+        ensures whole { G.IS_BARE ≡ false → result ≡ 0 }
+        ensures bare { G.IS_BARE ≡ true → result ≡ length self.now.text.list.items }
+    {
+        if G::IS_BARE {
+            return self.text.end();
+        }
+        0
     }
 
     /// The return type of a function is expected. It is written after the name, and after it the name once more.
@@ -207,8 +236,9 @@ impl Direct {
         from: u32,
     ) -> Option<Step>
         requires fits { IsReadable s.now }
-        requires ended { IsNameEnded (symbol_by G.IS_WIDE s.now) self.old mark true argument from }
-        ensures { IfSome result (IsWriting (symbol_by G.IS_WIDE s.now) self.new) }
+        requires ended { IsNameEnded (symbol_by G.IS_WIDE G.IS_BARE s.now) self.old mark true argument from }
+        requires shown { G.IS_BARE ≡ true → has_bracket self.old.text.list.items ≡ false }
+        ensures { IfSome result (IsWriting (symbol_by G.IS_WIDE G.IS_BARE s.now) self.new) }
     {
         if !has_front(s, from) {
             return None;
@@ -237,13 +267,16 @@ impl Direct {
         argument: Arguments,
     ) -> Option<Step>
         requires fits { IsReadable s.now }
-        requires ended { IsFrontRead (symbol_by G.IS_WIDE s.now) self.old mark start argument }
-        ensures { IfSome result (IsWriting (symbol_by G.IS_WIDE s.now) self.new) }
+        requires ended { IsFrontRead (symbol_by G.IS_WIDE G.IS_BARE s.now) self.old mark start argument }
+        ensures { IfSome result (IsWriting (symbol_by G.IS_WIDE G.IS_BARE s.now) self.new) }
     {
         if may_end(byte_at(s, self.at)) {
             return None;
         }
         let _open = self.waiting.pop();
+        if G::IS_BARE {
+            return self.begin_parameters::<G>(s, mark, start, argument);
+        }
         if is_local(s) {
             return self.front_hidden::<G>(s, mark, start, argument);
         }
@@ -263,8 +296,9 @@ impl Direct {
     ) -> Option<Step>
         requires fits { IsReadable s.now }
         requires local { is_local s.now ≡ true }
-        requires ended { IsFrontRead (symbol_by G.IS_WIDE s.now) self.old mark start argument }
-        ensures { IfSome result (IsWriting (symbol_by G.IS_WIDE s.now) self.new) }
+        requires whole { G.IS_BARE ≡ false }
+        requires ended { IsFrontRead (symbol_by G.IS_WIDE G.IS_BARE s.now) self.old mark start argument }
+        ensures { IfSome result (IsWriting (symbol_by G.IS_WIDE G.IS_BARE s.now) self.new) }
     {
         let begins = self.text.end();
         self.repeat(0, start)?;
@@ -282,17 +316,15 @@ impl Direct {
         argument: Arguments,
     ) -> Option<Step>
         requires fits { IsReadable s.now }
-        requires awaits { AwaitsParameters (symbol_by G.IS_WIDE s.now) self.old mark start argument }
-        ensures { IfSome result (IsWriting (symbol_by G.IS_WIDE s.now) self.new) }
+        requires awaits { AwaitsParameters (symbol_by G.IS_WIDE G.IS_BARE s.now) self.old mark start argument }
+        ensures { IfSome result (IsWriting (symbol_by G.IS_WIDE G.IS_BARE s.now) self.new) }
     {
         let byte = byte_at(s, self.at);
         self.push_byte(b'(')?;
         let behind = byte_at(s, self.at.checked_add(1)?);
         if byte == b'v' && may_end(behind) {
             self.at = self.at.checked_add(1)?;
-            self.push_byte(b')')?;
-            self.cut(start)?;
-            return self.end::<G>(s, mark);
+            return self.close::<G>(s, mark, start);
         }
         self.waiting.push(Open::Parameters {
             mark,
@@ -311,8 +343,8 @@ impl Direct {
         argument: Arguments,
     ) -> Option<Step>
         requires fits { IsReadable s.now }
-        requires ended { IsParameterEnded (symbol_by G.IS_WIDE s.now) self.old mark start argument }
-        ensures { IfSome result (IsWriting (symbol_by G.IS_WIDE s.now) self.new) }
+        requires ended { IsParameterEnded (symbol_by G.IS_WIDE G.IS_BARE s.now) self.old mark start argument }
+        ensures { IfSome result (IsWriting (symbol_by G.IS_WIDE G.IS_BARE s.now) self.new) }
     {
         let byte = byte_at(s, self.at);
         if !may_end(byte) {
@@ -333,12 +365,28 @@ impl Direct {
         _argument: Arguments,
     ) -> Option<Step>
         requires fits { IsReadable s.now }
-        requires ended { IsParameterEnded (symbol_by G.IS_WIDE s.now) self.old mark start _argument }
-        ensures { IfSome result (IsWriting (symbol_by G.IS_WIDE s.now) self.new) }
+        requires ended { IsParameterEnded (symbol_by G.IS_WIDE G.IS_BARE s.now) self.old mark start _argument }
+        ensures { IfSome result (IsWriting (symbol_by G.IS_WIDE G.IS_BARE s.now) self.new) }
     {
         // a lone void is no parameter
         if self.text.as_slice().ends_with(b"(void") {
             return None;
+        }
+        self.close::<G>(s, mark, start)
+    }
+
+    /// A function is read, and written but for its last bracket. Where functions are shown by their names alone, what follows its
+    /// name is taken away.
+    fn close<G: Grammar>(&mut self, s: &[u8], mark: Mark, start: u32) -> Option<Step>
+        requires fits { IsReadable s.now }
+        requires ended { IsFunctionEnded (symbol_by G.IS_WIDE G.IS_BARE s.now) self.old mark start }
+        ensures { IfSome result (IsWriting (symbol_by G.IS_WIDE G.IS_BARE s.now) self.new) }
+    {
+        if G::IS_BARE {
+            let end = self.text.end();
+            self.repeat(0, start)?;
+            self.cut(end)?;
+            return self.encoded::<G>(s);
         }
         self.push_byte(b')')?;
         self.cut(start)?;
@@ -348,12 +396,32 @@ impl Direct {
     /// The end of an encoding, after its text but for its qualifier: a local entity follows, or the end of the symbol.
     pub(crate) fn end<G: Grammar>(&mut self, s: &[u8], mark: Mark) -> Option<Step>
         requires fits { IsReadable s.now }
-        requires ended { IsEncodingEnded (symbol_by G.IS_WIDE s.now) self.old mark }
-        ensures { IfSome result (IsWriting (symbol_by G.IS_WIDE s.now) self.new) }
+        requires ended { IsEncodingEnded (symbol_by G.IS_WIDE G.IS_BARE s.now) self.old mark }
+        ensures { IfSome result (IsWriting (symbol_by G.IS_WIDE G.IS_BARE s.now) self.new) }
     {
         self.push_mark(mark)?;
+        self.encoded::<G>(s)
+    }
+
+    /// The end of an encoding, after its text: a local entity follows, or the end of the symbol.
+    fn encoded<G: Grammar>(&mut self, s: &[u8]) -> Option<Step>
+        requires fits { IsReadable s.now }
+        requires ended { IsEncodingEnded (symbol_by G.IS_WIDE G.IS_BARE s.now) self.old marks.Plain }
+        ensures { IfSome result (IsWriting (symbol_by G.IS_WIDE G.IS_BARE s.now) self.new) }
+    {
         if is_local(s) {
             return self.entity::<G>(s);
+        }
+        self.finish::<G>(s)
+    }
+
+    /// What a special object is of is read.
+    pub(crate) fn special_ended<G: Grammar>(&mut self, s: &[u8]) -> Option<Step>
+        requires { IsSymbolWritten Full (symbol_by G.IS_WIDE G.IS_BARE s.now) self.old }
+        ensures { IfSome result (IsWriting (symbol_by G.IS_WIDE G.IS_BARE s.now) self.new) }
+    {
+        if !self.is_as_shown::<G>() {
+            return None;
         }
         self.finish::<G>(s)
     }
@@ -361,8 +429,8 @@ impl Direct {
     /// The end of a symbol, after the text of its encoding.
     // <mangled-name> ::= _Z <encoding> . <vendor-specific suffix>
     pub(crate) fn finish<G: Grammar>(&mut self, s: &[u8]) -> Option<Step>
-        requires { IsSymbolEnded (symbol_by G.IS_WIDE s.now) self.old }
-        ensures { IfSome result (IsWriting (symbol_by G.IS_WIDE s.now) self.new) }
+        requires { IsSymbolEnded (symbol_by G.IS_WIDE G.IS_BARE s.now) self.old }
+        ensures { IfSome result (IsWriting (symbol_by G.IS_WIDE G.IS_BARE s.now) self.new) }
     {
         let suffix = s.get(self.at..)?;
         if suffix.is_empty() {

@@ -7,6 +7,7 @@ ghost use Rattle.std.specs.BTreeMap.{get};
 ghost use Rattle.cpp_tree.specs.Nodes.{IsTable};
 ghost use Rattle.cpp_layout.specs.Layout.{table_of, whole_of};
 ghost use Rattle.cpp_press_laws.specs.Pressing.{pressed};
+ghost use Rattle.cpp_press_laws.specs.Short.{IsShort};
 ghost use Rattle.cpp_spelling.specs.Tasks.{plain_at};
 ghost use Rattle.cpp_press.specs.Places.{likeness_cmp, likeness_of, AreNumbers};
 ghost use Rattle.cpp_press.specs.OfRead.{HasFewComponents};
@@ -95,6 +96,7 @@ fn press_tasks(alloc: Global, symbol: &Symbol, numbering: &Numbers) -> Result<Ve
     requires numbers { AreNumbers symbol.now numbering.now }
     ensures pressed { IfOk result (λ out. out.items ≡ pressed (whole_of symbol.now)) }
     ensures components { IfOk result (λ _. HasFewComponents symbol.now) }
+    ensures short { IfOk result (λ out. IsShort (whole_of symbol.now) out.items) }
     ensures memory { IfErr result (λ e. e ≡ Memory) }
 {
     let mut components = Components::new(alloc);
@@ -137,7 +139,7 @@ fn press_tasks(alloc: Global, symbol: &Symbol, numbering: &Numbers) -> Result<Ve
 /// Symbols of one tree have one pressed spelling; the suffix is part of the tree.
 ///
 /// Components are compared by their numbers, and each repeated one is spelled out at most once where a reference can be,
-/// however large the tree is.
+/// however large the tree is. So there are at most 64 bytes for each byte of the symbol.
 ///
 /// # Errors
 ///
@@ -145,6 +147,7 @@ fn press_tasks(alloc: Global, symbol: &Symbol, numbering: &Numbers) -> Result<Ve
 pub fn press_cpp(alloc: Global, symbol: &Symbol) -> Result<Vec<u8>, Refusal>
     ensures pressed { IfOk result (λ out. out.items ≡ pressed (whole_of symbol.now)) }
     ensures components { IfOk result (λ _. HasFewComponents symbol.now) }
+    ensures short { IfOk result (λ out. IsShort (whole_of symbol.now) out.items) }
     ensures memory { IfErr result (λ e. e ≡ Memory) }
 {
     let numbering = numbers(alloc, symbol)?;

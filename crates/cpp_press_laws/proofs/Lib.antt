@@ -6,3 +6,4 @@ pub mod PressLaw
 pub mod EveryWay
 pub mod ByKind
 pub mod ReadLaw
+pub mod Short

@@ -11,3 +11,4 @@ pub mod Spellable
 pub mod Fits
 pub mod Subtrees
 pub mod Few
+pub mod Short

@@ -6,6 +6,7 @@ ghost use Rattle.cpp_press_laws.specs.Few.{ComponentsAreFew};
 ghost use Rattle.cpp_press_laws.specs.PressLaws.{PressedIsRead, PressedOnce, PressedTellsApart};
 ghost use Rattle.cpp_press_laws.specs.Repeated.{RepeatedComponentsHaveReasons};
 ghost use Rattle.cpp_press_laws.specs.Same.{same_tree};
+ghost use Rattle.cpp_press_laws.specs.Short.{PressedIsShort};
 ghost use Rattle.cpp_press_laws.specs.Subtrees.{EncodingsAreRead, SymbolsFit, TypesAreRead};
 
 /// What some C++ symbol is read as, pressed, is well shaped, and every shape that spells it is read as the same: no qualifier, no
@@ -59,4 +60,9 @@ pub fn repeated_components_have_reasons()
 /// is a reference again, and what it spells out is spelled out once at most.
 pub fn components_are_few()
     ensures { ComponentsAreFew }
+{}
+
+/// What some symbol that fits is read as has at most 64 pressed bytes for each byte of the symbol.
+pub fn pressed_is_short()
+    ensures { PressedIsShort }
 {}

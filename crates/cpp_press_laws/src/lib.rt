@@ -5,6 +5,6 @@
 mod laws;
 
 pub use laws::{
-    components_are_apart, components_are_few, pressed_is_read, pressed_once, pressed_tells_apart,
-    repeated_components_have_reasons, subtrees_are_read, trees_are_compared,
+    components_are_apart, components_are_few, pressed_is_read, pressed_is_short, pressed_once,
+    pressed_tells_apart, repeated_components_have_reasons, subtrees_are_read, trees_are_compared,
 };

@@ -16,11 +16,11 @@ use Rattle.sym_filter.proofs.StreamLemmas.{Appends-none}
 use Rattle.sym_command.specs.Command.{Took, Says}
 use Rattle.sym_command.proofs.CommandLemmas.{faulty}
 use Rattle.sym_command.proofs.PageLemmas.{Took-as, Took-said, OnErr-anyway}
-use Rattle.demangle_command.specs.Command.{answers_by, answers_of, EndsOf, FiltersInput, FiltersInputFront, IsEndedOf, IsStoppedOf, IsTold, StopsOf, Stops, is_request}
+use Rattle.demangle_command.specs.Command.{answers_by, answers_of, EndsOf, FiltersInput, FiltersInputFront, IsEndedOf, IsStoppedOf, IsTold, StopsOf, Stops, is_request, summary_if}
 use Rattle.demangle_command.specs.CommandLine.{AreGiven, AreOptions, faults_in, names_of}
-use Rattle.demangle_command.specs.Names.{AnswersNames, NamesFront, status_of, summary_if}
-use Rattle.demangle_command.specs.declared.options.Options.{Options}
-use Rattle.demangle_command.specs.declared.style.Style.{Style}
+use Rattle.demangle_names.specs.Names.{AnswersNames, NamesFront, status_of}
+use Rattle.demangle_names.specs.declared.options.Options.{Options}
+use Rattle.demangle_names.specs.declared.style.Style.{Style}
 
 -- ## Words that the parser doesn't take
 

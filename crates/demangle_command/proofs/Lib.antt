@@ -1,6 +1,4 @@
 pub mod ArgumentFileLemmas
 pub mod CommandLemmas
-pub mod NameLemmas
 pub mod OptionLemmas
 pub mod StyleLemmas
-pub mod TypeLemmas

@@ -4,9 +4,9 @@ use Rattle.std.proofs.lemmas.List.{map-append}
 use Rattle.clap.specs.Words.{AddsAliases, AddsShortAliases, Rule, Text, is_simple, is_simple_and_free, rule_of}
 use Rattle.clap.specs.declared.builder.arg.Arg.{Arg}
 use Rattle.demangle_command.specs.CommandLine.{IsAsked, command_line}
-use Rattle.demangle_command.specs.Style.{IsStyle}
-use Rattle.demangle_command.specs.declared.style.Style.{Style}
-use Rattle.demangle_command.specs.declared.style.Style.TheVariants.{Auto}
+use Rattle.demangle_names.specs.Style.{IsStyle}
+use Rattle.demangle_names.specs.declared.style.Style.{Style}
+use Rattle.demangle_names.specs.declared.style.Style.TheVariants.{Auto}
 
 pub simple : is_simple command_line ≡ true
 unfolding command_line

@@ -6,8 +6,9 @@ use Rattle.sym_core.specs.declared.refusal.Refusal.TheVariants.{Malformed}
 use Rattle.sym_print.specs.declared.detail.Detail.{Detail}
 use Rattle.sym_languages.specs.Languages.{wide_answer_of, legacy_wide_answer_of}
 use Rattle.sym_filter.specs.declared.kinds.Kind.{Kind}
-use Rattle.demangle_command.specs.Style.{leaves_out, reads_paths, styled_answer}
-use Rattle.demangle_command.specs.declared.style.Style.{Style}
+use Rattle.demangle_command.specs.Styled.{styled_answer}
+use Rattle.demangle_names.specs.Style.{leaves_out, reads_paths}
+use Rattle.demangle_names.specs.declared.style.Style.{Style}
 
 module _ (style : Style) (limit : ℕ) (detail : Detail) (kind : Kind) (symbol : List ℕ) where
   pub left-out : leaves_out style kind.lang symbol ≡ true → styled_answer style limit detail kind symbol ≡ Err (Malformed 0)

@@ -1,5 +1,6 @@
 -- What a command line did to an input and two outputs.
-use Rattle.std.specs.Prelude.{◌≡◌, ◌≢◌, ◌⊎◌, ℕ, List, [], Bool, true, false, not, ◌==◌, Option, None}
+use Rattle.std.specs.Prelude.{◌≡◌, ◌≢◌, ◌⊎◌, ℕ, List, [], ◌∷◌, ◌++◌, Bool, true, false, not, ◌==◌, Option, None, codes}
+use Rattle.std.specs.Fmt.{decimal}
 use Rattle.std.specs.Io.KnownBytes.{Appends}
 use Rattle.clap.specs.Words.{Row, Text, IsAmong}
 use Rattle.clap.specs.declared.error.kind.ErrorKind.{ErrorKind}
@@ -12,10 +13,10 @@ use Rattle.sym_filter.specs.declared.words.Tally.{Tally}
 use Rattle.sym_command.specs.Command.{Took}
 use Rattle.demangle_command.specs.CommandLine.{AreGiven, AreOptions, names_of, found_in, faults_in}
 use Rattle.demangle_command.specs.Json.{answer_by}
-use Rattle.demangle_command.specs.Names.{AnswersNames, NamesFront, summary_if, status_of}
-use Rattle.demangle_command.specs.Style.{styled_answer}
-use Rattle.demangle_command.specs.declared.options.Options.{Options}
-use Rattle.demangle_command.specs.declared.style.Style.{Style}
+use Rattle.demangle_names.specs.Names.{AnswersNames, NamesFront, status_of}
+use Rattle.demangle_command.specs.Styled.{styled_answer}
+use Rattle.demangle_names.specs.declared.options.Options.{Options}
+use Rattle.demangle_names.specs.declared.style.Style.{Style}
 
 -- what is answered for symbols, escaped where texts go into JSON
 abbrev pub answers_by : (json : Bool) → Style → ℕ → Detail → Answering
@@ -26,6 +27,11 @@ abbrev pub answers_of : Options → Answering
 answers_of options = answers_by options.json options.style options.limit options.detail
 
 -- ## An input
+
+-- what is said of an input that was filtered, where that is asked
+abbrev pub summary_if : Bool → Tally → List ℕ
+summary_if true tally = codes "demangle: " ++ (decimal tally.refused ++ (codes " of " ++ (decimal tally.words ++ (codes " symbols stay" ++ 10 ∷ []))))
+summary_if false tally = []
 
 -- It was filtered to its end, and then it was said how much stays, where that is asked.
 pub record FiltersInput (answers : Answering) (why strict : Bool) (coming coming' out out' err err' : Option (List ℕ)) (status : ℕ) : Type 0 where

@@ -1,13 +1,13 @@
 -- The command line: which options there are, what they ask, and what its parser finds in its words.
 use Rattle.std.specs.Prelude.{◌≡◌, List, [], ◌∷◌, Bool, true, Option, Some, None, codes, unwrap_or}
 use Rattle.clap.specs.Lexer.{usize_max}
-use Rattle.clap.specs.Words.{Text, Rule, Row, App, Kinds, new_rule, new_app, matches_of, fault_of, first_of, all_of}
+use Rattle.clap.specs.Words.{Text, Rule, Row, App, Kinds, new_rule, new_app, with_rule, matches_of, fault_of, first_of, all_of}
 use Rattle.clap.specs.declared.builder.action.ArgAction.TheVariants.{Append, Version}
 use Rattle.sym_command.specs.CommandLine.{flag, limit, detail_by, IsFlag, IsLimit}
-use Rattle.demangle_command.specs.Style.{IsStyle}
-use Rattle.demangle_command.specs.declared.style.Style.{Style}
-use Rattle.demangle_command.specs.declared.style.Style.TheVariants.{Auto}
-use Rattle.demangle_command.specs.declared.options.Options.{Options}
+use Rattle.demangle_names.specs.Style.{IsStyle}
+use Rattle.demangle_names.specs.declared.style.Style.{Style}
+use Rattle.demangle_names.specs.declared.style.Style.TheVariants.{Auto}
+use Rattle.demangle_names.specs.declared.options.Options.{Options}
 
 -- ## What the parser is told
 
@@ -47,6 +47,14 @@ name_arguments = record (new_rule (codes "NAME")) {
   action = Some Append;
   range = Some (record { start_inclusive = 0; end_inclusive = usize_max });
 }
+
+-- with the options on which names have a text, and what of it is shown
+abbrev pub with_texts : App → App
+with_texts app = with_rule (with_rule (with_rule (with_rule (with_rule app no_params) (flag (codes "brief"))) types) limit) style_option
+
+-- with those on how texts are written, and on what is said of names that are left
+abbrev pub with_reports : App → App
+with_reports app = with_rule (with_rule (with_rule app (flag (codes "json"))) (flag (codes "why"))) (flag (codes "strict"))
 
 -- The program's command line. Its parser adds help. An option may be given again.
 unfoldable pub command_line : App

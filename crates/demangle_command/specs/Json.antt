@@ -1,14 +1,7 @@
--- Texts within strings of JSON.
-use Rattle.std.specs.Prelude.{ℕ, List, [], ◌∷◌, Bool, true, false, ◌==◌, ◌||◌, Result, Ok, Err, if◌then◌else◌}
-use Rattle.std.specs.List.{flat_map}
+-- What is answered where texts go into strings of JSON.
+use Rattle.std.specs.Prelude.{ℕ, List, Bool, true, false, Result, Ok, Err}
 use Rattle.sym_core.specs.declared.refusal.Refusal.{Refusal}
-
--- a quote and a backslash have a backslash before them
-abbrev pub escaped_byte : ℕ → List ℕ
-escaped_byte byte = if byte == 34 || byte == 92 then 92 ∷ byte ∷ [] else byte ∷ []
-
-abbrev pub escaped : List ℕ → List ℕ
-escaped text = flat_map escaped_byte text
+use Rattle.demangle_names.specs.Escaped.{escaped}
 
 -- what is answered with its text escaped
 abbrev pub escaped_answer : Result (List ℕ) Refusal → Result (List ℕ) Refusal

@@ -2,6 +2,4 @@ pub mod ArgumentFiles
 pub mod Command
 pub mod CommandLine
 pub mod Json
-pub mod Names
-pub mod Style
-pub mod Types
+pub mod Styled

@@ -5,25 +5,19 @@ ghost use Rattle.clap.specs.Words.{found_of, kind_of, rows_of};
 ghost use Rattle.clap.specs.declared.error.kind.ErrorKind.{ErrorKind as ErrorKind-type};
 ghost use Rattle.sym_filter.specs.Streams.{PutsFront, reader_faults, writer_faults};
 ghost use Rattle.sym_command.specs.Command.{Took, Says};
-ghost use Rattle.demangle_command.specs.Command.{answers_of, Ends, Stops, EndsOf, StopsOf, FiltersInput, FiltersInputFront, IsTold, is_request};
-ghost use Rattle.demangle_command.specs.Names.{status_of, summary_if};
+ghost use Rattle.demangle_command.specs.Command.{answers_of, Ends, Stops, EndsOf, StopsOf, FiltersInput, FiltersInputFront, IsTold, is_request, summary_if};
+ghost use Rattle.demangle_names.specs.Names.{status_of};
 
 use crate::json::Json;
-use crate::names::answer_names;
-use crate::options::{Options, found_in, names_of, options_of};
+use crate::options::{found_in, names_of, options_of};
 use crate::styled::Styled;
 use clap::error::ErrorKind;
 use clap::{ArgMatches, Error};
+use demangle_names::{DONE, Options, answer_names, status_of};
 use std::alloc::Global;
 use sym_command::WRONG_USE;
 use sym_filter::{Demangler, FilterFault, Letters, Sink, Source, Tally, filter_words, write_all};
 use sym_languages::{Languages, Wide};
-
-/// The status where the command line did what it asks.
-const DONE: u8 = 0;
-
-/// The status where a name is left, and none may be.
-const LEFT: u8 = 1;
 
 /// Runs the program over an input and two outputs: writes the line of each name with its symbols replaced, or filters the input where
 /// there is no name. The words are those of the command line, the program's name first, and the result is the status.
@@ -186,16 +180,6 @@ fn refuse_style<E: Sink>(
         "demangle: {name} is no style of names that is read: auto, gnu-v3, rust or none\n"
     )?;
     end_with(err, line.as_bytes(), WRONG_USE)
-}
-
-/// The status where a name is left, or none.
-fn status_of(strict: bool, one_stays: bool) -> u8
-    ensures { result ≡ status_of strict one_stays }
-{
-    if strict && one_stays {
-        return LEFT;
-    }
-    DONE
 }
 
 /// Filters an input, says how much of it stays where that is asked, and answers the status.

@@ -1,10 +1,10 @@
-// Texts within strings of JSON.
-ghost use Rattle.std.specs.Prelude.{◌≡◌, ◌++◌, ℕ, List, OnOk, OnErr};
-ghost use Rattle.demangle_command.specs.Json.{answer_by, escaped, escaped_byte};
-ghost use Rattle.demangle_command.specs.Style.{styled_answer};
+// The demangler whose texts may stand within strings of JSON.
+ghost use Rattle.demangle_command.specs.Json.{answer_by};
+ghost use Rattle.demangle_command.specs.Styled.{styled_answer};
 ghost use Rattle.sym_languages.specs.Languages.{AreWideCountsOf};
 
 use crate::styled::Styled;
+use demangle_names::push_escaped;
 use std::alloc::{AllocError, Global};
 use sym_core::Refusal;
 use sym_filter::{Demangled, Demangler, Kind, Lang};
@@ -90,31 +90,4 @@ impl Demangler for Json {
             Err(refusal) => Err(refusal),
         }
     }
-}
-
-/// Appends a text as a string of JSON has it, or nothing: with a backslash before each quote and backslash.
-pub fn push_escaped(text: &[u8], out: &mut Vec<u8>) -> Result<(), AllocError>
-    ensures pushed { OnOk result (out.new.items ≡ out.old.items ++ escaped text.now) }
-    ensures same { OnErr result (out.new.items ≡ out.old.items) }
-{
-    let len = out.len();
-    'bytes: for byte in text {
-        if push_byte(*byte, out).is_err() {
-            out.truncate(len);
-            return Err(AllocError);
-        }
-    }
-    Ok(())
-}
-
-/// Appends a byte as a string of JSON has it, or a front of that.
-fn push_byte(byte: u8, out: &mut Vec<u8>) -> Result<(), AllocError>
-    ensures pushed { OnOk result (out.new.items ≡ out.old.items ++ escaped_byte byte) }
-    ensures front { OnErr result ((front : List ℕ) × (out.new.items ≡ out.old.items ++ front)) }
-{
-    if byte == b'"' || byte == b'\\' {
-        out.push(b'\\')?;
-    }
-    out.push(byte)?;
-    Ok(())
 }

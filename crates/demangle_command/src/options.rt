@@ -1,13 +1,12 @@
 // The options of a command line, and its names.
 ghost use Rattle.std.specs.Prelude.{◌≡◌, IfOk, false, map};
 ghost use Rattle.clap.specs.Words.{FailsBy, found_of, rows_of, matches_of, fault_of, app_of, rule_of, with_rule};
-ghost use Rattle.demangle_command.specs.CommandLine.{command_line, no_params, style_option, types, version_flag, version_option, taken_option, taken_options, name_arguments, AreOptions, IsAskedStyle, names_of};
+ghost use Rattle.demangle_command.specs.CommandLine.{command_line, no_params, style_option, types, version_flag, version_option, taken_option, taken_options, name_arguments, with_reports, with_texts, AreOptions, IsAskedStyle, names_of};
 
-use crate::style::{Style, style_of};
 use clap::{Arg, ArgAction, ArgMatches, Command, Error};
+use demangle_names::{Options, Style, style_of};
 use std::alloc::{AllocError, Global};
 use sym_command::{detail_of, flag, has_flag, limit, limit_of, with_flag};
-use sym_print::Detail;
 
 const VERSION: &str =
     "0.1.0 (C++ by the Itanium ABI 5.1, Rust v0 by RFC 2603, and legacy Rust names)";
@@ -42,23 +41,6 @@ Examples:
   perf script --no-demangle | demangle --no-params --brief
   demangle _ZN3foo3barEi";
 
-/// How names are answered.
-#[derive(Clone, Copy, Debug, PartialEq, Eq)]
-pub struct Options {
-    /// The greatest cost of a text.
-    pub limit: u32,
-    pub detail: Detail,
-    pub style: Style,
-    /// Whether texts are escaped as within strings of JSON.
-    pub json: bool,
-    /// Whether names are read as types, too.
-    pub types: bool,
-    /// Whether it is said why a name stays.
-    pub why: bool,
-    /// Whether the status is 1 where one stays.
-    pub strict: bool,
-}
-
 /// The options and names that the words of a command line have, the program's name first.
 pub(crate) fn found_in<'a>(alloc: Global, words: &'a [&'a str]) -> Result<ArgMatches<'a>, Error>
     ensures found { IfOk result (λ matches. rows_of (found_of matches) ≡ matches_of command_line (map (λ word. word.now) words.entry.now)) }
@@ -77,19 +59,33 @@ fn command_line<'a>(alloc: Global) -> Result<Command<'a>, AllocError>
         .disable_version_flag(true)
         .args_override_self(true)
         .about(ABOUT)
-        .after_help(EXAMPLES)
-        .arg(no_params(alloc))?;
-    let command = with_flag(alloc, command, "brief", BRIEF)?;
-    let command = command
-        .arg(types(alloc))?
-        .arg(limit(alloc))?
-        .arg(style_option(alloc))?;
-    let command = with_flag(alloc, command, "json", JSON)?;
-    let command = with_flag(alloc, command, "why", WHY)?;
-    let command = with_flag(alloc, command, "strict", STRICT)?;
+        .after_help(EXAMPLES);
+    let command = with_texts(alloc, command)?;
+    let command = with_reports(alloc, command)?;
     let command = with_version(alloc, command)?;
     let command = with_taken(alloc, command)?;
     command.arg(name_arguments(alloc))
+}
+
+/// A command line with the options on which names have a text, and what of it is shown.
+fn with_texts<'a>(alloc: Global, command: Command<'a>) -> Result<Command<'a>, AllocError>
+    ensures { IfOk result (λ with_them. app_of with_them ≡ with_texts (app_of command.entry)) }
+{
+    let command = command.arg(no_params(alloc))?;
+    let command = with_flag(alloc, command, "brief", BRIEF)?;
+    command
+        .arg(types(alloc))?
+        .arg(limit(alloc))?
+        .arg(style_option(alloc))
+}
+
+/// A command line with the options on how texts are written, and on what is said of names that are left.
+fn with_reports<'a>(alloc: Global, command: Command<'a>) -> Result<Command<'a>, AllocError>
+    ensures { IfOk result (λ with_them. app_of with_them ≡ with_reports (app_of command.entry)) }
+{
+    let json = with_flag(alloc, command, "json", JSON)?;
+    let why = with_flag(alloc, json, "why", WHY)?;
+    with_flag(alloc, why, "strict", STRICT)
 }
 
 /// A command line with the option for the version.

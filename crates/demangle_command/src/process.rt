@@ -1,11 +1,13 @@
 // The program: names on the command line, or standard input filtered to standard output.
+ghost use Rattle.std.specs.Prelude.{◌-◌, ◌^◌, ◌<◌};
+
 use crate::argument_files::words_in;
 use crate::command::run_over;
-use std::alloc::AllocError;
+use std::alloc::{AllocError, Global};
 use std::rt::{Env, Files};
 use std::{fs, io};
 use sym_command::{WRONG_USE, called_with, fault};
-use sym_filter::{FilterFault, ReaderSource, WriterSink, write_all};
+use sym_filter::{FilterFault, ReaderSource, Sink, Source, WriterSink, write_all};
 
 /// What the program calls itself.
 const NAME: &str = "demangle";
@@ -29,19 +31,38 @@ fn run_on_streams<R: Env + Files + Input + Print + AllocGlobal, E: Print>(
     let Some(arguments) = called_with(rt, NAME, &mut err)? else {
         return Ok(WRONG_USE);
     };
-    let words = match with_files(rt, arguments)? {
-        Words::All(words) => words,
-        Words::NotText(argument) => {
-            let line = format!(in rt.alloc(); "{NAME}: {argument}: not valid UTF-8\n")?;
-            write_all(&mut err, line.as_bytes())?;
-            return Ok(WRONG_USE);
-        }
-    };
-    let mut texts = Vec::with_capacity(rt.alloc(), words.len())?;
-    for word in &words {
+    match with_files(rt, arguments)? {
+        Words::All(words) => run_words(rt.alloc(), &words, &mut input, &mut out, &mut err),
+        Words::NotText(argument) => refuse_file(rt.alloc(), &argument, &mut err),
+    }
+}
+
+/// Runs the program on words.
+fn run_words<S: Source, W: Sink, E: Sink>(
+    alloc: Global,
+    words: &[String],
+    input: &mut S,
+    out: &mut W,
+    err: &mut E,
+) -> Result<u8, FilterFault>
+    requires in_failures { S.failure_count input.old < 2 ^ 64 - 1 }
+    requires out_failures { W.failure_count out.old < 2 ^ 64 - 1 }
+    requires err_failures { E.failure_count err.old < 2 ^ 64 - 1 }
+{
+    let mut texts = Vec::with_capacity(alloc, words.len())?;
+    for word in words {
         texts.push(word.as_str())?;
     }
-    run_over(rt.alloc(), texts.as_slice(), &mut input, &mut out, &mut err)
+    run_over(alloc, texts.as_slice(), input, out, err)
+}
+
+/// Names an argument whose file has a word that isn't valid UTF-8, and answers the status.
+fn refuse_file<E: Sink>(alloc: Global, argument: &str, err: &mut E) -> Result<u8, FilterFault>
+    requires { E.failure_count err.old < 2 ^ 64 - 1 }
+{
+    let line = format!(in alloc; "{NAME}: {argument}: not valid UTF-8\n")?;
+    write_all(err, line.as_bytes())?;
+    Ok(WRONG_USE)
 }
 
 /// The words of arguments.

@@ -1,8 +1,8 @@
 // The demangler over both manglings, where a style may leave symbols out.
-ghost use Rattle.demangle_command.specs.Style.{styled_answer};
+ghost use Rattle.demangle_command.specs.Styled.{styled_answer};
 ghost use Rattle.sym_languages.specs.Languages.{AreWideCountsOf};
 
-use crate::style::Style;
+use demangle_names::Style;
 use std::alloc::{AllocError, Global};
 use sym_core::Refusal;
 use sym_filter::{Demangled, Demangler, Kind, Lang};

@@ -9,11 +9,6 @@ use rust_v0::{Detail, Reader, Symbol, V0, Workspace, demangle, read_fed};
 use std::alloc::Global;
 use sym_core::{Refusal, fits};
 
-#[cfg(test)]
-mod cpp_tests;
-#[cfg(test)]
-mod tests;
-
 /// The text of a symbol.
 pub fn text(alloc: Global, symbol: &[u8]) -> Result<Vec<u8>, Refusal>
     requires { FitsSymbol symbol.now }

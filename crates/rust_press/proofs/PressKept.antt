@@ -23,57 +23,57 @@ use Rattle.rust_press.proofs.PressTokens.{Makes, Ends, name-at, disambiguator_va
 
 -- ## What the parts of a rule make
 
-abbrev arguments_values : tree.Arguments → List Value
+abbrev pub arguments_values : tree.Arguments → List Value
 arguments_values tree.no_arguments = []
 arguments_values arguments = value.some_arguments arguments ∷ []
 
-abbrev bindings_values : tree.Bindings → List Value
+abbrev pub bindings_values : tree.Bindings → List Value
 bindings_values tree.no_bindings = []
 bindings_values bindings = value.some_bindings bindings ∷ []
 
-crate-means : (d : ℕ) (name : tree.Name) → (at : At) → meaning rules.Crate at (identifier_values d name) ≡ ends at (value.a_path (tree.crate_root (record { disambiguator = d; name = name })))
+pub crate-means : (d : ℕ) (name : tree.Name) → (at : At) → meaning rules.Crate at (identifier_values d name) ≡ ends at (value.a_path (tree.crate_root (record { disambiguator = d; name = name })))
 crate-means zero name at = refl
 crate-means (suc n) name at = refl
 
-inherent-means : (d : ℕ) (path : tree.Path) (t : tree.Ty) (vs : List Value) → IsTypeValue t vs → (at : At) → meaning rules.InherentImpl at ((disambiguator_values d ++ value.a_path path ∷ []) ++ vs) ≡ ends at (value.a_path (tree.inherent_impl d path t))
+pub inherent-means : (d : ℕ) (path : tree.Path) (t : tree.Ty) (vs : List Value) → IsTypeValue t vs → (at : At) → meaning rules.InherentImpl at ((disambiguator_values d ++ value.a_path path ∷ []) ++ vs) ≡ ends at (value.a_path (tree.inherent_impl d path t))
 inherent-means zero path t vs (inl e) at = rw e refl
 inherent-means zero path t vs (inr p) at = rw (p.1, p.2) refl
 inherent-means (suc n) path t vs (inl e) at = rw e refl
 inherent-means (suc n) path t vs (inr p) at = rw (p.1, p.2) refl
 
-trait-means : (d : ℕ) (path : tree.Path) (t : tree.Ty) (r : tree.Path) (vs : List Value) → IsTypeValue t vs → (at : At) → meaning rules.TraitImpl at (((disambiguator_values d ++ value.a_path path ∷ []) ++ vs) ++ value.a_path r ∷ []) ≡ ends at (value.a_path (tree.trait_impl d path t r))
+pub trait-means : (d : ℕ) (path : tree.Path) (t : tree.Ty) (r : tree.Path) (vs : List Value) → IsTypeValue t vs → (at : At) → meaning rules.TraitImpl at (((disambiguator_values d ++ value.a_path path ∷ []) ++ vs) ++ value.a_path r ∷ []) ≡ ends at (value.a_path (tree.trait_impl d path t r))
 trait-means zero path t r vs (inl e) at = rw e refl
 trait-means zero path t r vs (inr p) at = rw (p.1, p.2) refl
 trait-means (suc n) path t r vs (inl e) at = rw e refl
 trait-means (suc n) path t r vs (inr p) at = rw (p.1, p.2) refl
 
-definition-means : (t : tree.Ty) (r : tree.Path) (vs : List Value) → IsTypeValue t vs → (at : At) → meaning rules.TraitDefinition at (vs ++ value.a_path r ∷ []) ≡ ends at (value.a_path (tree.trait_definition t r))
+pub definition-means : (t : tree.Ty) (r : tree.Path) (vs : List Value) → IsTypeValue t vs → (at : At) → meaning rules.TraitDefinition at (vs ++ value.a_path r ∷ []) ≡ ends at (value.a_path (tree.trait_definition t r))
 definition-means t r vs (inl e) at = rw e refl
 definition-means t r vs (inr p) at = rw (p.1, p.2) refl
 
-nested-means : (n : ℕ) (path : tree.Path) (d : ℕ) (name : tree.Name) → (at : At) → meaning rules.Nested at ((value.letter n ∷ value.a_path path ∷ []) ++ identifier_values d name) ≡ ends at (value.a_path (tree.nested n path (record { disambiguator = d; name = name })))
+pub nested-means : (n : ℕ) (path : tree.Path) (d : ℕ) (name : tree.Name) → (at : At) → meaning rules.Nested at ((value.letter n ∷ value.a_path path ∷ []) ++ identifier_values d name) ≡ ends at (value.a_path (tree.nested n path (record { disambiguator = d; name = name })))
 nested-means n path zero name at = refl
 nested-means n path (suc d) name at = refl
 
-generic-means : (path : tree.Path) (a : tree.Arguments) → (at : At) → meaning rules.Generic at (((value.a_path path ∷ []) ++ arguments_values a) ++ []) ≡ ends at (value.a_path (tree.generic path a))
+pub generic-means : (path : tree.Path) (a : tree.Arguments) → (at : At) → meaning rules.Generic at (((value.a_path path ∷ []) ++ arguments_values a) ++ []) ≡ ends at (value.a_path (tree.generic path a))
 generic-means path tree.no_arguments at = refl
 generic-means path (tree.lifetime_argument l a) at = refl
 generic-means path (tree.constant_argument k a) at = refl
 generic-means path (tree.type_argument t a) at = refl
 
-lifetime-argument-means : (n : ℕ) (a : tree.Arguments) → (at : At) → meaning rules.LifetimeArgument at ((value.a_lifetime n ∷ []) ++ arguments_values a) ≡ plain at (value.some_arguments (tree.lifetime_argument n a))
+pub lifetime-argument-means : (n : ℕ) (a : tree.Arguments) → (at : At) → meaning rules.LifetimeArgument at ((value.a_lifetime n ∷ []) ++ arguments_values a) ≡ plain at (value.some_arguments (tree.lifetime_argument n a))
 lifetime-argument-means n tree.no_arguments at = refl
 lifetime-argument-means n (tree.lifetime_argument l a) at = refl
 lifetime-argument-means n (tree.constant_argument k a) at = refl
 lifetime-argument-means n (tree.type_argument t a) at = refl
 
-constant-argument-means : (c : tree.Constant) (a : tree.Arguments) → (at : At) → meaning rules.ConstantArgument at ((value.a_constant c ∷ []) ++ arguments_values a) ≡ plain at (value.some_arguments (tree.constant_argument c a))
+pub constant-argument-means : (c : tree.Constant) (a : tree.Arguments) → (at : At) → meaning rules.ConstantArgument at ((value.a_constant c ∷ []) ++ arguments_values a) ≡ plain at (value.some_arguments (tree.constant_argument c a))
 constant-argument-means c tree.no_arguments at = refl
 constant-argument-means c (tree.lifetime_argument l a) at = refl
 constant-argument-means c (tree.constant_argument k a) at = refl
 constant-argument-means c (tree.type_argument t a) at = refl
 
-type-argument-means : (t : tree.Ty) (a : tree.Arguments) (vs : List Value) → IsTypeValue t vs → (at : At) → meaning rules.TypeArgument at (vs ++ arguments_values a) ≡ plain at (value.some_arguments (tree.type_argument t a))
+pub type-argument-means : (t : tree.Ty) (a : tree.Arguments) (vs : List Value) → IsTypeValue t vs → (at : At) → meaning rules.TypeArgument at (vs ++ arguments_values a) ≡ plain at (value.some_arguments (tree.type_argument t a))
 type-argument-means t tree.no_arguments vs (inl e) at = rw e refl
 type-argument-means t tree.no_arguments vs (inr p) at = rw (p.1, p.2) refl
 type-argument-means t (tree.lifetime_argument l a) vs (inl e) at = rw e refl
@@ -83,19 +83,19 @@ type-argument-means t (tree.constant_argument k a) vs (inr p) at = rw (p.1, p.2)
 type-argument-means t (tree.type_argument u a) vs (inl e) at = rw e refl
 type-argument-means t (tree.type_argument u a) vs (inr p) at = rw (p.1, p.2) refl
 
-array-means : (t : tree.Ty) (k : tree.Constant) (vs : List Value) → IsTypeValue t vs → (at : At) → meaning rules.Array at (vs ++ value.a_constant k ∷ []) ≡ ends at (value.a_type (tree.array t k))
+pub array-means : (t : tree.Ty) (k : tree.Constant) (vs : List Value) → IsTypeValue t vs → (at : At) → meaning rules.Array at (vs ++ value.a_constant k ∷ []) ≡ ends at (value.a_type (tree.array t k))
 array-means t k vs (inl e) at = rw e refl
 array-means t k vs (inr p) at = rw (p.1, p.2) refl
 
-slice-means : (t : tree.Ty) (vs : List Value) → IsTypeValue t vs → (at : At) → meaning rules.Slice at (vs) ≡ ends at (value.a_type (tree.slice t))
+pub slice-means : (t : tree.Ty) (vs : List Value) → IsTypeValue t vs → (at : At) → meaning rules.Slice at (vs) ≡ ends at (value.a_type (tree.slice t))
 slice-means t vs (inl e) at = rw e refl
 slice-means t vs (inr p) at = rw (p.1, p.2) refl
 
-const-means : (t : tree.Ty) (vs : List Value) → IsTypeValue t vs → (at : At) → meaning rules.ConstPointer at (vs) ≡ ends at (value.a_type (tree.const_pointer t))
+pub const-means : (t : tree.Ty) (vs : List Value) → IsTypeValue t vs → (at : At) → meaning rules.ConstPointer at (vs) ≡ ends at (value.a_type (tree.const_pointer t))
 const-means t vs (inl e) at = rw e refl
 const-means t vs (inr p) at = rw (p.1, p.2) refl
 
-mut-means : (t : tree.Ty) (vs : List Value) → IsTypeValue t vs → (at : At) → meaning rules.MutPointer at (vs) ≡ ends at (value.a_type (tree.mut_pointer t))
+pub mut-means : (t : tree.Ty) (vs : List Value) → IsTypeValue t vs → (at : At) → meaning rules.MutPointer at (vs) ≡ ends at (value.a_type (tree.mut_pointer t))
 mut-means t vs (inl e) at = rw e refl
 mut-means t vs (inr p) at = rw (p.1, p.2) refl
 
@@ -111,7 +111,7 @@ mutable-means zero t vs (inr p) at = rw (p.1, p.2) refl
 mutable-means (suc n) t vs (inl e) at = rw e refl
 mutable-means (suc n) t vs (inr p) at = rw (p.1, p.2) refl
 
-function-means : (n : ℕ) (u : Bool) (a : tree.Abi) (ts : tree.Tys) (t : tree.Ty) (vs : List Value) → IsTypeValue t vs → (at : At) → meaning rules.Function at ((((binder_values n ++ unsafe_values u) ++ abi_values a) ++ value.some_types ts ∷ []) ++ vs) ≡ ends at (value.a_type (tree.function n u a ts t))
+pub function-means : (n : ℕ) (u : Bool) (a : tree.Abi) (ts : tree.Tys) (t : tree.Ty) (vs : List Value) → IsTypeValue t vs → (at : At) → meaning rules.Function at ((((binder_values n ++ unsafe_values u) ++ abi_values a) ++ value.some_types ts ∷ []) ++ vs) ≡ ends at (value.a_type (tree.function n u a ts t))
 function-means zero true tree.rust_abi ts t vs (inl e) at = rw e refl
 function-means zero true tree.rust_abi ts t vs (inr p) at = rw (p.1, p.2) refl
 function-means zero true tree.c_abi ts t vs (inl e) at = rw e refl
@@ -137,22 +137,22 @@ function-means (suc n) false tree.c_abi ts t vs (inr p) at = rw (p.1, p.2) refl
 function-means (suc n) false (tree.named_abi m) ts t vs (inl e) at = rw e refl
 function-means (suc n) false (tree.named_abi m) ts t vs (inr p) at = rw (p.1, p.2) refl
 
-dyn-means : (n : ℕ) (bs : tree.Bounds) (l : ℕ) → (at : At) → meaning rules.Dyn at ((binder_values n ++ value.some_bounds bs ∷ []) ++ value.a_lifetime l ∷ []) ≡ ends at (value.a_type (tree.dyn n bs l))
+pub dyn-means : (n : ℕ) (bs : tree.Bounds) (l : ℕ) → (at : At) → meaning rules.Dyn at ((binder_values n ++ value.some_bounds bs ∷ []) ++ value.a_lifetime l ∷ []) ≡ ends at (value.a_type (tree.dyn n bs l))
 dyn-means zero bs l at = refl
 dyn-means (suc n) bs l at = refl
 
-tuple-means : (ts : tree.Tys) → (at : At) → meaning rules.Tuple at (value.some_types ts ∷ []) ≡ ends at (value.a_type (tree.tuple ts))
+pub tuple-means : (ts : tree.Tys) → (at : At) → meaning rules.Tuple at (value.some_types ts ∷ []) ≡ ends at (value.a_type (tree.tuple ts))
 tuple-means ts at = refl
 
-more-types-means : (t : tree.Ty) (ts : tree.Tys) (vs : List Value) → IsTypeValue t vs → (at : At) → meaning rules.TypesMore at (vs ++ value.some_types ts ∷ []) ≡ plain at (value.some_types (tree.more_types t ts))
+pub more-types-means : (t : tree.Ty) (ts : tree.Tys) (vs : List Value) → IsTypeValue t vs → (at : At) → meaning rules.TypesMore at (vs ++ value.some_types ts ∷ []) ≡ plain at (value.some_types (tree.more_types t ts))
 more-types-means t ts vs (inl e) at = rw e refl
 more-types-means t ts vs (inr p) at = rw (p.1, p.2) refl
 
-bounds-means : (path : tree.Path) (b : tree.Bindings) (rest : tree.Bounds) → (at : At) → meaning rules.BoundsMore at (((value.a_path path ∷ []) ++ bindings_values b) ++ value.some_bounds rest ∷ []) ≡ plain at (value.some_bounds (tree.more_bounds path b rest))
+pub bounds-means : (path : tree.Path) (b : tree.Bindings) (rest : tree.Bounds) → (at : At) → meaning rules.BoundsMore at (((value.a_path path ∷ []) ++ bindings_values b) ++ value.some_bounds rest ∷ []) ≡ plain at (value.some_bounds (tree.more_bounds path b rest))
 bounds-means path tree.no_bindings rest at = refl
 bounds-means path (tree.more_bindings m u bs) rest at = refl
 
-binding-means : (name : tree.Name) (t : tree.Ty) (b : tree.Bindings) (vs : List Value) → IsTypeValue t vs → (at : At) → meaning rules.Binding at (((value.a_name name ∷ []) ++ vs) ++ bindings_values b) ≡ plain at (value.some_bindings (tree.more_bindings name t b))
+pub binding-means : (name : tree.Name) (t : tree.Ty) (b : tree.Bindings) (vs : List Value) → IsTypeValue t vs → (at : At) → meaning rules.Binding at (((value.a_name name ∷ []) ++ vs) ++ bindings_values b) ≡ plain at (value.some_bindings (tree.more_bindings name t b))
 binding-means name t tree.no_bindings vs (inl e) at = rw e refl
 binding-means name t tree.no_bindings vs (inr p) at = rw (p.1, p.2) refl
 binding-means name t (tree.more_bindings m u bs) vs (inl e) at = rw e refl

@@ -19,7 +19,7 @@ use Rattle.rust_press.specs.Pressing.{digits62, digits16, separator}
 
 -- ## Base 62
 
-divides62 : Divides 62
+pub divides62 : Divides 62
 divides62 = record { joined = λ n. omega arith; rest = λ n. omega arith; fewer = λ n r less. omega (arith, less) }
 
 back62 : (d : ℕ) → d < 62 → digit_value Base62 (digit62 d) ≡ d

@@ -251,7 +251,7 @@ dyn-bounds-then : (outer n : ℕ) (Q : Found Value State → Type 0) (parts : Li
 dyn-bounds-then outer n Q (value.some_bounds i ∷ rest) f good more = more i rest good.0 good.1
 dyn-bounds-then outer n Q parts f good more = tt
 
-bounded-then : (Q : Found Value State → Type 0) (at : At) (limit n : ℕ) (f : ℕ → Meaning) → (n ≤ limit → Holds Q (f n)) → Holds Q (bounded at limit n >>= f)
+pub bounded-then : (Q : Found Value State → Type 0) (at : At) (limit n : ℕ) (f : ℕ → Meaning) → (n ≤ limit → Holds Q (f n)) → Holds Q (bounded at limit n >>= f)
 bounded-then Q at limit n f more = go (nat_le n limit) refl
   where
     go : (t : Bool) → nat_le n limit ≡ t → Holds Q ((if t then Ok n else Err (BadValue at.place)) >>= f)

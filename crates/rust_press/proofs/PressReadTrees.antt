@@ -55,7 +55,7 @@ after10-grows zero m w le = after10-least w m
 after10-grows (suc n) zero w le = absurd (omega (arith, le))
 after10-grows (suc n) (suc m) w le = after10-grows n m (w * 10 + 9) (omega (arith, le))
 
-digit10 : (d : ℕ) → is_digit_of Length d ≡ true → digit_value Length d ≤ 9
+pub digit10 : (d : ℕ) → is_digit_of Length d ≡ true → digit_value Length d ≤ 9
 digit10 d h = grind (arith, nat_tests)
 
 value-after10 : (v w : ℕ) (ds : List ℕ) → v ≤ w → AreDigits Length ds → value_onto Length v ds ≤ after10 w (length ds)
@@ -86,7 +86,7 @@ after62-grows zero m w le = after62-least w m
 after62-grows (suc n) zero w le = absurd (omega (arith, le))
 after62-grows (suc n) (suc m) w le = after62-grows n m (w * 62 + 61) (omega (arith, le))
 
-digit62 : (d : ℕ) → is_digit_of Base62 d ≡ true → digit_value Base62 d ≤ 61
+pub digit62 : (d : ℕ) → is_digit_of Base62 d ≡ true → digit_value Base62 d ≤ 61
 digit62 d h = grind (arith, nat_tests)
 
 value-after62 : (v w : ℕ) (ds : List ℕ) → v ≤ w → AreDigits Base62 ds → value_onto Base62 v ds ≤ after62 w (length ds)
@@ -375,7 +375,7 @@ none-spelled : (rest : Forest) → AreTrees v0_table [] rest → spell_all rest 
 none-spelled shape.nothing are = refl
 none-spelled (grown first rest) are = absurd are
 
-one-rule : {a b : Rule} → Some a ≡ Some b → a ≡ b
+pub one-rule : {a b : Rule} → Some a ≡ Some b → a ≡ b
 one-rule h = cc
 
 -- the rest of a suffix
@@ -507,7 +507,7 @@ suffix-read s place (branch rule taken parts) state front is-at is (takes, are) 
         front-dropped [] bytes = refl
         front-dropped (c ∷ cs) bytes = front-dropped cs bytes
 
-abbrev symbol_rule : Rule
+abbrev pub symbol_rule : Rule
 symbol_rule = taking rules.Symbol (Byte 82 ∷ Kind 1 ∷ Kind 2 ∷ Kind 3 ∷ [])
 
 -- a symbol of the one rule
@@ -544,21 +544,46 @@ four-parts (grown (fixed c) (grown a shape.nothing)) are = absurd are.1.1
 four-parts (grown (fixed c) (grown a (grown b shape.nothing))) are = absurd are.1.1.1
 four-parts (grown (fixed c) (grown a (grown b (grown d (grown e rest))))) are = absurd are.1.1.1.1
 
-whole-read : (rule : Rule) (taken : List ℕ) (parts : Forest) (byte : ℕ) (a b d : Shape) → rule ≡ symbol_rule → taken ≡ byte ∷ [] → parts ≡ grown (fixed 82) (grown a (grown b (grown d shape.nothing)))
-    → IsTree v0_table (Kind 1) a → IsTree v0_table (Kind 2) b → IsTree v0_table (Kind 3) d → Holds IsSpellableSymbol (unfolded (branch rule taken parts))
-whole-read rule taken parts byte a b d one two three a-is b-is d-is = rw (one, two, three) (rule-read byte a b d a-is b-is d-is)
+-- a whole symbol is its one rule over a path, maybe another one, and a suffix
+pub record IsWholeShape (tree : Shape) : Type 0 where
+  pub byte : ℕ
+  pub path : Shape
+  pub other : Shape
+  pub suffix : Shape
+  pub is : tree ≡ branch symbol_rule (byte ∷ []) (grown (fixed 82) (grown path (grown other (grown suffix shape.nothing))))
+  pub path_is : IsTree v0_table (Kind 1) path
+  pub other_is : IsTree v0_table (Kind 2) other
+  pub suffix_is : IsTree v0_table (Kind 3) suffix
 
--- each symbol that a shape of the grammar is read as can be spelled
-pub read-spellable : (tree : Shape) → IsTree v0_table (Kind 0) tree → Holds IsSpellableSymbol (unfolded tree)
-read-spellable empty is = cc
-read-spellable (token t) is = absurd is
-read-spellable (fixed c) is = absurd is
-read-spellable (branch rule taken parts) (takes, are) = go (in_ranges (each (codes "_")) takes.byte) takes.found
+whole-is : (rule : Rule) (taken : List ℕ) (parts : Forest) (byte : ℕ) (a b d : Shape) → rule ≡ symbol_rule → taken ≡ byte ∷ [] → parts ≡ grown (fixed 82) (grown a (grown b (grown d shape.nothing)))
+    → branch rule taken parts ≡ branch symbol_rule (byte ∷ []) (grown (fixed 82) (grown a (grown b (grown d shape.nothing))))
+whole-is rule taken parts byte a b d one two three = rw (one, two, three) refl
+
+pub whole-shape : (tree : Shape) → IsTree v0_table (Kind 0) tree → IsWholeShape tree
+whole-shape empty is = cc
+whole-shape (token t) is = absurd is
+whole-shape (fixed c) is = absurd is
+whole-shape (branch rule taken parts) (takes, are) = go (in_ranges (each (codes "_")) takes.byte) takes.found
   where
-    go : (t : Bool) → (if t then Some symbol_rule else None) ≡ Some rule → Holds IsSpellableSymbol (unfolded (branch rule taken parts))
+    go : (t : Bool) → (if t then Some symbol_rule else None) ≡ Some rule → IsWholeShape (branch rule taken parts)
     go false is = cc
     go true is =
         let trees : AreTrees v0_table (Byte 82 ∷ Kind 1 ∷ Kind 2 ∷ Kind 3 ∷ []) parts = subst (λ r. AreTrees v0_table (symbols_of r) parts) (sym (one-rule is)) are in
         let eats : rule.eats ≡ true = ap (λ r. r.eats) (sym (one-rule is)) in
         let four = four-parts parts trees in
-        whole-read rule taken parts takes.byte four.0 four.1 four.2 (sym (one-rule is)) (taken-byte rule.eats taken takes.byte takes.takes eats) four.3 four.4 four.5 four.6
+        record {
+          byte = takes.byte;
+          path = four.0;
+          other = four.1;
+          suffix = four.2;
+          is = whole-is rule taken parts takes.byte four.0 four.1 four.2 (sym (one-rule is)) (taken-byte rule.eats taken takes.byte takes.takes eats) four.3;
+          path_is = four.4;
+          other_is = four.5;
+          suffix_is = four.6;
+        }
+
+-- each symbol that a shape of the grammar is read as can be spelled
+pub read-spellable : (tree : Shape) → IsTree v0_table (Kind 0) tree → Holds IsSpellableSymbol (unfolded tree)
+read-spellable tree is =
+    let whole = whole-shape tree is in
+    rw whole.is (rule-read whole.byte whole.path whole.other whole.suffix whole.path_is whole.other_is whole.suffix_is)

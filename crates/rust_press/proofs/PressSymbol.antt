@@ -105,7 +105,7 @@ pub press-path-kept : (s : List ℕ) (bound : ℕ) → length s ≤ greatest_u64
 press-path-kept s bound fits inside minus path good closed =
     path-presses s bound inside minus 1 path (spell_path path) fits refl closed (path-kept s bound fits inside minus 1 paths-1 path good closed)
 
-abbrev other_values : Option tree.Path → List Value
+abbrev pub other_values : Option tree.Path → List Value
 other_values None = []
 other_values (Some path) = value.a_path path ∷ []
 

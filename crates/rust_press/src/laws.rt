@@ -1,6 +1,7 @@
 // What holds of pressed spellings, whatever spelling they were read from.
 ghost use Rattle.rust_press.specs.PressLaws.{PressedIsRead, PressedOnce};
 ghost use Rattle.rust_press.specs.Apart.{ComponentsAreApart};
+ghost use Rattle.rust_press.specs.Short.{PressedIsShort};
 ghost use Rattle.rust_press.specs.Subtrees.{ConstantsAreRead, PathsAreRead, TypesAreRead};
 
 /// What some Rust symbol stands for, pressed, is well shaped, and every shape that spells it stands for the same: no part, no
@@ -25,4 +26,9 @@ pub fn subtrees_are_read()
 /// No two paths, types or constants that pressing spells out are the same.
 pub fn components_are_apart()
     ensures { ComponentsAreApart }
+{}
+
+/// What a symbol that fits is read as has at most four pressed bytes for each byte of the symbol.
+pub fn pressed_is_short()
+    ensures { PressedIsShort }
 {}

@@ -10,6 +10,8 @@ ghost use Rattle.rust_press.specs.Numbers.{AreNumbers};
 ghost use Rattle.rust_press.specs.Spelled.{end};
 ghost use Rattle.rust_press.specs.Tasks.{ArePushed, IsNodeStep, placed, pressed_root};
 ghost use Rattle.rust_press.specs.OfRead.{HasFewComponents, pressed_symbol};
+ghost use Rattle.rust_press.specs.Short.{IsShort};
+ghost use Rattle.rust_v0.specs.Whole.{whole_of};
 
 use crate::numbering::numbers;
 use crate::spelling::{is_component, push_end, push_front, push_reference};
@@ -135,7 +137,8 @@ fn press_tasks(alloc: Global, symbol: &Symbol, numbering: &Numbers) -> Result<Ve
 /// equal to an earlier one is a reference to the first such one, and numbers and names have their shortest form. Symbols of
 /// one tree have one pressed spelling; disambiguators, the instantiating crate and the suffix are part of the tree.
 ///
-/// Each repeated part is compared by its number and spelled out at most once, however large the tree is.
+/// Each repeated part is compared by its number and spelled out at most once, however large the tree is. So there are at most 4
+/// bytes for each byte of the symbol.
 ///
 /// # Errors
 ///
@@ -143,6 +146,7 @@ fn press_tasks(alloc: Global, symbol: &Symbol, numbering: &Numbers) -> Result<Ve
 pub fn press_rust(alloc: Global, symbol: &Symbol) -> Result<Vec<u8>, Refusal>
     ensures pressed { IfOk result (λ out. out.items ≡ pressed_symbol symbol.now) }
     ensures components { IfOk result (λ _. HasFewComponents symbol.now) }
+    ensures short { IfOk result (λ out. IsShort (whole_of symbol.now) out.items) }
     ensures memory { IfErr result (λ e. e ≡ Memory) }
 {
     let numbering = numbers(alloc, symbol)?;

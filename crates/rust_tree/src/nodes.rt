@@ -11,6 +11,7 @@ ghost use Rattle.sym_core.specs.Token.{AreNameBytes};
 ghost use Rattle.sym_core.specs.Printed.{printed_name, signed_text, IsDecoded};
 
 use crate::node::{Arguments, Bindings, Bounds, Entry, Node, Path, Ty, Types, Whole};
+use rust_lifetimes::around_binder;
 use std::alloc::Global;
 use std::marker::Model;
 use sym_core::{Refusal, Span};
@@ -158,18 +159,17 @@ impl Nodes {
                 parameters,
                 returned,
                 ..
-            } => self
-                .stored_need(*parameters)
-                .max(self.stored_need(*returned))
-                .saturating_sub(*binder as u64),
+            } => {
+                let within = self
+                    .stored_need(*parameters)
+                    .max(self.stored_need(*returned));
+                around_binder(within, *binder as u64)
+            }
             Ty::Dyn {
                 binder,
                 bounds,
                 lifetime,
-            } => self
-                .stored_need(*bounds)
-                .saturating_sub(*binder as u64)
-                .max(*lifetime),
+            } => around_binder(self.stored_need(*bounds), *binder as u64).max(*lifetime),
         }
     }
 

@@ -16,6 +16,7 @@ use crate::node::Name;
 use crate::symbol::Symbol;
 use crate::texts;
 use itoa::Buffer;
+use rust_lifetimes::from_outermost;
 use sym_core::Span;
 use sym_print::{Item, Part, PartList};
 
@@ -219,7 +220,7 @@ impl Symbol {
     {
         match lifetime {
             0 => self.push_own(parts, b"'_", b"", b""),
-            _ => self.push_numbered(parts, bound.saturating_sub(lifetime)),
+            _ => self.push_numbered(parts, from_outermost(bound, lifetime)),
         }
     }
 

@@ -67,10 +67,10 @@ not-appended-ends answer skip buffer old new result refusal found err is told =
     refusal-ends refusal answer skip buffer found here.0 told
 
 -- a text that the short way wrote
-pub short-written : {W : Type 0} (m : Mangled W) (limit : ℕ) (symbol text shown buffer : List ℕ) (found : Ending) → AreBytes symbol → IsAnswer m Detail.Full symbol limit (Ok text)
-    → shown ≡ text → found ≡ written shown buffer → IsTextWritten (answer m Detail.Full symbol limit) buffer found
-short-written m limit symbol text shown buffer found bytes is same told =
-    (text, sym (is_answer m Detail.Full symbol limit (Ok text) bytes is), told ∙ ap (λ b. written b buffer) same)
+pub short-written : {W : Type 0} (m : Mangled W) (detail : Detail) (limit : ℕ) (symbol text shown buffer : List ℕ) (found : Ending) → AreBytes symbol
+    → IsAnswer m detail symbol limit (Ok text) → shown ≡ text → found ≡ written shown buffer → IsTextWritten (answer m detail symbol limit) buffer found
+short-written m detail limit symbol text shown buffer found bytes is same told =
+    (text, sym (is_answer m detail symbol limit (Ok text) bytes is), told ∙ ap (λ b. written b buffer) same)
 
 -- what the outcome of a call that may write a text says of a symbol with this answer
 abbrev Told : Result (List ℕ) Refusal → (old new : List ℕ) → Option Outcome → Type 0

@@ -1,5 +1,5 @@
 -- The lines of words.
-use Rattle.std.proofs.Common.{◌≡◌, ℕ, ◌+◌, ◌<◌, Bool, true, false, cond, ◌&&◌, List, [], ◌∷◌, ◌++◌, length, take, get_or, map, sym, ap, ◌∙◌, append_assoc, refl, subst, Bor, Some, None, Err, Result}
+use Rattle.std.proofs.Common.{◌≡◌, ℕ, ◌+◌, ◌<◌, Bool, true, false, cond, ◌&&◌, List, [], ◌∷◌, ◌++◌, length, take, get_or, map, sym, ap, ◌∙◌, append_assoc, refl, subst, Bor, Option, Some, None, Err, Result}
 use Rattle.std.specs.Prelude.{is_some, unwrap_or}
 use Rattle.std.specs.List.{list_all}
 use Rattle.std.proofs.lemmas.Bool.{false≢true}
@@ -12,7 +12,7 @@ use Rattle.sym_filter.specs.Kinds.{kind_of, symbol_of}
 use Rattle.sym_filter.specs.Runs.{Answering, is_read, text_for}
 use Rattle.sym_core.specs.declared.refusal.Refusal.TheVariants.{Malformed, BadReference, BadValue, TooLong, Memory}
 use Rattle.sym_core.specs.declared.counts.Counts.{Counts}
-use Rattle.sym_command.specs.Lines.{answer_for, is_read_word, line_of, counts_text, status_of, Counting, AreCountsFor, IsCountsLine, IsBehindLine, AreLines}
+use Rattle.sym_command.specs.Lines.{answer_for, is_read_word, line_of, counts_text, complaint_about, complaint_of, status_of, Counting, AreCountsFor, IsCountsLine, IsBehindLine, AreLines}
 
 pub answer_for-named : (answers : Answering) (word : List ℕ) (kind : Kind) (answer : Result (List ℕ) Refusal) → kind_of word ≡ Some kind → answers kind (symbol_of kind word) ≡ answer → answer_for answers word ≡ Some answer
 unfolding answer_for
@@ -32,8 +32,9 @@ pub word-line : (answers : Answering) (word bytes out mid new : List ℕ) → te
 word-line answers word bytes out mid new none same given pushed =
     pushed ∙ ap (λ (t : List ℕ). t ++ bytes ++ 10 ∷ []) given ∙ ap (λ (t : List ℕ). out ++ t ++ 10 ∷ []) same ∙ append_assoc out word (10 ∷ []) ∙ ap (λ o. out ++ (unwrap_or o word ++ 10 ∷ [])) (sym none)
 
-pub said-line : (err bytes said new : List ℕ) → bytes ≡ said → new ≡ err ++ bytes ++ 10 ∷ [] → new ≡ err ++ (said ++ 10 ∷ [])
-said-line err bytes said new same pushed = pushed ∙ append_assoc err bytes (10 ∷ []) ∙ ap (λ (t : List ℕ). err ++ (t ++ 10 ∷ [])) same
+-- what is said of a word, by what is answered for it
+pub complaint-line : (answers : Answering) (word err new : List ℕ) (answer : Option (Result (List ℕ) Refusal)) → answer_for answers word ≡ answer → new ≡ err ++ complaint_about word answer → new ≡ err ++ complaint_of answers word
+complaint-line answers word err new answer is said = said ∙ ap (λ a. err ++ complaint_about word a) (sym is)
 
 -- the words so far, with the next
 pub words-more : (words : List (Bor (List ℕ))) (i : ℕ) (d : Bor (List ℕ)) → i < length words → map (λ word. word.now) (take (i + 1) words) ≡ map (λ word. word.now) (take i words) ++ (get_or words i d).now ∷ []

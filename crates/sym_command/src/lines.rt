@@ -1,5 +1,5 @@
 // The lines of a word: its answer, and what is said of one that has no text.
-ghost use Rattle.std.specs.Prelude.{◌≡◌, ◌≢◌, List, ℕ, [], ◌∷◌, ◌++◌, ◌&&◌, OnOk, OnErr, IfOk, Some, is_some, string_bytes};
+ghost use Rattle.std.specs.Prelude.{◌≡◌, ◌≢◌, List, ℕ, [], ◌∷◌, ◌++◌, ◌&&◌, OnOk, OnErr, IfOk, Some, is_some, string_bytes, codes};
 ghost use Rattle.sym_filter.specs.Kinds.{kind_of};
 ghost use Rattle.sym_filter.specs.Runs.{text_for};
 ghost use Rattle.sym_filter.specs.Streams.{BeginsWith};
@@ -60,15 +60,55 @@ fn push_lines<D: Demangler>(
     ensures err { BeginsWith err.new.items err.old.items }
 {
     let Some(kind) = kind_of(word.as_bytes()) else {
-        push_line(out, word.as_bytes())?;
-        let complaint = format!(in alloc; "symfilt: {word}: not a symbol")?;
-        push_line(err, complaint.as_bytes())?;
+        push_unnamed(alloc, word, out, err)?;
         return Ok(false);
     };
-    if !stats {
-        let has_text = push_answer(alloc, demangler, lists, kind, word, out, err)?;
+    if stats {
+        let has_text = push_counted(alloc, demangler, lists, kind, word, out, err)?;
         return Ok(has_text);
     }
+    let has_text = push_answer(alloc, demangler, lists, kind, word, out, err)?;
+    Ok(has_text)
+}
+
+/// Appends a word that begins as no symbol does, and says so.
+fn push_unnamed(
+    alloc: Global,
+    word: &str,
+    out: &mut Vec<u8>,
+    err: &mut Vec<u8>,
+) -> Result<(), AllocError>
+    ensures line { OnOk result (out.new.items ≡ out.old.items ++ word.now ++ 10 ∷ []) }
+    ensures complaint { OnOk result (err.new.items ≡ err.old.items ++ (complaint_with word.now (codes "not a symbol") ++ 10 ∷ [])) }
+    ensures out { BeginsWith out.new.items out.old.items }
+    ensures err { BeginsWith err.new.items err.old.items }
+{
+    let complaint = format!(in alloc; "symfilt: {word}: not a symbol")?;
+    push_line(out, word.as_bytes())?;
+    push_line(err, complaint.as_bytes())?;
+    Ok(())
+}
+
+/// Appends the lines of a symbol with its counts, or a beginning of them, and says whether it has a text.
+fn push_counted<D: Demangler>(
+    alloc: Global,
+    demangler: &D,
+    lists: &mut D::Lists,
+    kind: Kind,
+    word: &str,
+    out: &mut Vec<u8>,
+    err: &mut Vec<u8>,
+) -> Result<bool, AllocError>
+    requires kind { kind_of word.now ≡ Some kind }
+    ensures line { OnOk result ((behind : List ℕ)
+        × (out.new.items ≡ out.old.items ++ line_of (D.answer demangler.now) word.now ++ behind)
+        × IsBehindLine (AreCountsFor (D.are_counts demangler.now) word.now) (is_read_word (answer_for (D.answer demangler.now) word.now)) behind) }
+    ensures complaint { OnOk result (err.new.items ≡ err.old.items ++ complaint_of (D.answer demangler.now) word.now) }
+    ensures has_text { IfOk result (λ has_text. has_text
+        ≡ is_some (text_for (D.answer demangler.now) word.now)) }
+    ensures out { BeginsWith out.new.items out.old.items }
+    ensures err { BeginsWith err.new.items err.old.items }
+{
     match demangler.demangle(lists, kind, kind.symbol_of(word.as_bytes()), out) {
         Demangled::Text(counts) => {
             out.push(b'\n')?;

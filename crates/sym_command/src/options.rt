@@ -1,5 +1,5 @@
 // The options of a command line, and its symbols.
-ghost use Rattle.std.specs.Prelude.{◌≡◌, IfOk, false, map};
+ghost use Rattle.std.specs.Prelude.{◌≡◌, IfOk, false, map, codes};
 ghost use Rattle.clap.specs.Words.{FailsBy, found_of, rows_of, matches_of, fault_of, app_of, rule_of, with_rule};
 ghost use Rattle.sym_command.specs.CommandLine.{command_line, flag, limit, symbols, AreOptions, IsFlag, IsLimit, detail_by, letters_by, asked_by, symbols_of, filtering_by};
 
@@ -90,10 +90,18 @@ fn command_line<'a>(alloc: Global) -> Result<Command<'a>, AllocError>
     let command = with_flag(alloc, command, "press", PRESS)?;
     let command = with_flag(alloc, command, "wide", WIDE)?;
     let command = with_flag(alloc, command, "legacy", LEGACY)?;
-    let command = with_flag(alloc, command, "brief", BRIEF)?;
-    let command = with_flag(alloc, command, "no-params", NO_PARAMS)?;
-    let command = with_flag(alloc, command, "ascii-words", ASCII_WORDS)?;
+    let command = with_details(alloc, command)?;
     command.arg(symbols(alloc))
+}
+
+/// A command line with the options on what of a text is shown, and on the letters of words.
+fn with_details<'a>(alloc: Global, command: Command<'a>) -> Result<Command<'a>, AllocError>
+    ensures { IfOk result (λ with_them. app_of with_them
+        ≡ with_rule (with_rule (with_rule (app_of command.entry) (flag (codes "brief"))) (flag (codes "no-params"))) (flag (codes "ascii-words"))) }
+{
+    let brief = with_flag(alloc, command, "brief", BRIEF)?;
+    let named = with_flag(alloc, brief, "no-params", NO_PARAMS)?;
+    with_flag(alloc, named, "ascii-words", ASCII_WORDS)
 }
 
 /// A command line with one option more, which takes no value.

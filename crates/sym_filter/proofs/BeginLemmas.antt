@@ -1,27 +1,18 @@
 -- Where the word of a run begins.
-use Rattle.std.proofs.Common.{◌≡◌, ℕ, ◌<◌, Bool, true, false, cond, eqb, leb, not, ◌&&◌, ◌||◌, List, [], ◌∷◌, ◌++◌, length, refl, sym, ap, ap₂, ◌∙◌, arith, None, filter}
+use Rattle.std.proofs.Common.{◌≡◌, ℕ, ◌<◌, Bool, true, false, cond, eqb, leb, not, ◌&&◌, List, [], ◌∷◌, ◌++◌, length, map, refl, sym, ap, ap₂, ◌∙◌, arith, None, filter}
 use Rattle.std.specs.List.{list_all}
 use Rattle.std.specs.Prelude.{is_some}
-use Rattle.std.proofs.lemmas.Bool.{and_parts, and_from, cond-true, cond-false, not-true, true≢false}
-use Rattle.std.proofs.lemmas.List.{append-nil}
+use Rattle.std.proofs.lemmas.Bool.{and_parts, and_from, and_left, cond-true, cond-false, not-true, true≢false}
 use Rattle.sym_filter.specs.declared.kinds.Letters.{Letters}
 use Rattle.sym_filter.specs.declared.kinds.Letters.TheVariants.{Any, Ascii, Within}
+use Rattle.sym_filter.specs.declared.places.Place.{Place}
+use Rattle.sym_filter.specs.Bytes.{is_byte_of}
 use Rattle.sym_filter.specs.Kinds.{kind_of}
-use Rattle.sym_filter.specs.Runs.{Answering, answers_at, begins_within, closes, first_run, from_word, is_begun, is_byte_of, is_named, later_runs, named_runs, replaced, replaced_at, with_later_runs, with_word, within, word_of, words_in}
+use Rattle.sym_filter.specs.Places.{START, begins_within, from_word, in_stretch, is_divider, may_begin, place_after, with_word}
+use Rattle.sym_filter.specs.Runs.{Answering, answers_at, changed, filtered_at, first_run, fits, is_begun, is_named, later_runs, named_in, named_words, replaced, replaced_at, with_later_runs, within, word_in, word_of, word_or_text, dots_behind}
 use Rattle.sym_filter.specs.Words.{named_of, rest_of}
-use Rattle.sym_filter.proofs.RunLemmas.{filter-front, first_run-append, kind_of-other, later_runs-append, replaced-unnamed}
-
--- ## Runs that begin with an underscore
-
-pub begun-more : (front more : List ℕ) → is_begun front ≡ true → 0 < length front → is_begun (front ++ more) ≡ true
-begun-more [] more h some = absurd (omega arith)
-begun-more (byte ∷ front) more h some = h
-
-pub replaced_at-begun : (letters : Letters) (answers : Answering) (run : List ℕ) → is_begun run ≡ true → replaced_at letters answers run ≡ replaced (answers_at letters answers) run
-replaced_at-begun Any answers run h = refl
-replaced_at-begun Ascii answers run h = refl
-replaced_at-begun Within answers [] h = sym (replaced-unnamed (within answers) [] refl)
-replaced_at-begun Within answers (byte ∷ run) h = cond-true (eqb byte 95) _ _ h
+use Rattle.sym_filter.proofs.PlainLemmas.{may_begin-after}
+use Rattle.sym_filter.proofs.RunLemmas.{kind_of-other, replaced-unnamed, word_of-word}
 
 pub answers-within : (letters : Letters) (answers : Answering) → begins_within letters ≡ true → answers_at letters answers ≡ within answers
 answers-within Any answers h = cc
@@ -33,39 +24,34 @@ answers-runs Any answers h = refl
 answers-runs Ascii answers h = refl
 answers-runs Within answers h = cc
 
--- a run from its word on
-abbrev pub word_run : Letters → List ℕ → List ℕ
-word_run Any run = run
-word_run Ascii run = run
-word_run Within run = from_word Within false run
+-- ## Runs that begin with an underscore
 
-pub word_run-begun : (letters : Letters) (run : List ℕ) → is_begun run ≡ true → word_run letters run ≡ run
-word_run-begun Any run h = refl
-word_run-begun Ascii run h = refl
-word_run-begun Within [] h = refl
-word_run-begun Within (byte ∷ run) h = cond-true (eqb byte 95) _ _ h
+pub begun-more : (front more : List ℕ) → is_begun front ≡ true → 0 < length front → is_begun (front ++ more) ≡ true
+begun-more [] more h some = absurd (omega arith)
+begun-more (byte ∷ front) more h some = h
 
-pub words_in-none : (letters : Letters) → words_in letters [] ≡ []
-words_in-none Any = refl
-words_in-none Ascii = refl
-words_in-none Within = refl
+pub with_word-begun : (letters : Letters) (change : Place → List ℕ → List ℕ) (place : Place) (run : List ℕ) → may_begin letters place ≡ true → is_begun run ≡ true → change place [] ≡ [] → with_word letters change place run ≡ change place run
+with_word-begun letters change place [] begins h nothing = sym nothing
+with_word-begun letters change place (byte ∷ run) begins h nothing = cond-true (may_begin letters place && eqb byte 95) _ _ (and_from _ _ begins h)
 
-pub words_in-first : (letters : Letters) (run : List ℕ) (runs : List (List ℕ)) → words_in letters (run ∷ runs) ≡ word_run letters run ∷ words_in letters runs
-words_in-first Any run runs = refl
-words_in-first Ascii run runs = refl
-words_in-first Within run runs = refl
+pub from_word-begun : (letters : Letters) (find : Place → List ℕ → List ℕ) (place : Place) (run : List ℕ) → may_begin letters place ≡ true → is_begun run ≡ true → find place [] ≡ [] → from_word letters find place run ≡ find place run
+from_word-begun letters find place [] begins h nothing = sym nothing
+from_word-begun letters find place (byte ∷ run) begins h nothing = cond-true (may_begin letters place && eqb byte 95) _ _ (and_from _ _ begins h)
 
-pub named-first : (run : List ℕ) (runs : List (List ℕ)) → kind_of (word_of run) ≡ None → filter is_named (run ∷ runs) ≡ filter is_named runs
+pub named-first : (word : List ℕ) (words : List (List ℕ)) → kind_of (word_of word) ≡ None → filter is_named (word ∷ words) ≡ filter is_named words
 unfolding is_named
-named-first run runs h = cond-false _ _ _ (ap is_some h)
+named-first word words h = cond-false _ _ _ (ap is_some h)
 
 -- ## Where a run's word begins, for all letters
 
--- a byte of no run closes nothing
-pub closes-other : (letters : Letters) (byte : ℕ) → is_byte_of letters byte ≡ false → closes letters byte ≡ false
-closes-other Any byte h = h
-closes-other Ascii byte h = h
-closes-other Within byte h = ap (λ (b : Bool). (b && not (leb 128 byte)) && not (eqb byte 46)) h
+-- a byte of no run is of no stretch
+in_stretch-other : (letters : Letters) (byte : ℕ) → is_byte_of letters byte ≡ false → in_stretch letters byte ≡ false
+in_stretch-other Any byte h = h
+in_stretch-other Ascii byte h = h
+in_stretch-other Within byte h = ap (λ (b : Bool). b && not (leb 128 byte)) h
+
+pub place-other : (letters : Letters) (place : Place) (byte : ℕ) → is_byte_of letters byte ≡ false → place_after letters place byte ≡ START
+place-other letters place byte h = cond-false (in_stretch letters byte) _ _ (in_stretch-other letters byte h)
 
 pub first_run-all : (letters : Letters) (text : List ℕ) → list_all (is_byte_of letters) (first_run letters text) ≡ true
 first_run-all letters [] = refl
@@ -75,111 +61,109 @@ first_run-all letters (byte ∷ text) = step (is_byte_of letters byte) refl (fir
     step true h more = and_from _ _ h more
     step false h more = refl
 
--- where words are runs each byte of a run closes, so that none begins behind it
-closed-stays : (letters : Letters) (change : List ℕ → List ℕ) → ((byte : ℕ) → closes letters byte ≡ is_byte_of letters byte) → (run : List ℕ) → list_all (is_byte_of letters) run ≡ true → with_word letters change true run ≡ run
-closed-stays letters change same [] h = refl
-closed-stays letters change same (byte ∷ run) h =
-    let parts = and_parts (is_byte_of letters byte) (list_all (is_byte_of letters) run) h in
-    ap (λ (t : List ℕ). byte ∷ t) (ap (λ (b : Bool). with_word letters change b run) (same byte ∙ parts.0) ∙ closed-stays letters change same run parts.1)
+-- where words are runs none begins behind a byte of a run
+closed-after : (letters : Letters) (place : Place) (byte : ℕ) → begins_within letters ≡ false → in_stretch letters byte ≡ true → may_begin letters (place_after letters place byte) ≡ false
+closed-after letters place byte runs h = may_begin-after letters place byte ∙ ap₂ (λ (a b : Bool). not (a && not (b && is_divider byte))) h runs
 
-closed-none : (letters : Letters) → ((byte : ℕ) → closes letters byte ≡ is_byte_of letters byte) → (run : List ℕ) → list_all (is_byte_of letters) run ≡ true → from_word letters true run ≡ []
-closed-none letters same [] h = refl
-closed-none letters same (byte ∷ run) h =
+closed-stays : (letters : Letters) (change : Place → List ℕ → List ℕ) (place : Place) → begins_within letters ≡ false → ((byte : ℕ) → in_stretch letters byte ≡ is_byte_of letters byte) → may_begin letters place ≡ false → (run : List ℕ) → list_all (is_byte_of letters) run ≡ true → with_word letters change place run ≡ run
+closed-stays letters change place runs same closed [] h = refl
+closed-stays letters change place runs same closed (byte ∷ run) h =
     let parts = and_parts (is_byte_of letters byte) (list_all (is_byte_of letters) run) h in
-    ap (λ (b : Bool). from_word letters b run) (same byte ∙ parts.0) ∙ closed-none letters same run parts.1
+    cond-false (may_begin letters place && eqb byte 95) _ _ (and_left (may_begin letters place) (eqb byte 95) closed)
+    ∙ ap (λ (t : List ℕ). byte ∷ t) (closed-stays letters change (place_after letters place byte) runs same (closed-after letters place byte runs (same byte ∙ parts.0)) run parts.1)
+
+closed-none : (letters : Letters) (find : Place → List ℕ → List ℕ) (place : Place) → begins_within letters ≡ false → ((byte : ℕ) → in_stretch letters byte ≡ is_byte_of letters byte) → may_begin letters place ≡ false → (run : List ℕ) → list_all (is_byte_of letters) run ≡ true → from_word letters find place run ≡ []
+closed-none letters find place runs same closed [] h = refl
+closed-none letters find place runs same closed (byte ∷ run) h =
+    let parts = and_parts (is_byte_of letters byte) (list_all (is_byte_of letters) run) h in
+    cond-false (may_begin letters place && eqb byte 95) _ _ (and_left (may_begin letters place) (eqb byte 95) closed)
+    ∙ closed-none letters find (place_after letters place byte) runs same (closed-after letters place byte runs (same byte ∙ parts.0)) run parts.1
 
 other_byte : (byte : ℕ) → eqb byte 95 ≡ false → byte ≡ 95 → ⊥
 other_byte byte h e = let is : eqb byte 95 ≡ true = ap (λ n. eqb n 95) e in true≢false (sym is ∙ h)
 
-run-replaced : (letters : Letters) (answers : Answering) → ((byte : ℕ) → closes letters byte ≡ is_byte_of letters byte) → (run : List ℕ) → list_all (is_byte_of letters) run ≡ true → replaced answers run ≡ with_word letters (replaced answers) false run
-run-replaced letters answers same [] h = replaced-unnamed answers [] refl
-run-replaced letters answers same (byte ∷ run) h = step (eqb byte 95) refl
+-- a word that is too long names no symbol
+too_long : (word : List ℕ) → fits word ≡ false → kind_of word ≡ None
+too_long word h = cond-false (fits word) _ _ h
+
+run-replaced : (letters : Letters) (answers : Answering) → begins_within letters ≡ false → ((byte : ℕ) → in_stretch letters byte ≡ is_byte_of letters byte) → ((run : List ℕ) → replaced answers run ≡ changed letters answers START run) → (run : List ℕ) → list_all (is_byte_of letters) run ≡ true → replaced answers run ≡ with_word letters (changed letters answers) START run
+run-replaced letters answers runs same are [] h = replaced-unnamed answers [] refl
+run-replaced letters answers runs same are (byte ∷ run) h = step (eqb byte 95) refl
   where
-    step : (b : Bool) → eqb byte 95 ≡ b → replaced answers (byte ∷ run) ≡ cond b (replaced answers (byte ∷ run)) (byte ∷ with_word letters (replaced answers) (closes letters byte) run)
-    step true e = refl
+    step : (b : Bool) → eqb byte 95 ≡ b → replaced answers (byte ∷ run) ≡ cond b (changed letters answers START (byte ∷ run)) (byte ∷ with_word letters (changed letters answers) (place_after letters START byte) run)
+    step true e = are (byte ∷ run)
     step false e =
         let parts = and_parts (is_byte_of letters byte) (list_all (is_byte_of letters) run) h in
         replaced-unnamed answers (byte ∷ run) (kind_of-other byte run (other_byte byte e))
-        ∙ ap (λ (t : List ℕ). byte ∷ t) (sym (ap (λ (b : Bool). with_word letters (replaced answers) b run) (same byte ∙ parts.0) ∙ closed-stays letters (replaced answers) same run parts.1))
+        ∙ ap (λ (t : List ℕ). byte ∷ t) (sym (closed-stays letters (changed letters answers) (place_after letters START byte) runs same (closed-after letters START byte runs (same byte ∙ parts.0)) run parts.1))
 
-pub replaced_at-is : (letters : Letters) (answers : Answering) (run : List ℕ) → list_all (is_byte_of letters) run ≡ true → replaced_at letters answers run ≡ with_word letters (replaced (answers_at letters answers)) false run
-replaced_at-is Any answers run h = run-replaced Any answers (λ byte. refl) run h
-replaced_at-is Ascii answers run h = run-replaced Ascii answers (λ byte. refl) run h
+replaced-is : (answers : Answering) (run : List ℕ) → replaced answers run ≡ word_or_text answers (word_of run) ++ dots_behind run
+unfolding replaced
+replaced-is answers run = refl
+
+changed-any : (answers : Answering) (run : List ℕ) → replaced answers run ≡ changed Any answers START run
+changed-any answers run = step (fits (word_of run)) refl
+  where
+    step : (b : Bool) → fits (word_of run) ≡ b → replaced answers run ≡ cond b (word_or_text answers (word_of run) ++ dots_behind run) run
+    step true e = replaced-is answers run
+    step false e = replaced-unnamed answers run (too_long (word_of run) e)
+
+changed-ascii : (answers : Answering) (run : List ℕ) → replaced answers run ≡ changed Ascii answers START run
+changed-ascii answers run = changed-any answers run
+
+pub replaced_at-is : (letters : Letters) (answers : Answering) (run : List ℕ) → list_all (is_byte_of letters) run ≡ true → replaced_at letters answers run ≡ with_word letters (changed letters answers) START run
+replaced_at-is Any answers run h = run-replaced Any answers refl (λ byte. refl) (changed-any answers) run h
+replaced_at-is Ascii answers run h = run-replaced Ascii answers refl (λ byte. refl) (changed-ascii answers) run h
 replaced_at-is Within answers run h = refl
 
-run-named : (letters : Letters) → ((byte : ℕ) → closes letters byte ≡ is_byte_of letters byte) → (run : List ℕ) (runs : List (List ℕ)) → list_all (is_byte_of letters) run ≡ true → filter is_named (run ∷ runs) ≡ filter is_named (from_word letters false run ∷ runs)
-run-named letters same [] runs h = refl
-run-named letters same (byte ∷ run) runs h = step (eqb byte 95) refl
+named-short : (run : List ℕ) (words : List (List ℕ)) → filter is_named (word_of run ∷ words) ≡ filter is_named (cond (fits (word_of run)) (word_of run) [] ∷ words)
+named-short run words = step (fits (word_of run)) refl
   where
-    step : (b : Bool) → eqb byte 95 ≡ b → filter is_named ((byte ∷ run) ∷ runs) ≡ filter is_named (cond b (byte ∷ run) (from_word letters (closes letters byte) run) ∷ runs)
+    step : (b : Bool) → fits (word_of run) ≡ b → filter is_named (word_of run ∷ words) ≡ filter is_named (cond b (word_of run) [] ∷ words)
     step true e = refl
+    step false e = named-first (word_of run) words (ap kind_of (word_of-word run) ∙ too_long (word_of run) e) ∙ sym (named-first [] words refl)
+
+run-named : (letters : Letters) → begins_within letters ≡ false → ((byte : ℕ) → in_stretch letters byte ≡ is_byte_of letters byte) → ((run : List ℕ) → named_in letters START run ≡ cond (fits (word_of run)) (word_of run) []) → (run : List ℕ) (words : List (List ℕ)) → list_all (is_byte_of letters) run ≡ true
+    → filter is_named (word_of run ∷ words) ≡ filter is_named (from_word letters (named_in letters) START run ∷ words)
+run-named letters runs same are [] words h = refl
+run-named letters runs same are (byte ∷ run) words h = step (eqb byte 95) refl
+  where
+    step : (b : Bool) → eqb byte 95 ≡ b → filter is_named (word_of (byte ∷ run) ∷ words) ≡ filter is_named (cond b (named_in letters START (byte ∷ run)) (from_word letters (named_in letters) (place_after letters START byte) run) ∷ words)
+    step true e = named-short (byte ∷ run) words ∙ ap (λ (t : List ℕ). filter is_named (t ∷ words)) (sym (are (byte ∷ run)))
     step false e =
         let parts = and_parts (is_byte_of letters byte) (list_all (is_byte_of letters) run) h in
-        named-first (byte ∷ run) runs (kind_of-other byte run (other_byte byte e))
-        ∙ sym (ap (λ (t : List ℕ). filter is_named (t ∷ runs)) (ap (λ (b : Bool). from_word letters b run) (same byte ∙ parts.0) ∙ closed-none letters same run parts.1) ∙ named-first [] runs refl)
+        named-first (word_of (byte ∷ run)) words (ap kind_of (word_of-word (byte ∷ run)) ∙ kind_of-other byte run (other_byte byte e))
+        ∙ sym (ap (λ (t : List ℕ). filter is_named (t ∷ words)) (closed-none letters (named_in letters) (place_after letters START byte) runs same (closed-after letters START byte runs (same byte ∙ parts.0)) run parts.1) ∙ named-first [] words refl)
 
-named-from : (letters : Letters) (run : List ℕ) (runs : List (List ℕ)) → list_all (is_byte_of letters) run ≡ true → filter is_named (word_run letters run ∷ runs) ≡ filter is_named (from_word letters false run ∷ runs)
-named-from Any run runs h = run-named Any (λ byte. refl) run runs h
-named-from Ascii run runs h = run-named Ascii (λ byte. refl) run runs h
-named-from Within run runs h = refl
+named-from : (letters : Letters) (run : List ℕ) (words : List (List ℕ)) → list_all (is_byte_of letters) run ≡ true → filter is_named (word_in letters run ∷ words) ≡ filter is_named (from_word letters (named_in letters) START run ∷ words)
+named-from Any run words h = run-named Any refl (λ byte. refl) (λ run. refl) run words h
+named-from Ascii run words h = run-named Ascii refl (λ byte. refl) (λ run. refl) run words h
+named-from Within run words h = refl
 
 -- ## What follows where nothing is held
 
-pub rest_of-is : (letters : Letters) (answers : Answering) (passes : Bool) (more : List ℕ) → rest_of letters answers [] false passes more ≡ with_word letters (replaced (answers_at letters answers)) passes (first_run letters more) ++ with_later_runs letters (replaced_at letters answers) more
-rest_of-is letters answers true more = refl
-rest_of-is letters answers false more = ap (λ (t : List ℕ). t ++ with_later_runs letters (replaced_at letters answers) more) (replaced_at-is letters answers (first_run letters more) (first_run-all letters more))
+-- where a run begins
+pub rest_of-start : (letters : Letters) (answers : Answering) (more : List ℕ) → rest_of letters answers [] false START more ≡ filtered_at letters answers more
+rest_of-start letters answers more = ap (λ (t : List ℕ). t ++ with_later_runs letters (replaced_at letters answers) more) (sym (replaced_at-is letters answers (first_run letters more) (first_run-all letters more)))
 
-pub named_of-is : (letters : Letters) (passes : Bool) (more : List ℕ) → named_of letters [] false passes more ≡ filter is_named (from_word letters passes (first_run letters more) ∷ words_in letters (later_runs letters more))
-named_of-is letters true more = refl
-named_of-is letters false more =
-    ap (filter is_named) (words_in-first letters (first_run letters more) (later_runs letters more)) ∙ named-from letters (first_run letters more) (words_in letters (later_runs letters more)) (first_run-all letters more)
-
-begins_no : (passes : Bool) (byte : ℕ) → (passes || not (eqb byte 95)) ≡ true → (not passes && eqb byte 95) ≡ false
-begins_no true byte h = refl
-begins_no false byte h = not-true (eqb byte 95) h
+pub named_of-start : (letters : Letters) (more : List ℕ) → named_of letters [] false START more ≡ named_words letters more
+named_of-start letters more = sym (named-from letters (first_run letters more) (map (word_in letters) (later_runs letters more)) (first_run-all letters more))
 
 -- one byte of a plain front
-pub plain-byte : (letters : Letters) (answers : Answering) (passes : Bool) (byte : ℕ) (more : List ℕ) (b : Bool) → is_byte_of letters byte ≡ b → (passes || not (eqb byte 95)) ≡ true → rest_of letters answers [] false passes (byte ∷ more) ≡ byte ∷ rest_of letters answers [] false (closes letters byte) more
-plain-byte letters answers passes byte more true h next =
-    let change = replaced (answers_at letters answers) in
-    rest_of-is letters answers passes (byte ∷ more)
-    ∙ ap₂ (λ (a b : List ℕ). with_word letters change passes a ++ b) (cond-true (is_byte_of letters byte) _ _ h) (cond-true (is_byte_of letters byte) _ _ h)
-    ∙ ap (λ (t : List ℕ). t ++ with_later_runs letters (replaced_at letters answers) more) (cond-false (not passes && eqb byte 95) (change (byte ∷ first_run letters more)) _ (begins_no passes byte next))
-    ∙ ap (λ (t : List ℕ). byte ∷ t) (sym (rest_of-is letters answers (closes letters byte) more))
-plain-byte letters answers passes byte more false h next =
-    let change = replaced (answers_at letters answers) in
-    rest_of-is letters answers passes (byte ∷ more)
-    ∙ ap₂ (λ (a b : List ℕ). with_word letters change passes a ++ b) (cond-false (is_byte_of letters byte) _ _ h) (cond-false (is_byte_of letters byte) _ _ h)
-    ∙ ap (λ (c : Bool). byte ∷ rest_of letters answers [] false c more) (sym (closes-other letters byte h))
+pub plain-byte : (letters : Letters) (answers : Answering) (place : Place) (byte : ℕ) (more : List ℕ) (b : Bool) → is_byte_of letters byte ≡ b → not (may_begin letters place && eqb byte 95) ≡ true → rest_of letters answers [] false place (byte ∷ more) ≡ byte ∷ rest_of letters answers [] false (place_after letters place byte) more
+plain-byte letters answers place byte more true h next =
+    let change = changed letters answers in
+    ap₂ (λ (a b : List ℕ). with_word letters change place a ++ b) (cond-true (is_byte_of letters byte) _ _ h) (cond-true (is_byte_of letters byte) _ _ h)
+    ∙ ap (λ (t : List ℕ). t ++ with_later_runs letters (replaced_at letters answers) more) (cond-false (may_begin letters place && eqb byte 95) (change place (byte ∷ first_run letters more)) _ (not-true (may_begin letters place && eqb byte 95) next))
+plain-byte letters answers place byte more false h next =
+    ap₂ (λ (a b : List ℕ). with_word letters (changed letters answers) place a ++ b) (cond-false (is_byte_of letters byte) _ _ h) (cond-false (is_byte_of letters byte) _ _ h)
+    ∙ ap (λ (t : List ℕ). byte ∷ t) (sym (rest_of-start letters answers more) ∙ ap (λ (p : Place). rest_of letters answers [] false p more) (sym (place-other letters place byte h)))
 
-pub named-byte : (letters : Letters) (passes : Bool) (byte : ℕ) (more : List ℕ) (b : Bool) → is_byte_of letters byte ≡ b → (passes || not (eqb byte 95)) ≡ true → named_of letters [] false passes (byte ∷ more) ≡ named_of letters [] false (closes letters byte) more
-named-byte letters passes byte more true h next =
-    named_of-is letters passes (byte ∷ more)
-    ∙ ap₂ (λ (a : List ℕ) (b : List (List ℕ)). filter is_named (from_word letters passes a ∷ words_in letters b)) (cond-true (is_byte_of letters byte) _ _ h) (cond-true (is_byte_of letters byte) _ _ h)
-    ∙ ap (λ (t : List ℕ). filter is_named (t ∷ words_in letters (later_runs letters more))) (cond-false (not passes && eqb byte 95) (byte ∷ first_run letters more) _ (begins_no passes byte next))
-    ∙ sym (named_of-is letters (closes letters byte) more)
-named-byte letters passes byte more false h next =
-    named_of-is letters passes (byte ∷ more)
-    ∙ ap₂ (λ (a : List ℕ) (b : List (List ℕ)). filter is_named (from_word letters passes a ∷ words_in letters b)) (cond-false (is_byte_of letters byte) _ _ h) (cond-false (is_byte_of letters byte) _ _ h)
-    ∙ named-first [] (words_in letters (first_run letters more ∷ later_runs letters more)) refl
-    ∙ ap (λ (c : Bool). named_of letters [] false c more) (sym (closes-other letters byte h))
-
--- ## The runs that are counted
-
-pub named_runs-ends : (letters : Letters) (run : List ℕ) (byte : ℕ) (more : List ℕ) → list_all (is_byte_of letters) run ≡ true → is_byte_of letters byte ≡ false → named_runs letters (run ++ (byte ∷ more)) ≡ filter is_named (word_run letters run ∷ []) ++ named_runs letters more
-named_runs-ends letters run byte more h other =
-    let first : first_run letters (run ++ (byte ∷ more)) ≡ run = first_run-append letters run (byte ∷ more) h ∙ ap (λ t. run ++ t) (cond-false (is_byte_of letters byte) _ _ other) ∙ append-nil run in
-    let later : later_runs letters (run ++ (byte ∷ more)) ≡ first_run letters more ∷ later_runs letters more = later_runs-append letters run (byte ∷ more) h ∙ cond-false (is_byte_of letters byte) _ _ other in
-    ap₂ (λ (a : List ℕ) (b : List (List ℕ)). filter is_named (words_in letters (a ∷ b))) first later
-    ∙ ap (filter is_named) (words_in-first letters run (first_run letters more ∷ later_runs letters more))
-    ∙ filter-front (word_run letters run) (named_runs letters more)
-
-pub named_runs-append : (letters : Letters) (run more : List ℕ) → list_all (is_byte_of letters) run ≡ true → named_runs letters (run ++ more) ≡ filter is_named (word_run letters (run ++ first_run letters more) ∷ words_in letters (later_runs letters more))
-named_runs-append letters run more h =
-    ap₂ (λ (a : List ℕ) (b : List (List ℕ)). filter is_named (words_in letters (a ∷ b))) (first_run-append letters run more h) (later_runs-append letters run more h)
-    ∙ ap (filter is_named) (words_in-first letters (run ++ first_run letters more) (later_runs letters more))
-
-pub named_runs-run : (letters : Letters) (run : List ℕ) → list_all (is_byte_of letters) run ≡ true → named_runs letters (run ++ []) ≡ filter is_named (word_run letters run ∷ [])
-named_runs-run letters run h =
-    named_runs-append letters run [] h
-    ∙ ap₂ (λ (t : List ℕ) (r : List (List ℕ)). filter is_named (word_run letters t ∷ r)) (append-nil run) (words_in-none letters)
+pub named-byte : (letters : Letters) (place : Place) (byte : ℕ) (more : List ℕ) (b : Bool) → is_byte_of letters byte ≡ b → not (may_begin letters place && eqb byte 95) ≡ true → named_of letters [] false place (byte ∷ more) ≡ named_of letters [] false (place_after letters place byte) more
+named-byte letters place byte more true h next =
+    ap₂ (λ (a : List ℕ) (b : List (List ℕ)). filter is_named (from_word letters (named_in letters) place a ∷ map (word_in letters) b)) (cond-true (is_byte_of letters byte) _ _ h) (cond-true (is_byte_of letters byte) _ _ h)
+    ∙ ap (λ (t : List ℕ). filter is_named (t ∷ map (word_in letters) (later_runs letters more))) (cond-false (may_begin letters place && eqb byte 95) (named_in letters place (byte ∷ first_run letters more)) _ (not-true (may_begin letters place && eqb byte 95) next))
+named-byte letters place byte more false h next =
+    ap₂ (λ (a : List ℕ) (b : List (List ℕ)). filter is_named (from_word letters (named_in letters) place a ∷ map (word_in letters) b)) (cond-false (is_byte_of letters byte) _ _ h) (cond-false (is_byte_of letters byte) _ _ h)
+    ∙ named-first [] (map (word_in letters) (first_run letters more ∷ later_runs letters more)) refl
+    ∙ sym (named_of-start letters more) ∙ ap (λ (p : Place). named_of letters [] false p more) (sym (place-other letters place byte h))

@@ -1,9 +1,11 @@
 -- The table of bytes is held against the definitions at each of the 256 bytes, by computing.
-use Rattle.std.proofs.Common.{◌≡◌, ℕ, ◌<◌, Bool, true, false, ◌&&◌, not, map, cond, eqb, get_or, leb, refl, ap, ◌∙◌, arith}
+use Rattle.std.proofs.Common.{◌≡◌, ℕ, ◌<◌, Bool, true, false, ◌&&◌, not, map, cond, get_or, leb, refl, sym, ap, ◌∙◌, arith}
 use Rattle.std.proofs.lemmas.List.FromFn.{get_or-map-range_with_len}
+use Rattle.std.proofs.Math.Bool.{and-true}
 use Rattle.std.specs.List.{range_with_len}
 use Rattle.sym_filter.specs.declared.kinds.Letters.TheVariants.{Any, Ascii, Within}
-use Rattle.sym_filter.specs.Runs.{is_run_byte, is_byte_of, closes}
+use Rattle.sym_filter.specs.Bytes.{is_run_byte, is_byte_of}
+use Rattle.sym_filter.specs.Places.{closes, is_divider}
 use Rattle.sym_filter.specs.declared.words.TheConstants.{RUN_BYTES}
 
 abbrev pub mark : ℕ → ℕ
@@ -16,7 +18,7 @@ table_is = refl
 pub read : (byte : ℕ) → byte < 256 → get_or RUN_BYTES byte 0 ≡ mark byte
 read byte h = ap (λ t. get_or t byte 0) table_is ∙ get_or-map-range_with_len mark 0 256 byte byte 0 h (omega arith)
 
--- a byte of runs, from 0x80 or not, a dot or not
+-- a byte of runs, from 0x80 or not, a divider or not
 of_any : (belongs high dot : Bool) → leb 49 (cond ((belongs && not high) && not dot) 51 (cond (belongs && not high) 50 (cond belongs 49 48))) ≡ belongs
 of_any true true true = refl
 of_any true true false = refl
@@ -39,10 +41,17 @@ of_closing true false false = refl
 of_closing false high dot = refl
 
 pub is_any : (byte : ℕ) → byte < 256 → leb 49 (get_or RUN_BYTES byte 0) ≡ is_byte_of Any byte
-is_any byte h = ap (leb 49) (read byte h) ∙ of_any (is_run_byte byte) (leb 128 byte) (eqb byte 46)
+is_any byte h = ap (leb 49) (read byte h) ∙ of_any (is_run_byte byte) (leb 128 byte) (is_divider byte)
 
 pub is_ascii : (byte : ℕ) → byte < 256 → leb 50 (get_or RUN_BYTES byte 0) ≡ is_byte_of Ascii byte
-is_ascii byte h = ap (leb 50) (read byte h) ∙ of_ascii (is_run_byte byte) (leb 128 byte) (eqb byte 46)
+is_ascii byte h = ap (leb 50) (read byte h) ∙ of_ascii (is_run_byte byte) (leb 128 byte) (is_divider byte)
+
+-- where words are runs
+pub any_closes : (byte : ℕ) → byte < 256 → leb 49 (get_or RUN_BYTES byte 0) ≡ closes Any byte
+any_closes byte h = is_any byte h ∙ sym (and-true (is_byte_of Any byte))
+
+pub ascii_closes : (byte : ℕ) → byte < 256 → leb 50 (get_or RUN_BYTES byte 0) ≡ closes Ascii byte
+ascii_closes byte h = is_ascii byte h ∙ sym (and-true (is_byte_of Ascii byte))
 
 pub is_closing : (byte : ℕ) → byte < 256 → leb 51 (get_or RUN_BYTES byte 0) ≡ closes Within byte
-is_closing byte h = ap (leb 51) (read byte h) ∙ of_closing (is_run_byte byte) (leb 128 byte) (eqb byte 46)
+is_closing byte h = ap (leb 51) (read byte h) ∙ of_closing (is_run_byte byte) (leb 128 byte) (is_divider byte)

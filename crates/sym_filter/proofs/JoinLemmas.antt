@@ -3,7 +3,8 @@ use Rattle.std.proofs.Common.{◌≡◌, ℕ, Bool, true, false, cond, List, [],
 use Rattle.std.proofs.lemmas.Bool.{cond-false}
 use Rattle.std.proofs.lemmas.List.{append_assoc}
 use Rattle.sym_filter.specs.declared.kinds.Letters.{Letters}
-use Rattle.sym_filter.specs.Runs.{is_byte_of, first_run, with_later_runs, with_runs, replaced_at}
+use Rattle.sym_filter.specs.Bytes.{is_byte_of}
+use Rattle.sym_filter.specs.Runs.{first_run, with_later_runs, with_runs, replaced_at}
 use Rattle.sym_filter.specs.Splits.{FilteredByJoinsAt}
 
 first_run-cut : (letters : Letters) (text : List ℕ) (byte : ℕ) (more : List ℕ) → is_byte_of letters byte ≡ false → first_run letters (text ++ (byte ∷ more)) ≡ first_run letters text

@@ -12,7 +12,7 @@ use lib.Lanes.{chunk, zip2, mask_l, top}
 use Rattle.sym_filter.specs.declared.kinds.Letters.{Letters}
 use Rattle.sym_filter.specs.declared.kinds.Letters.TheVariants.{Any, Ascii, Within}
 use Rattle.sym_filter.specs.Lanes.{first_set}
-use Rattle.sym_filter.specs.Runs.{is_byte_of, is_run_byte}
+use Rattle.sym_filter.specs.Bytes.{is_byte_of, is_run_byte}
 
 zip2-map : (h : ℕ → ℕ → ℕ) (f g : ℕ → ℕ) (xs : List ℕ) → zip2 h (map f xs) (map g xs) ≡ map (λ x. h (f x) (g x)) xs
 zip2-map h f g [] = refl

@@ -2,6 +2,8 @@ pub mod BeginLemmas
 pub mod ByteLemmas
 pub mod JoinLemmas
 pub mod LaneLemmas
+pub mod MarkLemmas
+pub mod NameLemmas
 pub mod PlainLemmas
 pub mod RunLemmas
 pub mod SplitLemmas

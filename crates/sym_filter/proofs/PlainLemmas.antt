@@ -1,59 +1,99 @@
--- Facts on plain fronts and on the words of runs' parts.
-use Rattle.std.proofs.Common.{◌≡◌, ℕ, ◌+◌, ◌-◌, ◌<◌, ◌≤◌, Bool, true, false, eqb, not, ◌||◌, List, [], ◌∷◌, ◌++◌, length, take, drop, get_or, refl, sym, ap, ◌∙◌, arith}
+-- Facts on places, on plain fronts and on the words of runs' parts.
+use Rattle.std.proofs.Common.{◌≡◌, ℕ, zero, suc, ◌+◌, ◌-◌, ◌<◌, ◌≤◌, Bool, true, false, cond, eqb, not, ◌&&◌, List, [], ◌∷◌, ◌++◌, length, take, drop, get_or, refl, sym, ap, ◌∙◌, arith}
 use Rattle.std.specs.List.{list_all}
-use Rattle.std.proofs.lemmas.Bool.{and_parts, and_from, and_left, cond-false, ne_eqb}
+use Rattle.std.proofs.lemmas.Bool.{and_parts, and_from, and_left, cond-false, ne_eqb, not-true}
 use Rattle.std.proofs.lemmas.List.{take_more, take-append-drop}
 use Rattle.sym_filter.specs.declared.kinds.Letters.{Letters}
-use Rattle.sym_filter.specs.Runs.{closes, word_of}
+use Rattle.sym_filter.specs.declared.places.Place.{Place}
+use Rattle.sym_filter.specs.declared.places.Stretch.{Stretch}
+use Rattle.sym_filter.specs.declared.places.Stretch.TheVariants.{Empty, Section, Other}
+use Rattle.sym_filter.specs.Places.{START, begins_within, closes, in_stretch, is_divider, may_begin, opens, place_after, place_of, stretch_after}
+use Rattle.sym_filter.specs.Runs.{word_of}
 use Rattle.std.proofs.Math.Seq.{take-add}
 use Rattle.sym_filter.specs.Lanes.{is_no_mark}
-use Rattle.sym_filter.specs.Plain.{is_plain, is_closed}
+use Rattle.sym_filter.specs.Plain.{is_plain}
 use Rattle.sym_filter.proofs.RunLemmas.{is_dot, word_of-part, word_of-append_dots}
 
--- a byte more
-pub is_plain-more : (letters : Letters) (closed : Bool) (front : List ℕ) (byte : ℕ) → is_plain letters closed front ≡ true → (is_closed letters closed front || not (eqb byte 95)) ≡ true → is_plain letters closed (front ++ byte ∷ []) ≡ true
-is_plain-more letters closed [] byte h next = and_from _ _ next refl
-is_plain-more letters closed (first ∷ front) byte h next =
-    let parts = and_parts (closed || not (eqb first 95)) (is_plain letters (closes letters first) front) h in
-    and_from _ _ parts.0 (is_plain-more letters (closes letters first) front byte parts.1 next)
+-- ## Places
 
-pub is_closed-more : (letters : Letters) (closed : Bool) (front : List ℕ) (byte : ℕ) → is_closed letters closed (front ++ byte ∷ []) ≡ closes letters byte
-is_closed-more letters closed [] byte = refl
-is_closed-more letters closed (first ∷ front) byte = is_closed-more letters (closes letters first) front byte
+not_not : (b : Bool) → b ≡ not (not b)
+not_not true = refl
+not_not false = refl
+
+-- a stretch with a byte more isn't empty
+opens-begun : (letters : Letters) (stretch : Stretch) (byte : ℕ) → opens letters (stretch_after stretch byte) byte ≡ (begins_within letters && is_divider byte)
+opens-begun letters Empty byte = step (eqb byte 46)
+  where
+    step : (dot : Bool) → opens letters (cond dot Section Other) byte ≡ (begins_within letters && is_divider byte)
+    step true = refl
+    step false = refl
+opens-begun letters Section byte = refl
+opens-begun letters Other byte = refl
+
+-- where a word may begin, by the byte before alone
+pub may_begin-after : (letters : Letters) (place : Place) (byte : ℕ) → may_begin letters (place_after letters place byte) ≡ not (closes letters byte)
+may_begin-after letters place byte = step (in_stretch letters byte)
+  where
+    step : (b : Bool) → may_begin letters (cond b (record { stretch = stretch_after place.stretch byte; last = byte }) START) ≡ not (b && not (begins_within letters && is_divider byte))
+    step true = opens-begun letters place.stretch byte ∙ not_not (begins_within letters && is_divider byte)
+    step false = refl
+
+pub place_of-more : (letters : Letters) (place : Place) (front : List ℕ) (byte : ℕ) → place_of letters place (front ++ byte ∷ []) ≡ place_after letters (place_of letters place front) byte
+place_of-more letters place [] byte = refl
+place_of-more letters place (first ∷ front) byte = place_of-more letters (place_after letters place first) front byte
+
+pub place_of-take : (letters : Letters) (place : Place) (text : List ℕ) (i d : ℕ) → i < length text → place_of letters place (take (i + 1) text) ≡ place_after letters (place_of letters place (take i text)) (get_or text i d)
+place_of-take letters place text i d h = ap (place_of letters place) (take_more text i d h) ∙ place_of-more letters place (take i text) (get_or text i d)
+
+pub place_of-none : (letters : Letters) (place : Place) (text : List ℕ) (i : ℕ) → i ≡ 0 → place ≡ place_of letters place (take i text)
+place_of-none letters place text zero h = refl
+place_of-none letters place text (suc i) h = absurd (omega arith)
+
+-- after a byte of no stretch one begins
+pub place_of-start : (letters : Letters) (place : Place) (text : List ℕ) (i d : ℕ) → 0 < i → i ≤ length text → in_stretch letters (get_or text (i - 1) d) ≡ false → START ≡ place_of letters place (take i text)
+place_of-start letters place text i d some inside other =
+    let at : i - 1 + 1 ≡ i = omega arith in
+    sym (ap (λ n. place_of letters place (take n text)) (sym at) ∙ place_of-take letters place text (i - 1) d (omega arith) ∙ cond-false (in_stretch letters (get_or text (i - 1) d)) _ _ other)
+
+-- ## Plain fronts
+
+-- a byte more
+pub is_plain-more : (letters : Letters) (place : Place) (front : List ℕ) (byte : ℕ) → is_plain letters place front ≡ true → not (may_begin letters (place_of letters place front) && eqb byte 95) ≡ true → is_plain letters place (front ++ byte ∷ []) ≡ true
+is_plain-more letters place [] byte h next = and_from _ _ next refl
+is_plain-more letters place (first ∷ front) byte h next =
+    let parts = and_parts (not (may_begin letters place && eqb first 95)) (is_plain letters (place_after letters place first) front) h in
+    and_from _ _ parts.0 (is_plain-more letters (place_after letters place first) front byte parts.1 next)
 
 -- the front of a text with its next byte
-pub is_plain-take : (letters : Letters) (closed : Bool) (text : List ℕ) (i d : ℕ) → i < length text → is_plain letters closed (take i text) ≡ true → (is_closed letters closed (take i text) || not (eqb (get_or text i d) 95)) ≡ true → is_plain letters closed (take (i + 1) text) ≡ true
-is_plain-take letters closed text i d h plain next = ap (is_plain letters closed) (take_more text i d h) ∙ is_plain-more letters closed (take i text) (get_or text i d) plain next
+pub is_plain-take : (letters : Letters) (place : Place) (text : List ℕ) (i d : ℕ) → i < length text → is_plain letters place (take i text) ≡ true → not (may_begin letters (place_of letters place (take i text)) && eqb (get_or text i d) 95) ≡ true → is_plain letters place (take (i + 1) text) ≡ true
+is_plain-take letters place text i d h plain next = ap (is_plain letters place) (take_more text i d h) ∙ is_plain-more letters place (take i text) (get_or text i d) plain next
 
-pub is_closed-take : (letters : Letters) (closed : Bool) (text : List ℕ) (i d : ℕ) → i < length text → is_closed letters closed (take (i + 1) text) ≡ closes letters (get_or text i d)
-is_closed-take letters closed text i d h = ap (is_closed letters closed) (take_more text i d h) ∙ is_closed-more letters closed (take i text) (get_or text i d)
+pub goes_on : (begins is_mark : Bool) → begins ≡ false → not (begins && is_mark) ≡ true
+goes_on true is_mark h = cc
+goes_on false is_mark h = refl
 
-pub goes_on : (closed : Bool) (byte : ℕ) → closed ≡ true → (closed || not (eqb byte 95)) ≡ true
-goes_on true byte h = refl
-goes_on false byte h = cc
+none-begins : (begins : Bool) → not (begins && false) ≡ true
+none-begins true = refl
+none-begins false = refl
 
-or_true : (b : Bool) → (b || true) ≡ true
-or_true true = refl
-or_true false = refl
-
-pub is_other : (closed : Bool) (byte : ℕ) → (byte ≡ 95 → ⊥) → (closed || not (eqb byte 95)) ≡ true
-is_other closed byte h = ap (λ (b : Bool). closed || not b) (ne_eqb byte 95 h) ∙ or_true closed
+pub is_other : (begins : Bool) (byte : ℕ) → (byte ≡ 95 → ⊥) → not (begins && eqb byte 95) ≡ true
+is_other begins byte h = ap (λ (b : Bool). not (begins && b)) (ne_eqb byte 95 h) ∙ none-begins begins
 
 -- bytes that are no '_' more
-is_plain-others : (letters : Letters) (closed : Bool) (others : List ℕ) → list_all is_no_mark others ≡ true → is_plain letters closed others ≡ true
-is_plain-others letters closed [] h = refl
-is_plain-others letters closed (byte ∷ others) h =
+is_plain-others : (letters : Letters) (place : Place) (others : List ℕ) → list_all is_no_mark others ≡ true → is_plain letters place others ≡ true
+is_plain-others letters place [] h = refl
+is_plain-others letters place (byte ∷ others) h =
     let parts = and_parts (is_no_mark byte) (list_all is_no_mark others) h in
-    and_from _ _ (ap (λ b. closed || b) parts.0 ∙ or_true closed) (is_plain-others letters (closes letters byte) others parts.1)
+    and_from _ _ (ap (λ b. not (may_begin letters place && b)) (not-true (eqb byte 95) parts.0) ∙ none-begins (may_begin letters place)) (is_plain-others letters (place_after letters place byte) others parts.1)
 
-is_plain-append : (letters : Letters) (closed : Bool) (front others : List ℕ) → is_plain letters closed front ≡ true → list_all is_no_mark others ≡ true → is_plain letters closed (front ++ others) ≡ true
-is_plain-append letters closed [] others plain h = is_plain-others letters closed others h
-is_plain-append letters closed (first ∷ front) others plain h =
-    let parts = and_parts (closed || not (eqb first 95)) (is_plain letters (closes letters first) front) plain in
-    and_from _ _ parts.0 (is_plain-append letters (closes letters first) front others parts.1 h)
+is_plain-append : (letters : Letters) (place : Place) (front others : List ℕ) → is_plain letters place front ≡ true → list_all is_no_mark others ≡ true → is_plain letters place (front ++ others) ≡ true
+is_plain-append letters place [] others plain h = is_plain-others letters place others h
+is_plain-append letters place (first ∷ front) others plain h =
+    let parts = and_parts (not (may_begin letters place && eqb first 95)) (is_plain letters (place_after letters place first) front) plain in
+    and_from _ _ parts.0 (is_plain-append letters (place_after letters place first) front others parts.1 h)
 
-pub is_plain-longer : (letters : Letters) (closed : Bool) (text : List ℕ) (i r : ℕ) → is_plain letters closed (take i text) ≡ true → list_all is_no_mark (take r (drop i text)) ≡ true → is_plain letters closed (take (i + r) text) ≡ true
-is_plain-longer letters closed text i r plain others = ap (is_plain letters closed) (take-add i r text) ∙ is_plain-append letters closed (take i text) (take r (drop i text)) plain others
+pub is_plain-longer : (letters : Letters) (place : Place) (text : List ℕ) (i r : ℕ) → is_plain letters place (take i text) ≡ true → list_all is_no_mark (take r (drop i text)) ≡ true → is_plain letters place (take (i + r) text) ≡ true
+is_plain-longer letters place text i r plain others = ap (is_plain letters place) (take-add i r text) ∙ is_plain-append letters place (take i text) (take r (drop i text)) plain others
 
 -- the word of a part ends after its last byte that is no dot
 word_of-front : (part : List ℕ) (end : ℕ) → list_all is_dot (drop end part) ≡ true → word_of part ≡ word_of (take end part)

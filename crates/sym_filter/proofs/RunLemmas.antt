@@ -1,15 +1,15 @@
 -- Facts on runs and on what a filter holds back of one.
-use Rattle.std.proofs.Common.{zero, ◌≡◌, ℕ, suc, ◌-◌, ◌<◌, ◌≤◌, Bool, true, false, cond, eqb, leb, ◌&&◌, List, [], ◌∷◌, ◌++◌, length, drop, refl, sym, ap, ap₂, ◌∙◌, arith, Option, Some, None, Result, replicate, filter}
+use Rattle.std.proofs.Common.{zero, ◌≡◌, ℕ, suc, ◌-◌, ◌≤◌, Bool, true, false, cond, eqb, leb, ◌&&◌, List, [], ◌∷◌, ◌++◌, length, drop, refl, sym, ap, ap₂, ◌∙◌, arith, Option, Some, None, Result, replicate, filter}
 use Rattle.std.specs.List.{list_all}
-use Rattle.std.specs.Prelude.{is_some}
 use Rattle.std.specs.Result.{result_ok}
 use Rattle.sym_core.specs.declared.refusal.Refusal.{Refusal}
-use Rattle.std.proofs.lemmas.Bool.{and_parts, and_from, and_left, and_right, cond-true, cond-false, ne_eqb, lt-leb, eqb-true, true≢false}
+use Rattle.std.proofs.lemmas.Bool.{and_parts, and_from, and_left, and_right, cond-true, cond-false, ne_eqb, eqb-true, true≢false}
 use Rattle.std.proofs.lemmas.List.Folds.{list_all-append}
 use Rattle.std.proofs.lemmas.List.{append-nil, length-drop}
 use Rattle.std.proofs.Math.Seq.{drop-append_seam}
 use Rattle.std.proofs.Math.Bool.{and-true}
-use Rattle.sym_filter.specs.Runs.{Answering, is_run_byte, is_byte_of, first_run, later_runs, with_later_runs, with_runs, replaced, is_named, text_for, word_or_text, word_of, dots_behind}
+use Rattle.sym_filter.specs.Bytes.{is_run_byte, is_byte_of}
+use Rattle.sym_filter.specs.Runs.{Answering, first_run, later_runs, with_later_runs, with_runs, replaced, is_named, text_for, word_or_text, word_of, dots_behind}
 use Rattle.sym_filter.specs.declared.kinds.Kind.{Kind}
 use Rattle.sym_filter.specs.declared.kinds.Letters.{Letters}
 use Rattle.sym_filter.specs.declared.kinds.Letters.TheVariants.{Any, Ascii, Within}
@@ -109,16 +109,9 @@ word_of-held held dots h = word_of-append_dots held (replicate dots 46) (list_al
 pub list_all-held : (letters : Letters) (held : List ℕ) (dots : ℕ) → list_all (is_byte_of letters) held ≡ true → list_all (is_byte_of letters) (held ++ replicate dots 46) ≡ true
 list_all-held letters held dots h = list_all-append (is_byte_of letters) held (replicate dots 46) ∙ and_from _ _ h (list_all-run_dots letters dots)
 
-pub replaced-held : (answers : Answering) (held : List ℕ) (dots : ℕ) → word_of held ≡ held → replaced answers (held ++ replicate dots 46) ≡ word_or_text answers held ++ replicate dots 46
-unfolding replaced
-replaced-held answers held dots h =
-    let word = word_of-held held dots h in
-    let behind : dots_behind (held ++ replicate dots 46) ≡ replicate dots 46 = ap (λ (w : List ℕ). drop (length w) (held ++ replicate dots 46)) word ∙ drop-append_seam held (replicate dots 46) in
-    ap₂ (λ (w d : List ℕ). word_or_text answers w ++ d) word behind
-
-pub is_named-held : (held : List ℕ) (dots : ℕ) → word_of held ≡ held → is_named (held ++ replicate dots 46) ≡ is_named held
-unfolding is_named
-is_named-held held dots h = ap (λ (w : List ℕ). is_some (kind_of w)) (word_of-held held dots h ∙ sym h)
+pub behind-held : (held : List ℕ) (dots : ℕ) → word_of held ≡ held → dots_behind (held ++ replicate dots 46) ≡ replicate dots 46
+behind-held held dots h =
+    ap (λ (w : List ℕ). drop (length w) (held ++ replicate dots 46)) (word_of-held held dots h) ∙ drop-append_seam held (replicate dots 46)
 
 -- a part that is not dots alone stays after a run, up to its last byte that is no dot
 pub word_of-part : (run part : List ℕ) → list_all is_dot part ≡ false → word_of (run ++ part) ≡ run ++ word_of part
@@ -177,13 +170,7 @@ word_of-longer [] rest = omega arith
 word_of-longer (byte ∷ run) rest =
     longer-step byte run rest _ _ refl refl (λ h. list_all-append is_dot (byte ∷ run) rest ∙ and_left (list_all is_dot (byte ∷ run)) (list_all is_dot rest) h) (word_of-longer run rest)
 
--- a run that is too long names no symbol, however it goes on
-pub kind_of-long : (run rest : List ℕ) → LONGEST_WORD < length (word_of run) → kind_of (word_of (run ++ rest)) ≡ None
-kind_of-long run rest long =
-    let far = word_of-longer run rest in
-    cond-false _ _ _ (lt-leb (length (word_of (run ++ rest))) LONGEST_WORD (omega arith))
-
--- nor does one that doesn't begin with an underscore
+-- a run that doesn't begin with an underscore names no symbol
 cond_none : (b : Bool) (kind : Option Kind) → kind ≡ None → cond b kind None ≡ None
 cond_none true kind h = h
 cond_none false kind h = refl

@@ -3,7 +3,8 @@ use Rattle.std.proofs.Common.{◌≡◌, ℕ, true, List, [], ◌∷◌, ◌++�
 use Rattle.std.specs.List.{list_all}
 use Rattle.std.proofs.lemmas.Bool.{and_parts, not-true}
 use Rattle.sym_filter.specs.declared.kinds.Letters.{Letters}
-use Rattle.sym_filter.specs.Runs.{is_byte_of, with_runs, replaced_at}
+use Rattle.sym_filter.specs.Bytes.{is_byte_of}
+use Rattle.sym_filter.specs.Runs.{with_runs, replaced_at}
 use Rattle.sym_filter.specs.Splits.{joined, FilteredBySplitsAt}
 use Rattle.sym_filter.proofs.RunLemmas.{with_runs-ends, with_runs-run}
 

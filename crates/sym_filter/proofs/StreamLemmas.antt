@@ -17,6 +17,10 @@ pub Appends-none : (known : Option (List ℕ)) → Appends known known []
 Appends-none None = tt
 Appends-none (Some xs) = sym (append-nil xs)
 
+pub Consumes-none : (known : Option (List ℕ)) → Consumes known known []
+Consumes-none None = tt
+Consumes-none (Some xs) = refl
+
 pub Appends-join : (a b c : Option (List ℕ)) (xs ys : List ℕ) → Appends a b xs → Appends b c ys → Appends a c (xs ++ ys)
 Appends-join None b c xs ys h i = tt
 Appends-join (Some xs') None c xs ys h i = absurd h
@@ -85,6 +89,10 @@ take-none (suc n) xs h = absurd (omega arith)
 pub room-back : (new items : List ℕ) (len : ℕ) → length new ≡ len → take len (new ++ drop (length new) items) ≡ new
 room-back new items len h = ap (λ n. take n (new ++ drop (length new) items)) (sym h) ∙ take-append_seam new (drop (length new) items)
 
+-- no dot waits before the first
+pub dots-first : (dots left count : ℕ) → dots ≡ 0 → count ≡ left → count < 2 ^ 64 → dots + READ_SIZE * left < 2 ^ 64 * READ_SIZE
+dots-first dots left count none same fits = omega arith
+
 -- each read brings at most 65,536 dots, so their count has room
 pub dots-step : (dots dots' left left' count : ℕ) (bytes piece : List ℕ) → dots + READ_SIZE * left < 2 ^ 64 * READ_SIZE → left' < left → dots' ≤ dots + length piece → take count bytes ≡ piece → length bytes ≡ READ_SIZE → dots' + READ_SIZE * left' < 2 ^ 64 * READ_SIZE
 dots-step dots dots' left left' count bytes piece room fewer more same whole =
@@ -93,6 +101,9 @@ dots-step dots dots' left left' count bytes piece room fewer more same whole =
 -- bytes that are put after those that wait
 pub Puts-push : (known : Option (List ℕ)) (out out' bytes : List ℕ) → out' ≡ out ++ bytes → Puts known known out out' bytes
 Puts-push known out out' bytes pushed = record { gone = []; writes = Appends-none known; keeps = sym pushed }
+
+pub Puts-none : (known : Option (List ℕ)) → Puts known known [] [] []
+Puts-none known = record { gone = []; writes = Appends-none known; keeps = refl }
 
 pub Puts-join : (a b c : Option (List ℕ)) (out mid out' bytes more : List ℕ) → Puts a b out mid bytes → Puts b c mid out' more → Puts a c out out' (bytes ++ more)
 Puts-join a b c out mid out' bytes more h i = record {

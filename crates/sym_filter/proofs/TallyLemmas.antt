@@ -39,10 +39,3 @@ tally_with_word-named answers tally word b named h fits =
 pub tally_with_word-unnamed : (answers : Answering) (tally : Tally) (word : List ℕ) → is_named word ≡ false → IsTally tally → tally_with_word answers tally word ≡ tally
 tally_with_word-unnamed answers tally word named fits =
     ap (tally_with answers tally) (cond-false (is_named word) _ _ named) ∙ tally_with-none answers tally fits
-
--- two runs that have one word count alike
-pub tally_with-same : (answers : Answering) (tally : Tally) (run other : List ℕ) → has_text answers run ≡ has_text answers other → tally_with answers tally (run ∷ []) ≡ tally_with answers tally (other ∷ [])
-tally_with-same answers tally run other h =
-    same_tally _ _ refl
-    (ap (λ (b : Bool). capped (tally.replaced + (0 + cond b 1 0))) h)
-    (ap (λ (b : Bool). capped (tally.refused + (0 + cond (not b) 1 0))) h)

@@ -4,7 +4,8 @@ use Rattle.std.specs.List.{list_all, list_any}
 use Rattle.std.specs.Prelude.{is_some, sum_by, unwrap_or}
 use Rattle.std.proofs.lemmas.List.Sums.{sum_by-append}
 use Rattle.sym_filter.specs.declared.kinds.Letters.TheVariants.{Ascii}
-use Rattle.sym_filter.specs.Runs.{Agree, Answering, TriesAreFew, TriesDecide, dots_behind, either, first_run, followed_by, has_text, is_byte_of, is_wide, later_runs, replaced, runs_of, text_for, text_of_parts, text_of_tries, tried, trimmed, with_later_runs, with_runs, word_of}
+use Rattle.sym_filter.specs.Bytes.{is_byte_of, is_wide}
+use Rattle.sym_filter.specs.Runs.{Agree, Answering, TriesAreFew, TriesDecide, dots_behind, either, first_run, followed_by, has_text, later_runs, replaced, runs_of, text_for, text_of_parts, text_of_tries, tried, trimmed, with_later_runs, with_runs, word_of}
 use Rattle.sym_filter.proofs.TryLemmas.{is_left_out}
 
 -- ## What they depend on

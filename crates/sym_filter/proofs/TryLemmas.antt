@@ -11,7 +11,8 @@ use Rattle.sym_filter.specs.declared.kinds.Lang.TheVariants.{Cpp, Rust}
 use Rattle.sym_filter.specs.declared.kinds.Letters.TheVariants.{Ascii}
 use Rattle.sym_filter.specs.declared.kinds.TheConstants.{LONGEST_WORD}
 use Rattle.sym_filter.specs.Kinds.{kind_of, symbol_of, underscore_of}
-use Rattle.sym_filter.specs.Runs.{Answering, either, first_run, followed_by, has_text, is_byte_of, is_wide, later_runs, or_answer, replaced, runs_of, text_for, text_of_front, text_of_parts, text_of_tries, trimmed, with_runs, within, word_of, word_or_text, dots_behind}
+use Rattle.sym_filter.specs.Bytes.{is_byte_of, is_wide}
+use Rattle.sym_filter.specs.Runs.{Answering, either, first_run, followed_by, has_text, later_runs, or_answer, replaced, runs_of, text_for, text_of_front, text_of_parts, text_of_tries, trimmed, with_runs, within, word_of, word_or_text, dots_behind}
 use Rattle.sym_filter.proofs.RunLemmas.{first_run-append, later_runs-append, replaced-unnamed, text_for-named, text_for-unnamed, with_runs-ends, with_runs-run, word_of-splits}
 
 -- ## A word is its symbol, and an underscore before it or none
@@ -248,9 +249,6 @@ next-part_text answers rest count inside h other =
     ∙ ap (list_any (has_text answers)) (runs_of-ends (take count rest) (get_or rest count 0) (drop (count + 1) rest) h other)
 
 -- the text by parts, where the word has bytes that aren't ASCII
-pub no_parts : (answers : Answering) (word : List ℕ) → list_any is_wide word ≡ false → text_of_parts answers word ≡ None
-no_parts answers word h = ap (λ (b : Bool). cond (b && list_any (has_text answers) (runs_of Ascii word)) (Some (with_runs Ascii (replaced answers) word)) None) h
-
 pub parts_are : (answers : Answering) (word : List ℕ) (some : Bool) → list_any is_wide word ≡ true → some ≡ list_any (has_text answers) (runs_of Ascii word) → text_of_parts answers word ≡ cond some (Some (with_runs Ascii (replaced answers) word)) None
 parts_are answers word some wide e = ap₂ (λ (a b : Bool). cond (a && b) (Some (with_runs Ascii (replaced answers) word)) None) wide (sym e)
 

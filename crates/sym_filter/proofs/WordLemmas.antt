@@ -1,86 +1,135 @@
 -- The steps of a filter over a part of a text.
-use Rattle.std.proofs.Common.{◌≡◌, ℕ, zero, suc, ◌+◌, ◌-◌, ◌<◌, ◌≤◌, Bool, true, false, cond, eqb, ◌||◌, not, List, [], ◌∷◌, ◌++◌, length, length-append, take, drop, refl, sym, ap, ap₂, ◌∙◌, subst, append_assoc, arith, Some, None, replicate, filter, get_or}
+use Rattle.std.proofs.Common.{◌≡◌, ℕ, zero, suc, ◌+◌, ◌-◌, ◌<◌, ◌≤◌, Bool, true, false, cond, eqb, ◌&&◌, not, List, [], ◌∷◌, ◌++◌, length, length-append, map, take, drop, refl, sym, ap, ap₂, ◌∙◌, subst, append_assoc, arith, Some, None, replicate, filter, get_or}
 use Rattle.std.specs.List.{list_all}
 use Rattle.std.specs.Prelude.{is_some}
-use Rattle.std.proofs.lemmas.Bool.{and_parts, and_from, cond-true, cond-false, true≢false, eqb-true}
+use Rattle.std.proofs.lemmas.Bool.{and_parts, and_from, cond-true, cond-false, true≢false, eqb-true, lt-leb, le-leb}
 use Rattle.std.proofs.lemmas.List.{append-nil, take_more, length-drop, length-take, length-replicate, replicate-append-replicate}
 use Rattle.std.proofs.lemmas.List.Folds.{list_all-append}
 use Rattle.std.proofs.Math.Seq.{take-length}
 use Rattle.sym_filter.specs.declared.kinds.Letters.{Letters}
+use Rattle.sym_filter.specs.declared.places.Place.{Place}
 use Rattle.sym_filter.specs.declared.words.Words.{Words}
 use Rattle.sym_filter.specs.declared.words.Tally.{Tally}
 use Rattle.sym_filter.specs.declared.words.Taken.{Taken}
 use Rattle.sym_filter.specs.declared.kinds.Kind.{Kind}
+use Rattle.sym_filter.specs.Bytes.{is_byte_of}
 use Rattle.sym_filter.specs.Kinds.{kind_of}
 use Rattle.sym_filter.specs.Held.{IsHeld}
-use Rattle.sym_filter.specs.Runs.{Answering, answers_at, closes, is_begun, is_byte_of, first_run, later_runs, with_later_runs, with_word, from_word, words_in, replaced, replaced_at, filtered_at, is_named, named_runs, IsTally, tally_with, tally_counted, text_for, word_or_text, tally_with_word, word_of}
+use Rattle.sym_filter.specs.Places.{START, from_word, may_begin, place_after, place_of, with_word}
+use Rattle.sym_filter.specs.Runs.{Answering, IsTally, answers_at, changed, filtered_at, first_run, fits, is_begun, is_named, later_runs, name_in, named_in, named_words, replaced_at, tally_at, tally_counted, tally_with, tally_with_word, text_for, with_later_runs, word_in, word_of, written}
 use Rattle.sym_filter.specs.Words.{held_of, rest_of, named_of, rest_after, tally_after, behind, Takes}
-use Rattle.sym_filter.specs.Plain.{is_plain, is_closed}
-use Rattle.sym_filter.proofs.TallyLemmas.{tally_with-append, tally_with-none, tally_with-same, tally_with_word-named, tally_with_word-unnamed}
-use Rattle.sym_filter.proofs.RunLemmas.{is_dot, first_run-append, later_runs-append, with_later_runs-append, with_runs-ends, with_runs-append, with_runs-run, replaced-unnamed, list_all-held, replaced-held, is_named-held, word_of-held, word_or_text-unnamed, kind_of-long, word_of-part, word_of-word, list_all-word_of, word_and_dots}
-use Rattle.sym_filter.proofs.BeginLemmas.{begun-more, named-byte, named-first, named_runs-append, named_runs-ends, named_runs-run, plain-byte, replaced_at-begun, word_run-begun, words_in-none}
+use Rattle.sym_filter.specs.Plain.{is_plain}
+use Rattle.sym_filter.proofs.TallyLemmas.{tally_with-append, tally_with_word-named, tally_with_word-unnamed}
+use Rattle.sym_filter.proofs.RunLemmas.{is_dot, behind-held, filter-front, first_run-append, later_runs-append, with_later_runs-append, list_all-held, word_of-held, word_of-longer, word_of-part, word_of-word, list_all-word_of, word_and_dots}
+use Rattle.sym_filter.proofs.BeginLemmas.{begun-more, from_word-begun, named-byte, named-first, named_of-start, plain-byte, rest_of-start, with_word-begun}
+use Rattle.sym_filter.proofs.MarkLemmas.{changed-nothing, name-nothing, named-nothing, written-nothing}
 use Rattle.sym_filter.specs.declared.kinds.TheConstants.{LONGEST_WORD}
 
 -- `&xs[k..]`
 pub slice_from : (xs : List ℕ) (k : ℕ) → take (length xs - k) (drop k xs) ≡ drop k xs
 slice_from xs k = ap (λ n. take n (drop k xs)) (sym (length-drop k xs)) ∙ take-length (drop k xs)
 
--- a run whose word can name no symbol, however it goes on, is passed on to its end
-pub rest_of-front : (letters : Letters) (answers : Answering) (front more : List ℕ) → list_all (is_byte_of letters) front ≡ true → ((rest : List ℕ) → is_begun (front ++ rest) ≡ true) → ((rest : List ℕ) → kind_of (word_of (front ++ rest)) ≡ None) → filtered_at letters answers (front ++ more) ≡ front ++ (first_run letters more ++ with_later_runs letters (replaced_at letters answers) more)
-rest_of-front letters answers front more h begun unnamed =
-    let run = front ++ first_run letters more in
-    let stays : replaced_at letters answers run ≡ run = replaced_at-begun letters answers run (begun (first_run letters more)) ∙ replaced-unnamed (answers_at letters answers) run (unnamed (first_run letters more)) in
-    with_runs-append letters (replaced_at letters answers) front more h ∙ ap (λ (t : List ℕ). t ++ with_later_runs letters (replaced_at letters answers) more) stays ∙ append_assoc front (first_run letters more) (with_later_runs letters (replaced_at letters answers) more)
+-- ## A run from its word on
 
-pub named_of-front : (letters : Letters) (front more : List ℕ) → list_all (is_byte_of letters) front ≡ true → ((rest : List ℕ) → is_begun (front ++ rest) ≡ true) → ((rest : List ℕ) → kind_of (word_of (front ++ rest)) ≡ None) → named_runs letters (front ++ more) ≡ filter is_named (words_in letters (later_runs letters more))
-named_of-front letters front more h begun unnamed =
+-- it is changed from there
+begun-changed : (letters : Letters) (answers : Answering) (place : Place) (run : List ℕ) → may_begin letters place ≡ true → is_begun run ≡ true → with_word letters (changed letters answers) place run ≡ changed letters answers place run
+begun-changed letters answers place run begins begun = with_word-begun letters (changed letters answers) place run begins begun (changed-nothing letters answers place)
+
+begun-named : (letters : Letters) (place : Place) (run : List ℕ) → may_begin letters place ≡ true → is_begun run ≡ true → from_word letters (named_in letters) place run ≡ named_in letters place run
+begun-named letters place run begins begun = from_word-begun letters (named_in letters) place run begins begun (named-nothing letters place)
+
+-- a run that is too long, however it goes on, is passed on to its end
+too_far : (run rest : List ℕ) → LONGEST_WORD < length (word_of run) → fits (word_of (run ++ rest)) ≡ false
+too_far run rest long = lt-leb (length (word_of (run ++ rest))) LONGEST_WORD (omega (arith, word_of-longer run rest))
+
+pub rest_of-front : (letters : Letters) (answers : Answering) (place : Place) (front more : List ℕ) → list_all (is_byte_of letters) front ≡ true → may_begin letters place ≡ true → ((rest : List ℕ) → is_begun (front ++ rest) ≡ true) → LONGEST_WORD < length (word_of front)
+    → with_word letters (changed letters answers) place (first_run letters (front ++ more)) ++ with_later_runs letters (replaced_at letters answers) (front ++ more) ≡ front ++ (first_run letters more ++ with_later_runs letters (replaced_at letters answers) more)
+rest_of-front letters answers place front more h begins begun long =
     let run = front ++ first_run letters more in
-    named_runs-append letters front more h ∙ ap (λ (t : List ℕ). filter is_named (t ∷ words_in letters (later_runs letters more))) (word_run-begun letters run (begun (first_run letters more))) ∙ named-first run (words_in letters (later_runs letters more)) (unnamed (first_run letters more))
+    let stays : with_word letters (changed letters answers) place run ≡ run = begun-changed letters answers place run begins (begun (first_run letters more)) ∙ cond-false (fits (word_of run)) _ _ (too_far front (first_run letters more) long) in
+    ap₂ (λ (a b : List ℕ). with_word letters (changed letters answers) place a ++ b) (first_run-append letters front more h) (with_later_runs-append letters (replaced_at letters answers) front more h)
+    ∙ ap (λ (t : List ℕ). t ++ with_later_runs letters (replaced_at letters answers) more) stays ∙ append_assoc front (first_run letters more) (with_later_runs letters (replaced_at letters answers) more)
+
+pub named_of-front : (letters : Letters) (place : Place) (front more : List ℕ) → list_all (is_byte_of letters) front ≡ true → may_begin letters place ≡ true → ((rest : List ℕ) → is_begun (front ++ rest) ≡ true) → LONGEST_WORD < length (word_of front)
+    → filter is_named (from_word letters (named_in letters) place (first_run letters (front ++ more)) ∷ map (word_in letters) (later_runs letters (front ++ more))) ≡ filter is_named (map (word_in letters) (later_runs letters more))
+named_of-front letters place front more h begins begun long =
+    let run = front ++ first_run letters more in
+    let none : from_word letters (named_in letters) place run ≡ [] = begun-named letters place run begins (begun (first_run letters more)) ∙ cond-false (fits (word_of run)) _ _ (too_far front (first_run letters more) long) in
+    ap₂ (λ (a : List ℕ) (b : List (List ℕ)). filter is_named (from_word letters (named_in letters) place a ∷ map (word_in letters) b)) (first_run-append letters front more h) (later_runs-append letters front more h)
+    ∙ ap (λ (t : List ℕ). filter is_named (t ∷ map (word_in letters) (later_runs letters more))) none ∙ named-first [] (map (word_in letters) (later_runs letters more)) refl
 
 -- a byte after the run ends it
-pub rest_of-ends : (letters : Letters) (answers : Answering) (run : List ℕ) (past passes : Bool) (byte : ℕ) (more : List ℕ) → list_all (is_byte_of letters) run ≡ true → is_byte_of letters byte ≡ false → rest_of letters answers run past passes (byte ∷ more) ≡ rest_of letters answers run past passes [] ++ (byte ∷ filtered_at letters answers more)
-rest_of-ends letters answers run true passes byte more h other =
-    ap₂ (λ (a b : List ℕ). a ++ b) (cond-false (is_byte_of letters byte) _ _ other) (cond-false (is_byte_of letters byte) _ _ other)
-rest_of-ends letters answers run false true byte more h other =
-    ap₂ (λ (a b : List ℕ). with_word letters (replaced (answers_at letters answers)) true a ++ b) (cond-false (is_byte_of letters byte) _ _ other) (cond-false (is_byte_of letters byte) _ _ other)
-rest_of-ends letters answers run false false byte more h other =
-    let change = replaced_at letters answers in
-    let whole : filtered_at letters answers (run ++ []) ≡ change run = ap (filtered_at letters answers) (append-nil run) ∙ with_runs-run letters change run h in
-    with_runs-ends letters change run byte more h other ∙ ap (λ (t : List ℕ). t ++ (byte ∷ filtered_at letters answers more)) (sym whole)
+runs-end : (letters : Letters) (run : List ℕ) (byte : ℕ) (more : List ℕ) → list_all (is_byte_of letters) run ≡ true → is_byte_of letters byte ≡ false → first_run letters (run ++ (byte ∷ more)) ≡ first_run letters (run ++ [])
+runs-end letters run byte more h other =
+    first_run-append letters run (byte ∷ more) h ∙ ap (λ t. run ++ t) (cond-false (is_byte_of letters byte) _ _ other) ∙ sym (first_run-append letters run [] h)
 
-pub named_of-ends : (letters : Letters) (run : List ℕ) (past passes : Bool) (byte : ℕ) (more : List ℕ) → list_all (is_byte_of letters) run ≡ true → is_byte_of letters byte ≡ false → named_of letters run past passes (byte ∷ more) ≡ named_of letters run past passes [] ++ named_runs letters more
-named_of-ends letters run true passes byte more h other =
-    ap (λ (r : List (List ℕ)). filter is_named (words_in letters r)) (cond-false (is_byte_of letters byte) _ _ other) ∙ ap (λ (r : List (List ℕ)). filter is_named r ++ named_runs letters more) (sym (words_in-none letters))
-named_of-ends letters run false true byte more h other =
-    ap₂ (λ (a : List ℕ) (r : List (List ℕ)). filter is_named (from_word letters true a ∷ words_in letters r)) (cond-false (is_byte_of letters byte) _ _ other) (cond-false (is_byte_of letters byte) _ _ other)
-    ∙ named-first [] (words_in letters (first_run letters more ∷ later_runs letters more)) refl
-    ∙ ap (λ (r : List (List ℕ)). r ++ named_runs letters more) (sym (named-first [] (words_in letters []) refl ∙ ap (filter is_named) (words_in-none letters)))
-named_of-ends letters run false false byte more h other = named_runs-ends letters run byte more h other ∙ ap (λ (t : List (List ℕ)). t ++ named_runs letters more) (sym (named_runs-run letters run h))
+pub rest_of-ends : (letters : Letters) (answers : Answering) (run : List ℕ) (past : Bool) (place : Place) (byte : ℕ) (more : List ℕ) → list_all (is_byte_of letters) run ≡ true → is_byte_of letters byte ≡ false → rest_of letters answers run past place (byte ∷ more) ≡ rest_of letters answers run past place [] ++ (byte ∷ filtered_at letters answers more)
+rest_of-ends letters answers run true place byte more h other =
+    ap₂ (λ (a b : List ℕ). a ++ b) (cond-false (is_byte_of letters byte) _ _ other) (cond-false (is_byte_of letters byte) _ _ other)
+rest_of-ends letters answers run false place byte more h other =
+    let change = with_word letters (changed letters answers) place in
+    let none : with_later_runs letters (replaced_at letters answers) (run ++ []) ≡ [] = with_later_runs-append letters (replaced_at letters answers) run [] h in
+    ap₂ (λ (a b : List ℕ). change a ++ b) (runs-end letters run byte more h other) (with_later_runs-append letters (replaced_at letters answers) run (byte ∷ more) h ∙ cond-false (is_byte_of letters byte) _ _ other)
+    ∙ ap (λ (t : List ℕ). t ++ (byte ∷ filtered_at letters answers more)) (sym (ap (λ (t : List ℕ). change (first_run letters (run ++ [])) ++ t) none ∙ append-nil (change (first_run letters (run ++ [])))))
+
+pub named_of-ends : (letters : Letters) (run : List ℕ) (past : Bool) (place : Place) (byte : ℕ) (more : List ℕ) → list_all (is_byte_of letters) run ≡ true → is_byte_of letters byte ≡ false → named_of letters run past place (byte ∷ more) ≡ named_of letters run past place [] ++ named_words letters more
+named_of-ends letters run true place byte more h other = ap (λ (r : List (List ℕ)). filter is_named (map (word_in letters) r)) (cond-false (is_byte_of letters byte) _ _ other)
+named_of-ends letters run false place byte more h other =
+    let find = from_word letters (named_in letters) place in
+    let none : later_runs letters (run ++ []) ≡ [] = later_runs-append letters run [] h in
+    ap₂ (λ (a : List ℕ) (r : List (List ℕ)). filter is_named (find a ∷ map (word_in letters) r)) (runs-end letters run byte more h other) (later_runs-append letters run (byte ∷ more) h ∙ cond-false (is_byte_of letters byte) _ _ other)
+    ∙ filter-front (find (first_run letters (run ++ []))) (named_words letters more)
+    ∙ ap (λ (r : List (List ℕ)). filter is_named (find (first_run letters (run ++ [])) ∷ map (word_in letters) r) ++ named_words letters more) (sym none)
 
 -- a plain front
-pub rest_of-plain : (letters : Letters) (answers : Answering) (passes : Bool) (front more : List ℕ) → is_plain letters passes front ≡ true → rest_of letters answers [] false passes (front ++ more) ≡ front ++ rest_of letters answers [] false (is_closed letters passes front) more
-rest_of-plain letters answers passes [] more h = refl
-rest_of-plain letters answers passes (byte ∷ front) more h =
-    let parts = and_parts (passes || not (eqb byte 95)) (is_plain letters (closes letters byte) front) h in
-    plain-byte letters answers passes byte (front ++ more) (is_byte_of letters byte) refl parts.0 ∙ ap (λ (t : List ℕ). byte ∷ t) (rest_of-plain letters answers (closes letters byte) front more parts.1)
+pub rest_of-plain : (letters : Letters) (answers : Answering) (place : Place) (front more : List ℕ) → is_plain letters place front ≡ true → rest_of letters answers [] false place (front ++ more) ≡ front ++ rest_of letters answers [] false (place_of letters place front) more
+rest_of-plain letters answers place [] more h = refl
+rest_of-plain letters answers place (byte ∷ front) more h =
+    let parts = and_parts (not (may_begin letters place && eqb byte 95)) (is_plain letters (place_after letters place byte) front) h in
+    plain-byte letters answers place byte (front ++ more) (is_byte_of letters byte) refl parts.0 ∙ ap (λ (t : List ℕ). byte ∷ t) (rest_of-plain letters answers (place_after letters place byte) front more parts.1)
 
-pub named_of-plain : (letters : Letters) (passes : Bool) (front more : List ℕ) → is_plain letters passes front ≡ true → named_of letters [] false passes (front ++ more) ≡ named_of letters [] false (is_closed letters passes front) more
-named_of-plain letters passes [] more h = refl
-named_of-plain letters passes (byte ∷ front) more h =
-    let parts = and_parts (passes || not (eqb byte 95)) (is_plain letters (closes letters byte) front) h in
-    named-byte letters passes byte (front ++ more) (is_byte_of letters byte) refl parts.0 ∙ named_of-plain letters (closes letters byte) front more parts.1
+pub named_of-plain : (letters : Letters) (place : Place) (front more : List ℕ) → is_plain letters place front ≡ true → named_of letters [] false place (front ++ more) ≡ named_of letters [] false (place_of letters place front) more
+named_of-plain letters place [] more h = refl
+named_of-plain letters place (byte ∷ front) more h =
+    let parts = and_parts (not (may_begin letters place && eqb byte 95)) (is_plain letters (place_after letters place byte) front) h in
+    named-byte letters place byte (front ++ more) (is_byte_of letters byte) refl parts.0 ∙ named_of-plain letters (place_after letters place byte) front more parts.1
 
--- what is left of a run at its end
-nothing_held : (answers : Answering) (held : List ℕ) (dots : ℕ) → (held ≡ []) × (dots ≡ 0) → [] ≡ word_or_text answers held ++ replicate dots 46
-nothing_held answers held dots nothing =
-    sym (ap₂ (λ (t : List ℕ) (n : ℕ). word_or_text answers t ++ replicate n 46) nothing.0 nothing.1 ∙ append-nil (word_or_text answers []) ∙ word_or_text-unnamed answers [] refl)
+-- ## What is left of a run at its end
 
-pub rest_of-end : (letters : Letters) (answers : Answering) (held : List ℕ) (dots : ℕ) (past passes : Bool) → IsHeld letters held dots past passes → rest_of letters answers (held ++ replicate dots 46) past passes [] ≡ word_or_text (answers_at letters answers) held ++ replicate dots 46
-rest_of-end letters answers held dots true passes h = nothing_held (answers_at letters answers) held dots (h.passing_holds_nothing refl)
-rest_of-end letters answers held dots false true h = nothing_held (answers_at letters answers) held dots (h.passing_holds_nothing refl)
-rest_of-end letters answers held dots false false h =
-    let run = held ++ replicate dots 46 in
-    ap (filtered_at letters answers) (append-nil run) ∙ with_runs-run letters (replaced_at letters answers) run (list_all-held letters held dots h.of_run) ∙ replaced_at-begun letters answers run h.begins ∙ replaced-held (answers_at letters answers) held dots h.is_word
+run_end : (letters : Letters) (answers : Answering) (place : Place) (run : List ℕ) → list_all (is_byte_of letters) run ≡ true → rest_of letters answers run false place [] ≡ with_word letters (changed letters answers) place run
+run_end letters answers place run h =
+    ap₂ (λ (a b : List ℕ). with_word letters (changed letters answers) place a ++ b) (first_run-append letters run [] h ∙ append-nil run) (with_later_runs-append letters (replaced_at letters answers) run [] h)
+    ∙ append-nil (with_word letters (changed letters answers) place run)
+
+names_end : (letters : Letters) (place : Place) (run : List ℕ) → list_all (is_byte_of letters) run ≡ true → named_of letters run false place [] ≡ filter is_named (from_word letters (named_in letters) place run ∷ [])
+names_end letters place run h =
+    ap₂ (λ (a : List ℕ) (b : List (List ℕ)). filter is_named (from_word letters (named_in letters) place a ∷ map (word_in letters) b)) (first_run-append letters run [] h ∙ append-nil run) (later_runs-append letters run [] h)
+
+nothing_held : (letters : Letters) (answers : Answering) (held : List ℕ) (dots : ℕ) (place : Place) → (held ≡ []) × (dots ≡ 0) → [] ≡ written letters answers place held ++ replicate dots 46
+nothing_held letters answers held dots place nothing =
+    sym (ap₂ (λ (t : List ℕ) (n : ℕ). written letters answers place t ++ replicate n 46) nothing.0 nothing.1 ∙ append-nil (written letters answers place []) ∙ written-nothing letters answers place)
+
+held-changed : (letters : Letters) (answers : Answering) (held : List ℕ) (dots : ℕ) (place : Place) → word_of held ≡ held → length held ≤ LONGEST_WORD → changed letters answers place (held ++ replicate dots 46) ≡ written letters answers place held ++ replicate dots 46
+held-changed letters answers held dots place h short =
+    let word = word_of-held held dots h in
+    cond-true (fits (word_of (held ++ replicate dots 46))) _ _ (ap fits word ∙ le-leb (length held) LONGEST_WORD short)
+    ∙ ap₂ (λ (w d : List ℕ). written letters answers place w ++ d) word (behind-held held dots h)
+
+held-named : (letters : Letters) (held : List ℕ) (dots : ℕ) (place : Place) → word_of held ≡ held → length held ≤ LONGEST_WORD → named_in letters place (held ++ replicate dots 46) ≡ name_in letters place held
+held-named letters held dots place h short =
+    let word = word_of-held held dots h in
+    cond-true (fits (word_of (held ++ replicate dots 46))) _ _ (ap fits word ∙ le-leb (length held) LONGEST_WORD short) ∙ ap (name_in letters place) word
+
+held-end : (letters : Letters) (answers : Answering) (held : List ℕ) (dots : ℕ) (place : Place) (b : Bool) → IsHeld letters held dots false place → may_begin letters place ≡ b → with_word letters (changed letters answers) place (held ++ replicate dots 46) ≡ written letters answers place held ++ replicate dots 46
+held-end letters answers held dots place true h begins = begun-changed letters answers place (held ++ replicate dots 46) begins h.begins ∙ held-changed letters answers held dots place h.is_word h.fits
+held-end letters answers held dots place false h begins =
+    let nothing = h.closed_holds_nothing begins in
+    ap₂ (λ (t : List ℕ) (n : ℕ). with_word letters (changed letters answers) place (t ++ replicate n 46)) nothing.0 nothing.1 ∙ nothing_held letters answers held dots place nothing
+
+pub rest_of-end : (letters : Letters) (answers : Answering) (held : List ℕ) (dots : ℕ) (past : Bool) (place : Place) → IsHeld letters held dots past place → rest_of letters answers (held ++ replicate dots 46) past place [] ≡ written letters answers place held ++ replicate dots 46
+rest_of-end letters answers held dots true place h = nothing_held letters answers held dots place (h.past_holds_nothing refl)
+rest_of-end letters answers held dots false place h =
+    run_end letters answers place (held ++ replicate dots 46) (list_all-held letters held dots h.of_run) ∙ held-end letters answers held dots place (may_begin letters place) h refl
 
 -- a word that is held, counted
 pub counts-unnamed : (answers : Answering) (tally : Tally) (word : List ℕ) → IsTally tally → word_of word ≡ word → kind_of word ≡ None → tally ≡ tally_with_word answers tally word
@@ -93,70 +142,77 @@ unfolding is_named
 counts-named answers tally new word kind b fits h some text counted =
     counted ∙ sym (tally_with_word-named answers tally word b (ap (λ (w : List ℕ). is_some (kind_of w)) h ∙ ap is_some some) (ap (λ (w : List ℕ). is_some (text_for answers w)) h ∙ sym text) fits)
 
-named-held : (held : List ℕ) (dots : ℕ) → word_of held ≡ held → (b : Bool) → is_named held ≡ b → (tally_with : List (List ℕ) → Tally) → (same : tally_with ((held ++ replicate dots 46) ∷ []) ≡ tally_with (held ∷ [])) → tally_with (filter is_named ((held ++ replicate dots 46) ∷ [])) ≡ tally_with (filter is_named (held ∷ []))
-named-held held dots h true named counted same =
-    let named' : is_named (held ++ replicate dots 46) ≡ true = is_named-held held dots h ∙ named in
-    ap counted (cond-true _ _ _ named') ∙ same ∙ ap counted (sym (cond-true _ _ _ named))
-named-held held dots h false named counted same =
-    let named' : is_named (held ++ replicate dots 46) ≡ false = is_named-held held dots h ∙ named in
-    ap counted (cond-false _ _ _ named') ∙ ap counted (sym (cond-false _ _ _ named))
+-- nothing counts nothing
+names-nothing : (letters : Letters) (held : List ℕ) (dots : ℕ) (place : Place) → (held ≡ []) × (dots ≡ 0) → [] ≡ filter is_named (name_in letters place held ∷ [])
+names-nothing letters held dots place nothing =
+    sym (ap (λ (t : List ℕ). filter is_named (name_in letters place t ∷ [])) nothing.0 ∙ ap (λ (t : List ℕ). filter is_named (t ∷ [])) (name-nothing letters place) ∙ named-first [] [] refl)
 
-tally-nothing : (answers : Answering) (tally : Tally) (held : List ℕ) (dots : ℕ) (runs : List (List ℕ)) → IsTally tally → (held ≡ []) × (dots ≡ 0) → runs ≡ [] → tally_with_word answers tally held ≡ tally_with answers tally runs
-tally-nothing answers tally held dots runs fits nothing none =
-    ap (λ (t : List ℕ). tally_with_word answers tally t) nothing.0 ∙ sym (counts-unnamed answers tally [] fits refl refl) ∙ sym (ap (tally_with answers tally) none ∙ tally_with-none answers tally fits)
+held-names : (letters : Letters) (held : List ℕ) (dots : ℕ) (place : Place) (b : Bool) → IsHeld letters held dots false place → may_begin letters place ≡ b → filter is_named (from_word letters (named_in letters) place (held ++ replicate dots 46) ∷ []) ≡ filter is_named (name_in letters place held ∷ [])
+held-names letters held dots place true h begins =
+    ap (λ (t : List ℕ). filter is_named (t ∷ [])) (begun-named letters place (held ++ replicate dots 46) begins h.begins ∙ held-named letters held dots place h.is_word h.fits)
+held-names letters held dots place false h begins =
+    let nothing = h.closed_holds_nothing begins in
+    ap₂ (λ (t : List ℕ) (n : ℕ). filter is_named (from_word letters (named_in letters) place (t ++ replicate n 46) ∷ [])) nothing.0 nothing.1 ∙ named-first [] [] refl ∙ names-nothing letters held dots place nothing
 
-pub tally-end : (letters : Letters) (answers : Answering) (tally : Tally) (held : List ℕ) (dots : ℕ) (past passes : Bool) → IsTally tally → IsHeld letters held dots past passes → tally_with_word answers tally held ≡ tally_with answers tally (named_of letters (held ++ replicate dots 46) past passes [])
-tally-end letters answers tally held dots true passes fits h =
-    tally-nothing answers tally held dots (filter is_named (words_in letters [])) fits (h.passing_holds_nothing refl) (ap (filter is_named) (words_in-none letters))
-tally-end letters answers tally held dots false true fits h =
-    tally-nothing answers tally held dots (filter is_named ([] ∷ words_in letters [])) fits (h.passing_holds_nothing refl) (named-first [] (words_in letters []) refl ∙ ap (filter is_named) (words_in-none letters))
-tally-end letters answers tally held dots false false fits h =
-    let run = held ++ replicate dots 46 in
-    let word = word_of-held held dots h.is_word ∙ sym h.is_word in
-    let same : is_some (text_for answers (word_of run)) ≡ is_some (text_for answers (word_of held)) = ap (λ (w : List ℕ). is_some (text_for answers w)) word in
-    sym (ap (tally_with answers tally) (named_runs-run letters run (list_all-held letters held dots h.of_run) ∙ ap (λ (t : List ℕ). filter is_named (t ∷ [])) (word_run-begun letters run h.begins)) ∙ named-held held dots h.is_word (is_named held) refl (tally_with answers tally) (tally_with-same answers tally run held same))
+names-end : (letters : Letters) (held : List ℕ) (dots : ℕ) (past : Bool) (place : Place) → IsHeld letters held dots past place → named_of letters (held ++ replicate dots 46) past place [] ≡ filter is_named (name_in letters place held ∷ [])
+names-end letters held dots true place h = names-nothing letters held dots place (h.past_holds_nothing refl)
+names-end letters held dots false place h =
+    names_end letters place (held ++ replicate dots 46) (list_all-held letters held dots h.of_run) ∙ held-names letters held dots place (may_begin letters place) h refl
+
+pub tally-end : (letters : Letters) (answers : Answering) (tally : Tally) (held : List ℕ) (dots : ℕ) (past : Bool) (place : Place) → IsHeld letters held dots past place → tally_with_word answers tally (name_in letters place held) ≡ tally_with answers tally (named_of letters (held ++ replicate dots 46) past place [])
+tally-end letters answers tally held dots past place h = ap (tally_with answers tally) (sym (names-end letters held dots past place h))
+
+-- ## What is taken
 
 -- a filter that holds nothing goes on with what follows
-pub rest_after-nothing : (letters : Letters) (answers : Answering) (words : Words) (more : List ℕ) → words.letters ≡ letters → held_of words ≡ [] → words.past ≡ false → words.passes ≡ false → rest_after answers words more ≡ filtered_at letters answers more
-rest_after-nothing letters answers words more same nothing past holds =
-    ap (λ (l : Letters). rest_of l answers (held_of words) words.past words.passes more) same ∙ ap (λ (h : List ℕ). rest_of letters answers h words.past words.passes more) nothing
-    ∙ ap₂ (λ (p b : Bool). rest_of letters answers [] p b more) past holds
+pub rest_after-nothing : (letters : Letters) (answers : Answering) (words : Words) (more : List ℕ) → words.letters ≡ letters → held_of words ≡ [] → words.past ≡ false → words.place ≡ START → rest_after answers words more ≡ filtered_at letters answers more
+rest_after-nothing letters answers words more same nothing past start =
+    ap (λ (l : Letters). rest_of l answers (held_of words) words.past words.place more) same ∙ ap (λ (h : List ℕ). rest_of letters answers h words.past words.place more) nothing
+    ∙ ap₂ (λ (p : Bool) (b : Place). rest_of letters answers [] p b more) past start ∙ rest_of-start letters answers more
 
-pub named_of-nothing : (letters : Letters) (words : Words) (more : List ℕ) → words.letters ≡ letters → held_of words ≡ [] → words.past ≡ false → words.passes ≡ false → named_of words.letters (held_of words) words.past words.passes more ≡ named_runs letters more
-named_of-nothing letters words more same nothing past holds =
-    ap (λ (l : Letters). named_of l (held_of words) words.past words.passes more) same ∙ ap (λ (h : List ℕ). named_of letters h words.past words.passes more) nothing
-    ∙ ap₂ (λ (p b : Bool). named_of letters [] p b more) past holds
+pub named_of-nothing : (letters : Letters) (words : Words) (more : List ℕ) → words.letters ≡ letters → held_of words ≡ [] → words.past ≡ false → words.place ≡ START → named_of words.letters (held_of words) words.past words.place more ≡ named_words letters more
+named_of-nothing letters words more same nothing past start =
+    ap (λ (l : Letters). named_of l (held_of words) words.past words.place more) same ∙ ap (λ (h : List ℕ). named_of letters h words.past words.place more) nothing
+    ∙ ap₂ (λ (p : Bool) (b : Place). named_of letters [] p b more) past start ∙ named_of-start letters more
+
+pub tally_after-nothing : (letters : Letters) (answers : Answering) (words : Words) (more : List ℕ) → words.letters ≡ letters → held_of words ≡ [] → words.past ≡ false → words.place ≡ START → words.tally ≡ record { words = 0; replaced = 0; refused = 0 } → tally_at letters answers more ≡ tally_after answers words more
+tally_after-nothing letters answers words more same nothing past start counted =
+    ap₂ (λ (t : Tally) (names : List (List ℕ)). tally_with (answers_at letters answers) t names) (sym counted) (sym (named_of-nothing letters words more same nothing past start))
+    ∙ ap (λ (l : Letters). tally_with (answers_at l answers) words.tally (named_of words.letters (held_of words) words.past words.place more)) (sym same)
 
 -- it goes on with the letters that it had
-pub rest_after-same : (letters : Letters) (answers : Answering) (words : Words) (more : List ℕ) → words.letters ≡ letters → rest_of letters answers (held_of words) words.past words.passes more ≡ rest_after answers words more
-rest_after-same letters answers words more same = ap (λ (l : Letters). rest_of l answers (held_of words) words.past words.passes more) (sym same)
+pub rest_after-same : (letters : Letters) (answers : Answering) (words : Words) (more : List ℕ) → words.letters ≡ letters → rest_of letters answers (held_of words) words.past words.place more ≡ rest_after answers words more
+rest_after-same letters answers words more same = ap (λ (l : Letters). rest_of l answers (held_of words) words.past words.place more) (sym same)
 
-tally_after-same : (letters : Letters) (answers : Answering) (words : Words) (more : List ℕ) → words.letters ≡ letters → tally_with (answers_at letters answers) words.tally (named_of letters (held_of words) words.past words.passes more) ≡ tally_after answers words more
-tally_after-same letters answers words more same = ap (λ (l : Letters). tally_with (answers_at l answers) words.tally (named_of l (held_of words) words.past words.passes more)) (sym same)
+tally_after-same : (letters : Letters) (answers : Answering) (words : Words) (more : List ℕ) → words.letters ≡ letters → tally_with (answers_at letters answers) words.tally (named_of letters (held_of words) words.past words.place more) ≡ tally_after answers words more
+tally_after-same letters answers words more same = ap (λ (l : Letters). tally_with (answers_at l answers) words.tally (named_of l (held_of words) words.past words.place more)) (sym same)
 
 all_held : (words : Words) → list_all (is_byte_of words.letters) (held_of words) ≡ true
 all_held words = list_all-held words.letters words.held.items words.dots words.is_held.of_run
 
 -- a plain front is taken
-pub Takes-plain : (answers : Answering) (old new : Words) (front : List ℕ) → new.letters ≡ old.letters → held_of old ≡ [] → held_of new ≡ [] → old.past ≡ false → new.past ≡ false → new.passes ≡ is_closed old.letters old.passes front → new.tally ≡ old.tally → new.dots ≡ old.dots → is_plain old.letters old.passes front ≡ true → Takes answers old new front front
-Takes-plain answers old new front same nothing nothing' past past' passes counted dots plain = let letters = old.letters in let texts = answers_at letters answers in record {
-  text = λ more. ap₂ (λ (h : List ℕ) (p : Bool). rest_of letters answers h p old.passes (front ++ more)) nothing past ∙ rest_of-plain letters answers old.passes front more plain
-      ∙ ap (λ (t : List ℕ). front ++ t) (ap₂ (λ (h : List ℕ) (b : Bool). rest_of letters answers h false b more) (sym nothing') (sym passes) ∙ ap (λ (p : Bool). rest_of letters answers (held_of new) p new.passes more) (sym past') ∙ rest_after-same letters answers new more same);
-  counts = λ more. ap₂ (λ (h : List ℕ) (p : Bool). tally_with texts old.tally (named_of letters h p old.passes (front ++ more))) nothing past ∙ ap (tally_with texts old.tally) (named_of-plain letters old.passes front more plain)
-      ∙ ap₂ (λ (t : Tally) (runs : List (List ℕ)). tally_with texts t runs) (sym counted) (ap₂ (λ (h : List ℕ) (b : Bool). named_of letters h false b more) (sym nothing') (sym passes) ∙ ap (λ (p : Bool). named_of letters (held_of new) p new.passes more) (sym past'))
+pub Takes-plain : (answers : Answering) (old new : Words) (front : List ℕ) → new.letters ≡ old.letters → held_of old ≡ [] → held_of new ≡ [] → old.past ≡ false → new.past ≡ false → new.place ≡ place_of old.letters old.place front → new.tally ≡ old.tally → new.dots ≡ old.dots → is_plain old.letters old.place front ≡ true → Takes answers old new front front
+Takes-plain answers old new front same nothing nothing' past past' place counted dots plain = let letters = old.letters in let texts = answers_at letters answers in record {
+  text = λ more. ap₂ (λ (h : List ℕ) (p : Bool). rest_of letters answers h p old.place (front ++ more)) nothing past ∙ rest_of-plain letters answers old.place front more plain
+      ∙ ap (λ (t : List ℕ). front ++ t) (ap₂ (λ (h : List ℕ) (b : Place). rest_of letters answers h false b more) (sym nothing') (sym place) ∙ ap (λ (p : Bool). rest_of letters answers (held_of new) p new.place more) (sym past') ∙ rest_after-same letters answers new more same);
+  counts = λ more. ap₂ (λ (h : List ℕ) (p : Bool). tally_with texts old.tally (named_of letters h p old.place (front ++ more))) nothing past ∙ ap (tally_with texts old.tally) (named_of-plain letters old.place front more plain)
+      ∙ ap₂ (λ (t : Tally) (words : List (List ℕ)). tally_with texts t words) (sym counted) (ap₂ (λ (h : List ℕ) (b : Place). named_of letters h false b more) (sym nothing') (sym place) ∙ ap (λ (p : Bool). named_of letters (held_of new) p new.place more) (sym past'))
       ∙ tally_after-same letters answers new more same;
   dots = omega arith;
 }
 
 -- a part of a run is held
-pub Takes-held : (answers : Answering) (old new : Words) (part : List ℕ) → new.letters ≡ old.letters → old.past ≡ false → new.past ≡ false → old.passes ≡ false → new.passes ≡ false → held_of new ≡ held_of old ++ part → new.tally ≡ old.tally → new.dots ≤ old.dots + length part → Takes answers old new part []
-Takes-held answers old new part same past past' holds holds' held counted dots =
+pub Takes-held : (answers : Answering) (old new : Words) (part : List ℕ) → new.letters ≡ old.letters → old.past ≡ false → new.past ≡ false → new.place ≡ old.place → held_of new ≡ held_of old ++ part → new.tally ≡ old.tally → new.dots ≤ old.dots + length part → Takes answers old new part []
+Takes-held answers old new part same past past' place held counted dots =
     let letters = old.letters in
     let texts = answers_at letters answers in
-    let more_is : (more : List ℕ) → held_of old ++ (part ++ more) ≡ held_of new ++ more = λ more. sym (append_assoc (held_of old) part more) ∙ ap (λ (t : List ℕ). t ++ more) (sym held) in record {
-      text = λ more. ap₂ (λ (p b : Bool). rest_of letters answers (held_of old) p b (part ++ more)) past holds ∙ ap (filtered_at letters answers) (more_is more) ∙ ap₂ (λ (p b : Bool). rest_of letters answers (held_of new) p b more) (sym past') (sym holds')
+    let more_is : (more : List ℕ) → held_of old ++ (part ++ more) ≡ held_of new ++ more = λ more. sym (append_assoc (held_of old) part more) ∙ ap (λ (t : List ℕ). t ++ more) (sym held) in
+    let rest : List ℕ → List ℕ = λ text. with_word letters (changed letters answers) old.place (first_run letters text) ++ with_later_runs letters (replaced_at letters answers) text in
+    let names : List ℕ → List (List ℕ) = λ text. filter is_named (from_word letters (named_in letters) old.place (first_run letters text) ∷ map (word_in letters) (later_runs letters text)) in record {
+      text = λ more. ap (λ (p : Bool). rest_of letters answers (held_of old) p old.place (part ++ more)) past ∙ ap rest (more_is more) ∙ ap₂ (λ (p : Bool) (b : Place). rest_of letters answers (held_of new) p b more) (sym past') (sym place)
           ∙ rest_after-same letters answers new more same;
-      counts = λ more. ap₂ (λ (p b : Bool). tally_with texts old.tally (named_of letters (held_of old) p b (part ++ more))) past holds ∙ ap₂ (λ (t : Tally) (text : List ℕ). tally_with texts t (named_runs letters text)) (sym counted) (more_is more) ∙ ap₂ (λ (p b : Bool). tally_with texts new.tally (named_of letters (held_of new) p b more)) (sym past') (sym holds')
+      counts = λ more. ap (λ (p : Bool). tally_with texts old.tally (named_of letters (held_of old) p old.place (part ++ more))) past ∙ ap₂ (λ (t : Tally) (text : List ℕ). tally_with texts t (names text)) (sym counted) (more_is more)
+          ∙ ap₂ (λ (p : Bool) (b : Place). tally_with texts new.tally (named_of letters (held_of new) p b more)) (sym past') (sym place)
           ∙ tally_after-same letters answers new more same;
       dots = dots;
     }
@@ -167,21 +223,22 @@ some_bytes [] long = absurd (omega arith)
 some_bytes (byte ∷ run) long = omega arith
 
 -- a run is passed on from a part on
-pub Takes-passes : (answers : Answering) (old new : Words) (part : List ℕ) → new.letters ≡ old.letters → old.past ≡ false → old.passes ≡ false → new.past ≡ true → list_all (is_byte_of old.letters) part ≡ true → is_begun (held_of old ++ part) ≡ true → LONGEST_WORD < length (word_of (held_of old ++ part)) → new.tally ≡ old.tally → new.dots ≤ old.dots + length part → Takes answers old new part (old.held.items ++ (replicate old.dots 46 ++ part))
-Takes-passes answers old new part same past holds past' in_run begun long counted dots =
+pub Takes-passes : (answers : Answering) (old new : Words) (part : List ℕ) → new.letters ≡ old.letters → old.past ≡ false → may_begin old.letters old.place ≡ true → new.past ≡ true → list_all (is_byte_of old.letters) part ≡ true → is_begun (held_of old ++ part) ≡ true → LONGEST_WORD < length (word_of (held_of old ++ part)) → new.tally ≡ old.tally → new.dots ≤ old.dots + length part → Takes answers old new part (old.held.items ++ (replicate old.dots 46 ++ part))
+Takes-passes answers old new part same past may past' in_run begun long counted dots =
     let letters = old.letters in
     let texts = answers_at letters answers in
     let front = held_of old ++ part in
     let all_front : list_all (is_byte_of letters) front ≡ true = list_all-append (is_byte_of letters) (held_of old) part ∙ and_from _ _ (all_held old) in_run in
-    let unnamed : (rest : List ℕ) → kind_of (word_of (front ++ rest)) ≡ None = λ rest. kind_of-long front rest long in
     let begins : (rest : List ℕ) → is_begun (front ++ rest) ≡ true = λ rest. begun-more front rest begun (some_bytes front long) in
     let regrouped : (more : List ℕ) → held_of old ++ (part ++ more) ≡ front ++ more = λ more. sym (append_assoc (held_of old) part more) in
-    let front_is : front ≡ old.held.items ++ (replicate old.dots 46 ++ part) = append_assoc old.held.items (replicate old.dots 46) part in record {
-      text = λ more. ap₂ (λ (p b : Bool). rest_of letters answers (held_of old) p b (part ++ more)) past holds ∙ ap (filtered_at letters answers) (regrouped more) ∙ rest_of-front letters answers front more all_front begins unnamed
-          ∙ ap₂ (λ (t : List ℕ) (p : Bool). t ++ rest_of letters answers (held_of new) p new.passes more) front_is (sym past')
+    let front_is : front ≡ old.held.items ++ (replicate old.dots 46 ++ part) = append_assoc old.held.items (replicate old.dots 46) part in
+    let rest : List ℕ → List ℕ = λ text. with_word letters (changed letters answers) old.place (first_run letters text) ++ with_later_runs letters (replaced_at letters answers) text in
+    let names : List ℕ → List (List ℕ) = λ text. filter is_named (from_word letters (named_in letters) old.place (first_run letters text) ∷ map (word_in letters) (later_runs letters text)) in record {
+      text = λ more. ap (λ (p : Bool). rest_of letters answers (held_of old) p old.place (part ++ more)) past ∙ ap rest (regrouped more) ∙ rest_of-front letters answers old.place front more all_front may begins long
+          ∙ ap₂ (λ (t : List ℕ) (p : Bool). t ++ rest_of letters answers (held_of new) p new.place more) front_is (sym past')
           ∙ ap (λ (t : List ℕ). (old.held.items ++ (replicate old.dots 46 ++ part)) ++ t) (rest_after-same letters answers new more same);
-      counts = λ more. ap₂ (λ (p b : Bool). tally_with texts old.tally (named_of letters (held_of old) p b (part ++ more))) past holds ∙ ap (λ (t : List ℕ). tally_with texts old.tally (named_runs letters t)) (regrouped more) ∙ ap (tally_with texts old.tally) (named_of-front letters front more all_front begins unnamed)
-          ∙ ap₂ (λ (t : Tally) (p : Bool). tally_with texts t (named_of letters (held_of new) p new.passes more)) (sym counted) (sym past')
+      counts = λ more. ap (λ (p : Bool). tally_with texts old.tally (named_of letters (held_of old) p old.place (part ++ more))) past ∙ ap (λ (t : List ℕ). tally_with texts old.tally (names t)) (regrouped more) ∙ ap (tally_with texts old.tally) (named_of-front letters old.place front more all_front may begins long)
+          ∙ ap₂ (λ (t : Tally) (p : Bool). tally_with texts t (named_of letters (held_of new) p new.place more)) (sym counted) (sym past')
           ∙ tally_after-same letters answers new more same;
       dots = dots;
     }
@@ -191,55 +248,56 @@ pub Takes-past : (answers : Answering) (old new : Words) (part : List ℕ) → n
 Takes-past answers old new part same past past' in_run counted dots =
     let letters = old.letters in
     let texts = answers_at letters answers in record {
-      text = λ more. ap (λ (p : Bool). rest_of letters answers (held_of old) p old.passes (part ++ more)) past
+      text = λ more. ap (λ (p : Bool). rest_of letters answers (held_of old) p old.place (part ++ more)) past
           ∙ ap₂ (λ (a b : List ℕ). a ++ b) (first_run-append letters part more in_run) (with_later_runs-append letters (replaced_at letters answers) part more in_run)
           ∙ append_assoc part (first_run letters more) (with_later_runs letters (replaced_at letters answers) more)
-          ∙ ap (λ (t : List ℕ). part ++ t) (ap (λ (p : Bool). rest_of letters answers (held_of new) p new.passes more) (sym past') ∙ rest_after-same letters answers new more same);
-      counts = λ more. ap (λ (p : Bool). tally_with texts old.tally (named_of letters (held_of old) p old.passes (part ++ more))) past
-          ∙ ap (λ (r : List (List ℕ)). tally_with texts old.tally (filter is_named (words_in letters r))) (later_runs-append letters part more in_run)
-          ∙ ap₂ (λ (t : Tally) (p : Bool). tally_with texts t (named_of letters (held_of new) p new.passes more)) (sym counted) (sym past')
+          ∙ ap (λ (t : List ℕ). part ++ t) (ap (λ (p : Bool). rest_of letters answers (held_of new) p new.place more) (sym past') ∙ rest_after-same letters answers new more same);
+      counts = λ more. ap (λ (p : Bool). tally_with texts old.tally (named_of letters (held_of old) p old.place (part ++ more))) past
+          ∙ ap (λ (r : List (List ℕ)). tally_with texts old.tally (filter is_named (map (word_in letters) r))) (later_runs-append letters part more in_run)
+          ∙ ap₂ (λ (t : Tally) (p : Bool). tally_with texts t (named_of letters (held_of new) p new.place more)) (sym counted) (sym past')
           ∙ tally_after-same letters answers new more same;
       dots = omega arith;
     }
 
 -- and ends at a byte that belongs to no run
-pub Takes-past_end : (answers : Answering) (old new : Words) (byte : ℕ) → new.letters ≡ old.letters → old.past ≡ true → new.past ≡ false → new.passes ≡ false → held_of new ≡ [] → is_byte_of old.letters byte ≡ false → new.tally ≡ old.tally → new.dots ≡ old.dots → Takes answers old new (byte ∷ []) (byte ∷ [])
-Takes-past_end answers old new byte same past past' passes nothing other counted dots =
+pub Takes-past_end : (answers : Answering) (old new : Words) (byte : ℕ) → new.letters ≡ old.letters → old.past ≡ true → new.past ≡ false → new.place ≡ START → held_of new ≡ [] → is_byte_of old.letters byte ≡ false → new.tally ≡ old.tally → new.dots ≡ old.dots → Takes answers old new (byte ∷ []) (byte ∷ [])
+Takes-past_end answers old new byte same past past' start nothing other counted dots =
     let letters = old.letters in
     let texts = answers_at letters answers in record {
-      text = λ more. ap (λ (p : Bool). rest_of letters answers (held_of old) p old.passes (byte ∷ more)) past
+      text = λ more. ap (λ (p : Bool). rest_of letters answers (held_of old) p old.place (byte ∷ more)) past
           ∙ ap₂ (λ (a b : List ℕ). a ++ b) (cond-false (is_byte_of letters byte) _ _ other) (cond-false (is_byte_of letters byte) _ _ other)
-          ∙ ap (λ (t : List ℕ). byte ∷ t) (sym (rest_after-nothing letters answers new more same nothing past' passes));
-      counts = λ more. ap (λ (p : Bool). tally_with texts old.tally (named_of letters (held_of old) p old.passes (byte ∷ more))) past
-          ∙ ap (λ (r : List (List ℕ)). tally_with texts old.tally (filter is_named (words_in letters r))) (cond-false (is_byte_of letters byte) _ _ other)
-          ∙ ap₂ (λ (l : Letters) (t : Tally). tally_with (answers_at l answers) t (named_runs letters more)) (sym same) (sym counted)
-          ∙ ap (tally_with (answers_at new.letters answers) new.tally) (sym (named_of-nothing letters new more same nothing past' passes));
+          ∙ ap (λ (t : List ℕ). byte ∷ t) (sym (rest_after-nothing letters answers new more same nothing past' start));
+      counts = λ more. ap (λ (p : Bool). tally_with texts old.tally (named_of letters (held_of old) p old.place (byte ∷ more))) past
+          ∙ ap (λ (r : List (List ℕ)). tally_with texts old.tally (filter is_named (map (word_in letters) r))) (cond-false (is_byte_of letters byte) _ _ other)
+          ∙ ap₂ (λ (l : Letters) (t : Tally). tally_with (answers_at l answers) t (named_words letters more)) (sym same) (sym counted)
+          ∙ ap (tally_with (answers_at new.letters answers) new.tally) (sym (named_of-nothing letters new more same nothing past' start));
       dots = omega arith;
     }
 
 -- it is the first of a text
-pub past-ends : (answers : Answering) (old new : Words) (text : List ℕ) (count : ℕ) → new.letters ≡ old.letters → old.past ≡ true → new.past ≡ false → new.passes ≡ false → held_of new ≡ [] → 0 < length text → count ≡ 0 → is_byte_of old.letters (get_or text count 0) ≡ false → new.tally ≡ old.tally → new.dots ≡ old.dots → Takes answers old new (take 1 text) (take 1 text)
-past-ends answers old new text count same past past' passes nothing some none other counted dots =
+pub past-ends : (answers : Answering) (old new : Words) (text : List ℕ) (count : ℕ) → new.letters ≡ old.letters → old.past ≡ true → new.past ≡ false → new.place ≡ START → held_of new ≡ [] → 0 < length text → count ≡ 0 → is_byte_of old.letters (get_or text count 0) ≡ false → new.tally ≡ old.tally → new.dots ≡ old.dots → Takes answers old new (take 1 text) (take 1 text)
+past-ends answers old new text count same past past' start nothing some none other counted dots =
     let first : take 1 text ≡ get_or text 0 0 ∷ [] = take_more text 0 0 some in
     let ends : is_byte_of old.letters (get_or text 0 0) ≡ false = ap (λ n. is_byte_of old.letters (get_or text n 0)) (sym none) ∙ other in
-    subst (λ (t : List ℕ). Takes answers old new t t) (sym first) (Takes-past_end answers old new (get_or text 0 0) same past past' passes nothing ends counted dots)
+    subst (λ (t : List ℕ). Takes answers old new t t) (sym first) (Takes-past_end answers old new (get_or text 0 0) same past past' start nothing ends counted dots)
 
 -- a byte after a run is taken
-pub Takes-ends : (answers : Answering) (old new : Words) (byte : ℕ) → new.letters ≡ old.letters → is_byte_of old.letters byte ≡ false → new.tally ≡ tally_with_word (answers_at old.letters answers) old.tally old.held.items → held_of new ≡ [] → new.dots ≡ 0 → new.past ≡ false → new.passes ≡ false → Takes answers old new (byte ∷ []) (word_or_text (answers_at old.letters answers) old.held.items ++ (replicate old.dots 46 ++ byte ∷ []))
-Takes-ends answers old new byte same other counted nothing no_dots past holds =
+pub Takes-ends : (answers : Answering) (old new : Words) (byte : ℕ) → new.letters ≡ old.letters → is_byte_of old.letters byte ≡ false → new.tally ≡ tally_with_word (answers_at old.letters answers) old.tally (name_in old.letters old.place old.held.items) → held_of new ≡ [] → new.dots ≡ 0 → new.past ≡ false → new.place ≡ START → Takes answers old new (byte ∷ []) (written old.letters answers old.place old.held.items ++ (replicate old.dots 46 ++ byte ∷ []))
+Takes-ends answers old new byte same other counted nothing no_dots past start =
     let letters = old.letters in
     let texts = answers_at letters answers in
-    let ended = rest_of-end letters answers old.held.items old.dots old.past old.passes old.is_held in
-    let tally = tally-end letters texts old.tally old.held.items old.dots old.past old.passes old.is_counted old.is_held in record {
+    let ended = rest_of-end letters answers old.held.items old.dots old.past old.place old.is_held in
+    let tally = tally-end letters texts old.tally old.held.items old.dots old.past old.place old.is_held in
+    let word = written letters answers old.place old.held.items in record {
       text = λ more. let tail = byte ∷ rest_after answers new more in
-          rest_of-ends letters answers (held_of old) old.past old.passes byte more (all_held old) other ∙ ap₂ (λ (a b : List ℕ). a ++ (byte ∷ b)) ended (sym (rest_after-nothing letters answers new more same nothing past holds))
-          ∙ append_assoc (word_or_text texts old.held.items) (replicate old.dots 46) tail
-          ∙ ap (λ (t : List ℕ). word_or_text texts old.held.items ++ t) (sym (append_assoc (replicate old.dots 46) (byte ∷ []) (rest_after answers new more)))
-          ∙ sym (append_assoc (word_or_text texts old.held.items) (replicate old.dots 46 ++ byte ∷ []) (rest_after answers new more));
-      counts = λ more. ap (tally_with texts old.tally) (named_of-ends letters (held_of old) old.past old.passes byte more (all_held old) other)
-          ∙ sym (tally_with-append texts old.tally (named_of letters (held_of old) old.past old.passes []) (named_runs letters more))
-          ∙ ap₂ (λ (t : Tally) (runs : List (List ℕ)). tally_with texts t runs) (sym (counted ∙ tally)) (sym (named_of-nothing letters new more same nothing past holds))
-          ∙ ap (λ (l : Letters). tally_with (answers_at l answers) new.tally (named_of new.letters (held_of new) new.past new.passes more)) (sym same);
+          rest_of-ends letters answers (held_of old) old.past old.place byte more (all_held old) other ∙ ap₂ (λ (a b : List ℕ). a ++ (byte ∷ b)) ended (sym (rest_after-nothing letters answers new more same nothing past start))
+          ∙ append_assoc word (replicate old.dots 46) tail
+          ∙ ap (λ (t : List ℕ). word ++ t) (sym (append_assoc (replicate old.dots 46) (byte ∷ []) (rest_after answers new more)))
+          ∙ sym (append_assoc word (replicate old.dots 46 ++ byte ∷ []) (rest_after answers new more));
+      counts = λ more. ap (tally_with texts old.tally) (named_of-ends letters (held_of old) old.past old.place byte more (all_held old) other)
+          ∙ sym (tally_with-append texts old.tally (named_of letters (held_of old) old.past old.place []) (named_words letters more))
+          ∙ ap₂ (λ (t : Tally) (words : List (List ℕ)). tally_with texts t words) (sym (counted ∙ tally)) (sym (named_of-nothing letters new more same nothing past start))
+          ∙ ap (λ (l : Letters). tally_with (answers_at l answers) new.tally (named_of new.letters (held_of new) new.past new.place more)) (sym same);
       dots = omega arith;
     }
 
@@ -254,7 +312,7 @@ Takes-join answers a b c piece next bytes more_bytes h i = record {
 -- nothing is held of a run that is passed on
 pub held_of-past : (words : Words) → words.past ≡ true → held_of words ≡ []
 held_of-past words past =
-    let nothing = words.is_held.passing_holds_nothing (ap (λ (p : Bool). p || words.passes) past) in
+    let nothing = words.is_held.past_holds_nothing past in
     ap₂ (λ (t : List ℕ) (n : ℕ). t ++ replicate n 46) nothing.0 nothing.1
 
 -- nothing is held of a run
@@ -296,15 +354,16 @@ held_of-part held part dots end word within =
     append_assoc front (take end part) (replicate (length part - end) 46)
     ∙ ap (λ (t : List ℕ). front ++ t) (ap₂ (λ (t : List ℕ) (n : ℕ). t ++ replicate (length part - n) 46) word (sym size) ∙ sym (word_and_dots part))
 
-pub IsHeld-part : (letters : Letters) (held : List ℕ) (dots dots' : ℕ) (part : List ℕ) (end : ℕ) (past passes : Bool) → IsHeld letters held dots past passes → list_all (is_byte_of letters) part ≡ true → take end part ≡ word_of part → (end ≡ 0 → ⊥) → end ≤ length part → length held + dots + end ≤ LONGEST_WORD → past ≡ false → passes ≡ false → dots' ≡ length part - end → is_begun ((held ++ replicate dots 46) ++ part) ≡ true → IsHeld letters (held ++ replicate dots 46 ++ take end part) dots' past passes
-IsHeld-part letters held dots dots' part end past passes h in_run word some within short not_past holds behind begun =
+pub IsHeld-part : (letters : Letters) (held : List ℕ) (dots dots' : ℕ) (part : List ℕ) (end : ℕ) (past : Bool) (place : Place) → IsHeld letters held dots past place → list_all (is_byte_of letters) part ≡ true → take end part ≡ word_of part → (end ≡ 0 → ⊥) → end ≤ length part → length held + dots + end ≤ LONGEST_WORD → past ≡ false → may_begin letters place ≡ true → dots' ≡ length part - end → is_begun ((held ++ replicate dots 46) ++ part) ≡ true → IsHeld letters (held ++ replicate dots 46 ++ take end part) dots' past place
+IsHeld-part letters held dots dots' part end past place h in_run word some within short not_past begins behind begun =
     let front = held ++ replicate dots 46 in
     let other : list_all is_dot (take end part) ≡ false = ap (list_all is_dot) word ∙ list_all-word_of part ∙ not_dots part end word some within in record {
       of_run = list_all-append (is_byte_of letters) front (take end part) ∙ and_from _ _ (list_all-held letters held dots h.of_run) (front_in_run letters part end in_run word);
       is_word = word_of-part front (take end part) other ∙ ap (λ (t : List ℕ). front ++ t) (ap word_of word ∙ word_of-word part ∙ sym word);
       fits = omega (arith, length-append front (take end part), length-append held (replicate dots 46), length-replicate {A = ℕ} dots 46, length-take end part);
       begins = ap (λ (n : ℕ). is_begun ((held ++ replicate dots 46 ++ take end part) ++ replicate n 46)) behind ∙ ap is_begun (held_of-part held part dots end word within) ∙ begun;
-      passing_holds_nothing = λ e. absurd (true≢false (sym e ∙ ap₂ (λ (p b : Bool). p || b) not_past holds));
+      past_holds_nothing = λ e. absurd (true≢false (sym e ∙ not_past));
+      closed_holds_nothing = λ e. absurd (true≢false (sym begins ∙ e));
     }
 
 pub held_of-dots : (held part : List ℕ) (dots end : ℕ) → take end part ≡ word_of part → end ≡ 0 → held ++ replicate (dots + length part) 46 ≡ (held ++ replicate dots 46) ++ part
@@ -314,13 +373,14 @@ held_of-dots held part dots end word none =
     let part_is : part ≡ replicate (length part) 46 = word_and_dots part ∙ ap (λ (t : List ℕ). t ++ replicate (length part - length t) 46) no_word ∙ ap (λ n. replicate n 46) whole_length in
     ap (λ (t : List ℕ). held ++ t) (sym (replicate-append-replicate dots (length part) 46)) ∙ sym (append_assoc held (replicate dots 46) (replicate (length part) 46)) ∙ ap (λ (t : List ℕ). (held ++ replicate dots 46) ++ t) (sym part_is)
 
-pub IsHeld-dots : (letters : Letters) (held : List ℕ) (dots dots' : ℕ) (part : List ℕ) (end : ℕ) (past passes : Bool) → IsHeld letters held dots past passes → take end part ≡ word_of part → end ≡ 0 → past ≡ false → passes ≡ false → dots' ≡ dots + length part → is_begun ((held ++ replicate dots 46) ++ part) ≡ true → IsHeld letters held dots' past passes
-IsHeld-dots letters held dots dots' part end past passes h word none not_past holds behind begun = record {
+pub IsHeld-dots : (letters : Letters) (held : List ℕ) (dots dots' : ℕ) (part : List ℕ) (end : ℕ) (past : Bool) (place : Place) → IsHeld letters held dots past place → take end part ≡ word_of part → end ≡ 0 → past ≡ false → may_begin letters place ≡ true → dots' ≡ dots + length part → is_begun ((held ++ replicate dots 46) ++ part) ≡ true → IsHeld letters held dots' past place
+IsHeld-dots letters held dots dots' part end past place h word none not_past begins behind begun = record {
   of_run = h.of_run;
   is_word = h.is_word;
   begins = ap (λ (n : ℕ). is_begun (held ++ replicate n 46)) behind ∙ ap is_begun (held_of-dots held part dots end word none) ∙ begun;
   fits = h.fits;
-  passing_holds_nothing = λ e. absurd (true≢false (sym e ∙ ap₂ (λ (p b : Bool). p || b) not_past holds));
+  past_holds_nothing = λ e. absurd (true≢false (sym e ∙ not_past));
+  closed_holds_nothing = λ e. absurd (true≢false (sym begins ∙ e));
 }
 
 pub long-part : (held part : List ℕ) (dots end : ℕ) → take end part ≡ word_of part → (end ≡ 0 → ⊥) → end ≤ length part → LONGEST_WORD < length held + dots + end → LONGEST_WORD < length (word_of ((held ++ replicate dots 46) ++ part))
@@ -330,42 +390,42 @@ long-part held part dots end word some within long =
     omega (arith, ap length (word_of-part front part (not_dots part end word some within)), length-append front (word_of part), length-append held (replicate dots 46), length-replicate {A = ℕ} dots 46)
 
 -- a byte after a run is the first of a text
-pub Takes-first : (answers : Answering) (old new : Words) (text : List ℕ) (count dots : ℕ) → new.letters ≡ old.letters → 0 < length text → count ≡ 0 → is_byte_of old.letters (get_or text count 0) ≡ false → dots ≡ old.dots → new.tally ≡ tally_with_word (answers_at old.letters answers) old.tally old.held.items → held_of new ≡ [] → new.dots ≡ 0 → new.past ≡ false → new.passes ≡ false → Takes answers old new (take 1 text) (word_or_text (answers_at old.letters answers) old.held.items ++ (replicate dots 46 ++ take 1 text))
+pub Takes-first : (answers : Answering) (old new : Words) (text : List ℕ) (count dots : ℕ) → new.letters ≡ old.letters → 0 < length text → count ≡ 0 → is_byte_of old.letters (get_or text count 0) ≡ false → dots ≡ old.dots → new.tally ≡ tally_with_word (answers_at old.letters answers) old.tally (name_in old.letters old.place old.held.items) → held_of new ≡ [] → new.dots ≡ 0 → new.past ≡ false → new.place ≡ START → Takes answers old new (take 1 text) (written old.letters answers old.place old.held.items ++ (replicate dots 46 ++ take 1 text))
 Takes-first answers old new text count dots letters some none other same counted nothing no_dots past holds =
     let first : take 1 text ≡ get_or text 0 0 ∷ [] = take_more text 0 0 some in
     let ends : is_byte_of old.letters (get_or text 0 0) ≡ false = ap (λ n. is_byte_of old.letters (get_or text n 0)) (sym none) ∙ other in
-    subst (λ (n : ℕ). Takes answers old new (take 1 text) (word_or_text (answers_at old.letters answers) old.held.items ++ (replicate n 46 ++ take 1 text))) (sym same)
-    (subst (λ (t : List ℕ). Takes answers old new t (word_or_text (answers_at old.letters answers) old.held.items ++ (replicate old.dots 46 ++ t))) (sym first) (Takes-ends answers old new (get_or text 0 0) letters ends counted nothing no_dots past holds))
+    subst (λ (n : ℕ). Takes answers old new (take 1 text) (written old.letters answers old.place old.held.items ++ (replicate n 46 ++ take 1 text))) (sym same)
+    (subst (λ (t : List ℕ). Takes answers old new t (written old.letters answers old.place old.held.items ++ (replicate old.dots 46 ++ t))) (sym first) (Takes-ends answers old new (get_or text 0 0) letters ends counted nothing no_dots past holds))
 
 -- a part of a run is held, or the run is passed on from it on
-pub Takes-hold : (answers : Answering) (old new : Words) (text out out' : List ℕ) (count : ℕ) (taken : Taken) (b : Bool) → new.letters ≡ old.letters → taken.stay ≡ b → count ≤ length text → list_all (is_byte_of old.letters) (take count text) ≡ true → is_begun (held_of old ++ take count text) ≡ true → old.past ≡ false → old.passes ≡ false → new.tally ≡ old.tally → new.dots ≤ old.dots + length (take count text) → taken.count ≡ length (take count text) → (taken.stay ≡ false → (new.past ≡ false) × (new.passes ≡ false) × (taken.dots ≡ 0) × (held_of new ≡ held_of old ++ take count text) × (out' ≡ out)) → (taken.stay ≡ true → (new.past ≡ true) × (taken.dots ≡ old.dots) × (out' ≡ out ++ old.held.items) × (LONGEST_WORD < length (word_of (held_of old ++ take count text)))) → (bytes : List ℕ) × (out' ≡ out ++ bytes) × Takes answers old new (take taken.count text) (bytes ++ behind taken (take taken.count text))
-Takes-hold answers old new text out out' count taken false letters stay within in_run begun past holds counted dots count_is held passes =
+pub Takes-hold : (answers : Answering) (old new : Words) (text out out' : List ℕ) (count : ℕ) (taken : Taken) (b : Bool) → new.letters ≡ old.letters → taken.stay ≡ b → count ≤ length text → list_all (is_byte_of old.letters) (take count text) ≡ true → is_begun (held_of old ++ take count text) ≡ true → old.past ≡ false → may_begin old.letters old.place ≡ true → new.place ≡ old.place → new.tally ≡ old.tally → new.dots ≤ old.dots + length (take count text) → taken.count ≡ length (take count text) → (taken.stay ≡ false → (new.past ≡ false) × (taken.dots ≡ 0) × (held_of new ≡ held_of old ++ take count text) × (out' ≡ out)) → (taken.stay ≡ true → (new.past ≡ true) × (taken.dots ≡ old.dots) × (out' ≡ out ++ old.held.items) × (LONGEST_WORD < length (word_of (held_of old ++ take count text)))) → (bytes : List ℕ) × (out' ≡ out ++ bytes) × Takes answers old new (take taken.count text) (bytes ++ behind taken (take taken.count text))
+Takes-hold answers old new text out out' count taken false letters stay within in_run begun past begins place counted dots count_is held passes =
     let h = held stay in
     let part = take count text in
     let whole : take taken.count text ≡ part = ap (λ n. take n text) (count_is ∙ omega (arith, length-take count text)) in
-    let nothing : behind taken (take taken.count text) ≡ [] = ap₂ (λ (n : ℕ) (b : Bool). replicate n 46 ++ cond b (take taken.count text) []) h.2 stay in
-    ([], h.4 ∙ sym (append-nil out), subst (λ (t : List ℕ). Takes answers old new (take taken.count text) t) (sym nothing) (subst (λ (t : List ℕ). Takes answers old new t []) (sym whole) (Takes-held answers old new part letters past h.0 holds h.1 h.3 counted dots)))
-Takes-hold answers old new text out out' count taken true letters stay within in_run begun past holds counted dots count_is held passes =
+    let nothing : behind taken (take taken.count text) ≡ [] = ap₂ (λ (n : ℕ) (b : Bool). replicate n 46 ++ cond b (take taken.count text) []) h.1 stay in
+    ([], h.3 ∙ sym (append-nil out), subst (λ (t : List ℕ). Takes answers old new (take taken.count text) t) (sym nothing) (subst (λ (t : List ℕ). Takes answers old new t []) (sym whole) (Takes-held answers old new part letters past h.0 place h.2 counted dots)))
+Takes-hold answers old new text out out' count taken true letters stay within in_run begun past begins place counted dots count_is held passes =
     let h = passes stay in
     let part = take count text in
     let whole : take taken.count text ≡ part = ap (λ n. take n text) (count_is ∙ omega (arith, length-take count text)) in
     let follows : behind taken (take taken.count text) ≡ replicate old.dots 46 ++ part = ap₂ (λ (n : ℕ) (b : Bool). replicate n 46 ++ cond b (take taken.count text) []) h.1 stay ∙ ap (λ (t : List ℕ). replicate old.dots 46 ++ t) whole in
-    (old.held.items, h.2, subst (λ (t : List ℕ). Takes answers old new (take taken.count text) (old.held.items ++ t)) (sym follows) (subst (λ (t : List ℕ). Takes answers old new t (old.held.items ++ (replicate old.dots 46 ++ part))) (sym whole) (Takes-passes answers old new part letters past holds h.0 in_run begun h.3 counted dots)))
+    (old.held.items, h.2, subst (λ (t : List ℕ). Takes answers old new (take taken.count text) (old.held.items ++ t)) (sym follows) (subst (λ (t : List ℕ). Takes answers old new t (old.held.items ++ (replicate old.dots 46 ++ part))) (sym whole) (Takes-passes answers old new part letters past begins h.0 in_run begun h.3 counted dots)))
 
--- where something is held, no run is passed on
-pub passes-none : (letters : Letters) (held : List ℕ) (dots : ℕ) (past passes : Bool) → IsHeld letters held dots past passes → ((held ≡ []) → (dots ≡ 0) → ⊥) → past ≡ false → passes ≡ false
-passes-none letters held dots past true h some not_past = let nothing = h.passing_holds_nothing (ap (λ (p : Bool). p || true) not_past) in absurd (some nothing.0 nothing.1)
-passes-none letters held dots past false h some not_past = refl
+-- where something is held, no run is passed on, and a word may begin at its place
+pub held-open : (letters : Letters) (held : List ℕ) (dots : ℕ) (past : Bool) (place : Place) (b : Bool) → IsHeld letters held dots past place → ((held ≡ []) → (dots ≡ 0) → ⊥) → may_begin letters place ≡ b → b ≡ true
+held-open letters held dots past place true h some begins = refl
+held-open letters held dots past place false h some begins = let nothing = h.closed_holds_nothing begins in absurd (some nothing.0 nothing.1)
 
-pub past-none : (letters : Letters) (held : List ℕ) (dots : ℕ) (past passes : Bool) → IsHeld letters held dots past passes → ((held ≡ []) → (dots ≡ 0) → ⊥) → past ≡ false
-past-none letters held dots true passes h some = let nothing = h.passing_holds_nothing refl in absurd (some nothing.0 nothing.1)
-past-none letters held dots false passes h some = refl
+pub past-none : (letters : Letters) (held : List ℕ) (dots : ℕ) (past : Bool) (place : Place) → IsHeld letters held dots past place → ((held ≡ []) → (dots ≡ 0) → ⊥) → past ≡ false
+past-none letters held dots true place h some = let nothing = h.past_holds_nothing refl in absurd (some nothing.0 nothing.1)
+past-none letters held dots false place h some = refl
 
--- nor where a text begins with a word
-pub front-none : (letters : Letters) (passes closed : Bool) (text : List ℕ) (n : ℕ) → n ≤ 0 → 0 < length text → (n < length text → closed ≡ false) → closed ≡ is_closed letters passes (take n text) → passes ≡ false
-front-none letters passes closed text n none some stops same =
+-- as where a text begins with a word
+pub front-open : (letters : Letters) (place here : Place) (text : List ℕ) (n : ℕ) → n ≤ 0 → 0 < length text → (n < length text → may_begin letters here ≡ true) → here ≡ place_of letters place (take n text) → may_begin letters place ≡ true
+front-open letters place here text n none some stops same =
     let zero : n ≡ 0 = omega arith in
-    sym (same ∙ ap (λ k. is_closed letters passes (take k text)) zero) ∙ stops (omega arith)
+    sym (ap (may_begin letters) (same ∙ ap (λ k. place_of letters place (take k text)) zero)) ∙ stops (omega arith)
 
 -- it begins with an underscore then
 pub front-begun : (held : List ℕ) (text : List ℕ) (n count : ℕ) → held ≡ [] → n ≤ 0 → 0 < length text → 0 < count → (n < length text → get_or text n 0 ≡ 95) → is_begun (held ++ take count text) ≡ true

@@ -1,14 +1,18 @@
 -- What a filter holds back of a run.
-use Rattle.std.specs.Prelude.{◌≡◌, ◌≤◌, ◌||◌, ℕ, List, [], ◌++◌, length, replicate, Bool, true}
+use Rattle.std.specs.Prelude.{◌≡◌, ◌≤◌, ℕ, List, [], ◌++◌, length, replicate, Bool, true, false}
 use Rattle.std.specs.List.{list_all}
-use Rattle.sym_filter.specs.Runs.{is_begun, is_byte_of, word_of}
+use Rattle.sym_filter.specs.Bytes.{is_byte_of}
+use Rattle.sym_filter.specs.Places.{may_begin}
+use Rattle.sym_filter.specs.Runs.{is_begun, word_of}
 use Rattle.sym_filter.specs.declared.kinds.Letters.{Letters}
 use Rattle.sym_filter.specs.declared.kinds.TheConstants.{LONGEST_WORD}
+use Rattle.sym_filter.specs.declared.places.Place.{Place}
 
--- the front of a run without its trailing dots, as long as a word that names a symbol may be
-pub record IsHeld (letters : Letters) (held : List ℕ) (dots : ℕ) (past passes : Bool) : Type 0 where
+-- the front of a run without its trailing dots, as long as a word that names a symbol may be; the place is that of its first byte
+pub record IsHeld (letters : Letters) (held : List ℕ) (dots : ℕ) (past : Bool) (place : Place) : Type 0 where
   pub of_run : list_all (is_byte_of letters) held ≡ true
   pub is_word : word_of held ≡ held
   pub begins : is_begun (held ++ replicate dots 46) ≡ true
   pub fits : length held ≤ LONGEST_WORD
-  pub passing_holds_nothing : (past || passes) ≡ true → (held ≡ []) × (dots ≡ 0)
+  pub past_holds_nothing : past ≡ true → (held ≡ []) × (dots ≡ 0)
+  pub closed_holds_nothing : may_begin letters place ≡ false → (held ≡ []) × (dots ≡ 0)

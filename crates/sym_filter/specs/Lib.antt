@@ -1,7 +1,10 @@
+pub mod Bytes
 pub mod Demangled
 pub mod Held
 pub mod Kinds
 pub mod Lanes
+pub mod Marks
+pub mod Places
 pub mod Plain
 pub mod Runs
 pub mod Splits

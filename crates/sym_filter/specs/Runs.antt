@@ -7,22 +7,13 @@ use Rattle.sym_core.specs.declared.refusal.Refusal.TheVariants.{TooLong}
 use Rattle.sym_filter.specs.declared.kinds.Kind.{Kind}
 use Rattle.sym_filter.specs.declared.kinds.Letters.{Letters}
 use Rattle.sym_filter.specs.declared.kinds.Letters.TheVariants.{Any, Ascii, Within}
+use Rattle.sym_filter.specs.declared.kinds.TheConstants.{LONGEST_WORD}
+use Rattle.sym_filter.specs.declared.places.Place.{Place}
 use Rattle.sym_filter.specs.declared.words.Tally.{Tally}
+use Rattle.sym_filter.specs.Bytes.{is_byte_of, is_wide}
 use Rattle.sym_filter.specs.Kinds.{kind_of, symbol_of, underscore_of}
-
-abbrev pub is_between : ℕ → ℕ → ℕ → Bool
-is_between low high byte = nat_le low byte && nat_le byte high
-
--- the bytes of runs: ASCII letters, digits, '_', '.', '$', and all from 0x80
-unfoldable pub is_run_byte : ℕ → Bool
-is_run_byte byte =
-    is_between 97 122 byte || is_between 65 90 byte || is_between 48 57 byte || byte == 95 || byte == 46 || byte == 36 || nat_le 128 byte
-
--- the bytes of runs where words have these letters: those of any letters, or those of them that are ASCII
-abbrev pub is_byte_of : Letters → ℕ → Bool
-is_byte_of Any byte = is_run_byte byte
-is_byte_of Ascii byte = is_run_byte byte && not (nat_le 128 byte)
-is_byte_of Within byte = is_run_byte byte
+use Rattle.sym_filter.specs.Marks.{before_mark, from_mark}
+use Rattle.sym_filter.specs.Places.{START, from_word, with_word}
 
 -- the run that a text begins with, of no byte where it begins with another byte
 abbrev pub first_run : Letters → List ℕ → List ℕ
@@ -92,10 +83,6 @@ is_begun (byte ∷ bytes) = byte == 95
 
 -- ## The text for a word that begins within a run
 
--- a byte that isn't ASCII
-abbrev pub is_wide : ℕ → Bool
-is_wide byte = nat_le 128 byte
-
 -- a word without its last bytes, as long as these are dots or not ASCII
 abbrev pub trimmed : List ℕ → List ℕ
 trimmed [] = []
@@ -149,12 +136,6 @@ or_answer None other = other
 abbrev pub within : Answering → Answering
 within answers kind symbol = or_answer (text_of_tries answers (underscore_of kind.skip ++ symbol)) (answers kind symbol)
 
--- words begin within runs
-abbrev pub begins_within : Letters → Bool
-begins_within Any = false
-begins_within Ascii = false
-begins_within Within = true
-
 abbrev pub answers_at : Letters → Answering → Answering
 answers_at Any answers = answers
 answers_at Ascii answers = answers
@@ -162,36 +143,41 @@ answers_at Within answers = within answers
 
 -- ## The word of a run
 
--- whether no word begins in a run right after the byte: one may after a dot or a byte that isn't ASCII, where words begin within runs
-abbrev pub closes : Letters → ℕ → Bool
-closes Any byte = is_byte_of Any byte
-closes Ascii byte = is_byte_of Ascii byte
-closes Within byte = is_byte_of Ascii byte && not (byte == 46)
+-- whether a word, or what is held of one, is short enough to name a symbol
+abbrev pub fits : List ℕ → Bool
+fits word = nat_le (length word) LONGEST_WORD
 
--- A run that is changed by a function from its word on. The word begins at the first underscore before which nothing stands, or a byte
--- that doesn't close; the flag says whether the byte before the run does.
-abbrev pub with_word : Letters → (List ℕ → List ℕ) → (closed : Bool) → List ℕ → List ℕ
-with_word letters change closed [] = []
-with_word letters change closed (byte ∷ run) =
-    if not closed && byte == 95 then change (byte ∷ run) else byte ∷ with_word letters change (closes letters byte) run
+-- what is written for a word that is held from a place on
+abbrev pub written : Letters → Answering → Place → List ℕ → List ℕ
+written Any answers place word = word_or_text answers word
+written Ascii answers place word = word_or_text answers word
+written Within answers place word = before_mark place word ++ word_or_text (within answers) (from_mark place word)
 
--- a run from its word on, nothing where it has none
-abbrev pub from_word : Letters → (closed : Bool) → List ℕ → List ℕ
-from_word letters closed [] = []
-from_word letters closed (byte ∷ run) =
-    if not closed && byte == 95 then byte ∷ run else from_word letters (closes letters byte) run
+-- the part of it that names a symbol, if it does
+abbrev pub name_in : Letters → Place → List ℕ → List ℕ
+name_in Any place word = word
+name_in Ascii place word = word
+name_in Within place word = from_mark place word
+
+-- what is written for a run from a place on, if it isn't too long: dots at its end stay
+abbrev pub changed : Letters → Answering → Place → List ℕ → List ℕ
+changed letters answers place run = if fits (word_of run) then written letters answers place (word_of run) ++ dots_behind run else run
+
+-- the part of it that names a symbol, if it does
+abbrev pub named_in : Letters → Place → List ℕ → List ℕ
+named_in letters place run = if fits (word_of run) then name_in letters place (word_of run) else []
 
 -- a run with its word of these letters replaced
 abbrev pub replaced_at : Letters → Answering → List ℕ → List ℕ
 replaced_at Any answers run = replaced answers run
 replaced_at Ascii answers run = replaced answers run
-replaced_at Within answers run = with_word Within (replaced (within answers)) false run
+replaced_at Within answers run = with_word Within (changed Within answers) START run
 
--- runs, each from its word on
-abbrev pub words_in : Letters → List (List ℕ) → List (List ℕ)
-words_in Any runs = runs
-words_in Ascii runs = runs
-words_in Within runs = map (from_word Within false) runs
+-- the word of a run, or nothing
+abbrev pub word_in : Letters → List ℕ → List ℕ
+word_in Any run = word_of run
+word_in Ascii run = word_of run
+word_in Within run = from_word Within (named_in Within) START run
 
 -- ## The filtered text
 
@@ -203,13 +189,13 @@ filtered_at letters answers text = with_runs letters (replaced_at letters answer
 abbrev pub filtered : Answering → List ℕ → List ℕ
 filtered answers text = filtered_at Any answers text
 
--- whether a run's word names a symbol
+-- whether a word names a symbol
 unfoldable pub is_named : List ℕ → Bool
-is_named run = is_some (kind_of (word_of run))
+is_named word = is_some (kind_of (word_of word))
 
--- the runs of a text whose words name symbols, each from its word on
-abbrev pub named_runs : Letters → List ℕ → List (List ℕ)
-named_runs letters text = filter is_named (words_in letters (runs_of letters text))
+-- the words of a text that name symbols
+abbrev pub named_words : Letters → List ℕ → List (List ℕ)
+named_words letters text = filter is_named (map (word_in letters) (runs_of letters text))
 
 -- a count that stays at the greatest u64 once it is there
 abbrev pub capped : ℕ → ℕ
@@ -221,12 +207,12 @@ pub record IsTally (tally : Tally) : Type 0 where
   pub replaced : tally.replaced < 2 ^ 64
   pub refused : tally.refused < 2 ^ 64
 
--- a tally with these runs counted too: how many they are, how many have a text, and how many have none
+-- a tally with these words counted too: how many they are, how many have a text, and how many have none
 abbrev pub tally_with : Answering → Tally → List (List ℕ) → Tally
-tally_with answers tally runs = record {
-  words = capped (tally.words + length runs);
-  replaced = capped (tally.replaced + count_by (has_text answers) runs);
-  refused = capped (tally.refused + count_by (λ run. not (has_text answers run)) runs);
+tally_with answers tally words = record {
+  words = capped (tally.words + length words);
+  replaced = capped (tally.replaced + count_by (has_text answers) words);
+  refused = capped (tally.refused + count_by (λ word. not (has_text answers word)) words);
 }
 
 -- a tally with one word counted too, which has a text or none
@@ -240,4 +226,4 @@ tally_with_word answers tally word = tally_with answers tally (filter is_named (
 
 -- the tally of a text whose words have these letters
 abbrev pub tally_at : Letters → Answering → List ℕ → Tally
-tally_at letters answers text = tally_with (answers_at letters answers) (record { words = 0; replaced = 0; refused = 0 }) (named_runs letters text)
+tally_at letters answers text = tally_with (answers_at letters answers) (record { words = 0; replaced = 0; refused = 0 }) (named_words letters text)

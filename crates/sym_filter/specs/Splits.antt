@@ -3,7 +3,8 @@ use Rattle.std.specs.Prelude.{◌≡◌, ℕ, List, [], ◌∷◌, ◌++◌, map
 use Rattle.std.specs.List.{list_all}
 use Rattle.sym_filter.specs.declared.kinds.Letters.{Letters}
 use Rattle.sym_filter.specs.declared.kinds.Letters.TheVariants.{Any}
-use Rattle.sym_filter.specs.Runs.{Answering, is_byte_of, replaced_at, filtered_at}
+use Rattle.sym_filter.specs.Bytes.{is_byte_of}
+use Rattle.sym_filter.specs.Runs.{Answering, replaced_at, filtered_at}
 
 -- a run, maybe of no byte, and after it other bytes, each with the run after it
 abbrev pub joined : List ℕ → List (ℕ × List ℕ) → List ℕ

@@ -1,37 +1,38 @@
 -- What is still to come of a filtered text, where a filter is after a front of it.
-use Rattle.std.specs.Prelude.{◌≡◌, ◌+◌, ◌≤◌, ℕ, List, [], ◌∷◌, ◌++◌, length, Bool, true, false, filter, replicate, if◌then◌else◌}
+use Rattle.std.specs.Prelude.{◌≡◌, ◌+◌, ◌≤◌, ℕ, List, [], ◌∷◌, ◌++◌, length, Bool, true, false, filter, map, replicate, if◌then◌else◌}
 use Rattle.sym_filter.specs.declared.kinds.Letters.{Letters}
 use Rattle.sym_filter.specs.declared.words.Taken.{Taken}
 use Rattle.sym_filter.specs.declared.words.Tally.{Tally}
 use Rattle.sym_filter.specs.declared.words.Words.{Words}
-use Rattle.sym_filter.specs.Runs.{Answering, answers_at, first_run, later_runs, with_later_runs, with_word, from_word, words_in, replaced, replaced_at, filtered_at, is_named, named_runs, tally_with}
+use Rattle.sym_filter.specs.declared.places.Place.{Place}
+use Rattle.sym_filter.specs.Places.{from_word, with_word}
+use Rattle.sym_filter.specs.Runs.{Answering, answers_at, changed, first_run, is_named, later_runs, named_in, replaced_at, tally_with, with_later_runs, word_in}
 
 -- the front of a run that is held back
 abbrev pub held_of : Words → List ℕ
 held_of words = words.held.items ++ replicate words.dots 46
 
--- What is to be written for the bytes that follow. A run that is passed on to its end goes on unchanged; one whose word hasn't begun,
--- as one that goes on behind a byte which closes; and else the held front of a run stands before those bytes.
-abbrev pub rest_of : Letters → Answering → List ℕ → (past passes : Bool) → List ℕ → List ℕ
-rest_of letters answers held true passes more = first_run letters more ++ with_later_runs letters (replaced_at letters answers) more
-rest_of letters answers held false true more =
-    with_word letters (replaced (answers_at letters answers)) true (first_run letters more) ++ with_later_runs letters (replaced_at letters answers) more
-rest_of letters answers held false false more = filtered_at letters answers (held ++ more)
+-- What is to be written for the bytes that follow: a run that is passed on to its end goes on unchanged; else the held front of a run,
+-- which is at the place, comes before those bytes.
+abbrev pub rest_of : Letters → Answering → List ℕ → (past : Bool) → Place → List ℕ → List ℕ
+rest_of letters answers held true place more = first_run letters more ++ with_later_runs letters (replaced_at letters answers) more
+rest_of letters answers held false place more =
+    with_word letters (changed letters answers) place (first_run letters (held ++ more)) ++ with_later_runs letters (replaced_at letters answers) (held ++ more)
 
--- the runs that are to be counted with the bytes that follow
-abbrev pub named_of : Letters → List ℕ → (past passes : Bool) → List ℕ → List (List ℕ)
-named_of letters held true passes more = filter is_named (words_in letters (later_runs letters more))
-named_of letters held false true more = filter is_named (from_word letters true (first_run letters more) ∷ words_in letters (later_runs letters more))
-named_of letters held false false more = named_runs letters (held ++ more)
+-- the words that are to be counted with the bytes that follow
+abbrev pub named_of : Letters → List ℕ → (past : Bool) → Place → List ℕ → List (List ℕ)
+named_of letters held true place more = filter is_named (map (word_in letters) (later_runs letters more))
+named_of letters held false place more =
+    filter is_named (from_word letters (named_in letters) place (first_run letters (held ++ more)) ∷ map (word_in letters) (later_runs letters (held ++ more)))
 
 -- what is to be written for the bytes that follow
 abbrev pub rest_after : Answering → Words → List ℕ → List ℕ
-rest_after answers words more = rest_of words.letters answers (held_of words) words.past words.passes more
+rest_after answers words more = rest_of words.letters answers (held_of words) words.past words.place more
 
 -- the tally in the end, where these bytes follow
 abbrev pub tally_after : Answering → Words → List ℕ → Tally
 tally_after answers words more =
-    tally_with (answers_at words.letters answers) words.tally (named_of words.letters (held_of words) words.past words.passes more)
+    tally_with (answers_at words.letters answers) words.tally (named_of words.letters (held_of words) words.past words.place more)
 
 -- what follows on the bytes that were appended for the bytes that were taken: dots, and the bytes themselves where they stay
 abbrev pub behind : Taken → List ℕ → List ℕ

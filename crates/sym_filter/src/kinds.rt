@@ -1,6 +1,6 @@
 // Which words are symbols, and of which language.
 ghost use Rattle.std.specs.Prelude.{◌≡◌, ◌≤◌, Some, length};
-ghost use Rattle.sym_filter.specs.Kinds.{kind_of, symbol_of};
+ghost use Rattle.sym_filter.specs.Kinds.{kind_by_beginning, kind_of, symbol_of};
 ghost use Rattle.sym_filter.specs.declared.kinds.TheConstants.{LONGEST_WORD};
 
 /// The longest word that is read as a symbol, in bytes.
@@ -13,8 +13,8 @@ pub enum Letters {
     Any,
     /// None, so that a word ends at a quote that isn't ASCII. A word is a run.
     Ascii,
-    /// All from 0x80. A word begins at a run's first underscore that has no byte before it in the run, or a dot or a byte from 0x80,
-    /// and goes on to the run's end; bytes from 0x80 in it may belong to no symbol.
+    /// All from 0x80. A word begins within a run, where one that names a symbol may, and goes on to the run's end; bytes from 0x80 in it
+    /// may belong to no symbol.
     Within,
 }
 
@@ -50,6 +50,13 @@ pub fn kind_of(word: &[u8]) -> Option<Kind>
     if word.len() > LONGEST_WORD {
         return None;
     }
+    kind_by_beginning(word)
+}
+
+/// The kind of a word by how it begins, whatever its length.
+pub(crate) fn kind_by_beginning(word: &[u8]) -> Option<Kind>
+    ensures { result ≡ kind_by_beginning word.now }
+{
     let (lang, skip) = match word {
         [b'_', b'Z', ..] => (Lang::Cpp, 0),
         [b'_', b'R', ..] => (Lang::Rust, 0),

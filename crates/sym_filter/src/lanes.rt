@@ -3,7 +3,7 @@
 ghost use Rattle.std.specs.Prelude.{◌≡◌, ◌+◌, ◌≤◌, length, drop, take, true};
 ghost use Rattle.std.specs.List.{list_all};
 ghost use Rattle.sym_filter.specs.Lanes.{first_set, is_no_mark};
-ghost use Rattle.sym_filter.specs.Runs.{is_byte_of};
+ghost use Rattle.sym_filter.specs.Bytes.{is_byte_of};
 ghost use Rattle.sym_filter.specs.declared.kinds.Letters.TheVariants.{Ascii};
 
 use std::simd::prelude::*;

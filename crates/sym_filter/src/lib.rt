@@ -6,6 +6,8 @@ mod filtering;
 pub mod kinds;
 mod lanes;
 mod laws;
+mod marks;
+pub mod places;
 pub mod standard;
 pub mod streams;
 mod tries;

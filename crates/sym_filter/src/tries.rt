@@ -1,8 +1,9 @@
 // The text for a word that begins within a run, where not all of its bytes may belong to the symbol.
 ghost use Rattle.std.specs.Prelude.{◌≡◌, ◌++◌, ◌<◌, ◌≤◌, ◌||◌, List, ℕ, [], length, take, drop, OnOk, IfOk, Some, is_some, unwrap_or};
 ghost use Rattle.std.specs.List.{list_any};
+ghost use Rattle.sym_filter.specs.Bytes.{is_wide};
 ghost use Rattle.sym_filter.specs.Kinds.{kind_of};
-ghost use Rattle.sym_filter.specs.Runs.{has_text, is_wide, replaced, runs_of, text_for, text_of_parts, text_of_tries, trimmed, with_runs, within, word_or_text};
+ghost use Rattle.sym_filter.specs.Runs.{has_text, replaced, runs_of, text_for, text_of_parts, text_of_tries, trimmed, with_runs, within, word_or_text};
 ghost use Rattle.sym_filter.specs.declared.kinds.Letters.TheVariants.{Ascii};
 
 use crate::demangler::Demangler;

@@ -1,17 +1,20 @@
 // Words found in a text that comes in any pieces.
 ghost use Rattle.std.specs.Prelude.{◌≡◌, ◌+◌, ◌^◌, ◌<◌, ◌≤◌, ℕ, List, [], ◌++◌, length, take, drop, slice_index, true, false, replicate, OnOk, IfOk, Some, is_some, OnErr};
 ghost use Rattle.std.specs.List.{list_all};
-ghost use Rattle.sym_filter.specs.Runs.{is_byte_of, begins_within, closes, is_begun, answers_at, text_for, within, word_of, word_or_text, IsTally};
+ghost use Rattle.sym_filter.specs.Bytes.{is_byte_of};
+ghost use Rattle.sym_filter.specs.Runs.{is_begun, answers_at, name_in, text_for, within, word_of, word_or_text, written, IsTally};
 ghost use Rattle.sym_filter.specs.Kinds.{kind_of};
 ghost use Rattle.sym_filter.specs.Held.{IsHeld};
-ghost use Rattle.sym_filter.specs.Lanes.{is_no_mark};
-ghost use Rattle.sym_filter.specs.Plain.{is_plain, is_closed};
+ghost use Rattle.sym_filter.specs.Marks.{before_mark, from_mark};
+ghost use Rattle.sym_filter.specs.Places.{START, closes, may_begin};
 ghost use Rattle.sym_filter.specs.declared.kinds.Letters.TheVariants.{Ascii};
 ghost use Rattle.sym_filter.specs.declared.kinds.TheConstants.{LONGEST_WORD};
 
 use crate::demangler::{Demangled, Demangler};
 use crate::kinds::{Kind, LONGEST_WORD, Letters, kind_of};
-use crate::lanes::{LANES, lanes_before_mark, lanes_front};
+use crate::lanes::{LANES, lanes_front};
+use crate::marks::mark_in;
+use crate::places::{Place, START, begins_within, plain_front};
 use crate::tries::push_tries;
 use std::alloc::{AllocError, Global};
 use sym_core::Refusal;
@@ -40,11 +43,11 @@ impl Tally {
     }
 }
 
-// For each byte the runs to which it belongs: 3, of all letters, for ASCII letters, digits, `_` and `$`; 2, of all letters, too, for
-// `.`, after which a word may begin within a run; 1, of any letters alone, for all from 0x80; else 0.
+// For each byte the runs to which it belongs: 3, of all letters, for ASCII letters, digits and `_`; 2, of all letters, too, for `.`
+// and `$`, after which a word may begin within a run; 1, of any letters alone, for all from 0x80; else 0.
 static RUN_BYTES: [u8; 256] = *b"\
     00000000000000000000000000000000\
-    00003000000000203333333333000000\
+    00002000000000203333333333000000\
     03333333333333333333333333300003\
     03333333333333333333333333300000\
     11111111111111111111111111111111\
@@ -67,7 +70,7 @@ pub fn is_byte_of(letters: Letters, byte: u8) -> bool
 
 /// Whether no word begins right after the byte, where words have these letters.
 #[inline]
-fn closes(letters: Letters, byte: u8) -> bool
+pub(crate) fn closes(letters: Letters, byte: u8) -> bool
     ensures { result ≡ closes letters byte }
 {
     let least = match letters {
@@ -76,74 +79,6 @@ fn closes(letters: Letters, byte: u8) -> bool
         Letters::Within => b'3',
     };
     RUN_BYTES[byte as usize] >= least
-}
-
-/// Whether words begin within runs.
-#[inline(always)]
-fn begins_within(letters: Letters) -> bool
-    ensures { result ≡ begins_within letters }
-{
-    match letters {
-        Letters::Any => false,
-        Letters::Ascii => false,
-        Letters::Within => true,
-    }
-}
-
-/// The front of a text that can be passed on as it is, and whether no word begins right after it.
-#[derive(Clone, Copy, Debug, PartialEq, Eq)]
-struct Front {
-    length: usize,
-    closed: bool,
-}
-
-/// How many bytes from a place on are no `_`, as far as they are looked at together.
-#[inline(always)]
-fn before_mark(text: &[u8], at: usize) -> usize
-    requires { at ≤ length text.now }
-    ensures within { at + result ≤ length text.now }
-    ensures no_mark { list_all is_no_mark (take result (drop at text.now)) ≡ true }
-{
-    if text.len() - at < LANES {
-        return 0;
-    }
-    lanes_before_mark(text, at)
-}
-
-/// The front of a text up to the first `_` that begins a word; `closed` says whether no word begins at the text's first byte.
-fn plain_front(letters: Letters, text: &[u8], closed: bool) -> Front
-    ensures within { result.length ≤ length text.now }
-    ensures plain { is_plain letters closed (take result.length text.now) ≡ true }
-    ensures closed { result.closed ≡ is_closed letters closed (take result.length text.now) }
-    ensures open { result.length < length text.now → result.closed ≡ false }
-    ensures stops { result.length < length text.now → slice_index text.now result.length ≡ 95 }
-{
-    let mut length = 0;
-    'bytes: while length < text.len() {
-        if text[length] == b'_' && !is_closed(letters, text, length, closed) {
-            return Front {
-                length,
-                closed: false,
-            };
-        }
-        length += 1;
-        length += before_mark(text, length);
-    }
-    Front {
-        length,
-        closed: is_closed(letters, text, length, closed),
-    }
-}
-
-/// Whether no word begins at a place of a text, by the byte before it.
-fn is_closed(letters: Letters, text: &[u8], at: usize, closed: bool) -> bool
-    requires { at ≤ length text.now }
-    ensures { result ≡ is_closed letters closed (take at text.now) }
-{
-    if at == 0 {
-        return closed;
-    }
-    closes(letters, text[at - 1])
 }
 
 /// How many bytes at the front of a text belong to runs of ASCII letters, as far as they are looked at together.
@@ -196,12 +131,12 @@ pub struct Words {
     held: Vec<u8>,
     // the dots after it
     dots: u128,
-    // no word begins at the next byte, since the one before closes
-    passes: bool,
+    // the place of the first byte that is held, or of the next
+    place: Place,
     // the run's word is too long to name a symbol: the run is passed on to its end
     past: bool,
     tally: Tally,
-    ghost is_held: { IsHeld letters held.items dots past passes },
+    ghost is_held: { IsHeld letters held.items dots past place },
     ghost is_counted: { IsTally tally },
 }
 
@@ -214,7 +149,7 @@ impl Words {
         ensures letters { result.letters ≡ letters }
         ensures holds_nothing { held_of result ≡ [] }
         ensures no_dots { result.dots ≡ 0 }
-        ensures open { result.passes ≡ false }
+        ensures start { result.place ≡ START }
         ensures not_past { result.past ≡ false }
         ensures nothing_counted { result.tally ≡ record { words = 0; replaced = 0; refused = 0 } }
     {
@@ -227,7 +162,7 @@ impl Words {
             letters,
             held: Vec::new(alloc),
             dots: 0,
-            passes: false,
+            place: START,
             past: false,
             tally,
         }
@@ -266,9 +201,9 @@ impl Words {
             if self.past {
                 return Ok(self.pass(text));
             }
-            let front = plain_front(self.letters, text, self.passes);
+            let front = plain_front(self.letters, text, self.place);
             if front.length > 0 {
-                self.passes = front.closed;
+                self.place = front.place;
                 return Ok(Taken {
                     dots: 0,
                     count: front.length,
@@ -301,7 +236,7 @@ impl Words {
         let count = run_front(self.letters, text);
         if count == 0 {
             self.past = false;
-            self.passes = false;
+            self.place = START;
             return Taken {
                 dots: 0,
                 count: 1,
@@ -321,13 +256,14 @@ impl Words {
     fn hold(&mut self, part: &[u8], out: &mut Vec<u8>) -> Result<Taken, AllocError>
         requires in_run { list_all (is_byte_of self.old.letters) part.now ≡ true }
         requires begins { is_begun (held_of self.old ++ part.now) ≡ true }
-        requires holds { (self.old.past ≡ false) × (self.old.passes ≡ false) }
+        requires holds { (self.old.past ≡ false) × (may_begin self.old.letters self.old.place ≡ true) }
         requires dots { self.old.dots + length part.now < 2 ^ 128 }
         ensures letters { OnOk result (self.new.letters ≡ self.old.letters) }
         ensures same { OnOk result (self.new.tally ≡ self.old.tally) }
+        ensures place { OnOk result (self.new.place ≡ self.old.place) }
         ensures dots { OnOk result (self.new.dots ≤ self.old.dots + length part.now) }
         ensures count { IfOk result (λ taken. taken.count ≡ length part.now) }
-        ensures held { IfOk result (λ taken. taken.stay ≡ false → (self.new.past ≡ false) × (self.new.passes ≡ false) × (taken.dots ≡ 0)
+        ensures held { IfOk result (λ taken. taken.stay ≡ false → (self.new.past ≡ false) × (taken.dots ≡ 0)
             × (held_of self.new ≡ held_of self.old ++ part.now) × (out.new.items ≡ out.old.items)) }
         ensures passes { IfOk result (λ taken. taken.stay ≡ true → (self.new.past ≡ true)
             × (taken.dots ≡ self.old.dots) × (out.new.items ≡ out.old.items ++ self.old.held.items)
@@ -374,11 +310,11 @@ impl Words {
     ) -> Result<u128, AllocError>
         ensures letters { OnOk result (self.new.letters ≡ self.old.letters) }
         ensures text { OnOk result (out.new.items ≡ out.old.items
-            ++ word_or_text (answers_at self.old.letters (D.answer demangler.now)) self.old.held.items) }
-        ensures counts { OnOk result (self.new.tally
-            ≡ tally_with_word (answers_at self.old.letters (D.answer demangler.now)) self.old.tally self.old.held.items) }
+            ++ written self.old.letters (D.answer demangler.now) self.old.place self.old.held.items) }
+        ensures counts { OnOk result (self.new.tally ≡ tally_with_word (answers_at self.old.letters (D.answer demangler.now)) self.old.tally
+            (name_in self.old.letters self.old.place self.old.held.items)) }
         ensures dots { IfOk result (λ dots. dots ≡ self.old.dots) }
-        ensures ends { OnOk result ((held_of self.new ≡ []) × (self.new.dots ≡ 0) × (self.new.passes ≡ false)) }
+        ensures ends { OnOk result ((held_of self.new ≡ []) × (self.new.dots ≡ 0) × (self.new.place ≡ START)) }
         ensures past { OnOk result (self.new.past ≡ self.old.past) }
         ensures same { OnErr result (self.new ≡ self.old) }
     {
@@ -396,7 +332,7 @@ impl Words {
         }
         self.held.clear();
         self.dots = 0;
-        self.passes = false;
+        self.place = START;
         Ok(dots)
     }
 
@@ -411,25 +347,28 @@ impl Words {
     ) -> Result<u128, AllocError>
         ensures letters { OnOk result (self.new.letters ≡ self.old.letters) }
         ensures text { OnOk result (out.new.items ≡ out.old.items
-            ++ word_or_text (within (D.answer demangler.now)) self.old.held.items) }
+            ++ before_mark self.old.place self.old.held.items
+            ++ word_or_text (within (D.answer demangler.now)) (from_mark self.old.place self.old.held.items)) }
         ensures counts { OnOk result (self.new.tally
-            ≡ tally_with_word (within (D.answer demangler.now)) self.old.tally self.old.held.items) }
+            ≡ tally_with_word (within (D.answer demangler.now)) self.old.tally (from_mark self.old.place self.old.held.items)) }
         ensures dots { IfOk result (λ dots. dots ≡ self.old.dots) }
-        ensures ends { OnOk result ((held_of self.new ≡ []) × (self.new.dots ≡ 0) × (self.new.passes ≡ false)) }
+        ensures ends { OnOk result ((held_of self.new ≡ []) × (self.new.dots ≡ 0) × (self.new.place ≡ START)) }
         ensures past { OnOk result (self.new.past ≡ self.old.past) }
         ensures same { OnErr result (self.new ≡ self.old) }
     {
         let dots = self.dots;
-        match kind_of(&self.held) {
-            Some(kind) => {
-                let has_text = push_tries(demangler, lists, &self.held, kind, out)?;
-                self.tally.count(has_text);
-            }
-            None => out.extend_from_slice(&self.held)?,
+        let at = mark_in(&self.held, self.place);
+        out.extend_from_slice(&self.held[..at])?;
+        let name = &self.held[at..];
+        if let Some(kind) = kind_of(name) {
+            let has_text = push_tries(demangler, lists, name, kind, out)?;
+            self.tally.count(has_text);
+        } else {
+            out.extend_from_slice(name)?;
         }
         self.held.clear();
         self.dots = 0;
-        self.passes = false;
+        self.place = START;
         Ok(dots)
     }
 }

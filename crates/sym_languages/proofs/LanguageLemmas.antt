@@ -5,6 +5,7 @@ use Rattle.sym_core.specs.declared.counts.Counts.{Counts}
 use Rattle.sym_core.specs.declared.refusal.Refusal.{Refusal}
 use Rattle.sym_core.specs.declared.refusal.Refusal.TheVariants.{Memory, TooLong}
 use Rattle.sym_print.specs.declared.detail.Detail.{Detail}
+use Rattle.sym_print.specs.declared.detail.Detail.TheVariants.{NoParameters}
 use Rattle.sym_print.specs.Details.{has_arguments}
 use Rattle.sym_shape.specs.Decided.{AreBytes}
 use Rattle.sym_shape.specs.declared.rule.Row.{Row}
@@ -31,6 +32,12 @@ module _ {W : Type 0} (m : Mangled W) (limit : ℕ) (detail : Detail) (symbol : 
       → (text : List ℕ) × (answer m detail symbol limit ≡ Ok text) × (new ≡ old ++ text)
   text_answered old new result done there is =
       text_given old new (subst (λ r. OnOk r ((text : List ℕ) × (new ≡ old ++ text) × IsAnswer m detail symbol limit (Ok text))) there is)
+
+  -- a text that was written, and appended
+  pub written_given : (written shown old new : List ℕ) → IsAnswer m detail symbol limit (Ok written) → shown ≡ written → new ≡ old ++ shown
+      → (text : List ℕ) × (answer m detail symbol limit ≡ Ok text) × (new ≡ old ++ text)
+  written_given written shown old new is same appended =
+      (written, sym (is_answer m detail symbol limit (Ok written) bytes is), appended ∙ ap (λ t. old ++ t) same)
 
   -- a text that was appended, or refused
   pub append_answered : {A : Type 0} (old new : List ℕ) (result : Result A Refusal)
@@ -108,3 +115,10 @@ pub pressed_given : (front old new bytes spelling : List ℕ) (answer : Result (
 pressed_given front old new bytes spelling answer law is pushed =
     let answered : List ℕ → Result (List ℕ) Refusal = λ text. Ok text in
     (front ++ bytes, ap (behind_front front) (law ∙ ap answered (sym is)), pushed)
+
+-- a text that was written without parameters, and appended
+pub names_given : {W : Type 0} (m : Mangled W) (limit : ℕ) (detail : Detail) (symbol : List ℕ) → AreBytes symbol → (written shown old new : List ℕ) → detail ≡ NoParameters
+    → IsAnswer m NoParameters symbol limit (Ok written) → shown ≡ written → new ≡ old ++ shown
+    → (text : List ℕ) × (answer m detail symbol limit ≡ Ok text) × (new ≡ old ++ text)
+names_given m limit detail symbol bytes written shown old new is given same appended =
+    written_given m limit detail symbol bytes written shown old new (subst (λ d. IsAnswer m d symbol limit (Ok written)) (sym is) given) same appended

@@ -1,2 +1,3 @@
 pub mod LanguageLemmas
 pub mod RustDetails
+mod ShortAnswers

@@ -1,8 +1,9 @@
 -- What is answered where the pressed spelling of a symbol is asked for.
-use Rattle.std.specs.Prelude.{◌≡◌, ℕ, List, Result, Ok, Err}
+use Rattle.std.specs.Prelude.{◌≡◌, ℕ, ◌*◌, ◌≤◌, List, length, Result, Ok, Err}
 use Rattle.std.proofs.Common.{sym, ap, ◌∙◌}
 use Rattle.sym_core.specs.declared.refusal.Refusal.{Refusal}
 use Rattle.sym_core.specs.declared.refusal.Refusal.TheVariants.{Malformed}
+use Rattle.sym_core.specs.Number.{FitsSymbol}
 use Rattle.sym_shape.specs.Decided.{AreBytes}
 use Rattle.sym_shape.proofs.Deciding.{outcome, outcome_shaped, outcome_malformed}
 use Rattle.sym_demangle.specs.Mangled.{Mangled, IsReading, misshapen, well_shaped}
@@ -31,3 +32,8 @@ reading_pressed m pressed s result bytes (misshapen at bad e) =
 reading_pressed m pressed s result bytes (well_shaped (shape, is, text, e)) =
     outcome_shaped m.table m.lawful (λ shape. pressed_if_read pressed (m.unfolded shape)) (λ at. Err (Malformed at)) (Err (Malformed 0)) s shape bytes is text
     ∙ ap (pressed_if_read pressed) (sym e)
+
+-- What is answered has at most so many bytes for each byte of a symbol that fits.
+abbrev pub AnswersAreShort : {W : Type 0} → Mangled W → (pressed : W → List ℕ) → (a_byte : ℕ) → Type 0
+AnswersAreShort m pressed a_byte =
+    (s text : List ℕ) → FitsSymbol s → AreBytes s → pressed_answer m pressed s ≡ Ok text → length text ≤ a_byte * length s

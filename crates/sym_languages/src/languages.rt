@@ -1,13 +1,15 @@
 // The demangler over both manglings.
-ghost use Rattle.std.specs.Prelude.{◌≡◌};
+ghost use Rattle.std.specs.Prelude.{◌≡◌, Ok, true};
 ghost use Rattle.sym_core.specs.Number.{FitsSymbol};
 ghost use Rattle.sym_print.specs.Details.{has_arguments};
-ghost use Rattle.sym_demangle.specs.Mangled.{answer};
+ghost use Rattle.sym_demangle.specs.Mangled.{IsAnswer, answer};
+ghost use Rattle.sym_print.specs.declared.detail.Detail.TheVariants as details;
 ghost use Rattle.sym_filter.specs.Demangled.{IsAppended, IsDemangled};
 ghost use Rattle.sym_languages.specs.Languages.{AreCounts, AreCountsBy, language_answer_by};
 
 use crate::counted::Counted;
-use itanium::{Abi, Wide};
+use cpp_direct::Direct;
+use itanium::{Abi, Wide, write_names};
 use rust_v0::V0;
 use std::alloc::{AllocError, Global};
 use sym_core::Refusal;
@@ -16,11 +18,25 @@ use sym_filter::{Demangled, Demangler, Kind, Lang};
 use sym_print::Detail;
 
 /// A grammar of C++ symbols.
-pub trait Cpp: Counted {}
+pub trait Cpp: Counted {
+    /// Writes the text of a symbol without parameters, if the symbol is one that goes the short way and its text costs at most the
+    /// limit, and answers whether it did. Where it didn't, nothing is known of the symbol.
+    fn write_names(direct: &mut Self::Direct, symbol: &[u8], limit: u32) -> bool
+        requires { FitsSymbol symbol.now }
+        ensures { result ≡ true → IsAnswer Self.mangled details.NoParameters symbol.now limit (Ok (Self.written direct.new)) };
+}
 
-impl Cpp for Abi {}
+impl Cpp for Abi {
+    fn write_names(direct: &mut Direct, symbol: &[u8], limit: u32) -> bool {
+        write_names(direct, symbol, limit, false)
+    }
+}
 
-impl Cpp for Wide {}
+impl Cpp for Wide {
+    fn write_names(direct: &mut Direct, symbol: &[u8], limit: u32) -> bool {
+        write_names(direct, symbol, limit, true)
+    }
+}
 
 /// Both manglings, at a limit on the cost of a text and a detail, with the grammar by which C++ symbols are read: `Abi` or `Wide`.
 #[derive(Clone, Copy, Drop)]
@@ -35,6 +51,8 @@ pub struct Languages<C: Cpp> {
 pub struct Lists<C: Cpp> {
     pub cpp: Workspace<C>,
     pub rust: Workspace<V0>,
+    // those of the short way without parameters
+    names: C::Direct,
 }
 
 impl<C: Cpp> Lists<C> {
@@ -42,6 +60,7 @@ impl<C: Cpp> Lists<C> {
         Lists {
             cpp: Workspace::new(alloc),
             rust: Workspace::new(alloc),
+            names: C::direct(alloc),
         }
     }
 
@@ -92,7 +111,7 @@ impl<C: Cpp> Demangler for Languages<C> {
         out: &mut Vec<u8>,
     ) -> Result<(), Refusal> {
         match kind.lang {
-            Lang::Cpp => append_in(&mut lists.cpp, symbol, self.limit, self.detail, out),
+            Lang::Cpp => append_cpp(lists, symbol, self.limit, self.detail, out),
             Lang::Rust => {
                 let detail = with_parameters(self.detail);
                 append_in(&mut lists.rust, symbol, self.limit, detail, out)
@@ -111,6 +130,26 @@ fn with_parameters(detail: Detail) -> Detail
     } else {
         Detail::Brief
     }
+}
+
+/// Appends the text of a C++ symbol, where it has one: without parameters by a short way as well, if the symbol goes that.
+fn append_cpp<C: Cpp>(
+    lists: &mut Lists<C>,
+    symbol: &[u8],
+    limit: u32,
+    detail: Detail,
+    out: &mut Vec<u8>,
+) -> Result<(), Refusal>
+    requires { FitsSymbol symbol.now }
+    ensures { IsAppended (answer C.mangled detail symbol.now limit) out.old.items out.new.items result }
+{
+    if let Detail::NoParameters = detail
+        && C::write_names(&mut lists.names, symbol, limit)
+    {
+        out.extend_from_slice(C::text(&lists.names))?;
+        return Ok(());
+    }
+    append_in(&mut lists.cpp, symbol, limit, detail, out)
 }
 
 /// Appends the text of a symbol of a mangling, where it has one.

@@ -11,6 +11,6 @@ pub mod pressing;
 pub use filtering::{filter, filter_as};
 pub use itanium::{Abi, Wide};
 pub use languages::Languages;
-pub use laws::reading_is_pressed;
+pub use laws::{pressed_is_short, reading_is_pressed};
 pub use legacy::Legacy;
 pub use pressing::Pressing;

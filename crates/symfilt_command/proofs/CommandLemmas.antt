@@ -2,8 +2,10 @@
 use Rattle.std.proofs.Common.{◌≡◌, ◌≢◌, ◌⊎◌, ℕ, List, [], Option, Result, Ok, Err, refl, sym, subst, inl, inr, ◌++◌}
 use Rattle.std.specs.Prelude.{IfOk, OnOk, OnErr}
 use Rattle.std.specs.Io.KnownBytes.{Appends}
-use Rattle.sym_filter.specs.Streams.{FiltersFrontAt}
+use Rattle.sym_filter.specs.Runs.{filtered_at}
+use Rattle.sym_filter.specs.Streams.{FiltersAllAt, FiltersFrontAt}
 use Rattle.sym_filter.specs.declared.streams.FilterFault.{FilterFault}
+use Rattle.sym_filter.specs.declared.words.Tally.{Tally}
 use Rattle.sym_filter.proofs.StreamLemmas.{Appends-join}
 use Rattle.clap.specs.Words.{Row, Text as Bytes, IsAmong}
 use Rattle.clap.specs.declared.error.kind.ErrorKind.{ErrorKind}
@@ -15,7 +17,7 @@ use Rattle.sym_command.specs.declared.outcome.Run.{Run}
 use Rattle.sym_command.specs.declared.outcome.Run.TheVariants.{Done, Filter}
 use Rattle.sym_command.proofs.CommandLemmas.{faulty}
 use Rattle.sym_command.proofs.PageLemmas.{Took-said, OnErr-anyway}
-use Rattle.symfilt_command.specs.Command.{filter_answers, AreBegun, IsRunOf, IsRun, IsStopped, FilteredFront}
+use Rattle.symfilt_command.specs.Command.{filter_answers, AreBegun, IsRunOf, IsRun, IsStopped, Filtered, FilteredFront}
 
 -- ## Words that the parser refuses
 
@@ -51,6 +53,24 @@ pub record AsksAlone (words : List Bytes) (filtering : Filtering) (lines said : 
 asks_alone : (words : List Bytes) (filtering : Filtering) (lines said : List ℕ) → IsRun words (Filter filtering) lines said → AsksAlone words filtering lines said
 asks_alone words filtering lines said (inl (taken, ran)) = record { no_line = ran.0; nothing_said = ran.1; asked = inl (taken, (refl, refl, ran.2)) }
 asks_alone words filtering lines said (inr (faulty, is, none)) = cc
+
+pub filtered-whole : (words : List Bytes) (run : Run) (filtering : Filtering) (coming coming' out mid out' err err' : Option (List ℕ)) (tally : Tally) → run ≡ Filter filtering → Took out mid err err' (IsRun words run)
+    → FiltersAllAt filtering.letters (filter_answers filtering) coming coming' mid out' tally → Filtered words coming coming' out out' err err'
+filtered-whole words run filtering coming coming' out mid out' err err' tally is took all =
+    let alone = asks_alone words filtering took.lines took.said (subst (λ (r : Run). IsRun words r took.lines took.said) is took.held) in
+    let text = filtered_at filtering.letters (filter_answers filtering) all.text in record {
+      filtering = filtering;
+      asked = alone.asked;
+      tally = tally;
+      filtered = record {
+        text = all.text;
+        reads = all.reads;
+        ends = all.ends;
+        writes = subst (λ (lines : List ℕ). Appends out out' (lines ++ text)) alone.no_line (Appends-join out mid out' took.lines text took.to_out all.writes);
+        counts = all.counts;
+      };
+      silent = subst (λ (said : List ℕ). Appends err err' said) alone.nothing_said took.to_err;
+    }
 
 pub filtered-stopped : (words : List Bytes) (run : Run) (filtering : Filtering) (coming coming' out mid out' err err' : Option (List ℕ)) → run ≡ Filter filtering → Took out mid err err' (IsRun words run)
     → FiltersFrontAt filtering.letters (filter_answers filtering) coming coming' mid out' → FilteredFront words coming coming' out out' err err'

@@ -82,7 +82,7 @@ one-value empty around at state r e = one-same _ state r (ok_same _ r e)
 one-value (token t) around at state r e = one-same _ state r (ok_same _ r e)
 one-value (fixed byte) around at state r e = one-same _ state r (ok_same _ r e)
 
-parts-go : (P : Shape → Type 0) (p : Production) (rule : Rule) (taken : List ℕ) (around : Around) (place : ℕ) (before : State)
+pub parts-go : (P : Shape → Type 0) (p : Production) (rule : Rule) (taken : List ℕ) (around : Around) (place : ℕ) (before : State)
     → production_at rule.number ≡ p
     → (inner : Found (List Value) State) (f : Forest) (xs : List Sym) → AllOf P f → AreTrees abi xs f → (vs : List Value) (from : ℕ) (state : State)
     → unfold_forest cpp (standing rule taken place around before) vs from f state ≡ Ok inner → PartsGo P p around place inner xs f vs from state
@@ -150,7 +150,7 @@ abbrev pub OneOf : List Alternative → (F : Production → Type 0) → Type 0
 OneOf [] F = ⊥
 OneOf (a ∷ rest) F = F a.production ⊎ OneOf rest F
 
-picked-one : (all : List Alternative) (byte : ℕ) (p : Production) (F : Production → Type 0) → F p → pick all byte ≡ Some p → OneOf all F
+pub picked-one : (all : List Alternative) (byte : ℕ) (p : Production) (F : Production → Type 0) → F p → pick all byte ≡ Some p → OneOf all F
 unfolding pick
 picked-one [] byte p F f e = absurd cc
 picked-one (a ∷ rest) byte p F f e = go (is_in a byte) e (picked-one rest byte p F f)

@@ -1,13 +1,16 @@
 -- Lists of components in which each is with the components in it, and the candidates of a reader that are in such a list.
-use Rattle.std.proofs.Common.{◌≡◌, ℕ, ◌<◌, ◌≤◌, ◌⊎◌, inl, inr, length, List, [], ◌∷◌, ◌++◌, Bool, true, false, refl, ap, arith, sym, subst, ◌∙◌, length-append}
-use Rattle.std.specs.Prelude.{◌||◌}
+use Rattle.std.proofs.Common.{◌≡◌, ℕ, ◌+◌, ◌<◌, ◌≤◌, ◌⊎◌, inl, inr, length, List, [], ◌∷◌, ◌++◌, Bool, true, false, refl, ap, arith, sym, subst, ◌∙◌, length-append}
+use Rattle.std.specs.Prelude.{cond, ◌&&◌, ◌||◌}
 use Rattle.std.proofs.lemmas.Bool.{true≢false}
 use Rattle.cpp_grammar.specs.Term.{Term, symbol, alone, in_std, within, instance, local, holder, tagged, of_default, lambda, conversion, pointer, lvalue, rvalue, array, constrained, bounded, member_pointer, function_type, qualified, vector, complex, expansion, integer, pack, list}
 use Rattle.cpp_grammar.specs.Scope.{is_open}
 use Rattle.cpp_grammar.specs.Values.{Candidate}
-use Rattle.cpp_press_laws.specs.Components.{Component, Spelling}
+use Rattle.cpp_grammar.specs.References.{is_function_type}
+use Rattle.cpp_press_laws.specs.Fits.{has_letters}
+use Rattle.cpp_press_laws.specs.Components.{Component, Spelling, components_of, is_same}
 use Rattle.cpp_press_laws.proofs.Components.Parts.{IsComponent, ItselfOr, PrefixOr, UnqualifiedOr, Inside, Whole, Has, has-before, has-either, has-itself, same-means, has-closed, prefix-whole}
 use Rattle.cpp_press_laws.proofs.Components.Known.{KeepsTo, known-has}
+use Rattle.cpp_press_laws.proofs.Short.Worth.{is_among, has-among, is_again, full, worth, worths, full-some, worths-one}
 
 -- ## What is in a closed tree is closed
 
@@ -148,9 +151,11 @@ EachStands read pressed (c ∷ cs) components =
     (IsComponent c.tree × ((is_open c.tree ≡ false) ⊎ (c.encoding ≡ read)
     → Has pressed c.tree components)) × EachStands read pressed cs components
 
--- They do, and the components are no more than the candidates.
+-- They do, and the components are no more than the candidates, and are worth no more.
 abbrev pub StandAmong : (read pressed : ℕ) → (candidates : List Candidate) → (components : List Component) → Type 0
-StandAmong read pressed candidates components = EachStands read pressed candidates components × (length components ≤ length candidates)
+StandAmong read pressed candidates components =
+    EachStands read pressed candidates components
+    × ((length components ≤ length candidates) × (worths [] components ≤ worths [] (components_of candidates)))
 
 pub each-append : (read pressed : ℕ) (cs ds : List Candidate) (components : List Component) → EachStands read pressed cs components
     → EachStands read pressed ds components → EachStands read pressed (cs ++ ds) components
@@ -167,6 +172,60 @@ each-others read pressed (c ∷ cs) components others more among = (
   each-others read pressed cs components others more among.1,
 )
 
+pub worths-none : worths [] [] ≤ worths [] (components_of [])
+unfolding worths components_of
+worths-none = omega arith
+
+pub candidates-one : (cs : List Candidate) (c : Candidate)
+    → components_of (cs ++ c ∷ []) ≡ components_of cs ++ record { tree = c.tree; encoding = c.encoding } ∷ []
+unfolding components_of
+candidates-one [] c = refl
+candidates-one (d ∷ cs) c = ap (λ l. record { tree = d.tree; encoding = d.encoding } ∷ l) (candidates-one cs c)
+
+pub worths-named : (cs : List Candidate) (c : Candidate)
+    → worths [] (components_of (cs ++ c ∷ [])) ≡ worths [] (components_of cs) + worth (components_of cs) c.encoding c.tree
+worths-named cs c =
+    ap (worths []) (candidates-one cs c) ∙ worths-one (components_of cs) (record { tree = c.tree; encoding = c.encoding })
+
+-- what is among the candidates is among the components
+each-among : (read pressed : ℕ) (f : Term) (cs : List Candidate) (components : List Component) → EachStands read pressed cs components
+    → is_among read f (components_of cs) ≡ true → is_among pressed f components ≡ true
+unfolding components_of is_among
+each-among read pressed f [] components among is = absurd (true≢false (sym is))
+each-among read pressed f (c ∷ cs) components among is = go (is_same read f one) refl is (each-among read pressed f cs components among.1)
+  where
+    one : Component
+    one = record { tree = c.tree; encoding = c.encoding }
+
+    go : (b : Bool) → is_same read f one ≡ b → b || is_among read f (components_of cs) ≡ true
+        → (is_among read f (components_of cs) ≡ true → is_among pressed f components ≡ true) → is_among pressed f components ≡ true
+    go false same h later = later h
+    go true same h later =
+        let means = same-means read f one same in
+        let may : (is_open c.tree ≡ false) ⊎ (c.encoding ≡ read) = elim means.1 [
+          | inl closed ↦ inl (subst (λ x. is_open x ≡ false) means.0 closed)
+          | inr here ↦ inr here
+        ] in
+        has-among pressed f components (subst (λ x. Has pressed x components) (sym means.0) (among.0.1 may))
+
+-- so a tree is worth no more among them
+worth-less : (read pressed : ℕ) (t : Term) (cs : List Candidate) (components : List Component) → EachStands read pressed cs components
+    → worth components pressed t ≤ worth (components_of cs) read t
+unfolding worth is_again
+worth-less read pressed (qualified q f) cs components among =
+    go (has_letters q) (is_function_type f) (is_among read f (components_of cs)) (is_among pressed f components) (each-among read pressed f cs components among)
+  where
+    go : (l g a b : Bool) → (a ≡ true → b ≡ true)
+        → cond (l && (g && b)) 1 (full (qualified q f)) ≤ cond (l && (g && a)) 1 (full (qualified q f))
+    go true true true true h = omega arith
+    go true true true false h = absurd (true≢false (sym (h refl)))
+    go true true false true h = full-some (qualified q f)
+    go true true false false h = omega arith
+    go true false a b h = omega arith
+    go false g a b h = omega arith
+worth-less read pressed (symbol e suffix) cs components among = omega arith
+worth-less read pressed t cs components among = omega arith
+
 -- one more on both sides
 pub among-ended : (read pressed : ℕ) (in_lambda : Bool) (t : Term) (cs : List Candidate) (components : List Component) → IsComponent t → StandAmong read pressed cs components
     → StandAmong read pressed (cs ++ record { tree = t; encoding = read; in_lambda = in_lambda; is_held = false } ∷ []) (components ++ record { tree = t; encoding = pressed } ∷ [])
@@ -176,15 +235,29 @@ among-ended read pressed in_lambda t cs components is among =
       each-append read pressed cs named (components ++ own)
           (each-others read pressed cs components (components ++ own) (λ x c has. has-before pressed x components own has) among.0)
           ((is, λ may. has-itself pressed t components), tt),
-      omega (arith, among.1, length-append cs named, length-append components own),
+      (
+        omega (arith, among.1.0, length-append cs named, length-append components own),
+        omega (
+          arith,
+          among.1.1,
+          worths-named cs (record { tree = t; encoding = read; in_lambda = in_lambda; is_held = false }),
+          worths-one components (record { tree = t; encoding = pressed }),
+          worth-less read pressed t cs components among.0,
+        ),
+      ),
     )
 
 -- one more candidate that is there already
 pub among-known : (read pressed : ℕ) (in_lambda : Bool) (t : Term) (cs : List Candidate) (components : List Component) → IsComponent t → Has pressed t components
     → StandAmong read pressed cs components → StandAmong read pressed (cs ++ record { tree = t; encoding = read; in_lambda = in_lambda; is_held = false } ∷ []) components
 among-known read pressed in_lambda t cs components is has among =
-    let named : List Candidate = record { tree = t; encoding = read; in_lambda = in_lambda; is_held = false } ∷ [] in
-    (each-append read pressed cs named components among.0 ((is, λ may. has), tt), omega (arith, among.1, length-append cs named))
+    let named : List Candidate = record { tree = t; encoding = read; in_lambda = in_lambda; is_held = false } ∷ [] in (
+      each-append read pressed cs named components among.0 ((is, λ may. has), tt),
+      (
+        omega (arith, among.1.0, length-append cs named),
+        omega (arith, among.1.1, worths-named cs (record { tree = t; encoding = read; in_lambda = in_lambda; is_held = false })),
+      ),
+    )
 
 -- these were made in encodings that begin before a place
 abbrev pub AllBefore : ℕ → List Candidate → Type 0

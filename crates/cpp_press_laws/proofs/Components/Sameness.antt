@@ -47,7 +47,7 @@ qualifiers-equal : (r s v w c d : Bool) → r ≡ s → v ≡ w → c ≡ d
     → ◌≡◌ {A = Qualifiers} (record { restrict = r; volatile = v; const = c }) (record { restrict = s; volatile = w; const = d })
 qualifiers-equal r s v w c d one two three = rw (one, two, three) refl
 
-equal-qualifiers : (q p : Qualifiers) → same_qualifiers q p ≡ true → q ≡ p
+pub equal-qualifiers : (q p : Qualifiers) → same_qualifiers q p ≡ true → q ≡ p
 unfolding same_qualifiers
 equal-qualifiers q p h =
     qualifiers-equal q.restrict p.restrict q.volatile p.volatile q.const p.const (equal-truth q.restrict p.restrict (both (both h).0).0)

@@ -9,6 +9,7 @@ use Rattle.cpp_grammar.specs.Values.{Candidate}
 use Rattle.cpp_press_laws.specs.Components.{Component, Spelling, first_equal, reference, ended, spelled_out, component}
 use Rattle.cpp_press_laws.proofs.Components.Parts.{IsComponent, Whole, Has, found-stands}
 use Rattle.cpp_press_laws.proofs.Components.Known.{KeepsTo}
+use Rattle.cpp_press_laws.proofs.Short.Worth.{worths, worths-append}
 use Rattle.cpp_press_laws.proofs.Components.Complete.{Complete, complete-has, nothing-new, EachStands, StandAmong, each-others, among-ended, among-known}
 
 -- What was read becomes a candidate: its parts' candidates are among the components after its spelling, so with it they are
@@ -30,7 +31,10 @@ component-among read n in_lambda t spelling is keeps place cs candidates le comp
         among-known read n in_lambda t candidates cs is has (
           each-others read n candidates (spelling place cs).components cs
               (nothing-new n (Whole t) spelling keeps place cs le stands) among.0,
-          omega (arith, among.1, ap length added.split, length-append cs added.added),
+          (
+            omega (arith, among.1.0, ap length added.split, length-append cs added.added),
+            omega (arith, among.1.1, ap (worths []) added.split, worths-append [] cs added.added),
+          ),
         )
     go None new = among-ended read n in_lambda t candidates (spelling place cs).components is among
 

@@ -6,6 +6,7 @@ use Rattle.cpp_grammar.specs.Values.{State, Around, Value, prefix_tree, prefix_l
 use Rattle.cpp_grammar.specs.References.{appended, with_prefix}
 use Rattle.cpp_grammar.specs.Between.{after, inside, applied}
 use Rattle.cpp_grammar.specs.Unfolding.{first_around, first_state}
+use Rattle.cpp_press_laws.proofs.Components.Complete.{worths-none}
 use Rattle.cpp_press_laws.specs.Pressing.{is_encoding}
 use Rattle.cpp_press_laws.specs.Fits.{names_function, names_member, IsSpellableSuffix, SymbolFits}
 use Rattle.cpp_press_laws.proofs.Fits.Read.{Wherever}
@@ -81,5 +82,5 @@ pub symbol-fits : (e : Term) (suffix : List ℕ) (new : State) → WholeFits fir
     → IsSpellableSuffix suffix → SymbolFits (symbol e suffix)
 unfolding first_around first_state
 symbol-fits e suffix new one bare good =
-    let p = one.fits 0 2 [] None (record { later = omega arith; complete = tt; among = (tt, omega arith); functions = tt }) (λ m is. sym bare ∙ is) in
+    let p = one.fits 0 2 [] None (record { later = omega arith; complete = tt; among = (tt, (omega arith, worths-none)); functions = tt }) (λ m is. sym bare ∙ is) in
     (p.fits, good)

@@ -4,6 +4,9 @@ use Rattle.cpp_spelling.specs.declared.task.Task.{Task}
 use Rattle.cpp_spelling.specs.declared.task.Way.{Way}
 use Rattle.cpp_spelling.specs.Bytes.{text_bytes}
 use Rattle.cpp_spelling.specs.Tasks.{◌onto◌, in_way, press_task, press_tasks, plain_at, AreTasks}
+use Rattle.cpp_layout.specs.Layout.{whole_of}
+use Rattle.cpp_press_laws.specs.Short.{IsShort}
+use Rattle.cpp_press_laws.proofs.Short.Law.{pressed-short}
 use Rattle.cpp_press.specs.Places.{likeness_cmp, noted}
 use Rattle.cpp_spelling.specs.Standings.{standing_of, template_standing_of}
 use Rattle.cpp_press.proofs.Going.{popped, task-there, weight-there, changed-goes, text-goes, ended-goes, first-goes, last-goes, last-few}
@@ -150,3 +153,8 @@ returns-clause-pressed c = last-goes c.tasks.invariant.0 (search rules)
 
 pub returns-clause-components : goal.returns-clause-components
 returns-clause-components c = last-few c.tasks.invariant.0 (search rules)
+
+pub returns-clause-short : goal.returns-clause-short
+returns-clause-short c =
+    let tree = whole_of c.args.symbol.now in
+    subst (IsShort tree) (sym (last-goes c.tasks.invariant.0 (search rules))) (pressed-short tree)

@@ -1,7 +1,11 @@
-use Rattle.std.proofs.Common.{◌≡◌, ◌++◌, length, Some, slice_get, rules, ap, subst, ◌∙◌}
+use Rattle.std.proofs.Common.{◌≡◌, ◌++◌, length, Some, slice_get, rules, ap, sym, subst, ◌∙◌}
 use Rattle.rust_tree.specs.Tree.{of_symbol}
 use Rattle.rust_tree.specs.Layout.{trees_of}
 use Rattle.rust_tree.specs.Views.{fields_at, IsView}
+use Rattle.rust_v0.specs.Whole.{whole_of}
+use Rattle.rust_press.specs.OfRead.{pressed_symbol}
+use Rattle.rust_press.specs.Short.{IsShort}
+use Rattle.rust_press.proofs.ShortSymbol.{pressed-is-short}
 use Rattle.rust_press.proofs.WriterSteps.{symbol-bytes}
 use Rattle.rust_press.proofs.pressing.press_rust.Goals as goal
 
@@ -16,3 +20,9 @@ returns-clause-pressed c =
     (subst (λ m. slice_get (trees_of y) m ≡ Some (of_symbol whole)) root c.root_node.ensures.root_is.1) long
     (subst (λ m. IsView y.bytes view (fields_at y m)) root c.node-view.ensures.fields) c.bytes_of.ensures
     (c.in_ok-extend_from_slice.ensures.items ∙ ap (λ l. l ++ c.bytes_of.result.now) c.in_ok-out.ensures.pressed)
+
+pub returns-clause-short : goal.returns-clause-short
+unfolding pressed_symbol
+returns-clause-short c =
+    let y = c.args.symbol.now in
+    subst (λ bytes. IsShort (whole_of y) bytes) (sym (returns-clause-pressed c)) (pressed-is-short (whole_of y))

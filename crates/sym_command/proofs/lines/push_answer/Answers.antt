@@ -1,10 +1,9 @@
-use Rattle.std.proofs.Common.{◌≡◌, ◌∙◌, ◌++◌, sym, ap, refl, Ok, Err}
+use Rattle.std.proofs.Common.{◌≡◌, ◌∙◌, sym, ap, refl, Ok, Err, Some}
 use Rattle.std.specs.Prelude.{is_some}
 use Rattle.std.proofs.lemmas.List.{append-nil}
 use Rattle.sym_filter.specs.Kinds.{symbol_of}
 use Rattle.sym_filter.proofs.RunLemmas.{text_of-symbol}
-use Rattle.sym_command.specs.Lines.{complaint_about}
-use Rattle.sym_command.proofs.LineLemmas.{answer_of-symbol, text-line, word-line}
+use Rattle.sym_command.proofs.LineLemmas.{answer_of-symbol, complaint-line, text-line, word-line}
 use Rattle.sym_command.proofs.lines.push_answer.Goals as goal
 
 pub returns-in_ok-push-in-Ok-clause-line : goal.returns-in_ok-push-in-Ok-clause-line
@@ -25,7 +24,7 @@ returns-in_ok-push-in-Ok-clause-complaint g c =
     let symbol = c.symbol_of.result.now in
     let same : symbol ≡ symbol_of kind word = c.symbol_of.ensures.symbol ∙ ap (symbol_of kind) c.as_bytes.ensures.value in
     let given = c.in-Ok.ensures in
-    sym (append-nil c.args.err.now.items) ∙ ap (λ a. c.args.err.now.items ++ complaint_about word a) (sym (answer_of-symbol answers word symbol kind (Ok given.0) c.requires.kind same given.1))
+    complaint-line answers word c.args.err.now.items c.args.err.now.items (Some (Ok given.0)) (answer_of-symbol answers word symbol kind (Ok given.0) c.requires.kind same given.1) (sym (append-nil c.args.err.now.items))
 
 pub returns-in_ok-push-in-Ok-clause-has_text : goal.returns-in_ok-push-in-Ok-clause-has_text
 returns-in_ok-push-in-Ok-clause-has_text g c =
@@ -57,7 +56,7 @@ returns-in_ok-push_refused-in-Err-clause-complaint g c =
     let same : symbol ≡ symbol_of kind word = c.symbol_of.ensures.symbol ∙ ap (symbol_of kind) c.as_bytes.ensures.value in
     let refusal = c.in-Err.refusal in
     let refused = c.in-Err.ensures.0 c.in_ok-push_refused-in-Err.ensures.memory in
-    c.in_ok-push_refused-in-Err.ensures.complaint ∙ ap (λ a. c.args.err.now.items ++ complaint_about word a) (sym (answer_of-symbol answers word symbol kind (Err refusal) c.requires.kind same refused))
+    complaint-line answers word c.args.err.now.items c.push_refused.new.err.items (Some (Err refusal)) (answer_of-symbol answers word symbol kind (Err refusal) c.requires.kind same refused) c.in_ok-push_refused-in-Err.ensures.complaint
 
 pub returns-in_ok-push_refused-in-Err-clause-has_text : goal.returns-in_ok-push_refused-in-Err-clause-has_text
 returns-in_ok-push_refused-in-Err-clause-has_text g c =

@@ -28,13 +28,7 @@ abbrev app-5 : App
 app-5 = with_rule app-4 (flag (codes "legacy"))
 
 abbrev app-6 : App
-app-6 = with_rule app-5 (flag (codes "brief"))
-
-abbrev app-7 : App
-app-7 = with_rule app-6 (flag (codes "no-params"))
-
-abbrev app-8 : App
-app-8 = with_rule app-7 (flag (codes "ascii-words"))
+app-6 = with_rule (with_rule (with_rule app-5 (flag (codes "brief"))) (flag (codes "no-params"))) (flag (codes "ascii-words"))
 
 pub returns : goal.returns
 unfolding command_line
@@ -47,7 +41,5 @@ returns c =
     let with-3 : app_of c.in_ok-command-3.command ≡ app-3 = c.in_ok-command-3.ensures ∙ ap (λ (a : App). with_rule a (flag (codes "press"))) with-2 in
     let with-4 : app_of c.in_ok-command-4.command ≡ app-4 = c.in_ok-command-4.ensures ∙ ap (λ (a : App). with_rule a (flag (codes "wide"))) with-3 in
     let with-5 : app_of c.in_ok-command-5.command ≡ app-5 = c.in_ok-command-5.ensures ∙ ap (λ (a : App). with_rule a (flag (codes "legacy"))) with-4 in
-    let with-6 : app_of c.in_ok-command-6.command ≡ app-6 = c.in_ok-command-6.ensures ∙ ap (λ (a : App). with_rule a (flag (codes "brief"))) with-5 in
-    let with-7 : app_of c.in_ok-command-7.command ≡ app-7 = c.in_ok-command-7.ensures ∙ ap (λ (a : App). with_rule a (flag (codes "no-params"))) with-6 in
-    let with-8 : app_of c.in_ok-command-8.command ≡ app-8 = c.in_ok-command-8.ensures ∙ ap (λ (a : App). with_rule a (flag (codes "ascii-words"))) with-7 in
-    IfOk-weaker c.arg-2.result _ _ (λ command adds. with_argument c.in_ok-command-8.command command c.symbols.result app-8 symbols adds c.symbols.ensures.local with-8 c.symbols.ensures.rule) c.arg-2.ensures
+    let with-6 : app_of c.in_ok-command-6.command ≡ app-6 = c.in_ok-command-6.ensures ∙ ap (λ (a : App). with_rule (with_rule (with_rule a (flag (codes "brief"))) (flag (codes "no-params"))) (flag (codes "ascii-words"))) with-5 in
+    IfOk-weaker c.arg-2.result _ _ (λ command adds. with_argument c.in_ok-command-6.command command c.symbols.result app-6 symbols adds c.symbols.ensures.local with-6 c.symbols.ensures.rule) c.arg-2.ensures

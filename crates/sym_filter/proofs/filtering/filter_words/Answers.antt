@@ -4,9 +4,29 @@ use Rattle.std.proofs.lemmas.List.{append-nil}
 use Rattle.sym_filter.specs.Runs.{filtered_at, tally_at}
 use Rattle.sym_filter.specs.Words.{rest_after, tally_after}
 use Rattle.sym_filter.specs.Streams.{Puts}
-use Rattle.sym_filter.proofs.StreamLemmas.{Consumes-join, Consumes-keeps, next-text, next-counts, Puts-join, Puts-all, PutsFront-of, PutsFront-join, PutsFront-same, IfErr-from_and, reader_faults-other, take-none, room-back, dots-step}
+use Rattle.sym_filter.proofs.WordLemmas.{rest_after-nothing, tally_after-nothing}
+use Rattle.sym_filter.proofs.StreamLemmas.{Consumes-join, Consumes-keeps, Consumes-none, Puts-none, next-text, next-counts, Puts-join, Puts-all, PutsFront-of, PutsFront-join, PutsFront-same, IfErr-from_and, reader_faults-other, take-none, room-back, dots-first, dots-step}
 use Rattle.sym_filter.specs.declared.filtering.TheConstants.{READ_SIZE}
 use Rattle.sym_filter.proofs.filtering.filter_words.Goals as goal
+
+pub loop-count-init : goal.loop-count-init
+loop-count-init g c =
+    let letters = c.args.letters in
+    let answers = g.D.Demangler.answer c.args.demangler.now in
+    let words = c.new-words.result in
+    let begins = c.new-words.ensures in record {
+      text = [];
+      bytes = [];
+      reads = Consumes-none _;
+      puts = Puts-none _;
+      read_failures = refl;
+      write_failures = refl;
+      room = sym c.in_ok-room.room.ok.0 ∙ c.in_ok-room.ensures;
+      nothing_waits = c.new-out.ensures.items;
+      rest = λ more. sym (rest_after-nothing letters answers words more begins.letters begins.holds_nothing begins.not_past begins.start);
+      counts = λ more. tally_after-nothing letters answers words more begins.letters begins.holds_nothing begins.not_past begins.start begins.nothing_counted;
+      dots = dots-first words.dots (g.R.Source.reads_left c.args.reader.now) c.left-left.result begins.no_dots c.left-left.ensures c.left-left.type_inv;
+    }
 
 pub loop-count-preserved : goal.loop-count-preserved
 loop-count-preserved g c =

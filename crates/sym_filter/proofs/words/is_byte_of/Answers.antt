@@ -1,5 +1,5 @@
 use Rattle.std.proofs.Common.{ℕ, leb, get_or, ap, sym, ◌∙◌, arith}
-use Rattle.sym_filter.specs.Runs.{is_byte_of}
+use Rattle.sym_filter.specs.Bytes.{is_byte_of}
 use Rattle.sym_filter.specs.declared.words.TheConstants.{RUN_BYTES}
 use Rattle.sym_filter.proofs.ByteLemmas.{is_any, is_ascii}
 use Rattle.sym_filter.proofs.words.is_byte_of.Goals as goal

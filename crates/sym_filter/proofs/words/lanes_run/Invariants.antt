@@ -1,6 +1,6 @@
 use Rattle.std.proofs.Common.{◌≡◌, ◌-◌, ◌≤◌, length, take, true}
 use Rattle.std.specs.List.{list_all}
-use Rattle.sym_filter.specs.Runs.{is_byte_of}
+use Rattle.sym_filter.specs.Bytes.{is_byte_of}
 use Rattle.sym_filter.specs.declared.kinds.Letters.TheVariants.{Ascii}
 use Rattle.sym_filter.proofs.words.lanes_run.Given as goal
 

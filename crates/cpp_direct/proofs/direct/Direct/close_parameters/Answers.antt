@@ -1,12 +1,10 @@
-use Rattle.std.proofs.Common.{◌++◌, sym, ◌∙◌}
+use Rattle.std.proofs.Common.{sym, ◌∙◌}
 use Rattle.cpp_direct.specs.Symbol.{symbol_by}
 use Rattle.cpp_direct.proofs.Ending.{function-ended, no-void}
 use Rattle.cpp_direct.proofs.direct.Direct.close_parameters.Goals as goal
 
-pub end-requires-clause-ended : goal.end-requires-clause-ended
-end-requires-clause-ended g c =
+pub close-requires-clause-ended : goal.close-requires-clause-ended
+close-requires-clause-ended g c =
     let p = c.requires.ended in
-    function-ended (symbol_by g.G.Grammar.IS_WIDE c.args.s.now) c.args.self.now c.push_byte.new.self c.cut.new.self c.args.mark c.args.start c.args._argument p
-    (no-void c.as_slice.result.now (p.aside ++ p.lead ++ p.name) p.texts (c.as_slice.ensures ∙ p.written)
-    (sym c.ends_with.ensures.value ∙ c.if-ends_with.false))
-    c.in_ok-push_byte.ensures c.in_ok-cut.ensures
+    function-ended (symbol_by g.G.Grammar.IS_WIDE g.G.Grammar.IS_BARE c.args.s.now) c.args.self.now c.args.mark c.args.start c.args._argument p
+    (no-void c.as_slice.result.now p.front p.texts (c.as_slice.ensures ∙ p.written) (sym c.ends_with.ensures.value ∙ c.if-ends_with.false))

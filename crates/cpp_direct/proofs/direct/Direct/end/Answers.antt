@@ -1,14 +1,7 @@
-use Rattle.std.proofs.Common.{sym, ◌∙◌}
 use Rattle.cpp_direct.specs.Symbol.{symbol_by}
-use Rattle.cpp_direct.proofs.Ending.{marks-written, symbol-ended}
+use Rattle.cpp_direct.proofs.Ending.{marks-written}
 use Rattle.cpp_direct.proofs.direct.Direct.end.Goals as goal
 
-pub entity-requires-clause-ended : goal.entity-requires-clause-ended
-entity-requires-clause-ended g c =
-    marks-written (symbol_by g.G.Grammar.IS_WIDE c.args.s.now) c.args.self.now c.push_mark.new.self c.args.mark c.requires.ended c.in_ok-push_mark.ensures
-
-pub finish-requires : goal.finish-requires
-finish-requires g c =
-    let s = symbol_by g.G.Grammar.IS_WIDE c.args.s.now in
-    symbol-ended s c.push_mark.new.self (marks-written s c.args.self.now c.push_mark.new.self c.args.mark c.requires.ended c.in_ok-push_mark.ensures)
-    (sym c.is_local.ensures ∙ c.if-is_local.false)
+pub encoded-requires-clause-ended : goal.encoded-requires-clause-ended
+encoded-requires-clause-ended g c =
+    marks-written (symbol_by g.G.Grammar.IS_WIDE g.G.Grammar.IS_BARE c.args.s.now) c.args.self.now c.push_mark.new.self c.args.mark c.requires.ended c.in_ok-push_mark.ensures

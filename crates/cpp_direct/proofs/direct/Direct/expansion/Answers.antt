@@ -6,7 +6,7 @@ use Rattle.cpp_direct.proofs.ExpansionsRead.{expansion-read, none-forwarded, pac
 use Rattle.cpp_direct.proofs.direct.Direct.expansion.Goals as goal
 
 pub returns-in_default : goal.returns-in_default
-returns-in_default g c = parameter-expected (symbol_by g.G.Grammar.IS_WIDE c.args.s.now) c.args.self.now c.args.mark c.args.start c.args.argument c.requires.awaits
+returns-in_default g c = parameter-expected (symbol_by g.G.Grammar.IS_WIDE g.G.Grammar.IS_BARE c.args.s.now) c.args.self.now c.args.mark c.args.start c.args.argument c.requires.awaits
 
 pub forward-requires-clause-before : goal.forward-requires-clause-before
 forward-requires-clause-before g c =
@@ -54,7 +54,7 @@ close_parameters-requires-clause-ended g c =
     let pack = pack-of old.text.list.items c.args.argument f.own f.names c.requires.is_pack c.if-first.false in
     let one = c.in_ok-forward.ensures begun ts pack (none-forwarded begun ts) in
     let three = c.in_ok-forward-3.ensures begun ts pack (c.in_ok-forward-2.ensures begun ts pack one) in
-    expansion-read (symbol_by g.G.Grammar.IS_WIDE c.args.s.now) old begun c.forward-4.new.self c.add_hidden-3.new.self c.args.mark c.args.start c.args.argument a
+    expansion-read (symbol_by g.G.Grammar.IS_WIDE g.G.Grammar.IS_BARE c.args.s.now) old begun c.forward-4.new.self c.add_hidden-3.new.self c.args.mark c.args.start c.args.argument a
     c.requires.is_pack c.if-first.false (omega (arith, c.if-argument-gt4.false)) c.in-Some.ensures.stands refl refl refl c.in-Some.ensures.end
     (c.in_ok-forward-4.ensures begun ts pack three)
     (c.add_hidden-3.ensures.text ∙ c.add_hidden-2.ensures.text ∙ c.add_hidden.ensures.text)

@@ -8,4 +8,4 @@ returns-in-0-clause-shows g c below so_far shows =
 
 pub returns-in_default-clause-shows : goal.returns-in_default-clause-shows
 returns-in_default-clause-shows g c below so_far shows =
-    text-changed c.args.self.now _ so_far _ _ (bound-lifetime c.args.bound c.args.lifetime c.saturating_sub.result (omega (arith, c.in_default)) c.saturating_sub.ensures) (c.push_numbered.ensures.shows _ _ shows)
+    text-changed c.args.self.now _ so_far _ _ (bound-lifetime c.args.bound c.args.lifetime c.from_outermost.result (omega (arith, c.in_default)) c.from_outermost.ensures) (c.push_numbered.ensures.shows _ _ shows)

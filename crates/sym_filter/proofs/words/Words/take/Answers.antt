@@ -1,8 +1,9 @@
 use Rattle.std.proofs.Common.{◌≡◌, ◌∙◌, ◌++◌, [], true, false, refl, sym, take, arith}
 use Rattle.std.proofs.lemmas.List.{append-nil}
-use Rattle.sym_filter.specs.Runs.{answers_at, is_begun, word_or_text}
+use Rattle.sym_filter.specs.Places.{may_begin}
+use Rattle.sym_filter.specs.Runs.{is_begun, written}
 use Rattle.sym_filter.specs.Words.{held_of}
-use Rattle.sym_filter.proofs.WordLemmas.{Takes-plain, Takes-first, Takes-hold, held_of-empty, no_items, has_items, passes-none, past-none, front-none, front-begun, held-begun, held-none}
+use Rattle.sym_filter.proofs.WordLemmas.{Takes-plain, Takes-first, Takes-hold, held_of-empty, no_items, has_items, past-none, held-open, front-open, front-begun, held-begun, held-none}
 use Rattle.sym_filter.proofs.words.Words.take.Goals as goal
 use Rattle.sym_filter.proofs.words.Words.take.Goals.{then-is_empty+then-self-eq0+else-self+else-front-gt0, else-is_empty, else-is_empty-via-then-is_empty+else-self-eq0, else-is_empty-via-else-is_empty}
 
@@ -14,7 +15,7 @@ returns-then-front-gt0-clause-takes g c =
     let self = c.args.self.now in
     let front = c.plain_front-front.ensures in
     let nothing = held_of-empty self (no_items self.held.items _ self.held.ok.0 (sym c.is_empty.ensures ∙ c.if-is_empty.true)) c.if-self-eq0.true in
-    ([], sym (append-nil c.args.out.now.items), Takes-plain (g.D.Demangler.answer c.args.demangler.now) self _ _ refl nothing nothing c.if-self.false c.if-self.false front.closed refl refl front.plain)
+    ([], sym (append-nil c.args.out.now.items), Takes-plain (g.D.Demangler.answer c.args.demangler.now) self _ _ refl nothing nothing c.if-self.false c.if-self.false front.place refl refl front.plain)
 
 pub returns-then-count-eq0-clause-takes : goal.returns-then-count-eq0-clause-takes
 returns-then-count-eq0-clause-takes g c =
@@ -23,12 +24,12 @@ returns-then-count-eq0-clause-takes g c =
     let not_past : self.past ≡ false = elim c.if-is_empty.branch [
       | then-is_empty+then-self-eq0+else-self+else-front-gt0 w ↦ w.if-self.false
       | else-is_empty w ↦ elim w.else-is_empty.branch [
-        | else-is_empty-via-then-is_empty+else-self-eq0 w' ↦ past-none self.letters self.held.items self.dots self.past self.passes self.is_held (λ _ none. w'.if-self-eq0.false none)
-        | else-is_empty-via-else-is_empty w' ↦ past-none self.letters self.held.items self.dots self.past self.passes self.is_held (λ nothing _. has_items self.held.items _ self.held.ok.0 (sym c.is_empty.ensures ∙ w'.if-is_empty.false) nothing)
+        | else-is_empty-via-then-is_empty+else-self-eq0 w' ↦ past-none self.letters self.held.items self.dots self.past self.place self.is_held (λ _ none. w'.if-self-eq0.false none)
+        | else-is_empty-via-else-is_empty w' ↦ past-none self.letters self.held.items self.dots self.past self.place self.is_held (λ nothing _. has_items self.held.items _ self.held.ok.0 (sym c.is_empty.ensures ∙ w'.if-is_empty.false) nothing)
       ]
     ] in
     let ended = c.in_ok-dots.ensures in
-    (word_or_text (answers_at self.letters answers) self.held.items, ended.text, Takes-first answers self c.end_word.new.self c.args.text.now c.run_front-count.result c.in_ok-dots.dots ended.letters c.requires.some c.if-count-eq0.true (c.run_front-count.ensures.stops (omega (arith, c.requires.some, c.if-count-eq0.true))) ended.dots ended.counts ended.ends.0 ended.ends.1 (ended.past ∙ not_past) ended.ends.2)
+    (written self.letters answers self.place self.held.items, ended.text, Takes-first answers self c.end_word.new.self c.args.text.now c.run_front-count.result c.in_ok-dots.dots ended.letters c.requires.some c.if-count-eq0.true (c.run_front-count.ensures.stops (omega (arith, c.requires.some, c.if-count-eq0.true))) ended.dots ended.counts ended.ends.0 ended.ends.1 (ended.past ∙ not_past) ended.ends.2)
 
 pub hold-requires-clause-begins : goal.hold-requires-clause-begins
 hold-requires-clause-begins g c =
@@ -50,18 +51,18 @@ hold-requires-clause-holds g c =
     let not_past : self.past ≡ false = elim c.if-is_empty.branch [
       | then-is_empty+then-self-eq0+else-self+else-front-gt0 w ↦ w.if-self.false
       | else-is_empty w ↦ elim w.else-is_empty.branch [
-        | else-is_empty-via-then-is_empty+else-self-eq0 w' ↦ past-none self.letters self.held.items self.dots self.past self.passes self.is_held (λ _ none. w'.if-self-eq0.false none)
-        | else-is_empty-via-else-is_empty w' ↦ past-none self.letters self.held.items self.dots self.past self.passes self.is_held (λ nothing _. has_items self.held.items _ self.held.ok.0 (sym c.is_empty.ensures ∙ w'.if-is_empty.false) nothing)
+        | else-is_empty-via-then-is_empty+else-self-eq0 w' ↦ past-none self.letters self.held.items self.dots self.past self.place self.is_held (λ _ none. w'.if-self-eq0.false none)
+        | else-is_empty-via-else-is_empty w' ↦ past-none self.letters self.held.items self.dots self.past self.place self.is_held (λ nothing _. has_items self.held.items _ self.held.ok.0 (sym c.is_empty.ensures ∙ w'.if-is_empty.false) nothing)
       ]
     ] in
-    let holds : self.passes ≡ false = elim c.if-is_empty.branch [
-      | then-is_empty+then-self-eq0+else-self+else-front-gt0 w ↦ front-none self.letters self.passes _ c.args.text.now w.plain_front-front.result.length w.if-front-gt0.false c.requires.some w.plain_front-front.ensures.open w.plain_front-front.ensures.closed
+    let begins : may_begin self.letters self.place ≡ true = elim c.if-is_empty.branch [
+      | then-is_empty+then-self-eq0+else-self+else-front-gt0 w ↦ front-open self.letters self.place _ c.args.text.now w.plain_front-front.result.length w.if-front-gt0.false c.requires.some w.plain_front-front.ensures.open w.plain_front-front.ensures.place
       | else-is_empty w ↦ elim w.else-is_empty.branch [
-        | else-is_empty-via-then-is_empty+else-self-eq0 w' ↦ passes-none self.letters self.held.items self.dots self.past self.passes self.is_held (λ _ none. w'.if-self-eq0.false none) not_past
-        | else-is_empty-via-else-is_empty w' ↦ passes-none self.letters self.held.items self.dots self.past self.passes self.is_held (λ nothing _. has_items self.held.items _ self.held.ok.0 (sym c.is_empty.ensures ∙ w'.if-is_empty.false) nothing) not_past
+        | else-is_empty-via-then-is_empty+else-self-eq0 w' ↦ held-open self.letters self.held.items self.dots self.past self.place _ self.is_held (λ _ none. w'.if-self-eq0.false none) refl
+        | else-is_empty-via-else-is_empty w' ↦ held-open self.letters self.held.items self.dots self.past self.place _ self.is_held (λ nothing _. has_items self.held.items _ self.held.ok.0 (sym c.is_empty.ensures ∙ w'.if-is_empty.false) nothing) refl
       ]
     ] in
-    (not_past, holds)
+    (not_past, begins)
 
 pub returns-clause-takes : goal.returns-clause-takes
 returns-clause-takes g c =
@@ -70,15 +71,15 @@ returns-clause-takes g c =
     let not_past : self.past ≡ false = elim c.if-is_empty.branch [
       | then-is_empty+then-self-eq0+else-self+else-front-gt0 w ↦ w.if-self.false
       | else-is_empty w ↦ elim w.else-is_empty.branch [
-        | else-is_empty-via-then-is_empty+else-self-eq0 w' ↦ past-none self.letters self.held.items self.dots self.past self.passes self.is_held (λ _ none. w'.if-self-eq0.false none)
-        | else-is_empty-via-else-is_empty w' ↦ past-none self.letters self.held.items self.dots self.past self.passes self.is_held (λ nothing _. has_items self.held.items _ self.held.ok.0 (sym c.is_empty.ensures ∙ w'.if-is_empty.false) nothing)
+        | else-is_empty-via-then-is_empty+else-self-eq0 w' ↦ past-none self.letters self.held.items self.dots self.past self.place self.is_held (λ _ none. w'.if-self-eq0.false none)
+        | else-is_empty-via-else-is_empty w' ↦ past-none self.letters self.held.items self.dots self.past self.place self.is_held (λ nothing _. has_items self.held.items _ self.held.ok.0 (sym c.is_empty.ensures ∙ w'.if-is_empty.false) nothing)
       ]
     ] in
-    let holds : self.passes ≡ false = elim c.if-is_empty.branch [
-      | then-is_empty+then-self-eq0+else-self+else-front-gt0 w ↦ front-none self.letters self.passes _ c.args.text.now w.plain_front-front.result.length w.if-front-gt0.false c.requires.some w.plain_front-front.ensures.open w.plain_front-front.ensures.closed
+    let begins : may_begin self.letters self.place ≡ true = elim c.if-is_empty.branch [
+      | then-is_empty+then-self-eq0+else-self+else-front-gt0 w ↦ front-open self.letters self.place _ c.args.text.now w.plain_front-front.result.length w.if-front-gt0.false c.requires.some w.plain_front-front.ensures.open w.plain_front-front.ensures.place
       | else-is_empty w ↦ elim w.else-is_empty.branch [
-        | else-is_empty-via-then-is_empty+else-self-eq0 w' ↦ passes-none self.letters self.held.items self.dots self.past self.passes self.is_held (λ _ none. w'.if-self-eq0.false none) not_past
-        | else-is_empty-via-else-is_empty w' ↦ passes-none self.letters self.held.items self.dots self.past self.passes self.is_held (λ nothing _. has_items self.held.items _ self.held.ok.0 (sym c.is_empty.ensures ∙ w'.if-is_empty.false) nothing) not_past
+        | else-is_empty-via-then-is_empty+else-self-eq0 w' ↦ held-open self.letters self.held.items self.dots self.past self.place _ self.is_held (λ _ none. w'.if-self-eq0.false none) refl
+        | else-is_empty-via-else-is_empty w' ↦ held-open self.letters self.held.items self.dots self.past self.place _ self.is_held (λ nothing _. has_items self.held.items _ self.held.ok.0 (sym c.is_empty.ensures ∙ w'.if-is_empty.false) nothing) refl
       ]
     ] in
     let begun : is_begun (held_of self ++ take c.run_front-count.result c.args.text.now) ≡ true = elim c.if-is_empty.branch [
@@ -91,4 +92,4 @@ returns-clause-takes g c =
       ]
     ] in
     let held = c.in_ok-taken.ensures in
-    Takes-hold (g.D.Demangler.answer c.args.demangler.now) self c.hold.new.self c.args.text.now c.args.out.now.items c.hold.new.out.items c.run_front-count.result c.in_ok-taken.taken _ held.letters refl front.within front.in_run begun not_past holds held.same held.dots held.count held.held held.passes
+    Takes-hold (g.D.Demangler.answer c.args.demangler.now) self c.hold.new.self c.args.text.now c.args.out.now.items c.hold.new.out.items c.run_front-count.result c.in_ok-taken.taken _ held.letters refl front.within front.in_run begun not_past begins held.place held.same held.dots held.count held.held held.passes

@@ -1,6 +1,0 @@
-use Rattle.std.proofs.Common.{◌≡◌, ◌++◌, take, length}
-use Rattle.demangle_command.specs.Json.{escaped}
-use Rattle.demangle_command.proofs.json.push_escaped.Given as goal
-
-abbrev pub invariant-bytes : goal.invariant-bytes
-invariant-bytes l = record { pushed : l.out.items ≡ l.fn.out.items ++ escaped (take l.byte-index l.text); begun : l.len ≡ length l.fn.out.items }

@@ -1,0 +1,4 @@
+pub mod Escaped
+pub mod Names
+pub mod Style
+pub mod Types

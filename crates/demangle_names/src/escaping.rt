@@ -1,0 +1,32 @@
+// Texts within strings of JSON.
+ghost use Rattle.std.specs.Prelude.{◌≡◌, ◌++◌, ℕ, List, OnOk, OnErr};
+ghost use Rattle.demangle_names.specs.Escaped.{escaped, escaped_byte};
+
+use std::alloc::AllocError;
+
+/// Appends a text as a string of JSON has it, or nothing: with a backslash before each quote and backslash.
+pub fn push_escaped(text: &[u8], out: &mut Vec<u8>) -> Result<(), AllocError>
+    ensures pushed { OnOk result (out.new.items ≡ out.old.items ++ escaped text.now) }
+    ensures same { OnErr result (out.new.items ≡ out.old.items) }
+{
+    let len = out.len();
+    'bytes: for byte in text {
+        if push_byte(*byte, out).is_err() {
+            out.truncate(len);
+            return Err(AllocError);
+        }
+    }
+    Ok(())
+}
+
+/// Appends a byte as a string of JSON has it, or a front of that.
+fn push_byte(byte: u8, out: &mut Vec<u8>) -> Result<(), AllocError>
+    ensures pushed { OnOk result (out.new.items ≡ out.old.items ++ escaped_byte byte) }
+    ensures front { OnErr result ((front : List ℕ) × (out.new.items ≡ out.old.items ++ front)) }
+{
+    if byte == b'"' || byte == b'\\' {
+        out.push(b'\\')?;
+    }
+    out.push(byte)?;
+    Ok(())
+}

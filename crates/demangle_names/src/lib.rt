@@ -1,0 +1,17 @@
+//! What the program `demangle` writes for names, with any demangler: their lines, types among them, texts within strings of JSON, the
+//! manglings that a style reads, and the statuses.
+#![tactic(auto)]
+
+mod escaping;
+mod names;
+mod options;
+mod status;
+mod style;
+mod types;
+
+pub use escaping::push_escaped;
+pub use names::answer_names;
+pub use options::Options;
+pub use status::{DONE, status_of};
+pub use style::{Style, style_of};
+pub use types::type_for;

@@ -1,0 +1,19 @@
+// Statuses of the program.
+ghost use Rattle.std.specs.Prelude.{◌≡◌};
+ghost use Rattle.demangle_names.specs.Names.{status_of};
+
+/// The status where the command line did what it asks.
+pub const DONE: u8 = 0;
+
+/// The status where a name is left, and none may be.
+const LEFT: u8 = 1;
+
+/// The status where a name is left, or none.
+pub fn status_of(strict: bool, one_stays: bool) -> u8
+    ensures { result ≡ status_of strict one_stays }
+{
+    if strict && one_stays {
+        return LEFT;
+    }
+    DONE
+}

@@ -1,0 +1,18 @@
+-- How long a pressed spelling may be.
+use Rattle.std.specs.Prelude.{ℕ, ◌*◌, ◌≤◌, List, length, Ok}
+use Rattle.sym_core.specs.Number.{FitsSymbol}
+use Rattle.rust_tree.specs.Symbol as tree
+use Rattle.rust_grammar.specs.Mangled.{IsReading}
+use Rattle.rust_press.specs.Pressing.{pressed}
+
+-- the most bytes of a pressed spelling for each byte of a symbol
+abbrev pub pressed_a_byte : ℕ
+pressed_a_byte = 4
+
+-- The bytes are at most so many for each byte of a symbol, whatever symbol that fits is read as the tree.
+abbrev pub IsShort : tree.Symbol → (bytes : List ℕ) → Type 0
+IsShort symbol bytes = (s : List ℕ) → FitsSymbol s → IsReading s (Ok symbol) → length bytes ≤ pressed_a_byte * length s
+
+-- so is the pressed spelling of each tree
+abbrev pub PressedIsShort : Type 0
+PressedIsShort = (symbol : tree.Symbol) → IsShort symbol (pressed symbol)

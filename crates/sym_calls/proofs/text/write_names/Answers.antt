@@ -1,0 +1,11 @@
+use Rattle.std.proofs.Common.{rules}
+use Rattle.sym_print.specs.declared.detail.Detail.{Detail}
+use Rattle.sym_shape.specs.Decided.{AreBytes}
+use Rattle.sym_calls.proofs.Ending.{short-written}
+use Rattle.sym_calls.proofs.text.write_names.Goals as goal
+
+pub returns-clause-told : goal.returns-clause-told
+returns-clause-told g c =
+    let bytes : AreBytes c.args.symbol.now = λ i. search (rules, c.type_inv.symbol i) in
+    short-written g.C.Mangling.mangled Detail.NoParameters c.args.limit c.args.symbol.now (g.C.Mangling.written c.write_names.new.direct) c.text.result.now c.args.buffer.now _
+    bytes (c.write_names.ensures c.if-not-write_names.false) c.text.ensures c.write.ensures

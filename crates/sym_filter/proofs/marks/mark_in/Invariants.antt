@@ -1,0 +1,12 @@
+use Rattle.std.proofs.Common.{◌≡◌, ◌-◌, ◌≤◌, length, drop}
+use Rattle.sym_filter.specs.Marks.{from_mark}
+use Rattle.sym_filter.proofs.marks.mark_in.Given as goal
+
+abbrev pub invariant-bytes : goal.invariant-bytes
+invariant-bytes l = record {
+  within : l.at ≤ length l.word;
+  from : from_mark l.fn.place l.word ≡ from_mark l.place (drop l.at l.word);
+}
+
+abbrev pub decreases-bytes : goal.decreases-bytes
+decreases-bytes l = length l.word - l.at

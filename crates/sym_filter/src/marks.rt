@@ -1,0 +1,83 @@
+// Where in a word the name of a symbol begins.
+ghost use Rattle.std.specs.Prelude.{◌≡◌, ◌≤◌, length, take, drop};
+ghost use Rattle.sym_filter.specs.Marks.{before_mark, begins_name, from_mark, front_length, is_mark, is_taken};
+
+use crate::kinds::{Kind, Lang, Letters, kind_by_beginning};
+use crate::places::{Place, Stretch, is_divider};
+
+/// Where in a word that is held from a place on the name of its first symbol begins, or where the word ends.
+pub(crate) fn mark_in(word: &[u8], place: Place) -> usize
+    ensures within { result ≤ length word.now }
+    ensures before { before_mark place word.now ≡ take result word.now }
+    ensures from { from_mark place word.now ≡ drop result word.now }
+{
+    let mut place = place;
+    let mut at = 0;
+    'bytes: while at < word.len() {
+        let name = at + front_length(&word[at..]);
+        if is_mark(place, &word[name..]) {
+            return name;
+        }
+        place = place.after(Letters::Within, word[at]);
+        at += 1;
+    }
+    at
+}
+
+/// How many bytes compilers and linkers have put before a symbol: for an import's address, and for a function that runs when a
+/// program starts or ends.
+fn front_length(word: &[u8]) -> usize
+    ensures length { result ≡ front_length word.now }
+    ensures within { result ≤ length word.now }
+{
+    if word.starts_with(b"__imp_") {
+        6
+    } else if word.starts_with(b"_GLOBAL__sub_I_") {
+        15
+    } else if word.starts_with(b"_GLOBAL__sub_D_") {
+        15
+    } else if word.starts_with(b"_GLOBAL__I_") {
+        11
+    } else if word.starts_with(b"_GLOBAL__D_") {
+        11
+    } else {
+        0
+    }
+}
+
+/// Whether the name of a symbol begins at a place with these bytes.
+fn is_mark(place: Place, rest: &[u8]) -> bool
+    ensures { result ≡ is_mark place rest.now }
+{
+    match kind_by_beginning(rest) {
+        None => false,
+        Some(kind) => is_taken(place, kind, rest),
+    }
+}
+
+/// Whether a symbol of a kind may begin at a place. Within a name that is no section's, as a member's of source code, its third byte
+/// has to be one with which the names of symbols begin.
+fn is_taken(place: Place, kind: Kind, rest: &[u8]) -> bool
+    ensures { result ≡ is_taken place.stretch place.last kind rest.now }
+{
+    match place.stretch {
+        Stretch::Empty => true,
+        Stretch::Section => is_divider(place.last),
+        Stretch::Other => {
+            let third = rest.get(kind.skip as usize + 2).copied().unwrap_or(0);
+            place.last == b'.' && begins_name(kind.lang, third)
+        }
+    }
+}
+
+/// Whether a byte after `_Z` or `_R` is one with which a name, a number or a special name of C++, or a path of Rust begins.
+fn begins_name(lang: Lang, byte: u8) -> bool
+    ensures { result ≡ begins_name lang byte }
+{
+    match lang {
+        Lang::Cpp => byte.is_ascii_uppercase() || byte.is_ascii_digit(),
+        Lang::Rust => {
+            byte == b'I' || byte == b'M' || byte == b'N' || byte == b'X' || byte == b'Y'
+        }
+    }
+}

@@ -1,0 +1,28 @@
+-- What is answered where symbols are pressed is short where each tree's pressed spelling is.
+use Rattle.std.proofs.Common.{◌≡◌, ℕ, ◌*◌, ◌≤◌, inl, inr, length, List, Result, Ok, refl, sym, subst, ◌∙◌}
+use Rattle.std.specs.Prelude.{Err}
+use Rattle.sym_core.specs.Number.{FitsSymbol}
+use Rattle.sym_core.specs.declared.refusal.Refusal.{Refusal}
+use Rattle.sym_core.specs.declared.refusal.Refusal.TheVariants.{Malformed}
+use Rattle.sym_shape.specs.Decided.{Decided}
+use Rattle.sym_shape.proofs.Deciding.{decided}
+use Rattle.sym_demangle.specs.Mangled.{Mangled, IsReading, misshapen, well_shaped}
+use Rattle.sym_languages.specs.Pressed.{AnswersAreShort, reading_pressed}
+
+pub answers-short : {W : Type 0} (m : Mangled W) (pressed : W → List ℕ) (a_byte : ℕ)
+    → ((whole : W) (s : List ℕ) → FitsSymbol s → IsReading m s (Ok whole) → length (pressed whole) ≤ a_byte * length s) → AnswersAreShort m pressed a_byte
+answers-short {W = W} m pressed a_byte short s text fits bytes answered = go (decided m.table m.lawful s bytes)
+  where
+    one-text : {a b : List ℕ} → ◌≡◌ {A = Result (List ℕ) Refusal} (Ok a) (Ok b) → a ≡ b
+    one-text h = cc
+
+    refused : {a : List ℕ} {e : Refusal} → ◌≡◌ {A = Result (List ℕ) Refusal} (Ok a) (Err e) → ⊥
+    refused h = cc
+
+    read : (result : Result W Refusal) → IsReading m s result → length text ≤ a_byte * length s
+    read (Ok whole) is = subst (λ l. length l ≤ a_byte * length s) (sym (one-text (sym answered ∙ reading_pressed m pressed s (Ok whole) bytes is))) (short whole s fits is)
+    read (Err e) is = absurd (refused (sym answered ∙ reading_pressed m pressed s (Err e) bytes is))
+
+    go : Decided m.table s → length text ≤ a_byte * length s
+    go (inl (shape, is, spelled)) = read (m.unfolded shape) (well_shaped (shape, is, spelled, refl))
+    go (inr (at, bad)) = read (Err (Malformed at)) (misshapen at bad refl)
