@@ -42,7 +42,7 @@ def generated(reference, generator, modes):
     return out
 
 # the definitions that rows compute with, by module
-READING = ["cpp_grammar.specs." + m for m in ("Grammar", "Table", "Values", "Scope", "References", "Between", "Meaning", "Unfolding", "Texts")]
+READING = ["cpp_grammar.specs." + m for m in ("Grammar", "Table", "Values", "Scope", "References", "Surrounding", "Standing", "Between", "Meaning", "Unfolding", "Texts")]
 PRINTING = READING + ["cpp_grammar.specs." + m for m in ("Items", "Parts", "Ranks")] + ["cpp_grammar.proofs.Reader", "cpp_grammar.proofs.Row"]
 PRESSING = READING + ["cpp_grammar.proofs.Reader"] + ["cpp_press_laws.specs." + m for m in ("Same", "Texts", "Components", "Pressing")] + ["cpp_press_laws.proofs.Rows.Row"]
 # names of those modules that no row needs

@@ -1,8 +1,8 @@
 -- Of what productions stand for: parameters, encodings, references, signatures.
 use Rattle.std.specs.Prelude.{ℕ, List, [], ◌∷◌, Bool, true, false, cond, ◌&&◌, nat_eq, Option, Some, None}
-use Rattle.cpp_grammar.specs.Term.{RefQualifier, Term, function, object, of_default, operator, builtin, lvalue, rvalue, function_type, qualified, nil, list, absent}
+use Rattle.cpp_grammar.specs.Term.{RefQualifier, Term, function, object, of_default, operator, builtin, lvalue, rvalue, nil, list, absent}
 use Rattle.cpp_grammar.specs.Scope.{has_return_type}
-use Rattle.cpp_grammar.specs.Values.{Value, nothing_there, letter, text, tree, piece, named, signature, tree_of, qualifiers_of, ref_of, is_there, normal}
+use Rattle.cpp_grammar.specs.Values.{Value, nothing_there, letter, text, tree, piece, named, signature, tree_of, qualifiers_of, ref_of, normal}
 
 -- a lone void is no parameters
 unfoldable pub is_void : Term → Bool
@@ -26,21 +26,12 @@ encoding_of name (list first rest) =
     ]
 encoding_of name _ = object (tree_of name) (qualifiers_of name) (ref_of name)
 
-unfoldable pub qualified_by : Bool → Value → Value → Value → Value
-qualified_by restrict volatile const inner =
-    tree (qualified (record { restrict = restrict; volatile = is_there volatile; const = is_there const }) (tree_of inner)) false
-
 unfoldable pub listed_value : Value → Value
 listed_value v = tree (tree_of v) true
 
 unfoldable pub discriminator_of : Value → Option (List ℕ)
 discriminator_of (text digits) = Some digits
 discriminator_of _ = None
-
--- The type of a function: its linkage mark, what it returns, and its signature.
-unfoldable pub function_of : Bool → Value → Value → Value → Value
-function_of noexcept linkage returned rest =
-    tree (function_type (is_there linkage) noexcept (ref_of rest) (tree_of returned) (parameters (tree_of rest))) false
 
 -- one more parameter before those of a signature
 unfoldable pub with_item : Term → Value → Value

@@ -6,7 +6,7 @@ use Rattle.sym_core.specs.Value.{counted_value}
 use Rattle.sym_link.specs.Reading.{Next, ◌>>=◌}
 use Rattle.cpp_grammar.specs.Term.{Term, alone, within, instance, tagged, parameter, nil}
 use Rattle.cpp_grammar.specs.Scope.{arguments_of, is_structor}
-use Rattle.cpp_grammar.specs.Values.{State, Prefix, outermost, behind, Around, prefix_tree, Value, nothing_there, tree, named, tree_of, is_there, text_of}
+use Rattle.cpp_grammar.specs.Values.{State, Prefix, outermost, behind, Around, Value, nothing_there, tree, named, tree_of, is_there, text_of}
 use Rattle.cpp_grammar.specs.References.{parameter_named}
 
 -- ## What surrounds a part
@@ -64,14 +64,6 @@ named_so_far around t vs state = next (tree t false ∷ vs) (after t false aroun
 -- a name that is a candidate already, or never is one
 unfoldable pub listed_so_far : Around → Term → List Value → State → Going
 listed_so_far around t vs state = next (tree t true ∷ vs) (after t true around) state
-
--- a piece is added to the name so far
-unfoldable pub piece_so_far : Around → Term → List Value → State → Going
-piece_so_far around p vs state = named_so_far around (extended around.prefix p) vs state
-
--- the name so far with one more tag
-unfoldable pub tag_so_far : Around → List ℕ → State → Going
-tag_so_far around tag state = named_so_far around (with_tag (prefix_tree around.prefix) tag) [] state
 
 -- a parameter is tested, and becomes a candidate, where its number ends
 unfoldable pub parameter_so_far : Around → (place : ℕ) → ℕ → List Value → State → Going

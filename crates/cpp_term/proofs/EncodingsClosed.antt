@@ -1,5 +1,5 @@
 -- In a run without arguments, the parts of a production that are encodings have no free parameters, and neither has what a special name is of.
-use Rattle.std.proofs.Common.{◌≡◌, refl, ap, sym, ◌∙◌, subst, ℕ, ◌+◌, ◌<◌, ◌≤◌, List, [], ◌∷◌, ◌++◌, length, Bool, true, false, not, ◌||◌, cond, nat_eq, slice_get, Option, Some, None, Result, Ok, lit≤, arith}
+use Rattle.std.proofs.Common.{◌≡◌, refl, ap, sym, ◌∙◌, subst, ℕ, zero, suc, ◌+◌, ◌<◌, ◌≤◌, List, [], ◌∷◌, ◌++◌, length, Bool, true, false, not, ◌||◌, cond, nat_eq, slice_get, Option, Some, None, Result, Ok, lit≤, arith}
 use Rattle.std.proofs.lemmas.Bool.{false≢true, eqb-true, and_parts}
 use Rattle.std.proofs.lemmas.List.{append-nil, append_assoc}
 use Rattle.sym_core.specs.declared.refusal.Refusal.{Refusal}
@@ -177,39 +177,29 @@ unfolding is_encoding
 as_encoding (OfKind k) t h is = subst (λ n. IsTree wide (OfKind n) t) (eqb-true k 4 h) is
 as_encoding _ t h is = absurd (false≢true h)
 
+is_encoding_at : List Sym → ℕ → Bool
+is_encoding_at [] k = false
+is_encoding_at (x ∷ xs) zero = is_encoding x
+is_encoding_at (x ∷ xs) (suc k) = is_encoding_at xs k
+
+encoding_at : (xs : List Sym) (vs : List Value) (k : ℕ) → is_encoding_at xs k ≡ true → Encodings xs vs → is_open (tree_of (part vs k)) ≡ false
+unfolding is_encoding_at part tree_of is_open
+encoding_at [] vs k h all = absurd (false≢true h)
+encoding_at (x ∷ xs) [] k h all = refl
+encoding_at (x ∷ xs) (v ∷ vs) zero h all = all.0 h
+encoding_at (x ∷ xs) (v ∷ vs) (suc k) h all = encoding_at xs vs k h all.1
+
 inside_values : (p : Production) (vs : List Value) → opens p ≡ false → (has_encoding (parts_of p) ≡ true → Encodings (parts_of p) vs) → (in_special p ≡ true → (k : ℕ) → is_open (tree_of (part vs k)) ≡ false) → Inside p vs
-unfolding opens has_encoding is_encoding parts_of number_of_kind part tree_of is_open in_special
-inside_values Production.Symbol (u ∷ v ∷ vs) plain all special = (all refl).1.0 refl
-inside_values Production.Symbol (v ∷ []) plain all special = refl
-inside_values Production.Symbol [] plain all special = refl
-inside_values Production.NonVirtualThunk (u ∷ v ∷ w ∷ vs) plain all special = (all refl).1.1.0 refl
-inside_values Production.NonVirtualThunk (u ∷ v ∷ []) plain all special = refl
-inside_values Production.NonVirtualThunk (v ∷ []) plain all special = refl
-inside_values Production.NonVirtualThunk [] plain all special = refl
-inside_values Production.VirtualThunk (u ∷ v ∷ w ∷ x ∷ y ∷ vs) plain all special = (all refl).1.1.1.1.0 refl
-inside_values Production.VirtualThunk (u ∷ v ∷ w ∷ x ∷ []) plain all special = refl
-inside_values Production.VirtualThunk (u ∷ v ∷ w ∷ []) plain all special = refl
-inside_values Production.VirtualThunk (u ∷ v ∷ []) plain all special = refl
-inside_values Production.VirtualThunk (v ∷ []) plain all special = refl
-inside_values Production.VirtualThunk [] plain all special = refl
-inside_values Production.CovariantThunk (u ∷ v ∷ w ∷ vs) plain all special = (all refl).1.1.0 refl
-inside_values Production.CovariantThunk (u ∷ v ∷ []) plain all special = refl
-inside_values Production.CovariantThunk (v ∷ []) plain all special = refl
-inside_values Production.CovariantThunk [] plain all special = refl
-inside_values Production.LocalName (v ∷ vs) plain all special = (all refl).0 refl
-inside_values Production.LocalName [] plain all special = refl
-inside_values Production.LocalType (v ∷ vs) plain all special = (all refl).0 refl
-inside_values Production.LocalType [] plain all special = refl
-inside_values Production.EncodingLiteral (u ∷ v ∷ vs) plain all special = (all refl).1.0 refl
-inside_values Production.EncodingLiteral (v ∷ []) plain all special = refl
-inside_values Production.EncodingLiteral [] plain all special = refl
-inside_values Production.Clone (u ∷ v ∷ vs) plain all special = (all refl).1.0 refl
-inside_values Production.Clone (v ∷ []) plain all special = refl
-inside_values Production.Clone [] plain all special = refl
-inside_values Production.Address (u ∷ v ∷ w ∷ vs) plain all special = (all refl).1.1.0 refl
-inside_values Production.Address (u ∷ v ∷ []) plain all special = refl
-inside_values Production.Address (v ∷ []) plain all special = refl
-inside_values Production.Address [] plain all special = refl
+unfolding opens has_encoding is_encoding is_encoding_at parts_of number_of_kind in_special
+inside_values Production.Symbol vs plain all special = encoding_at (parts_of Production.Symbol) vs 1 refl (all refl)
+inside_values Production.NonVirtualThunk vs plain all special = encoding_at (parts_of Production.NonVirtualThunk) vs 2 refl (all refl)
+inside_values Production.VirtualThunk vs plain all special = encoding_at (parts_of Production.VirtualThunk) vs 4 refl (all refl)
+inside_values Production.CovariantThunk vs plain all special = encoding_at (parts_of Production.CovariantThunk) vs 2 refl (all refl)
+inside_values Production.LocalName vs plain all special = encoding_at (parts_of Production.LocalName) vs 0 refl (all refl)
+inside_values Production.LocalType vs plain all special = encoding_at (parts_of Production.LocalType) vs 0 refl (all refl)
+inside_values Production.EncodingLiteral vs plain all special = encoding_at (parts_of Production.EncodingLiteral) vs 1 refl (all refl)
+inside_values Production.Clone vs plain all special = encoding_at (parts_of Production.Clone) vs 1 refl (all refl)
+inside_values Production.Address vs plain all special = encoding_at (parts_of Production.Address) vs 2 refl (all refl)
 inside_values Production.SpecialType vs plain all special = special refl 0
 inside_values Production.SpecialName vs plain all special = special refl 0
 inside_values Production.ConstructionVtable vs plain all special = (special refl 0, special refl 3)

@@ -8,7 +8,7 @@ use Rattle.cpp_grammar.specs.Term.{Qualifiers, RefQualifier, any_value, lvalue_o
 use Rattle.cpp_grammar.specs.Values as values
 use Rattle.cpp_grammar.specs.Values.{State, Prefix, outermost, Around, prefix_tree, prefix_listed, Value, nothing_there, letter, text, signed, adjusted, tree, piece, named, signature, unqualified, tree_of, piece_of, is_listed, qualifiers_of, ref_of, letter_of, is_there, mark_of, text_of, signed_of, adjustment_of, normal, is_zero, signed_digits, local_number}
 use Rattle.cpp_grammar.specs.References.{is_function_type}
-use Rattle.cpp_grammar.specs.Between.{after, inside, extended, applied, no_items, named_so_far, listed_so_far, piece_so_far, index_of, between}
+use Rattle.cpp_grammar.specs.Between.{after, inside, extended, applied, no_items, named_so_far, listed_so_far, index_of, between}
 use Rattle.cpp_grammar.specs.Meaning.{discriminator_of, meaning}
 use Rattle.cpp_grammar.specs.Unfolding as unfolding_
 use Rattle.cpp_grammar.specs.Unfolding.{close}
@@ -92,7 +92,7 @@ extended-other outermost p = refl
 extended-other (values.behind t listed) p = refl
 
 pub internal-name : Free Production.InternalName name 0
-unfolding parts_of between is_chain close unfolding_.behind meaning values.part class_of grant Gained Ready ready_for need typed loan returned IsKnown IsKept tree_of piece_so_far named_so_far listed_so_far after SmallPrefix size part_of is_component is_encoding is_function_type
+unfolding parts_of between is_chain close unfolding_.behind meaning values.part class_of grant Gained Ready ready_for need typed loan returned IsKnown IsKept tree_of named_so_far listed_so_far after SmallPrefix size part_of is_component is_encoding is_function_type
 internal-name around at old v new b small all o =
     let p0 = o.paid in
     let g0 = p0.gains in
@@ -103,7 +103,7 @@ internal-name around at old v new b small all o =
     (applied-named around t p1.value p1.after p0.after old p1.own b 0 (extended-part around.prefix (source true (text_of p0.value))) (extended-scope around.prefix (source true (text_of p0.value))) (extended-other around.prefix (source true (text_of p0.value))) g1 (omega (arith, o.sum, ap (λ s. wealth s) g0.0, g0.1.0, g0.1.1, g0.1.2, p0.sum, p1.sum, p1.onward.1, extended-size around.prefix (source true (text_of p0.value)) small)))
 
 pub source-name : Free Production.SourceName name 0
-unfolding parts_of between is_chain close unfolding_.behind meaning values.part class_of grant Gained Ready ready_for need typed loan returned IsKnown IsKept tree_of piece_so_far named_so_far listed_so_far after SmallPrefix size part_of is_component is_encoding is_function_type
+unfolding parts_of between is_chain close unfolding_.behind meaning values.part class_of grant Gained Ready ready_for need typed loan returned IsKnown IsKept tree_of named_so_far listed_so_far after SmallPrefix size part_of is_component is_encoding is_function_type
 source-name around at old v new b small all o =
     let p0 = o.paid in
     let g0 = p0.gains in
@@ -114,7 +114,7 @@ source-name around at old v new b small all o =
     (applied-named around t p1.value p1.after p0.after old p1.own b 0 (extended-part around.prefix (source false (text_of p0.value))) (extended-scope around.prefix (source false (text_of p0.value))) (extended-other around.prefix (source false (text_of p0.value))) g1 (omega (arith, o.sum, ap (λ s. wealth s) g0.0, g0.1.0, g0.1.1, g0.1.2, p0.sum, p1.sum, p1.onward.1, extended-size around.prefix (source false (text_of p0.value)) small)))
 
 pub local-type-name : Free Production.LocalTypeName name 0
-unfolding parts_of between is_chain close unfolding_.behind meaning values.part class_of grant Gained Ready ready_for need typed loan returned IsKnown IsKept tree_of piece_so_far named_so_far listed_so_far after SmallPrefix size part_of is_component is_encoding is_function_type
+unfolding parts_of between is_chain close unfolding_.behind meaning values.part class_of grant Gained Ready ready_for need typed loan returned IsKnown IsKept tree_of named_so_far listed_so_far after SmallPrefix size part_of is_component is_encoding is_function_type
 local-type-name around at old v new b small all o =
     let p0 = o.paid in
     let g0 = p0.gains Kind.Anonymous refl tt small all in
@@ -125,7 +125,7 @@ local-type-name around at old v new b small all o =
     (applied-named around t p1.value p1.after p0.after old p1.own b 0 (extended-part around.prefix (piece_of p0.value)) (extended-scope around.prefix (piece_of p0.value)) (extended-other around.prefix (piece_of p0.value)) g1 (omega (arith, o.sum, g0.few, p0.sum, p1.sum, p1.onward.1, extended-size around.prefix (piece_of p0.value) small)))
 
 pub operator-name : Free Production.OperatorName name 0
-unfolding parts_of between is_chain close unfolding_.behind meaning values.part class_of grant Gained Ready ready_for need typed loan returned IsKnown IsKept tree_of piece_so_far named_so_far listed_so_far after SmallPrefix size part_of is_component is_encoding is_function_type
+unfolding parts_of between is_chain close unfolding_.behind meaning values.part class_of grant Gained Ready ready_for need typed loan returned IsKnown IsKept tree_of named_so_far listed_so_far after SmallPrefix size part_of is_component is_encoding is_function_type
 operator-name around at old v new b small all o =
     let p0 = o.paid in
     let g0 = p0.gains Kind.Operator refl tt small all in
@@ -136,7 +136,7 @@ operator-name around at old v new b small all o =
     (applied-named around t p1.value p1.after p0.after old p1.own b 0 (extended-part around.prefix (piece_of p0.value)) (extended-scope around.prefix (piece_of p0.value)) (extended-other around.prefix (piece_of p0.value)) g1 (omega (arith, o.sum, g0.few, p0.sum, p1.sum, p1.onward.1, extended-size around.prefix (piece_of p0.value) small)))
 
 pub other-operator-name : Free Production.OtherOperatorName name 0
-unfolding parts_of between is_chain close unfolding_.behind meaning values.part class_of grant Gained Ready ready_for need typed loan returned IsKnown IsKept tree_of piece_so_far named_so_far listed_so_far after SmallPrefix size part_of is_component is_encoding is_function_type
+unfolding parts_of between is_chain close unfolding_.behind meaning values.part class_of grant Gained Ready ready_for need typed loan returned IsKnown IsKept tree_of named_so_far listed_so_far after SmallPrefix size part_of is_component is_encoding is_function_type
 other-operator-name around at old v new b small all o =
     let p0 = o.paid in
     let g0 = p0.gains Kind.OtherOperator refl tt small all in
@@ -147,7 +147,7 @@ other-operator-name around at old v new b small all o =
     (applied-named around t p1.value p1.after p0.after old p1.own b 0 (extended-part around.prefix (piece_of p0.value)) (extended-scope around.prefix (piece_of p0.value)) (extended-other around.prefix (piece_of p0.value)) g1 (omega (arith, o.sum, g0.few, p0.sum, p1.sum, p1.onward.1, extended-size around.prefix (piece_of p0.value) small)))
 
 pub operator-name-with-c : Free Production.OperatorNameWithC name 8
-unfolding parts_of between is_chain close unfolding_.behind meaning values.part class_of grant Gained Ready ready_for need typed loan returned IsKnown IsKept tree_of piece_so_far named_so_far listed_so_far after SmallPrefix size part_of is_component is_encoding is_function_type
+unfolding parts_of between is_chain close unfolding_.behind meaning values.part class_of grant Gained Ready ready_for need typed loan returned IsKnown IsKept tree_of named_so_far listed_so_far after SmallPrefix size part_of is_component is_encoding is_function_type
 operator-name-with-c around at old v new b small all o =
     let p0 = o.paid in
     let g0 = p0.gains Kind.OperatorAfterC refl tt small all in
@@ -158,7 +158,7 @@ operator-name-with-c around at old v new b small all o =
     (applied-named around t p1.value p1.after p0.after old p1.own b 8 (extended-part around.prefix (operator 99 (letter_of p0.value))) (extended-scope around.prefix (operator 99 (letter_of p0.value))) (extended-other around.prefix (operator 99 (letter_of p0.value))) g1 (omega (arith, o.sum, g0.few, p0.sum, p1.sum, p1.onward.1, extended-size around.prefix (operator 99 (letter_of p0.value)) small)))
 
 pub constructor-name : Free Production.Constructor name 0
-unfolding parts_of between is_chain close unfolding_.behind meaning values.part class_of grant Gained Ready ready_for need typed loan returned IsKnown IsKept tree_of piece_so_far named_so_far listed_so_far after SmallPrefix size part_of is_component is_encoding is_function_type
+unfolding parts_of between is_chain close unfolding_.behind meaning values.part class_of grant Gained Ready ready_for need typed loan returned IsKnown IsKept tree_of named_so_far listed_so_far after SmallPrefix size part_of is_component is_encoding is_function_type
 constructor-name around at old v new b small all o =
     let p0 = o.paid in
     let g0 = p0.gains Kind.ConstructorDigit refl tt small all in
@@ -169,7 +169,7 @@ constructor-name around at old v new b small all o =
     (applied-named around t p1.value p1.after p0.after old p1.own b 0 (extended-part around.prefix (constructor (letter_of p0.value))) (extended-scope around.prefix (constructor (letter_of p0.value))) (extended-other around.prefix (constructor (letter_of p0.value))) g1 (omega (arith, o.sum, g0.few, p0.sum, p1.sum, p1.onward.1, extended-size around.prefix (constructor (letter_of p0.value)) small)))
 
 pub destructor-name : Free Production.Destructor name 0
-unfolding parts_of between is_chain close unfolding_.behind meaning values.part class_of grant Gained Ready ready_for need typed loan returned IsKnown IsKept tree_of piece_so_far named_so_far listed_so_far after SmallPrefix size part_of is_component is_encoding is_function_type
+unfolding parts_of between is_chain close unfolding_.behind meaning values.part class_of grant Gained Ready ready_for need typed loan returned IsKnown IsKept tree_of named_so_far listed_so_far after SmallPrefix size part_of is_component is_encoding is_function_type
 destructor-name around at old v new b small all o =
     let p0 = o.paid in
     let g0 = p0.gains Kind.DestructorDigit refl tt small all in
@@ -180,7 +180,7 @@ destructor-name around at old v new b small all o =
     (applied-named around t p1.value p1.after p0.after old p1.own b 0 (extended-part around.prefix (destructor (letter_of p0.value))) (extended-scope around.prefix (destructor (letter_of p0.value))) (extended-other around.prefix (destructor (letter_of p0.value))) g1 (omega (arith, o.sum, g0.few, p0.sum, p1.sum, p1.onward.1, extended-size around.prefix (destructor (letter_of p0.value)) small)))
 
 pub std-name : Free Production.StdName name 0
-unfolding parts_of between is_chain close unfolding_.behind meaning values.part class_of grant Gained Ready ready_for need typed loan returned IsKnown IsKept tree_of piece_so_far named_so_far listed_so_far after SmallPrefix size part_of is_component is_encoding is_function_type
+unfolding parts_of between is_chain close unfolding_.behind meaning values.part class_of grant Gained Ready ready_for need typed loan returned IsKnown IsKept tree_of named_so_far listed_so_far after SmallPrefix size part_of is_component is_encoding is_function_type
 std-name around at old v new b small all o =
     let p0 = o.paid in
     let g0 = p0.gains Kind.Unqualified refl tt small all in
@@ -191,7 +191,7 @@ std-name around at old v new b small all o =
     (applied-named around t p1.value p1.after p0.after old p1.own b 0 refl refl refl g1 (omega (arith, o.sum, g0.few, p0.sum, p1.sum, p1.onward.1)))
 
 pub tagged-std-type : Free Production.TaggedStdType name 0
-unfolding parts_of between is_chain close unfolding_.behind meaning values.part class_of grant Gained Ready ready_for need typed loan returned IsKnown IsKept tree_of piece_so_far named_so_far listed_so_far after SmallPrefix size part_of is_component is_encoding is_function_type
+unfolding parts_of between is_chain close unfolding_.behind meaning values.part class_of grant Gained Ready ready_for need typed loan returned IsKnown IsKept tree_of named_so_far listed_so_far after SmallPrefix size part_of is_component is_encoding is_function_type
 tagged-std-type around at old v new b small all o =
     let p0 = o.paid in
     let g0 = p0.gains Kind.SourceOrLocal refl tt small all in
@@ -204,7 +204,7 @@ tagged-std-type around at old v new b small all o =
 -- ## Names between N and E
 
 pub nest-internal : Free Production.NestInternal name 0
-unfolding parts_of between is_chain close unfolding_.behind meaning values.part class_of grant Gained Ready ready_for need typed loan returned IsKnown IsKept tree_of piece_so_far named_so_far listed_so_far after SmallPrefix IsBehind lent size
+unfolding parts_of between is_chain close unfolding_.behind meaning values.part class_of grant Gained Ready ready_for need typed loan returned IsKnown IsKept tree_of named_so_far listed_so_far after SmallPrefix IsBehind lent size
 nest-internal around at old v new b small all o =
     let p0 = o.paid in
     let g0 = p0.gains in
@@ -220,7 +220,7 @@ nest-internal around at old v new b small all o =
     })
 
 pub nest-source : Free Production.NestSource name 0
-unfolding parts_of between is_chain close unfolding_.behind meaning values.part class_of grant Gained Ready ready_for need typed loan returned IsKnown IsKept tree_of piece_so_far named_so_far listed_so_far after SmallPrefix IsBehind lent size
+unfolding parts_of between is_chain close unfolding_.behind meaning values.part class_of grant Gained Ready ready_for need typed loan returned IsKnown IsKept tree_of named_so_far listed_so_far after SmallPrefix IsBehind lent size
 nest-source around at old v new b small all o =
     let p0 = o.paid in
     let g0 = p0.gains in
@@ -236,7 +236,7 @@ nest-source around at old v new b small all o =
     })
 
 pub nest-local-type : Free Production.NestLocalType name 0
-unfolding parts_of between is_chain close unfolding_.behind meaning values.part class_of grant Gained Ready ready_for need typed loan returned IsKnown IsKept tree_of piece_so_far named_so_far listed_so_far after SmallPrefix IsBehind lent size
+unfolding parts_of between is_chain close unfolding_.behind meaning values.part class_of grant Gained Ready ready_for need typed loan returned IsKnown IsKept tree_of named_so_far listed_so_far after SmallPrefix IsBehind lent size
 nest-local-type around at old v new b small all o =
     let p0 = o.paid in
     let g0 = p0.gains Kind.Anonymous refl tt small all in
@@ -284,7 +284,7 @@ component-with-c around at old v new b small all o =
     (record { few = omega (arith, o.sum, g0.few, p0.sum, p0.onward.1); known = g0.known; kept = tt; small = g0.small })
 
 pub nest-std : Free Production.NestStd name 0
-unfolding parts_of between is_chain close unfolding_.behind meaning values.part class_of grant Gained Ready ready_for need typed loan returned IsKnown IsKept tree_of piece_so_far named_so_far listed_so_far after SmallPrefix size part_of is_component is_encoding is_function_type MayEnd lent
+unfolding parts_of between is_chain close unfolding_.behind meaning values.part class_of grant Gained Ready ready_for need typed loan returned IsKnown IsKept tree_of named_so_far listed_so_far after SmallPrefix size part_of is_component is_encoding is_function_type MayEnd lent
 nest-std around at old v new b small all o =
     let p0 = o.paid in
     let g0 = p0.gains Kind.Unqualified refl tt small all in
@@ -305,7 +305,7 @@ nest-std around at old v new b small all o =
     })
 
 pub nest-template : Free Production.NestTemplate name 0
-unfolding parts_of between is_chain close unfolding_.behind meaning values.part class_of grant Gained Ready ready_for need typed loan returned IsKnown IsKept tree_of piece_so_far named_so_far listed_so_far after SmallPrefix IsBehind lent
+unfolding parts_of between is_chain close unfolding_.behind meaning values.part class_of grant Gained Ready ready_for need typed loan returned IsKnown IsKept tree_of named_so_far listed_so_far after SmallPrefix IsBehind lent
 nest-template around at old v new b small all o =
     let p0 = o.paid in
     let g0 = p0.gains Kind.Abbreviation refl tt small all in
@@ -345,7 +345,7 @@ Behind p =
     → AllSmall old.candidates → Ended p around at old v new b → Gains name 0 around v old new b
 
 pub nest-next : Behind Production.NestNext
-unfolding parts_of between is_chain close unfolding_.behind meaning values.part class_of grant Gained Ready ready_for need typed loan returned IsKnown IsKept tree_of piece_so_far named_so_far listed_so_far after SmallPrefix lent MayEnd
+unfolding parts_of between is_chain close unfolding_.behind meaning values.part class_of grant Gained Ready ready_for need typed loan returned IsKnown IsKept tree_of named_so_far listed_so_far after SmallPrefix lent MayEnd
 nest-next around at old v new b behind small all o =
     let h = prefix-grown around old all small in
     let p0 = o.paid in
@@ -361,7 +361,7 @@ nest-next around at old v new b behind small all o =
     })
 
 pub nest-arguments : Behind Production.NestArguments
-unfolding parts_of between is_chain close unfolding_.behind meaning values.part class_of grant Gained Ready ready_for need typed loan returned IsKnown IsKept tree_of piece_so_far named_so_far listed_so_far after SmallPrefix lent MayEnd inside full over size part_of front_of is_component is_encoding is_function_type
+unfolding parts_of between is_chain close unfolding_.behind meaning values.part class_of grant Gained Ready ready_for need typed loan returned IsKnown IsKept tree_of named_so_far listed_so_far after SmallPrefix lent MayEnd inside full over size part_of front_of is_component is_encoding is_function_type
 nest-arguments around at old v new b behind small all o =
     let h = prefix-grown around old all small in
     let p0 = o.paid in
@@ -401,7 +401,7 @@ nest-arguments around at old v new b behind small all o =
     })
 
 pub nest-instance : Behind Production.NestInstance
-unfolding parts_of between is_chain close unfolding_.behind meaning values.part class_of grant Gained Ready ready_for need typed loan returned IsKnown IsKept tree_of piece_so_far named_so_far listed_so_far after SmallPrefix lent IsBehind inside full over size part_of front_of is_component is_encoding is_function_type
+unfolding parts_of between is_chain close unfolding_.behind meaning values.part class_of grant Gained Ready ready_for need typed loan returned IsKnown IsKept tree_of named_so_far listed_so_far after SmallPrefix lent IsBehind inside full over size part_of front_of is_component is_encoding is_function_type
 nest-instance around at old v new b behind small all o =
     let h = prefix-grown around old all small in
     let p0 = o.paid in
@@ -476,7 +476,7 @@ parameter-goes around place k vs old G all goes = go (parameter_named around pla
     go (Ok mid) is h = record { mid = mid; grown = parameter-mid around place k old mid all is; goes = h }
 
 pub nest-parameter : Free Production.NestParameter name 0
-unfolding parts_of between is_chain close unfolding_.behind meaning values.part class_of grant Gained Ready ready_for need typed loan returned IsKnown IsKept tree_of piece_so_far named_so_far after SmallPrefix index_of IsBehind lent full over size part_of front_of is_component is_encoding is_function_type parameter_so_far parameter_named listed_so_far
+unfolding parts_of between is_chain close unfolding_.behind meaning values.part class_of grant Gained Ready ready_for need typed loan returned IsKnown IsKept tree_of named_so_far after SmallPrefix index_of IsBehind lent full over size part_of front_of is_component is_encoding is_function_type parameter_so_far parameter_named listed_so_far
 nest-parameter around at old v new b small all o =
     let p0 = o.paid in
     let g0 = p0.gains in
@@ -527,7 +527,7 @@ nested-name around at old v new b small all o =
     (record { few = omega (arith, o.sum, g0.few, p0.sum, g1.few, p1.sum, g2.few, p2.sum, g3.few, p3.sum, g4.few, p4.sum, p4.onward.1, letters-most (record { restrict = is_there p0.value; volatile = is_there p1.value; const = is_there p2.value }) (mark_of p3.value)); known = g4.known; kept = tt; small = g4.small })
 
 pub local-name : Free Production.LocalName name 0
-unfolding parts_of between is_chain close unfolding_.behind meaning values.part class_of grant Gained Ready ready_for need typed loan returned IsKnown IsKept tree_of piece_so_far named_so_far listed_so_far after SmallPrefix letters_in qualifiers_of ref_of lent size front_of part_of is_component is_encoding is_function_type
+unfolding parts_of between is_chain close unfolding_.behind meaning values.part class_of grant Gained Ready ready_for need typed loan returned IsKnown IsKept tree_of named_so_far listed_so_far after SmallPrefix letters_in qualifiers_of ref_of lent size front_of part_of is_component is_encoding is_function_type
 local-name around at old v new b small all o =
     let p0 = o.paid in
     let g0 = p0.gains Kind.Encoding refl tt small all in
@@ -561,7 +561,7 @@ local-name around at old v new b small all o =
     })
 
 pub local-type : Free Production.LocalType name 0
-unfolding parts_of between is_chain close unfolding_.behind meaning values.part class_of grant Gained Ready ready_for need typed loan returned IsKnown IsKept tree_of piece_so_far named_so_far listed_so_far after SmallPrefix name_letters qualifier_letters mark_letter lettered letters_in qualifiers_of ref_of lent size front_of part_of is_component is_encoding is_function_type
+unfolding parts_of between is_chain close unfolding_.behind meaning values.part class_of grant Gained Ready ready_for need typed loan returned IsKnown IsKept tree_of named_so_far listed_so_far after SmallPrefix name_letters qualifier_letters mark_letter lettered letters_in qualifiers_of ref_of lent size front_of part_of is_component is_encoding is_function_type
 local-type around at old v new b small all o =
     let p0 = o.paid in
     let g0 = p0.gains Kind.Encoding refl tt small all in
@@ -615,7 +615,7 @@ instance-named around t w s old b some all few =
 
 -- a template that was named by an abbreviation or a reference, and its arguments
 pub abbreviated-name : Free Production.AbbreviatedName name 0
-unfolding parts_of between is_chain close unfolding_.behind meaning values.part class_of grant Gained Ready ready_for need typed loan returned IsKnown IsKept tree_of piece_so_far named_so_far listed_so_far after SmallPrefix owed applied is_there
+unfolding parts_of between is_chain close unfolding_.behind meaning values.part class_of grant Gained Ready ready_for need typed loan returned IsKnown IsKept tree_of named_so_far listed_so_far after SmallPrefix owed applied is_there
 abbreviated-name around at old v new b small all o =
     let p0 = o.paid in
     let g0 = p0.gains Kind.Abbreviation refl tt small all in

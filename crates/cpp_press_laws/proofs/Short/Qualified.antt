@@ -12,8 +12,8 @@ use Rattle.cpp_grammar.specs.Term.{Qualifiers, Term, symbol, instance, parameter
 use Rattle.cpp_grammar.specs.Values as values
 use Rattle.cpp_grammar.specs.Values.{State, Prefix, outermost, Around, prefix_tree, prefix_listed, Value, nothing_there, letter, text, signed, adjusted, tree, piece, named, signature, unqualified, tree_of, piece_of, is_listed, qualifiers_of, ref_of, letter_of, is_there, mark_of, text_of, signed_of, adjustment_of, normal, is_zero, signed_digits, local_number}
 use Rattle.cpp_grammar.specs.References.{is_function_type, appended, parameter_named, with_type, with_unqualified}
-use Rattle.cpp_grammar.specs.Between.{after, applied, named_so_far, listed_so_far, parameter_so_far, piece_so_far, index_of, between}
-use Rattle.cpp_grammar.specs.Meaning.{parameters, qualified_by, listed_value, reference_to, meaning}
+use Rattle.cpp_grammar.specs.Between.{after, applied, named_so_far, listed_so_far, parameter_so_far, index_of, between}
+use Rattle.cpp_grammar.specs.Meaning.{parameters, listed_value, reference_to, meaning}
 use Rattle.cpp_grammar.specs.Unfolding as unfolding_
 use Rattle.cpp_grammar.specs.Unfolding.{close}
 use Rattle.cpp_press_laws.specs.Texts.{qualifier_letters}
@@ -188,25 +188,25 @@ qualified-here around q v s old b some all few =
     ))
 
 pub const-gains : Idle Production.ConstType type
-unfolding parts_of between is_chain close unfolding_.behind meaning values.part class_of grant Gained Ready ready_for need typed loan returned IsKnown IsKept listed_value qualified_by tree_of is_there has_letters held
+unfolding parts_of between is_chain close unfolding_.behind meaning values.part class_of grant Gained Ready ready_for need typed loan returned IsKnown IsKept listed_value tree_of is_there has_letters held
 const-gains around at old v new b idle small all o =
     let p0 = o.paid in
     let g0 = p0.gains Kind.Plain refl idle small all in
-    comes-to (λ w s. Gains type 0 around w old s b) o (p0.value ∷ []) (p0.after) (listed_value (qualified_by false nothing_there (letter 75) p0.value)) (appended around (tree_of (listed_value (qualified_by false nothing_there (letter 75) p0.value))) p0.after) p0.onward.0 refl
+    comes-to (λ w s. Gains type 0 around w old s b) o (p0.value ∷ []) (p0.after) (tree (qualified (record { restrict = false; volatile = false; const = true }) (tree_of p0.value)) true) (appended around (qualified (record { restrict = false; volatile = false; const = true }) (tree_of p0.value)) p0.after) p0.onward.0 refl
     (qualified-here around (record { restrict = false; volatile = false; const = true }) p0.value (p0.after) old b refl g0.small (omega (arith, o.sum, g0.few, p0.sum, p0.onward.1)))
 
 pub volatile-gains : Idle Production.VolatileType type
-unfolding parts_of between is_chain close unfolding_.behind meaning values.part class_of grant Gained Ready ready_for need typed loan returned IsKnown IsKept listed_value qualified_by tree_of is_there has_letters held
+unfolding parts_of between is_chain close unfolding_.behind meaning values.part class_of grant Gained Ready ready_for need typed loan returned IsKnown IsKept listed_value tree_of is_there has_letters held
 volatile-gains around at old v new b idle small all o =
     let p0 = o.paid in
     let g0 = p0.gains Kind.MaybeConst refl tt small all in
     let p1 = p0.onward in
     let g1 = p1.gains Kind.Plain refl idle small g0.small in
-    comes-to (λ w s. Gains type 0 around w old s b) o (p0.value ∷ p1.value ∷ []) (p1.after) (listed_value (qualified_by false (letter 86) p0.value p1.value)) (appended around (tree_of (listed_value (qualified_by false (letter 86) p0.value p1.value))) p1.after) p1.onward.0 refl
+    comes-to (λ w s. Gains type 0 around w old s b) o (p0.value ∷ p1.value ∷ []) (p1.after) (tree (qualified (record { restrict = false; volatile = true; const = is_there p0.value }) (tree_of p1.value)) true) (appended around (qualified (record { restrict = false; volatile = true; const = is_there p0.value }) (tree_of p1.value)) p1.after) p1.onward.0 refl
     (qualified-here around (record { restrict = false; volatile = true; const = is_there p0.value }) p1.value (p1.after) old b refl g1.small (omega (arith, o.sum, g0.few, p0.sum, g1.few, p1.sum, p1.onward.1)))
 
 pub restrict-gains : Idle Production.RestrictType type
-unfolding parts_of between is_chain close unfolding_.behind meaning values.part class_of grant Gained Ready ready_for need typed loan returned IsKnown IsKept listed_value qualified_by tree_of is_there has_letters held
+unfolding parts_of between is_chain close unfolding_.behind meaning values.part class_of grant Gained Ready ready_for need typed loan returned IsKnown IsKept listed_value tree_of is_there has_letters held
 restrict-gains around at old v new b idle small all o =
     let p0 = o.paid in
     let g0 = p0.gains Kind.MaybeVolatile refl tt small all in
@@ -214,7 +214,7 @@ restrict-gains around at old v new b idle small all o =
     let g1 = p1.gains Kind.MaybeConst refl tt small g0.small in
     let p2 = p1.onward in
     let g2 = p2.gains Kind.Plain refl idle small g1.small in
-    comes-to (λ w s. Gains type 0 around w old s b) o (p0.value ∷ p1.value ∷ p2.value ∷ []) (p2.after) (listed_value (qualified_by true p0.value p1.value p2.value)) (appended around (tree_of (listed_value (qualified_by true p0.value p1.value p2.value))) p2.after) p2.onward.0 refl
+    comes-to (λ w s. Gains type 0 around w old s b) o (p0.value ∷ p1.value ∷ p2.value ∷ []) (p2.after) (tree (qualified (record { restrict = true; volatile = is_there p0.value; const = is_there p1.value }) (tree_of p2.value)) true) (appended around (qualified (record { restrict = true; volatile = is_there p0.value; const = is_there p1.value }) (tree_of p2.value)) p2.after) p2.onward.0 refl
     (qualified-here around (record { restrict = true; volatile = is_there p0.value; const = is_there p1.value }) p2.value (p2.after) old b refl g2.small (omega (arith, o.sum, g0.few, p0.sum, g1.few, p1.sum, g2.few, p2.sum, p2.onward.1)))
 
 -- ## Types with arguments
@@ -294,7 +294,7 @@ small-prefix t true h = tt
 small-prefix t false h = h refl
 
 pub type-with-s-gains : Idle Production.TypeWithS type
-unfolding parts_of between is_chain close unfolding_.behind meaning values.part class_of grant Gained Ready ready_for need typed loan returned IsKnown IsKept tree_of piece_so_far named_so_far listed_so_far after SmallPrefix
+unfolding parts_of between is_chain close unfolding_.behind meaning values.part class_of grant Gained Ready ready_for need typed loan returned IsKnown IsKept tree_of named_so_far listed_so_far after SmallPrefix
 type-with-s-gains around at old v new b idle small all o =
     let p0 = o.paid in
     let g0 = p0.gains Kind.TypeAfterS refl idle small all in
@@ -307,7 +307,7 @@ type-with-s-gains around at old v new b idle small all o =
     (omega (arith, o.sum, g0.few, p0.sum, p1.sum, p1.onward.1)))
 
 pub parameter-gains : Idle Production.Parameter type
-unfolding parts_of between is_chain close unfolding_.behind meaning values.part class_of grant Gained Ready ready_for need typed loan returned IsKnown IsKept tree_of piece_so_far named_so_far after SmallPrefix index_of full over size part_of is_component is_function_type is_encoding parameter_so_far parameter_named element appended listed_so_far
+unfolding parts_of between is_chain close unfolding_.behind meaning values.part class_of grant Gained Ready ready_for need typed loan returned IsKnown IsKept tree_of named_so_far after SmallPrefix index_of full over size part_of is_component is_function_type is_encoding parameter_so_far parameter_named element appended listed_so_far
 parameter-gains around at old v new b idle small all o =
     let p0 = o.paid in
     let g0 = p0.gains in
@@ -327,7 +327,7 @@ Granted p =
     → AllSmall old.candidates → Ended p around at old v new b → Gains type 8 around v old new b
 
 pub parameter-argument-gains : Granted Production.ParameterArgument
-unfolding parts_of between is_chain close unfolding_.behind meaning values.part class_of grant Gained Ready ready_for need typed loan returned IsKnown IsKept tree_of piece_so_far named_so_far after SmallPrefix index_of full over size part_of is_component is_function_type is_encoding parameter_so_far parameter_named element appended listed_so_far
+unfolding parts_of between is_chain close unfolding_.behind meaning values.part class_of grant Gained Ready ready_for need typed loan returned IsKnown IsKept tree_of named_so_far after SmallPrefix index_of full over size part_of is_component is_function_type is_encoding parameter_so_far parameter_named element appended listed_so_far
 parameter-argument-gains around at old v new b idle small all o =
     let p0 = o.paid in
     let g0 = p0.gains in

@@ -10,7 +10,7 @@ use Rattle.cpp_grammar.specs.Values as values
 use Rattle.cpp_grammar.specs.Values.{State, Prefix, outermost, Around, prefix_tree, prefix_listed, Value, nothing_there, letter, text, signed, adjusted, tree, piece, named, signature, unqualified, tree_of, piece_of, is_listed, qualifiers_of, ref_of, letter_of, is_there, mark_of, text_of, signed_of, adjustment_of, normal, is_zero, signed_digits, local_number}
 use Rattle.cpp_grammar.specs.References.{is_function_type, appended, with_type}
 use Rattle.cpp_grammar.specs.Between.{under_expansion, between}
-use Rattle.cpp_grammar.specs.Meaning.{is_void, is_nil, parameters, listed_value, function_of, reference_to, meaning}
+use Rattle.cpp_grammar.specs.Meaning.{is_void, is_nil, parameters, listed_value, reference_to, meaning}
 use Rattle.cpp_grammar.specs.Unfolding as unfolding_
 use Rattle.cpp_grammar.specs.Unfolding.{close}
 use Rattle.cpp_press_laws.specs.Texts.{signed_text}
@@ -135,7 +135,7 @@ member-gains around at old v new b idle small all o =
     (made around (member_pointer (tree_of p0.value) (tree_of p1.value)) (p1.after) old b refl refl g1.small (omega (arith, o.sum, g0.few, p0.sum, g1.few, p1.sum, p1.onward.1, part-some (tree_of p0.value), part-some (tree_of p1.value))))
 
 pub function-gains : Idle Production.Function type
-unfolding parts_of between is_chain close unfolding_.behind meaning values.part class_of grant Gained Ready ready_for need typed loan returned IsKnown IsKept full over size part_of is_component is_function_type is_encoding function_of held
+unfolding parts_of between is_chain close unfolding_.behind meaning values.part class_of grant Gained Ready ready_for need typed loan returned IsKnown IsKept full over size part_of is_component is_function_type is_encoding held
 function-gains around at old v new b idle small all o =
     let p0 = o.paid in
     let g0 = p0.gains Kind.MaybeCLinkage refl tt small all in
@@ -143,11 +143,11 @@ function-gains around at old v new b idle small all o =
     let g1 = p1.gains Kind.Type refl idle small g0.small in
     let p2 = p1.onward in
     let g2 = p2.gains Kind.FunctionRest refl idle small g1.small in
-    comes-to (λ w s. Gains type 0 around w old s b) o (p0.value ∷ p1.value ∷ p2.value ∷ []) (p2.after) (function_of false p0.value p1.value p2.value) (p2.after) p2.onward.0 refl
+    comes-to (λ w s. Gains type 0 around w old s b) o (p0.value ∷ p1.value ∷ p2.value ∷ []) (p2.after) (tree (function_type (is_there p0.value) false (ref_of p2.value) (tree_of p1.value) (parameters (tree_of p2.value))) false) (p2.after) p2.onward.0 refl
     (made around (function_type (is_there p0.value) false (ref_of p2.value) (tree_of p1.value) (parameters (tree_of p2.value))) (p2.after) old b refl refl g2.small (omega (arith, o.sum, g0.few, p0.sum, g1.few, p1.sum, g2.few, p2.sum, p2.onward.1, parameters-most (tree_of p2.value))))
 
 pub noexcept-gains : Idle Production.NoexceptFunction type
-unfolding parts_of between is_chain close unfolding_.behind meaning values.part class_of grant Gained Ready ready_for need typed loan returned IsKnown IsKept full over size part_of is_component is_function_type is_encoding function_of held
+unfolding parts_of between is_chain close unfolding_.behind meaning values.part class_of grant Gained Ready ready_for need typed loan returned IsKnown IsKept full over size part_of is_component is_function_type is_encoding held
 noexcept-gains around at old v new b idle small all o =
     let p0 = o.paid in
     let g0 = p0.gains in
@@ -157,7 +157,7 @@ noexcept-gains around at old v new b idle small all o =
     let g2 = p2.gains Kind.Type refl idle small g1.small in
     let p3 = p2.onward in
     let g3 = p3.gains Kind.FunctionRest refl idle small g2.small in
-    comes-to (λ w s. Gains type 0 around w old s b) o (p0.value ∷ p1.value ∷ p2.value ∷ p3.value ∷ []) (p3.after) (function_of true p1.value p2.value p3.value) (p3.after) p3.onward.0 refl
+    comes-to (λ w s. Gains type 0 around w old s b) o (p0.value ∷ p1.value ∷ p2.value ∷ p3.value ∷ []) (p3.after) (tree (function_type (is_there p1.value) true (ref_of p3.value) (tree_of p2.value) (parameters (tree_of p3.value))) false) (p3.after) p3.onward.0 refl
     (made around (function_type (is_there p1.value) true (ref_of p3.value) (tree_of p2.value) (parameters (tree_of p3.value))) (p3.after) old b refl refl g3.small (omega (arith, o.sum, ap (λ s. wealth s) g0.0, g0.1, p0.sum, g1.few, p1.sum, g2.few, p2.sum, g3.few, p3.sum, p3.onward.1, parameters-most (tree_of p3.value))))
 
 pub builtin-gains : Idle Production.Builtin type
