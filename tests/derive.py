@@ -30,11 +30,14 @@ NAMES = (b"a", b"b", b"B", b"C1", b"foo", b"_M_x", b"a.b$", b"operator", b"_GLOB
 NUMBERS = (0, 0, 0, 1, 2, 7, 9, 10, 16, 32, 64, 1000)
 EDGES = (2**31, 2**32 - 1, 2**64 - 3, 2**64 - 2, 2**64 - 1, 2**64, 10**40)
 # references, and the rules on the way from a type to them
-PARAMETERS = {"Parameter", "NestParameter", "ParameterArgument", "ParameterExpression", "BoundedArray"}
+PARAMETERS = {"Parameter", "NestParameter", "ParameterArgument", "ParameterExpression"}
 REFERENCES = {"Substitution", *PARAMETERS}
 REFERRING = {"PlainType", "QualifiedPlain", "TypeWithS", "AbbreviatedType", *REFERENCES}
 NAMING = {"Anonymous", "Operator", "ConstructorDigit", "DestructorDigit"}
 TYPES = {"Type", "Plain", "Item", "ItemButRef", "Argument"}
+# names that never are candidates, and types that are one before what is of them
+NAMES_ALONE = {"SimpleId", "OperatorReference"}
+TYPED = {"IntegerLiteral", "UnresolvedInType"}
 # the part that is an argument after what is declared of it
 DECLARED = {"AnyArgument": 0, "AnyElement": 0, "ArgumentWithT": 0, "DeclaredArgument": 1}
 # what a token is in a word that is read here; the names have lengths of one digit
@@ -277,6 +280,8 @@ class Spelling:
         # the packs among the arguments that a name just ended in, or None; whether the name so far is a candidate or never is one
         self.arguments, self.listed = None, True
         self.types_around = 0
+        # the candidates up to which all compilers count alike, once one isn't
+        self.counted_alike = None
         # the parameters that were named so far, and how many packs
         self.named, self.packed = [], 0
 
@@ -291,7 +296,14 @@ class Spelling:
 
     def substitutions(self, around):
         """The numbers of the candidates that can be named here."""
-        return [number for number, named in enumerate(self.candidates) if self.can_be_named(named, around)]
+        alike = self.candidates if self.counted_alike is None else self.candidates[: self.counted_alike]
+        return [number for number, named in enumerate(alike) if self.can_be_named(named, around)]
+
+    def append_apart(self, around):
+        """A candidate that not all compilers count: neither it nor the one before it can be named."""
+        if self.counted_alike is None:
+            self.counted_alike = max(0, len(self.candidates) - 1)
+        self.append(around)
 
     def can_be_named(self, named, around):
         """Whether a candidate can. By the wide grammar one with free parameters can stand elsewhere than where it was made: in the
@@ -357,7 +369,7 @@ class Spelling:
         elif token.cls == grammar.SEQ36:
             self.out += counted(self.substitution(around), 36)
         elif token.production in PARAMETERS:
-            self.out += counted(self.parameter(around, token.production not in ("ParameterExpression", "BoundedArray")), 10)
+            self.out += counted(self.parameter(around, token.production != "ParameterExpression"), 10)
         elif token.cls == grammar.DECIMAL:
             self.out += counted(self.number(), 10)
         else:
@@ -409,6 +421,12 @@ class Spelling:
                 around = around._replace(scope=self.arguments)
             declares = node.production == "DeclaredArgument" and number == 0
             values.append(self.spell(part, around._replace(scope=None, in_lambda=True) if declares else around))
+            if node.production in NAMES_ALONE and number == 0:
+                self.listed = True
+            elif node.production in TYPED and number == 0 and is_new(part):
+                self.append(around)
+            elif node.production in ("Holder", "OwnArguments") and number == 0 or node.production == "Inheriting" and number == 1:
+                self.append_apart(around)
             if self.table.parts[node.production][number] in self.table.argument_lists and node.kind not in self.table.argument_lists and node.production != "OnePack":
                 self.arguments = values[-1]
                 self.listed = node.production == "NestArguments"
@@ -430,11 +448,13 @@ class Spelling:
 
 def leaves_candidate(node):
     """Whether a type is a candidate after this node."""
-    if node.production in ("RestrictType", "VolatileType", "ConstType", "ReferenceType", "LvalueItem", "RvalueItem"):
+    if node.production in ("RestrictType", "VolatileType", "ConstType", "ReferenceType", "LvalueItem", "RvalueItem", "ConvertedConst", "ConvertedPointer", "ConvertedReference"):
         return True
-    if node.production not in ("PlainType", "TypeWithD", "PlainArgument", "ArgumentWithT"):
-        return False
-    inner = node.parts[0]
+    return node.production in ("PlainType", "TypeWithD", "PlainArgument", "ArgumentWithT", "ConvertedType", "ConvertedDecltype") and is_new(node.parts[0])
+
+
+def is_new(inner):
+    """Whether a type isn't a candidate yet, and will be one."""
     if inner.production == "TypeWithS":
         return inner.parts[0].production == "TypeInStd" or inner.parts[1] is not None
     if inner.production in ("Parameter", "ParameterArgument"):

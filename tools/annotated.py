@@ -12,7 +12,8 @@ SHARED = {
     "Values": "unqualified normal is_zero signed_digits local_number",
     "Unfolding": "last_token production_at byte_of",
     "Rescoping": "generic_number",
-    "Parts": "qualifier_text ref_text blank_last begins_with source_text encoding_text thunk_text clone_text placeholder_text is_below",
+    "Standing": "is_code",
+    "Parts": "no_operation printed qualifier_text ref_text blank_last begins_with source_text encoding_text thunk_text clone_text placeholder_text is_below",
 }
 BY_HAND = ("Items", "Ranks")
 

@@ -152,8 +152,8 @@ def build(extended=True, widened=False):
     # <nested-name> ::= N .. E
     kind("NestTail", eats("E", "NestEnd", means="nest_end!"), chain("NestNext", "Component", "NestTail"))
     component = [
-        # <ctor-dtor-name> ::= C1 | C2 | C3
-        eats("C", "Constructor", "ConstructorDigit", "MaybeArguments", before="1: name = name + constructor(l0)", means="applied"),
+        # <ctor-dtor-name> ::= C1 | C2 | .., which begins with C
+        eats("C", "AnyConstructor", "ConstructorAfterC", means="part 0"),
         # <ctor-dtor-name> ::= D0 | D1 | D2
         eats("D", "Destructor", "DestructorDigit", "MaybeArguments", before="1: name = name + destructor(l0)", means="applied"),
         L_NAME, U_NAME,
@@ -167,7 +167,13 @@ def build(extended=True, widened=False):
     kind("Component", *component, S_NAME, *operators,
         # <prefix> ::= <data-member-prefix> <unqualified-name>, with <data-member-prefix> ::= <prefix> M
         wide(chain("Holder", "HolderMark", "HeldComponent", before="1: holder", means="part 1")))
+    kind("ConstructorAfterC",
+        # <ctor-dtor-name> ::= CI1 <base class type> | CI2 <base class type>, after the C, perhaps with <template-args>
+        wide(eats("I", "Inheriting", "InheritedDigit", "BaseClass", before="1: inside", means="inheriting!", nodes=2)),
+        # <ctor-dtor-name> ::= C1 | C2 | C3, after the C
+        chain("Constructor", "ConstructorDigit", "MaybeArguments", before="1: name = name + constructor(l0)", means="applied"))
     kind("ConstructorDigit", MARK("123"), wide(MARK("45")))
+    kind("InheritedDigit", MARK("1245"))
     kind("DestructorDigit", MARK("012"), wide(MARK("45")))
     kind("Abbreviation",
         # <substitution> ::= Sa | Sb | Ss | Si | So | Sd
@@ -229,7 +235,9 @@ def build(extended=True, widened=False):
         # <builtin-type> ::= DF <number> _ | DF <number> x | DF <number> b
         wide(eats("F", "SizedFloat", DIGITS, "FloatEnd", means="sized_float(d0, l1), listed")),
         # <builtin-type> ::= Dk <type-constraint> | DK <type-constraint>
-        wide(eats("kK", "ConstrainedAuto", "Concept", means="constrained(byte, t0), listed")))
+        wide(eats("kK", "ConstrainedAuto", "Concept", means="constrained(byte, t0), listed")),
+        # <decltype> ::= Dt <expression> E | DT <expression> E
+        wide(eats("tT", "Decltype", "Expression", "'E'", means="decltype(t0)")))
     if extended:
         P["ItemIsType"] = (False, ["AfterD"])
     NAMED = [
@@ -300,16 +308,16 @@ def build(extended=True, widened=False):
     kind("PackList", eats("L", "LiteralElement", "Literal", "'E'", "PackList", means="cell 0 2"),
          chain("AnyElement", "Argument", "PackList", means="cell 0 1"), empty=True)
     # <expr-primary> ::= L <mangled-name> E
-    kind("Address", eats("L", "Address", "'_'", "'Z'", "Encoding", "'E'", "'E'", means="address_of(t2), listed"))
-    kind("Literal",
-        # <expr-primary> ::= L <mangled-name> E, as an argument
-        eats("_", "EncodingLiteral", "'Z'", "Encoding", means="encoding_literal(t1), listed"),
+    ENCODING_LITERAL = eats("_", "EncodingLiteral", "'Z'", "Encoding", means="encoding_literal(t1), listed")
+    literals = [
         # <expr-primary> ::= Lb 0 E | Lb 1 E
         eats("b", "BoolLiteral", "Bit", means="boolean(l0 is '1'), listed"),
         # <expr-primary> ::= L <type> <value number> E, whose type begins with D
         eats("D", "LiteralWithD", "LiteralAfterD", means="part 0"),
         # <expr-primary> ::= L <type> <value number> E
-        chain("IntegerLiteral", "LiteralType", "Integer", before="1: list type 0", means="integer(t0, s1), listed"))
+        chain("IntegerLiteral", "LiteralType", "Integer", before="1: list type 0", means="integer(t0, s1), listed"),
+    ]
+    kind("Literal", ENCODING_LITERAL, *literals)
     kind("Bit", MARK("01"))
     kind("LiteralAfterD",
         # <expr-primary> ::= LDn [0] E
@@ -344,6 +352,25 @@ def build(extended=True, widened=False):
         # <unqualified-name> ::= <operator-name>, within a nested name, behind a c
         chain("OperatorNameWithC", "OperatorAfterC", "MaybeArguments", before="1: name = name + operator('c', l0)", means="applied"))
     kind("OtherOperator", *[rule for a, rule in by_letter.items() if a != "c"])
+    # the base class of a constructor that is inherited, and the arguments of the constructor itself: after a name without arguments there
+    # may be none, nor after a substitution, where they might be the base class' own
+    OWN_ARGUMENTS = eats("I", "OwnArguments", "ArgumentsFirst", "'E'", before="0: wide alone", means="pair(byte, name, i0)")
+    kind("BaseClass",
+        # <nested-name>
+        eats("N", "NestedBase", "Nest", "OwnArguments", before="1: after t0", means="part 1, or part 0"),
+        # <local-name>
+        eats("Z", "LocalType", "Encoding", "'E'", "TypeEntity", "MaybeDiscriminator"),
+        eats("S", "BaseWithS", "BaseAfterS", means="part 0"),
+        # <unscoped-name> ::= <unqualified-name>, perhaps with <template-args>
+        chain("SourceBase", "TaggedSource", "BaseArguments", before="1: after t0", means="part 1, or part 0"))
+    kind("BaseAfterS",
+        # <unscoped-name> ::= St <unqualified-name>, perhaps with <template-args>
+        chain("BaseInStd", "TypeInStd", "BaseArguments", before="1: after t0", means="part 1, or part 0"),
+        chain("AbbreviatedType", "Abbreviation"))
+    # <template-args>, of the base class, and then of the constructor
+    kind("BaseArguments", eats("I", "BaseArguments", "ArgumentsFirst", "'E'", "OwnArguments",
+                               before="0: list the name, inside; 2: name = instance(name, i0)", means="part 2, or part 0"), empty=True)
+    kind("OwnArguments", OWN_ARGUMENTS, empty=True)
     # a pack begins with an I where it is the first argument alone: after a name that I would begin the arguments of the name
     kind("ArgumentsFirst", *arguments, wide(pack("I")), empty=True)
     kind("PlainEntity", *plain_entity)
@@ -365,7 +392,7 @@ def build(extended=True, widened=False):
     argument = [
         *QUALS, ITEM_WITH_D, REF,
         # X <expression> E
-        eats("X", "Expression", "ExpressionRest", means="part 0"),
+        eats("X", "Expression", "Expression", "'E'", means="enclosed!", nodes=1),
         # <template-arg> ::= <template-param> [<template-args>] | <template-param-decl> <template-arg>
         eats("T", "ArgumentWithT", "ArgumentAfterT", means="part 0, listed", candidate="type 0"),
         # <template-arg> ::= <type>, where the type is no parameter
@@ -398,20 +425,110 @@ def build(extended=True, widened=False):
     kind("Declarations", eats("T", "Declarations", "DeclarationAfterT", "Declarations", means="byte"), empty=True)
     kind("Concept", eats("S", "TypeWithS", "TypeAfterS", "ArgumentsAlone"), NESTED_TYPE, S_NAME)
     kind("SolidButT", *[rule for rule in solid if rule[1] != "Parameter"])
-    kind("ExpressionRest",
-        # <expression> ::= ad <expression>, behind the a
-        eats("a", "AddressExpression", "'d'", "Address", means="part 1"),
-        # <expression> ::= <template-param>
-        wide(eats("T", "ParameterExpression", DECIMAL, "'E'", before="1: parameter, no candidate", means="part 0")))
+    # An expression. The two letters of an operator are read one after the other: each first letter has a kind of the second letters after
+    # it, and by its second letter an operator has its operands, at most two, of which the second may be a list.
+    E = "Expression"
+    def unary(letters): return eats(letters, "Unary", E, means="pair(byte, t0, absent)")
+    def binary(letters): return eats(letters, "Binary", E, E, means="pair(byte, t0, t1)")
+    # <expression> ::= st <type> | ti <type> | at <type>
+    def of_type(letter): return eats(letter, "OfType", "ConvertedType", means="pair(byte, t0, absent)")
+    # <expression> ::= dc <type> <expression> | sc .. | cc .. | rc ..
+    CAST = eats("c", "Cast", "Type", E, means="pair(byte, t0, t1)")
+    # <expression> ::= pp_ <expression> | mm_ <expression>, or without the _, where the operator comes after its operand
+    def step(letter): return eats(letter, "Step", "MaybeBefore", E, means="pair(l0 or byte, t1, absent)")
+    # <unresolved-name> ::= on <operator-name> [<template-args>]
+    ON = eats("n", "OperatorReference", "Operator", "ArgumentsAlone", before="1: name = name + p0, listed", means="applied")
+    # <unresolved-name> ::= <source-name> [<template-args>]
+    SIMPLE_ID = chain("SimpleId", NAME, "ArgumentsAlone", before="1: name = name + source(no, x0), listed", means="applied")
+    # <function-param> ::= fp [<CV-qualifiers>] [<number>] _ | fpT
+    FUNCTION_PARAMETER = eats("p", "FunctionParameter", "MaybeRestrict", "MaybeVolatile", "MaybeConst", "ParameterNumber", means="part 3")
+    second_letters = {
+        # <expression> ::= ad <expression>, where the ABI's grammar has the address of an encoding
+        "a": [eats("d", "AddressExpression", "AddressedExpression", means="pair(byte, t0, absent)"), wide(binary("SNan")), wide(unary("wz")), wide(of_type("t"))],
+        "c": [
+            # <expression> ::= cl <expression>+ E
+            eats("l", "Call", E, "Expressions", "'E'", means="pair(byte, t0, i1)"),
+            binary("m"), unary("o"),
+            # <expression> ::= cv <type> <expression> | cv <type> _ <expression>* E
+            eats("v", "Convert", "ConvertedType", "ConvertRest", means="pair(l1 or byte, t0, t1)"),
+            CAST],
+        "d": [CAST, unary("e"), binary("tsvV")],
+        "e": [binary("Ooq")],
+        "f": [FUNCTION_PARAMETER,
+              # <function-param> ::= fL <number> p [<CV-qualifiers>] [<number>] _
+              eats("L", "OuterParameter", DIGITS, "OuterRest", means="part 1")],
+        "g": [binary("et")],
+        # <expression> ::= il <expression>* E
+        "i": [eats("l", "Braces", "Expressions", "'E'", means="pair(byte, i0, absent)"), binary("x")],
+        "l": [binary("Sest")],
+        "m": [binary("ILil"), step("m")],
+        "n": [binary("e"), unary("gtx")],
+        "o": [binary("Ror"), ON],
+        "p": [binary("Llmt"), unary("s"), step("p")],
+        # <expression> ::= qu <expression> <expression> <expression>
+        "q": [eats("u", "Conditional", E, E, E, means="pair(byte, t0, operation('q', ':', t1, t2))")],
+        "r": [binary("MSms"), CAST],
+        "s": [CAST,
+              # <expression> ::= sp <expression>
+              eats("p", "ExpandExpression", E, before="0: under it", means="expansion(t0), listed", packs="own"),
+              # <expression> ::= sZ <template-param> | sZ <function-param>
+              eats("Z", "PackSize", E, before="0: under it", means="pair(byte, expansion(t0), absent)", packs="own"),
+              # <unresolved-name> ::= sr ..
+              eats("r", "Unresolved", "Unresolved", means="part 0"),
+              binary("s"), of_type("t"), unary("z")],
+        # <expression> ::= tl <type> <expression>* E
+        "t": [eats("l", "TypedBraces", "Type", "Expressions", "'E'", means="pair(byte, t0, i1)"), of_type("i"), unary("e")],
+    }
+    by_first = [eats(a, E + a.upper(), f"ExpressionAfter{a.upper()}", means="by_letters!", nodes=1) for a in second_letters]
+    # <expression> ::= <template-param> [<template-args>]
+    PARAMETER_EXPRESSION = eats("T", "ParameterExpression", DECIMAL, "ArgumentsAlone", before="1: parameter, no candidate", means="applied")
+    # <expression> ::= <expr-primary>
+    LITERAL_EXPRESSION = eats("L", "OneLiteral", "Literal", "'E'")
+    # by the ABI's grammar an expression is the address of an encoding
+    kind(E, by_first[0], *map(wide, [*by_first[1:], PARAMETER_EXPRESSION, LITERAL_EXPRESSION, SIMPLE_ID]))
+    kind("AddressedExpression", eats("L", "AddressedLiteral", "AddressedLiteral", "'E'", means="part 0"), *map(wide, [*by_first, PARAMETER_EXPRESSION, SIMPLE_ID]))
+    kind("AddressedLiteral", ENCODING_LITERAL, *map(wide, literals))
+    for a, rules in second_letters.items(): kind(f"ExpressionAfter{a.upper()}", *rules)
+    kind("Expressions", chain("Expressions", E, "Expressions", means="elements!", nodes=2), empty=True)
+    kind("MaybeBefore", MARK("_"), empty=True)
+    kind("OuterRest", FUNCTION_PARAMETER)
+    kind("ParameterNumber", eats("T", "This", means="operation('f', 'T', absent, absent), listed"), chain("ParameterNumber", DECIMAL, means="function_parameter(d0), listed"))
+    # a type that doesn't end in a discriminator, since a _ may come after it; it is a candidate by itself
+    kind("ConvertedType",
+        eats("D", "ConvertedDecltype", "DecltypeAfterD", means="part 0, listed", candidate="type 0"),
+        eats("K", "ConvertedConst", "ConvertedType", means="qualified(marks(no, no, yes), t0), listed", candidate="itself"),
+        eats("P", "ConvertedPointer", "ConvertedType", means="pointer(t0), listed", candidate="itself"),
+        eats("RO", "ConvertedReference", "ConvertedType", means="reference!", nodes=1, candidate="itself"),
+        chain("ConvertedType", "ConvertedSolid", means="part 0, listed", candidate="type 0"))
+    converted = ("Builtin", "Function", "Parameter", "TypeWithS", "NestedType", "LocalTypeName", "SourceName")
+    kind("ConvertedSolid", *[rule for rule in solid if rule[1] in converted])
+    kind("DecltypeAfterD", eats("tT", "Decltype", "Expression", "'E'"))
+    # after the type of a conversion: an expression, or a list of them
+    kind("ConvertRest", eats("_", "Braces", "Expressions", "'E'"), *by_first, PARAMETER_EXPRESSION, LITERAL_EXPRESSION, SIMPLE_ID)
+    kind("Unresolved",
+        # <unresolved-name> ::= sr <unresolved-type> <base-unresolved-name>
+        chain("UnresolvedInType", "UnresolvedType", "UnresolvedName", before="1: list type 0", means="operation('s', 'r', t0, t1), listed"),
+        # <unresolved-name> ::= sr <unresolved-qualifier-level>+ E <base-unresolved-name>
+        chain("Levels", "Level", "MoreLevels", means="operation('s', 'r', t0, t1), listed"))
+    unresolved = ("Parameter", "TypeWithS", "NestedType")
+    kind("UnresolvedType", eats("D", "ConvertedDecltype", "DecltypeAfterD"), *[rule for rule in solid if rule[1] in unresolved])
+    kind("Level", SIMPLE_ID)
+    kind("MoreLevels", eats("E", "LevelsEnd", "UnresolvedName", means="part 0"), chain("Levels", "Level", "MoreLevels"))
+    kind("UnresolvedName", eats("o", "UnresolvedOperator", "OperatorName", means="part 0"), SIMPLE_ID)
+    kind("OperatorName", ON)
     # <array-type>, with a length that is a parameter, or a number, or isn't said
     kind("AnyArray", eats("A", "AnyArray", "ArrayRest", means="part 0"))
     kind("ArrayRest",
-        # <array-type> ::= A <template-param> _ <element type>, behind the A
-        wide(eats("T", "BoundedArray", DECIMAL, "'_'", "Type", before="1: parameter, no candidate", means="bounded(t0, t2)")),
+        # <array-type> ::= A <expression> _ <element type>, behind the A
+        wide(chain("BoundedArray", "Bound", "'_'", "Type", means="bounded(t0, t2)")),
         # <array-type> ::= A <number> _ <element type>, behind the A
         chain("LengthArray", DECIMAL, "Type", means="array(d0, t1)"))
+    # a length that is no number
+    kind("Bound", *by_first, PARAMETER_EXPRESSION, LITERAL_EXPRESSION)
     # after the arguments of a substitution in a nested name: by the ABI the name doesn't end there
     kind("NestMoreOrEnd", wide(eats("E", "NestEnd")), chain("NestNext", "Component", "NestTail"))
+    # <unqualified-name> ::= <source-name> [<abi-tags>], of a base class
+    kind("TaggedSource", chain("TaggedSource", NAME, "MaybeTags", before="1: name = name + source(no, x0)", means="applied"))
 
 def rows():
     """what each production does"""

@@ -180,20 +180,61 @@ PLAIN_TEXTS = [
     ("OTHER_CLONE", "non-transaction clone for "),
     ("AUTO", " auto"),
     ("DECLTYPE_AUTO", " decltype(auto)"),
+    ("DECLTYPE", "decltype("),
+    ("FUNCTION_PARAMETER", "fp"),
+]
+
+# <expression>, by the code of its operator. The precedences, from that which binds most: an operand whose precedence is at least the one that
+# is asked for is put in parentheses
+PRECEDENCES = """PRIMARY POSTFIX UNARY CAST POINTER TIMES PLUS SHIFT SPACESHIP RELATION EQUALITY AND XOR OR AND_IF OR_IF CONDITIONAL ASSIGN
+    ALWAYS""".split()
+(PRIMARY, POSTFIX, UNARY, CAST, POINTER, TIMES, PLUS, SHIFT, SPACESHIP, RELATION, EQUALITY, AND, XOR, OR, AND_IF, OR_IF, CONDITIONAL, ASSIGN,
+ ALWAYS) = range(len(PRECEDENCES))
+# how an operand is printed: not at all, as an expression or a type's left part, as a type, as a list; or in parentheses from a precedence on
+NONE, LEFT, BOTH, LIST = "nothing", "left", "both", "list"
+def infix(code, sign, own): return (code, own, "", own + 1, f" {sign} ", own, "")
+def assigning(code, sign): return (code, ASSIGN, "", OR_IF, f" {sign} ", ASSIGN + 1, "")
+def before(code, sign): return (code, UNARY, sign, UNARY, "", NONE, "")
+def after(code, sign): return (code, POSTFIX, "", POSTFIX + 1, sign, NONE, "")
+def applied(code, word, how): return (code, UNARY, word + " (", how, ")", NONE, "")
+def cast(code, word): return (code, POSTFIX, word + "<", BOTH, ">(", LEFT, ")")
+# code, precedence, text, how the left operand is printed, text, how the right one is, text. Codes with what is no letter stand for part of an
+# operation: p_ and m_ for an operator before its operand, c_ for a conversion of a list, q: for what follows the condition, () for parentheses
+OPERATIONS = [
+    before("ps", "+"), before("ng", "-"), before("ad", "&"), before("de", "*"), before("co", "~"), before("nt", "!"), before("aw", "co_await "),
+    before("p_", "++"), before("m_", "--"), after("pp", "++"), after("mm", "--"),
+    ("ds", POINTER, "", POINTER + 1, ".*", POINTER, ""), ("pm", POINTER, "", POINTER + 1, "->*", POINTER, ""),
+    infix("ml", "*", TIMES), infix("dv", "/", TIMES), infix("rm", "%", TIMES), infix("pl", "+", PLUS), infix("mi", "-", PLUS),
+    infix("ls", "<<", SHIFT), infix("ss", "<=>", SPACESHIP), infix("lt", "<", RELATION), infix("le", "<=", RELATION), infix("ge", ">=", RELATION),
+    infix("eq", "==", EQUALITY), infix("ne", "!=", EQUALITY), infix("an", "&", AND), infix("eo", "^", XOR), infix("or", "|", OR),
+    infix("aa", "&&", AND_IF), infix("oo", "||", OR_IF),
+    # as operands these are always in parentheses
+    ("gt", ALWAYS, "", RELATION + 1, " > ", RELATION, ""), ("rs", ALWAYS, "", SHIFT + 1, " >> ", SHIFT, ""), ("cm", ALWAYS, "", LEFT, ", ", ALWAYS, ""),
+    assigning("aS", "="), assigning("pL", "+="), assigning("mI", "-="), assigning("mL", "*="), assigning("dV", "/="), assigning("rM", "%="),
+    assigning("aN", "&="), assigning("oR", "|="), assigning("eO", "^="), assigning("lS", "<<="), assigning("rS", ">>="),
+    ("ix", POSTFIX, "", POSTFIX, "[", LEFT, "]"), ("dt", POSTFIX, "", POSTFIX + 1, ".", POSTFIX, ""), ("pt", POSTFIX, "", POSTFIX + 1, "->", POSTFIX, ""),
+    ("qu", CONDITIONAL, "", CONDITIONAL, " ? ", LEFT, ""), ("q:", PRIMARY, "", LEFT, " : ", ASSIGN + 1, ""),
+    ("cl", POSTFIX, "", LEFT, "(", LIST, ")"), ("cv", CAST, "(", BOTH, ")(", LEFT, ")"), ("c_", CAST, "(", BOTH, ")(", LIST, ")"),
+    ("tl", PRIMARY, "", BOTH, "{", LIST, "}"), ("il", PRIMARY, "{", LIST, "}", NONE, ""),
+    cast("dc", "dynamic_cast"), cast("sc", "static_cast"), cast("cc", "const_cast"), cast("rc", "reinterpret_cast"),
+    applied("ti", "typeid", BOTH), applied("te", "typeid", LEFT), applied("st", "sizeof", BOTH), applied("sz", "sizeof", LEFT),
+    applied("at", "alignof", BOTH), applied("az", "alignof", LEFT), applied("nx", "noexcept", LEFT),
+    ("sZ", PRIMARY, "sizeof...(", LEFT, ")", NONE, ""), ("sr", PRIMARY, "", LEFT, "::", LEFT, ""), ("fT", PRIMARY, "this", NONE, "", NONE, ""),
+    ("()", PRIMARY, "(", LEFT, ")", NONE, ""),
 ]
 
 # the productions in which parts without a row may be between those with one
-SKIPS = """Symbol EncodingLiteral Address NonVirtualThunk VirtualThunk VirtualOffset
+SKIPS = """Symbol EncodingLiteral NonVirtualThunk VirtualThunk VirtualOffset
     LocalName LocalType Vector LiteralArgument LiteralElement NestedName RestrictType VolatileType NestStd NestArguments
-    NestInstance NoexceptFunction Function PackArgument ConstructionVtable AddressExpression BoundedArray PackOf""".split()
+    NestInstance BaseArguments NoexceptFunction Function PackArgument ConstructionVtable BoundedArray PackOf Step FunctionParameter""".split()
 
 # the productions that may leave a tree that is no candidate yet
 LEAVES = """NestWithS NestParameter NestInternal NestLocalType NestSource NestStd NestTemplate NestArguments NestInstance
     NestNext NestTag NestEnd
-    Abbreviation Substitution NestedType Expansion ItemIsType BuiltinWithD Vector NoexceptFunction Pointer MemberPointer
+    Abbreviation Substitution NestedType Expansion ItemIsType BuiltinWithD Vector NoexceptFunction Decltype Pointer MemberPointer
     Parameter TypeWithS LocalType Builtin Vendor Function Complex AbbreviatedType SizedFloat
-    TaggedStdType TypeInStd ArrayType AnyArray LengthArray BoundedArray
-    ParameterArgument DeclaredArgument ConstrainedAuto""".split()
+    TypeInStd ArrayType AnyArray LengthArray BoundedArray
+    ParameterArgument DeclaredArgument ConstrainedAuto ConvertedDecltype""".split()
 
 # The productions that are common in real symbols: where they close, and before the parts of some, they have code of their own, in which
 # what is done for a production is a constant. All others share theirs.
@@ -233,6 +274,7 @@ TREES = [
     ("literal_operator", ("bytes", BYTES)),
     ("constructor", ("digit", NUMBER)),
     ("destructor", ("digit", NUMBER)),
+    ("inheriting", ("digit", NUMBER), ("class", TREE)),
     ("lambda", ("parameters", TREE), ("number", NUMBER)),
     ("generic_lambda", ("parameters", SIGNATURE), ("number", NUMBER)),
     ("unnamed", ("number", NUMBER)),
@@ -252,12 +294,15 @@ TREES = [
     ("qualified", ("q", QUALIFIERS), ("t", TREE)),
     ("vector", ("digits", BYTES), ("t", TREE)),
     ("complex", ("t", TREE)),
+    ("decltype", ("operand", TREE)),
     ("expansion", ("pattern", TREE)),
     ("integer", ("t", TREE), ("n", SIGNED)),
     ("boolean", ("b", TRUTH)),
     ("null_pointer",),
     ("encoding_literal", ("e", OWN)),
     ("address_of", ("e", OWN)),
+    ("operation", ("one", NUMBER), ("two", NUMBER), ("u", TREE), ("w", TREE)),
+    ("function_parameter", ("digits", BYTES)),
     ("pack", ("elements", TREE)),
     ("nil",),
     ("list", ("e", TREE), ("rest", TREE)),

@@ -54,6 +54,38 @@ def special_front():
     for c in reversed(other_fronts()): chain = f"cond (nat_eq letter {ord(c[1])}) {ord(c[0])} ({chain})" if " " in chain else f"cond (nat_eq letter {ord(c[1])}) {ord(c[0])} {chain}"
     return "\n".join([*lines, f"    {chain}"]) + "\n"
 
+OPERATIONS_HEAD = f'''-- {WRITTEN} How the operations of expressions are printed, by the codes of their operators.
+use Rattle.std.specs.Prelude.{{ℕ, List, [], ◌∷◌, true, false, Option, Some, None, codes}}
+use Prim.Native.String.{{String}}
+use Rattle.cpp_grammar.specs.Texts.{{same_bytes}}
+'''
+
+OPERATIONS_TAIL = '''-- the operation of a code, and none of another
+unfoldable pub operation_of_code : List ℕ → List Operation → Option Operation
+operation_of_code code [] = None
+operation_of_code code (o ∷ rest) = elim (same_bytes code o.code) [ true ↦ Some o | false ↦ operation_of_code code rest ]
+'''
+
+def operand(how): return f"from_precedence {words.PRECEDENCES[how]}" if isinstance(how, int) else {words.NONE: "not_printed", words.LEFT: "as_it_is", words.BOTH: "as_type", words.LIST: "as_list"}[how]
+
+def operations():
+    out = [OPERATIONS_HEAD, "-- the precedences, from that which binds most"]
+    for i, name in enumerate(words.PRECEDENCES): out += [f"abbrev pub {name} : ℕ", f"{name} = {i}", ""]
+    out += ["-- how an operand is printed: not at all, as it is, as a type, as a list, or in parentheses if its precedence is at least this", "pub data Operand : Type 0 where",
+            "  not_printed : Operand", "  as_it_is : Operand", "  as_type : Operand", "  as_list : Operand", "  from_precedence : (precedence : ℕ) → Operand", "",
+            "-- an operator's code, the precedence of what it makes, and what is printed: a text, the left operand, a text, the right one, a text", "pub record Operation : Type 0 where",
+            "  pub code : List ℕ", "  pub precedence : ℕ", "  pub front : List ℕ", "  pub left : Operand", "  pub between : List ℕ", "  pub right : Operand", "  pub back : List ℕ", "",
+            "abbrev printed_as : String → ℕ → String → Operand → String → Operand → String → Operation",
+            "printed_as code precedence front left between right back =",
+            "    record { code = codes code; precedence = precedence; front = codes front; left = left; between = codes between; right = right; back = codes back }", "",
+            "unfoldable pub operations : List Operation", "operations ="]
+    def closed(text): return f"({text})" if " " in text else text
+    rows = [f'    printed_as "{code}" {words.PRECEDENCES[own]} "{front}" {closed(operand(left))} "{between}" {closed(operand(right))} "{back}" ∷' for code, own, front, left, between, right, back in words.OPERATIONS]
+    return "\n".join([*out, *rows]) + " []\n\n" + OPERATIONS_TAIL
+
+# the texts of operations, each once
+OPERATION_TEXTS = list(dict.fromkeys(text for row in words.OPERATIONS for text in row[2::2] if text))
+
 def grammar_texts():
     return "\n".join([GRAMMAR_TEXTS_HEAD,
         namings("builtin_texts", BUILTINS),
@@ -71,6 +103,7 @@ def text_lists():
     out += listed("plain_texts", [t for _, t in words.PLAIN_TEXTS], "texts that the layout of a node has of itself")
     out += listed("suffix_texts", SUFFIXES, "what follows a function's parameters")
     out += listed("blanked_texts", BLANKED, "qualifiers whose blank comes after them")
+    out += listed("operation_texts", OPERATION_TEXTS, "texts of operations, each once")
     return "\n".join(out)
 
 # ## cpp_layout's texts
@@ -84,7 +117,7 @@ def groups():
     at, out = 0, {}
     for name, count in (("PLAIN", len(words.PLAIN_TEXTS)), ("SUFFIX", len(SUFFIXES)), ("BUILTIN", len(BUILTINS)), ("OPERATOR", len(words.OPERATORS)),
                         ("ABBREVIATION", len(words.ABBREVIATIONS)), ("LAST_OF_ABBREVIATION", len(words.ABBREVIATIONS)), ("SPECIAL", len(words.SPECIALS)), ("NAMED_SPECIAL", len(words.NAMED_SPECIALS)),
-                        ("ENDING", len(words.ENDINGS)), ("BLANKED", len(BLANKED)), ("OPERATOR_ALONE", 1), ("COUNT", 0)):
+                        ("ENDING", len(words.ENDINGS)), ("BLANKED", len(BLANKED)), ("OPERATOR_ALONE", 1), ("OPERATION", len(OPERATION_TEXTS)), ("COUNT", 0)):
         out[name] = at
         at += count
     # the first of these texts has the number after
@@ -115,6 +148,7 @@ def layout_texts():
     out += constant("ENDING", at["ENDING"], "Where the endings of integer literals begin.")
     out += constant("BLANKED", at["BLANKED"], "Where the qualifiers begin whose blank comes after them, but for those of no qualifier.")
     out += constant("OPERATOR_ALONE", at["OPERATOR_ALONE"], "The name of an operator that has no code.")
+    out += constant("OPERATION", at["OPERATION"], "Where the texts of operations begin.")
     out += constant("COUNT", at["COUNT"], "How many texts there are.")
     out.pop()
     remaining = [(at["ABBREVIATION"] + i, t) for i, (c, t) in enumerate(words.ABBREVIATIONS)]
@@ -123,8 +157,9 @@ def layout_texts():
     remaining += [(at["NAMED_SPECIAL"] + i, t) for i, (c, t) in enumerate(words.NAMED_SPECIALS)]
     remaining += [(at["ENDING"] + i, t) for i, (c, t) in enumerate(words.ENDINGS)]
     remaining += [(at["BLANKED"] + 1 + i, t) for i, t in enumerate(BLANKED)]
+    out += function("operation_text", "A text of an operation.", at["OPERATION"], ALL_TABLES, [(at["OPERATION"] + i, t) for i, t in enumerate(OPERATION_TEXTS)], 'b""')
     out += function("remaining_text", "A text after the operators: an abbreviation, a special name, an ending, a qualifier.", at["ABBREVIATION"], ALL_TABLES,
-                    remaining + [("OPERATOR_ALONE", "operator")], 'b""')
+                    remaining + [("OPERATOR_ALONE", "operator")], "operation_text(number)")
     out += function("operator_text", "The name of an operator.", at["OPERATOR"], ALL_TABLES[:2],
                     [(at["OPERATOR"] + i, "operator" + t) for i, (c, t) in enumerate(words.OPERATORS)], "remaining_text(number)")
     out += function("builtin_text", "A builtin type.", at["BUILTIN"], ALL_TABLES[:1],
@@ -177,6 +212,45 @@ def layout_codes():
             "", "/// The two letters of an operator's code as one number.", unfolding("crate::specs::Texts::operator_code", "cpp_grammar::specs::Texts::operator_texts"),
             "pub(crate) fn operator_code(number: u16) -> u16", "    requires { number < OPERATORS }", "    ensures { result ≡ operator_code number }", "{", "    match number {"]
     out += [f"        {i} => code!(b'{c[0]}', b'{c[1]}'), // operator{t}" for i, (c, t) in enumerate(words.OPERATORS)] + ["        _ => 0,", "    }", "}"]
+    return "\n".join(out) + "\n"
+
+def layout_operations():
+    def text(t): return f"texts::OPERATION + {OPERATION_TEXTS.index(t)}" if t else "texts::NONE"
+    def how(o): return f"Operand::From({o})" if isinstance(o, int) else {words.NONE: "Operand::NotPrinted", words.LEFT: "Operand::AsItIs", words.BOTH: "Operand::AsType", words.LIST: "Operand::AsList"}[o]
+    out = [f"// {WRITTEN} How the operations of expressions are printed, by the codes of their operators.", "#![tactic(auto)]", "", "ghost use Rattle.std.specs.Prelude.{◌≡◌};", "ghost use Rattle.cpp_grammar.specs.Parts.{printed};",
+           "ghost use Rattle.cpp_layout.specs.Operations.{IsOperation, HasTexts};", "", "use crate::texts;", "",
+           "/// How an operand is printed: not at all, as it is, as a type, as a list, or in parentheses if its precedence is at least this.", "#[derive(Clone, Copy)]", "pub enum Operand {",
+           "    NotPrinted,", "    AsItIs,", "    AsType,", "    AsList,", "    From(u8),", "}", "",
+           "/// The precedence of an operation, and what is printed: the numbers of texts, and how its operands are.", "#[derive(Clone, Copy)]", "pub struct Operation {",
+           "    pub precedence: u8,", "    pub front: u16,", "    pub left: Operand,", "    pub between: u16,", "    pub right: Operand,", "    pub back: u16,", "}", "",
+           "/// One of these parts.", "fn printed_as(", "    precedence: u8,", "    front: u16,", "    left: Operand,", "    between: u16,", "    right: Operand,", "    back: u16,", ") -> Operation",
+           "    ensures { result ≡ record { precedence = precedence; front = front; left = left; between = between; right = right; back = back } }", "{", "    Operation {",
+           "        precedence,", "        front,", "        left,", "        between,", "        right,", "        back,", "    }", "}", "",
+           "/// The operation of two letters.", "pub(crate) fn operation_of(first: u8, second: u8) -> Operation",
+           "    ensures is { IsOperation result (printed first second) }", "    ensures texts { HasTexts result }", "{",
+           "    match first as u16 * 256 + second as u16 {"]
+    for code, own, front, left, between, right, back in words.OPERATIONS:
+        out += [f"        // {code}", f"        {ord(code[0]) * 256 + ord(code[1])} => printed_as(", *[f"            {value}," for value in (own, text(front), how(left), text(between), how(right), text(back))], "        ),"]
+    out += ["        _ => printed_as(", *[f"            {value}," for value in (0, "texts::NONE", "Operand::NotPrinted", "texts::NONE", "Operand::NotPrinted", "texts::NONE")], "        ),", "    }", "}"]
+    return "\n".join(out) + "\n"
+
+def operation_answers():
+    """each arm's operation is the one of the table"""
+    fields = "record { precedence = refl; front = refl; left = refl; between = refl; right = refl; back = refl }"
+    computed = "unfolding printed operation_of_code operations same_bytes builtin_texts operator_texts abbreviation_texts special_texts named_special_texts literal_endings"
+    numbers = [ord(code[0]) * 256 + ord(code[1]) for code, *rest in words.OPERATIONS]
+    both = "c.args.first * 256 + c.args.second"
+    out = [f"-- {WRITTEN}", "use Rattle.std.proofs.Common.{◌≡◌, refl, arith, lit<, ◌+◌, ◌*◌, false}", "use Rattle.std.proofs.lemmas.Bool.{ne_eqb}",
+           "use Rattle.cpp_grammar.specs.Texts.{same_bytes, builtin_texts, operator_texts, abbreviation_texts, special_texts, named_special_texts, literal_endings}",
+           "use Rattle.cpp_grammar.specs.Operations.{operations, operation_of_code}", "use Rattle.cpp_grammar.specs.Parts.{printed}",
+           "use Rattle.cpp_layout.proofs.Operating.{printed-by, any_number, none-printed}", "use Rattle.cpp_layout.proofs.operation_rows.operation_of.Goals as goal"]
+    for n in numbers:
+        called = "printed_as" if n == numbers[0] else f"printed_as-in-{n}"
+        out += ["", f"pub returns-in-{n}-clause-is : goal.returns-in-{n}-clause-is", computed,
+                f"returns-in-{n}-clause-is c = printed-by c.args.first c.args.second {n // 256} {n % 256} c.{called}.result c.ranges.second.fits (lit< tt) (omega (arith, c.in-{n}.is)) (rw c.{called}.ensures {fields})"]
+    off = ", ".join(f"ne_eqb ({both}) {n} (omega (arith, c.in_default))" for n in numbers)
+    out += ["", "pub returns-in_default-clause-is : goal.returns-in_default-clause-is", "unfolding operations",
+            f"returns-in_default-clause-is c = none-printed c.args.first c.args.second c.printed_as-in_default.result (let n : any_number operations ({both}) ≡ false = rw ({off}) refl in n) (rw c.printed_as-in_default.ensures {fields})"]
     return "\n".join(out) + "\n"
 
 def code_letters():
@@ -265,10 +339,13 @@ def direct_tests():
 def files(productions, rows):
     """the files, by their paths in the folder of the crates"""
     yield "cpp_grammar/specs/Texts.antt", grammar_texts()
+    yield "cpp_grammar/specs/Operations.antt", operations()
+    yield "cpp_layout/src/operation_rows.rt", layout_operations()
     yield "cpp_layout/specs/TextLists.antt", text_lists()
     yield "cpp_layout/src/texts.rt", layout_texts()
     yield "cpp_layout/src/numbered.rt", layout_codes()
     yield "cpp_layout/proofs/CodeLetters.antt", code_letters()
+    yield "cpp_layout/proofs/operation_rows/operation_of/Answers.antt", operation_answers()
     for name, text in code_answers(): yield f"cpp_layout/proofs/numbered/{name}/Answers.antt", text
     yield "cpp_direct/specs/Letters.antt", direct_letters()
     yield "cpp_direct/src/letters.rt", direct_tests()

@@ -1,4 +1,5 @@
 -- The arguments of a name, as long as they are types.
+use Rattle.sym_print.specs.declared.detail.Detail.{Detail}
 use Rattle.std.proofs.Common.{arith, ◌≡◌, ℕ, zero, suc, ◌+◌, ◌-◌, length, List, [], ◌∷◌, ◌++◌, reverse, slice_get, inr, inl, Bool, true, false, Some, refl, ap, sym, ◌∙◌, subst, codes, append_assoc, append-nil}
 use Rattle.std.proofs.lemmas.Bool.{false≢true}
 use Rattle.std.proofs.lemmas.List.{length-append}
@@ -7,7 +8,7 @@ use Rattle.cpp_grammar.specs.Grammar.{may_be_empty}
 use Rattle.cpp_grammar.specs.Term.{Term, nil, instance}
 use Rattle.cpp_grammar.specs.Values.{nothing_there}
 use Rattle.cpp_grammar.specs.Between.{no_items}
-use Rattle.cpp_direct.specs.Symbol.{Symbol}
+use Rattle.cpp_direct.specs.Symbol.{detail_of, Symbol}
 use Rattle.cpp_direct.specs.declared.open.Argument.{Argument}
 use Rattle.cpp_direct.specs.declared.open.Arguments.{Arguments}
 use Rattle.cpp_direct.specs.declared.open.Open.{Open}
@@ -45,7 +46,7 @@ argument-begins s old new from p named from_is waits text candidates at = go p.i
     go : (l : Listing) → p.is_before.0.listing ≡ l → IsWriting s new steps.Type
     go (of_pack before written) is =
         absurd (subst (λ ws. EndsNamed ws)
-        (subst (λ l. Belongs l (reverse old.waiting.list.items) p.is_before.0.owner p.is_before.0.rest) is p.is_before.0.belongs).0 named)
+        (subst (λ l. Belongs (detail_of s) l (reverse old.waiting.list.items) p.is_before.0.owner p.is_before.0.rest) is p.is_before.0.belongs).0 named)
     go of_template is =
         let place = p.is_before.0 in
         let o = place.owner in
@@ -53,15 +54,15 @@ argument-begins s old new from p named from_is waits text candidates at = go p.i
         let goes : ArgumentsGoOn s o (Stands s place.rest) place.front place.template [] old.at p.state =
         subst (λ ts. ArgumentsGoOn s o (Stands s place.rest) place.front place.template ts old.at p.state) ts_is
         (subst (λ l. GoesOn s l o (Stands s place.rest) place.front place.template p.is_before.1 old.at p.state) is p.is_before.7) in
-        let all : PrintAllBy (IsElement (extra_of place.listing)) [] p.is_before.2 =
-        subst (λ ts. PrintAllBy (IsElement (extra_of place.listing)) ts p.is_before.2) ts_is p.is_before.3 in
-        let texts_is : p.is_before.2 ≡ [] = none-text (IsElement (extra_of place.listing)) p.is_before.2 all in
+        let all : PrintAllBy (IsElement (detail_of s) (extra_of place.listing)) [] p.is_before.2 =
+        subst (λ ts. PrintAllBy (IsElement (detail_of s) (extra_of place.listing)) ts p.is_before.2) ts_is p.is_before.3 in
+        let texts_is : p.is_before.2 ≡ [] = none-text (IsElement (detail_of s) (extra_of place.listing)) p.is_before.2 all in
         let written : old.text.list.items ≡ place.front ++ place.name ++ codes "<" ++ [] =
         subst (λ l. old.text.list.items ≡ led_by l place.front place.name ++ p.is_before.2) is p.is_before.4
         ∙ ap (λ l. place.front ++ place.name ++ codes "<" ++ l) texts_is in
         let element = element-awaits s Kind.ArgumentList goes.1 goes.0 old.at p.state tt goes.3 in
         let belongs : reverse old.waiting.list.items ≡ o ∷ place.rest =
-        subst (λ l. Belongs l (reverse old.waiting.list.items) o place.rest) is place.belongs in
+        subst (λ l. Belongs (detail_of s) l (reverse old.waiting.list.items) o place.rest) is place.belongs in
         let opened : reverse new.waiting.list.items ≡ opens.Argument from 0 nowhere ∷ o ∷ place.rest =
         ap reverse waits ∙ reverse-last old.waiting.list.items (opens.Argument from 0 nowhere) ∙ ap (λ ws. opens.Argument from 0 nowhere ∷ ws) belongs in
         let stands : Stands s (opens.Argument from 0 nowhere ∷ o ∷ place.rest) element.inner old.text.list.items = (
@@ -71,7 +72,7 @@ argument-begins s old new from p named from_is waits text candidates at = go p.i
           [],
           [],
           place.is_template,
-          none-print 3,
+          none-print (detail_of s) 3,
           written,
           from_is,
           refl,
@@ -82,8 +83,8 @@ argument-begins s old new from p named from_is waits text candidates at = go p.i
         ) in
         record {
           state = p.state;
-          candidates = subst (λ v. AreCandidates new.text.list.items v.list.items p.state.candidates) (sym candidates)
-              (subst (λ v. AreCandidates v.list.items old.candidates.list.items p.state.candidates) (sym text) p.candidates);
+          candidates = subst (λ v. AreCandidates (detail_of s) new.text.list.items v.list.items p.state.candidates) (sym candidates)
+              (subst (λ v. AreCandidates (detail_of s) v.list.items old.candidates.list.items p.state.candidates) (sym text) p.candidates);
           is_before = (
             element.inner,
             goes.0,
@@ -121,13 +122,13 @@ value-argument s w is_reference from number known p found =
           texts = waits.4;
           t = p.is_before.1;
           bytes = bytes;
-          is_template = subst (λ l. IsTemplate owner waits.0 waits.1 waits.2 l) (sym p.is_before.4)
-              (template-stays owner waits.0 waits.1 waits.2 p.is_before.2 bytes waits.5);
+          is_template = subst (λ l. IsTemplate (detail_of s) owner waits.0 waits.1 waits.2 l) (sym p.is_before.4)
+              (template-stays (detail_of s) owner waits.0 waits.1 waits.2 p.is_before.2 bytes waits.5);
           elements = waits.6;
           written = p.is_before.4 ∙ ap (λ l. l ++ bytes) waits.7;
           from_is = waits.8 ∙ ap length waits.7;
           number_is = waits.9;
-          among = subst (λ l. AreAmong l false known waits.3) (sym p.is_before.4) (among-stay p.is_before.2 bytes false known waits.3 waits.10);
+          among = subst (λ l. AreAmong (detail_of s) l false known waits.3) (sym p.is_before.4) (among-stay p.is_before.2 bytes false known waits.3 waits.10);
           prints = p.is_before.5;
           goes = waits.11 p.is_before.1 w.at p.state p.is_before.6;
         }
@@ -142,8 +143,8 @@ argument-passes s old new from number known is_reference p waits text candidates
     let texts = in_front_of_next p.ts p.texts ++ p.bytes in
     record {
       state = p.state;
-      candidates = subst (λ v. AreCandidates new.text.list.items v.list.items p.state.candidates) (sym candidates)
-          (subst (λ v. AreCandidates v.list.items old.candidates.list.items p.state.candidates) (sym text) p.candidates);
+      candidates = subst (λ v. AreCandidates (detail_of s) new.text.list.items v.list.items p.state.candidates) (sym candidates)
+          (subst (λ v. AreCandidates (detail_of s) v.list.items old.candidates.list.items p.state.candidates) (sym text) p.candidates);
       is_before = (
         record {
           listing = of_template;
@@ -153,7 +154,7 @@ argument-passes s old new from number known is_reference p waits text candidates
           front = p.front;
           template = p.template;
           name = p.name;
-          is_template = subst (λ v. IsTemplate p.owner p.front p.template p.name v.list.items) (sym text) p.is_template;
+          is_template = subst (λ v. IsTemplate (detail_of s) p.owner p.front p.template p.name v.list.items) (sym text) p.is_template;
         },
         ts,
         texts,
@@ -178,20 +179,20 @@ last-there [] t = refl
 last-there (v ∷ ts) t = last-there ts t
 
 -- one more is known
-pub known-more : (text : List ℕ) (is_pack : Bool) (from to number : ℕ) (is_reference : Bool) (place : Argument) (known more : Arguments) (ts : List Term) (t : Term)
-    (before bytes : List ℕ) → text ≡ before ++ bytes → from ≡ length before → to ≡ length text → number ≡ length ts → Prints t bytes is_reference
+pub known-more : {detail : Detail} (text : List ℕ) (is_pack : Bool) (from to number : ℕ) (is_reference : Bool) (place : Argument) (known more : Arguments) (ts : List Term) (t : Term)
+    (before bytes : List ℕ) → text ≡ before ++ bytes → from ≡ length before → to ≡ length text → number ≡ length ts → Prints detail t bytes is_reference
     → (IsKnown place → place ≡ record { from = from; to = to; is_pack = is_pack; is_reference = is_reference }) → KnowsMore known more number place
-    → AreAmong text is_pack known ts → AreAmong text is_pack more (ts ++ t ∷ [])
-known-more text is_pack from to number is_reference place known more ts t before bytes written from_is to_is number_is prints place_is knows among k o =
+    → AreAmong detail text is_pack known ts → AreAmong detail text is_pack more (ts ++ t ∷ [])
+known-more {detail} text is_pack from to number is_reference place known more ts t before bytes written from_is to_is number_is prints place_is knows among k o =
     elim (knows k o) [
       | inl h ↦
-          subst (λ j. IsAmong text (place_of more k) j (ts ++ t ∷ []) × ((place_of more k).is_pack ≡ is_pack)) (sym h.0)
-          (subst (λ (q : Argument). IsAmong text q number (ts ++ t ∷ []) × (q.is_pack ≡ is_pack)) (sym h.1) (here (subst IsKnown h.1 o)))
+          subst (λ j. IsAmong detail text (place_of more k) j (ts ++ t ∷ []) × ((place_of more k).is_pack ≡ is_pack)) (sym h.0)
+          (subst (λ (q : Argument). IsAmong detail text q number (ts ++ t ∷ []) × (q.is_pack ≡ is_pack)) (sym h.1) (here (subst IsKnown h.1 o)))
       | inr h ↦
-          subst (λ (q : Argument). IsAmong text q k (ts ++ t ∷ []) × (q.is_pack ≡ is_pack)) (sym h) (there (among k (subst IsKnown h o)))
+          subst (λ (q : Argument). IsAmong detail text q k (ts ++ t ∷ []) × (q.is_pack ≡ is_pack)) (sym h) (there (among k (subst IsKnown h o)))
     ]
   where
-    here : IsKnown place → IsAmong text place number (ts ++ t ∷ []) × (place.is_pack ≡ is_pack)
+    here : IsKnown place → IsAmong detail text place number (ts ++ t ∷ []) × (place.is_pack ≡ is_pack)
     here e = (
       record {
         bytes = bytes;
@@ -204,13 +205,13 @@ known-more text is_pack from to number is_reference place known more ts t before
         };
         own = t;
         there = ap (λ n. slice_get (ts ++ t ∷ []) n) number_is ∙ last-there ts t;
-        prints = subst (λ (q : Argument). Prints t bytes q.is_reference) (sym (place_is e)) prints;
+        prints = subst (λ (q : Argument). Prints detail t bytes q.is_reference) (sym (place_is e)) prints;
       },
       ap (λ (q : Argument). q.is_pack) (place_is e),
     )
 
-    there : IsAmong text (place_of known k) k ts × ((place_of known k).is_pack ≡ is_pack)
-        → IsAmong text (place_of known k) k (ts ++ t ∷ []) × ((place_of known k).is_pack ≡ is_pack)
+    there : IsAmong detail text (place_of known k) k ts × ((place_of known k).is_pack ≡ is_pack)
+        → IsAmong detail text (place_of known k) k (ts ++ t ∷ []) × ((place_of known k).is_pack ≡ is_pack)
     there g = (
       record {
         bytes = g.0.bytes;
@@ -226,7 +227,7 @@ known-more text is_pack from to number is_reference place known more ts t before
 argument-known : (s : Symbol) (old : Direct) (from to number : ℕ) (place : Argument) (known more : Arguments) (is_reference : Bool)
     (p : IsArgumentRead s old from number known is_reference) → to ≡ length old.text.list.items
     → (IsKnown place → place ≡ record { from = from; to = to; is_pack = false; is_reference = is_reference }) → KnowsMore known more number place
-    → AreAmong old.text.list.items false more (p.ts ++ p.t ∷ [])
+    → AreAmong (detail_of s) old.text.list.items false more (p.ts ++ p.t ∷ [])
 argument-known s old from to number place known more is_reference p to_is place_is knows =
     known-more old.text.list.items false from to number is_reference place known more p.ts p.t
     (p.front ++ p.name ++ codes "<" ++ in_front_of_next p.ts p.texts) p.bytes p.written p.from_is to_is p.number_is p.prints place_is knows p.among
@@ -243,8 +244,8 @@ argument-closes s old new from to number place known more is_reference p stands 
     let among = argument-known s old from to number place known more is_reference p to_is place_is knows in
     record {
       state = p.state;
-      candidates = subst (λ v. AreCandidates new.text.list.items v.list.items p.state.candidates) (sym candidates)
-          (subst (λ v. AreCandidates v.list.items old.candidates.list.items p.state.candidates) (sym text) p.candidates);
+      candidates = subst (λ v. AreCandidates (detail_of s) new.text.list.items v.list.items p.state.candidates) (sym candidates)
+          (subst (λ v. AreCandidates (detail_of s) v.list.items old.candidates.list.items p.state.candidates) (sym text) p.candidates);
       owner = p.owner;
       rest = p.rest;
       open_is = waits;
@@ -255,13 +256,13 @@ argument-closes s old new from to number place known more is_reference p stands 
       tail = nil;
       is_tail = inl refl;
       arguments = in_front_of_next p.ts p.texts ++ p.bytes;
-      is_template = subst (λ v. IsTemplate p.owner p.front p.template p.name v.list.items) (sym text) p.is_template;
+      is_template = subst (λ v. IsTemplate (detail_of s) p.owner p.front p.template p.name v.list.items) (sym text) p.is_template;
       elements = next-prints 3 p.ts p.texts p.t p.bytes p.elements (type-element 3 p.t p.bytes is_reference p.prints);
       written = ap (λ v. v.list.items) text ∙ p.written
           ∙ append_assoc (p.front ++ p.name ++ codes "<") (in_front_of_next p.ts p.texts) p.bytes;
       owns = subst (λ n. Owns s p.owner (Stands s p.rest) p.front (instance p.template (list_with ts nil)) n p.state) (sym at)
           (p.goes.4 nothing_there old.at p.state (expects-empty s Kind.ArgumentList p.goes.0 p.goes.1 old.at p.state p.goes.3 refl) stands);
-      known = subst (λ v. AreKnown v.list.items more ts nil) (sym text)
+      known = subst (λ v. AreKnown (detail_of s) v.list.items more ts nil) (sym text)
           (λ k o. let h = among k o in inl (h.1, h.0));
     }
 
@@ -275,8 +276,8 @@ argument-awaits s old new from to number place known more is_reference p waits t
     let ts = p.ts ++ p.t ∷ [] in
     record {
       state = p.state;
-      candidates = subst (λ v. AreCandidates new.text.list.items v.list.items p.state.candidates) (sym candidates)
-          (subst (λ v. AreCandidates v.list.items old.candidates.list.items p.state.candidates) (sym text) p.candidates);
+      candidates = subst (λ v. AreCandidates (detail_of s) new.text.list.items v.list.items p.state.candidates) (sym candidates)
+          (subst (λ v. AreCandidates (detail_of s) v.list.items old.candidates.list.items p.state.candidates) (sym text) p.candidates);
       owner = p.owner;
       rest = p.rest;
       open_is = waits;
@@ -285,13 +286,13 @@ argument-awaits s old new from to number place known more is_reference p waits t
       name = p.name;
       ts = ts;
       texts = in_front_of_next p.ts p.texts ++ p.bytes;
-      is_template = subst (λ v. IsTemplate p.owner p.front p.template p.name v.list.items) (sym text) p.is_template;
+      is_template = subst (λ v. IsTemplate (detail_of s) p.owner p.front p.template p.name v.list.items) (sym text) p.is_template;
       elements = next-prints 3 p.ts p.texts p.t p.bytes p.elements (type-element 3 p.t p.bytes is_reference p.prints);
       some = some-elements p.ts p.t;
       written = ap (λ v. v.list.items) text ∙ p.written
           ∙ append_assoc (p.front ++ p.name ++ codes "<") (in_front_of_next p.ts p.texts) p.bytes;
       number_is = omega (arith, p.number_is, length-append p.ts (p.t ∷ []));
-      among = subst (λ v. AreAmong v.list.items false more ts) (sym text)
+      among = subst (λ v. AreAmong (detail_of s) v.list.items false more ts) (sym text)
           (argument-known s old from to number place known more is_reference p to_is place_is knows);
       goes = subst (λ n. ArgumentsGoOn s p.owner (Stands s p.rest) p.front p.template ts n p.state) (sym at) p.goes;
     }
@@ -318,22 +319,22 @@ next-argument-begins s old mid new before from number known p writes from_is num
       p.name,
       p.ts,
       p.texts,
-      subst (λ l. IsTemplate o p.front p.template p.name l) (sym writes.text)
-          (template-stays o p.front p.template p.name old.text.list.items (codes ", ") p.is_template),
+      subst (λ l. IsTemplate (detail_of s) o p.front p.template p.name l) (sym writes.text)
+          (template-stays (detail_of s) o p.front p.template p.name old.text.list.items (codes ", ") p.is_template),
       p.elements,
       written,
       from_is,
       number_is ∙ p.number_is,
-      subst (λ l. AreAmong l false known p.ts) (sym writes.text) (among-stay old.text.list.items (codes ", ") false known p.ts p.among),
+      subst (λ l. AreAmong (detail_of s) l false known p.ts) (sym writes.text) (among-stay old.text.list.items (codes ", ") false known p.ts p.among),
       λ t here now comes. element-goes-on s Kind.ArgumentList
           (λ l there later. Owns s o (Stands s p.rest) p.front (instance p.template l) there later)
           p.ts t old.at here p.state now goes (element.onward t here now comes),
     ) in
     record {
       state = p.state;
-      candidates = subst (λ v. AreCandidates new.text.list.items v.list.items p.state.candidates) (sym candidates)
-          (subst (λ v. AreCandidates v.list.items mid.candidates.list.items p.state.candidates) (sym text)
-          (candidates-written old mid (codes ", ") p.state.candidates writes p.candidates));
+      candidates = subst (λ v. AreCandidates (detail_of s) new.text.list.items v.list.items p.state.candidates) (sym candidates)
+          (subst (λ v. AreCandidates (detail_of s) v.list.items mid.candidates.list.items p.state.candidates) (sym text)
+          (candidates-written (detail_of s) old mid (codes ", ") p.state.candidates writes p.candidates));
       is_before = (
         element.inner,
         goes.0,

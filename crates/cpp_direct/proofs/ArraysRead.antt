@@ -1,10 +1,11 @@
 -- A writer reads an array, and hands it on.
+use Rattle.sym_print.specs.declared.detail.Detail.{Detail}
 use Rattle.std.proofs.Common.{◌≡◌, ◌⊎◌, inl, inr, ℕ, ◌+◌, ◌-◌, ◌≤◌, List, [], ◌∷◌, ◌++◌, length, take, drop, reverse, slice_get, Bool, true, false, Some, refl, ap, sym, subst, ◌∙◌, codes, append_assoc}
 use Rattle.cpp_grammar.specs.declared.kind.Kind.{Kind}
 use Rattle.cpp_grammar.specs.Term.{Term, array, pointer, lvalue}
 use Rattle.cpp_grammar.specs.Values as values
 use Rattle.cpp_grammar.specs.Values.{State, Around, tree}
-use Rattle.cpp_direct.specs.Symbol.{Symbol}
+use Rattle.cpp_direct.specs.Symbol.{detail_of, Symbol}
 use Rattle.cpp_direct.specs.declared.open.Access.{Access}
 use Rattle.cpp_direct.specs.declared.open.Access.TheVariants as accesses
 use Rattle.cpp_direct.specs.declared.open.Candidate.{Candidate}
@@ -54,8 +55,8 @@ array-begins s old new access digits from to p letters takes is ordered inside s
         let entry = opens.Array access from to in
         record {
           state = p.state;
-          candidates = subst (λ v. AreCandidates new.text.list.items v.list.items p.state.candidates) (sym candidates)
-              (subst (λ v. AreCandidates v.list.items old.candidates.list.items p.state.candidates) (sym text) p.candidates);
+          candidates = subst (λ v. AreCandidates (detail_of s) new.text.list.items v.list.items p.state.candidates) (sym candidates)
+              (subst (λ v. AreCandidates (detail_of s) v.list.items old.candidates.list.items p.state.candidates) (sym text) p.candidates);
           is_before = (
             f.inner,
             around,
@@ -113,15 +114,16 @@ hidden_behind true ks = (ks ++ hidden ∷ []) ++ hidden ∷ []
 hidden_behind false ks = ks ++ hidden ∷ []
 
 -- it becomes a candidate, and so does what points or refers to it
-hidden-accessed : (access : Access) (ks : List Candidate) (text : List ℕ) (made_in : Around) (t : Term) (st : State) → AreCandidates text ks st.candidates
-    → AreCandidates text (hidden_behind (is_marked access) ks) (with_accessed access made_in t st).candidates
-hidden-accessed accesses.Plain ks text made_in t st p = one-hidden text ks st.candidates (candidate made_in t) p
-hidden-accessed accesses.Pointer ks text made_in t st p =
-    one-hidden text (ks ++ hidden ∷ []) (with_candidate made_in t st).candidates (candidate made_in (pointer t))
-    (one-hidden text ks st.candidates (candidate made_in t) p)
-hidden-accessed accesses.Lvalue ks text made_in t st p =
-    one-hidden text (ks ++ hidden ∷ []) (with_candidate made_in t st).candidates (candidate made_in (lvalue t))
-    (one-hidden text ks st.candidates (candidate made_in t) p)
+hidden-accessed : (detail : Detail) (access : Access) (ks : List Candidate) (text : List ℕ) (made_in : Around) (t : Term) (st : State)
+    → AreCandidates detail text ks st.candidates
+    → AreCandidates detail text (hidden_behind (is_marked access) ks) (with_accessed access made_in t st).candidates
+hidden-accessed detail accesses.Plain ks text made_in t st p = one-hidden detail text ks st.candidates (candidate made_in t) p
+hidden-accessed detail accesses.Pointer ks text made_in t st p =
+    one-hidden detail text (ks ++ hidden ∷ []) (with_candidate made_in t st).candidates (candidate made_in (pointer t))
+    (one-hidden detail text ks st.candidates (candidate made_in t) p)
+hidden-accessed detail accesses.Lvalue ks text made_in t st p =
+    one-hidden detail text (ks ++ hidden ∷ []) (with_candidate made_in t st).candidates (candidate made_in (lvalue t))
+    (one-hidden detail text ks st.candidates (candidate made_in t) p)
 
 with-hidden : (w : Direct) (b : Bool) → with_hidden w b ≡ hidden_behind b w.candidates.list.items
 with-hidden w true = refl
@@ -141,9 +143,9 @@ array-written s w begun first second third last access from to p size text candi
     let bytes = p.bytes ++ opening ++ digits ++ codes "]" in
     let then_ = with_accessed access p.made_in own p.state in
     let is : size ≡ digits = size_is ∙ ap (λ l. values.normal l) p.size in
-    let known : AreCandidates begun.text.list.items begun.candidates.list.items p.state.candidates =
-    subst (λ v. AreCandidates v.list.items begun.candidates.list.items p.state.candidates) (sym text)
-    (subst (λ v. AreCandidates w.text.list.items v.list.items p.state.candidates) (sym candidates) p.candidates) in
+    let known : AreCandidates (detail_of s) begun.text.list.items begun.candidates.list.items p.state.candidates =
+    subst (λ v. AreCandidates (detail_of s) v.list.items begun.candidates.list.items p.state.candidates) (sym text)
+    (subst (λ v. AreCandidates (detail_of s) w.text.list.items v.list.items p.state.candidates) (sym candidates) p.candidates) in
     let grown : third.text.list.items ≡ p.front ++ bytes =
     three.text ∙ ap (λ l. l ++ codes "]") (two.text ∙ ap (λ l. first.text.list.items ++ l) is
     ∙ ap (λ l. l ++ digits) (one.text ∙ ap (λ v. v.list.items ++ opening) text ∙ ap (λ l. l ++ opening) p.written))
@@ -151,13 +153,13 @@ array-written s w begun first second third last access from to p size text candi
     let written : last.text.list.items ≡ p.front ++ bytes = ap (λ v. v.list.items) same_text ∙ grown in
     let open_is : reverse last.waiting.list.items ≡ p.rest =
     ap (λ v. reverse v.list.items) (same_waits ∙ three.waiting ∙ two.waiting ∙ one.waiting) ∙ waits in
-    let there = candidates-written second third (codes "]") p.state.candidates three
-    (candidates-written first second size p.state.candidates two (candidates-written begun first opening p.state.candidates one known)) in
+    let there = candidates-written (detail_of s) second third (codes "]") p.state.candidates three
+    (candidates-written (detail_of s) first second size p.state.candidates two (candidates-written (detail_of s) begun first opening p.state.candidates one known)) in
     record {
       state = then_;
-      candidates = subst (λ v. AreCandidates v.list.items last.candidates.list.items then_.candidates) (sym same_text)
-          (subst (λ ks. AreCandidates third.text.list.items ks then_.candidates) (sym (more ∙ with-hidden third (is_marked access)))
-          (hidden-accessed access third.candidates.list.items third.text.list.items p.made_in own p.state there));
+      candidates = subst (λ v. AreCandidates (detail_of s) v.list.items last.candidates.list.items then_.candidates) (sym same_text)
+          (subst (λ ks. AreCandidates (detail_of s) third.text.list.items ks then_.candidates) (sym (more ∙ with-hidden third (is_marked access)))
+          (hidden-accessed (detail_of s) access third.candidates.list.items third.text.list.items p.made_in own p.state there));
       os = p.outer;
       own = whole;
       front = p.front;

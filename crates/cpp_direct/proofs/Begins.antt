@@ -61,7 +61,7 @@ encoding-awaited s w no_text no_candidate starts at_is apart =
     let opened_ = symbol-starts s starts in
     record {
       state = first_state;
-      candidates = subst (λ ks. AreCandidates w.text.list.items ks []) (sym no_candidate) tt;
+      candidates = subst (λ ks. AreCandidates (detail_of s) w.text.list.items ks []) (sym no_candidate) tt;
       around = first_around;
       outer = opened_.inner;
       begins = λ none. at_is ∙ sym (ap (λ b. cond b 3 2) apart);
@@ -109,7 +109,7 @@ thunk-awaited : (s : Symbol) (opened_ : SymbolOpened s) (by : Adjustment) (w : D
 unfolding first_state
 thunk-awaited s opened_ by w apart thunk_ text_is no_candidate = record {
   state = first_state;
-  candidates = subst (λ ks. AreCandidates w.text.list.items ks []) (sym no_candidate) tt;
+  candidates = subst (λ ks. AreCandidates (detail_of s) w.text.list.items ks []) (sym no_candidate) tt;
   around = in_name 2;
   outer = thunk_.inner;
   begins = λ none. absurd (thunk-text by (sym text_is ∙ none));
@@ -203,7 +203,7 @@ special-begins s w letter starts stands at_is written filled none_ waiting =
     let here = special-opens s opened_.inner first_around letter 2 first_state (special-known letter filled) opened_.awaits stands in
     record {
       state = first_state;
-      candidates = subst (λ ks. AreCandidates w.text.list.items ks []) (sym none_) tt;
+      candidates = subst (λ ks. AreCandidates (detail_of s) w.text.list.items ks []) (sym none_) tt;
       is_before = (
         here.inner,
         in_name 2,

@@ -1,5 +1,6 @@
 -- A type that names an argument of a function's template is read, and handed on.
-use Rattle.cpp_direct.specs.Symbol.{Symbol}
+use Rattle.sym_print.specs.declared.detail.Detail.{Detail}
+use Rattle.cpp_direct.specs.Symbol.{detail_of, Symbol}
 use Rattle.cpp_direct.proofs.EnclosingFunctions.{parameter-got-within}
 use Rattle.cpp_direct.proofs.Handed.{front-got, parameter-got}
 use Rattle.cpp_direct.proofs.Kept.{candidate-found, candidate-stays, candidates-more, candidates-stay, candidates-written, piece-found}
@@ -133,24 +134,25 @@ unfolding argument types_of indexed
 argument-is name all k e = rw e refl
 
 -- what prints after the argument prints so in the types of the name that has it
-behind-argument : (text : List ℕ) (size : ℕ) (p : Argument) (number : ℕ) (name t : Term) (bytes marks : List ℕ) (r : Bool) → IsArgument text size p number name → IsPlain p
-    → IsPlaced text p bytes → PrintsBehind number t marks r → PrintsIn (types_of name) 2 t (bytes ++ marks) r
-behind-argument text size p number name t bytes marks r a plain placed behind =
+behind-argument : {detail : Detail} (text : List ℕ) (size : ℕ) (p : Argument) (number : ℕ) (name t : Term) (bytes marks : List ℕ) (r : Bool)
+    → IsArgument detail text size p number name → IsPlain p
+    → IsPlaced text p bytes → PrintsBehind detail number t marks r → PrintsIn detail (types_of name) 2 t (bytes ++ marks) r
+behind-argument {detail} text size p number name t bytes marks r a plain placed behind =
     behind (types_of name) bytes
-    (subst (λ own. Prints own bytes false)
+    (subst (λ own. Prints detail own bytes false)
     (sym (argument-is name a.all number a.all_are ∙ (a.there plain.1).0))
-    (subst (λ k. Prints a.own bytes k) plain.2
-    (subst (λ l. Prints a.own l p.is_reference) (same-placed text p a.bytes bytes a.placed placed) a.prints)))
+    (subst (λ k. Prints detail a.own bytes k) plain.2
+    (subst (λ l. Prints detail a.own l p.is_reference) (same-placed text p a.bytes bytes a.placed placed) a.prints)))
 
 same-place : (p q : Arguments) → ◌≡◌ {A = Option Arguments} (Some p) (Some q) → p ≡ q
 same-place p q e = cc e
 
 -- what is named is an argument of that name
-named-one : (text : List ℕ) (p q : Arguments) (k : ℕ) (name : Term) → p ≡ q → HasArguments text p name → IsKnown (place_of q k)
-    → IsArgument text q.elements (place_of q k) k name
-named-one text p q k name e has known = subst (λ (a : Arguments). HasArguments text a name) e has k known
+named-one : {detail : Detail} (text : List ℕ) (p q : Arguments) (k : ℕ) (name : Term) → p ≡ q → HasArguments detail text p name → IsKnown (place_of q k)
+    → IsArgument detail text q.elements (place_of q k) k name
+named-one {detail} text p q k name e has known = subst (λ (a : Arguments). HasArguments detail text a name) e has k known
 
-placed-at : (text : List ℕ) (p q : Arguments) (k : ℕ) (name : Term) → p ≡ q → HasArguments text p name → IsKnown (place_of q k)
+placed-at : {detail : Detail} (text : List ℕ) (p q : Arguments) (k : ℕ) (name : Term) → p ≡ q → HasArguments detail text p name → IsKnown (place_of q k)
     → (bytes : List ℕ) × IsPlaced text (place_of q k) bytes
 placed-at text p q k name e has known = let h = named-one text p q k name e has known in (h.bytes, h.placed)
 
@@ -188,9 +190,10 @@ argument-within s w all k p a found is known =
     subst (λ (j : Argument). j.to ≤ length w.text.list.items) (sym is) inside
 
 -- a type that names an argument becomes a candidate, with the text after the argument's
-dependent-candidate : (text : List ℕ) (w : Direct) (st : State) (front marks : List ℕ) (begins k : ℕ) (made_in : Around) (place : ℕ) (r : Bool) (t : Term) → w.text.list.items ≡ text
-    → AreCandidates text w.candidates.list.items st.candidates → text ≡ front ++ marks → begins ≡ length front → NamesArgument k t marks r → (place ≢ 0 → made_in.encoding ≡ place)
-    → AreCandidates text (with_dependent w begins r k place) (with_candidate made_in t st).candidates
+dependent-candidate : {detail : Detail} (text : List ℕ) (w : Direct) (st : State) (front marks : List ℕ) (begins k : ℕ) (made_in : Around) (place : ℕ) (r : Bool) (t : Term) → w.text.list.items ≡ text
+    → AreCandidates detail text w.candidates.list.items st.candidates → text ≡ front ++ marks → begins ≡ length front → NamesArgument detail k t marks r
+    → (place ≢ 0 → made_in.encoding ≡ place)
+    → AreCandidates detail text (with_dependent w begins r k place) (with_candidate made_in t st).candidates
 dependent-candidate text w st front marks begins k made_in place r t same known written begins_is names encoding_is =
     candidates-more text w.candidates.list.items st.candidates
     (record { from = begins; to = length w.text.list.items; is_reference = r; is_dependent = true; number = k; encoding = place }) (candidate made_in t) known
@@ -229,11 +232,11 @@ parameter-done s old mid new all k p a few letter line found is plain_ text cand
     let open_is : new.waiting ≡ old.waiting = same_waits ∙ waits in
     record {
       state = later;
-      candidates = subst (λ l. AreCandidates l new.candidates.list.items later.candidates) (sym written)
-          (subst (λ ks. AreCandidates (old.text.list.items ++ h.0) ks later.candidates) (sym more)
+      candidates = subst (λ l. AreCandidates (detail_of s) l new.candidates.list.items later.candidates) (sym written)
+          (subst (λ ks. AreCandidates (detail_of s) (old.text.list.items ++ h.0) ks later.candidates) (sym more)
           (dependent-candidate (old.text.list.items ++ h.0) mid a.state (old.text.list.items ++ h.0) [] begins k a.around all.encoding false (parameter k) grown
-          (subst (λ v. AreCandidates (old.text.list.items ++ h.0) v.list.items a.state.candidates) (sym candidates)
-          (candidates-stay old.text.list.items h.0 old.candidates.list.items a.state.candidates a.candidates))
+          (subst (λ v. AreCandidates (detail_of s) (old.text.list.items ++ h.0) v.list.items a.state.candidates) (sym candidates)
+          (candidates-stay (detail_of s) old.text.list.items h.0 old.candidates.list.items a.state.candidates a.candidates))
           (sym (append-nil (old.text.list.items ++ h.0))) begins_at (parameter-prints k) (λ real. (scope.1 real).0)));
       is_before = (
         a.os,
@@ -292,7 +295,7 @@ dependent-again s w one two k all place begins p found real made is plain_ first
     let again = piece-found (old ++ h.0) it.front it.bytes it.back k.from k.to it.written it.from_is it.to_is in
     let written : two.text.list.items ≡ old ++ h.0 ++ it.bytes =
     second.text ∙ ap (λ l. l ++ take (k.to - k.from) (drop k.from l)) grown ∙ ap (λ l. old ++ h.0 ++ l) again.2 in
-    let names : NamesArgument k.number c.0.tree it.bytes k.is_reference × (k.encoding ≢ 0 → c.0.encoding ≡ k.encoding) = subst (λ b. PrintsOrNames b k c.0 it.bytes) p.is it.prints in
+    let names : NamesArgument (detail_of s) k.number c.0.tree it.bytes k.is_reference × (k.encoding ≢ 0 → c.0.encoding ≡ k.encoding) = subst (λ b. PrintsOrNames (detail_of s) b k c.0 it.bytes) p.is it.prints in
     let scoped = a.scoped all found k.number plain.0 in
     let scope = subst (λ j. IsScope k.number j a.around) plain.1 scoped.0 in
     let at_place = scoped.1 (λ none_. real (made ∙ none_)) in
@@ -304,8 +307,8 @@ dependent-again s w one two k all place begins p found real made is plain_ first
     let open_is : two.waiting ≡ w.waiting = second.waiting ∙ first.waiting in
     record {
       state = a.state;
-      candidates = candidates-written one two (take (k.to - k.from) (drop k.from one.text.list.items)) a.state.candidates second
-          (candidates-written w one (take (place.to - place.from) (drop place.from old)) a.state.candidates first a.candidates);
+      candidates = candidates-written (detail_of s) one two (take (k.to - k.from) (drop k.from one.text.list.items)) a.state.candidates second
+          (candidates-written (detail_of s) w one (take (place.to - place.from) (drop place.from old)) a.state.candidates first a.candidates);
       is_before = (
         a.os,
         c.0.tree,
@@ -332,7 +335,7 @@ pub dependent-marked : (s : Symbol) (w : Direct) (is_reference marked_reference 
     → IsWriting s w (steps.Dependent is_reference begins number place) → slice_get w.waiting.list.items (length w.waiting.list.items - 1) ≡ Some entry
     → ((rest : List Open) (os : List Opened) (text : List ℕ) → Stands s (entry ∷ rest) os text → Marks s (Stands s rest) (argument_of rest) os text from made)
     → ((rest : List Open) → argument_of (entry ∷ rest) ≡ argument_of rest)
-    → ((k : ℕ) (t : Term) (m : List ℕ) → NamesArgument k t m is_reference → NamesArgument k (made t) (m ++ mark) marked_reference)
+    → ((k : ℕ) (t : Term) (m : List ℕ) → NamesArgument (detail_of s) k t m is_reference → NamesArgument (detail_of s) k (made t) (m ++ mark) marked_reference)
     → AwaitsDependentMark s w mark marked_reference begins number place
 dependent-marked s w is_reference marked_reference begins number place entry from made mark p found stands_as argument_as prints_as =
     let b = p.is_before in
@@ -377,11 +380,11 @@ dependent-mark-done s old mid new mark r begins number place a waits text candid
     ap (λ l. l ++ mark) a.written ∙ append_assoc (a.front ++ a.bytes) a.marks mark in
     record {
       state = later;
-      candidates = subst (λ l. AreCandidates l new.candidates.list.items later.candidates) (sym written)
-          (subst (λ ks. AreCandidates (old.text.list.items ++ mark) ks later.candidates) (sym more)
+      candidates = subst (λ l. AreCandidates (detail_of s) l new.candidates.list.items later.candidates) (sym written)
+          (subst (λ ks. AreCandidates (detail_of s) (old.text.list.items ++ mark) ks later.candidates) (sym more)
           (dependent-candidate (old.text.list.items ++ mark) mid a.state (a.front ++ a.bytes) (a.marks ++ mark) begins number a.made_in place r a.made text
-          (subst (λ v. AreCandidates (old.text.list.items ++ mark) v.list.items a.state.candidates) (sym candidates)
-          (candidates-stay old.text.list.items mark old.candidates.list.items a.state.candidates a.candidates))
+          (subst (λ v. AreCandidates (detail_of s) (old.text.list.items ++ mark) v.list.items a.state.candidates) (sym candidates)
+          (candidates-stay (detail_of s) old.text.list.items mark old.candidates.list.items a.state.candidates a.candidates))
           marked a.begins_is a.prints a.encoding_is));
       is_before = (
         a.outer,

@@ -1,10 +1,11 @@
 -- An argument that is a literal was read.
+use Rattle.sym_print.specs.declared.detail.Detail.{Detail}
 use Rattle.std.proofs.Common.{◌≡◌, ◌≢◌, ℕ, ◌+◌, ◌⊎◌, List, [], ◌∷◌, ◌++◌, length, reverse, nat_eq, Bool, true, false, cond, refl, ap, sym, subst, ◌∙◌, arith, codes, append_assoc, append-nil, drop, length-append, ◌-◌, inl, inr}
 use Rattle.std.proofs.lemmas.Bool.{false≢true}
 use Rattle.std.specs.List.{ends_with}
 use Rattle.std.specs.Cmp.Lexicographic.{pointwise}
 use Rattle.std.proofs.Math.Seq.{drop-append_seam}
-use Rattle.cpp_direct.specs.Symbol.{Symbol}
+use Rattle.cpp_direct.specs.Symbol.{detail_of, Symbol}
 use Rattle.cpp_direct.specs.HolesOfTypes.{TreeOpens}
 use Rattle.cpp_grammar.specs.declared.kind.Kind.{Kind}
 use Rattle.cpp_grammar.specs.Parts.{is_plain_integer}
@@ -36,19 +37,19 @@ use Rattle.cpp_direct.proofs.FoundTokens.{reads-then}
 -- ## Elements
 
 -- an element was read and written that is no type
-pub element-read : (s : Symbol) (old new : Direct) (t : Term) (bytes : List ℕ) (a : AwaitsNextArgument s old) → Prints t bytes false
+pub element-read : (s : Symbol) (old new : Direct) (t : Term) (bytes : List ℕ) (a : AwaitsNextArgument s old) → Prints (detail_of s) t bytes false
     → Reads old new bytes → ListGoesOn s (element_kind a.place.listing) a.goes.1 a.goes.0 t new.at a.state → IsWriting s new (steps.List false)
 element-read s old new t bytes a prints reads g =
     let p = a.place in
     let extra = extra_of p.listing in
     record {
       state = a.state;
-      candidates = candidates-read old new bytes a.state.candidates reads a.candidates;
+      candidates = candidates-read (detail_of s) old new bytes a.state.candidates reads a.candidates;
       is_before = (
         listing-at (reverse old.waiting.list.items) old.text.list.items (reverse new.waiting.list.items) new.text.list.items p
-            (subst (λ v. Belongs p.listing (reverse v.list.items) p.owner p.rest) (sym reads.waiting) p.belongs)
-            (subst (λ l. IsTemplate p.owner p.front p.template p.name l) (sym reads.text)
-            (template-stays p.owner p.front p.template p.name old.text.list.items bytes p.is_template)),
+            (subst (λ v. Belongs (detail_of s) p.listing (reverse v.list.items) p.owner p.rest) (sym reads.waiting) p.belongs)
+            (subst (λ l. IsTemplate (detail_of s) p.owner p.front p.template p.name l) (sym reads.text)
+            (template-stays (detail_of s) p.owner p.front p.template p.name old.text.list.items bytes p.is_template)),
         a.ts ++ t ∷ [],
         in_front_of_next a.ts a.texts ++ bytes,
         next-prints extra a.ts a.texts t bytes a.elements (type-element extra t bytes false prints),
@@ -83,23 +84,23 @@ boolean-element-read s old begun middle new a first next nothing read ended =
     let whole = stands-join s.bytes old.at (76 ∷ 98 ∷ d ∷ []) (69 ∷ []) (stands-join s.bytes old.at (76 ∷ []) (98 ∷ d ∷ []) first second) last in
     let behind : old.at + 4 ≡ new.at = omega (arith, next, read.3, ended.1) in
     element-read s old new (boolean (nat_eq d 49)) (written ++ []) a
-    (subst (λ l. Prints (boolean (nat_eq d 49)) l false) (truth-is (nat_eq d 49) ∙ sym (append-nil written)) (boolean-prints (nat_eq d 49)))
+    (subst (λ l. Prints (detail_of s) (boolean (nat_eq d 49)) l false) (truth-is (nat_eq d 49) ∙ sym (append-nil written)) (boolean-prints (nat_eq d 49)))
     (reads-then old middle new written [] (reads-then old begun middle [] written nothing read.4) ended.2)
     (subst (λ n. ListGoesOn s (element_kind a.place.listing) a.goes.1 a.goes.0 (boolean (nat_eq d 49)) n a.state) behind
     (bool-element s (element_kind a.place.listing) a.goes.1 a.goes.0 d old.at a.state (element-kind a.place.listing) read.1 a.goes.3 whole))
 
-integer-prints : (letter : ℕ) (n : Bool) (ds : List ℕ) → is_integer_letter letter ≡ true → ds ≢ []
-    → Prints (integer (builtin (letter ∷ [])) (signed_digits n ds)) (integer_text letter (signed_digits n ds)) false
+integer-prints : {detail : Detail} (letter : ℕ) (n : Bool) (ds : List ℕ) → is_integer_letter letter ≡ true → ds ≢ []
+    → Prints detail (integer (builtin (letter ∷ [])) (signed_digits n ds)) (integer_text letter (signed_digits n ds)) false
 unfolding is_integer_letter among signed_digits
-integer-prints letter n ds is filled = go (is_plain_integer (builtin (letter ∷ []))) refl
+integer-prints {detail} letter n ds is filled = go (is_plain_integer (builtin (letter ∷ []))) refl
   where
     go : (b : Bool) → is_plain_integer (builtin (letter ∷ [])) ≡ b
-        → Prints (integer (builtin (letter ∷ [])) (signed_digits n ds)) (elim b [
+        → Prints detail (integer (builtin (letter ∷ [])) (signed_digits n ds)) (elim b [
           | true ↦ number_text (signed_digits n ds) ++ look_up (letter ∷ []) literal_endings
           | false ↦ codes "(" ++ look_up (letter ∷ []) builtin_texts ++ codes ")" ++ number_text (signed_digits n ds)
         ]) false
     go true e = plain-integer-prints letter e (signed_digits n ds) (normal-filled ds filled)
-    go false e = subst (λ l. Prints (integer (builtin (letter ∷ [])) (signed_digits n ds)) l false)
+    go false e = subst (λ l. Prints detail (integer (builtin (letter ∷ [])) (signed_digits n ds)) l false)
         (append_assoc (codes "(" ++ look_up (letter ∷ []) builtin_texts ++ codes ")") (sign_text (signed_digits n ds)) (normal ds))
         (cast-integer-prints letter e (integer-there letter is) (signed_digits n ds) (normal-filled ds filled))
 
@@ -119,7 +120,7 @@ integer-element-read s old begun middle new a first next nothing read ended =
     let there : begun.at + 1 + length (minus_sign negative) ≡ old.at + length (76 ∷ letter ∷ minus_sign negative) = omega (arith, next) in
     let filled : ds ≢ [] = λ none. absurd (omega (arith, read.5.is_number.digits.1, ap length read.5.own, ap (λ (l : List ℕ). length l) none)) in
     element-read s old new t (written ++ []) a
-    (subst (λ l. Prints t l false) (sym (append-nil written)) (integer-prints letter negative ds read.3 filled))
+    (subst (λ l. Prints (detail_of s) t l false) (sym (append-nil written)) (integer-prints letter negative ds read.3 filled))
     (reads-then old middle new written [] (reads-then old begun middle [] written nothing read.6) ended.2)
     (subst (λ n. ListGoesOn s (element_kind a.place.listing) a.goes.1 a.goes.0 t n a.state) (sym ended.1)
     (integer-element s (element_kind a.place.listing) a.goes.1 a.goes.0 letter negative ds old.at middle.at a.state (element-kind a.place.listing) read.3 a.goes.3 whole
@@ -141,9 +142,9 @@ enumerator-expected s old begun pushed new a stands next nothing writes text can
     waits ∙ ap (λ v. v.list.items ++ opens.Enumerator ∷ []) (writes.waiting ∙ nothing.waiting) in
     record {
       state = a.state;
-      candidates = subst (λ v. AreCandidates new.text.list.items v.list.items a.state.candidates) (sym (candidates ∙ writes.candidates ∙ nothing.candidates))
-          (subst (λ l. AreCandidates l old.candidates.list.items a.state.candidates) (sym written)
-          (candidates-stay old.text.list.items (codes "(") old.candidates.list.items a.state.candidates a.candidates));
+      candidates = subst (λ v. AreCandidates (detail_of s) new.text.list.items v.list.items a.state.candidates) (sym (candidates ∙ writes.candidates ∙ nothing.candidates))
+          (subst (λ l. AreCandidates (detail_of s) l old.candidates.list.items a.state.candidates) (sym written)
+          (candidates-stay (detail_of s) old.text.list.items (codes "(") old.candidates.list.items a.state.candidates a.candidates));
       kind = Kind.LiteralType;
       is_named = tt;
       around = a.goes.0;
@@ -154,8 +155,8 @@ enumerator-expected s old begun pushed new a stands next nothing writes text can
           (sym (ap reverse waiting ∙ reverse-last old.waiting.list.items opens.Enumerator))
           (enumerator-stands s (reverse old.waiting.list.items) new.text.list.items e.inner
           (listing-at (reverse old.waiting.list.items) old.text.list.items (reverse old.waiting.list.items) new.text.list.items p p.belongs
-          (subst (λ l. IsTemplate p.owner p.front p.template p.name l) (sym written)
-          (template-stays p.owner p.front p.template p.name old.text.list.items (codes "(") p.is_template)))
+          (subst (λ l. IsTemplate (detail_of s) p.owner p.front p.template p.name l) (sym written)
+          (template-stays (detail_of s) p.owner p.front p.template p.name old.text.list.items (codes "(") p.is_template)))
           a.ts a.texts a.elements (written ∙ ap (λ l. l ++ codes "(") a.written)
           (λ t here now comes negative digits end minus digits_there ended.
           element-goes-on s (element_kind p.listing) (λ l now then. Closes s p.listing p.owner (Stands s p.rest) p.front p.template l now then)
@@ -222,16 +223,16 @@ enumerator-read s old begun pushed middle new a other text candidates at waits w
     (no-integer-type old.text.list.items (front ++ before) a.bytes a.written other)) n (normal-filled ds filled) in
     record {
       state = a.state;
-      candidates = subst (λ v. AreCandidates new.text.list.items v.list.items a.state.candidates)
+      candidates = subst (λ v. AreCandidates (detail_of s) new.text.list.items v.list.items a.state.candidates)
           (sym (ended.2.candidates ∙ read.4.candidates ∙ writes.candidates ∙ candidates))
-          (subst (λ l. AreCandidates l old.candidates.list.items a.state.candidates) (sym wrote)
-          (candidates-stay old.text.list.items more old.candidates.list.items a.state.candidates a.candidates));
+          (subst (λ l. AreCandidates (detail_of s) l old.candidates.list.items a.state.candidates) (sym wrote)
+          (candidates-stay (detail_of s) old.text.list.items more old.candidates.list.items a.state.candidates a.candidates));
       is_before = (
         listing-at a.opened old.text.list.items (reverse new.waiting.list.items) new.text.list.items p
-            (subst (λ ws. Belongs p.listing ws p.owner p.rest)
+            (subst (λ ws. Belongs (detail_of s) p.listing ws p.owner p.rest)
             (sym (ap (λ v. reverse v.list.items) (ended.2.waiting ∙ read.4.waiting ∙ writes.waiting) ∙ waits)) p.belongs)
-            (subst (λ l. IsTemplate p.owner p.front p.template p.name l) (sym wrote)
-            (template-stays p.owner p.front p.template p.name old.text.list.items more p.is_template)),
+            (subst (λ l. IsTemplate (detail_of s) p.owner p.front p.template p.name l) (sym wrote)
+            (template-stays (detail_of s) p.owner p.front p.template p.name old.text.list.items more p.is_template)),
         a.ts ++ t ∷ [],
         before ++ own,
         next-prints extra a.ts a.texts t own a.elements (type-element extra t own false prints),

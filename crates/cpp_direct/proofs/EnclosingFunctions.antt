@@ -2,7 +2,6 @@
 use Rattle.std.proofs.Common.{◌≡◌, ◌≢◌, refl, ap, sym, ◌∙◌, subst, inl, inr, ℕ, ◌+◌, List, [], ◌∷◌, ◌++◌, length, reverse, true, false, Option, None, Some, arith, codes, append-nil, append_assoc}
 use Rattle.std.specs.Prelude.{decimal}
 use Rattle.std.proofs.lemmas.Fmt.{decimal_digit}
-use Rattle.sym_print.specs.declared.detail.Detail.TheVariants.{Full}
 use Rattle.cpp_grammar.specs.declared.kind.Kind.{Kind}
 use Rattle.cpp_grammar.specs.Grammar.{may_be_empty}
 use Rattle.cpp_grammar.specs.Term.{Term, function, alone, lambda, source, builtin, nil, list, absent}
@@ -18,7 +17,7 @@ use Rattle.cpp_direct.specs.declared.marks.MarkPlace.{MarkPlace}
 use Rattle.cpp_direct.specs.declared.open.Mark.{Mark}
 use Rattle.cpp_direct.specs.declared.open.Mark.TheVariants as marks
 use Rattle.cpp_direct.specs.declared.open.Arguments.{Arguments}
-use Rattle.cpp_direct.specs.Symbol.{Symbol}
+use Rattle.cpp_direct.specs.Symbol.{detail_of, Symbol}
 use Rattle.cpp_direct.specs.declared.open.Open.{Open}
 use Rattle.cpp_direct.specs.declared.open.Open.TheVariants as opens
 use Rattle.cpp_direct.specs.declared.open.Purpose.TheVariants as purposes
@@ -44,7 +43,8 @@ use Rattle.cpp_direct.proofs.MovesOfLists.{element-awaits}
 use Rattle.cpp_direct.proofs.MovesOfLocals.{lambda-opens, lambda-piece, lambda_bytes, local-type-opens, number-is}
 use Rattle.cpp_direct.proofs.Nesting.{nest-comes}
 use Rattle.cpp_direct.proofs.PrintedLists.{all-in, element-in, next-prints, next-prints-in, none-print, none-print-in}
-use Rattle.cpp_direct.proofs.PrintedLocals.{object-enclosing, returned-encloses}
+use Rattle.cpp_direct.proofs.PrintedParts.{has-none, has-parameters}
+use Rattle.cpp_direct.proofs.PrintedLocals.{function-encloses, name-encloses, object-enclosing, returned-enclosing}
 use Rattle.cpp_direct.proofs.PrintedNames.{as-name, source-prints}
 use Rattle.cpp_direct.proofs.PrintedSymbols.{encoding-plain, function-shows, encoding-returned, object-encoded, parameters-kept, void-shows}
 use Rattle.cpp_direct.proofs.PrintedWithin.{lambda-prints, lambda-list-prints, local-prints}
@@ -59,7 +59,7 @@ record NameOpened (s : Symbol) (below : Below) (front : List ℕ) (at : ℕ) (st
   pub inner : List Opened
   pub awaits : Expects s Kind.CompleteName (in_name at) inner at st
   pub onward : (text : List ℕ) (argument : Arguments) (v : Value) (here : ℕ) (now : State)
-      → HasArguments text argument (tree_of v) → argument.encoding ≡ 0 → Comes s inner v here now
+      → HasArguments (detail_of s) text argument (tree_of v) → argument.encoding ≡ 0 → Comes s inner v here now
       → ItemsGoOn s argument (TypeWithin s below front) (λ l. encoding_of v l) [] here now
 
 name-opens : (s : Symbol) (w : Direct) (a : AwaitsNamedType s w) → StandsAt s.bytes w.at (90 ∷ [])
@@ -149,9 +149,9 @@ source-within s old start new name from a letter same_text same_candidates same_
     let front = old.text.list.items in
     record {
       state = a.state;
-      candidates = candidates-read start new (source_text name) a.state.candidates reads
-          (subst (λ v. AreCandidates v.list.items start.candidates.list.items a.state.candidates) (sym same_text)
-          (subst (λ v. AreCandidates front v.list.items a.state.candidates) (sym same_candidates) a.candidates));
+      candidates = candidates-read (detail_of s) start new (source_text name) a.state.candidates reads
+          (subst (λ v. AreCandidates (detail_of s) v.list.items start.candidates.list.items a.state.candidates) (sym same_text)
+          (subst (λ v. AreCandidates (detail_of s) front v.list.items a.state.candidates) (sym same_candidates) a.candidates));
       own = own;
       v = tree own false;
       tree_is = refl;
@@ -171,7 +171,7 @@ source-within s old start new name from a letter same_text same_candidates same_
 
 -- a nested one is read
 pub name-within : (s : Symbol) (old : Direct) (st : State) (t : Term) (mark : Mark)
-    → AreCandidates old.text.list.items old.candidates.list.items st.candidates → IsNesting s Kind.NestTail old t st
+    → AreCandidates (detail_of s) old.text.list.items old.candidates.list.items st.candidates → IsNesting s Kind.NestTail old t st
     → has_return_type t ≡ false → StandsAt s.bytes old.at (69 ∷ [])
     → old.nest.purpose ≡ purposes.Enclosing mark → IsEnclosingNamed s (record old { at = old.at + 1 }) mark old.nest.from
 unfolding tree_of qualifiers_of ref_of
@@ -196,8 +196,8 @@ name-within s old st t mark candidates n no_return here is_name =
 
 -- an instance is read, whose return type is expected
 pub instance-within : (s : Symbol) (old : Direct) (st : State) (t : Term) (mark : Mark)
-    → AreCandidates old.text.list.items old.candidates.list.items st.candidates → IsNesting s Kind.NestTail old t st
-    → has_return_type t ≡ true → HasArguments old.text.list.items old.argument t → StandsAt s.bytes old.at (69 ∷ [])
+    → AreCandidates (detail_of s) old.text.list.items old.candidates.list.items st.candidates → IsNesting s Kind.NestTail old t st
+    → has_return_type t ≡ true → HasArguments (detail_of s) old.text.list.items old.argument t → StandsAt s.bytes old.at (69 ∷ [])
     → old.nest.purpose ≡ purposes.Enclosing mark → IsEnclosingInstance s (record old { at = old.at + 1 }) mark old.nest.from
 unfolding tree_of qualifiers_of ref_of
 instance-within s old st t mark candidates n returns names here is_name =
@@ -236,7 +236,7 @@ plain-awaits s w mark from p = record {
     returned = absent;
     makes = encoding-plain p.v mark p.own p.tree_is p.qualifiers_are p.mark_is p.no_return;
     prints = p.prints;
-    elements = none-print-in (types_of p.own) 6;
+    elements = none-print-in (detail_of s) (types_of p.own) 6;
     names = λ k o. absurd (none-known k o);
   };
   written = p.written;
@@ -268,7 +268,7 @@ returned-awaits s w n mark from letter p has stands at_is =
         returned = r;
         makes = λ t rest. encoding-returned p.v mark p.own p.tree_is p.qualifiers_are p.mark_is p.returns r (list t rest);
         prints = p.prints;
-        elements = none-print-in (types_of p.own) 6;
+        elements = none-print-in (detail_of s) (types_of p.own) 6;
         names = arguments-named w.text.list.items 0 w.argument p.own p.names;
       };
       written = p.written;
@@ -280,11 +280,11 @@ returned-awaits s w n mark from letter p has stands at_is =
 -- a parameter comes next
 parameter-expected : (s : Symbol) (w : Direct) (st : State) (mark : Mark) (from : ℕ) (argument : Arguments) (rest : List Open) (front : List ℕ)
     (make : Term → Term) (ts : List Term) (name texts : List ℕ)
-    → AreCandidates w.text.list.items w.candidates.list.items st.candidates → reverse w.waiting.list.items ≡ opens.Enclosing mark from argument ∷ rest
-    → IsEnclosing w.text.list.items argument mark make ts name texts → from ≡ length front
+    → AreCandidates (detail_of s) w.text.list.items w.candidates.list.items st.candidates → reverse w.waiting.list.items ≡ opens.Enclosing mark from argument ∷ rest
+    → IsEnclosing (detail_of s) w.text.list.items argument mark make ts name texts → from ≡ length front
     → w.text.list.items ≡ front ++ name ++ codes "(" ++ in_front_of_next ts texts
-    → ItemsGoOn s argument (TypeWithin s (Stands s rest) front) make ts w.at st → IsWriting s w steps.Type
-parameter-expected s w st mark from argument rest front make ts name texts candidates open_is is_enclosing from_is written p =
+    → ItemsGoOn s argument (TypeWithin s (Stands s rest) front) make ts w.at st → s.is_bare ≡ false → IsWriting s w steps.Type
+parameter-expected s w st mark from argument rest front make ts name texts candidates open_is is_enclosing from_is written p whole =
     let element = element-awaits s Kind.Items p.inner p.around w.at st tt p.awaits in
     let stands : Stands s (opens.Enclosing mark from argument ∷ rest) element.inner w.text.list.items = (
       front,
@@ -296,6 +296,7 @@ parameter-expected s w st mark from argument rest front make ts name texts candi
       from_is,
       written,
       λ t here now comes. parameter-goes_on s argument (TypeWithin s (Stands s rest) front) make ts w.at st p t here now (element.onward t here now comes),
+      whole,
     ) in
     record {
       state = st;
@@ -313,20 +314,21 @@ parameter-expected s w st mark from argument rest front make ts name texts candi
 -- the first one comes next
 pub first-within : (s : Symbol) (w first last : Direct) (mark : Mark) (from : ℕ) (argument : Arguments) → AwaitsEnclosingParameters s w mark from argument
     → Writes w first (codes "(") → last.text ≡ first.text → last.candidates ≡ first.candidates → last.at ≡ first.at
-    → last.waiting.list.items ≡ first.waiting.list.items ++ opens.Enclosing mark from argument ∷ [] → IsWriting s last steps.Type
-first-within s w first last mark from argument p one text candidates at waiting =
-    let known = candidates-written w first (codes "(") p.state.candidates one p.candidates in
-    let moved : AreCandidates last.text.list.items last.candidates.list.items p.state.candidates =
-    subst (λ l. AreCandidates l.list.items last.candidates.list.items p.state.candidates) (sym text)
-    (subst (λ l. AreCandidates first.text.list.items l.list.items p.state.candidates) (sym candidates) known) in
+    → last.waiting.list.items ≡ first.waiting.list.items ++ opens.Enclosing mark from argument ∷ [] → s.is_bare ≡ false
+    → IsWriting s last steps.Type
+first-within s w first last mark from argument p one text candidates at waiting whole =
+    let known = candidates-written (detail_of s) w first (codes "(") p.state.candidates one p.candidates in
+    let moved : AreCandidates (detail_of s) last.text.list.items last.candidates.list.items p.state.candidates =
+    subst (λ l. AreCandidates (detail_of s) l.list.items last.candidates.list.items p.state.candidates) (sym text)
+    (subst (λ l. AreCandidates (detail_of s) first.text.list.items l.list.items p.state.candidates) (sym candidates) known) in
     let grown : last.text.list.items ≡ w.text.list.items ++ codes "(" = ap (λ l. l.list.items) text ∙ one.text in
     parameter-expected s last p.state mark from argument (reverse w.waiting.list.items) p.front p.make [] p.name [] moved
     (ap reverse waiting ∙ reverse-last first.waiting.list.items (opens.Enclosing mark from argument)
     ∙ ap (λ v. opens.Enclosing mark from argument ∷ reverse v.list.items) one.waiting)
-    (subst (λ l. IsEnclosing l argument mark p.make [] p.name []) (sym grown)
+    (subst (λ l. IsEnclosing (detail_of s) l argument mark p.make [] p.name []) (sym grown)
     (enclosing-stays w.text.list.items (codes "(") argument mark p.make [] p.name [] p.is_enclosing)) p.from_is
     (grown ∙ ap (λ l. l ++ codes "(") p.written ∙ sym (append-nil (p.front ++ p.name ++ codes "(")))
-    (subst (λ n. ItemsGoOn s argument (TypeWithin s (Stands s (reverse w.waiting.list.items)) p.front) p.make [] n p.state) (sym (at ∙ one.at)) p.goes)
+    (subst (λ n. ItemsGoOn s argument (TypeWithin s (Stands s (reverse w.waiting.list.items)) p.front) p.make [] n p.state) (sym (at ∙ one.at)) p.goes) whole
 
 -- another one comes next
 pub next-within : (s : Symbol) (w last : Direct) (mark : Mark) (from : ℕ) (argument : Arguments) → IsEnclosingParameterRead s w mark from argument
@@ -334,19 +336,19 @@ pub next-within : (s : Symbol) (w last : Direct) (mark : Mark) (from : ℕ) (arg
 next-within s w last mark from argument p one =
     let front = p.front ++ p.name ++ codes "(" in
     parameter-expected s last p.state mark from argument p.rest p.front p.make p.ts p.name p.texts
-    (candidates-written w last (codes ", ") p.state.candidates one p.candidates)
+    (candidates-written (detail_of s) w last (codes ", ") p.state.candidates one p.candidates)
     (ap (λ l. reverse l.list.items) one.waiting ∙ p.open_is)
-    (subst (λ l. IsEnclosing l argument mark p.make p.ts p.name p.texts) (sym one.text)
+    (subst (λ l. IsEnclosing (detail_of s) l argument mark p.make p.ts p.name p.texts) (sym one.text)
     (enclosing-stays w.text.list.items (codes ", ") argument mark p.make p.ts p.name p.texts p.is_enclosing)) p.from_is
     (one.text ∙ ap (λ l. l ++ codes ", ") p.written ∙ append_assoc front p.texts (codes ", ")
     ∙ ap (λ l. front ++ l) (sym (next-written p.ts p.texts p.some)))
-    (subst (λ n. ItemsGoOn s argument (TypeWithin s (Stands s p.rest) p.front) p.make p.ts n p.state) (sym one.at) p.goes)
+    (subst (λ n. ItemsGoOn s argument (TypeWithin s (Stands s p.rest) p.front) p.make p.ts n p.state) (sym one.at) p.goes) p.whole
 
 -- one is read
 pub parameter-got-within : (s : Symbol) (w : Direct) (mark : Mark) (from : ℕ) (argument : Arguments) (st : State) (rest : List Open) (os : List Opened)
     (t : Term) (before bytes : List ℕ) (waits : Stands s (opens.Enclosing mark from argument ∷ rest) os before)
-    → AreCandidates w.text.list.items w.candidates.list.items st.candidates → reverse w.waiting.list.items ≡ opens.Enclosing mark from argument ∷ rest
-    → w.text.list.items ≡ before ++ bytes → Comes s os (tree t true) w.at st → IsElementIn (types_of waits.5.own) 6 t bytes
+    → AreCandidates (detail_of s) w.text.list.items w.candidates.list.items st.candidates → reverse w.waiting.list.items ≡ opens.Enclosing mark from argument ∷ rest
+    → w.text.list.items ≡ before ++ bytes → Comes s os (tree t true) w.at st → IsElementIn (detail_of s) (types_of waits.5.own) 6 t bytes
     → IsEnclosingParameterRead s w mark from argument
 parameter-got-within s w mark from argument st rest os t before bytes waits candidates open_is written comes element =
     let front = waits.0 in
@@ -371,11 +373,12 @@ parameter-got-within s w mark from argument st rest os t before bytes waits cand
         makes = is_enclosing.makes;
         prints = is_enclosing.prints;
         elements = next-prints-in (types_of is_enclosing.own) 6 ts texts t bytes is_enclosing.elements element;
-        names = subst (λ l. HasArguments l argument is_enclosing.own) (sym written)
+        names = subst (λ l. HasArguments (detail_of s) l argument is_enclosing.own) (sym written)
             (arguments-stay before bytes argument is_enclosing.own is_enclosing.names);
       };
       from_is = waits.6;
       written = written ∙ ap (λ l. l ++ bytes) waits.7 ∙ append_assoc (front ++ name ++ codes "(") (in_front_of_next ts texts) bytes;
+      whole = waits.9;
       goes = waits.8 t w.at st comes;
     }
 
@@ -393,9 +396,9 @@ unfolding no_items may_be_empty
 object-within s w mark from p =
     let b = p.name in
     let q = mark_text mark in
-    let shows : Shows Full (encoding_of p.v nil) (b ++ q) =
-    subst (λ l. Shows Full (encoding_of p.v nil) (b ++ l)) (qualifiers-text p.v mark p.qualifiers_are p.mark_is)
-    (object-encoded p.v b (subst (λ t. PrintsName t b) (sym p.tree_is) p.prints)) in
+    let shows : Shows (detail_of s) (encoding_of p.v nil) (b ++ q) =
+    subst (λ l. Shows (detail_of s) (encoding_of p.v nil) (b ++ l)) (qualifiers-text p.v mark p.qualifiers_are p.mark_is)
+    (object-encoded p.v b (subst (λ t. PrintsName (detail_of s) t b) (sym p.tree_is) p.prints)) in
     record {
       state = p.state;
       candidates = p.candidates;
@@ -404,7 +407,7 @@ object-within s w mark from p =
       bytes = b ++ q;
       written = ap (λ l. l ++ q) p.written ∙ behind-two p.front b q;
       from_is = p.from_is;
-      encloses = object-enclosing Full p.v (b ++ q) shows;
+      encloses = object-enclosing (detail_of s) p.v (b ++ q) shows;
       within = p.goes.onward nothing_there w.at p.state (expects-empty s Kind.Items p.goes.around p.goes.inner w.at p.state p.goes.awaits refl);
     }
 
@@ -428,32 +431,57 @@ enclosed-with own returned mark make makes (t ∷ ts) some kept =
 pub void-within : (s : Symbol) (w here new : Direct) (mark : Mark) (from : ℕ) (argument : Arguments) → AwaitsEnclosingParameters s w mark from argument
     → StandsAt s.bytes w.at (118 ∷ [])
     → here.text ≡ w.text → here.candidates ≡ w.candidates → here.waiting ≡ w.waiting → here.at ≡ w.at + 1 → Writes here new (codes "()")
-    → IsEnclosingRead s new mark from
-void-within s w here new mark from argument p stands text candidates waiting at one =
+    → s.is_bare ≡ false → IsEnclosingRead s new mark from
+void-within s w here new mark from argument p stands text candidates waiting at one whole =
     let f = p.is_enclosing in
     let b = p.name in
     let q = mark_text mark in
     let e = p.make (list_of (builtin (118 ∷ []) ∷ [])) in
     let below = Stands s (reverse w.waiting.list.items) in
-    let shows : Shows Full (function f.own (qualifiers (has_const mark)) (called_on mark) absent nil) (b ++ codes "()" ++ q) =
-    subst (λ l. Shows Full (function f.own (qualifiers (has_const mark)) (called_on mark) absent nil) (b ++ codes "()" ++ l)) (plain-text mark)
-    (void-shows f.own b f.prints (qualifiers (has_const mark)) (called_on mark)) in
+    let shows : Shows (detail_of s) (function f.own (qualifiers (has_const mark)) (called_on mark) absent nil) (b ++ codes "()" ++ q) =
+    subst (λ l. Shows (detail_of s) (function f.own (qualifiers (has_const mark)) (called_on mark) absent nil) (b ++ codes "()" ++ l)) (plain-text mark)
+    (void-shows (has-parameters s whole) f.own b f.prints (qualifiers (has_const mark)) (called_on mark)) in
     record {
       state = p.state;
-      candidates = candidates-written here new (codes "()") p.state.candidates one
-          (subst (λ v. AreCandidates v.list.items here.candidates.list.items p.state.candidates) (sym text)
-          (subst (λ v. AreCandidates w.text.list.items v.list.items p.state.candidates) (sym candidates) p.candidates));
+      candidates = candidates-written (detail_of s) here new (codes "()") p.state.candidates one
+          (subst (λ v. AreCandidates (detail_of s) v.list.items here.candidates.list.items p.state.candidates) (sym text)
+          (subst (λ v. AreCandidates (detail_of s) w.text.list.items v.list.items p.state.candidates) (sym candidates) p.candidates));
       e = e;
       front = p.front;
       bytes = b ++ codes "()" ++ q;
       written = ap (λ l. l ++ q) (one.text ∙ ap (λ v. v.list.items ++ codes "()") text ∙ ap (λ l. l ++ codes "()") p.written)
           ∙ behind-three p.front b (codes "()") q;
       from_is = p.from_is;
-      encloses = subst (λ t. Encloses Full t (b ++ codes "()" ++ q)) (sym (enclosed-void f.own f.returned mark p.make f.makes))
-          (returned-encloses f.own (qualifiers (has_const mark)) (called_on mark) f.returned nil (b ++ codes "()" ++ q) shows);
+      encloses = subst (λ t. Encloses (detail_of s) t (b ++ codes "()" ++ q)) (sym (enclosed-void f.own f.returned mark p.make f.makes))
+          (returned-enclosing (detail_of s) f.own (qualifiers (has_const mark)) (called_on mark) f.returned nil (b ++ codes "()" ++ q)
+          (function-encloses (detail_of s) f.own (qualifiers (has_const mark)) (called_on mark) nil (b ++ codes "()" ++ q) shows));
       within = subst (λ v. TypeWithin s (Stands s (reverse v.list.items)) p.front e new.at p.state) (sym (one.waiting ∙ waiting))
           (subst (λ n. TypeWithin s below p.front e n p.state) (sym (one.at ∙ at))
           (void-read s argument (TypeWithin s below p.front) p.make w.at p.state p.goes stands));
+    }
+
+-- where functions are shown by their names alone, nothing more is written of it
+pub void-unwritten : (s : Symbol) (w here : Direct) (mark : Mark) (from : ℕ) (argument : Arguments) → AwaitsEnclosingParameters s w mark from argument
+    → StandsAt s.bytes w.at (118 ∷ [])
+    → here.text ≡ w.text → here.candidates ≡ w.candidates → here.waiting ≡ w.waiting → here.at ≡ w.at + 1 → s.is_bare ≡ true
+    → IsEnclosingRead s here marks.Plain from
+void-unwritten s w here mark from argument p stands text candidates waiting at bare =
+    let f = p.is_enclosing in
+    let e = p.make (list_of (builtin (118 ∷ []) ∷ [])) in
+    let below = Stands s (reverse w.waiting.list.items) in
+    record {
+      state = p.state;
+      candidates = subst (λ v. AreCandidates (detail_of s) v.list.items here.candidates.list.items p.state.candidates) (sym text)
+          (subst (λ v. AreCandidates (detail_of s) w.text.list.items v.list.items p.state.candidates) (sym candidates) p.candidates);
+      e = e;
+      front = p.front;
+      bytes = p.name;
+      written = append-nil here.text.list.items ∙ ap (λ v. v.list.items) text ∙ p.written;
+      from_is = p.from_is;
+      encloses = subst (λ t. Encloses (detail_of s) t p.name) (sym (enclosed-void f.own f.returned mark p.make f.makes))
+          (name-encloses (has-none s bare) f.own p.name f.prints (qualifiers (has_const mark)) (called_on mark) f.returned nil);
+      within = subst (λ v. TypeWithin s (Stands s (reverse v.list.items)) p.front e here.at p.state) (sym waiting)
+          (subst (λ n. TypeWithin s below p.front e n p.state) (sym at) (void-read s argument (TypeWithin s below p.front) p.make w.at p.state p.goes stands));
     }
 
 -- a function with its parameters is read, unless they are a lone void
@@ -468,27 +496,28 @@ function-within s w last new mark from argument p apart one text candidates at w
     let l = p.texts in
     let q = mark_text mark in
     let made = function f.own (qualifiers (has_const mark)) (called_on mark) f.returned (list_of p.ts) in
-    let is : e ≡ made = enclosed-with f.own f.returned mark p.make f.makes p.ts p.some (parameters-kept (types_of f.own) 6 p.ts l f.elements apart) in
+    let is : e ≡ made = enclosed-with f.own f.returned mark p.make f.makes p.ts p.some (parameters-kept (detail_of s) (types_of f.own) 6 p.ts l f.elements apart) in
     let below = Stands s p.rest in
     let within_ : TypeWithin s below p.front e w.at p.state = subst (λ u. TypeWithin s below p.front (p.make u) w.at p.state) (list-ends p.ts)
     (p.goes.onward nothing_there w.at p.state (expects-empty s Kind.Items p.goes.around p.goes.inner w.at p.state p.goes.awaits refl)) in
-    let known = candidates-written w last (codes ")") p.state.candidates one p.candidates in
-    let shows : Shows Full (function f.own (qualifiers (has_const mark)) (called_on mark) absent (list_of p.ts)) (b ++ codes "(" ++ l ++ codes ")" ++ q) =
-    subst (λ x. Shows Full (function f.own (qualifiers (has_const mark)) (called_on mark) absent (list_of p.ts)) (b ++ codes "(" ++ l ++ codes ")" ++ x))
+    let known = candidates-written (detail_of s) w last (codes ")") p.state.candidates one p.candidates in
+    let shows : Shows (detail_of s) (function f.own (qualifiers (has_const mark)) (called_on mark) absent (list_of p.ts)) (b ++ codes "(" ++ l ++ codes ")" ++ q) =
+    subst (λ x. Shows (detail_of s) (function f.own (qualifiers (has_const mark)) (called_on mark) absent (list_of p.ts)) (b ++ codes "(" ++ l ++ codes ")" ++ x))
     (plain-text mark)
-    (function-shows f.own b f.prints p.ts l f.elements (qualifiers (has_const mark)) (called_on mark)) in
+    (function-shows (has-parameters s p.whole) f.own b f.prints p.ts l f.elements (qualifiers (has_const mark)) (called_on mark)) in
     record {
       state = p.state;
-      candidates = subst (λ v. AreCandidates v.list.items new.candidates.list.items p.state.candidates) (sym text)
-          (subst (λ v. AreCandidates last.text.list.items v.list.items p.state.candidates) (sym candidates) known);
+      candidates = subst (λ v. AreCandidates (detail_of s) v.list.items new.candidates.list.items p.state.candidates) (sym text)
+          (subst (λ v. AreCandidates (detail_of s) last.text.list.items v.list.items p.state.candidates) (sym candidates) known);
       e = e;
       front = p.front;
       bytes = b ++ codes "(" ++ l ++ codes ")" ++ q;
       written = ap (λ x. x ++ q) (ap (λ v. v.list.items) text ∙ one.text ∙ ap (λ x. x ++ codes ")") p.written)
           ∙ behind-five p.front b (codes "(") l (codes ")") q;
       from_is = p.from_is;
-      encloses = subst (λ t. Encloses Full t (b ++ codes "(" ++ l ++ codes ")" ++ q)) (sym is)
-          (returned-encloses f.own (qualifiers (has_const mark)) (called_on mark) f.returned (list_of p.ts) (b ++ codes "(" ++ l ++ codes ")" ++ q) shows);
+      encloses = subst (λ t. Encloses (detail_of s) t (b ++ codes "(" ++ l ++ codes ")" ++ q)) (sym is)
+          (returned-enclosing (detail_of s) f.own (qualifiers (has_const mark)) (called_on mark) f.returned (list_of p.ts) (b ++ codes "(" ++ l ++ codes ")" ++ q)
+          (function-encloses (detail_of s) f.own (qualifiers (has_const mark)) (called_on mark) (list_of p.ts) (b ++ codes "(" ++ l ++ codes ")" ++ q) shows));
       within = subst (λ ws. TypeWithin s (Stands s ws) p.front e new.at p.state) (sym waits)
           (subst (λ n. TypeWithin s below p.front e n p.state) (sym (at ∙ one.at)) within_);
     }
@@ -498,7 +527,7 @@ pub marks-written-within : (s : Symbol) (old new : Direct) (mark : Mark) (from :
     → IsEnclosingRead s new marks.Plain from
 marks-written-within s old new mark from p writes = record {
   state = p.state;
-  candidates = candidates-written old new (mark_text mark) p.state.candidates writes p.candidates;
+  candidates = candidates-written (detail_of s) old new (mark_text mark) p.state.candidates writes p.candidates;
   e = p.e;
   front = p.front;
   bytes = p.bytes;
@@ -532,7 +561,7 @@ number-text (Some d) is =
 -- it is read, and written
 pub lambda-told : (s : Symbol) (old new : Direct) (digit : Option ℕ) → IsLambdaDigit digit → StandsAt s.bytes old.at (85 ∷ lambda_bytes (lambda_digits digit))
     → new.at ≡ old.at + length (85 ∷ lambda_bytes (lambda_digits digit)) → Reads old new (codes "{lambda()#" ++ lambda_number digit ++ codes "}")
-    → (p : Term) × (n : List ℕ) × IsPieceAt s old.at p new.at × PrintsPiece p n × Reads old new n
+    → (p : Term) × (n : List ℕ) × IsPieceAt s old.at p new.at × PrintsPiece (detail_of s) p n × Reads old new n
 lambda-told s old new digit is stands ends reads = (
   lambda nil (local_number (lambda_digits digit)),
   codes "{lambda()#" ++ lambda_number digit ++ codes "}",
@@ -560,10 +589,10 @@ lambda-begun s old new from a short stands text candidates at waiting =
     let front_written : old.text.list.items ≡ r.front ++ r.bytes = sym (append-nil old.text.list.items) ∙ r.written in
     let written : new.text.list.items ≡ r.front ++ (r.bytes ++ lambda_front) ++ [] =
     text ∙ ap (λ l. l ++ lambda_front) front_written ∙ append_assoc r.front r.bytes lambda_front ∙ sym (append-nil (r.front ++ (r.bytes ++ lambda_front))) in
-    let known : AreCandidates new.text.list.items new.candidates.list.items r.state.candidates =
-    subst (λ l. AreCandidates l new.candidates.list.items r.state.candidates) (sym text)
-    (subst (λ v. AreCandidates (old.text.list.items ++ lambda_front) v.list.items r.state.candidates) (sym candidates)
-    (candidates-stay old.text.list.items lambda_front old.candidates.list.items r.state.candidates r.candidates)) in
+    let known : AreCandidates (detail_of s) new.text.list.items new.candidates.list.items r.state.candidates =
+    subst (λ l. AreCandidates (detail_of s) l new.candidates.list.items r.state.candidates) (sym text)
+    (subst (λ v. AreCandidates (detail_of s) (old.text.list.items ++ lambda_front) v.list.items r.state.candidates) (sym candidates)
+    (candidates-stay (detail_of s) old.text.list.items lambda_front old.candidates.list.items r.state.candidates r.candidates)) in
     let stands_ : Stands s (opens.Lambda from ∷ rest) first.inner new.text.list.items = (
       r.front,
       r.e,
@@ -571,7 +600,7 @@ lambda-begun s old new from a short stands text candidates at waiting =
       [],
       [],
       r.encloses,
-      none-print 0,
+      none-print (detail_of s) 0,
       r.from_is,
       written,
       λ t here now comes.
@@ -651,7 +680,7 @@ lambda-next s w last from p one =
     ) in
     record {
       state = p.state;
-      candidates = candidates-written w last (codes ", ") p.state.candidates one p.candidates;
+      candidates = candidates-written (detail_of s) w last (codes ", ") p.state.candidates one p.candidates;
       is_before = (
         element.inner,
         goes.around,
@@ -694,10 +723,10 @@ lambda-done s w begun pushed numbered popped_ last new from p apart ends same_te
     let n = local_number (lambda_digits number) in
     let ends_with : LambdaWithin s below p.front p.e items w.at p.state = subst (λ u. LambdaWithin s below p.front p.e u w.at p.state) (list-ends p.ts)
     (p.goes.onward nothing_there w.at p.state (expects-empty s Kind.Items p.goes.around p.goes.inner w.at p.state p.goes.awaits refl)) in
-    let same : lambda items n ≡ lambda_with items number = ap (λ k. lambda k n) (sym (parameters-kept closed 0 p.ts p.texts (all-in closed 0 p.ts p.texts p.elements) apart)) in
+    let same : lambda items n ≡ lambda_with items number = ap (λ k. lambda k n) (sym (parameters-kept (detail_of s) closed 0 p.ts p.texts (all-in (detail_of s) closed 0 p.ts p.texts p.elements) apart)) in
     let own = local_in p.e (lambda_with items number) digit in
     let bytes = p.bytes ++ codes "::" ++ (codes "{lambda(" ++ p.texts ++ codes ")#" ++ num ++ codes "}") in
-    let shown : Prints own bytes false = subst (λ u. Prints (local_in p.e u digit) bytes false) same
+    let shown : Prints (detail_of s) own bytes false = subst (λ u. Prints (detail_of s) (local_in p.e u digit) bytes false) same
     (local-prints p.e p.bytes p.encloses (lambda items n) (codes "{lambda(" ++ p.texts ++ codes ")#" ++ num ++ codes "}")
     (lambda-list-prints p.ts p.texts p.elements n num (number-text number is)) digit) in
     let place : pushed.at ≡ w.at + 1 = one.at ∙ at in
@@ -709,20 +738,20 @@ lambda-done s w begun pushed numbered popped_ last new from p apart ends same_te
     ∙ ap (λ l. l ++ (num ++ codes "}")) (one.text ∙ ap (λ v. v.list.items ++ codes ")#") same_text ∙ ap (λ l. l ++ codes ")#") p.written)
     ∙ whole-text p.front p.bytes p.texts num in
     let st = with_candidate ends_with.1 own p.state in
-    let known : AreCandidates begun.text.list.items begun.candidates.list.items p.state.candidates =
-    subst (λ v. AreCandidates v.list.items begun.candidates.list.items p.state.candidates) (sym same_text)
-    (subst (λ v. AreCandidates w.text.list.items v.list.items p.state.candidates) (sym same_candidates) p.candidates) in
-    let numbered_known = candidates-read pushed numbered (num ++ codes "}") p.state.candidates two
-    (candidates-written begun pushed (codes ")#") p.state.candidates one known) in
-    let popped_known : AreCandidates popped_.text.list.items popped_.candidates.list.items p.state.candidates =
-    subst (λ v. AreCandidates v.list.items popped_.candidates.list.items p.state.candidates) (sym popped_text)
-    (subst (λ v. AreCandidates numbered.text.list.items v.list.items p.state.candidates) (sym popped_candidates) numbered_known) in
+    let known : AreCandidates (detail_of s) begun.text.list.items begun.candidates.list.items p.state.candidates =
+    subst (λ v. AreCandidates (detail_of s) v.list.items begun.candidates.list.items p.state.candidates) (sym same_text)
+    (subst (λ v. AreCandidates (detail_of s) w.text.list.items v.list.items p.state.candidates) (sym same_candidates) p.candidates) in
+    let numbered_known = candidates-read (detail_of s) pushed numbered (num ++ codes "}") p.state.candidates two
+    (candidates-written (detail_of s) begun pushed (codes ")#") p.state.candidates one known) in
+    let popped_known : AreCandidates (detail_of s) popped_.text.list.items popped_.candidates.list.items p.state.candidates =
+    subst (λ v. AreCandidates (detail_of s) v.list.items popped_.candidates.list.items p.state.candidates) (sym popped_text)
+    (subst (λ v. AreCandidates (detail_of s) numbered.text.list.items v.list.items p.state.candidates) (sym popped_candidates) numbered_known) in
     let more = candidates-with last p.state p.front bytes from own ends_with.1 false
-    (candidates-read popped_ last [] p.state.candidates three popped_known) written p.from_is shown in
+    (candidates-read (detail_of s) popped_ last [] p.state.candidates three popped_known) written p.from_is shown in
     record {
       state = st;
-      candidates = subst (λ v. AreCandidates v.list.items new.candidates.list.items st.candidates) (sym text)
-          (subst (λ ks. AreCandidates last.text.list.items ks st.candidates) (sym candidates) more);
+      candidates = subst (λ v. AreCandidates (detail_of s) v.list.items new.candidates.list.items st.candidates) (sym text)
+          (subst (λ ks. AreCandidates (detail_of s) last.text.list.items ks st.candidates) (sym candidates) more);
       is_before = (
         ends_with.0,
         own,
@@ -739,7 +768,7 @@ lambda-done s w begun pushed numbered popped_ last new from p apart ends same_te
 
 -- its name and its discriminator are read
 pub type-within : (s : Symbol) (old pushed read last new : Direct) (from : ℕ) → AwaitsTypeName s old from → Writes old pushed (codes "::")
-    → (p : Term) (n : List ℕ) → IsPieceAt s pushed.at p read.at → PrintsPiece p n → Reads pushed read n
+    → (p : Term) (n : List ℕ) → IsPieceAt s pushed.at p read.at → PrintsPiece (detail_of s) p n → Reads pushed read n
     → (digit : Discriminator) → IsDiscriminatorAt s.bytes read.at digit last.at → Reads read last []
     → new.candidates.list.items ≡ added last from false → new.text ≡ last.text → new.waiting ≡ last.waiting → new.at ≡ last.at
     → IsWriting s new (steps.Value false)
@@ -757,12 +786,12 @@ type-within s old pushed read last new from awaits one p n is prints two digit t
     let st = with_candidate w.1 t a.state in
     let shown = local-prints a.e a.bytes a.encloses p n prints digit in
     let more = candidates-with last a.state a.front bytes from t w.1 false
-    (candidates-read old last (codes "::" ++ n ++ []) a.state.candidates whole a.candidates) written a.from_is shown in
+    (candidates-read (detail_of s) old last (codes "::" ++ n ++ []) a.state.candidates whole a.candidates) written a.from_is shown in
     let named_ = subst (λ k. IsPieceAt s k p read.at) (one.at ∙ awaits.at_is) is in
     record {
       state = st;
-      candidates = subst (λ v. AreCandidates v.list.items new.candidates.list.items st.candidates) (sym text)
-          (subst (λ ks. AreCandidates last.text.list.items ks st.candidates) (sym candidates) more);
+      candidates = subst (λ v. AreCandidates (detail_of s) v.list.items new.candidates.list.items st.candidates) (sym text)
+          (subst (λ ks. AreCandidates (detail_of s) last.text.list.items ks st.candidates) (sym candidates) more);
       is_before = (
         w.0,
         t,

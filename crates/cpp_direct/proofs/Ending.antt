@@ -1,4 +1,5 @@
 -- How a symbol ends: its encoding's name, its parameters, and what follows them.
+use Rattle.sym_print.specs.declared.detail.Detail.{Detail}
 use Rattle.cpp_grammar.specs.Scope.{arguments_of}
 use Rattle.std.proofs.Common.{◌≡◌, ◌≢◌, ◌⊎◌, refl, ap, sym, ◌∙◌, subst, ℕ, ◌+◌, ◌-◌, ◌≤◌, List, [], ◌∷◌, ◌++◌, length, take, drop, reverse, inl, inr, Bool, true, false, nat_eq, arith, codes, append-nil, append_assoc}
 use Rattle.std.specs.List.{ends_with}
@@ -6,7 +7,6 @@ use Rattle.std.specs.Cmp.Lexicographic.{pointwise}
 use Rattle.std.proofs.lemmas.Bool.{false≢true}
 use Rattle.std.proofs.lemmas.List.{length-append, length-drop, take_rest}
 use Rattle.std.proofs.Math.Seq.{drop-append_seam, take-append_seam}
-use Rattle.sym_print.specs.declared.detail.Detail.TheVariants.{Full, NoParameters}
 use Rattle.cpp_grammar.specs.declared.kind.Kind.{Kind}
 use Rattle.cpp_grammar.specs.Term.{Term, symbol, function, nil, list, builtin, absent}
 use Rattle.cpp_grammar.specs.Grammar.{may_be_empty, among}
@@ -14,37 +14,32 @@ use Rattle.cpp_grammar.specs.Parts.{encoding_text, qualifier_text, ref_text, typ
 use Rattle.cpp_grammar.specs.Between.{no_items}
 use Rattle.cpp_grammar.specs.Meaning.{encoding_of}
 use Rattle.cpp_grammar.specs.Values.{State, Value, nothing_there, tree, tree_of, qualifiers_of, ref_of}
-use Rattle.cpp_direct.specs.Symbol.{Symbol, detail_by, detail_of}
+use Rattle.cpp_direct.specs.Symbol.{Symbol, detail_of}
 use Rattle.cpp_direct.specs.declared.open.Arguments.{Arguments}
 use Rattle.cpp_direct.specs.declared.open.Mark.{Mark}
 use Rattle.cpp_direct.specs.declared.open.Mark.TheVariants as marks
 use Rattle.cpp_direct.specs.declared.open.Open.TheVariants as opens
 use Rattle.cpp_direct.specs.declared.open.Step.TheVariants as steps
 use Rattle.cpp_direct.specs.declared.direct.Direct.{Direct}
-use Rattle.cpp_direct.specs.Bytes.{has_bracket, is_bracket, is_builtin, is_local}
+use Rattle.cpp_direct.specs.Bytes.{is_builtin, is_local}
 use Rattle.cpp_direct.specs.Holes.{StandsAt, ListGoesOn}
 use Rattle.cpp_direct.specs.HolesOfLists.{IsSuffix}
 use Rattle.cpp_direct.specs.Marks.{has_const, called_on, mark_text}
 use Rattle.cpp_direct.specs.Prints.{PrintsName, Shows, Encloses, list_of}
 use Rattle.cpp_direct.specs.WriterInvariant.{AreCandidates, AwaitsItems, Encoded, EndsBehind, EncodedBehind, Fronts, IsWhole, IsWriting, HasScope, IsFunction, IsScoped, ItemsGoOn, ParametersGoOn, Stands, qualifiers, list_with, in_front_of_next, encoding_place, named_in}
-use Rattle.cpp_direct.specs.MidStep.{AwaitsNextParameter, IsNameEnded, AwaitsParameters, IsParameterEnded, IsFunctionEnded, IsEncodingEnded, IsSymbolEnded, IsSymbolWritten}
+use Rattle.cpp_direct.specs.MidStep.{AwaitsNextParameter, IsNameEnded, AwaitsParameters, IsParameterEnded, IsFunctionEnded, IsEncodingEnded, IsSymbolEnded}
 use Rattle.cpp_direct.specs.Written.{Writes, Cuts}
 use Rattle.cpp_direct.proofs.Kept.{candidates-written, reverse-last}
 use Rattle.cpp_direct.proofs.Moves.{expects-empty}
 use Rattle.cpp_direct.proofs.MovesOfLists.{element-awaits}
 use Rattle.cpp_direct.proofs.MovesOfTypes.{builtin-comes}
 use Rattle.cpp_direct.proofs.PrintedLists.{none-print-in}
+use Rattle.cpp_direct.proofs.PrintedParts.{has-none, has-parameters}
 use Rattle.cpp_direct.proofs.PrintedLocals.{object-enclosing, function-encloses, name-shows}
 use Rattle.cpp_direct.proofs.Scopes.{function-stays, parameters-scoped, arguments-named}
 use Rattle.cpp_direct.proofs.PrintedSymbols.{function-shows, void-shows, object-encoded, encoding-plain, made-with, made-void, symbol-text, symbol-cost, suffix-text, suffix-cost, parameters-kept, none_bracketed}
-use Rattle.cpp_direct.proofs.WithoutParameters.{bare-shows, free-back, free-join}
 
 -- ## The end
-
--- what has no brackets is shown the same without parameters
-pub shows-by : (is_bare : Bool) (e : Term) (b : List ℕ) → (is_bare ≡ true → has_bracket b ≡ false) → Shows Full e b → Shows (detail_by is_bare) e b
-shows-by true e b free shows = bare-shows e b (free refl) shows
-shows-by false e b free shows = shows
 
 -- an encoding that ends with the symbol is the symbol
 pub whole-plain : (s : Symbol) (e : Term) (at : ℕ) (text : List ℕ) → Encoded s e at → Shows (detail_of s) e text → at ≡ length s.bytes → IsWhole s text
@@ -78,7 +73,7 @@ pub marks-written : (s : Symbol) (old new : Direct) (mark : Mark) → IsEncoding
     → IsEncodingEnded s new marks.Plain
 marks-written s old new mark p writes = record {
   state = p.state;
-  candidates = candidates-written old new (mark_text mark) p.state.candidates writes p.candidates;
+  candidates = candidates-written (detail_of s) old new (mark_text mark) p.state.candidates writes p.candidates;
   e = p.e;
   lead = p.lead;
   bytes = p.bytes;
@@ -100,16 +95,6 @@ symbol-ended s w p apart =
       shows = subst (λ l. Shows (detail_of s) behind.made l) (sym p.written ∙ append-nil w.text.list.items) (behind.shows p.bytes p.shows);
     }
 
--- what is written in full, and has no brackets if functions are shown by their names alone, is written as it is to be shown
-pub special-ended : (s : Symbol) (w : Direct) → IsSymbolWritten Full s w → (s.is_bare ≡ true → has_bracket w.text.list.items ≡ false) → IsSymbolEnded s w
-special-ended s w p free = record {
-  state = p.state;
-  candidates = p.candidates;
-  e = p.e;
-  encoded = p.encoded;
-  shows = shows-by s.is_bare p.e w.text.list.items free p.shows;
-}
-
 -- the symbol is written where it has no suffix
 pub ends-plain : (s : Symbol) (suffix : List ℕ) (w : Direct) → IsSymbolEnded s w → w.at ≤ length s.bytes → suffix ≡ take (length s.bytes - w.at) (drop w.at s.bytes)
     → length suffix ≡ 0 → IsWriting s w steps.Ended
@@ -130,9 +115,9 @@ ends-suffixed s suffix w first second last p inside is is_suffix one two three =
     three.text ∙ ap (λ l. l ++ codes ")") (two.text ∙ ap (λ l. l ++ suffix) one.text) in
     record {
       state = p.state;
-      candidates = candidates-written second last (codes ")") p.state.candidates three
-          (candidates-written first second suffix p.state.candidates two
-          (candidates-written w first (codes " (") p.state.candidates one p.candidates));
+      candidates = candidates-written (detail_of s) second last (codes ")") p.state.candidates three
+          (candidates-written (detail_of s) first second suffix p.state.candidates two
+          (candidates-written (detail_of s) w first (codes " (") p.state.candidates one p.candidates));
       is_before = subst (λ l. IsWhole s l) (sym text)
           (whole-suffixed s p.e w.at w.text.list.items suffix p.encoded p.shows
           there.0 there.1 is_suffix);
@@ -154,21 +139,6 @@ pub qualifiers-text : (v : Value) (mark : Mark) → qualifiers_of v ≡ qualifie
     → encoding_text (qualifiers_of v) (ref_of v) ≡ mark_text mark
 qualifiers-text v mark e f = rw (e, f) (plain-text mark)
 
--- which has no brackets
-mark-free : (mark : Mark) → has_bracket (mark_text mark) ≡ false
-unfolding is_bracket
-mark-free marks.Plain = refl
-mark-free marks.Const = refl
-mark-free marks.Lvalue = refl
-mark-free marks.ConstLvalue = refl
-mark-free marks.Rvalue = refl
-mark-free marks.ConstRvalue = refl
-
--- the name of an encoding has no brackets, if what is written has none
-pub name-free : (s : Symbol) (w : Direct) (mark : Mark) (is_instance : Bool) (argument_ : Arguments) (from : ℕ)
-    → (p : IsNameEnded s w mark is_instance argument_ from) → has_bracket w.text.list.items ≡ false → has_bracket p.name ≡ false
-name-free s w mark is_instance argument_ from p free = free-back p.lead p.name (ap has_bracket (sym p.written) ∙ free)
-
 -- what follows a text is written in two or more pieces
 pub behind-two : (lead a q : List ℕ) → lead ++ a ++ q ≡ lead ++ (a ++ q)
 behind-two lead a q = append_assoc lead a q
@@ -182,18 +152,16 @@ behind-five lead a b c d q =
 
 -- a name without items is an encoding
 pub object-ended : (s : Symbol) (w : Direct) (mark : Mark) (is_instance : Bool) (argument_ : Arguments) (from : ℕ)
-    → (p : IsNameEnded s w mark is_instance argument_ from) → (s.is_bare ≡ true → has_bracket p.name ≡ false)
-    → IsEncodingEnded s w mark
+    → IsNameEnded s w mark is_instance argument_ from → IsEncodingEnded s w mark
 unfolding no_items may_be_empty
-object-ended s w mark is_instance argument_ from p free =
+object-ended s w mark is_instance argument_ from p =
     let b = p.name in
     let q = mark_text mark in
     let behind : EncodedBehind s p.lead (encoding_of p.v nil) w.at = p.awaits.onward nothing_there w.at p.state
     (expects-empty s Kind.Items p.awaits.around p.awaits.inner w.at p.state p.awaits.awaits refl) in
     let shows : Shows (detail_of s) (encoding_of p.v nil) (b ++ q) =
-    shows-by s.is_bare (encoding_of p.v nil) (b ++ q) (λ bare. free-join b q (free bare) (mark-free mark))
-    (subst (λ l. Shows Full (encoding_of p.v nil) (b ++ l)) (qualifiers-text p.v mark p.qualifiers_are p.mark_is)
-    (object-encoded p.v b (subst (λ t. PrintsName t b) (sym p.tree_is) p.prints))) in
+    subst (λ l. Shows (detail_of s) (encoding_of p.v nil) (b ++ l)) (qualifiers-text p.v mark p.qualifiers_are p.mark_is)
+    (object-encoded p.v b (subst (λ t. PrintsName (detail_of s) t b) (sym p.tree_is) p.prints)) in
     record {
       state = p.state;
       candidates = p.candidates;
@@ -297,17 +265,16 @@ name-scoped s w mark is_instance argument_ from place p first place_is k o =
 
 -- the front of a function that has no return type
 fronts-of : (is_bare : Bool) (front : List ℕ) (start : ℕ) (lead name : List ℕ) → front ≡ lead ++ name → (is_bare ≡ false → start ≡ 0)
-    → (is_bare ≡ true → start ≡ length front) → (is_bare ≡ true → has_bracket name ≡ false) → Fronts is_bare front start lead name
-fronts-of true front start lead name is none all free =
-    ([], is ∙ sym (append-nil (lead ++ name)), all refl ∙ ap length is, free refl)
-fronts-of false front start lead name is none all free = ([], is, none refl)
+    → (is_bare ≡ true → start ≡ length front) → Fronts is_bare front start lead name
+fronts-of true front start lead name is none all = ([], is ∙ sym (append-nil (lead ++ name)), all refl ∙ ap length is)
+fronts-of false front start lead name is none all = ([], is, none refl)
 
 -- the name of a function is read that has no return type
 pub parameters-begin : (s : Symbol) (w : Direct) (mark : Mark) (is_instance : Bool) (argument_ : Arguments) (from place start : ℕ)
     → (p : IsNameEnded s w mark is_instance argument_ from) → is_instance ≡ false → (place ≢ 0 → from ≡ 0) → (place ≢ 0 → place ≡ encoding_place s.bytes)
-    → (s.is_bare ≡ false → start ≡ 0) → (s.is_bare ≡ true → start ≡ length w.text.list.items) → (s.is_bare ≡ true → has_bracket p.name ≡ false)
+    → (s.is_bare ≡ false → start ≡ 0) → (s.is_bare ≡ true → start ≡ length w.text.list.items)
     → AwaitsParameters s w mark start (named_in place argument_)
-parameters-begin s w mark is_instance argument_ from place start p plain first place_is none all free = record {
+parameters-begin s w mark is_instance argument_ from place start p plain first place_is none all = record {
   state = p.state;
   candidates = p.candidates;
   make = λ l. encoding_of p.v l;
@@ -318,10 +285,10 @@ parameters-begin s w mark is_instance argument_ from place start p plain first p
     own = p.own;
     makes = encoding-plain p.v mark p.own p.tree_is p.qualifiers_are p.mark_is (p.no_return plain);
     prints = p.prints;
-    elements = none-print-in (types_of p.own) 6;
+    elements = none-print-in (detail_of s) (types_of p.own) 6;
     names = arguments-named w.text.list.items place argument_ p.own p.names;
   };
-  fronts = fronts-of s.is_bare w.text.list.items start p.lead p.name p.written none all free;
+  fronts = fronts-of s.is_bare w.text.list.items start p.lead p.name p.written none all;
   written = refl;
   goes = none-go_on s (named_in place argument_) p.lead p.v w.at p.state p.awaits
       (name-scoped s w mark is_instance argument_ from place p first place_is);
@@ -334,10 +301,10 @@ pub first-expected : (s : Symbol) (w first last : Direct) (mark : Mark) (start :
     → last.waiting.list.items ≡ first.waiting.list.items ++ opens.Parameters mark start argument ∷ []
     → AwaitsNextParameter s last mark start argument
 first-expected s w first last mark start argument p one text candidates at waiting =
-    let known = candidates-written w first (codes "(") p.state.candidates one p.candidates in
-    let moved : AreCandidates last.text.list.items last.candidates.list.items p.state.candidates =
-    subst (λ l. AreCandidates l.list.items last.candidates.list.items p.state.candidates) (sym text)
-    (subst (λ l. AreCandidates first.text.list.items l.list.items p.state.candidates) (sym candidates) known) in
+    let known = candidates-written (detail_of s) w first (codes "(") p.state.candidates one p.candidates in
+    let moved : AreCandidates (detail_of s) last.text.list.items last.candidates.list.items p.state.candidates =
+    subst (λ l. AreCandidates (detail_of s) l.list.items last.candidates.list.items p.state.candidates) (sym text)
+    (subst (λ l. AreCandidates (detail_of s) first.text.list.items l.list.items p.state.candidates) (sym candidates) known) in
     let grown : last.text.list.items ≡ w.text.list.items ++ codes "(" = ap (λ l. l.list.items) text ∙ one.text in
     record {
       state = p.state;
@@ -350,7 +317,7 @@ first-expected s w first last mark start argument p one text candidates at waiti
       lead = p.lead;
       name = p.name;
       texts = [];
-      is_function = subst (λ l. IsFunction l argument mark p.make [] p.name []) (sym grown)
+      is_function = subst (λ l. IsFunction (detail_of s) l argument mark p.make [] p.name []) (sym grown)
           (function-stays w.text.list.items (codes "(") argument mark p.make [] p.name [] p.is_function);
       fronts = p.fronts;
       written = grown ∙ ap (λ l. l ++ codes "(") p.written ∙ sym (append-nil (p.front ++ codes "("));
@@ -364,7 +331,7 @@ next-expected s w last mark start argument p one =
     let front = p.front ++ codes "(" in
     record {
       state = p.state;
-      candidates = candidates-written w last (codes ", ") p.state.candidates one p.candidates;
+      candidates = candidates-written (detail_of s) w last (codes ", ") p.state.candidates one p.candidates;
       rest = p.rest;
       open_is = ap (λ l. reverse l.list.items) one.waiting ∙ p.open_is;
       make = p.make;
@@ -373,7 +340,7 @@ next-expected s w last mark start argument p one =
       lead = p.lead;
       name = p.name;
       texts = p.texts;
-      is_function = subst (λ l. IsFunction l argument mark p.make p.ts p.name p.texts) (sym one.text)
+      is_function = subst (λ l. IsFunction (detail_of s) l argument mark p.make p.ts p.name p.texts) (sym one.text)
           (function-stays w.text.list.items (codes ", ") argument mark p.make p.ts p.name p.texts p.is_function);
       fronts = p.fronts;
       written = one.text ∙ ap (λ l. l ++ codes ", ") p.written ∙ append_assoc front p.texts (codes ", ")
@@ -384,19 +351,19 @@ next-expected s w last mark start argument p one =
 -- ## What comes before an encoding's text
 
 -- where that is taken away, what is left of the candidates is some
-cut-candidates : (old new : Direct) (start : ℕ) (st : State) → Cuts old new start
-    → AreCandidates old.text.list.items old.candidates.list.items st.candidates
-    → (now : State) × AreCandidates new.text.list.items new.candidates.list.items now.candidates
-cut-candidates old new start st cuts known = go cuts.candidates
+cut-candidates : (detail : Detail) (old new : Direct) (start : ℕ) (st : State) → Cuts old new start
+    → AreCandidates detail old.text.list.items old.candidates.list.items st.candidates
+    → (now : State) × AreCandidates detail new.text.list.items new.candidates.list.items now.candidates
+cut-candidates detail old new start st cuts known = go cuts.candidates
   where
     go : ((start ≡ 0) × (new.candidates ≡ old.candidates)) ⊎ (new.candidates.list.items ≡ [])
-        → (now : State) × AreCandidates new.text.list.items new.candidates.list.items now.candidates
+        → (now : State) × AreCandidates detail new.text.list.items new.candidates.list.items now.candidates
     go (inl same) = (
       st,
-      subst (λ v. AreCandidates new.text.list.items v.list.items st.candidates) (sym same.1)
-          (subst (λ l. AreCandidates l old.candidates.list.items st.candidates) (sym (cuts.text ∙ ap (λ n. drop n old.text.list.items) same.0)) known),
+      subst (λ v. AreCandidates detail new.text.list.items v.list.items st.candidates) (sym same.1)
+          (subst (λ l. AreCandidates detail l old.candidates.list.items st.candidates) (sym (cuts.text ∙ ap (λ n. drop n old.text.list.items) same.0)) known),
     )
-    go (inr none) = (record st { candidates = [] }, subst (λ ks. AreCandidates new.text.list.items ks []) (sym none) tt)
+    go (inr none) = (record st { candidates = [] }, subst (λ ks. AreCandidates detail new.text.list.items ks []) (sym none) tt)
 
 -- and the text is what came after it
 cut-text : (old new : Direct) (start : ℕ) (aside text : List ℕ) → Cuts old new start → start ≡ length aside → old.text.list.items ≡ aside ++ text
@@ -431,12 +398,13 @@ void-ended s w first here mark start argument p stands one text candidates at =
     let is : e ≡ made = made-void mark f.own p.make f.makes in
     let behind : EncodedBehind s p.lead e (w.at + 1) =
     void-read s argument (λ u there then_. EncodedBehind s p.lead u there) p.make w.at p.state p.goes stands in
-    let known = candidates-written w first (codes "(") p.state.candidates one p.candidates in
-    let moved : AreCandidates here.text.list.items here.candidates.list.items p.state.candidates =
-    subst (λ l. AreCandidates l.list.items here.candidates.list.items p.state.candidates) (sym text)
-    (subst (λ l. AreCandidates first.text.list.items l.list.items p.state.candidates) (sym candidates) known) in
-    let shows : Shows Full made (b ++ codes "()" ++ q) =
-    subst (λ l. Shows Full made (b ++ codes "()" ++ l)) (plain-text mark) (void-shows f.own b f.prints (qualifiers (has_const mark)) (called_on mark)) in
+    let known = candidates-written (detail_of s) w first (codes "(") p.state.candidates one p.candidates in
+    let moved : AreCandidates (detail_of s) here.text.list.items here.candidates.list.items p.state.candidates =
+    subst (λ l. AreCandidates (detail_of s) l.list.items here.candidates.list.items p.state.candidates) (sym text)
+    (subst (λ l. AreCandidates (detail_of s) first.text.list.items l.list.items p.state.candidates) (sym candidates) known) in
+    let shows : s.is_bare ≡ false → Shows (detail_of s) made (b ++ codes "()" ++ q) =
+    λ whole. subst (λ l. Shows (detail_of s) made (b ++ codes "()" ++ l)) (plain-text mark)
+    (void-shows (has-parameters s whole) f.own b f.prints (qualifiers (has_const mark)) (called_on mark)) in
     record {
       state = p.state;
       candidates = moved;
@@ -451,8 +419,8 @@ void-ended s w first here mark start argument p stands one text candidates at =
       prints = f.prints;
       fronts = p.fronts;
       written = ap (λ l. l.list.items) text ∙ one.text ∙ ap (λ l. l ++ codes "(") p.written ∙ sym (append-nil (p.front ++ codes "("));
-      shows = subst (λ t. Shows Full t (b ++ codes "(" ++ [] ++ codes ")" ++ q)) (sym is)
-          (subst (λ l. Shows Full made l) (sym (none_bracketed b q)) shows);
+      shows = λ whole. subst (λ t. Shows (detail_of s) t (b ++ codes "(" ++ [] ++ codes ")" ++ q)) (sym is)
+          (subst (λ l. Shows (detail_of s) made l) (sym (none_bracketed b q)) (shows whole));
       behind = subst (λ n. EncodedBehind s p.lead e n) (omega (arith, at, one.at)) behind;
     }
 
@@ -466,7 +434,7 @@ function-ended s w mark start argument p apart =
     let b = p.name in
     let l = p.texts in
     let made = function f.own (qualifiers (has_const mark)) (called_on mark) absent (list_of p.ts) in
-    let is : e ≡ made = made-with mark f.own p.make f.makes p.ts p.some (parameters-kept (types_of f.own) 6 p.ts l f.elements apart) in
+    let is : e ≡ made = made-with mark f.own p.make f.makes p.ts p.some (parameters-kept (detail_of s) (types_of f.own) 6 p.ts l f.elements apart) in
     let behind : EncodedBehind s p.lead e w.at = subst (λ u. EncodedBehind s p.lead (p.make u) w.at) (list-ends p.ts)
     (p.goes.onward nothing_there w.at p.state (expects-empty s Kind.Items p.goes.around p.goes.inner w.at p.state p.goes.awaits refl)) in
     record {
@@ -483,9 +451,9 @@ function-ended s w mark start argument p apart =
       prints = f.prints;
       fronts = p.fronts;
       written = p.written;
-      shows = subst (λ t. Shows Full t (b ++ codes "(" ++ l ++ codes ")" ++ mark_text mark)) (sym is)
-          (subst (λ x. Shows Full made (b ++ codes "(" ++ l ++ codes ")" ++ x)) (plain-text mark)
-          (function-shows f.own b f.prints p.ts l f.elements (qualifiers (has_const mark)) (called_on mark)));
+      shows = λ whole. subst (λ t. Shows (detail_of s) t (b ++ codes "(" ++ l ++ codes ")" ++ mark_text mark)) (sym is)
+          (subst (λ x. Shows (detail_of s) made (b ++ codes "(" ++ l ++ codes ")" ++ x)) (plain-text mark)
+          (function-shows (has-parameters s whole) f.own b f.prints p.ts l f.elements (qualifiers (has_const mark)) (called_on mark)));
       behind = behind;
     }
 
@@ -496,14 +464,12 @@ function-closed s w last new mark start p whole_ one cuts =
     let b = p.name in
     let l = p.texts in
     let q = mark_text mark in
-    let full_ : detail_of s ≡ Full = ap detail_by whole_ in
-    let made = function p.own (qualifiers (has_const mark)) (called_on mark) absent p.items in
     let fronts = subst (λ bare. Fronts bare p.front start p.lead p.name) whole_ p.fronts in
     let left_over : new.text.list.items ≡ p.lead ++ b ++ codes "(" ++ l ++ codes ")" =
     cut-text last new start fronts.0 (p.lead ++ b ++ codes "(" ++ l ++ codes ")") cuts fronts.2
     (one.text ∙ ap (λ x. x ++ codes ")") p.written ∙ ap (λ x. x ++ codes "(" ++ l ++ codes ")") fronts.1
     ∙ behind-five fronts.0 p.lead b (codes "(") l (codes ")")) in
-    let now = cut-candidates last new start p.state cuts (candidates-written w last (codes ")") p.state.candidates one p.candidates) in
+    let now = cut-candidates (detail_of s) last new start p.state cuts (candidates-written (detail_of s) w last (codes ")") p.state.candidates one p.candidates) in
     let text = b ++ codes "(" ++ l ++ codes ")" ++ q in
     record {
       state = now.0;
@@ -512,9 +478,10 @@ function-closed s w last new mark start p whole_ one cuts =
       lead = p.lead;
       bytes = text;
       written = ap (λ x. x ++ q) left_over ∙ behind-five p.lead b (codes "(") l (codes ")") q;
-      shows = subst (λ d. Shows d p.e text) (sym full_) p.shows;
-      encloses = subst (λ d. Encloses d p.e text) (sym full_) (subst (λ t. Encloses Full t text) (sym p.e_is)
-          (function-encloses Full p.own (qualifiers (has_const mark)) (called_on mark) p.items text (subst (λ t. Shows Full t text) p.e_is p.shows)));
+      shows = p.shows whole_;
+      encloses = subst (λ t. Encloses (detail_of s) t text) (sym p.e_is)
+          (function-encloses (detail_of s) p.own (qualifiers (has_const mark)) (called_on mark) p.items text
+          (subst (λ t. Shows (detail_of s) t text) p.e_is (p.shows whole_)));
       behind = subst (λ n. EncodedBehind s p.lead p.e n) (sym (cuts.at ∙ one.at)) p.behind;
     }
 
@@ -523,7 +490,6 @@ function-closed s w last new mark start p whole_ one cuts =
 pub function-named : (s : Symbol) (w last new : Direct) (mark : Mark) (start end : ℕ) (p : IsFunctionEnded s w mark start) → s.is_bare ≡ true
     → end ≡ length w.text.list.items → Writes w last (take (start - 0) (drop 0 w.text.list.items)) → Cuts last new end → IsEncodingEnded s new marks.Plain
 function-named s w last new mark start end p bare end_is one cuts =
-    let alone_ : detail_of s ≡ NoParameters = ap detail_by bare in
     let fronts = subst (λ b. Fronts b p.front start p.lead p.name) bare p.fronts in
     let named = p.lead ++ p.name in
     let behind_ = fronts.0 ++ codes "(" ++ p.texts in
@@ -533,10 +499,10 @@ function-named s w last new mark start end p bare end_is one cuts =
     ap (λ n. take n w.text.list.items) (omega (arith, fronts.2)) ∙ ap (λ l. take (length named) l) whole_ ∙ take-append_seam named behind_ in
     let left_over : new.text.list.items ≡ named =
     cut-text last new end w.text.list.items named cuts end_is (one.text ∙ ap (λ l. w.text.list.items ++ l) again) in
-    let now = cut-candidates last new end p.state cuts
-    (candidates-written w last (take (start - 0) (drop 0 w.text.list.items)) p.state.candidates one p.candidates) in
+    let now = cut-candidates (detail_of s) last new end p.state cuts
+    (candidates-written (detail_of s) w last (take (start - 0) (drop 0 w.text.list.items)) p.state.candidates one p.candidates) in
     let made = function p.own (qualifiers (has_const mark)) (called_on mark) absent p.items in
-    let shows : Shows NoParameters made p.name = name-shows p.own p.name p.prints fronts.3 (qualifiers (has_const mark)) (called_on mark) absent p.items in
+    let shows : Shows (detail_of s) made p.name = name-shows (has-none s bare) p.own p.name p.prints (qualifiers (has_const mark)) (called_on mark) absent p.items in
     record {
       state = now.0;
       candidates = now.1;
@@ -544,9 +510,9 @@ function-named s w last new mark start end p bare end_is one cuts =
       lead = p.lead;
       bytes = p.name;
       written = append-nil new.text.list.items ∙ left_over;
-      shows = subst (λ d. Shows d p.e p.name) (sym alone_) (subst (λ t. Shows NoParameters t p.name) (sym p.e_is) shows);
-      encloses = subst (λ d. Encloses d p.e p.name) (sym alone_) (subst (λ t. Encloses NoParameters t p.name) (sym p.e_is)
-          (function-encloses NoParameters p.own (qualifiers (has_const mark)) (called_on mark) p.items p.name shows));
+      shows = subst (λ t. Shows (detail_of s) t p.name) (sym p.e_is) shows;
+      encloses = subst (λ t. Encloses (detail_of s) t p.name) (sym p.e_is)
+          (function-encloses (detail_of s) p.own (qualifiers (has_const mark)) (called_on mark) p.items p.name shows);
       behind = subst (λ n. EncodedBehind s p.lead p.e n) (sym (cuts.at ∙ one.at)) p.behind;
     }
 

@@ -49,7 +49,7 @@ local-begins s w fresh starts letter =
     let here : LocalOpened s encoding_.inner (in_name 2) 3 first_state = local-opens s encoding_.inner (in_name 2) 2 first_state encoding_.awaits letter in
     record {
       state = first_state;
-      candidates = subst (λ ks. AreCandidates w.text.list.items ks []) (sym fresh.no_candidate) tt;
+      candidates = subst (λ ks. AreCandidates (detail_of s) w.text.list.items ks []) (sym fresh.no_candidate) tt;
       around = in_name 2;
       outer = here.inner;
       begins = λ none. sym (ap (λ b. cond b 3 2) (third-tells s.bytes 90 letter));
@@ -84,7 +84,7 @@ guard-begins s old new fresh starts marks letter stands writes =
     let text_is : new.text.list.items ≡ codes "guard variable for " = writes.text ∙ ap (λ l. l ++ codes "guard variable for ") fresh.no_text in
     record {
       state = first_state;
-      candidates = subst (λ ks. AreCandidates new.text.list.items ks []) (sym (ap (λ v. v.list.items) writes.candidates ∙ fresh.no_candidate)) tt;
+      candidates = subst (λ ks. AreCandidates (detail_of s) new.text.list.items ks []) (sym (ap (λ v. v.list.items) writes.candidates ∙ fresh.no_candidate)) tt;
       around = in_name 2;
       outer = here.inner;
       begins = λ none. absurd (guard-text (sym text_is ∙ none));
@@ -129,7 +129,7 @@ entity-ended s internal old pushed read last p one name is_name filled two digit
     ∙ ap (λ l. l ++ codes "::" ++ n) (sym (append-nil old.text.list.items) ∙ e.written) ∙ behind-three e.lead e.bytes (codes "::") n in
     record {
       state = e.state;
-      candidates = candidates-read old last (codes "::" ++ n ++ []) e.state.candidates whole e.candidates;
+      candidates = candidates-read (detail_of s) old last (codes "::" ++ n ++ []) e.state.candidates whole e.candidates;
       e = behind.made;
       encoded = behind.encoded;
       shows = subst (λ l. Shows (detail_of s) behind.made l) (sym written) (behind.shows e.bytes e.encloses);

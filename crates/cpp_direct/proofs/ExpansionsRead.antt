@@ -1,4 +1,5 @@
 -- A reference to each type of a pack is a function's last parameter.
+use Rattle.sym_print.specs.declared.detail.Detail.{Detail}
 use Rattle.cpp_direct.specs.declared.open.Argument.{Argument}
 use Rattle.std.proofs.lemmas.List.{length-append}
 use Rattle.std.proofs.Common.{◌≡◌, ℕ, ◌+◌, ◌-◌, ◌≤◌, length, List, [], ◌∷◌, ◌++◌, take, drop, true, Option, None, Some, reverse, codes, ap, sym, ◌∙◌, subst, arith, append_assoc, ◌≢◌, zero, suc, ◌<◌, inl, inr, slice_get, refl, append-nil}
@@ -7,7 +8,7 @@ use Rattle.cpp_grammar.specs.declared.kind.Kind.{Kind}
 use Rattle.cpp_grammar.specs.Parts.{types_of}
 use Rattle.cpp_grammar.specs.Scope.{arguments_of, count}
 use Rattle.cpp_grammar.specs.Term.{expansion, parameter, rvalue, list, nil, Term, pack}
-use Rattle.cpp_direct.specs.Symbol.{Symbol}
+use Rattle.cpp_direct.specs.Symbol.{detail_of, Symbol}
 use Rattle.cpp_direct.specs.declared.open.Mark.{Mark}
 use Rattle.cpp_direct.specs.declared.direct.Direct.{Direct}
 use Rattle.cpp_direct.specs.declared.open.Arguments.{Arguments}
@@ -53,8 +54,8 @@ same-elements (x ∷ xs) (y ∷ ys) e =
     ap (λ z. z ∷ xs) first ∙ ap (λ zs. y ∷ zs) (same-elements xs ys rest)
 
 -- the elements of a function's pack
-pub pack-of : (text : List ℕ) (argument : Arguments) (name : Term) → (h : HasArguments text argument name) → argument.first.is_pack ≡ true
-    → (ordered : argument.first.from ≤ argument.first.to) → IsPackOf text argument (h 0 ordered).elements
+pub pack-of : {detail : Detail} (text : List ℕ) (argument : Arguments) (name : Term) → (h : HasArguments detail text argument name) → argument.first.is_pack ≡ true
+    → (ordered : argument.first.from ≤ argument.first.to) → IsPackOf detail text argument (h 0 ordered).elements
 pack-of text argument name h pack_ ordered =
     let first = (h 0 ordered).alone pack_ in
     record {
@@ -75,7 +76,7 @@ pack-of text argument name h pack_ ordered =
     }
 
 -- none is written yet
-pub none-forwarded : (w : Direct) (ts : List Term) → AreForwarded w w ts 0
+pub none-forwarded : {detail : Detail} (w : Direct) (ts : List Term) → AreForwarded detail w w ts 0
 none-forwarded w ts = record {
   done = [];
   rest = ts;
@@ -98,7 +99,8 @@ none-left [] e = refl
 none-left (t ∷ ts) e = absurd (omega (arith, e))
 
 -- all were written
-pub all-forwarded : (before w : Direct) (ts : List Term) (number : ℕ) → length ts ≤ number → (f : AreForwarded before w ts number) → f.rest ≡ []
+pub all-forwarded : {detail : Detail} (before w : Direct) (ts : List Term) (number : ℕ) → length ts ≤ number → (f : AreForwarded detail before w ts number)
+    → f.rest ≡ []
 all-forwarded before w ts number le f = elim f.count [
   | inl e ↦ none-left f.rest (omega (arith, le, e, ap length f.all, length-append f.done f.rest))
   | inr e ↦ e.0
@@ -122,8 +124,9 @@ comma-between (d ∷ done) zero bytes e = absurd (omega (arith, e))
 comma-between (d ∷ done) (suc k) bytes e = refl
 
 -- where an element is
-pub forwarded-inside : (before w one : Direct) (ts : List Term) (argument : Arguments) (number : ℕ) (place : Argument) → IsPackOf before.text.list.items argument ts
-    → AreForwarded before w ts number → place ≡ place_of argument number → place.from ≤ place.to → place.is_pack ≡ true → Writes w one (comma_text number)
+pub forwarded-inside : {detail : Detail} (before w one : Direct) (ts : List Term) (argument : Arguments) (number : ℕ) (place : Argument)
+    → IsPackOf detail before.text.list.items argument ts
+    → AreForwarded detail before w ts number → place ≡ place_of argument number → place.from ≤ place.to → place.is_pack ≡ true → Writes w one (comma_text number)
     → place.to ≤ length one.text.list.items
 forwarded-inside before w one ts argument number place p f is known is_pack writes =
     let q = place_of argument number in
@@ -140,12 +143,12 @@ forwarded-inside before w one ts argument number place p f is known is_pack writ
     )
 
 -- a reference to one more is written
-pub forwarded-more : (before w one two new : Direct) (ts : List Term) (argument : Arguments) (number : ℕ) (place : Argument) (marks : List ℕ)
-    → IsPackOf before.text.list.items argument ts → AreForwarded before w ts number → number < argument.elements
+pub forwarded-more : {detail : Detail} (before w one two new : Direct) (ts : List Term) (argument : Arguments) (number : ℕ) (place : Argument) (marks : List ℕ)
+    → IsPackOf detail before.text.list.items argument ts → AreForwarded detail before w ts number → number < argument.elements
     → place ≡ place_of argument number → place.from ≤ place.to → place.is_pack ≡ true → Writes w one (comma_text number)
     → Writes one two (take (place.to - place.from) (drop place.from one.text.list.items)) → marks ≡ forwarded place.is_reference → Writes two new marks
-    → AreForwarded before new ts (number + 1)
-forwarded-more before w one two new ts argument number place marks p f below is known is_pack comma piece marks_are mark = elim f.count [
+    → AreForwarded detail before new ts (number + 1)
+forwarded-more {detail} before w one two new ts argument number place marks p f below is known is_pack comma piece marks_are mark = elim f.count [
   | inl size ↦ go size
   | inr over ↦ absurd (omega (arith, over.1, below, p.size))
 ]
@@ -153,10 +156,10 @@ forwarded-more before w one two new ts argument number place marks p f below is 
     q : Argument
     q = place_of argument number
 
-    h : IsAmong before.text.list.items q number ts
+    h : IsAmong detail before.text.list.items q number ts
     h = p.among number (subst IsKnown is known) (ap (λ (k : Argument). k.is_pack) (sym is) ∙ is_pack)
 
-    go : length f.done ≡ number → AreForwarded before new ts (number + 1)
+    go : length f.done ≡ number → AreForwarded detail before new ts (number + 1)
     go size =
         let next = next-one f.done f.rest number h.own size (subst (λ l. slice_get l number ≡ Some h.own) f.all h.there) in
         let one_is : one.text.list.items ≡ before.text.list.items ++ (f.bytes ++ comma_text number) =
@@ -174,7 +177,7 @@ forwarded-more before w one two new ts argument number place marks p f below is 
           all = f.all ∙ ap (λ l. f.done ++ l) next.1 ∙ sym (append_assoc f.done (h.own ∷ []) next.0);
           count = inl (omega (arith, size, length-append f.done (h.own ∷ [])));
           bytes = all_bytes;
-          prints = next-prints-by PrintsForwarded f.done f.bytes h.own more f.prints (h.bytes, q.is_reference, h.prints, refl);
+          prints = next-prints-by (PrintsForwarded detail) f.done f.bytes h.own more f.prints (h.bytes, q.is_reference, h.prints, refl);
           writes = record {
             text = mark.text ∙ ap (λ l. l ++ marks) (piece.text ∙ ap (λ l. one.text.list.items ++ l) own ∙ ap (λ l. l ++ h.bytes) one_is)
                 ∙ ap (λ l. before.text.list.items ++ (f.bytes ++ comma_text number) ++ h.bytes ++ l)
@@ -202,7 +205,7 @@ some-there (t ∷ ts) own e none = cc none
 pub expansion-read : (s : Symbol) (old begun last new : Direct) (mark : Mark) (start : ℕ) (argument : Arguments) (a : AwaitsNextParameter s old mark start argument)
     → argument.first.is_pack ≡ true → (ordered : argument.first.from ≤ argument.first.to) → argument.elements ≤ 4 → StandsAt s.bytes old.at (68 ∷ 112 ∷ 79 ∷ 84 ∷ 95 ∷ [])
     → begun.text ≡ old.text → begun.candidates ≡ old.candidates → begun.waiting ≡ old.waiting → begun.at ≡ old.at + 5
-    → AreForwarded begun last (a.is_function.names 0 ordered).elements 4
+    → AreForwarded (detail_of s) begun last (a.is_function.names 0 ordered).elements 4
     → new.text ≡ last.text → new.candidates.list.items ≡ with_three last.candidates.list.items → new.waiting ≡ last.waiting → new.at ≡ last.at
     → IsParameterEnded s new mark start argument
 expansion-read s old begun last new mark start argument a pack_ ordered few stands same_text same_candidates same_waiting begun_at fw text candidates waiting at =
@@ -222,22 +225,22 @@ expansion-read s old begun last new mark start argument a pack_ ordered few stan
     (element.onward t (old.at + 5) later comes) in
     let rest = all-forwarded begun last ts 4 (omega (arith, few, first.2)) fw in
     let done : fw.done ≡ ts = sym (append-nil fw.done) ∙ ap (λ l. fw.done ++ l) (sym rest) ∙ sym fw.all in
-    let prints : PrintAllBy PrintsForwarded ts bytes = subst (λ l. PrintAllBy PrintsForwarded l bytes) done fw.prints in
+    let prints : PrintAllBy (PrintsForwarded (detail_of s)) ts bytes = subst (λ l. PrintAllBy (PrintsForwarded (detail_of s)) l bytes) done fw.prints in
     let alone : arguments_of f.own ≡ Some (list (pack (list_of ts)) nil) = n.all_are ∙ ap (λ l. Some l) first.0 in
     let grown : new.text.list.items ≡ old.text.list.items ++ bytes =
     ap (λ v. v.list.items) text ∙ fw.writes.text ∙ ap (λ v. v.list.items ++ bytes) same_text in
-    let known : AreCandidates (old.text.list.items ++ bytes) (with_three old.candidates.list.items) later.candidates =
-    one-hidden (old.text.list.items ++ bytes) ((old.candidates.list.items ++ hidden ∷ []) ++ hidden ∷ [])
+    let known : AreCandidates (detail_of s) (old.text.list.items ++ bytes) (with_three old.candidates.list.items) later.candidates =
+    one-hidden (detail_of s) (old.text.list.items ++ bytes) ((old.candidates.list.items ++ hidden ∷ []) ++ hidden ∷ [])
     ((a.state.candidates ++ candidate around (parameter 0) ∷ []) ++ candidate around (rvalue (parameter 0)) ∷ [])
     (candidate around t)
-    (one-hidden (old.text.list.items ++ bytes) (old.candidates.list.items ++ hidden ∷ [])
+    (one-hidden (detail_of s) (old.text.list.items ++ bytes) (old.candidates.list.items ++ hidden ∷ [])
     (a.state.candidates ++ candidate around (parameter 0) ∷ []) (candidate around (rvalue (parameter 0)))
-    (one-hidden (old.text.list.items ++ bytes) old.candidates.list.items a.state.candidates (candidate around (parameter 0))
-    (candidates-stay old.text.list.items bytes old.candidates.list.items a.state.candidates a.candidates))) in
+    (one-hidden (detail_of s) (old.text.list.items ++ bytes) old.candidates.list.items a.state.candidates (candidate around (parameter 0))
+    (candidates-stay (detail_of s) old.text.list.items bytes old.candidates.list.items a.state.candidates a.candidates))) in
     record {
       state = later;
-      candidates = subst (λ l. AreCandidates l new.candidates.list.items later.candidates) (sym grown)
-          (subst (λ ks. AreCandidates (old.text.list.items ++ bytes) ks later.candidates)
+      candidates = subst (λ l. AreCandidates (detail_of s) l new.candidates.list.items later.candidates) (sym grown)
+          (subst (λ ks. AreCandidates (detail_of s) (old.text.list.items ++ bytes) ks later.candidates)
           (sym (candidates ∙ ap (λ v. with_three v.list.items) (fw.writes.candidates ∙ same_candidates))) known);
       rest = a.rest;
       open_is = ap (λ v. reverse v.list.items) (waiting ∙ fw.writes.waiting ∙ same_waiting) ∙ a.open_is;
@@ -254,7 +257,7 @@ expansion-read s old begun last new mark start argument a pack_ ordered few stan
         prints = f.prints;
         elements = next-prints-in (types_of f.own) 6 a.ts a.texts t bytes f.elements
             (expansion-element f.own ts bytes (some-there ts n.own first.1) alone prints);
-        names = subst (λ l. HasArguments l argument f.own) (sym grown) (arguments-stay old.text.list.items bytes argument f.own f.names);
+        names = subst (λ l. HasArguments (detail_of s) l argument f.own) (sym grown) (arguments-stay old.text.list.items bytes argument f.own f.names);
       };
       fronts = a.fronts;
       written = grown ∙ ap (λ l. l ++ bytes) a.written ∙ append_assoc front (in_front_of_next a.ts a.texts) bytes;

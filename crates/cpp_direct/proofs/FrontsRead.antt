@@ -1,15 +1,15 @@
 -- Functions that have a return type: it is read after the name, and written before it.
+use Rattle.cpp_direct.proofs.PrintedParts.{has-none, has-parameters}
 use Rattle.cpp_direct.proofs.PrintedLocals.{returned-enclosing, returned-shows}
 use Rattle.std.proofs.Common.{◌≡◌, refl, ap, sym, ◌∙◌, subst, ℕ, ◌-◌, List, [], ◌∷◌, ◌++◌, length, take, drop, reverse, inl, inr, Bool, true, false, arith, codes, append_assoc, ◌≢◌}
 use Rattle.std.proofs.lemmas.Bool.{false≢true}
 use Rattle.std.proofs.Math.Seq.{take-append_seam}
-use Rattle.sym_print.specs.declared.detail.Detail.TheVariants.{Full, NoParameters}
 use Rattle.cpp_grammar.specs.declared.kind.Kind.{Kind}
-use Rattle.cpp_grammar.specs.Term.{Term, function, list}
+use Rattle.cpp_grammar.specs.Term.{Term, list}
 use Rattle.cpp_grammar.specs.Between.{no_items}
 use Rattle.cpp_grammar.specs.Meaning.{parameters, encoding_of}
 use Rattle.cpp_grammar.specs.Values.{Value}
-use Rattle.cpp_direct.specs.Symbol.{Symbol, detail_by, detail_of}
+use Rattle.cpp_direct.specs.Symbol.{Symbol, detail_of}
 use Rattle.cpp_direct.specs.declared.open.Mark.{Mark}
 use Rattle.cpp_direct.specs.Marks.{has_const, called_on}
 use Rattle.cpp_direct.specs.declared.open.Open.TheVariants as opens
@@ -17,7 +17,7 @@ use Rattle.cpp_direct.specs.declared.open.Arguments.{Arguments}
 use Rattle.cpp_grammar.specs.Parts.{types_of}
 use Rattle.cpp_direct.specs.declared.open.Step.TheVariants as steps
 use Rattle.cpp_direct.specs.declared.direct.Direct.{Direct}
-use Rattle.cpp_direct.specs.Bytes.{has_bracket, is_local}
+use Rattle.cpp_direct.specs.Bytes.{is_local}
 use Rattle.cpp_direct.specs.Holes.{Expects}
 use Rattle.cpp_direct.specs.Prints.{PrintsIn, Shows, Encloses}
 use Rattle.cpp_direct.specs.WriterInvariant.{AreCandidates, EncodedBehind, Fronts, HasArguments, IsScoped, IsWriting, IsInstance, named_in, ParametersGoOn, Stands, qualifiers, plain_encoding, encoding_place}
@@ -32,12 +32,12 @@ use Rattle.cpp_direct.proofs.PrintedSymbols.{encoding-returned, front-shows}
 
 -- the return type of a function is expected after its name
 pub front-begins : (s : Symbol) (w new : Direct) (mark : Mark) (argument_ : Arguments) (from start place : ℕ) (p : IsNameEnded s w mark true argument_ from)
-    → (s.is_bare ≡ true → has_bracket p.name ≡ false) → (is_local s.bytes ≡ false → from ≡ 0) → (place ≢ 0 → from ≡ 0) → (place ≢ 0 → place ≡ encoding_place s.bytes)
+    → (is_local s.bytes ≡ false → from ≡ 0) → (place ≢ 0 → from ≡ 0) → (place ≢ 0 → place ≡ encoding_place s.bytes)
     → start ≡ length w.text.list.items → new.text ≡ w.text → new.candidates ≡ w.candidates → new.at ≡ w.at
     → new.waiting.list.items ≡ w.waiting.list.items ++ opens.Front mark start (named_in place argument_) ∷ [] → IsWriting s new steps.Type
-front-begins s w new mark argument_ from start place p bare apart first place_is start_is text candidates at waiting =
+front-begins s w new mark argument_ from start place p apart first place_is start_is text candidates at waiting =
     let argument = named_in place argument_ in
-    let instance_ : IsInstance w.text.list.items argument mark p.v p.name = record {
+    let instance_ : IsInstance (detail_of s) w.text.list.items argument mark p.v p.name = record {
       own = p.own;
       tree_is = p.tree_is;
       qualifiers_are = p.qualifiers_are;
@@ -59,12 +59,11 @@ front-begins s w new mark argument_ from start place p bare apart first place_is
       start_is,
       λ t here now comes. parameter-goes_on s argument (λ e there then_. EncodedBehind s p.lead e there) (λ l. encoding_of p.v l) [] w.at p.state goes
           t here now (element.onward t here now comes),
-      bare,
     ) in
     record {
       state = p.state;
-      candidates = subst (λ v. AreCandidates v.list.items new.candidates.list.items p.state.candidates) (sym text)
-          (subst (λ v. AreCandidates w.text.list.items v.list.items p.state.candidates) (sym candidates) p.candidates);
+      candidates = subst (λ v. AreCandidates (detail_of s) v.list.items new.candidates.list.items p.state.candidates) (sym text)
+          (subst (λ v. AreCandidates (detail_of s) w.text.list.items v.list.items p.state.candidates) (sym candidates) p.candidates);
       is_before = (
         element.inner,
         goes.around,
@@ -79,19 +78,18 @@ front-begins s w new mark argument_ from start place p bare apart first place_is
     }
 
 -- a function's return type comes before what it shows without one
-turned : (s : Symbol) (argument : Arguments) (mark : Mark) (v : Value) (name : List ℕ) (text : List ℕ) (is : IsInstance text argument mark v name) (r : Term) (b : List ℕ)
-    (is_reference : Bool) → PrintsIn (types_of is.own) 2 r b is_reference → (items : Term) (at : ℕ) → s.is_bare ≡ false → is_local s.bytes ≡ false → EncodedBehind s [] (encoding_of v (list r items)) at
+turned : (s : Symbol) (argument : Arguments) (mark : Mark) (v : Value) (name : List ℕ) (text : List ℕ) (is : IsInstance (detail_of s) text argument mark v name) (r : Term) (b : List ℕ)
+    (is_reference : Bool) → PrintsIn (detail_of s) (types_of is.own) 2 r b is_reference → (items : Term) (at : ℕ) → s.is_bare ≡ false
+    → is_local s.bytes ≡ false → EncodedBehind s [] (encoding_of v (list r items)) at
     → EncodedBehind s (b ++ codes " ") (plain_encoding mark is.own items) at
-turned s argument mark v name text is r b is_reference prints items at whole_ apart p = let full_ : detail_of s ≡ Full = ap detail_by whole_ in record {
+turned s argument mark v name text is r b is_reference prints items at whole_ apart p = record {
   whole = λ e. let w = p.whole e in record {
     made = w.made;
     encoded = w.encoded;
     shows = λ bytes shows. w.shows (b ++ codes " " ++ bytes)
         (subst (λ t. Shows (detail_of s) t (b ++ codes " " ++ bytes))
         (sym (encoding-returned v mark is.own is.tree_is is.qualifiers_are is.mark_is is.returns r items))
-        (subst (λ d. Shows d (function is.own (qualifiers (has_const mark)) (called_on mark) r (parameters items)) (b ++ codes " " ++ bytes)) (sym full_)
-        (front-shows is.own (qualifiers (has_const mark)) (called_on mark) (parameters items) bytes
-        (subst (λ d. Shows d (plain_encoding mark is.own items) bytes) full_ shows) r b is_reference prints)));
+        (front-shows (has-parameters s whole_) is.own (qualifiers (has_const mark)) (called_on mark) (parameters items) bytes shows r b is_reference prints));
   };
   entity = λ e. absurd (false≢true (sym apart ∙ e));
 }
@@ -111,13 +109,13 @@ front-turned s w here first last mark start argument p whole_ plain text candida
     let again : take (start - 0) (drop 0 first.text.list.items) ≡ p.front =
     ap (λ n. take n first.text.list.items) (omega (arith, p.start_is)) ∙ ap (λ l. take (length p.front) l) front ∙ take-append_seam p.front lead in
     let written : last.text.list.items ≡ p.front ++ lead ++ p.front = two.text ∙ ap (λ l. first.text.list.items ++ l) again ∙ ap (λ l. l ++ p.front) front in
-    let known : AreCandidates here.text.list.items here.candidates.list.items p.state.candidates =
-    subst (λ v. AreCandidates v.list.items here.candidates.list.items p.state.candidates) (sym text)
-    (subst (λ v. AreCandidates w.text.list.items v.list.items p.state.candidates) (sym candidates) p.candidates) in
+    let known : AreCandidates (detail_of s) here.text.list.items here.candidates.list.items p.state.candidates =
+    subst (λ v. AreCandidates (detail_of s) v.list.items here.candidates.list.items p.state.candidates) (sym text)
+    (subst (λ v. AreCandidates (detail_of s) w.text.list.items v.list.items p.state.candidates) (sym candidates) p.candidates) in
     record {
       state = p.state;
-      candidates = candidates-written first last (take (start - 0) (drop 0 first.text.list.items)) p.state.candidates two
-          (candidates-written here first (codes " ") p.state.candidates one known);
+      candidates = candidates-written (detail_of s) first last (take (start - 0) (drop 0 first.text.list.items)) p.state.candidates two
+          (candidates-written (detail_of s) here first (codes " ") p.state.candidates one known);
       make = λ l. plain_encoding mark is.own l;
       front = p.front ++ lead ++ p.name;
       lead = lead;
@@ -126,8 +124,8 @@ front-turned s w here first last mark start argument p whole_ plain text candida
         own = is.own;
         makes = λ t rest. refl;
         prints = is.prints;
-        elements = none-print-in (types_of is.own) 6;
-        names = subst (λ l. HasArguments l argument is.own) (sym written)
+        elements = none-print-in (detail_of s) (types_of is.own) 6;
+        names = subst (λ l. HasArguments (detail_of s) l argument is.own) (sym written)
             (arguments-stay (p.front ++ lead) p.front argument is.own (arguments-stay p.front lead argument is.own is.names));
       };
       fronts = subst (λ b. Fronts b (p.front ++ lead ++ p.name) start lead p.name) (sym whole_) (p.front, refl, p.start_is);
@@ -144,7 +142,7 @@ front-turned s w here first last mark start argument p whole_ plain text candida
     }
 
 -- before a local entity a function shows no return type
-hidden-return : (s : Symbol) (lead : List ℕ) (argument : Arguments) (mark : Mark) (v : Value) (name text : List ℕ) (is : IsInstance text argument mark v name)
+hidden-return : (s : Symbol) (lead : List ℕ) (argument : Arguments) (mark : Mark) (v : Value) (name text : List ℕ) (is : IsInstance (detail_of s) text argument mark v name)
     (r : Term) → is_local s.bytes ≡ true → (items : Term) (at : ℕ) → EncodedBehind s lead (encoding_of v (list r items)) at
     → EncodedBehind s lead (plain_encoding mark is.own items) at
 hidden-return s lead argument mark v name text is r local_ items at p = record {
@@ -171,7 +169,7 @@ front-hidden s w last mark start begins argument p whole_ local_ begins_is one =
     let written : last.text.list.items ≡ aside ++ p.front = one.text ∙ ap (λ l. w.text.list.items ++ l) again ∙ ap (λ l. l ++ p.front) p.written in
     record {
       state = p.state;
-      candidates = candidates-written w last (take (start - 0) (drop 0 w.text.list.items)) p.state.candidates one p.candidates;
+      candidates = candidates-written (detail_of s) w last (take (start - 0) (drop 0 w.text.list.items)) p.state.candidates one p.candidates;
       make = λ l. plain_encoding mark is.own l;
       front = aside ++ p.lead ++ p.name;
       lead = p.lead;
@@ -180,8 +178,8 @@ front-hidden s w last mark start begins argument p whole_ local_ begins_is one =
         own = is.own;
         makes = λ t rest. refl;
         prints = is.prints;
-        elements = none-print-in (types_of is.own) 6;
-        names = subst (λ l. HasArguments l argument is.own) (sym written)
+        elements = none-print-in (detail_of s) (types_of is.own) 6;
+        names = subst (λ l. HasArguments (detail_of s) l argument is.own) (sym written)
             (arguments-stay aside p.front argument is.own (arguments-stay p.front p.bytes argument is.own is.names));
       };
       fronts = subst (λ b. Fronts b (aside ++ p.lead ++ p.name) begins p.lead p.name) (sym whole_) (aside, refl, begins_is ∙ ap length p.written);
@@ -198,11 +196,10 @@ front-hidden s w last mark start begins argument p whole_ local_ begins_is one =
     }
 
 -- where functions are shown by their names alone none shows a return type
-bare-return : (s : Symbol) (lead : List ℕ) (argument : Arguments) (mark : Mark) (v : Value) (name text : List ℕ) (is : IsInstance text argument mark v name)
+bare-return : (s : Symbol) (lead : List ℕ) (argument : Arguments) (mark : Mark) (v : Value) (name text : List ℕ) (is : IsInstance (detail_of s) text argument mark v name)
     (r : Term) → s.is_bare ≡ true → (items : Term) (at : ℕ) → EncodedBehind s lead (encoding_of v (list r items)) at
     → EncodedBehind s lead (plain_encoding mark is.own items) at
 bare-return s lead argument mark v name text is r bare items at p =
-    let alone_ : detail_of s ≡ NoParameters = ap detail_by bare in
     let returns = sym (encoding-returned v mark is.own is.tree_is is.qualifiers_are is.mark_is is.returns r items) in
     record {
       whole = λ e. let w = p.whole e in record {
@@ -210,9 +207,7 @@ bare-return s lead argument mark v name text is r bare items at p =
         encoded = w.encoded;
         shows = λ bytes shows. w.shows bytes
             (subst (λ t. Shows (detail_of s) t bytes) returns
-            (subst (λ d. Shows d (function is.own (qualifiers (has_const mark)) (called_on mark) r (parameters items)) bytes) (sym alone_)
-            (returned-shows is.own (qualifiers (has_const mark)) (called_on mark) r (parameters items) bytes
-            (subst (λ d. Shows d (plain_encoding mark is.own items) bytes) alone_ shows))));
+            (returned-shows (has-none s bare) is.own (qualifiers (has_const mark)) (called_on mark) r (parameters items) bytes shows));
       };
       entity = λ e internal called digit end told. let w = p.entity e internal called digit end told in record {
         made = w.made;
@@ -231,8 +226,8 @@ front-bare s w last mark start argument p bare text candidates at =
     let written : last.text.list.items ≡ p.front ++ p.bytes = ap (λ v. v.list.items) text ∙ p.written in
     record {
       state = p.state;
-      candidates = subst (λ v. AreCandidates v.list.items last.candidates.list.items p.state.candidates) (sym text)
-          (subst (λ v. AreCandidates w.text.list.items v.list.items p.state.candidates) (sym candidates) p.candidates);
+      candidates = subst (λ v. AreCandidates (detail_of s) v.list.items last.candidates.list.items p.state.candidates) (sym text)
+          (subst (λ v. AreCandidates (detail_of s) w.text.list.items v.list.items p.state.candidates) (sym candidates) p.candidates);
       make = λ l. plain_encoding mark is.own l;
       front = p.front ++ p.bytes;
       lead = p.lead;
@@ -241,11 +236,11 @@ front-bare s w last mark start argument p bare text candidates at =
         own = is.own;
         makes = λ t rest. refl;
         prints = is.prints;
-        elements = none-print-in (types_of is.own) 6;
-        names = subst (λ l. HasArguments l argument is.own) (sym written) (arguments-stay p.front p.bytes argument is.own is.names);
+        elements = none-print-in (detail_of s) (types_of is.own) 6;
+        names = subst (λ l. HasArguments (detail_of s) l argument is.own) (sym written) (arguments-stay p.front p.bytes argument is.own is.names);
       };
       fronts = subst (λ b. Fronts b (p.front ++ p.bytes) start p.lead p.name) (sym bare)
-          (p.bytes, ap (λ l. l ++ p.bytes) p.front_is, p.start_is ∙ ap length p.front_is, p.bare bare);
+          (p.bytes, ap (λ l. l ++ p.bytes) p.front_is, p.start_is ∙ ap length p.front_is);
       written = written;
       goes = record {
         around = p.goes.around;

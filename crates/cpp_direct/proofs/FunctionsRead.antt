@@ -2,7 +2,7 @@
 use Rattle.std.proofs.Common.{◌≡◌, ◌⊎◌, inl, inr, ℕ, ◌+◌, List, [], ◌∷◌, ◌++◌, reverse, Bool, true, false, refl, ap, sym, subst, ◌∙◌, if◌then◌else◌}
 use Rattle.cpp_grammar.specs.declared.kind.Kind.{Kind}
 use Rattle.cpp_grammar.specs.Values.{State, Around, outermost}
-use Rattle.cpp_direct.specs.Symbol.{Symbol}
+use Rattle.cpp_direct.specs.Symbol.{detail_of, Symbol}
 use Rattle.cpp_direct.specs.declared.open.Open.TheVariants as opens
 use Rattle.cpp_direct.specs.declared.open.Step.TheVariants as steps
 use Rattle.cpp_direct.specs.declared.direct.Direct.{Direct}
@@ -40,8 +40,8 @@ function-begins s old new is_pointer p letters takes waits at text candidates = 
         let f = return-opens s is_pointer kind os around old.at p.state whole p.is_before.2 expects letters in
         record {
           state = p.state;
-          candidates = subst (λ v. AreCandidates new.text.list.items v.list.items p.state.candidates) (sym candidates)
-              (subst (λ v. AreCandidates v.list.items old.candidates.list.items p.state.candidates) (sym text) p.candidates);
+          candidates = subst (λ v. AreCandidates (detail_of s) new.text.list.items v.list.items p.state.candidates) (sym candidates)
+              (subst (λ v. AreCandidates (detail_of s) v.list.items old.candidates.list.items p.state.candidates) (sym text) p.candidates);
           is_before = (
             f.inner,
             around,

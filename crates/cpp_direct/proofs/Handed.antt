@@ -1,11 +1,10 @@
 -- A type was read, and is handed to what waits for it.
 use Rattle.std.proofs.Common.{◌≡◌, ℕ, ◌-◌, length, List, [], ◌∷◌, ◌++◌, reverse, slice_get, Bool, true, false, Some, refl, ap, sym, ◌∙◌, subst, codes, append_assoc}
 use Rattle.std.proofs.lemmas.Bool.{false≢true}
-use Rattle.sym_print.specs.declared.detail.Detail.TheVariants.{Full}
 use Rattle.cpp_grammar.specs.Term.{Term, special}
 use Rattle.cpp_grammar.specs.Parts.{types_of}
 use Rattle.cpp_grammar.specs.Values.{State, tree}
-use Rattle.cpp_direct.specs.Symbol.{Symbol}
+use Rattle.cpp_direct.specs.Symbol.{detail_of, Symbol}
 use Rattle.cpp_direct.specs.declared.open.Access.{Access}
 use Rattle.cpp_direct.specs.declared.open.Mark.{Mark}
 use Rattle.cpp_direct.specs.declared.open.Open.{Open}
@@ -16,7 +15,7 @@ use Rattle.cpp_direct.specs.declared.direct.Direct.{Direct}
 use Rattle.cpp_direct.specs.Holes.{Opened, Comes}
 use Rattle.cpp_direct.specs.Prints.{Prints, PrintsIn, IsElementIn, Shows}
 use Rattle.cpp_direct.specs.WriterInvariant.{AreCandidates, HasArguments, IsTemplate, IsWriting, Marks, AwaitsEnumerator, Belongs, Listing, of_template, of_pack, Stands, opening_text, extra_of, led_by, in_front_of_next, argument_of}
-use Rattle.cpp_direct.specs.MidStep.{AwaitsMark, AwaitsNumber, AwaitsSignature, IsElementRead, IsFrontRead, IsParameterEnded, IsReturned, IsSymbolWritten}
+use Rattle.cpp_direct.specs.MidStep.{AwaitsMark, AwaitsNumber, AwaitsSignature, IsElementRead, IsFrontRead, IsParameterEnded, IsReturned, IsSymbolEnded}
 use Rattle.cpp_direct.proofs.Listed.{TakesElements, last-found, list-waits, listing-at, some-elements}
 use Rattle.cpp_direct.proofs.PrintedLists.{element-in, next-prints, next-prints-in, type-element}
 use Rattle.cpp_direct.proofs.PrintedTypes.{prints-in}
@@ -28,7 +27,7 @@ use Rattle.cpp_direct.proofs.Scopes.{arguments-stay}
 pub value-marked : (s : Symbol) (w : Direct) (is_reference marked_reference : Bool) (entry : Open) (from : ℕ) (made : Term → Term) (mark : List ℕ)
     → IsWriting s w (steps.Value is_reference) → slice_get w.waiting.list.items (length w.waiting.list.items - 1) ≡ Some entry
     → ((rest : List Open) (os : List Opened) (text : List ℕ) → Stands s (entry ∷ rest) os text → Marks s (Stands s rest) (argument_of rest) os text from made)
-    → ((t : Term) (b : List ℕ) → Prints t b is_reference → Prints (made t) (b ++ mark) marked_reference)
+    → ((t : Term) (b : List ℕ) → Prints (detail_of s) t b is_reference → Prints (detail_of s) (made t) (b ++ mark) marked_reference)
     → AwaitsMark s w mark from marked_reference
 value-marked s w is_reference marked_reference entry from made mark p found stands_as prints_as =
     let os = p.is_before.0 in
@@ -82,8 +81,9 @@ value-element s w is_reference o p found =
 -- a parameter was read
 pub parameter-got : (s : Symbol) (w : Direct) (mark : Mark) (start : ℕ) (argument : Arguments) (st : State) (rest : List Open) (os : List Opened) (t : Term)
     (front bytes : List ℕ) (waits : Stands s (opens.Parameters mark start argument ∷ rest) os front)
-    → AreCandidates w.text.list.items w.candidates.list.items st.candidates → reverse w.waiting.list.items ≡ opens.Parameters mark start argument ∷ rest
-    → w.text.list.items ≡ front ++ bytes → Comes s os (tree t true) w.at st → IsElementIn (types_of waits.6.own) 6 t bytes
+    → AreCandidates (detail_of s) w.text.list.items w.candidates.list.items st.candidates
+    → reverse w.waiting.list.items ≡ opens.Parameters mark start argument ∷ rest
+    → w.text.list.items ≡ front ++ bytes → Comes s os (tree t true) w.at st → IsElementIn (detail_of s) (types_of waits.6.own) 6 t bytes
     → IsParameterEnded s w mark start argument
 parameter-got s w mark start argument st opened_ os t front bytes waits candidates open_is written comes element =
     let before = waits.0 in
@@ -109,7 +109,7 @@ parameter-got s w mark start argument st opened_ os t front bytes waits candidat
         makes = is_function.makes;
         prints = is_function.prints;
         elements = next-prints-in (types_of is_function.own) 6 ts texts t bytes is_function.elements element;
-        names = subst (λ l. HasArguments l argument is_function.own) (sym written)
+        names = subst (λ l. HasArguments (detail_of s) l argument is_function.own) (sym written)
             (arguments-stay front bytes argument is_function.own is_function.names);
       };
       fronts = waits.7;
@@ -124,7 +124,7 @@ parameter-read s w mark start argument p =
     (element-in (types_of p.stands.6.own) 6 p.own p.bytes (p.element 6))
 
 -- what a special object is of was read
-pub special-read : (s : Symbol) (w : Direct) → IsElementRead s w opens.Special → IsSymbolWritten Full s w
+pub special-read : (s : Symbol) (w : Direct) → IsElementRead s w opens.Special → IsSymbolEnded s w
 special-read s w p =
     let waits = p.stands in
     let letter = waits.0 in
@@ -135,7 +135,7 @@ special-read s w p =
       candidates = p.candidates;
       e = special letter p.own;
       encoded = waits.3 p.own w.at p.state p.comes;
-      shows = subst (λ l. Shows Full (special letter p.own) l) (sym (p.written ∙ ap (λ l. l ++ p.bytes) front_is))
+      shows = subst (λ l. Shows (detail_of s) (special letter p.own) l) (sym (p.written ∙ ap (λ l. l ++ p.bytes) front_is))
           (special-shows letter (λ e. filled (front_is ∙ e)) p.own p.bytes (p.element 0));
     }
 
@@ -147,7 +147,7 @@ value-enumerator s w is_reference p found =
     go last.0 last.1 (subst (λ ws. Stands s ws p.is_before.0 p.is_before.2) last.1 p.is_before.7)
   where
     number : (l : Listing) (opened : List Open) (owner : Open) (rest : List Open) → reverse w.waiting.list.items ≡ opens.Enumerator ∷ opened
-        → Belongs l opened owner rest → AwaitsEnumerator s l owner (Stands s rest) p.is_before.0 p.is_before.2 → AwaitsNumber s w
+        → Belongs (detail_of s) l opened owner rest → AwaitsEnumerator s l owner (Stands s rest) p.is_before.0 p.is_before.2 → AwaitsNumber s w
     number l opened owner rest is belongs waits =
         let t = p.is_before.1 in
         let bytes = p.is_before.3 in
@@ -165,8 +165,8 @@ value-enumerator s w is_reference p found =
             front = waits.0;
             template = waits.1;
             name = waits.2;
-            is_template = subst (λ k. IsTemplate owner waits.0 waits.1 waits.2 k) (sym written)
-                (template-stays owner waits.0 waits.1 waits.2 p.is_before.2 bytes waits.5);
+            is_template = subst (λ k. IsTemplate (detail_of s) owner waits.0 waits.1 waits.2 k) (sym written)
+                (template-stays (detail_of s) owner waits.0 waits.1 waits.2 p.is_before.2 bytes waits.5);
           };
           ts = waits.3;
           texts = waits.4;
@@ -226,9 +226,9 @@ argument-read s w o p takes =
       candidates = p.candidates;
       is_before = (
         listing-at (o ∷ p.rest) front (reverse w.waiting.list.items) w.text.list.items place
-            (subst (λ ws. Belongs place.listing ws place.owner place.rest) (sym p.open_is) place.belongs)
-            (subst (λ l. IsTemplate place.owner place.front place.template place.name l) (sym p.written)
-            (template-stays place.owner place.front place.template place.name front p.bytes place.is_template)),
+            (subst (λ ws. Belongs (detail_of s) place.listing ws place.owner place.rest) (sym p.open_is) place.belongs)
+            (subst (λ l. IsTemplate (detail_of s) place.owner place.front place.template place.name l) (sym p.written)
+            (template-stays (detail_of s) place.owner place.front place.template place.name front p.bytes place.is_template)),
         waits.ts ++ p.own ∷ [],
         in_front_of_next waits.ts waits.texts ++ p.bytes,
         next-prints (extra_of place.listing) waits.ts waits.texts p.own p.bytes waits.elements (p.element (extra_of place.listing)),
@@ -245,8 +245,8 @@ argument-read s w o p takes =
 -- it is the return type of a function
 pub front-got : (s : Symbol) (w : Direct) (is_reference : Bool) (mark : Mark) (start : ℕ) (argument : Arguments) (st : State) (rest : List Open) (os : List Opened)
     (t : Term) (front bytes : List ℕ) (waits : Stands s (opens.Front mark start argument ∷ rest) os front)
-    → AreCandidates w.text.list.items w.candidates.list.items st.candidates → w.text.list.items ≡ front ++ bytes → Comes s os (tree t true) w.at st
-    → PrintsIn (types_of waits.3.own) 2 t bytes is_reference → IsFrontRead s w mark start argument
+    → AreCandidates (detail_of s) w.text.list.items w.candidates.list.items st.candidates → w.text.list.items ≡ front ++ bytes → Comes s os (tree t true) w.at st
+    → PrintsIn (detail_of s) (types_of waits.3.own) 2 t bytes is_reference → IsFrontRead s w mark start argument
 front-got s w is_reference mark start argument st rest os t front bytes waits candidates written comes prints = record {
   state = st;
   candidates = candidates;
@@ -263,7 +263,6 @@ front-got s w is_reference mark start argument st rest os t front bytes waits ca
   is_reference = is_reference;
   prints = prints;
   written = written;
-  bare = waits.8;
   goes = waits.7 t w.at st comes;
 }
 

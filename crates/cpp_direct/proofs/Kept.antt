@@ -1,4 +1,5 @@
 -- What a writer keeps while its text and its lists grow.
+use Rattle.sym_print.specs.declared.detail.Detail.{Detail}
 use Rattle.std.proofs.Common.{◌≡◌, ℕ, zero, suc, ◌+◌, ◌-◌, ◌≤◌, length, List, [], ◌∷◌, ◌++◌, take, drop, reverse, slice_get, Bool, true, false, Option, Some, None, is_some, refl, ap, sym, ◌∙◌, subst, arith, append_assoc, append-nil, codes}
 use Rattle.std.proofs.lemmas.Bool.{false≢true}
 use Rattle.std.proofs.lemmas.List.{length-append, reverse-append, reverse-reverse}
@@ -6,7 +7,7 @@ use Rattle.std.proofs.Math.Seq.{drop-append_seam, take-append_seam}
 use Rattle.cpp_grammar.specs.Term.{Term}
 use Rattle.cpp_grammar.specs.Values as values
 use Rattle.cpp_grammar.specs.Values.{State, Around}
-use Rattle.cpp_direct.specs.Symbol.{Symbol}
+use Rattle.cpp_direct.specs.Symbol.{detail_of, Symbol}
 use Rattle.cpp_direct.specs.declared.open.Candidate.{Candidate}
 use Rattle.cpp_direct.specs.declared.open.Nest.{Nest}
 use Rattle.cpp_direct.specs.declared.open.Open.{Open}
@@ -43,7 +44,8 @@ piece-found text front bytes back from to e from_is to_is = (omega (arith, from_
 -- ## Candidates
 
 -- a candidate stays one where more is written
-pub candidate-stays : (text more : List ℕ) (k : Candidate) (c : values.Candidate) → IsCandidate text k c → IsCandidate (text ++ more) k c
+pub candidate-stays : {detail : Detail} (text more : List ℕ) (k : Candidate) (c : values.Candidate) → IsCandidate detail text k c
+    → IsCandidate detail (text ++ more) k c
 candidate-stays text more k c p = record {
   front = p.front;
   bytes = p.bytes;
@@ -55,24 +57,25 @@ candidate-stays text more k c p = record {
 }
 
 -- candidates stay so where more is written
-pub candidates-stay : (text more : List ℕ) (ks : List Candidate) (cs : List values.Candidate) → AreCandidates text ks cs → AreCandidates (text ++ more) ks cs
-candidates-stay text more [] [] p = tt
-candidates-stay text more (k ∷ ks) (c ∷ cs) p = ((λ e. candidate-stays text more k c (p.0 e)), candidates-stay text more ks cs p.1)
-candidates-stay text more [] (c ∷ cs) p = absurd p
-candidates-stay text more (k ∷ ks) [] p = absurd p
+pub candidates-stay : (detail : Detail) (text more : List ℕ) (ks : List Candidate) (cs : List values.Candidate) → AreCandidates detail text ks cs
+    → AreCandidates detail (text ++ more) ks cs
+candidates-stay detail text more [] [] p = tt
+candidates-stay detail text more (k ∷ ks) (c ∷ cs) p = ((λ e. candidate-stays text more k c (p.0 e)), candidates-stay detail text more ks cs p.1)
+candidates-stay detail text more [] (c ∷ cs) p = absurd p
+candidates-stay detail text more (k ∷ ks) [] p = absurd p
 
 -- one more
-pub candidates-more : (text : List ℕ) (ks : List Candidate) (cs : List values.Candidate) (k : Candidate) (c : values.Candidate)
-    → AreCandidates text ks cs → (k.from ≤ k.to → IsCandidate text k c) → AreCandidates text (ks ++ k ∷ []) (cs ++ c ∷ [])
+pub candidates-more : {detail : Detail} (text : List ℕ) (ks : List Candidate) (cs : List values.Candidate) (k : Candidate) (c : values.Candidate)
+    → AreCandidates detail text ks cs → (k.from ≤ k.to → IsCandidate detail text k c) → AreCandidates detail text (ks ++ k ∷ []) (cs ++ c ∷ [])
 candidates-more text [] [] k c p is = (is, tt)
 candidates-more text (x ∷ ks) (y ∷ cs) k c p is = (p.0, candidates-more text ks cs k c p.1 is)
 candidates-more text [] (y ∷ cs) k c p is = absurd p
 candidates-more text (x ∷ ks) [] k c p is = absurd p
 
 -- what is written from a place on becomes a candidate
-pub candidates-added : (text : List ℕ) (ks : List Candidate) (cs : List values.Candidate) (front bytes : List ℕ) (from : ℕ) (t : Term) (around : Around) (r : Bool)
-    → AreCandidates text ks cs → text ≡ front ++ bytes → from ≡ length front → Prints t bytes r
-    → AreCandidates text (ks ++ record { from = from; to = length text; is_reference = r; is_dependent = false; number = 0; encoding = 0 } ∷ []) (cs ++ candidate around t ∷ [])
+pub candidates-added : {detail : Detail} (text : List ℕ) (ks : List Candidate) (cs : List values.Candidate) (front bytes : List ℕ) (from : ℕ) (t : Term) (around : Around) (r : Bool)
+    → AreCandidates detail text ks cs → text ≡ front ++ bytes → from ≡ length front → Prints detail t bytes r
+    → AreCandidates detail text (ks ++ record { from = from; to = length text; is_reference = r; is_dependent = false; number = 0; encoding = 0 } ∷ []) (cs ++ candidate around t ∷ [])
 candidates-added text ks cs front bytes from t around r p written from_is prints =
     candidates-more text ks cs (record { from = from; to = length text; is_reference = r; is_dependent = false; number = 0; encoding = 0 }) (candidate around t) p (λ ordered. record {
       front = front;
@@ -85,50 +88,53 @@ candidates-added text ks cs front bytes from t around r p written from_is prints
     })
 
 -- the same of a writer and a state
-pub candidates-with : (w : Direct) (st : State) (front bytes : List ℕ) (from : ℕ) (t : Term) (around : Around) (r : Bool)
-    → AreCandidates w.text.list.items w.candidates.list.items st.candidates → w.text.list.items ≡ front ++ bytes → from ≡ length front → Prints t bytes r
-    → AreCandidates w.text.list.items (added w from r) (with_candidate around t st).candidates
+pub candidates-with : {detail : Detail} (w : Direct) (st : State) (front bytes : List ℕ) (from : ℕ) (t : Term) (around : Around) (r : Bool)
+    → AreCandidates detail w.text.list.items w.candidates.list.items st.candidates → w.text.list.items ≡ front ++ bytes → from ≡ length front
+    → Prints detail t bytes r
+    → AreCandidates detail w.text.list.items (added w from r) (with_candidate around t st).candidates
 candidates-with w st front bytes from t around r p written from_is prints =
     candidates-added w.text.list.items w.candidates.list.items st.candidates front bytes from t around r p written from_is prints
 
 -- the same unless it is one already
-pub candidates-unless : (w : Direct) (st : State) (listed : Bool) (front bytes : List ℕ) (from : ℕ) (t : Term) (around : Around)
-    → AreCandidates w.text.list.items w.candidates.list.items st.candidates → w.text.list.items ≡ front ++ bytes → from ≡ length front → Prints t bytes false
-    → AreCandidates w.text.list.items (added_unless w listed from) (unless_listed listed around t st).candidates
+pub candidates-unless : {detail : Detail} (w : Direct) (st : State) (listed : Bool) (front bytes : List ℕ) (from : ℕ) (t : Term) (around : Around)
+    → AreCandidates detail w.text.list.items w.candidates.list.items st.candidates → w.text.list.items ≡ front ++ bytes → from ≡ length front
+    → Prints detail t bytes false
+    → AreCandidates detail w.text.list.items (added_unless w listed from) (unless_listed listed around t st).candidates
 candidates-unless w st true front bytes from t around p written from_is prints = p
 candidates-unless w st false front bytes from t around p written from_is prints = candidates-with w st front bytes from t around false p written from_is prints
 
 -- a text was written
-pub candidates-written : (old new : Direct) (bytes : List ℕ) (cs : List values.Candidate) → Writes old new bytes
-    → AreCandidates old.text.list.items old.candidates.list.items cs → AreCandidates new.text.list.items new.candidates.list.items cs
-candidates-written old new bytes cs writes p =
-    subst (λ l. AreCandidates l new.candidates.list.items cs) (sym writes.text)
-    (subst (λ v. AreCandidates (old.text.list.items ++ bytes) v.list.items cs) (sym writes.candidates)
-    (candidates-stay old.text.list.items bytes old.candidates.list.items cs p))
+pub candidates-written : (detail : Detail) (old new : Direct) (bytes : List ℕ) (cs : List values.Candidate) → Writes old new bytes
+    → AreCandidates detail old.text.list.items old.candidates.list.items cs → AreCandidates detail new.text.list.items new.candidates.list.items cs
+candidates-written detail old new bytes cs writes p =
+    subst (λ l. AreCandidates detail l new.candidates.list.items cs) (sym writes.text)
+    (subst (λ v. AreCandidates detail (old.text.list.items ++ bytes) v.list.items cs) (sym writes.candidates)
+    (candidates-stay detail old.text.list.items bytes old.candidates.list.items cs p))
 
 -- the same where something was read
-pub candidates-read : (old new : Direct) (bytes : List ℕ) (cs : List values.Candidate) → Reads old new bytes
-    → AreCandidates old.text.list.items old.candidates.list.items cs → AreCandidates new.text.list.items new.candidates.list.items cs
-candidates-read old new bytes cs reads p =
-    subst (λ l. AreCandidates l new.candidates.list.items cs) (sym reads.text)
-    (subst (λ v. AreCandidates (old.text.list.items ++ bytes) v.list.items cs) (sym reads.candidates)
-    (candidates-stay old.text.list.items bytes old.candidates.list.items cs p))
+pub candidates-read : (detail : Detail) (old new : Direct) (bytes : List ℕ) (cs : List values.Candidate) → Reads old new bytes
+    → AreCandidates detail old.text.list.items old.candidates.list.items cs → AreCandidates detail new.text.list.items new.candidates.list.items cs
+candidates-read detail old new bytes cs reads p =
+    subst (λ l. AreCandidates detail l new.candidates.list.items cs) (sym reads.text)
+    (subst (λ v. AreCandidates detail (old.text.list.items ++ bytes) v.list.items cs) (sym reads.candidates)
+    (candidates-stay detail old.text.list.items bytes old.candidates.list.items cs p))
 
 -- what names no argument prints its text
-pub plainly-prints : (k : Candidate) (c : values.Candidate) (bytes : List ℕ) → k.is_dependent ≡ false → PrintsAs k c bytes → Prints c.tree bytes k.is_reference
-plainly-prints k c bytes plain prints = subst (λ b. PrintsOrNames b k c bytes) plain prints
+pub plainly-prints : {detail : Detail} (k : Candidate) (c : values.Candidate) (bytes : List ℕ) → k.is_dependent ≡ false → PrintsAs detail k c bytes
+    → Prints detail c.tree bytes k.is_reference
+plainly-prints {detail} k c bytes plain prints = subst (λ b. PrintsOrNames detail b k c bytes) plain prints
 
 -- what a substitution names
-pub candidate-found : (text : List ℕ) (ks : List Candidate) (cs : List values.Candidate) (n : ℕ) (k : Candidate)
-    → AreCandidates text ks cs → k.from ≤ k.to → slice_get ks n ≡ Some k → (c : values.Candidate) × (slice_get cs n ≡ Some c) × IsCandidate text k c
-candidate-found text [] cs n k p ordered found = absurd (false≢true (ap is_some found))
-candidate-found text (x ∷ ks) [] n k p ordered found = absurd p
-candidate-found text (x ∷ ks) (y ∷ cs) zero k p ordered found = (y, refl, (subst (λ o. Named o) found p.0) ordered)
+pub candidate-found : {detail : Detail} (text : List ℕ) (ks : List Candidate) (cs : List values.Candidate) (n : ℕ) (k : Candidate)
+    → AreCandidates detail text ks cs → k.from ≤ k.to → slice_get ks n ≡ Some k → (c : values.Candidate) × (slice_get cs n ≡ Some c) × IsCandidate detail text k c
+candidate-found {detail} text [] cs n k p ordered found = absurd (false≢true (ap is_some found))
+candidate-found {detail} text (x ∷ ks) [] n k p ordered found = absurd p
+candidate-found {detail} text (x ∷ ks) (y ∷ cs) zero k p ordered found = (y, refl, (subst (λ o. Named o) found p.0) ordered)
   where
     Named : Option Candidate → Type 0
-    Named (Some z) = z.from ≤ z.to → IsCandidate text z y
+    Named (Some z) = z.from ≤ z.to → IsCandidate detail text z y
     Named None = ⊥
-candidate-found text (x ∷ ks) (y ∷ cs) (suc n) k p ordered found = candidate-found text ks cs n k p.1 ordered found
+candidate-found {detail} text (x ∷ ks) (y ∷ cs) (suc n) k p ordered found = candidate-found text ks cs n k p.1 ordered found
 
 -- ## What is open
 
@@ -143,7 +149,8 @@ last-reversed xs rest x e = sym (reverse-reverse xs) ∙ ap reverse e ∙ revers
 -- ## Nested names
 
 -- a nested name stays one where more is written
-pub nest-stays : (front bytes text more : List ℕ) (nest : Nest) (t : Term) → IsNest front bytes text nest t → IsNest front bytes (text ++ more) nest t
+pub nest-stays : {detail : Detail} (front bytes text more : List ℕ) (nest : Nest) (t : Term) → IsNest detail front bytes text nest t
+    → IsNest detail front bytes (text ++ more) nest t
 nest-stays front bytes text more nest t p = record {
   back = p.back ++ more;
   written = piece-stays text front bytes p.back more p.written;
@@ -159,18 +166,19 @@ nest-stays front bytes text more nest t p = record {
 }
 
 -- and a template before its arguments
-pub template-stays : (owner : Open) (front : List ℕ) (t : Term) (name text more : List ℕ) → IsTemplate owner front t name text → IsTemplate owner front t name (text ++ more)
-template-stays (opens.TypeArguments from) front t name text more p = p
-template-stays (opens.NestArguments nest) front t name text more p = (nest-stays front name text more nest t p.0, p.1, p.2)
-template-stays (opens.FirstArguments nest) front t name text more p = nest-stays front name text more nest t p
-template-stays (opens.NameArguments from) front t name text more p = p
-template-stays _ front t name text more p = p
+pub template-stays : (detail : Detail) (owner : Open) (front : List ℕ) (t : Term) (name text more : List ℕ) → IsTemplate detail owner front t name text
+    → IsTemplate detail owner front t name (text ++ more)
+template-stays detail (opens.TypeArguments from) front t name text more p = p
+template-stays detail (opens.NestArguments nest) front t name text more p = (nest-stays front name text more nest t p.0, p.1, p.2)
+template-stays detail (opens.FirstArguments nest) front t name text more p = nest-stays front name text more nest t p
+template-stays detail (opens.NameArguments from) front t name text more p = p
+template-stays detail _ front t name text more p = p
 
 -- ## Lists
 
 -- arguments begin
 pub arguments-begun : (s : Symbol) (w : Direct) (st : State) (owner : Open) (rest : List Open) (front name : List ℕ) (t : Term)
-    → reverse w.waiting.list.items ≡ owner ∷ rest → IsTemplate owner front t name w.text.list.items → w.text.list.items ≡ front ++ name ++ codes "<"
+    → reverse w.waiting.list.items ≡ owner ∷ rest → IsTemplate (detail_of s) owner front t name w.text.list.items → w.text.list.items ≡ front ++ name ++ codes "<"
     → ArgumentsGoOn s owner (Stands s rest) front t [] w.at st → IsBefore s w st (steps.List true)
 arguments-begun s w st owner rest front name t open_is is_template written goes = (
   record {

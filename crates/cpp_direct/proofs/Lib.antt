@@ -54,4 +54,3 @@ pub mod Signatures
 pub mod Tables
 pub mod TypesRead
 pub mod UnscopedNames
-pub mod WithoutParameters

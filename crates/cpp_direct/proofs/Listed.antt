@@ -1,4 +1,5 @@
 -- A writer at the end of arguments or a pack, and between two elements.
+use Rattle.sym_print.specs.declared.detail.Detail.{Detail}
 use Rattle.std.proofs.Common.{◌≡◌, ◌≢◌, inl, inr, ℕ, ◌+◌, ◌-◌, length, List, [], ◌∷◌, ◌++◌, reverse, slice_get, get_or, Bool, true, false, Some, None, refl, ap, sym, ◌∙◌, subst, arith, codes, append_assoc, append-nil}
 use Rattle.std.proofs.lemmas.Bool.{false≢true}
 use Rattle.std.proofs.lemmas.List.{length-append, reverse-reverse}
@@ -10,7 +11,7 @@ use Rattle.cpp_grammar.specs.Term.{Term, nil, list, instance, pack}
 use Rattle.cpp_grammar.specs.Scope.{arguments_of}
 use Rattle.cpp_grammar.specs.Values.{State, tree, nothing_there, tree_of, qualifiers_of, ref_of}
 use Rattle.cpp_grammar.specs.Between.{no_items}
-use Rattle.cpp_direct.specs.Symbol.{Symbol}
+use Rattle.cpp_direct.specs.Symbol.{detail_of, Symbol}
 use Rattle.cpp_direct.specs.declared.open.Mark.TheVariants as marks
 use Rattle.cpp_direct.specs.declared.open.Nest.{Nest}
 use Rattle.cpp_direct.specs.declared.open.Open.{Open}
@@ -23,6 +24,8 @@ use Rattle.cpp_direct.specs.Prints.{PrintAll, list_of}
 use Rattle.cpp_direct.specs.WriterInvariant.{HasArguments, argument_of, AreCandidates, IsListing, IsNest, IsTail, IsTemplate, IsWriting, Owns, Serves, ArgumentsGoOn, AwaitsElementOf, AwaitsEnumerator, Belongs, Closes, ElementsGoOn, EnumeratorGoesOn, GoesOn, Listing, of_template, of_pack, Stands, element_kind, extra_of, led_by, list_with, in_front_of_next, nowhere}
 use Rattle.cpp_direct.specs.MidStep.{AreKnown, IsListEnded, AwaitsNextArgument, IsNameEnded}
 use Rattle.cpp_direct.specs.Written.{Writes, added}
+use Rattle.cpp_direct.proofs.PrintedParts.{has-arguments}
+use Rattle.sym_print.specs.Details.{has_arguments}
 use Rattle.cpp_direct.proofs.Moves.{expects-empty, stands-split}
 use Rattle.cpp_direct.proofs.MovesOfLists.{element-awaits, pack-opens}
 use Rattle.cpp_direct.proofs.PrintedLists.{list-with-none, next-prints, none-print, pack-element}
@@ -93,8 +96,8 @@ element-goes-on s kind closes ts t before at earlier st goes g = (
 )
 
 -- a list is open still where something else is
-abbrev pub listing-at : (opened : List Open) (text : List ℕ) (now : List Open) (later : List ℕ) (p : IsListing opened text)
-    → Belongs p.listing now p.owner p.rest → IsTemplate p.owner p.front p.template p.name later → IsListing now later
+abbrev pub listing-at : {detail : Detail} (opened : List Open) (text : List ℕ) (now : List Open) (later : List ℕ) (p : IsListing detail opened text)
+    → Belongs detail p.listing now p.owner p.rest → IsTemplate detail p.owner p.front p.template p.name later → IsListing detail now later
 listing-at opened text now later p belongs is_template = record {
   listing = p.listing;
   owner = p.owner;
@@ -123,7 +126,7 @@ in-front (t ∷ ts) l false none some = refl
 -- The arguments of what was opened last are read and written.
 pub record IsClosed (s : Symbol) (w : Direct) (owner : Open) : Type 0 where
   pub state : State
-  pub candidates : AreCandidates w.text.list.items w.candidates.list.items state.candidates
+  pub candidates : AreCandidates (detail_of s) w.text.list.items w.candidates.list.items state.candidates
   pub front : List ℕ
   pub template : Term
   pub name : List ℕ
@@ -131,11 +134,11 @@ pub record IsClosed (s : Symbol) (w : Direct) (owner : Open) : Type 0 where
   pub tail : Term
   pub is_tail : IsTail tail
   pub arguments : List ℕ
-  pub is_template : IsTemplate owner front template name w.text.list.items
-  pub elements : PrintAll 3 ts arguments
+  pub is_template : IsTemplate (detail_of s) owner front template name w.text.list.items
+  pub elements : PrintAll (detail_of s) 3 ts arguments
   pub written : w.text.list.items ≡ front ++ (name ++ codes "<" ++ arguments ++ codes ">")
   pub owns : Owns s owner (Stands s (reverse w.waiting.list.items)) front (instance template (list_with ts tail)) w.at state
-  pub known : AreKnown w.text.list.items w.argument ts tail
+  pub known : AreKnown (detail_of s) w.text.list.items w.argument ts tail
 
 closing : (a b d : List ℕ) → (a ++ b ++ codes "<" ++ d) ++ codes ">" ≡ a ++ (b ++ codes "<" ++ d ++ codes ">")
 closing a b d =
@@ -150,9 +153,9 @@ closes s old new owner p text candidates at opened =
     let made = instance p.template (list_with p.ts p.tail) in
     record {
       state = p.state;
-      candidates = subst (λ l. AreCandidates l new.candidates.list.items p.state.candidates) (sym text)
-          (subst (λ ks. AreCandidates (old.text.list.items ++ codes ">") ks p.state.candidates) (sym candidates)
-          (candidates-stay old.text.list.items (codes ">") old.candidates.list.items p.state.candidates p.candidates));
+      candidates = subst (λ l. AreCandidates (detail_of s) l new.candidates.list.items p.state.candidates) (sym text)
+          (subst (λ ks. AreCandidates (detail_of s) (old.text.list.items ++ codes ">") ks p.state.candidates) (sym candidates)
+          (candidates-stay (detail_of s) old.text.list.items (codes ">") old.candidates.list.items p.state.candidates p.candidates));
       front = p.front;
       template = p.template;
       name = p.name;
@@ -160,15 +163,15 @@ closes s old new owner p text candidates at opened =
       tail = p.tail;
       is_tail = p.is_tail;
       arguments = p.arguments;
-      is_template = subst (λ l. IsTemplate owner p.front p.template p.name l) (sym text)
-          (subst (λ o. IsTemplate o p.front p.template p.name (old.text.list.items ++ codes ">")) last.0
-          (template-stays p.owner p.front p.template p.name old.text.list.items (codes ">") p.is_template));
+      is_template = subst (λ l. IsTemplate (detail_of s) owner p.front p.template p.name l) (sym text)
+          (subst (λ o. IsTemplate (detail_of s) o p.front p.template p.name (old.text.list.items ++ codes ">")) last.0
+          (template-stays (detail_of s) p.owner p.front p.template p.name old.text.list.items (codes ">") p.is_template));
       elements = p.elements;
       written = text ∙ ap (λ l. l ++ codes ">") p.written ∙ closing p.front p.name p.arguments;
       owns = subst (λ n. Owns s owner (Stands s (reverse new.waiting.list.items)) p.front made n p.state) (sym at)
           (subst (λ r. Owns s owner (Stands s r) p.front made old.at p.state) last.1
           (subst (λ o. Owns s o (Stands s p.rest) p.front made old.at p.state) last.0 p.owns));
-      known = subst (λ l. AreKnown l new.argument p.ts p.tail) (sym text) (known-stay old.text.list.items (codes ">") new.argument p.ts p.tail p.known);
+      known = subst (λ l. AreKnown (detail_of s) l new.argument p.ts p.tail) (sym text) (known-stay old.text.list.items (codes ">") new.argument p.ts p.tail p.known);
     }
 
 -- the same by what was written and taken away
@@ -182,7 +185,7 @@ closed-by s old mid new x owner p writes text candidates at items is =
 
 -- what is known of them is known of the arguments of what they make
 closed-arguments : (s : Symbol) (w : Direct) (owner : Open) (p : IsClosed s w owner)
-    → HasArguments w.text.list.items w.argument (instance p.template (list_with p.ts p.tail))
+    → HasArguments (detail_of s) w.text.list.items w.argument (instance p.template (list_with p.ts p.tail))
 unfolding arguments_of
 closed-arguments s w owner p k known = elim (p.known k known) [
   | inl h ↦ record {
@@ -217,11 +220,11 @@ type-closed s w new from p candidates text waiting at =
     let bytes = p.name ++ codes "<" ++ p.arguments ++ codes ">" in
     let outer = p.owns.0 in
     let state = with_candidate p.owns.1 t p.state in
-    let prints = instance-prints p.template p.name p.is_template.1 p.ts p.tail p.arguments p.is_tail p.elements in
+    let prints = instance-prints (has-arguments s) p.template p.name p.is_template.1 p.ts p.tail p.arguments p.is_tail p.elements in
     record {
       state = state;
-      candidates = subst (λ v. AreCandidates v.list.items new.candidates.list.items state.candidates) (sym text)
-          (subst (λ ks. AreCandidates w.text.list.items ks state.candidates) (sym candidates)
+      candidates = subst (λ v. AreCandidates (detail_of s) v.list.items new.candidates.list.items state.candidates) (sym text)
+          (subst (λ ks. AreCandidates (detail_of s) w.text.list.items ks state.candidates) (sym candidates)
           (candidates-with w p.state p.front bytes from t p.owns.1 false p.candidates p.written p.is_template.0 prints));
       is_before = (
         outer,
@@ -235,22 +238,23 @@ type-closed s w new from p candidates text waiting at =
       );
     }
 
-instance-nest : (front name text : List ℕ) (nest : Nest) (is_listed is_instance : Bool) (t : Term) (ts : List Term) (tail : Term) (l : List ℕ)
-    → IsTail tail → IsNest front name text nest t → PrintAll 3 ts l → text ≡ front ++ (name ++ codes "<" ++ l ++ codes ">")
-    → IsNest front (name ++ codes "<" ++ l ++ codes ">") text (record nest { is_listed = is_listed; is_instance = is_instance })
+instance-nest : {detail : Detail} → has_arguments detail ≡ true
+    → (front name text : List ℕ) (nest : Nest) (is_listed is_instance : Bool) (t : Term) (ts : List Term) (tail : Term) (l : List ℕ)
+    → IsTail tail → IsNest detail front name text nest t → PrintAll detail 3 ts l → text ≡ front ++ (name ++ codes "<" ++ l ++ codes ">")
+    → IsNest detail front (name ++ codes "<" ++ l ++ codes ">") text (record nest { is_listed = is_listed; is_instance = is_instance })
     (instance t (list_with ts tail))
-instance-nest front name text nest is_listed is_instance t ts tail l is p all written = record {
+instance-nest whole front name text nest is_listed is_instance t ts tail l is p all written = record {
   back = [];
   written = written ∙ sym (append-nil (front ++ (name ++ codes "<" ++ l ++ codes ">")));
   from_is = p.from_is;
-  prints = instance-prints t name p.prints ts tail l is all;
+  prints = instance-prints whole t name p.prints ts tail l is all;
   class_front = p.class_front;
   class = p.class;
   class_back = p.class_back;
   class_written = p.class_written;
   class_from = p.class_from;
   class_to = p.class_to;
-  names_class = λ h. instance-class t name p.class p.prints (p.names_class h) ts tail l is all;
+  names_class = λ h. instance-class whole t name p.class p.prints (p.names_class h) ts tail l is all;
 }
 
 -- the arguments of a piece of a nested name
@@ -269,7 +273,7 @@ nest-closed s w nest p =
           outer = p.owns.1;
           bytes = p.name ++ codes "<" ++ p.arguments ++ codes ">";
           written = p.written;
-          is_nest = instance-nest p.front p.name w.text.list.items nest false true p.template p.ts p.tail p.arguments p.is_tail p.is_template.0
+          is_nest = instance-nest (has-arguments s) p.front p.name w.text.list.items nest false true p.template p.ts p.tail p.arguments p.is_tail p.is_template.0
               p.elements p.written;
           goes = p.owns.2;
           serves = p.owns.3;
@@ -290,13 +294,13 @@ first-closed s w new nest p candidates text waiting at =
     let around = p.owns.0 in
     let outer = p.owns.1 in
     let state = with_candidate around t p.state in
-    let is_nest : IsNest p.front bytes w.text.list.items nest t
-    = instance-nest p.front p.name w.text.list.items nest nest.is_listed nest.is_instance p.template p.ts p.tail p.arguments p.is_tail p.is_template
+    let is_nest : IsNest (detail_of s) p.front bytes w.text.list.items nest t
+    = instance-nest (has-arguments s) p.front p.name w.text.list.items nest nest.is_listed nest.is_instance p.template p.ts p.tail p.arguments p.is_tail p.is_template
     p.elements p.written in
     record {
       state = state;
-      candidates = subst (λ v. AreCandidates v.list.items new.candidates.list.items state.candidates) (sym text)
-          (subst (λ ks. AreCandidates w.text.list.items ks state.candidates) (sym candidates)
+      candidates = subst (λ v. AreCandidates (detail_of s) v.list.items new.candidates.list.items state.candidates) (sym text)
+          (subst (λ ks. AreCandidates (detail_of s) w.text.list.items ks state.candidates) (sym candidates)
           (candidates-with w p.state p.front bytes nest.from t around false p.candidates p.written p.is_template.from_is is_nest.prints));
       is_before = (
         t,
@@ -305,7 +309,7 @@ first-closed s w new nest p candidates text waiting at =
         around,
         outer,
         subst (λ v. v.list.items ≡ p.front ++ bytes) (sym text) p.written,
-        subst (λ v. IsNest p.front bytes v.list.items nest t) (sym text) is_nest,
+        subst (λ v. IsNest (detail_of s) p.front bytes v.list.items nest t) (sym text) is_nest,
         subst (λ n. AwaitsComponent s outer around t n state) (sym at) p.owns.2,
         subst (λ v. Serves s nest.purpose (Stands s (reverse v.list.items)) outer p.front) (sym waiting) p.owns.3,
       );
@@ -329,7 +333,7 @@ name-closed s w from p =
       name = bytes;
       written = p.written;
       from_is = p.is_template.0;
-      prints = as-name t bytes false (instance-prints p.template p.name p.is_template.1 p.ts p.tail p.arguments p.is_tail p.elements);
+      prints = as-name t bytes false (instance-prints (has-arguments s) p.template p.name p.is_template.1 p.ts p.tail p.arguments p.is_tail p.elements);
       no_return = λ h. absurd (false≢true (sym h));
       returns = λ h. instance-returns p.template (list_with p.ts p.tail) p.is_template.2;
       names = closed-arguments s w (opens.NameArguments from) p;
@@ -345,14 +349,14 @@ pub list-ends : (s : Symbol) (w : Direct) (first : Bool) (owner : Open) → IsWr
 unfolding no_items may_be_empty
 list-ends s w first owner p stands found other = go p.is_before.0.listing refl
   where
-    place : IsListing (reverse w.waiting.list.items) w.text.list.items
+    place : IsListing (detail_of s) (reverse w.waiting.list.items) w.text.list.items
     place = p.is_before.0
 
     last : (rest : List Open) × (reverse w.waiting.list.items ≡ owner ∷ rest)
     last = last-found w.waiting.list.items owner found
 
     go : (l : Listing) → p.is_before.0.listing ≡ l → IsListEnded s (record w { at = w.at + 1 }) nowhere
-    go (of_pack before written) is = absurd (packed (subst (λ l. Belongs l (reverse w.waiting.list.items) p.is_before.0.owner p.is_before.0.rest) is p.is_before.0.belongs).0)
+    go (of_pack before written) is = absurd (packed (subst (λ l. Belongs (detail_of s) l (reverse w.waiting.list.items) p.is_before.0.owner p.is_before.0.rest) is p.is_before.0.belongs).0)
       where
         packed : reverse w.waiting.list.items ≡ opens.Pack ∷ p.is_before.0.owner ∷ p.is_before.0.rest → ⊥
         packed e = other (cc (sym last.1 ∙ e))
@@ -366,7 +370,7 @@ list-ends s w first owner p stands found other = go p.is_before.0.listing refl
           candidates = p.candidates;
           owner = place.owner;
           rest = place.rest;
-          open_is = subst (λ l. Belongs l (reverse w.waiting.list.items) place.owner place.rest) is place.belongs;
+          open_is = subst (λ l. Belongs (detail_of s) l (reverse w.waiting.list.items) place.owner place.rest) is place.belongs;
           front = place.front;
           template = place.template;
           name = place.name;
@@ -375,7 +379,7 @@ list-ends s w first owner p stands found other = go p.is_before.0.listing refl
           is_tail = inl refl;
           arguments = texts;
           is_template = place.is_template;
-          elements = subst (λ l. PrintAll (extra_of l) ts texts) is p.is_before.3;
+          elements = subst (λ l. PrintAll (detail_of s) (extra_of l) ts texts) is p.is_before.3;
           written = subst (λ l. w.text.list.items ≡ led_by l place.front place.name ++ texts) is p.is_before.4;
           known = λ k o. absurd (none-known k o);
           owns = goes.4 nothing_there w.at p.state (expects-empty s Kind.ArgumentList goes.0 goes.1 w.at p.state goes.3 refl) stands;
@@ -395,7 +399,7 @@ empty-pack-ends s w first owner p stands found other = go p.is_before.0.listing 
     go : (l : Listing) → p.is_before.0.listing ≡ l → IsListEnded s (record w { at = w.at + 3 }) nowhere
     go (of_pack before written) is =
         absurd (other (cc (sym last.1
-        ∙ (subst (λ l. Belongs l (reverse w.waiting.list.items) p.is_before.0.owner p.is_before.0.rest) is p.is_before.0.belongs).0)))
+        ∙ (subst (λ l. Belongs (detail_of s) l (reverse w.waiting.list.items) p.is_before.0.owner p.is_before.0.rest) is p.is_before.0.belongs).0)))
     go of_template is =
         let place = p.is_before.0 in
         let ts = p.is_before.1 in
@@ -413,7 +417,7 @@ empty-pack-ends s w first owner p stands found other = go p.is_before.0.listing 
           candidates = p.candidates;
           owner = place.owner;
           rest = place.rest;
-          open_is = subst (λ l. Belongs l (reverse w.waiting.list.items) place.owner place.rest) is place.belongs;
+          open_is = subst (λ l. Belongs (detail_of s) l (reverse w.waiting.list.items) place.owner place.rest) is place.belongs;
           front = place.front;
           template = place.template;
           name = place.name;
@@ -422,7 +426,7 @@ empty-pack-ends s w first owner p stands found other = go p.is_before.0.listing 
           is_tail = inr refl;
           arguments = texts;
           is_template = place.is_template;
-          elements = subst (λ l. PrintAll (extra_of l) ts texts) is p.is_before.3;
+          elements = subst (λ l. PrintAll (detail_of s) (extra_of l) ts texts) is p.is_before.3;
           written = subst (λ l. w.text.list.items ≡ led_by l place.front place.name ++ texts) is p.is_before.4;
           known = λ k o. absurd (none-known k o);
           owns = subst (λ k. Owns s place.owner (Stands s place.rest) place.front (instance place.template (list_with ts (list (pack nil) nil))) k p.state)
@@ -447,24 +451,24 @@ pack-ends s w new p stands found text candidates at popped = go p.is_before.0.li
 
     go : (l : Listing) → p.is_before.0.listing ≡ l → IsWriting s new (steps.List false)
     go of_template is = absurd (no-template p.is_before.0.owner p.is_before.0.is_template
-        (cc (sym last.1 ∙ subst (λ l. Belongs l (reverse w.waiting.list.items) p.is_before.0.owner p.is_before.0.rest) is p.is_before.0.belongs)))
+        (cc (sym last.1 ∙ subst (λ l. Belongs (detail_of s) l (reverse w.waiting.list.items) p.is_before.0.owner p.is_before.0.rest) is p.is_before.0.belongs)))
       where
-        no-template : (o : Open) → IsTemplate o p.is_before.0.front p.is_before.0.template p.is_before.0.name w.text.list.items → opens.Pack ≡ o → ⊥
-        no-template o t e = subst (λ x. IsTemplate x p.is_before.0.front p.is_before.0.template p.is_before.0.name w.text.list.items) (sym e) t
+        no-template : (o : Open) → IsTemplate (detail_of s) o p.is_before.0.front p.is_before.0.template p.is_before.0.name w.text.list.items → opens.Pack ≡ o → ⊥
+        no-template o t e = subst (λ x. IsTemplate (detail_of s) x p.is_before.0.front p.is_before.0.template p.is_before.0.name w.text.list.items) (sym e) t
     go (of_pack before written) is =
         let place = p.is_before.0 in
         let us = p.is_before.1 in
         let texts = p.is_before.2 in
-        let belongs = subst (λ l. Belongs l (reverse w.waiting.list.items) place.owner place.rest) is place.belongs in
+        let belongs = subst (λ l. Belongs (detail_of s) l (reverse w.waiting.list.items) place.owner place.rest) is place.belongs in
         let goes = subst (λ l. GoesOn s l place.owner (Stands s place.rest) place.front place.template us w.at p.state) is p.is_before.7 in
-        let us_print = subst (λ l. PrintAll (extra_of l) us texts) is p.is_before.3 in
+        let us_print = subst (λ l. PrintAll (detail_of s) (extra_of l) us texts) is p.is_before.3 in
         let us_written = subst (λ l. w.text.list.items ≡ led_by l place.front place.name ++ texts) is p.is_before.4 in
         let made = pack (list_of us) in
         let same : new.text.list.items ≡ w.text.list.items = ap (λ v. v.list.items) text in
         record {
           state = p.state;
-          candidates = subst (λ v. AreCandidates new.text.list.items v.list.items p.state.candidates) (sym candidates)
-              (subst (λ v. AreCandidates v.list.items w.candidates.list.items p.state.candidates) (sym text) p.candidates);
+          candidates = subst (λ v. AreCandidates (detail_of s) new.text.list.items v.list.items p.state.candidates) (sym candidates)
+              (subst (λ v. AreCandidates (detail_of s) v.list.items w.candidates.list.items p.state.candidates) (sym text) p.candidates);
           is_before = (
             record {
               listing = of_template;
@@ -474,7 +478,7 @@ pack-ends s w new p stands found text candidates at popped = go p.is_before.0.li
               front = place.front;
               template = place.template;
               name = place.name;
-              is_template = subst (λ v. IsTemplate place.owner place.front place.template place.name v.list.items) (sym text) place.is_template;
+              is_template = subst (λ v. IsTemplate (detail_of s) place.owner place.front place.template place.name v.list.items) (sym text) place.is_template;
             },
             before ++ made ∷ [],
             in_front_of_next before written ++ texts,
@@ -500,13 +504,13 @@ argument-expected s w new first p text candidates waiting at =
     let led = led_by place.listing place.front place.name in
     record {
       state = p.state;
-      candidates = subst (λ l. AreCandidates l new.candidates.list.items p.state.candidates) (sym text)
-          (subst (λ ks. AreCandidates (w.text.list.items ++ comma first) ks p.state.candidates) (sym candidates)
-          (candidates-stay w.text.list.items (comma first) w.candidates.list.items p.state.candidates p.candidates));
+      candidates = subst (λ l. AreCandidates (detail_of s) l new.candidates.list.items p.state.candidates) (sym text)
+          (subst (λ ks. AreCandidates (detail_of s) (w.text.list.items ++ comma first) ks p.state.candidates) (sym candidates)
+          (candidates-stay (detail_of s) w.text.list.items (comma first) w.candidates.list.items p.state.candidates p.candidates));
       place = listing-at (reverse w.waiting.list.items) w.text.list.items (reverse new.waiting.list.items) new.text.list.items place
-          (subst (λ v. Belongs place.listing (reverse v.list.items) place.owner place.rest) (sym waiting) place.belongs)
-          (subst (λ l. IsTemplate place.owner place.front place.template place.name l) (sym text)
-          (template-stays place.owner place.front place.template place.name w.text.list.items (comma first) place.is_template));
+          (subst (λ v. Belongs (detail_of s) place.listing (reverse v.list.items) place.owner place.rest) (sym waiting) place.belongs)
+          (subst (λ l. IsTemplate (detail_of s) place.owner place.front place.template place.name l) (sym text)
+          (template-stays (detail_of s) place.owner place.front place.template place.name w.text.list.items (comma first) place.is_template));
       ts = ts;
       texts = texts;
       elements = p.is_before.3;
@@ -542,18 +546,18 @@ pack-begins s old new owner a stands found other waits at text candidates = go a
 
     go : (l : Listing) → a.place.listing ≡ l → IsWriting s new (steps.List true)
     go (of_pack before written) is =
-        absurd (other (cc (sym last.1 ∙ (subst (λ l. Belongs l (reverse old.waiting.list.items) a.place.owner a.place.rest) is a.place.belongs).0)))
+        absurd (other (cc (sym last.1 ∙ (subst (λ l. Belongs (detail_of s) l (reverse old.waiting.list.items) a.place.owner a.place.rest) is a.place.belongs).0)))
     go of_template is =
         let p = a.place in
         let goes = subst (λ l. GoesOn s l p.owner (Stands s p.rest) p.front p.template a.ts old.at a.state) is a.goes in
         let opened = pack-opens s goes.1 goes.0 old.at a.state goes.3 stands in
-        let belongs = subst (λ l. Belongs l (reverse old.waiting.list.items) p.owner p.rest) is p.belongs in
-        let elements = subst (λ l. PrintAll (extra_of l) a.ts a.texts) is a.elements in
+        let belongs = subst (λ l. Belongs (detail_of s) l (reverse old.waiting.list.items) p.owner p.rest) is p.belongs in
+        let elements = subst (λ l. PrintAll (detail_of s) (extra_of l) a.ts a.texts) is a.elements in
         let written = subst (λ l. old.text.list.items ≡ led_by l p.front p.name ++ in_front_of_next a.ts a.texts) is a.written in
         record {
           state = a.state;
-          candidates = subst (λ v. AreCandidates new.text.list.items v.list.items a.state.candidates) (sym candidates)
-              (subst (λ v. AreCandidates v.list.items old.candidates.list.items a.state.candidates) (sym text) a.candidates);
+          candidates = subst (λ v. AreCandidates (detail_of s) new.text.list.items v.list.items a.state.candidates) (sym candidates)
+              (subst (λ v. AreCandidates (detail_of s) v.list.items old.candidates.list.items a.state.candidates) (sym text) a.candidates);
           is_before = (
             record {
               listing = of_pack a.ts a.texts;
@@ -566,11 +570,11 @@ pack-begins s old new owner a stands found other waits at text candidates = go a
               front = p.front;
               template = p.template;
               name = p.name;
-              is_template = subst (λ v. IsTemplate p.owner p.front p.template p.name v.list.items) (sym text) p.is_template;
+              is_template = subst (λ v. IsTemplate (detail_of s) p.owner p.front p.template p.name v.list.items) (sym text) p.is_template;
             },
             [],
             [],
-            none-print 0,
+            none-print (detail_of s) 0,
             ap (λ v. v.list.items) text ∙ written ∙ sym (append-nil (p.front ++ p.name ++ codes "<" ++ in_front_of_next a.ts a.texts)),
             (λ e. refl),
             (λ e. absurd (false≢true (sym e))),
@@ -588,10 +592,10 @@ pack-begins s old new owner a stands found other waits at text candidates = go a
 
 -- a list waits for a type among its elements
 pub record ListWaits (s : Symbol) (opened : List Open) (os : List Opened) (text : List ℕ) : Type 0 where
-  pub place : IsListing opened text
+  pub place : IsListing (detail_of s) opened text
   pub ts : List Term
   pub texts : List ℕ
-  pub elements : PrintAll (extra_of place.listing) ts texts
+  pub elements : PrintAll (detail_of s) (extra_of place.listing) ts texts
   pub written : text ≡ led_by place.listing place.front place.name ++ in_front_of_next ts texts
   pub onward : (t : Term) (at : ℕ) (st : State) → Comes s os (tree t true) at st
       → GoesOn s place.listing place.owner (Stands s place.rest) place.front place.template (ts ++ t ∷ []) at st
@@ -609,12 +613,12 @@ abbrev pub TakesElements : Open → Type 0
 TakesElements opens.Pack = Unit {0}
 TakesElements o = TakesArguments o
 
-template-takes : (o : Open) (front : List ℕ) (t : Term) (name text : List ℕ) → IsTemplate o front t name text → TakesArguments o
-template-takes (opens.TypeArguments from) front t name text is = tt
-template-takes (opens.NestArguments nest) front t name text is = tt
-template-takes (opens.FirstArguments nest) front t name text is = tt
-template-takes (opens.NameArguments from) front t name text is = tt
-template-takes _ front t name text is = absurd is
+template-takes : (detail : Detail) (o : Open) (front : List ℕ) (t : Term) (name text : List ℕ) → IsTemplate detail o front t name text → TakesArguments o
+template-takes detail (opens.TypeArguments from) front t name text is = tt
+template-takes detail (opens.NestArguments nest) front t name text is = tt
+template-takes detail (opens.FirstArguments nest) front t name text is = tt
+template-takes detail (opens.NameArguments from) front t name text is = tt
+template-takes detail _ front t name text is = absurd is
 
 argument-stands : (s : Symbol) (owner : Open) (rest : List Open) (os : List Opened) (text : List ℕ) → TakesArguments owner
     → AwaitsElementOf s of_template owner (Stands s rest) os text → Stands s (owner ∷ rest) os text
@@ -632,13 +636,13 @@ takes-none (opens.FirstArguments nest) rest takes = refl
 takes-none (opens.NameArguments from) rest takes = refl
 takes-none _ rest takes = absurd takes
 
-list-none : (opened : List Open) (text : List ℕ) (p : IsListing opened text) → argument_of opened ≡ None
-list-none opened text p = go p.listing refl
+list-none : {detail : Detail} (opened : List Open) (text : List ℕ) (p : IsListing detail opened text) → argument_of opened ≡ None
+list-none {detail} opened text p = go p.listing refl
   where
     go : (l : Listing) → p.listing ≡ l → argument_of opened ≡ None
-    go of_template is = ap argument_of (subst (λ l. Belongs l opened p.owner p.rest) is p.belongs)
-        ∙ takes-none p.owner p.rest (template-takes p.owner p.front p.template p.name text p.is_template)
-    go (of_pack before written) is = ap argument_of (subst (λ l. Belongs l opened p.owner p.rest) is p.belongs).0
+    go of_template is = ap argument_of (subst (λ l. Belongs detail l opened p.owner p.rest) is p.belongs)
+        ∙ takes-none p.owner p.rest (template-takes detail p.owner p.front p.template p.name text p.is_template)
+    go (of_pack before written) is = ap argument_of (subst (λ l. Belongs detail l opened p.owner p.rest) is p.belongs).0
 
 -- it is open so
 list-stands : (s : Symbol) (opened : List Open) (os : List Opened) (text : List ℕ) → ListWaits s opened os text → Stands s opened os text
@@ -647,21 +651,21 @@ list-stands s opened os text w = go w.place.listing refl
     go : (l : Listing) → w.place.listing ≡ l → Stands s opened os text
     go of_template is =
         let p = w.place in
-        subst (λ ws. Stands s ws os text) (sym (subst (λ l. Belongs l opened p.owner p.rest) is p.belongs))
-        (argument-stands s p.owner p.rest os text (template-takes p.owner p.front p.template p.name text p.is_template) (
+        subst (λ ws. Stands s ws os text) (sym (subst (λ l. Belongs (detail_of s) l opened p.owner p.rest) is p.belongs))
+        (argument-stands s p.owner p.rest os text (template-takes (detail_of s) p.owner p.front p.template p.name text p.is_template) (
           p.front,
           p.template,
           p.name,
           w.ts,
           w.texts,
           p.is_template,
-          subst (λ l. PrintAll (extra_of l) w.ts w.texts) is w.elements,
+          subst (λ l. PrintAll (detail_of s) (extra_of l) w.ts w.texts) is w.elements,
           subst (λ l. text ≡ led_by l p.front p.name ++ in_front_of_next w.ts w.texts) is w.written,
           λ t at st comes. subst (λ l. GoesOn s l p.owner (Stands s p.rest) p.front p.template (w.ts ++ t ∷ []) at st) is (w.onward t at st comes),
         ))
     go (of_pack before written) is =
         let p = w.place in
-        let belongs = subst (λ l. Belongs l opened p.owner p.rest) is p.belongs in
+        let belongs = subst (λ l. Belongs (detail_of s) l opened p.owner p.rest) is p.belongs in
         subst (λ ws. Stands s ws os text) (sym belongs.0) (
           before,
           written,
@@ -673,7 +677,7 @@ list-stands s opened os text w = go w.place.listing refl
             w.ts,
             w.texts,
             p.is_template,
-            subst (λ l. PrintAll (extra_of l) w.ts w.texts) is w.elements,
+            subst (λ l. PrintAll (detail_of s) (extra_of l) w.ts w.texts) is w.elements,
             subst (λ l. text ≡ led_by l p.front p.name ++ in_front_of_next w.ts w.texts) is w.written,
             λ t at st comes. subst (λ l. GoesOn s l p.owner (Stands s p.rest) p.front p.template (w.ts ++ t ∷ []) at st) is (w.onward t at st comes),
           ),
@@ -757,8 +761,8 @@ type-expected s w a =
 -- ## Enumerators
 
 -- a list waits for the type of an enumerator
-pub enumerator-stands : (s : Symbol) (opened : List Open) (text : List ℕ) (os : List Opened) (p : IsListing opened text) (ts : List Term)
-    (texts : List ℕ) → PrintAll (extra_of p.listing) ts texts
+pub enumerator-stands : (s : Symbol) (opened : List Open) (text : List ℕ) (os : List Opened) (p : IsListing (detail_of s) opened text) (ts : List Term)
+    (texts : List ℕ) → PrintAll (detail_of s) (extra_of p.listing) ts texts
     → text ≡ led_by p.listing p.front p.name ++ in_front_of_next ts texts ++ codes "("
     → ((t : Term) (at : ℕ) (st : State) → Comes s os (tree t true) at st
     → EnumeratorGoesOn s p.listing p.owner (Stands s p.rest) p.front p.template ts t at st)
@@ -773,15 +777,15 @@ enumerator-stands s opened text os p ts texts elements written onward = go p.lis
       ts,
       texts,
       p.is_template,
-      subst (λ k. PrintAll (extra_of k) ts texts) is elements,
+      subst (λ k. PrintAll (detail_of s) (extra_of k) ts texts) is elements,
       subst (λ k. text ≡ led_by k p.front p.name ++ in_front_of_next ts texts ++ codes "(") is written,
       λ t at st comes. subst (λ k. EnumeratorGoesOn s k p.owner (Stands s p.rest) p.front p.template ts t at st) is (onward t at st comes),
     )
 
     go : (l : Listing) → p.listing ≡ l → Stands s (opens.Enumerator ∷ opened) os text
     go of_template is =
-        subst (λ ws. Stands s (opens.Enumerator ∷ ws) os text) (sym (subst (λ l. Belongs l opened p.owner p.rest) is p.belongs))
-        (of-arguments p.owner (template-takes p.owner p.front p.template p.name text p.is_template) (awaits of_template is))
+        subst (λ ws. Stands s (opens.Enumerator ∷ ws) os text) (sym (subst (λ l. Belongs (detail_of s) l opened p.owner p.rest) is p.belongs))
+        (of-arguments p.owner (template-takes (detail_of s) p.owner p.front p.template p.name text p.is_template) (awaits of_template is))
       where
         of-arguments : (o : Open) → TakesArguments o → AwaitsEnumerator s of_template o (Stands s p.rest) os text
             → Stands s (opens.Enumerator ∷ o ∷ p.rest) os text
@@ -791,7 +795,7 @@ enumerator-stands s opened text os p ts texts elements written onward = go p.lis
         of-arguments (opens.NameArguments from) takes e = e
         of-arguments _ takes e = absurd takes
     go (of_pack before written_) is =
-        let belongs = subst (λ l. Belongs l opened p.owner p.rest) is p.belongs in
+        let belongs = subst (λ l. Belongs (detail_of s) l opened p.owner p.rest) is p.belongs in
         let e = awaits (of_pack before written_) is in
         subst (λ ws. Stands s (opens.Enumerator ∷ ws) os text) (sym belongs.0)
         (before, written_, belongs.1, e)

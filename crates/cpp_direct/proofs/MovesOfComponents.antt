@@ -5,7 +5,7 @@ use Rattle.sym_shape.specs.declared.rule.Sym.TheVariants.{Kind as OfKind, Name, 
 use Rattle.sym_link.specs.Unfold.{found, standing}
 use Rattle.cpp_grammar.specs.declared.kind.Kind.{Kind}
 use Rattle.cpp_grammar.specs.declared.production.Production.{Production}
-use Rattle.cpp_grammar.specs.KindNumbers.{NEST_TAIL, NEST_MORE_OR_END, COMPONENT, COMPONENT_AFTER_C, CONSTRUCTOR_DIGIT, DESTRUCTOR_DIGIT, MAYBE_ARGUMENTS, ARGUMENTS_FIRST, OTHER_OPERATOR, OPERATOR_AFTER_C}
+use Rattle.cpp_grammar.specs.KindNumbers.{NEST_TAIL, NEST_MORE_OR_END, COMPONENT, COMPONENT_AFTER_C, CONSTRUCTOR_AFTER_C, CONSTRUCTOR_DIGIT, DESTRUCTOR_DIGIT, MAYBE_ARGUMENTS, ARGUMENTS_FIRST, OTHER_OPERATOR, OPERATOR_AFTER_C}
 use Rattle.cpp_grammar.specs.Grammar.{in_ranges, among, is_in, pick, alternatives, number_of_kind, choose, parts_of, is_chain}
 use Rattle.cpp_grammar.specs.Wide.{wide_alternatives, wide_choose}
 use Rattle.cpp_grammar.specs.Table.{rule_of}
@@ -321,16 +321,20 @@ pub component-constructor : (s : Symbol) (os : List Opened) (around : Around) (t
 unfolding choose alternatives pick is_in in_ranges among is_chain parts_of number_of_kind between opening close unfolding_.behind meaning named_so_far extended after letter_of tree_of part
 component-constructor s os around t at st digit expects stands is =
     let p : Production = Production.Constructor in
+    let q : Production = Production.AnyConstructor in
     let here : Around = after t true around in
     let u : Term = within t (constructor digit) in
     let two = stands-split s.bytes at (67 ∷ []) (digit ∷ []) stands in
-    let os1 : List Opened = opened (standing (rule_of p) (67 ∷ []) at here st) [] (OfKind MAYBE_ARGUMENTS ∷ []) ∷ os in
-    named-by s os p (67 ∷ []) at here st u (at + 2) st (λ byte now began later v. refl) around
-    (next-of s p (67 ∷ []) at here st [] (letter digit) (OfKind MAYBE_ARGUMENTS) [] os (at + 2) st (after u false around) (tree u false ∷ []) st refl
-    (comes-moved s os1 (letter digit) (at + 1 + 1) (at + 2) st (omega arith)
-    (constructor-digit s os1 here (at + 1) st digit is
-    (first-of s Kind.Component p 67 here os at st (OfKind CONSTRUCTOR_DIGIT) (OfKind MAYBE_ARGUMENTS ∷ []) here [] st refl (omega arith) refl (λ f. refl) refl refl expects two.0)
-    two.1)))
+    let os1 : List Opened = opened (standing (rule_of q) (67 ∷ []) at here st) [] [] ∷ os in
+    let os2 : List Opened = opened (standing (rule_of p) [] (at + 1) here st) [] (OfKind MAYBE_ARGUMENTS ∷ []) ∷ os1 in
+    named-outside s os1 os around u (at + 2) st (last-passes s q (67 ∷ []) at here st [] os (λ v x. refl))
+    (named-by s os1 p [] (at + 1) here st u (at + 2) st (λ byte now began later v. refl) around
+    (next-of s p [] (at + 1) here st [] (letter digit) (OfKind MAYBE_ARGUMENTS) [] os1 (at + 2) st (after u false around) (tree u false ∷ []) st refl
+    (comes-moved s os2 (letter digit) (at + 1 + 1) (at + 2) st (omega arith)
+    (constructor-digit s os2 here (at + 1) st digit is
+    (first-of-chain s Kind.ConstructorAfterC p 49 here os1 (at + 1) st (OfKind CONSTRUCTOR_DIGIT) (OfKind MAYBE_ARGUMENTS ∷ []) here [] st refl (omega arith) refl (λ f. refl) refl refl
+    (first-of s Kind.Component q 67 here os at st (OfKind CONSTRUCTOR_AFTER_C) [] here [] st refl (omega arith) refl (λ f. refl) refl refl expects two.0))
+    two.1))))
 
 -- a destructor
 pub component-destructor : (s : Symbol) (os : List Opened) (around : Around) (t : Term) (at : ℕ) (st : State) (digit : ℕ)

@@ -1,4 +1,5 @@
 -- A component of a nested name is written: where the writer is then.
+use Rattle.sym_print.specs.declared.detail.Detail.{Detail}
 use Rattle.std.proofs.Common.{◌≡◌, ◌≢◌, ℕ, ◌+◌, ◌-◌, inl, inr, length, List, [], ◌∷◌, ◌++◌, take, drop, reverse, Bool, true, false, refl, ap, sym, ◌∙◌, subst, arith, codes, append_assoc, append-nil}
 use Rattle.std.proofs.lemmas.Bool.{false≢true}
 use Rattle.std.proofs.lemmas.List.{length-append}
@@ -7,7 +8,7 @@ use Rattle.cpp_grammar.specs.Parts.{opening_text, source_text}
 use Rattle.cpp_grammar.specs.Scope.{arguments_of, has_return_type, is_structor}
 use Rattle.cpp_grammar.specs.Values as values
 use Rattle.cpp_grammar.specs.Values.{State, Around}
-use Rattle.cpp_direct.specs.Symbol.{Symbol}
+use Rattle.cpp_direct.specs.Symbol.{detail_of, Symbol}
 use Rattle.cpp_direct.specs.declared.open.Open.{Open}
 use Rattle.cpp_direct.specs.declared.open.Purpose.{Purpose}
 use Rattle.cpp_direct.specs.declared.open.Step.TheVariants as steps
@@ -59,11 +60,11 @@ goes-marked old between new by bytes m w = record {
   purpose = rw (w.nest, m.nest) refl;
 }
 
-candidates-go : (old new : Direct) (bytes : List ℕ) (cs : List values.Candidate) → Goes old new bytes
-    → AreCandidates old.text.list.items old.candidates.list.items cs → AreCandidates new.text.list.items new.candidates.list.items cs
-candidates-go old new bytes cs g p =
-    subst (λ l. AreCandidates l new.candidates.list.items cs) (sym g.text)
-    (subst (λ ks. AreCandidates (old.text.list.items ++ bytes) ks cs) (sym g.candidates) (candidates-stay old.text.list.items bytes old.candidates.list.items cs p))
+candidates-go : (detail : Detail) (old new : Direct) (bytes : List ℕ) (cs : List values.Candidate) → Goes old new bytes
+    → AreCandidates detail old.text.list.items old.candidates.list.items cs → AreCandidates detail new.text.list.items new.candidates.list.items cs
+candidates-go detail old new bytes cs g p =
+    subst (λ l. AreCandidates detail l new.candidates.list.items cs) (sym g.text)
+    (subst (λ ks. AreCandidates detail (old.text.list.items ++ bytes) ks cs) (sym g.candidates) (candidates-stay detail old.text.list.items bytes old.candidates.list.items cs p))
 
 serves-go : (s : Symbol) (old new : Direct) (bytes : List ℕ) (outer : List Opened) (front : List ℕ) → Goes old new bytes
     → Serves s old.nest.purpose (Stands s (reverse old.waiting.list.items)) outer front
@@ -76,14 +77,14 @@ serves-go s old new bytes outer front g p =
 
 -- a constructor or a destructor comes after a name, and was written but for the name of its class
 class-awaits : (s : Symbol) (old new : Direct) (st : State) (t own : Term) (front bytes mark : List ℕ) (around : Around) (outer : List Opened)
-    → AreCandidates old.text.list.items old.candidates.list.items st.candidates → old.text.list.items ≡ front ++ bytes
-    → (is : IsNest front bytes old.text.list.items old.nest t)
+    → AreCandidates (detail_of s) old.text.list.items old.candidates.list.items st.candidates → old.text.list.items ≡ front ++ bytes
+    → (is : IsNest (detail_of s) front bytes old.text.list.items old.nest t)
     → Serves s old.nest.purpose (Stands s (reverse old.waiting.list.items)) outer front
     → Goes old new mark → new.nest ≡ old.nest → NestNamed s outer around own new.at st
-    → Prints own (bytes ++ mark ++ is.class) false → has_return_type own ≡ false → is_structor own ≡ true → AwaitsClass s new
+    → Prints (detail_of s) own (bytes ++ mark ++ is.class) false → has_return_type own ≡ false → is_structor own ≡ true → AwaitsClass s new
 class-awaits s old new st t own front bytes mark around outer candidates written is serves g same named prints no_return structor = record {
   state = st;
-  candidates = candidates-go old new mark st.candidates g candidates;
+  candidates = candidates-go (detail_of s) old new mark st.candidates g candidates;
   around = around;
   outer = outer;
   own = own;
@@ -161,7 +162,7 @@ named-again s old new p g at from to unlisted classless no_instance =
     = g.text ∙ ap (λ l. l ++ p.class) p.written ∙ append_assoc p.front p.bytes p.class in
     record {
       state = p.state;
-      candidates = candidates-go old new p.class p.state.candidates g p.candidates;
+      candidates = candidates-go (detail_of s) old new p.class p.state.candidates g p.candidates;
       around = p.around;
       outer = p.outer;
       own = p.own;
@@ -215,9 +216,9 @@ class-named s old between new p w text candidates waiting at nest_from purpose f
 
 -- A piece is written after the name so far.
 piece-named : (s : Symbol) (old new : Direct) (st : State) (t piece : Term) (x front bytes : List ℕ) (around : Around) (outer : List Opened)
-    → AreCandidates old.text.list.items old.candidates.list.items st.candidates → old.text.list.items ≡ front ++ bytes
-    → IsNest front bytes old.text.list.items old.nest t → Serves s old.nest.purpose (Stands s (reverse old.waiting.list.items)) outer front
-    → Goes old new (codes "::" ++ x) → NestNamed s outer around (within t piece) new.at st → IsPiece piece x → opening_text piece ≡ codes "<"
+    → AreCandidates (detail_of s) old.text.list.items old.candidates.list.items st.candidates → old.text.list.items ≡ front ++ bytes
+    → IsNest (detail_of s) front bytes old.text.list.items old.nest t → Serves s old.nest.purpose (Stands s (reverse old.waiting.list.items)) outer front
+    → Goes old new (codes "::" ++ x) → NestNamed s outer around (within t piece) new.at st → IsPiece (detail_of s) piece x → opening_text piece ≡ codes "<"
     → new.nest.class_from ≡ length (old.text.list.items ++ codes "::") → new.nest.class_to ≡ length new.text.list.items → new.nest.is_listed ≡ false
     → new.nest.has_class ≡ true → new.nest.is_instance ≡ false → IsNestNamed s new
 unfolding has_return_type arguments_of
@@ -228,7 +229,7 @@ piece-named s old new st t piece x front bytes around outer candidates before is
     let class_written : new.text.list.items ≡ (old.text.list.items ++ m) ++ x = g.text ∙ sym (append_assoc old.text.list.items m x) in
     record {
       state = st;
-      candidates = candidates-go old new (m ++ x) st.candidates g candidates;
+      candidates = candidates-go (detail_of s) old new (m ++ x) st.candidates g candidates;
       around = around;
       outer = outer;
       own = within t piece;
@@ -270,7 +271,7 @@ moves-to old new at by same e =
 
 -- The same of a writer that goes on so.
 piece-follows : (s : Symbol) (old start marked read new : Direct) (by : ℕ) (piece : Term) (x : List ℕ) (p : IsWriting s old steps.Component)
-    → IsPiece piece x → opening_text piece ≡ codes "<" → Moves old start by → Writes start marked (codes "::") → Reads marked read x
+    → IsPiece (detail_of s) piece x → opening_text piece ≡ codes "<" → Moves old start by → Writes start marked (codes "::") → Reads marked read x
     → NestNamed s p.is_before.4 p.is_before.3 (within p.is_before.0 piece) new.at p.state
     → new.text.list.items ≡ read.text.list.items → new.candidates.list.items ≡ read.candidates.list.items → new.waiting.list.items ≡ read.waiting.list.items
     → new.nest.from ≡ read.nest.from → new.nest.purpose ≡ read.nest.purpose
@@ -364,7 +365,7 @@ operator-last s old marked read first second p w there r =
     } in
     record {
       state = p.state;
-      candidates = candidates-go old read (m ++ x) p.state.candidates g p.candidates;
+      candidates = candidates-go (detail_of s) old read (m ++ x) p.state.candidates g p.candidates;
       around = b.3;
       outer = b.4;
       own = within b.0 (operator first second);

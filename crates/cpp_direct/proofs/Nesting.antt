@@ -1,4 +1,5 @@
 -- Nested names are read and written from left to right.
+use Rattle.sym_print.specs.declared.detail.Detail.{Detail}
 use Rattle.cpp_direct.specs.declared.open.Arguments.{Arguments}
 use Rattle.cpp_direct.proofs.Scopes.{none-known}
 use Rattle.std.proofs.Common.{◌≡◌, ◌≢◌, ℕ, ◌+◌, ◌-◌, ◌≤◌, List, [], ◌∷◌, ◌++◌, length, take, drop, reverse, slice_get, Bool, true, false, Option, Some, None, refl, ap, sym, ◌∙◌, subst, arith, codes, append-nil, append_assoc, nat_eq, ◌&&◌, length-append}
@@ -14,7 +15,7 @@ use Rattle.cpp_grammar.specs.Parts.{source_text}
 use Rattle.cpp_grammar.specs.Scope.{has_return_type, arguments_of, is_structor}
 use Rattle.cpp_grammar.specs.Values.{State, Around, tree, named, tree_of, qualifiers_of, ref_of}
 use Rattle.cpp_grammar.specs.Between.{with_tag, after, inside, no_items}
-use Rattle.cpp_direct.specs.Symbol.{Symbol}
+use Rattle.cpp_direct.specs.Symbol.{detail_of, Symbol}
 use Rattle.cpp_direct.specs.declared.open.Mark.{Mark}
 use Rattle.cpp_direct.specs.Marks.{has_const, called_on}
 use Rattle.cpp_direct.specs.declared.open.Candidate.{Candidate}
@@ -66,8 +67,8 @@ byte-there s at byte known is some there = subst (λ b. StandsAt s at (b ∷ [])
 
 -- arguments begin after a name
 list-begins : (s : Symbol) (old mid new : Direct) (ks : List Candidate) (st : State) (owner : Open) (front name : List ℕ) (t : Term)
-    → Keeps old mid ks → OpensArguments mid new owner → AreCandidates old.text.list.items ks st.candidates
-    → IsTemplate owner front t name (old.text.list.items ++ codes "<") → old.text.list.items ≡ front ++ name
+    → Keeps old mid ks → OpensArguments mid new owner → AreCandidates (detail_of s) old.text.list.items ks st.candidates
+    → IsTemplate (detail_of s) owner front t name (old.text.list.items ++ codes "<") → old.text.list.items ≡ front ++ name
     → ArgumentsGoOn s owner (Stands s (reverse old.waiting.list.items)) front t [] (old.at + 1) st
     → IsWriting s new (steps.List true)
 list-begins s old mid new ks st owner front name t keeps opening_ candidates template written goes =
@@ -77,12 +78,12 @@ list-begins s old mid new ks st owner front name t keeps opening_ candidates tem
     let at_is : new.at ≡ old.at + 1 = cc (opening_.at, keeps.at) in
     record {
       state = st;
-      candidates = subst (λ l. AreCandidates l new.candidates.list.items st.candidates) (sym text_is)
-          (subst (λ l. AreCandidates (old.text.list.items ++ codes "<") l st.candidates) (sym candidates_are)
-          (candidates-stay old.text.list.items (codes "<") ks st.candidates candidates));
+      candidates = subst (λ l. AreCandidates (detail_of s) l new.candidates.list.items st.candidates) (sym text_is)
+          (subst (λ l. AreCandidates (detail_of s) (old.text.list.items ++ codes "<") l st.candidates) (sym candidates_are)
+          (candidates-stay (detail_of s) old.text.list.items (codes "<") ks st.candidates candidates));
       is_before = arguments-begun s new st owner (reverse old.waiting.list.items) front name t
           (ap reverse waiting_is ∙ reverse-last old.waiting.list.items owner)
-          (subst (λ l. IsTemplate owner front t name l) (sym text_is) template) (text_is ∙ ap (λ l. l ++ codes "<") written)
+          (subst (λ l. IsTemplate (detail_of s) owner front t name l) (sym text_is) template) (text_is ∙ ap (λ l. l ++ codes "<") written)
           (subst (λ n. ArgumentsGoOn s owner (Stands s (reverse old.waiting.list.items)) front t [] n st) (sym at_is) goes);
     }
 
@@ -125,7 +126,7 @@ named-tagged s old new tag wide n is reads =
     = reads.text ∙ ap (λ l. l ++ tag_text tag) n.written ∙ append_assoc n.front n.bytes (tag_text tag) in
     let nest = sym reads.nest in
     let classed : new.nest.has_class ≡ true → old.nest.has_class ≡ true = λ e. ap (λ x. x.has_class) nest ∙ e in
-    let is_nest : IsNest n.front (n.bytes ++ tag_text tag) new.text.list.items new.nest own = record {
+    let is_nest : IsNest (detail_of s) n.front (n.bytes ++ tag_text tag) new.text.list.items new.nest own = record {
       back = [];
       written = written ∙ sym (append-nil (n.front ++ (n.bytes ++ tag_text tag)));
       from_is = ap (λ x. x.from) reads.nest ∙ n.is_nest.from_is;
@@ -141,7 +142,7 @@ named-tagged s old new tag wide n is reads =
     } in
     record {
       state = n.state;
-      candidates = candidates-read old new (tag_text tag) n.state.candidates reads n.candidates;
+      candidates = candidates-read (detail_of s) old new (tag_text tag) n.state.candidates reads n.candidates;
       around = n.around;
       outer = n.outer;
       own = own;
@@ -252,7 +253,7 @@ known-opens s old new n wide is_type here opening_ =
 
 -- a component follows
 pub component-next : (s : Symbol) (kind : Kind) (old new : Direct) (st : State) (t : Term) → IsRest kind
-    → AreCandidates old.text.list.items old.candidates.list.items st.candidates → IsNesting s kind old t st
+    → AreCandidates (detail_of s) old.text.list.items old.candidates.list.items st.candidates → IsNesting s kind old t st
     → Keeps old new (added_unless old old.nest.is_listed old.nest.from) → IsWriting s new steps.Component
 component-next s kind old new st t rest candidates n keeps =
     let around = n.around in
@@ -262,8 +263,8 @@ component-next s kind old new st t rest candidates n keeps =
     let later = unless_listed listed around t st in
     record {
       state = later;
-      candidates = subst (λ l. AreCandidates l new.candidates.list.items later.candidates) (sym text_is)
-          (subst (λ l. AreCandidates old.text.list.items l later.candidates) (sym keeps.candidates)
+      candidates = subst (λ l. AreCandidates (detail_of s) l new.candidates.list.items later.candidates) (sym text_is)
+          (subst (λ l. AreCandidates (detail_of s) old.text.list.items l later.candidates) (sym keeps.candidates)
           (candidates-unless old st listed n.front n.bytes old.nest.from t around candidates n.written n.is_nest.from_is n.is_nest.prints));
       is_before = (
         t,
@@ -272,8 +273,8 @@ component-next s kind old new st t rest candidates n keeps =
         n.around,
         n.outer,
         text_is ∙ n.written,
-        subst (λ x. IsNest n.front n.bytes new.text.list.items x t) (sym keeps.nest)
-            (subst (λ l. IsNest n.front n.bytes l old.nest t) (sym text_is) n.is_nest),
+        subst (λ x. IsNest (detail_of s) n.front n.bytes new.text.list.items x t) (sym keeps.nest)
+            (subst (λ l. IsNest (detail_of s) n.front n.bytes l old.nest t) (sym text_is) n.is_nest),
         subst (λ m. AwaitsComponent s n.outer n.around t m later) (sym keeps.at)
             (component-outside s n.goes.inner n.outer n.around t old.at later n.goes.passes
             (component-awaits s kind n.goes.inner n.around t listed old.at st rest n.goes.awaits)),
@@ -284,7 +285,7 @@ component-next s kind old new st t rest candidates n keeps =
 
 -- arguments of the first piece follow
 pub first-opens : (s : Symbol) (kind : Kind) (old mid new : Direct) (st : State) (t : Term) → IsFirstRest kind
-    → AreCandidates old.text.list.items old.candidates.list.items st.candidates → IsNesting s kind old t st → StandsAt s.bytes old.at (73 ∷ [])
+    → AreCandidates (detail_of s) old.text.list.items old.candidates.list.items st.candidates → IsNesting s kind old t st → StandsAt s.bytes old.at (73 ∷ [])
     → Keeps old mid (added_unless old old.nest.is_listed old.nest.from) → OpensArguments mid new (opens.FirstArguments mid.nest)
     → IsWriting s new (steps.List true)
 unfolding inside
@@ -319,7 +320,8 @@ nest-comes s old st t n here = n.goes.passes (tree t old.nest.is_listed) (old.at
 
 -- it is a type
 pub type-ended : (s : Symbol) (old new : Direct) (st : State) (t : Term)
-    → AreCandidates old.text.list.items old.candidates.list.items st.candidates → IsNesting s Kind.NestTail old t st → StandsAt s.bytes old.at (69 ∷ [])
+    → AreCandidates (detail_of s) old.text.list.items old.candidates.list.items st.candidates → IsNesting s Kind.NestTail old t st
+    → StandsAt s.bytes old.at (69 ∷ [])
     → old.nest.purpose ≡ purposes.Type → Keeps (record old { at = old.at + 1 }) new (added_unless old old.nest.is_listed old.nest.from)
     → IsWriting s new (steps.Value false)
 type-ended s old new st t candidates n here is_type keeps =
@@ -330,8 +332,8 @@ type-ended s old new st t candidates n here is_type keeps =
     let later = unless_listed listed serves.1 t st in
     record {
       state = later;
-      candidates = subst (λ l. AreCandidates l new.candidates.list.items later.candidates) (sym text_is)
-          (subst (λ l. AreCandidates old.text.list.items l later.candidates) (sym keeps.candidates)
+      candidates = subst (λ l. AreCandidates (detail_of s) l new.candidates.list.items later.candidates) (sym text_is)
+          (subst (λ l. AreCandidates (detail_of s) old.text.list.items l later.candidates) (sym keeps.candidates)
           (candidates-unless old st listed n.front n.bytes old.nest.from t serves.1 candidates n.written n.is_nest.from_is n.is_nest.prints));
       is_before = (
         serves.0,
@@ -347,10 +349,10 @@ type-ended s old new st t candidates n here is_type keeps =
     }
 
 -- the arguments that it ends in were noted, or none are known
-pub arguments-noted : (b : Bool) (text : List ℕ) (a r : Arguments) (t : Term) → (b ≡ true → r ≡ a) → (b ≡ false → r ≡ nowhere)
-    → (b ≡ true → HasArguments text a t) → HasArguments text r t
-arguments-noted true text a r t known none has = subst (λ (k : Arguments). HasArguments text k t) (sym (known refl)) (has refl)
-arguments-noted false text a r t known none has = λ k o. absurd (none-known k (subst (λ (q : Arguments). IsKnown (place_of q k)) (none refl) o))
+pub arguments-noted : {detail : Detail} (b : Bool) (text : List ℕ) (a r : Arguments) (t : Term) → (b ≡ true → r ≡ a) → (b ≡ false → r ≡ nowhere)
+    → (b ≡ true → HasArguments detail text a t) → HasArguments detail text r t
+arguments-noted {detail} true text a r t known none has = subst (λ (k : Arguments). HasArguments detail text k t) (sym (known refl)) (has refl)
+arguments-noted {detail} false text a r t known none has = λ k o. absurd (none-known k (subst (λ (q : Arguments). IsKnown (place_of q k)) (none refl) o))
 
 pub left-true : (a b : Bool) → (a && b) ≡ true → a ≡ true
 left-true true b e = refl
@@ -358,8 +360,9 @@ left-true false b e = e
 
 -- it is the name of the encoding
 pub name-comes : (s : Symbol) (old : Direct) (st : State) (t : Term) (mark : Mark) (is_function : Bool) (argument_ : Arguments)
-    → AreCandidates old.text.list.items old.candidates.list.items st.candidates → IsNesting s Kind.NestTail old t st
-    → (is_function ≡ false → has_return_type t ≡ false) → (is_function ≡ true → has_return_type t ≡ true) → HasArguments old.text.list.items argument_ t
+    → AreCandidates (detail_of s) old.text.list.items old.candidates.list.items st.candidates → IsNesting s Kind.NestTail old t st
+    → (is_function ≡ false → has_return_type t ≡ false) → (is_function ≡ true → has_return_type t ≡ true)
+    → HasArguments (detail_of s) old.text.list.items argument_ t
     → StandsAt s.bytes old.at (69 ∷ [])
     → old.nest.purpose ≡ purposes.Name mark → IsNameEnded s (record old { at = old.at + 1 }) mark is_function argument_ old.nest.from
 unfolding tree_of qualifiers_of ref_of
@@ -416,9 +419,9 @@ operator-ends s w mark p here is_name =
 -- ## The first piece
 
 -- a name so far whose last piece names a class
-class-nest : (front before class : List ℕ) (nest : Nest) (t : Term) → nest.from ≡ length front → nest.class_from ≡ length (front ++ before)
-    → nest.class_to ≡ length (front ++ before) + length class → Prints t (before ++ class) false → NamesClass t class
-    → IsNest front (before ++ class) (front ++ (before ++ class)) nest t
+class-nest : {detail : Detail} (front before class : List ℕ) (nest : Nest) (t : Term) → nest.from ≡ length front → nest.class_from ≡ length (front ++ before)
+    → nest.class_to ≡ length (front ++ before) + length class → Prints detail t (before ++ class) false → NamesClass detail t class
+    → IsNest detail front (before ++ class) (front ++ (before ++ class)) nest t
 class-nest front before class nest t from_is class_from class_to prints names = record {
   back = [];
   written = sym (append-nil (front ++ (before ++ class)));
@@ -434,8 +437,8 @@ class-nest front before class nest t from_is class_from class_to prints names = 
 }
 
 -- one that a reference stands for, which names none
-classless-nest : (front bytes : List ℕ) (nest : Nest) (t : Term) → nest.from ≡ length front → nest.class_from ≡ length front
-    → nest.class_to ≡ length front → nest.has_class ≡ false → Prints t bytes false → IsNest front bytes (front ++ bytes) nest t
+classless-nest : {detail : Detail} (front bytes : List ℕ) (nest : Nest) (t : Term) → nest.from ≡ length front → nest.class_from ≡ length front
+    → nest.class_to ≡ length front → nest.has_class ≡ false → Prints detail t bytes false → IsNest detail front bytes (front ++ bytes) nest t
 classless-nest front bytes nest t from_is class_from class_to none prints = record {
   back = [];
   written = sym (append-nil (front ++ bytes));
@@ -453,14 +456,14 @@ classless-nest front bytes nest t from_is class_from class_to none prints = reco
 -- the rest is expected after a first piece
 nest-begins : (s : Symbol) (old new : Direct) (purpose : Purpose) (a : AwaitsNest s old purpose) (t : Term) (bytes : List ℕ)
     → new.text.list.items ≡ old.text.list.items ++ bytes → new.candidates ≡ old.candidates → new.waiting ≡ old.waiting → new.nest.purpose ≡ purpose
-    → IsNest old.text.list.items bytes (old.text.list.items ++ bytes) new.nest t
+    → IsNest (detail_of s) old.text.list.items bytes (old.text.list.items ++ bytes) new.nest t
     → NestGoesOn s Kind.NestRestAlone a.outer a.around t new.nest.is_listed new.at a.state
     → IsWriting s new steps.Rest
 nest-begins s old new purpose a t bytes text_is candidates_are waiting_is purpose_is is_nest goes = record {
   state = a.state;
-  candidates = subst (λ l. AreCandidates l new.candidates.list.items a.state.candidates) (sym text_is)
-      (subst (λ k. AreCandidates (old.text.list.items ++ bytes) k.list.items a.state.candidates) (sym candidates_are)
-      (candidates-stay old.text.list.items bytes old.candidates.list.items a.state.candidates a.candidates));
+  candidates = subst (λ l. AreCandidates (detail_of s) l new.candidates.list.items a.state.candidates) (sym text_is)
+      (subst (λ k. AreCandidates (detail_of s) (old.text.list.items ++ bytes) k.list.items a.state.candidates) (sym candidates_are)
+      (candidates-stay (detail_of s) old.text.list.items bytes old.candidates.list.items a.state.candidates a.candidates));
   is_before = (
     t,
     Kind.NestRestAlone,
@@ -471,7 +474,7 @@ nest-begins s old new purpose a t bytes text_is candidates_are waiting_is purpos
       outer = a.outer;
       bytes = bytes;
       written = text_is;
-      is_nest = subst (λ l. IsNest old.text.list.items bytes l new.nest t) (sym text_is) is_nest;
+      is_nest = subst (λ l. IsNest (detail_of s) old.text.list.items bytes l new.nest t) (sym text_is) is_nest;
       goes = goes;
       serves = subst (λ p. Serves s p (Stands s (reverse new.waiting.list.items)) a.outer old.text.list.items) (sym purpose_is)
           (subst (λ o. Serves s purpose (Stands s (reverse o.list.items)) a.outer old.text.list.items) (sym waiting_is) a.serves);
@@ -482,13 +485,13 @@ nest-begins s old new purpose a t bytes text_is candidates_are waiting_is purpos
 -- and after one that an S stands for
 known-begins : (s : Symbol) (old new : Direct) (purpose : Purpose) (a : AwaitsNest s old purpose) (t : Term) (bytes : List ℕ)
     → new.text.list.items ≡ old.text.list.items ++ bytes → new.candidates ≡ old.candidates → new.waiting ≡ old.waiting → new.nest.purpose ≡ purpose
-    → IsNest old.text.list.items bytes (old.text.list.items ++ bytes) new.nest t → new.nest.is_listed ≡ true → new.nest.has_class ≡ false
+    → IsNest (detail_of s) old.text.list.items bytes (old.text.list.items ++ bytes) new.nest t → new.nest.is_listed ≡ true → new.nest.has_class ≡ false
     → NestGoesOn s Kind.NestRestOrEnd a.outer a.around t true new.at a.state → IsNestKnown s new
 known-begins s old new purpose a t bytes text_is candidates_are waiting_is purpose_is is_nest listed classless known = record {
   state = a.state;
-  candidates = subst (λ l. AreCandidates l new.candidates.list.items a.state.candidates) (sym text_is)
-      (subst (λ k. AreCandidates (old.text.list.items ++ bytes) k.list.items a.state.candidates) (sym candidates_are)
-      (candidates-stay old.text.list.items bytes old.candidates.list.items a.state.candidates a.candidates));
+  candidates = subst (λ l. AreCandidates (detail_of s) l new.candidates.list.items a.state.candidates) (sym text_is)
+      (subst (λ k. AreCandidates (detail_of s) (old.text.list.items ++ bytes) k.list.items a.state.candidates) (sym candidates_are)
+      (candidates-stay (detail_of s) old.text.list.items bytes old.candidates.list.items a.state.candidates a.candidates));
   around = a.around;
   outer = a.outer;
   own = t;
@@ -496,7 +499,7 @@ known-begins s old new purpose a t bytes text_is candidates_are waiting_is purpo
   front = old.text.list.items;
   bytes = bytes;
   written = text_is;
-  is_nest = subst (λ l. IsNest old.text.list.items bytes l new.nest t) (sym text_is) is_nest;
+  is_nest = subst (λ l. IsNest (detail_of s) old.text.list.items bytes l new.nest t) (sym text_is) is_nest;
   listed = listed;
   classless = classless;
   serves = subst (λ p. Serves s p (Stands s (reverse new.waiting.list.items)) a.outer old.text.list.items) (sym purpose_is)
@@ -598,7 +601,7 @@ reference-begins s old mid purpose digits k a here is ordered found plain closed
     let c = one.0 in
     let it = one.2 in
     let piece = piece-found old.text.list.items it.front it.bytes it.back k.from k.to it.written it.from_is it.to_is in
-    let prints = subst (λ b. Prints c.tree it.bytes b) plain (plainly-prints k c it.bytes closed it.prints) in
+    let prints = subst (λ b. Prints (detail_of s) c.tree it.bytes b) plain (plainly-prints k c it.bytes closed it.prints) in
     known-begins s old (record mid { nest = nest }) purpose a c.tree it.bytes (text_is ∙ ap (λ l. old.text.list.items ++ l) piece.2) candidates_are
     waiting_is refl (classless-nest old.text.list.items it.bytes nest c.tree from_is from_is from_is refl prints)
     refl refl (nest-substitution s a.outer a.around old.at a.state digits mid.at c a.awaits here is one.1 prints.is_closed prints.packless)
@@ -617,9 +620,9 @@ std-begins s old mid purpose before name a here is filled text_is candidates_are
     let written : mid.text.list.items ≡ old.text.list.items ++ bytes = text_is ∙ append_assoc old.text.list.items (codes "std::") (source_text name) in
     record {
       state = a.state;
-      candidates = subst (λ l. AreCandidates l mid.candidates.list.items a.state.candidates) (sym written)
-          (subst (λ k. AreCandidates (old.text.list.items ++ bytes) k.list.items a.state.candidates) (sym candidates_are)
-          (candidates-stay old.text.list.items bytes old.candidates.list.items a.state.candidates a.candidates));
+      candidates = subst (λ l. AreCandidates (detail_of s) l mid.candidates.list.items a.state.candidates) (sym written)
+          (subst (λ k. AreCandidates (detail_of s) (old.text.list.items ++ bytes) k.list.items a.state.candidates) (sym candidates_are)
+          (candidates-stay (detail_of s) old.text.list.items bytes old.candidates.list.items a.state.candidates a.candidates));
       around = a.around;
       outer = a.outer;
       own = t;

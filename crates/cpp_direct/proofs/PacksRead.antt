@@ -9,7 +9,7 @@ use Rattle.cpp_grammar.specs.Grammar.{may_be_empty}
 use Rattle.cpp_grammar.specs.Term.{nil, list, instance, pack}
 use Rattle.cpp_grammar.specs.Values.{nothing_there, tree_of}
 use Rattle.cpp_grammar.specs.Between.{no_items}
-use Rattle.cpp_direct.specs.Symbol.{Symbol}
+use Rattle.cpp_direct.specs.Symbol.{detail_of, Symbol}
 use Rattle.cpp_direct.specs.declared.open.Argument.{Argument}
 use Rattle.cpp_direct.specs.declared.open.Arguments.{Arguments}
 use Rattle.cpp_direct.specs.declared.open.Open.{Open}
@@ -39,7 +39,7 @@ element-begins s old new from p named letter from_is waits text candidates at = 
     go : (l : Listing) → p.is_before.0.listing ≡ l → IsWriting s new steps.Type
     go (of_pack before written) is =
         absurd (subst (λ ws. EndsNamed ws)
-        (subst (λ l. Belongs l (reverse old.waiting.list.items) p.is_before.0.owner p.is_before.0.rest) is p.is_before.0.belongs).0 named)
+        (subst (λ l. Belongs (detail_of s) l (reverse old.waiting.list.items) p.is_before.0.owner p.is_before.0.rest) is p.is_before.0.belongs).0 named)
     go of_template is =
         let place = p.is_before.0 in
         let o = place.owner in
@@ -49,9 +49,9 @@ element-begins s old new from p named letter from_is waits text candidates at = 
         let goes : ArgumentsGoOn s o below place.front place.template [] old.at p.state =
         subst (λ ts. ArgumentsGoOn s o below place.front place.template ts old.at p.state) ts_is
         (subst (λ l. GoesOn s l o below place.front place.template p.is_before.1 old.at p.state) is p.is_before.7) in
-        let all : PrintAllBy (IsElement (extra_of place.listing)) [] p.is_before.2 =
-        subst (λ ts. PrintAllBy (IsElement (extra_of place.listing)) ts p.is_before.2) ts_is p.is_before.3 in
-        let texts_is : p.is_before.2 ≡ [] = none-text (IsElement (extra_of place.listing)) p.is_before.2 all in
+        let all : PrintAllBy (IsElement (detail_of s) (extra_of place.listing)) [] p.is_before.2 =
+        subst (λ ts. PrintAllBy (IsElement (detail_of s) (extra_of place.listing)) ts p.is_before.2) ts_is p.is_before.3 in
+        let texts_is : p.is_before.2 ≡ [] = none-text (IsElement (detail_of s) (extra_of place.listing)) p.is_before.2 all in
         let written : old.text.list.items ≡ place.front ++ place.name ++ codes "<" ++ [] =
         subst (λ l. old.text.list.items ≡ led_by l place.front place.name ++ p.is_before.2) is p.is_before.4
         ∙ ap (λ l. place.front ++ place.name ++ codes "<" ++ l) texts_is in
@@ -67,7 +67,7 @@ element-begins s old new from p named letter from_is waits text candidates at = 
         ) in
         let element = element-awaits s Kind.PackList opened.inner goes.0 (old.at + 1) p.state tt opened.awaits in
         let belongs : reverse old.waiting.list.items ≡ o ∷ rest =
-        subst (λ l. Belongs l (reverse old.waiting.list.items) o rest) is place.belongs in
+        subst (λ l. Belongs (detail_of s) l (reverse old.waiting.list.items) o rest) is place.belongs in
         let entry = opens.Element from 0 nowhere in
         let waiting_ : reverse new.waiting.list.items ≡ entry ∷ opens.Pack ∷ o ∷ rest =
         ap reverse waits ∙ reverse-last (old.waiting.list.items ++ opens.Pack ∷ []) entry
@@ -79,7 +79,7 @@ element-begins s old new from p named letter from_is waits text candidates at = 
           [],
           [],
           place.is_template,
-          none-print 0,
+          none-print (detail_of s) 0,
           written,
           from_is,
           refl,
@@ -90,8 +90,8 @@ element-begins s old new from p named letter from_is waits text candidates at = 
         ) in
         record {
           state = p.state;
-          candidates = subst (λ v. AreCandidates new.text.list.items v.list.items p.state.candidates) (sym candidates)
-              (subst (λ v. AreCandidates v.list.items old.candidates.list.items p.state.candidates) (sym text) p.candidates);
+          candidates = subst (λ v. AreCandidates (detail_of s) new.text.list.items v.list.items p.state.candidates) (sym candidates)
+              (subst (λ v. AreCandidates (detail_of s) v.list.items old.candidates.list.items p.state.candidates) (sym text) p.candidates);
           is_before = (
             element.inner,
             goes.0,
@@ -129,13 +129,13 @@ value-in-pack s w is_reference from number known p found =
           texts = waits.4;
           t = p.is_before.1;
           bytes = bytes;
-          is_template = subst (λ l. IsTemplate owner waits.0 waits.1 waits.2 l) (sym p.is_before.4)
-              (template-stays owner waits.0 waits.1 waits.2 p.is_before.2 bytes waits.5);
+          is_template = subst (λ l. IsTemplate (detail_of s) owner waits.0 waits.1 waits.2 l) (sym p.is_before.4)
+              (template-stays (detail_of s) owner waits.0 waits.1 waits.2 p.is_before.2 bytes waits.5);
           elements = waits.6;
           written = p.is_before.4 ∙ ap (λ l. l ++ bytes) waits.7;
           from_is = waits.8 ∙ ap length waits.7;
           number_is = waits.9;
-          among = subst (λ l. AreAmong l true known waits.3) (sym p.is_before.4) (among-stay p.is_before.2 bytes true known waits.3 waits.10);
+          among = subst (λ l. AreAmong (detail_of s) l true known waits.3) (sym p.is_before.4) (among-stay p.is_before.2 bytes true known waits.3 waits.10);
           prints = p.is_before.5;
           goes = waits.11 p.is_before.1 w.at p.state p.is_before.6;
         }
@@ -156,18 +156,18 @@ element-passes s old new from number known is_reference p waits text candidates 
     let texts = in_front_of_next p.ts p.texts ++ p.bytes in
     record {
       state = p.state;
-      candidates = subst (λ v. AreCandidates new.text.list.items v.list.items p.state.candidates) (sym candidates)
-          (subst (λ v. AreCandidates v.list.items old.candidates.list.items p.state.candidates) (sym text) p.candidates);
+      candidates = subst (λ v. AreCandidates (detail_of s) new.text.list.items v.list.items p.state.candidates) (sym candidates)
+          (subst (λ v. AreCandidates (detail_of s) v.list.items old.candidates.list.items p.state.candidates) (sym text) p.candidates);
       is_before = (
         record {
           listing = of_pack [] [];
           owner = p.owner;
           rest = p.rest;
-          belongs = (waits, none-print 3);
+          belongs = (waits, none-print (detail_of s) 3);
           front = p.front;
           template = p.template;
           name = p.name;
-          is_template = subst (λ v. IsTemplate p.owner p.front p.template p.name v.list.items) (sym text) p.is_template;
+          is_template = subst (λ v. IsTemplate (detail_of s) p.owner p.front p.template p.name v.list.items) (sym text) p.is_template;
         },
         ts,
         texts,
@@ -183,7 +183,7 @@ element-passes s old new from number known is_reference p waits text candidates 
 element-known : (s : Symbol) (old : Direct) (from to number : ℕ) (place : Argument) (known more : Arguments) (is_reference : Bool)
     (p : IsPackElementRead s old from number known is_reference) → to ≡ length old.text.list.items
     → (IsKnown place → place ≡ record { from = from; to = to; is_pack = true; is_reference = is_reference }) → KnowsMore known more number place
-    → AreAmong old.text.list.items true more (p.ts ++ p.t ∷ [])
+    → AreAmong (detail_of s) old.text.list.items true more (p.ts ++ p.t ∷ [])
 element-known s old from to number place known more is_reference p to_is place_is knows =
     known-more old.text.list.items true from to number is_reference place known more p.ts p.t
     (p.front ++ p.name ++ codes "<" ++ in_front_of_next p.ts p.texts) p.bytes p.written p.from_is to_is p.number_is p.prints place_is knows p.among
@@ -198,8 +198,8 @@ pack-element-awaits s old new from to number place known more is_reference p wai
     let ts = p.ts ++ p.t ∷ [] in
     record {
       state = p.state;
-      candidates = subst (λ v. AreCandidates new.text.list.items v.list.items p.state.candidates) (sym candidates)
-          (subst (λ v. AreCandidates v.list.items old.candidates.list.items p.state.candidates) (sym text) p.candidates);
+      candidates = subst (λ v. AreCandidates (detail_of s) new.text.list.items v.list.items p.state.candidates) (sym candidates)
+          (subst (λ v. AreCandidates (detail_of s) v.list.items old.candidates.list.items p.state.candidates) (sym text) p.candidates);
       owner = p.owner;
       rest = p.rest;
       open_is = waits;
@@ -208,13 +208,13 @@ pack-element-awaits s old new from to number place known more is_reference p wai
       name = p.name;
       ts = ts;
       texts = in_front_of_next p.ts p.texts ++ p.bytes;
-      is_template = subst (λ v. IsTemplate p.owner p.front p.template p.name v.list.items) (sym text) p.is_template;
+      is_template = subst (λ v. IsTemplate (detail_of s) p.owner p.front p.template p.name v.list.items) (sym text) p.is_template;
       elements = next-prints 0 p.ts p.texts p.t p.bytes p.elements (type-element 0 p.t p.bytes is_reference p.prints);
       some = some-elements p.ts p.t;
       written = ap (λ v. v.list.items) text ∙ p.written
           ∙ append_assoc (p.front ++ p.name ++ codes "<") (in_front_of_next p.ts p.texts) p.bytes;
       number_is = omega (arith, p.number_is, length-append p.ts (p.t ∷ []));
-      among = subst (λ v. AreAmong v.list.items true more ts) (sym text)
+      among = subst (λ v. AreAmong (detail_of s) v.list.items true more ts) (sym text)
           (element-known s old from to number place known more is_reference p to_is place_is knows);
       goes = subst (λ n. GoesOn s (of_pack [] []) p.owner (Stands s p.rest) p.front p.template ts n p.state) (sym at) p.goes;
     }
@@ -241,22 +241,22 @@ next-element-begins s old mid new before from number known p writes from_is numb
       p.name,
       p.ts,
       p.texts,
-      subst (λ l. IsTemplate o p.front p.template p.name l) (sym writes.text)
-          (template-stays o p.front p.template p.name old.text.list.items (codes ", ") p.is_template),
+      subst (λ l. IsTemplate (detail_of s) o p.front p.template p.name l) (sym writes.text)
+          (template-stays (detail_of s) o p.front p.template p.name old.text.list.items (codes ", ") p.is_template),
       p.elements,
       written,
       from_is,
       number_is ∙ p.number_is,
-      subst (λ l. AreAmong l true known p.ts) (sym writes.text) (among-stay old.text.list.items (codes ", ") true known p.ts p.among),
+      subst (λ l. AreAmong (detail_of s) l true known p.ts) (sym writes.text) (among-stay old.text.list.items (codes ", ") true known p.ts p.among),
       λ t here now comes. element-goes-on s Kind.PackList
           (λ l there later. Closes s (of_pack [] []) o (Stands s p.rest) p.front p.template l there later)
           p.ts t old.at here p.state now goes (element.onward t here now comes),
     ) in
     record {
       state = p.state;
-      candidates = subst (λ v. AreCandidates new.text.list.items v.list.items p.state.candidates) (sym candidates)
-          (subst (λ v. AreCandidates v.list.items mid.candidates.list.items p.state.candidates) (sym text)
-          (candidates-written old mid (codes ", ") p.state.candidates writes p.candidates));
+      candidates = subst (λ v. AreCandidates (detail_of s) new.text.list.items v.list.items p.state.candidates) (sym candidates)
+          (subst (λ v. AreCandidates (detail_of s) v.list.items mid.candidates.list.items p.state.candidates) (sym text)
+          (candidates-written (detail_of s) old mid (codes ", ") p.state.candidates writes p.candidates));
       is_before = (
         element.inner,
         goes.0,
@@ -287,8 +287,8 @@ pack-closes s old new from to number size place known more is_reference p ends s
     subst (λ l. Owns s p.owner (Stands s p.rest) p.front (instance p.template (list (pack l) nil)) (old.at + 1 + 1) p.state) (list-with-none es) here in
     record {
       state = p.state;
-      candidates = subst (λ v. AreCandidates new.text.list.items v.list.items p.state.candidates) (sym candidates)
-          (subst (λ v. AreCandidates v.list.items old.candidates.list.items p.state.candidates) (sym text) p.candidates);
+      candidates = subst (λ v. AreCandidates (detail_of s) new.text.list.items v.list.items p.state.candidates) (sym candidates)
+          (subst (λ v. AreCandidates (detail_of s) v.list.items old.candidates.list.items p.state.candidates) (sym text) p.candidates);
       owner = p.owner;
       rest = p.rest;
       open_is = waits;
@@ -299,7 +299,7 @@ pack-closes s old new from to number size place known more is_reference p ends s
       tail = nil;
       is_tail = inl refl;
       arguments = texts;
-      is_template = subst (λ v. IsTemplate p.owner p.front p.template p.name v.list.items) (sym text) p.is_template;
+      is_template = subst (λ v. IsTemplate (detail_of s) p.owner p.front p.template p.name v.list.items) (sym text) p.is_template;
       elements = (
         texts ∷ [],
         (
@@ -320,7 +320,7 @@ pack-closes s old new from to number size place known more is_reference p ends s
             es,
             refl,
             omega (arith, p.number_is, size_is, length-append p.ts (p.t ∷ [])),
-            subst (λ l. IsAmong l (place_of (record more { elements = size }) k) k es) (sym (ap (λ v. v.list.items) text))
-                (subst (λ (q : Argument). IsAmong old.text.list.items q k es) (sym there) h.0),
+            subst (λ l. IsAmong (detail_of s) l (place_of (record more { elements = size }) k) k es) (sym (ap (λ v. v.list.items) text))
+                (subst (λ (q : Argument). IsAmong (detail_of s) old.text.list.items q k es) (sym there) h.0),
           );
     }

@@ -1,4 +1,5 @@
 -- Arrays, and what points or refers to them, as elements of lists.
+use Rattle.sym_print.specs.declared.detail.Detail.{Detail}
 use Rattle.std.proofs.Common.{◌≡◌, refl, ap, sym, ◌∙◌, ℕ, ◌+◌, List, [], ◌∷◌, ◌++◌, length, Bool, false, arith, codes, length-append, append-nil, append_assoc}
 use Rattle.sym_print.specs.Unshared.{text_of, cost_of}
 use Rattle.cpp_grammar.specs.Term.{Term, array, pointer, lvalue}
@@ -9,8 +10,8 @@ use Rattle.cpp_grammar.specs.Parts.{as_item, says, text_part, left_parts, right_
 use Rattle.cpp_direct.specs.declared.open.Access.{Access}
 use Rattle.cpp_direct.specs.declared.open.Access.TheVariants as accesses
 use Rattle.cpp_direct.specs.HolesOfArrays.{accessed, array_opening}
-use Rattle.cpp_direct.specs.Prints.{in_form, Prints, IsElement}
-use Rattle.cpp_direct.proofs.PrintedParts.{printed_by, text_by, cost_by, text_append, cost_append, part-text, part-cost}
+use Rattle.cpp_direct.specs.Prints.{shown_in, Prints, IsElement}
+use Rattle.cpp_direct.proofs.PrintedParts.{shown_by, text_shown, cost_shown, text_append, cost_append, part-text, part-cost}
 
 -- ## What an array prints at the left and at the right
 
@@ -18,38 +19,40 @@ beginning : (c : Context) (t : Term) → is_funarr (head c t) ≡ false → arra
 unfolding array_left
 beginning c t e = rw (e, array_left) refl
 
-left-text : (c : Context) (digits : List ℕ) (t : Term) (b : List ℕ) (r : Bool) → Prints t b r → text_of (in_form left c (array digits t)) ≡ b ++ codes " "
+left-text : {detail : Detail} (c : Context) (digits : List ℕ) (t : Term) (b : List ℕ) (r : Bool) → Prints detail t b r
+    → text_of (shown_in detail left c (array digits t)) ≡ b ++ codes " "
 unfolding parts_in left_parts not_empty
-left-text c digits t b r p =
-    text_by left c (array digits t) (as_item left c t ∷ says " " ∷ []) (beginning c t (p.is_funarr_head c)) ∙ ap (λ s. s ++ codes " ") (p.left_text c)
+left-text {detail} c digits t b r p =
+    text_shown detail left c (array digits t) (as_item left c t ∷ says " " ∷ []) (beginning c t (p.is_funarr_head c)) ∙ ap (λ s. s ++ codes " ") (p.left_text c)
 
-left-cost : (c : Context) (digits : List ℕ) (t : Term) (b : List ℕ) (r : Bool) → Prints t b r
-    → cost_of (in_form left c (array digits t)) ≡ 2 + cost_of (in_form left c t)
+left-cost : {detail : Detail} (c : Context) (digits : List ℕ) (t : Term) (b : List ℕ) (r : Bool) → Prints detail t b r
+    → cost_of (shown_in detail left c (array digits t)) ≡ 2 + cost_of (shown_in detail left c t)
 unfolding parts_in left_parts not_empty
-left-cost c digits t b r p = omega (arith, cost_by left c (array digits t) (as_item left c t ∷ says " " ∷ []) (beginning c t (p.is_funarr_head c)))
+left-cost {detail} c digits t b r p = omega (arith, cost_shown detail left c (array digits t) (as_item left c t ∷ says " " ∷ []) (beginning c t (p.is_funarr_head c)))
 
 sized_text : (x y l : List ℕ) → x ≡ l → y ≡ [] → (codes "[" ++ x) ++ (codes "]" ++ (y ++ [])) ≡ codes "[" ++ l ++ codes "]"
 sized_text x y l e f = rw (e, f) refl
 
-right-text : (c : Context) (digits : List ℕ) (t : Term) (b : List ℕ) (r : Bool) → Prints t b r
-    → text_of (in_form right c (array digits t)) ≡ codes "[" ++ digits ++ codes "]"
+right-text : {detail : Detail} (c : Context) (digits : List ℕ) (t : Term) (b : List ℕ) (r : Bool) → Prints detail t b r
+    → text_of (shown_in detail right c (array digits t)) ≡ codes "[" ++ digits ++ codes "]"
 unfolding parts_in right_parts not_empty
-right-text c digits t b r p =
+right-text {detail} c digits t b r p =
     let front = says "[" ∷ text_part digits in
     let behind = says "]" ∷ as_item right c t ∷ [] in
-    text_by right c (array digits t) (front ++ behind) refl ∙ text_append front behind
-    ∙ sized_text (text_of (printed_by (text_part digits))) (text_of (in_form right c t)) digits (part-text digits) (p.right_text c)
+    text_shown detail right c (array digits t) (front ++ behind) refl ∙ text_append detail front behind
+    ∙ sized_text (text_of (shown_by detail (text_part digits))) (text_of (shown_in detail right c t)) digits (part-text detail digits) (p.right_text c)
 
-right-cost : (c : Context) (digits : List ℕ) (t : Term) → cost_of (in_form right c (array digits t)) ≡ 3 + cost_of (in_form right c t) + length digits
+right-cost : (detail : Detail) (c : Context) (digits : List ℕ) (t : Term)
+    → cost_of (shown_in detail right c (array digits t)) ≡ 3 + cost_of (shown_in detail right c t) + length digits
 unfolding parts_in right_parts not_empty
-right-cost c digits t =
+right-cost detail c digits t =
     let front = says "[" ∷ text_part digits in
     let behind = says "]" ∷ as_item right c t ∷ [] in
     omega (
       arith,
-      cost_by right c (array digits t) (front ++ behind) refl,
-      cost_append front behind,
-      part-cost digits,
+      cost_shown detail right c (array digits t) (front ++ behind) refl,
+      cost_append detail front behind,
+      part-cost detail digits,
     )
 
 -- ## What it is as an element
@@ -79,16 +82,16 @@ text-length : (b o l : List ℕ) → length (b ++ o ++ l ++ codes "]") ≡ lengt
 text-length b o l = omega (arith, length-append (b ++ o ++ l) (codes "]"), length-append (b ++ o) l, length-append b o)
 
 -- An array prints its elements' type and its size, and a mark between them where it is pointed or referred to.
-pub array-element : (extra : ℕ) (access : Access) (digits : List ℕ) (t : Term) (b : List ℕ) (r : Bool) → Prints t b r
-    → IsElement extra (accessed access (array digits t)) (b ++ array_opening access ++ digits ++ codes "]")
+pub array-element : {detail : Detail} (extra : ℕ) (access : Access) (digits : List ℕ) (t : Term) (b : List ℕ) (r : Bool) → Prints detail t b r
+    → IsElement detail extra (accessed access (array digits t)) (b ++ array_opening access ++ digits ++ codes "]")
 unfolding parts_in left_parts right_parts marked_parts reference_parts closing_right head head_with is_reference is_funarr not_empty is_empty is_open pack_length is_void
-array-element extra accesses.Plain digits t b r p = let a = array digits t in record {
-  both_texts = λ c. plain_text (text_of (in_form left c a)) (text_of (in_form right c a)) b digits (left-text c digits t b r p) (right-text c digits t b r p);
+array-element {detail} extra accesses.Plain digits t b r p = let a = array digits t in record {
+  both_texts = λ c. plain_text (text_of (shown_in detail left c a)) (text_of (shown_in detail right c a)) b digits (left-text c digits t b r p) (right-text c digits t b r p);
   cost = λ c. omega (
     arith,
     p.cost c,
     left-cost c digits t b r p,
-    right-cost c digits t,
+    right-cost detail c digits t,
     text-length b (codes " [") digits,
   );
   filled = λ c. refl;
@@ -96,18 +99,18 @@ array-element extra accesses.Plain digits t b r p = let a = array digits t in re
   packless = p.packless;
   void = λ e. cc e;
 }
-array-element extra accesses.Pointer digits t b r p = let a = array digits t in record {
+array-element {detail} extra accesses.Pointer digits t b r p = let a = array digits t in record {
   both_texts = λ c.
-      ap (λ k. k ++ text_of (in_form right c (pointer a))) (text_by left c (pointer a) (as_item left c a ∷ says "(*" ∷ []) refl)
-      ∙ ap (λ k. (text_of (in_form left c a) ++ codes "(*") ++ k) (text_by right c (pointer a) (says ")" ∷ as_item right c a ∷ []) refl)
-      ∙ marked_text (text_of (in_form left c a)) (text_of (in_form right c a)) b digits (codes "*") (left-text c digits t b r p) (right-text c digits t b r p);
+      ap (λ k. k ++ text_of (shown_in detail right c (pointer a))) (text_shown detail left c (pointer a) (as_item left c a ∷ says "(*" ∷ []) refl)
+      ∙ ap (λ k. (text_of (shown_in detail left c a) ++ codes "(*") ++ k) (text_shown detail right c (pointer a) (says ")" ∷ as_item right c a ∷ []) refl)
+      ∙ marked_text (text_of (shown_in detail left c a)) (text_of (shown_in detail right c a)) b digits (codes "*") (left-text c digits t b r p) (right-text c digits t b r p);
   cost = λ c. omega (
     arith,
     p.cost c,
     left-cost c digits t b r p,
-    right-cost c digits t,
-    cost_by left c (pointer a) (as_item left c a ∷ says "(*" ∷ []) refl,
-    cost_by right c (pointer a) (says ")" ∷ as_item right c a ∷ []) refl,
+    right-cost detail c digits t,
+    cost_shown detail left c (pointer a) (as_item left c a ∷ says "(*" ∷ []) refl,
+    cost_shown detail right c (pointer a) (says ")" ∷ as_item right c a ∷ []) refl,
     text-length b (codes " (*)[") digits,
   );
   filled = λ c. refl;
@@ -115,18 +118,18 @@ array-element extra accesses.Pointer digits t b r p = let a = array digits t in 
   packless = p.packless;
   void = λ e. cc e;
 }
-array-element extra accesses.Lvalue digits t b r p = let a = array digits t in record {
+array-element {detail} extra accesses.Lvalue digits t b r p = let a = array digits t in record {
   both_texts = λ c.
-      ap (λ k. k ++ text_of (in_form right c (lvalue a))) (text_by left c (lvalue a) (as_item left c a ∷ says "(&" ∷ []) refl)
-      ∙ ap (λ k. (text_of (in_form left c a) ++ codes "(&") ++ k) (text_by right c (lvalue a) (says ")" ∷ as_item right c a ∷ []) refl)
-      ∙ marked_text (text_of (in_form left c a)) (text_of (in_form right c a)) b digits (codes "&") (left-text c digits t b r p) (right-text c digits t b r p);
+      ap (λ k. k ++ text_of (shown_in detail right c (lvalue a))) (text_shown detail left c (lvalue a) (as_item left c a ∷ says "(&" ∷ []) refl)
+      ∙ ap (λ k. (text_of (shown_in detail left c a) ++ codes "(&") ++ k) (text_shown detail right c (lvalue a) (says ")" ∷ as_item right c a ∷ []) refl)
+      ∙ marked_text (text_of (shown_in detail left c a)) (text_of (shown_in detail right c a)) b digits (codes "&") (left-text c digits t b r p) (right-text c digits t b r p);
   cost = λ c. omega (
     arith,
     p.cost c,
     left-cost c digits t b r p,
-    right-cost c digits t,
-    cost_by left c (lvalue a) (as_item left c a ∷ says "(&" ∷ []) refl,
-    cost_by right c (lvalue a) (says ")" ∷ as_item right c a ∷ []) refl,
+    right-cost detail c digits t,
+    cost_shown detail left c (lvalue a) (as_item left c a ∷ says "(&" ∷ []) refl,
+    cost_shown detail right c (lvalue a) (says ")" ∷ as_item right c a ∷ []) refl,
     text-length b (codes " (&)[") digits,
   );
   filled = λ c. refl;

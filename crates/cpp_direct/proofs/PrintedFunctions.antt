@@ -1,4 +1,5 @@
 -- Function types, and pointers to them, as elements of lists.
+use Rattle.sym_print.specs.declared.detail.Detail.{Detail}
 use Rattle.std.proofs.Common.{◌≡◌, ◌≢◌, refl, ap, sym, ◌∙◌, ℕ, ◌+◌, ◌*◌, ◌≤◌, List, [], ◌∷◌, ◌++◌, length, Bool, true, false, None, arith, codes, length-append, append-nil, append_assoc, inl, subst}
 use Rattle.sym_print.specs.Unshared.{text_of, cost_of}
 use Rattle.cpp_grammar.specs.Term.{Term, any_value, pointer, function_type, builtin, nil}
@@ -6,10 +7,10 @@ use Rattle.cpp_grammar.specs.Scope.{is_open, pack_length, first_of}
 use Rattle.cpp_grammar.specs.Items.{closed, left, right, first, Context, head, head_with, is_funarr, is_empty}
 use Rattle.cpp_grammar.specs.Meaning.{is_void, is_nil, parameters}
 use Rattle.cpp_grammar.specs.Parts.{as_item, says, text_part, list_part, left_parts, right_parts, function_right, marked_parts, closing_right, ref_text, parts_in, not_empty}
-use Rattle.cpp_direct.specs.Prints.{in_form, Prints, IsElement, PrintAll, list_of}
+use Rattle.cpp_direct.specs.Prints.{shown_in, Prints, IsElement, PrintAll, list_of}
 use Rattle.cpp_direct.specs.HolesOfFunctions.{plain_function, pointed}
 use Rattle.cpp_direct.specs.WriterInvariant.{list_with, opening_text}
-use Rattle.cpp_direct.proofs.PrintedParts.{printed_by, text_by, cost_by, text_append, cost_append}
+use Rattle.cpp_direct.proofs.PrintedParts.{shown_by, text_shown, cost_shown, text_append, cost_append}
 use Rattle.cpp_direct.proofs.PrintedLists.{all-in, list-with-none, list-text, list-cost, list-closed, list-packless, none-print}
 use Rattle.cpp_direct.proofs.PrintedSymbols.{parameters-kept}
 
@@ -19,44 +20,45 @@ use Rattle.cpp_direct.proofs.PrintedSymbols.{parameters-kept}
 abbrev plain : (returned items : Term) → Term
 plain returned items = function_type false false any_value returned items
 
-left-text : (c : Context) (r : Term) (b : List ℕ) (is_reference : Bool) (items : Term) → Prints r b is_reference
-    → text_of (in_form left c (plain r items)) ≡ b ++ codes " "
+left-text : {detail : Detail} (c : Context) (r : Term) (b : List ℕ) (is_reference : Bool) (items : Term) → Prints detail r b is_reference
+    → text_of (shown_in detail left c (plain r items)) ≡ b ++ codes " "
 unfolding parts_in left_parts not_empty
-left-text c r b is_reference items p =
-    text_by left c (plain r items) (as_item left c r ∷ says " " ∷ []) refl ∙ ap (λ s. s ++ codes " ") (p.left_text c)
+left-text {detail} c r b is_reference items p =
+    text_shown detail left c (plain r items) (as_item left c r ∷ says " " ∷ []) refl ∙ ap (λ s. s ++ codes " ") (p.left_text c)
 
-left-cost : (c : Context) (r items : Term) → cost_of (in_form left c (plain r items)) ≡ 2 + cost_of (in_form left c r)
+left-cost : (detail : Detail) (c : Context) (r items : Term) → cost_of (shown_in detail left c (plain r items)) ≡ 2 + cost_of (shown_in detail left c r)
 unfolding parts_in left_parts not_empty
-left-cost c r items = omega (arith, cost_by left c (plain r items) (as_item left c r ∷ says " " ∷ []) refl)
+left-cost detail c r items = omega (arith, cost_shown detail left c (plain r items) (as_item left c r ∷ says " " ∷ []) refl)
 
 bracketed_text : (x y l : List ℕ) → x ≡ l → y ≡ [] → ((codes "(" ++ x) ++ codes ")") ++ (y ++ []) ≡ codes "(" ++ l ++ codes ")"
 bracketed_text x y l e f = rw (e, f) (append-nil (codes "(" ++ l ++ codes ")"))
 
-right-text : (c : Context) (r : Term) (b : List ℕ) (is_reference : Bool) (ts : List Term) (l : List ℕ) → Prints r b is_reference → PrintAll 0 ts l
-    → text_of (in_form right c (plain r (list_of ts))) ≡ codes "(" ++ l ++ codes ")"
+right-text : {detail : Detail} (c : Context) (r : Term) (b : List ℕ) (is_reference : Bool) (ts : List Term) (l : List ℕ) → Prints detail r b is_reference
+    → PrintAll detail 0 ts l
+    → text_of (shown_in detail right c (plain r (list_of ts))) ≡ codes "(" ++ l ++ codes ")"
 unfolding parts_in right_parts function_right text_part ref_text not_empty
-right-text c r b is_reference ts l p all =
+right-text {detail} c r b is_reference ts l p all =
     let front = says "(" ∷ list_part first c (list_of ts) in
     let close = says ")" ∷ [] in
     let behind = as_item right c r ∷ [] in
-    text_by right c (plain r (list_of ts)) (front ++ close ++ behind) refl ∙ text_append (front ++ close) behind
-    ∙ ap (λ s. s ++ text_of (printed_by behind)) (text_append front close)
-    ∙ bracketed_text (text_of (printed_by (list_part first c (list_of ts)))) (text_of (in_form right c r)) l
-    (list-text c 0 ts l all) (p.right_text c)
+    text_shown detail right c (plain r (list_of ts)) (front ++ close ++ behind) refl ∙ text_append detail (front ++ close) behind
+    ∙ ap (λ s. s ++ text_of (shown_by detail behind)) (text_append detail front close)
+    ∙ bracketed_text (text_of (shown_by detail (list_part first c (list_of ts)))) (text_of (shown_in detail right c r)) l
+    (list-text detail c 0 ts l all) (p.right_text c)
 
-right-cost : (c : Context) (r : Term) (ts : List Term) (l : List ℕ) → PrintAll 0 ts l
-    → cost_of (in_form right c (plain r (list_of ts))) ≤ 3 + cost_of (in_form right c r) + 4 * length l
+right-cost : (detail : Detail) (c : Context) (r : Term) (ts : List Term) (l : List ℕ) → PrintAll detail 0 ts l
+    → cost_of (shown_in detail right c (plain r (list_of ts))) ≤ 3 + cost_of (shown_in detail right c r) + 4 * length l
 unfolding parts_in right_parts function_right text_part ref_text not_empty
-right-cost c r ts l all =
+right-cost detail c r ts l all =
     let front = says "(" ∷ list_part first c (list_of ts) in
     let close = says ")" ∷ [] in
     let behind = as_item right c r ∷ [] in
     omega (
       arith,
-      list-cost c 0 ts l (omega arith) all,
-      cost_by right c (plain r (list_of ts)) (front ++ close ++ behind) refl,
-      cost_append (front ++ close) behind,
-      cost_append front close,
+      list-cost detail c 0 ts l (omega arith) all,
+      cost_shown detail right c (plain r (list_of ts)) (front ++ close ++ behind) refl,
+      cost_append detail (front ++ close) behind,
+      cost_append detail front close,
     )
 
 -- ## What it is as an element
@@ -81,66 +83,66 @@ pointer_text x y b l e f =
 text-length : (b o l : List ℕ) → length (b ++ o ++ l ++ codes ")") ≡ length b + length o + length l + 1
 text-length b o l = omega (arith, length-append (b ++ o ++ l) (codes ")"), length-append (b ++ o) l, length-append b o)
 
-pub closed-list : (ts : List Term) (l : List ℕ) → PrintAll 0 ts l → is_open (list_of ts) ≡ false
-closed-list ts l all = subst (λ k. is_open k ≡ false) (list-with-none ts) (list-closed 0 ts nil l (inl refl) all)
+pub closed-list : (detail : Detail) (ts : List Term) (l : List ℕ) → PrintAll detail 0 ts l → is_open (list_of ts) ≡ false
+closed-list detail ts l all = subst (λ k. is_open k ≡ false) (list-with-none ts) (list-closed detail 0 ts nil l (inl refl) all)
 
-pub packless-list : (scope : Term) (ts : List Term) (l : List ℕ) → PrintAll 0 ts l → pack_length scope (list_of ts) ≡ None
-packless-list scope ts l all = subst (λ k. pack_length scope k ≡ None) (list-with-none ts) (list-packless scope 0 ts nil l (inl refl) all)
+pub packless-list : (detail : Detail) (scope : Term) (ts : List Term) (l : List ℕ) → PrintAll detail 0 ts l → pack_length scope (list_of ts) ≡ None
+packless-list detail scope ts l all = subst (λ k. pack_length scope k ≡ None) (list-with-none ts) (list-packless detail scope 0 ts nil l (inl refl) all)
 
-plain-element : (extra : ℕ) (is_pointer : Bool) (r : Term) (b : List ℕ) (is_reference : Bool) (ts : List Term) (l : List ℕ)
-    → Prints r b is_reference → PrintAll 0 ts l
-    → IsElement extra (pointed is_pointer (plain r (list_of ts))) (b ++ opening_text is_pointer ++ l ++ codes ")")
+plain-element : {detail : Detail} (extra : ℕ) (is_pointer : Bool) (r : Term) (b : List ℕ) (is_reference : Bool) (ts : List Term) (l : List ℕ)
+    → Prints detail r b is_reference → PrintAll detail 0 ts l
+    → IsElement detail extra (pointed is_pointer (plain r (list_of ts))) (b ++ opening_text is_pointer ++ l ++ codes ")")
 unfolding parts_in left_parts right_parts marked_parts closing_right head head_with is_funarr not_empty is_empty is_open pack_length first_of is_void
-plain-element extra false r b is_reference ts l p all = record {
+plain-element {detail} extra false r b is_reference ts l p all = record {
   both_texts = λ c. let f = plain r (list_of ts) in
-      function_text (text_of (in_form left c f)) (text_of (in_form right c f)) b l
+      function_text (text_of (shown_in detail left c f)) (text_of (shown_in detail right c f)) b l
       (left-text c r b is_reference (list_of ts) p) (right-text c r b is_reference ts l p all);
   cost = λ c. omega (
     arith,
     p.cost c,
-    left-cost c r (list_of ts),
-    right-cost c r ts l all,
+    left-cost detail c r (list_of ts),
+    right-cost detail c r ts l all,
     text-length b (codes " (") l,
   );
   filled = λ c. refl;
-  is_closed = rw (p.is_closed, closed-list ts l all) refl;
-  packless = λ scope. rw (p.packless scope, packless-list scope ts l all) refl;
+  is_closed = rw (p.is_closed, closed-list detail ts l all) refl;
+  packless = λ scope. rw (p.packless scope, packless-list detail scope ts l all) refl;
   void = λ e. cc e;
 }
-plain-element extra true r b is_reference ts l p all = let f = plain r (list_of ts) in record {
+plain-element {detail} extra true r b is_reference ts l p all = let f = plain r (list_of ts) in record {
   both_texts = λ c.
-      ap (λ k. k ++ text_of (in_form right c (pointer f))) (text_by left c (pointer f) (as_item left c f ∷ says "(*" ∷ []) refl)
-      ∙ ap (λ k. (text_of (in_form left c f) ++ codes "(*") ++ k) (text_by right c (pointer f) (says ")" ∷ as_item right c f ∷ []) refl)
-      ∙ pointer_text (text_of (in_form left c f)) (text_of (in_form right c f)) b l
+      ap (λ k. k ++ text_of (shown_in detail right c (pointer f))) (text_shown detail left c (pointer f) (as_item left c f ∷ says "(*" ∷ []) refl)
+      ∙ ap (λ k. (text_of (shown_in detail left c f) ++ codes "(*") ++ k) (text_shown detail right c (pointer f) (says ")" ∷ as_item right c f ∷ []) refl)
+      ∙ pointer_text (text_of (shown_in detail left c f)) (text_of (shown_in detail right c f)) b l
       (left-text c r b is_reference (list_of ts) p) (right-text c r b is_reference ts l p all);
   cost = λ c. omega (
     arith,
     p.cost c,
-    left-cost c r (list_of ts),
-    right-cost c r ts l all,
-    cost_by left c (pointer f) (as_item left c f ∷ says "(*" ∷ []) refl,
-    cost_by right c (pointer f) (says ")" ∷ as_item right c f ∷ []) refl,
+    left-cost detail c r (list_of ts),
+    right-cost detail c r ts l all,
+    cost_shown detail left c (pointer f) (as_item left c f ∷ says "(*" ∷ []) refl,
+    cost_shown detail right c (pointer f) (says ")" ∷ as_item right c f ∷ []) refl,
     text-length b (codes " (*)(") l,
   );
   filled = λ c. refl;
-  is_closed = rw (p.is_closed, closed-list ts l all) refl;
-  packless = λ scope. rw (p.packless scope, packless-list scope ts l all) refl;
+  is_closed = rw (p.is_closed, closed-list detail ts l all) refl;
+  packless = λ scope. rw (p.packless scope, packless-list detail scope ts l all) refl;
   void = λ e. cc e;
 }
 
 -- A function type, or a pointer to it, prints its return type and its parameters, unless these are a lone void.
-pub function-element : (extra : ℕ) (is_pointer : Bool) (r : Term) (b : List ℕ) (is_reference : Bool) (ts : List Term) (l : List ℕ)
-    → Prints r b is_reference → PrintAll 0 ts l → l ≢ codes "void"
-    → IsElement extra (pointed is_pointer (plain_function r (list_with ts nil))) (b ++ opening_text is_pointer ++ l ++ codes ")")
-function-element extra is_pointer r b is_reference ts l p all apart =
-    subst (λ items. IsElement extra (pointed is_pointer (plain r items)) (b ++ opening_text is_pointer ++ l ++ codes ")"))
-    (sym (ap parameters (list-with-none ts) ∙ parameters-kept closed 0 ts l (all-in closed 0 ts l all) apart))
+pub function-element : {detail : Detail} (extra : ℕ) (is_pointer : Bool) (r : Term) (b : List ℕ) (is_reference : Bool) (ts : List Term) (l : List ℕ)
+    → Prints detail r b is_reference → PrintAll detail 0 ts l → l ≢ codes "void"
+    → IsElement detail extra (pointed is_pointer (plain_function r (list_with ts nil))) (b ++ opening_text is_pointer ++ l ++ codes ")")
+function-element {detail} extra is_pointer r b is_reference ts l p all apart =
+    subst (λ items. IsElement detail extra (pointed is_pointer (plain r items)) (b ++ opening_text is_pointer ++ l ++ codes ")"))
+    (sym (ap parameters (list-with-none ts) ∙ parameters-kept detail closed 0 ts l (all-in detail closed 0 ts l all) apart))
     (plain-element extra is_pointer r b is_reference ts l p all)
 
 -- With a lone void it prints no parameters.
-pub void-function-element : (extra : ℕ) (is_pointer : Bool) (r : Term) (b : List ℕ) (is_reference : Bool) → Prints r b is_reference
-    → IsElement extra (pointed is_pointer (plain_function r (list_with (builtin (118 ∷ []) ∷ []) nil))) (b ++ opening_text is_pointer ++ codes ")")
+pub void-function-element : {detail : Detail} (extra : ℕ) (is_pointer : Bool) (r : Term) (b : List ℕ) (is_reference : Bool) → Prints detail r b is_reference
+    → IsElement detail extra (pointed is_pointer (plain_function r (list_with (builtin (118 ∷ []) ∷ []) nil))) (b ++ opening_text is_pointer ++ codes ")")
 unfolding parameters is_void is_nil
-void-function-element extra is_pointer r b is_reference p =
-    subst (λ s. IsElement extra (pointed is_pointer (plain r nil)) (s ++ codes ")")) (append-nil (b ++ opening_text is_pointer))
-    (plain-element extra is_pointer r b is_reference [] [] p (none-print 0))
+void-function-element {detail} extra is_pointer r b is_reference p =
+    subst (λ s. IsElement detail extra (pointed is_pointer (plain r nil)) (s ++ codes ")")) (append-nil (b ++ opening_text is_pointer))
+    (plain-element extra is_pointer r b is_reference [] [] p (none-print detail 0))

@@ -1,4 +1,5 @@
 -- Lists of trees of which the texts are known.
+use Rattle.sym_print.specs.declared.detail.Detail.{Detail}
 use Rattle.std.proofs.Common.{◌≡◌, ◌≢◌, inl, inr, refl, ap, sym, subst, ◌∙◌, ℕ, ◌+◌, ◌*◌, ◌≤◌, List, [], ◌∷◌, ◌++◌, length, Bool, false, None, arith, codes, length-append, append-nil, append_assoc}
 use Rattle.sym_print.specs.Unshared.{text_of, cost_of}
 use Rattle.cpp_grammar.specs.Term.{Term, nil, list, pack}
@@ -6,9 +7,9 @@ use Rattle.cpp_grammar.specs.Scope.{is_open, pack_length, first_of}
 use Rattle.cpp_grammar.specs.Items.{left, right, first, more, Context, is_empty}
 use Rattle.cpp_grammar.specs.Meaning.{is_void}
 use Rattle.cpp_grammar.specs.Parts.{as_item, says, list_part, first_parts, more_parts, left_parts, right_parts, parts_in, not_empty}
-use Rattle.cpp_direct.specs.Prints.{in_form, Prints, IsElement, list_of, joined, IsElementIn, PrintEachBy, PrintAllBy, PrintEach, PrintAll, PrintEachIn, PrintAllIn}
+use Rattle.cpp_direct.specs.Prints.{shown_in, Prints, IsElement, list_of, joined, IsElementIn, PrintEachBy, PrintAllBy, PrintEach, PrintAll, PrintEachIn, PrintAllIn}
 use Rattle.cpp_direct.specs.WriterInvariant.{IsTail, list_with, in_front_of_next}
-use Rattle.cpp_direct.proofs.PrintedParts.{printed_by, text_by, cost_by}
+use Rattle.cpp_direct.proofs.PrintedParts.{shown_by, text_shown, cost_shown}
 
 -- ## What a list prints
 
@@ -36,15 +37,15 @@ element-text : (l r x b y : List ℕ) → l ++ r ≡ b → x ≡ y → l ++ (r +
 element-text l r x b y e f = sym (append_assoc l r x) ∙ ap (λ k. k ++ x) e ∙ ap (λ k. b ++ k) f
 
 -- After the elements of a list this comes, and prints nothing. It may cost so much.
-record EndsList (most : ℕ) (tail : Term) : Type 0 where
-  first_text : (c : Context) → text_of (printed_by (list_part first c tail)) ≡ []
-  first_cost : (c : Context) → cost_of (printed_by (list_part first c tail)) ≤ 1 + most
-  more_text : (c : Context) → text_of (printed_by (list_part more c tail)) ≡ []
-  more_cost : (c : Context) → cost_of (printed_by (list_part more c tail)) ≤ 1 + most
+record EndsList (detail : Detail) (most : ℕ) (tail : Term) : Type 0 where
+  first_text : (c : Context) → text_of (shown_by detail (list_part first c tail)) ≡ []
+  first_cost : (c : Context) → cost_of (shown_by detail (list_part first c tail)) ≤ 1 + most
+  more_text : (c : Context) → text_of (shown_by detail (list_part more c tail)) ≡ []
+  more_cost : (c : Context) → cost_of (shown_by detail (list_part more c tail)) ≤ 1 + most
   closed : is_open tail ≡ false
   packless : (scope : Term) → pack_length scope tail ≡ None
 
-ends-bare : EndsList 0 nil
+ends-bare : {detail : Detail} → EndsList detail 0 nil
 unfolding list_part parts_in not_empty is_open pack_length
 ends-bare = record {
   first_text = λ c. refl;
@@ -55,9 +56,9 @@ ends-bare = record {
   packless = λ scope. refl;
 }
 
-ends-list : (tail : Term) → IsTail tail → EndsList 1 tail
+ends-list : {detail : Detail} (tail : Term) → IsTail tail → EndsList detail 1 tail
 unfolding list_part first_parts more_parts parts_in not_empty is_empty is_open pack_length first_of
-ends-list tail (inl is) = subst (EndsList 1) (sym is) (record {
+ends-list {detail} tail (inl is) = subst (EndsList detail 1) (sym is) (record {
   first_text = λ c. refl;
   first_cost = λ c. omega arith;
   more_text = λ c. refl;
@@ -65,38 +66,40 @@ ends-list tail (inl is) = subst (EndsList 1) (sym is) (record {
   closed = refl;
   packless = λ scope. refl;
 })
-ends-list tail (inr is) = let l = list (pack nil) nil in subst (EndsList 1) (sym is) (record {
-  first_text = λ c. append-nil (text_of (in_form first c l)) ∙ text_by first c l [] refl;
-  first_cost = λ c. omega (arith, cost_by first c l [] refl);
-  more_text = λ c. append-nil (text_of (in_form more c l)) ∙ text_by more c l [] refl;
-  more_cost = λ c. omega (arith, cost_by more c l [] refl);
+ends-list {detail} tail (inr is) = let l = list (pack nil) nil in subst (EndsList detail 1) (sym is) (record {
+  first_text = λ c. append-nil (text_of (shown_in detail first c l)) ∙ text_shown detail first c l [] refl;
+  first_cost = λ c. omega (arith, cost_shown detail first c l [] refl);
+  more_text = λ c. append-nil (text_of (shown_in detail more c l)) ∙ text_shown detail more c l [] refl;
+  more_cost = λ c. omega (arith, cost_shown detail more c l [] refl);
   closed = refl;
   packless = λ scope. refl;
 })
 
 -- an element anywhere is one in a context
-pub element-in : (c : Context) (extra : ℕ) (t : Term) (b : List ℕ) → IsElement extra t b → IsElementIn c extra t b
+pub element-in : {detail : Detail} (c : Context) (extra : ℕ) (t : Term) (b : List ℕ) → IsElement detail extra t b → IsElementIn detail c extra t b
 element-in c extra t b p = record { both_texts = p.both_texts c; cost = p.cost c; filled = p.filled c; void = p.void }
 
-more-text : (c : Context) (extra : ℕ) (ts : List Term) (tail : Term) (texts : List (List ℕ)) (most : ℕ) → EndsList most tail → PrintEachIn c extra ts texts
-    → text_of (printed_by (list_part more c (list_with ts tail))) ≡ further texts
+more-text : {detail : Detail} (c : Context) (extra : ℕ) (ts : List Term) (tail : Term) (texts : List (List ℕ)) (most : ℕ) → EndsList detail most tail
+    → PrintEachIn detail c extra ts texts
+    → text_of (shown_by detail (list_part more c (list_with ts tail))) ≡ further texts
 unfolding list_part parts_in not_empty
-more-text c extra [] tail [] most ends each = ends.more_text c
-more-text c extra (t ∷ ts) tail (b ∷ bs) most ends each =
-    append-nil (text_of (in_form more c (list t (list_with ts tail))))
-    ∙ text_by more c (list t (list_with ts tail)) (says ", " ∷ as_item left c t ∷ as_item right c t ∷ list_part more c (list_with ts tail))
+more-text {detail} c extra [] tail [] most ends each = ends.more_text c
+more-text {detail} c extra (t ∷ ts) tail (b ∷ bs) most ends each =
+    append-nil (text_of (shown_in detail more c (list t (list_with ts tail))))
+    ∙ text_shown detail more c (list t (list_with ts tail)) (says ", " ∷ as_item left c t ∷ as_item right c t ∷ list_part more c (list_with ts tail))
     (more-is c t (list_with ts tail) (each.0.filled))
-    ∙ ap (λ s. codes ", " ++ s) (element-text (text_of (in_form left c t)) (text_of (in_form right c t))
-    (text_of (printed_by (list_part more c (list_with ts tail)))) b (further bs)
+    ∙ ap (λ s. codes ", " ++ s) (element-text (text_of (shown_in detail left c t)) (text_of (shown_in detail right c t))
+    (text_of (shown_by detail (list_part more c (list_with ts tail)))) b (further bs)
     (each.0.both_texts) (more-text c extra ts tail bs most ends each.1))
-more-text c extra [] tail (b ∷ bs) most ends each = elim each [ ]
-more-text c extra (t ∷ ts) tail [] most ends each = elim each [ ]
+more-text {detail} c extra [] tail (b ∷ bs) most ends each = elim each [ ]
+more-text {detail} c extra (t ∷ ts) tail [] most ends each = elim each [ ]
 
-more-cost : (c : Context) (extra : ℕ) (ts : List Term) (tail : Term) (texts : List (List ℕ)) (most : ℕ) → extra ≤ 6 → EndsList most tail → PrintEachIn c extra ts texts
-    → cost_of (printed_by (list_part more c (list_with ts tail))) ≤ 1 + most + 4 * length (further texts)
+more-cost : {detail : Detail} (c : Context) (extra : ℕ) (ts : List Term) (tail : Term) (texts : List (List ℕ)) (most : ℕ) → extra ≤ 6
+    → EndsList detail most tail → PrintEachIn detail c extra ts texts
+    → cost_of (shown_by detail (list_part more c (list_with ts tail))) ≤ 1 + most + 4 * length (further texts)
 unfolding list_part parts_in not_empty
-more-cost c extra [] tail [] most few ends each = omega (arith, ends.more_cost c)
-more-cost c extra (t ∷ ts) tail (b ∷ bs) most few ends each =
+more-cost {detail} c extra [] tail [] most few ends each = omega (arith, ends.more_cost c)
+more-cost {detail} c extra (t ∷ ts) tail (b ∷ bs) most few ends each =
     omega (
       arith,
       more-cost c extra ts tail bs most few ends each.1,
@@ -104,31 +107,33 @@ more-cost c extra (t ∷ ts) tail (b ∷ bs) most few ends each =
       each.0.cost,
       length-append b (further bs),
       length-append (codes ", ") (b ++ further bs),
-      cost_by more c (list t (list_with ts tail)) (says ", " ∷ as_item left c t ∷ as_item right c t ∷ list_part more c (list_with ts tail))
+      cost_shown detail more c (list t (list_with ts tail)) (says ", " ∷ as_item left c t ∷ as_item right c t ∷ list_part more c (list_with ts tail))
           (more-is c t (list_with ts tail) (each.0.filled)),
     )
-more-cost c extra [] tail (b ∷ bs) most few ends each = elim each [ ]
-more-cost c extra (t ∷ ts) tail [] most few ends each = elim each [ ]
+more-cost {detail} c extra [] tail (b ∷ bs) most few ends each = elim each [ ]
+more-cost {detail} c extra (t ∷ ts) tail [] most few ends each = elim each [ ]
 
-first-text : (c : Context) (extra : ℕ) (ts : List Term) (tail : Term) (texts : List (List ℕ)) (most : ℕ) → EndsList most tail → PrintEachIn c extra ts texts
-    → text_of (printed_by (list_part first c (list_with ts tail))) ≡ joined texts
+first-text : {detail : Detail} (c : Context) (extra : ℕ) (ts : List Term) (tail : Term) (texts : List (List ℕ)) (most : ℕ) → EndsList detail most tail
+    → PrintEachIn detail c extra ts texts
+    → text_of (shown_by detail (list_part first c (list_with ts tail))) ≡ joined texts
 unfolding list_part parts_in not_empty
-first-text c extra [] tail [] most ends each = ends.first_text c
-first-text c extra (t ∷ ts) tail (b ∷ bs) most ends each =
-    append-nil (text_of (in_form first c (list t (list_with ts tail))))
-    ∙ text_by first c (list t (list_with ts tail)) (as_item left c t ∷ as_item right c t ∷ list_part more c (list_with ts tail))
+first-text {detail} c extra [] tail [] most ends each = ends.first_text c
+first-text {detail} c extra (t ∷ ts) tail (b ∷ bs) most ends each =
+    append-nil (text_of (shown_in detail first c (list t (list_with ts tail))))
+    ∙ text_shown detail first c (list t (list_with ts tail)) (as_item left c t ∷ as_item right c t ∷ list_part more c (list_with ts tail))
     (first-is c t (list_with ts tail) (each.0.filled))
-    ∙ element-text (text_of (in_form left c t)) (text_of (in_form right c t)) (text_of (printed_by (list_part more c (list_with ts tail)))) b (further bs)
+    ∙ element-text (text_of (shown_in detail left c t)) (text_of (shown_in detail right c t)) (text_of (shown_by detail (list_part more c (list_with ts tail)))) b (further bs)
     (each.0.both_texts) (more-text c extra ts tail bs most ends each.1)
     ∙ sym (joined-further b bs)
-first-text c extra [] tail (b ∷ bs) most ends each = elim each [ ]
-first-text c extra (t ∷ ts) tail [] most ends each = elim each [ ]
+first-text {detail} c extra [] tail (b ∷ bs) most ends each = elim each [ ]
+first-text {detail} c extra (t ∷ ts) tail [] most ends each = elim each [ ]
 
-first-cost : (c : Context) (extra : ℕ) (ts : List Term) (tail : Term) (texts : List (List ℕ)) (most : ℕ) → extra ≤ 6 → EndsList most tail → PrintEachIn c extra ts texts
-    → cost_of (printed_by (list_part first c (list_with ts tail))) ≤ 1 + most + extra + 4 * length (joined texts)
+first-cost : {detail : Detail} (c : Context) (extra : ℕ) (ts : List Term) (tail : Term) (texts : List (List ℕ)) (most : ℕ) → extra ≤ 6
+    → EndsList detail most tail → PrintEachIn detail c extra ts texts
+    → cost_of (shown_by detail (list_part first c (list_with ts tail))) ≤ 1 + most + extra + 4 * length (joined texts)
 unfolding list_part parts_in not_empty
-first-cost c extra [] tail [] most few ends each = omega (arith, ends.first_cost c)
-first-cost c extra (t ∷ ts) tail (b ∷ bs) most few ends each =
+first-cost {detail} c extra [] tail [] most few ends each = omega (arith, ends.first_cost c)
+first-cost {detail} c extra (t ∷ ts) tail (b ∷ bs) most few ends each =
     omega (
       arith,
       more-cost c extra ts tail bs most few ends each.1,
@@ -136,62 +141,65 @@ first-cost c extra (t ∷ ts) tail (b ∷ bs) most few ends each =
       each.0.cost,
       ap length (joined-further b bs),
       length-append b (further bs),
-      cost_by first c (list t (list_with ts tail)) (as_item left c t ∷ as_item right c t ∷ list_part more c (list_with ts tail))
+      cost_shown detail first c (list t (list_with ts tail)) (as_item left c t ∷ as_item right c t ∷ list_part more c (list_with ts tail))
           (first-is c t (list_with ts tail) (each.0.filled)),
     )
-first-cost c extra [] tail (b ∷ bs) most few ends each = elim each [ ]
-first-cost c extra (t ∷ ts) tail [] most few ends each = elim each [ ]
+first-cost {detail} c extra [] tail (b ∷ bs) most few ends each = elim each [ ]
+first-cost {detail} c extra (t ∷ ts) tail [] most few ends each = elim each [ ]
 
 pub list-with-none : (ts : List Term) → list_with ts nil ≡ list_of ts
 list-with-none [] = refl
 list-with-none (t ∷ ts) = ap (λ r. list t r) (list-with-none ts)
 
 -- What prints anywhere prints in a context.
-each-in : (c : Context) (extra : ℕ) (ts : List Term) (texts : List (List ℕ)) → PrintEach extra ts texts → PrintEachIn c extra ts texts
-each-in c extra [] [] each = tt
-each-in c extra (t ∷ ts) (b ∷ bs) each = (element-in c extra t b each.0, each-in c extra ts bs each.1)
-each-in c extra [] (b ∷ bs) each = elim each [ ]
-each-in c extra (t ∷ ts) [] each = elim each [ ]
+each-in : (detail : Detail) (c : Context) (extra : ℕ) (ts : List Term) (texts : List (List ℕ)) → PrintEach detail extra ts texts
+    → PrintEachIn detail c extra ts texts
+each-in detail c extra [] [] each = tt
+each-in detail c extra (t ∷ ts) (b ∷ bs) each = (element-in c extra t b each.0, each-in detail c extra ts bs each.1)
+each-in detail c extra [] (b ∷ bs) each = elim each [ ]
+each-in detail c extra (t ∷ ts) [] each = elim each [ ]
 
-pub all-in : (c : Context) (extra : ℕ) (ts : List Term) (l : List ℕ) → PrintAll extra ts l → PrintAllIn c extra ts l
-all-in c extra ts l all = (all.0, each-in c extra ts all.0 all.1, all.2)
+pub all-in : (detail : Detail) (c : Context) (extra : ℕ) (ts : List Term) (l : List ℕ) → PrintAll detail extra ts l → PrintAllIn detail c extra ts l
+all-in detail c extra ts l all = (all.0, each-in detail c extra ts all.0 all.1, all.2)
 
 -- What a list prints whose last elements may be nothing,
-pub list-text-before : (c : Context) (extra : ℕ) (ts : List Term) (tail : Term) (l : List ℕ) → IsTail tail → PrintAll extra ts l
-    → text_of (printed_by (list_part first c (list_with ts tail))) ≡ l
-list-text-before c extra ts tail l is all = first-text c extra ts tail all.0 1 (ends-list tail is) (each-in c extra ts all.0 all.1) ∙ all.2
+pub list-text-before : (detail : Detail) (c : Context) (extra : ℕ) (ts : List Term) (tail : Term) (l : List ℕ) → IsTail tail → PrintAll detail extra ts l
+    → text_of (shown_by detail (list_part first c (list_with ts tail))) ≡ l
+list-text-before detail c extra ts tail l is all = first-text c extra ts tail all.0 1 (ends-list tail is) (each-in detail c extra ts all.0 all.1) ∙ all.2
 
 -- at a cost that its text bounds
-pub list-cost-before : (c : Context) (extra : ℕ) (ts : List Term) (tail : Term) (l : List ℕ) → extra ≤ 6 → IsTail tail → PrintAll extra ts l
-    → cost_of (printed_by (list_part first c (list_with ts tail))) ≤ 2 + extra + 4 * length l
-list-cost-before c extra ts tail l few is all =
-    omega (arith, first-cost c extra ts tail all.0 1 few (ends-list tail is) (each-in c extra ts all.0 all.1), ap length all.2)
+pub list-cost-before : (detail : Detail) (c : Context) (extra : ℕ) (ts : List Term) (tail : Term) (l : List ℕ) → extra ≤ 6 → IsTail tail → PrintAll detail extra ts l
+    → cost_of (shown_by detail (list_part first c (list_with ts tail))) ≤ 2 + extra + 4 * length l
+list-cost-before detail c extra ts tail l few is all =
+    omega (arith, first-cost c extra ts tail all.0 1 few (ends-list tail is) (each-in detail c extra ts all.0 all.1), ap length all.2)
 
 -- What a list prints in a context,
-pub list-text-in : (c : Context) (extra : ℕ) (ts : List Term) (l : List ℕ) → PrintAllIn c extra ts l
-    → text_of (printed_by (list_part first c (list_of ts))) ≡ l
-list-text-in c extra ts l all =
-    subst (λ k. text_of (printed_by (list_part first c k)) ≡ l) (list-with-none ts) (first-text c extra ts nil all.0 0 ends-bare all.1 ∙ all.2)
+pub list-text-in : (detail : Detail) (c : Context) (extra : ℕ) (ts : List Term) (l : List ℕ) → PrintAllIn detail c extra ts l
+    → text_of (shown_by detail (list_part first c (list_of ts))) ≡ l
+list-text-in detail c extra ts l all =
+    subst (λ k. text_of (shown_by detail (list_part first c k)) ≡ l) (list-with-none ts) (first-text c extra ts nil all.0 0 ends-bare all.1 ∙ all.2)
 
 -- at a cost that its text bounds
-pub list-cost-in : (c : Context) (extra : ℕ) (ts : List Term) (l : List ℕ) → extra ≤ 6 → PrintAllIn c extra ts l
-    → cost_of (printed_by (list_part first c (list_of ts))) ≤ 1 + extra + 4 * length l
-list-cost-in c extra ts l few all =
-    subst (λ k. cost_of (printed_by (list_part first c k)) ≤ 1 + extra + 4 * length l) (list-with-none ts)
+pub list-cost-in : (detail : Detail) (c : Context) (extra : ℕ) (ts : List Term) (l : List ℕ) → extra ≤ 6 → PrintAllIn detail c extra ts l
+    → cost_of (shown_by detail (list_part first c (list_of ts))) ≤ 1 + extra + 4 * length l
+list-cost-in detail c extra ts l few all =
+    subst (λ k. cost_of (shown_by detail (list_part first c k)) ≤ 1 + extra + 4 * length l) (list-with-none ts)
     (omega (arith, first-cost c extra ts nil all.0 0 few ends-bare all.1, ap length all.2))
 
 -- What a list prints,
-pub list-text : (c : Context) (extra : ℕ) (ts : List Term) (l : List ℕ) → PrintAll extra ts l → text_of (printed_by (list_part first c (list_of ts))) ≡ l
-list-text c extra ts l all = list-text-in c extra ts l (all-in c extra ts l all)
+pub list-text : (detail : Detail) (c : Context) (extra : ℕ) (ts : List Term) (l : List ℕ) → PrintAll detail extra ts l
+    → text_of (shown_by detail (list_part first c (list_of ts))) ≡ l
+list-text detail c extra ts l all = list-text-in detail c extra ts l (all-in detail c extra ts l all)
 
 -- at a cost that its text bounds
-pub list-cost : (c : Context) (extra : ℕ) (ts : List Term) (l : List ℕ) → extra ≤ 6 → PrintAll extra ts l
-    → cost_of (printed_by (list_part first c (list_of ts))) ≤ 1 + extra + 4 * length l
-list-cost c extra ts l few all = list-cost-in c extra ts l few (all-in c extra ts l all)
+pub list-cost : (detail : Detail) (c : Context) (extra : ℕ) (ts : List Term) (l : List ℕ) → extra ≤ 6 → PrintAll detail extra ts l
+    → cost_of (shown_by detail (list_part first c (list_of ts))) ≤ 1 + extra + 4 * length l
+list-cost detail c extra ts l few all = list-cost-in detail c extra ts l few (all-in detail c extra ts l all)
 
 -- ## What else is known of a list
 
-each-closed : (extra : ℕ) (ts : List Term) (tail : Term) (texts : List (List ℕ)) (most : ℕ) → EndsList most tail → PrintEach extra ts texts
+each-closed : {detail : Detail} (extra : ℕ) (ts : List Term) (tail : Term) (texts : List (List ℕ)) (most : ℕ) → EndsList detail most tail
+    → PrintEach detail extra ts texts
     → is_open (list_with ts tail) ≡ false
 unfolding is_open
 each-closed extra [] tail [] most ends each = ends.closed
@@ -199,7 +207,8 @@ each-closed extra (t ∷ ts) tail (b ∷ bs) most ends each = rw (each.0.is_clos
 each-closed extra [] tail (b ∷ bs) most ends each = elim each [ ]
 each-closed extra (t ∷ ts) tail [] most ends each = elim each [ ]
 
-each-packless : (scope : Term) (extra : ℕ) (ts : List Term) (tail : Term) (texts : List (List ℕ)) (most : ℕ) → EndsList most tail → PrintEach extra ts texts
+each-packless : {detail : Detail} (scope : Term) (extra : ℕ) (ts : List Term) (tail : Term) (texts : List (List ℕ)) (most : ℕ) → EndsList detail most tail
+    → PrintEach detail extra ts texts
     → pack_length scope (list_with ts tail) ≡ None
 unfolding pack_length first_of
 each-packless scope extra [] tail [] most ends each = ends.packless scope
@@ -208,18 +217,19 @@ each-packless scope extra [] tail (b ∷ bs) most ends each = elim each [ ]
 each-packless scope extra (t ∷ ts) tail [] most ends each = elim each [ ]
 
 -- No parameter is free in a list of such trees.
-pub list-closed : (extra : ℕ) (ts : List Term) (tail : Term) (l : List ℕ) → IsTail tail → PrintAll extra ts l → is_open (list_with ts tail) ≡ false
-list-closed extra ts tail l is all = each-closed extra ts tail all.0 1 (ends-list tail is) all.1
+pub list-closed : (detail : Detail) (extra : ℕ) (ts : List Term) (tail : Term) (l : List ℕ) → IsTail tail → PrintAll detail extra ts l
+    → is_open (list_with ts tail) ≡ false
+list-closed detail extra ts tail l is all = each-closed extra ts tail all.0 1 (ends-list tail is) all.1
 
 -- It names no packs.
-pub list-packless : (scope : Term) (extra : ℕ) (ts : List Term) (tail : Term) (l : List ℕ) → IsTail tail → PrintAll extra ts l
+pub list-packless : (detail : Detail) (scope : Term) (extra : ℕ) (ts : List Term) (tail : Term) (l : List ℕ) → IsTail tail → PrintAll detail extra ts l
     → pack_length scope (list_with ts tail) ≡ None
-list-packless scope extra ts tail l is all = each-packless scope extra ts tail all.0 1 (ends-list tail is) all.1
+list-packless detail scope extra ts tail l is all = each-packless scope extra ts tail all.0 1 (ends-list tail is) all.1
 
 -- ## Elements are read one after the other
 
 -- A type prints its text as an element.
-pub type-element : (extra : ℕ) (t : Term) (b : List ℕ) (r : Bool) → Prints t b r → IsElement extra t b
+pub type-element : {detail : Detail} (extra : ℕ) (t : Term) (b : List ℕ) (r : Bool) → Prints detail t b r → IsElement detail extra t b
 type-element extra t b r p = record {
   both_texts = λ c. rw (p.left_text c, p.right_text c) (append-nil b);
   cost = λ c. omega (arith, p.cost c);
@@ -230,35 +240,35 @@ type-element extra t b r p = record {
 }
 
 -- A pack prints its elements.
-pub pack-element : (ts : List Term) (l : List ℕ) → ts ≢ [] → PrintAll 0 ts l → IsElement 3 (pack (list_of ts)) l
+pub pack-element : {detail : Detail} (ts : List Term) (l : List ℕ) → ts ≢ [] → PrintAll detail 0 ts l → IsElement detail 3 (pack (list_of ts)) l
 unfolding parts_in left_parts right_parts not_empty is_empty is_open pack_length is_void
-pack-element [] l some all = absurd (some refl)
-pack-element (t ∷ ts) l some all = let p = pack (list_of (t ∷ ts)) in record {
-  both_texts = λ c. ap (λ k. k ++ text_of (in_form right c p))
-      (text_by left c p (list_part first c (list_of (t ∷ ts))) refl ∙ list-text c 0 (t ∷ ts) l all)
-      ∙ ap (λ k. l ++ k) (text_by right c p [] refl) ∙ append-nil l;
+pack-element {detail} [] l some all = absurd (some refl)
+pack-element {detail} (t ∷ ts) l some all = let p = pack (list_of (t ∷ ts)) in record {
+  both_texts = λ c. ap (λ k. k ++ text_of (shown_in detail right c p))
+      (text_shown detail left c p (list_part first c (list_of (t ∷ ts))) refl ∙ list-text detail c 0 (t ∷ ts) l all)
+      ∙ ap (λ k. l ++ k) (text_shown detail right c p [] refl) ∙ append-nil l;
   cost = λ c. omega (
     arith,
-    cost_by left c p (list_part first c (list_of (t ∷ ts))) refl,
-    cost_by right c p [] refl,
-    list-cost c 0 (t ∷ ts) l (omega arith) all,
+    cost_shown detail left c p (list_part first c (list_of (t ∷ ts))) refl,
+    cost_shown detail right c p [] refl,
+    list-cost detail c 0 (t ∷ ts) l (omega arith) all,
   );
   filled = λ c. first-filled c all.0 all.1;
-  is_closed = subst (λ k. is_open k ≡ false) (list-with-none (t ∷ ts)) (list-closed 0 (t ∷ ts) nil l (inl refl) all);
-  packless = λ scope. subst (λ k. pack_length scope k ≡ None) (list-with-none (t ∷ ts)) (list-packless scope 0 (t ∷ ts) nil l (inl refl) all);
+  is_closed = subst (λ k. is_open k ≡ false) (list-with-none (t ∷ ts)) (list-closed detail 0 (t ∷ ts) nil l (inl refl) all);
+  packless = λ scope. subst (λ k. pack_length scope k ≡ None) (list-with-none (t ∷ ts)) (list-packless detail scope 0 (t ∷ ts) nil l (inl refl) all);
   void = λ e. cc e;
 }
   where
-    first-filled : (c : Context) (texts : List (List ℕ)) → PrintEach 0 (t ∷ ts) texts → is_empty c (pack (list_of (t ∷ ts))) ≡ false
+    first-filled : (c : Context) (texts : List (List ℕ)) → PrintEach detail 0 (t ∷ ts) texts → is_empty c (pack (list_of (t ∷ ts))) ≡ false
     first-filled c [] each = elim each [ ]
     first-filled c (b ∷ bs) each = rw (each.0.filled c) refl
 
 -- No elements print nothing.
-pub none-print : (extra : ℕ) → PrintAll extra [] []
-none-print extra = ([], tt, refl)
+pub none-print : (detail : Detail) (extra : ℕ) → PrintAll detail extra [] []
+none-print detail extra = ([], tt, refl)
 
-pub none-print-in : (c : Context) (extra : ℕ) → PrintAllIn c extra [] []
-none-print-in c extra = ([], tt, refl)
+pub none-print-in : (detail : Detail) (c : Context) (extra : ℕ) → PrintAllIn detail c extra [] []
+none-print-in detail c extra = ([], tt, refl)
 
 -- One prints itself.
 one-prints : (by : Term → List ℕ → Type 0) (t : Term) (b : List ℕ) → by t b → PrintAllBy by (t ∷ []) b
@@ -297,11 +307,12 @@ next-prints-by by [] l t b all p = go all.0 all.1 all.2
 next-prints-by by (u ∷ ts) l t b all p = another-prints by u ts l t b all p
 
 -- One more prints after those before it,
-pub next-prints : (extra : ℕ) (ts : List Term) (l : List ℕ) (t : Term) (b : List ℕ) → PrintAll extra ts l → IsElement extra t b
-    → PrintAll extra (ts ++ t ∷ []) (in_front_of_next ts l ++ b)
-next-prints extra ts l t b all p = next-prints-by (IsElement extra) ts l t b all p
+pub next-prints : {detail : Detail} (extra : ℕ) (ts : List Term) (l : List ℕ) (t : Term) (b : List ℕ) → PrintAll detail extra ts l → IsElement detail extra t b
+    → PrintAll detail extra (ts ++ t ∷ []) (in_front_of_next ts l ++ b)
+next-prints {detail} extra ts l t b all p = next-prints-by (IsElement detail extra) ts l t b all p
 
 -- also in a context.
-pub next-prints-in : (c : Context) (extra : ℕ) (ts : List Term) (l : List ℕ) (t : Term) (b : List ℕ) → PrintAllIn c extra ts l → IsElementIn c extra t b
-    → PrintAllIn c extra (ts ++ t ∷ []) (in_front_of_next ts l ++ b)
-next-prints-in c extra ts l t b all p = next-prints-by (IsElementIn c extra) ts l t b all p
+pub next-prints-in : {detail : Detail} (c : Context) (extra : ℕ) (ts : List Term) (l : List ℕ) (t : Term) (b : List ℕ) → PrintAllIn detail c extra ts l
+    → IsElementIn detail c extra t b
+    → PrintAllIn detail c extra (ts ++ t ∷ []) (in_front_of_next ts l ++ b)
+next-prints-in {detail} c extra ts l t b all p = next-prints-by (IsElementIn detail c extra) ts l t b all p

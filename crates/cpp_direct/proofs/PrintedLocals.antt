@@ -1,7 +1,6 @@
 -- Entities in encodings, and their guard variables.
 use Rattle.std.proofs.Common.{◌≡◌, refl, ap, sym, ◌∙◌, ℕ, ◌+◌, ◌*◌, ◌≤◌, List, [], ◌∷◌, ◌++◌, length, Bool, false, Option, None, true, arith, codes, length-append, append-nil, subst}
 use Rattle.sym_print.specs.declared.detail.Detail.{Detail}
-use Rattle.sym_print.specs.declared.detail.Detail.TheVariants.{Full, NoParameters}
 use Rattle.sym_print.specs.Details.{has_parameters}
 use Rattle.sym_print.specs.Unfold.{text}
 use Rattle.sym_print.specs.Unshared.{text_of, cost_of}
@@ -12,13 +11,11 @@ use Rattle.cpp_grammar.specs.Items.{full, bare, left, piece, Context, closed}
 use Rattle.cpp_grammar.specs.Values.{Value, unqualified, tree_of, qualifiers_of, ref_of}
 use Rattle.cpp_grammar.specs.Meaning.{encoding_of}
 use Rattle.cpp_grammar.specs.Parts.{as_item, says, text_part, source_text, prefix_item, within_parts, qualifier_text, ref_text, encoding_text, function_bare, function_full, full_parts, bare_parts, left_parts, entity_of, parts_in, not_empty}
-use Rattle.cpp_direct.specs.Prints.{in_form, shown_in, PrintsName, Shows, Encloses}
-use Rattle.cpp_direct.proofs.PrintedParts.{shown_by, shows_parts, prints_parts, text_shown, cost_shown}
-use Rattle.cpp_direct.specs.Bytes.{has_bracket}
+use Rattle.cpp_direct.specs.Prints.{shown_in, PrintsName, Shows, Encloses}
+use Rattle.cpp_direct.proofs.PrintedParts.{shown_by, shows_parts, text_shown, cost_shown}
 use Rattle.cpp_direct.proofs.PrintedNames.{piece-text, piece-cost}
 use Rattle.cpp_direct.proofs.PrintedNests.{joins}
 use Rattle.cpp_direct.proofs.PrintedSymbols.{encoding-object}
-use Rattle.cpp_direct.proofs.WithoutParameters.{bare-alike}
 
 -- ## Encodings before an entity
 
@@ -51,22 +48,6 @@ function-encloses d name q ref items b p =
     encloses-as d (function name q ref absent items) b (bare-is-full (has_parameters d) name q ref items) (λ c. refl) refl (λ k. refl) p
 
 -- Of one that has a return type this isn't shown there.
-pub returned-encloses : (name : Term) (q : Qualifiers) (ref : RefQualifier) (returned items : Term) (b : List ℕ)
-    → Shows Full (function name q ref absent items) b → Encloses Full (function name q ref returned items) b
-unfolding bare_parts full_parts function_full prefix_item is_open pack_length parts_in
-returned-encloses name q ref returned items b p =
-    let e = function name q ref returned items in
-    let same : in_form bare closed e ≡ in_form full closed (function name q ref absent items) =
-    prints_parts bare closed e ∙ sym (prints_parts full closed (function name q ref absent items)) in
-    record {
-      as_prefix = λ c. refl;
-      bare_text = ap text_of same ∙ p.shown_text;
-      bare_cost = omega (arith, p.shown_cost, ap cost_of same);
-      is_closed = refl;
-      packless = λ scope. refl;
-    }
-
--- It has the same text there as without.
 pub returned-enclosing : (d : Detail) (name : Term) (q : Qualifiers) (ref : RefQualifier) (returned items : Term) (b : List ℕ)
     → Encloses d (function name q ref absent items) b → Encloses d (function name q ref returned items) b
 unfolding bare_parts prefix_item is_open pack_length parts_in
@@ -94,28 +75,43 @@ object-enclosing d v b p =
 
 -- ## Functions by their names alone
 
--- A function shows its name, if that has no brackets, whatever it returns.
-pub name-shows : (name : Term) (b : List ℕ) → PrintsName name b → has_bracket b ≡ false → (q : Qualifiers) (ref : RefQualifier) (returned items : Term)
-    → Shows NoParameters (function name q ref returned items) b
-unfolding parts_in full_parts function_full function_bare not_empty
-name-shows name b p free q ref returned items =
+named_parts : (detail : Detail) → has_parameters detail ≡ false → (name : Term) (q : Qualifiers) (ref : RefQualifier) (returned items : Term)
+    → parts_in detail closed full (function name q ref returned items) ≡ as_item left closed name ∷ []
+unfolding parts_in full_parts function_full function_bare
+named_parts detail alone name q ref returned items = ap (λ b. function_full b name q ref returned items) alone
+
+-- A function shows its name, whatever it returns.
+pub name-shows : {detail : Detail} → has_parameters detail ≡ false → (name : Term) (b : List ℕ) → PrintsName detail name b → (q : Qualifiers) (ref : RefQualifier)
+    (returned items : Term) → Shows detail (function name q ref returned items) b
+unfolding not_empty
+name-shows {detail} alone name b p q ref returned items =
     let f = function name q ref returned items in
-    let same = bare-alike left closed name (ap has_bracket (p.left_text closed) ∙ free) in
+    let is = named_parts detail alone name q ref returned items in
     record {
-      shown_text = text_shown NoParameters full closed f (as_item left closed name ∷ []) refl
-          ∙ append-nil (text_of (shown_in NoParameters left closed name)) ∙ ap text_of (sym same) ∙ p.left_text closed;
-      shown_cost = omega (arith, p.cost closed, cost_shown NoParameters full closed f (as_item left closed name ∷ []) refl, ap cost_of same);
+      shown_text = text_shown detail full closed f (as_item left closed name ∷ []) is ∙ append-nil (text_of (shown_in detail left closed name)) ∙ p.left_text closed;
+      shown_cost = omega (arith, p.cost closed, cost_shown detail full closed f (as_item left closed name ∷ []) is);
     }
 
 -- A return type isn't shown there.
-pub returned-shows : (name : Term) (q : Qualifiers) (ref : RefQualifier) (returned items : Term) (b : List ℕ)
-    → Shows NoParameters (function name q ref absent items) b → Shows NoParameters (function name q ref returned items) b
-unfolding parts_in full_parts function_full
-returned-shows name q ref returned items b p =
+pub returned-shows : {detail : Detail} → has_parameters detail ≡ false → (name : Term) (q : Qualifiers) (ref : RefQualifier) (returned items : Term) (b : List ℕ)
+    → Shows detail (function name q ref absent items) b → Shows detail (function name q ref returned items) b
+returned-shows {detail} alone name q ref returned items b p =
     let e = function name q ref returned items in
-    let same : shown_in NoParameters full closed e ≡ shown_in NoParameters full closed (function name q ref absent items) =
-    shows_parts NoParameters full closed e ∙ sym (shows_parts NoParameters full closed (function name q ref absent items)) in
-    record { shown_text = ap text_of same ∙ p.shown_text; shown_cost = omega (arith, p.shown_cost, ap cost_of same) }
+    let plain = function name q ref absent items in
+    let ps = as_item left closed name ∷ [] in
+    let is = named_parts detail alone name q ref returned items in
+    let plain_is = named_parts detail alone name q ref absent items in
+    record {
+      shown_text = text_shown detail full closed e ps is ∙ sym (text_shown detail full closed plain ps plain_is) ∙ p.shown_text;
+      shown_cost = omega (arith, p.shown_cost, cost_shown detail full closed e ps is, cost_shown detail full closed plain ps plain_is);
+    }
+
+-- Before what is in it a function shows its name, too.
+pub name-encloses : {detail : Detail} → has_parameters detail ≡ false → (name : Term) (b : List ℕ) → PrintsName detail name b → (q : Qualifiers) (ref : RefQualifier)
+    (returned items : Term) → Encloses detail (function name q ref returned items) b
+name-encloses {detail} alone name b p q ref returned items =
+    returned-enclosing detail name q ref returned items b
+    (function-encloses detail name q ref items b (name-shows alone name b p q ref absent items))
 
 -- ## Entities
 

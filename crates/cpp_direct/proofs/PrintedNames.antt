@@ -2,7 +2,6 @@
 use Rattle.std.proofs.Common.{◌≡◌, ◌≢◌, refl, ap, sym, ◌∙◌, ℕ, ◌+◌, ◌≤◌, List, [], ◌∷◌, ◌++◌, length, Bool, true, false, arith, codes, length-append, append-nil, subst, nat_eq, ◌||◌, inl, inr}
 use Rattle.std.proofs.lemmas.Bool.{eqb-true}
 use Rattle.sym_print.specs.declared.detail.Detail.{Detail}
-use Rattle.sym_print.specs.declared.detail.Detail.TheVariants.{Full}
 use Rattle.sym_print.specs.Unfold.{text}
 use Rattle.sym_print.specs.Unshared.{text_of, cost_of}
 use Rattle.cpp_grammar.specs.Term.{Term, alone, in_std, abbreviation, source, operator, builtin}
@@ -13,8 +12,8 @@ use Rattle.cpp_grammar.specs.Items.{left, right, base, piece, Context, head_with
 use Rattle.cpp_grammar.specs.Meaning.{is_void}
 use Rattle.cpp_grammar.specs.Parts.{as_item, says, source_text, prefix_item, last_piece, opening_text, piece_parts, left_parts, right_parts, base_parts, parts_in, not_empty, is_plain_integer}
 use Rattle.cpp_direct.specs.Names.{is_angle, operator_text}
-use Rattle.cpp_direct.specs.Prints.{in_form, shown_in, EndsAsInteger, Prints, PrintsName, NamesClass}
-use Rattle.cpp_direct.proofs.PrintedParts.{text_by, text_shown, cost_by, cost_shown, text_alone, alone_shown, cost_first, first_cost_shown, length-filled}
+use Rattle.cpp_direct.specs.Prints.{shown_in, EndsAsInteger, Prints, PrintsName, NamesClass}
+use Rattle.cpp_direct.proofs.PrintedParts.{text_shown, cost_shown, alone_shown, first_cost_shown, length-filled}
 
 -- the text of a source name isn't empty
 pub source-filled : (name : List ℕ) → name ≢ [] → 1 ≤ length (source_text name)
@@ -26,7 +25,7 @@ source-filled name filled = go _
     go false = length-filled name filled
 
 -- what prints so names something so
-pub as-name : (t : Term) (b : List ℕ) (reference : Bool) → Prints t b reference → PrintsName t b
+pub as-name : {detail : Detail} (t : Term) (b : List ℕ) (reference : Bool) → Prints detail t b reference → PrintsName detail t b
 as-name t b reference p = record { left_text = p.left_text; cost = p.cost }
 
 -- one of some letters, or one more
@@ -47,18 +46,18 @@ builtin-ends letter e =
     (codes "unsigned", inr (inr (inr refl)))) (codes "long", inr (inr (inr refl)))) (codes "unsigned long", inr (inr (inr refl))) e
 
 -- A source name prints itself.
-pub source-prints : (internal : Bool) (name : List ℕ) → name ≢ [] → Prints (alone (source internal name)) (source_text name) false
+pub source-prints : {detail : Detail} (internal : Bool) (name : List ℕ) → name ≢ [] → Prints detail (alone (source internal name)) (source_text name) false
 unfolding parts_in left_parts right_parts piece_parts not_empty head head_with is_reference is_funarr is_empty is_open pack_length is_function_type length_if_pack
     prefix_item last_piece opening_text is_void is_plain_integer
-source-prints internal name filled = let t = alone (source internal name) in record {
-  left_text = λ c. text_by left c t (text (source_text name) ∷ []) refl ∙ text_alone (source_text name);
-  right_text = λ c. text_by right c t [] refl;
+source-prints {detail} internal name filled = let t = alone (source internal name) in record {
+  left_text = λ c. text_shown detail left c t (text (source_text name) ∷ []) refl ∙ alone_shown detail (source_text name);
+  right_text = λ c. text_shown detail right c t [] refl;
   cost = λ c. omega (
     arith,
     source-filled name filled,
-    cost_first (source_text name) [],
-    cost_by left c t (text (source_text name) ∷ []) refl,
-    cost_by right c t [] refl,
+    first_cost_shown detail (source_text name) [],
+    cost_shown detail left c t (text (source_text name) ∷ []) refl,
+    cost_shown detail right c t [] refl,
   );
   is_reference_head = λ c. refl;
   is_funarr_head = λ c. refl;
@@ -75,18 +74,18 @@ source-prints internal name filled = let t = alone (source internal name) in rec
 }
 
 -- It names its class by itself.
-pub source-class : (internal : Bool) (name : List ℕ) → name ≢ [] → NamesClass (alone (source internal name)) (source_text name)
+pub source-class : {detail : Detail} (internal : Bool) (name : List ℕ) → name ≢ [] → NamesClass detail (alone (source internal name)) (source_text name)
 unfolding parts_in left_parts right_parts base_parts piece_parts not_empty
-source-class internal name filled = let t = alone (source internal name) in record {
-  base_text = λ c. text_by base c t (text (source_text name) ∷ []) refl ∙ text_alone (source_text name);
+source-class {detail} internal name filled = let t = alone (source internal name) in record {
+  base_text = λ c. text_shown detail base c t (text (source_text name) ∷ []) refl ∙ alone_shown detail (source_text name);
   base_cost = λ c. omega (
     arith,
     source-filled name filled,
-    cost_first (source_text name) [],
-    cost_by left c t (text (source_text name) ∷ []) refl,
-    cost_by right c t [] refl,
-    cost_by base c t (text (source_text name) ∷ []) refl,
-    ap length (text_by left c t (text (source_text name) ∷ []) refl ∙ text_alone (source_text name)),
+    first_cost_shown detail (source_text name) [],
+    cost_shown detail left c t (text (source_text name) ∷ []) refl,
+    cost_shown detail right c t [] refl,
+    cost_shown detail base c t (text (source_text name) ∷ []) refl,
+    ap length (text_shown detail left c t (text (source_text name) ∷ []) refl ∙ alone_shown detail (source_text name)),
   );
 }
 
@@ -105,49 +104,51 @@ piece-cost d c internal name = omega (
 )
 
 -- an operator as a piece
-pub operator-text : (c : Context) (first second : ℕ)
-    → text_of (in_form piece c (operator first second)) ≡ operator_text first second
+pub operator-text : (detail : Detail) (c : Context) (first second : ℕ)
+    → text_of (shown_in detail piece c (operator first second)) ≡ operator_text first second
 unfolding parts_in piece_parts
-operator-text c first second =
+operator-text detail c first second =
     let x = operator_text first second in
-    text_by piece c (operator first second) (text x ∷ []) refl ∙ text_alone x
+    text_shown detail piece c (operator first second) (text x ∷ []) refl ∙ alone_shown detail x
 
 -- and what it costs
-pub operator-cost : (c : Context) (first second : ℕ)
-    → cost_of (in_form piece c (operator first second)) ≡ 1 + length (operator_text first second)
+pub operator-cost : (detail : Detail) (c : Context) (first second : ℕ)
+    → cost_of (shown_in detail piece c (operator first second)) ≡ 1 + length (operator_text first second)
 unfolding parts_in piece_parts not_empty
-operator-cost c first second =
+operator-cost detail c first second =
     let x = operator_text first second in
-    omega (arith, cost_by piece c (operator first second) (text x ∷ []) refl, cost_first x [])
+    omega (arith, cost_shown detail piece c (operator first second) (text x ∷ []) refl, first_cost_shown detail x [])
 
-std-left : (c : Context) (internal : Bool) (name : List ℕ)
-    → text_of (in_form left c (in_std (source internal name))) ≡ codes "std::" ++ source_text name
+std-left : (detail : Detail) (c : Context) (internal : Bool) (name : List ℕ)
+    → text_of (shown_in detail left c (in_std (source internal name))) ≡ codes "std::" ++ source_text name
 unfolding parts_in left_parts not_empty
-std-left c internal name =
-    text_by left c (in_std (source internal name)) (says "std::" ∷ as_item piece c (source internal name) ∷ []) refl
-    ∙ ap (λ s. codes "std::" ++ (s ++ [])) (piece-text Full c internal name) ∙ ap (λ s. codes "std::" ++ s) (append-nil (source_text name))
+std-left detail c internal name =
+    text_shown detail left c (in_std (source internal name)) (says "std::" ∷ as_item piece c (source internal name) ∷ []) refl
+    ∙ ap (λ s. codes "std::" ++ (s ++ [])) (piece-text detail c internal name) ∙ ap (λ s. codes "std::" ++ s) (append-nil (source_text name))
 
-std-cost : (c : Context) (internal : Bool) (name : List ℕ) → cost_of (in_form left c (in_std (source internal name))) ≡ 7 + length (source_text name)
+std-cost : (detail : Detail) (c : Context) (internal : Bool) (name : List ℕ)
+    → cost_of (shown_in detail left c (in_std (source internal name))) ≡ 7 + length (source_text name)
 unfolding parts_in left_parts not_empty
-std-cost c internal name =
+std-cost detail c internal name =
     omega (
       arith,
-      cost_by left c (in_std (source internal name)) (says "std::" ∷ as_item piece c (source internal name) ∷ []) refl,
-      piece-cost Full c internal name,
+      cost_shown detail left c (in_std (source internal name)) (says "std::" ∷ as_item piece c (source internal name) ∷ []) refl,
+      piece-cost detail c internal name,
     )
 
 -- A source name in std prints so.
-pub std-prints : (internal : Bool) (name : List ℕ) → name ≢ [] → Prints (in_std (source internal name)) (codes "std::" ++ source_text name) false
+pub std-prints : {detail : Detail} (internal : Bool) (name : List ℕ) → name ≢ []
+    → Prints detail (in_std (source internal name)) (codes "std::" ++ source_text name) false
 unfolding parts_in left_parts right_parts not_empty head head_with is_reference is_funarr is_empty is_open pack_length is_function_type length_if_pack prefix_item
     last_piece opening_text is_void is_plain_integer
-std-prints internal name filled = let t = in_std (source internal name) in record {
-  left_text = λ c. std-left c internal name;
-  right_text = λ c. text_by right c t [] refl;
+std-prints {detail} internal name filled = let t = in_std (source internal name) in record {
+  left_text = λ c. std-left detail c internal name;
+  right_text = λ c. text_shown detail right c t [] refl;
   cost = λ c. omega (
     arith,
     source-filled name filled,
-    std-cost c internal name,
-    cost_by right c t [] refl,
+    std-cost detail c internal name,
+    cost_shown detail right c t [] refl,
     length-append (codes "std::") (source_text name),
   );
   is_reference_head = λ c. refl;
@@ -165,26 +166,26 @@ std-prints internal name filled = let t = in_std (source internal name) in recor
 }
 
 -- An operator names something by its text.
-pub operator-names : (a b : ℕ) → PrintsName (alone (operator a b)) (operator_text a b)
+pub operator-names : {detail : Detail} (a b : ℕ) → PrintsName detail (alone (operator a b)) (operator_text a b)
 unfolding parts_in left_parts right_parts piece_parts not_empty
-operator-names a b = let t = alone (operator a b) in let x = operator_text a b in record {
-  left_text = λ c. text_by left c t (text x ∷ []) refl ∙ text_alone x;
+operator-names {detail} a b = let t = alone (operator a b) in let x = operator_text a b in record {
+  left_text = λ c. text_shown detail left c t (text x ∷ []) refl ∙ alone_shown detail x;
   cost = λ c. omega (
     arith,
     length-append (codes "operator") (look_up (a ∷ b ∷ []) operator_texts),
-    cost_first x [],
-    cost_by left c t (text x ∷ []) refl,
-    cost_by right c t [] refl,
+    first_cost_shown detail x [],
+    cost_shown detail left c t (text x ∷ []) refl,
+    cost_shown detail right c t [] refl,
   );
 }
 
 -- It prints so, unless a blank is between it and arguments.
-pub operator-prints : (a b : ℕ) → is_angle a b ≡ false → Prints (alone (operator a b)) (operator_text a b) false
+pub operator-prints : {detail : Detail} (a b : ℕ) → is_angle a b ≡ false → Prints detail (alone (operator a b)) (operator_text a b) false
 unfolding parts_in right_parts not_empty head head_with is_reference is_funarr is_empty is_open pack_length is_function_type length_if_pack
     prefix_item last_piece opening_text is_void is_plain_integer
-operator-prints a b plain = let t = alone (operator a b) in let n = operator-names a b in record {
+operator-prints {detail} a b plain = let t = alone (operator a b) in let n = operator-names a b in record {
   left_text = n.left_text;
-  right_text = λ c. text_by right c t [] refl;
+  right_text = λ c. text_shown detail right c t [] refl;
   cost = n.cost;
   is_reference_head = λ c. refl;
   is_funarr_head = λ c. refl;
@@ -201,31 +202,31 @@ operator-prints a b plain = let t = alone (operator a b) in let n = operator-nam
 }
 
 -- The same in std.
-pub std-operator-names : (a b : ℕ) → PrintsName (in_std (operator a b)) (codes "std::" ++ operator_text a b)
+pub std-operator-names : {detail : Detail} (a b : ℕ) → PrintsName detail (in_std (operator a b)) (codes "std::" ++ operator_text a b)
 unfolding parts_in left_parts right_parts not_empty
-std-operator-names a b =
+std-operator-names {detail} a b =
     let t = in_std (operator a b) in
     let x = operator_text a b in
-    let is : (c : Context) → parts_in Full c left t ≡ says "std::" ∷ as_item piece c (operator a b) ∷ [] = λ c. refl in
+    let is : (c : Context) → parts_in detail c left t ≡ says "std::" ∷ as_item piece c (operator a b) ∷ [] = λ c. refl in
     record {
-      left_text = λ c. text_by left c t (says "std::" ∷ as_item piece c (operator a b) ∷ []) (is c)
-          ∙ ap (λ s. codes "std::" ++ (s ++ [])) (operator-text c a b) ∙ ap (λ s. codes "std::" ++ s) (append-nil x);
+      left_text = λ c. text_shown detail left c t (says "std::" ∷ as_item piece c (operator a b) ∷ []) (is c)
+          ∙ ap (λ s. codes "std::" ++ (s ++ [])) (operator-text detail c a b) ∙ ap (λ s. codes "std::" ++ s) (append-nil x);
       cost = λ c. omega (
         arith,
-        operator-cost c a b,
+        operator-cost detail c a b,
         length-append (codes "operator") (look_up (a ∷ b ∷ []) operator_texts),
-        cost_by left c t (says "std::" ∷ as_item piece c (operator a b) ∷ []) (is c),
-        cost_by right c t [] refl,
+        cost_shown detail left c t (says "std::" ∷ as_item piece c (operator a b) ∷ []) (is c),
+        cost_shown detail right c t [] refl,
         length-append (codes "std::") x,
       );
     }
 
-pub std-operator-prints : (a b : ℕ) → is_angle a b ≡ false → Prints (in_std (operator a b)) (codes "std::" ++ operator_text a b) false
+pub std-operator-prints : {detail : Detail} (a b : ℕ) → is_angle a b ≡ false → Prints detail (in_std (operator a b)) (codes "std::" ++ operator_text a b) false
 unfolding parts_in right_parts not_empty head head_with is_reference is_funarr is_empty is_open pack_length is_function_type length_if_pack
     prefix_item last_piece opening_text is_void is_plain_integer
-std-operator-prints a b plain = let t = in_std (operator a b) in let n = std-operator-names a b in record {
+std-operator-prints {detail} a b plain = let t = in_std (operator a b) in let n = std-operator-names a b in record {
   left_text = n.left_text;
-  right_text = λ c. text_by right c t [] refl;
+  right_text = λ c. text_shown detail right c t [] refl;
   cost = n.cost;
   is_reference_head = λ c. refl;
   is_funarr_head = λ c. refl;
@@ -242,31 +243,31 @@ std-operator-prints a b plain = let t = in_std (operator a b) in let n = std-ope
 }
 
 -- It names its class without std.
-pub std-class : (internal : Bool) (name : List ℕ) → name ≢ [] → NamesClass (in_std (source internal name)) (source_text name)
+pub std-class : {detail : Detail} (internal : Bool) (name : List ℕ) → name ≢ [] → NamesClass detail (in_std (source internal name)) (source_text name)
 unfolding parts_in right_parts base_parts piece_parts not_empty
-std-class internal name filled = let t = in_std (source internal name) in record {
-  base_text = λ c. text_by base c t (text (source_text name) ∷ []) refl ∙ text_alone (source_text name);
+std-class {detail} internal name filled = let t = in_std (source internal name) in record {
+  base_text = λ c. text_shown detail base c t (text (source_text name) ∷ []) refl ∙ alone_shown detail (source_text name);
   base_cost = λ c. omega (
     arith,
     source-filled name filled,
-    cost_first (source_text name) [],
-    std-cost c internal name,
-    cost_by right c t [] refl,
-    cost_by base c t (text (source_text name) ∷ []) refl,
-    ap length (std-left c internal name),
+    first_cost_shown detail (source_text name) [],
+    std-cost detail c internal name,
+    cost_shown detail right c t [] refl,
+    cost_shown detail base c t (text (source_text name) ∷ []) refl,
+    ap length (std-left detail c internal name),
     length-append (codes "std::") (source_text name),
   );
 }
 
 -- An abbreviation prints its text.
-pub abbreviation-prints : (letter : ℕ) → look_up (letter ∷ []) abbreviation_texts ≢ []
-    → Prints (abbreviation letter) (look_up (letter ∷ []) abbreviation_texts) false
+pub abbreviation-prints : {detail : Detail} (letter : ℕ) → look_up (letter ∷ []) abbreviation_texts ≢ []
+    → Prints detail (abbreviation letter) (look_up (letter ∷ []) abbreviation_texts) false
 unfolding parts_in left_parts right_parts not_empty head head_with is_reference is_funarr is_empty is_open pack_length is_function_type length_if_pack prefix_item
     last_piece opening_text is_void is_plain_integer
-abbreviation-prints letter filled = let t = abbreviation letter in let b = look_up (letter ∷ []) abbreviation_texts in record {
-  left_text = λ c. text_by left c t (text b ∷ []) refl ∙ text_alone b;
-  right_text = λ c. text_by right c t [] refl;
-  cost = λ c. omega (arith, length-filled b filled, cost_first b [], cost_by left c t (text b ∷ []) refl, cost_by right c t [] refl);
+abbreviation-prints {detail} letter filled = let t = abbreviation letter in let b = look_up (letter ∷ []) abbreviation_texts in record {
+  left_text = λ c. text_shown detail left c t (text b ∷ []) refl ∙ alone_shown detail b;
+  right_text = λ c. text_shown detail right c t [] refl;
+  cost = λ c. omega (arith, length-filled b filled, first_cost_shown detail b [], cost_shown detail left c t (text b ∷ []) refl, cost_shown detail right c t [] refl);
   is_reference_head = λ c. refl;
   is_funarr_head = λ c. refl;
   filled = λ c. refl;
@@ -286,14 +287,14 @@ unfolding look_up builtin_texts same_bytes
 void-text letter same = subst (λ l. look_up (l ∷ []) builtin_texts ≡ codes "void") (sym same) refl
 
 -- A builtin type prints its text.
-pub builtin-prints : (letter : ℕ) → look_up (letter ∷ []) builtin_texts ≢ []
-    → Prints (builtin (letter ∷ [])) (look_up (letter ∷ []) builtin_texts) false
+pub builtin-prints : {detail : Detail} (letter : ℕ) → look_up (letter ∷ []) builtin_texts ≢ []
+    → Prints detail (builtin (letter ∷ [])) (look_up (letter ∷ []) builtin_texts) false
 unfolding parts_in left_parts right_parts not_empty head head_with is_reference is_funarr is_empty is_open pack_length is_function_type length_if_pack prefix_item
     last_piece opening_text is_void is_plain_integer
-builtin-prints letter filled = let t = builtin (letter ∷ []) in let b = look_up (letter ∷ []) builtin_texts in record {
-  left_text = λ c. text_by left c t (text b ∷ []) refl ∙ text_alone b;
-  right_text = λ c. text_by right c t [] refl;
-  cost = λ c. omega (arith, length-filled b filled, cost_first b [], cost_by left c t (text b ∷ []) refl, cost_by right c t [] refl);
+builtin-prints {detail} letter filled = let t = builtin (letter ∷ []) in let b = look_up (letter ∷ []) builtin_texts in record {
+  left_text = λ c. text_shown detail left c t (text b ∷ []) refl ∙ alone_shown detail b;
+  right_text = λ c. text_shown detail right c t [] refl;
+  cost = λ c. omega (arith, length-filled b filled, first_cost_shown detail b [], cost_shown detail left c t (text b ∷ []) refl, cost_shown detail right c t [] refl);
   is_reference_head = λ c. refl;
   is_funarr_head = λ c. refl;
   filled = λ c. refl;
@@ -309,14 +310,14 @@ builtin-prints letter filled = let t = builtin (letter ∷ []) in let b = look_u
 }
 
 -- So does one with a code of two letters.
-pub builtin-with-d-prints : (letter : ℕ) → look_up (68 ∷ letter ∷ []) builtin_texts ≢ []
-    → Prints (builtin (68 ∷ letter ∷ [])) (look_up (68 ∷ letter ∷ []) builtin_texts) false
+pub builtin-with-d-prints : {detail : Detail} (letter : ℕ) → look_up (68 ∷ letter ∷ []) builtin_texts ≢ []
+    → Prints detail (builtin (68 ∷ letter ∷ [])) (look_up (68 ∷ letter ∷ []) builtin_texts) false
 unfolding parts_in left_parts right_parts not_empty head head_with is_reference is_funarr is_empty is_open pack_length is_function_type length_if_pack prefix_item
     last_piece opening_text is_void is_plain_integer
-builtin-with-d-prints letter filled = let t = builtin (68 ∷ letter ∷ []) in let b = look_up (68 ∷ letter ∷ []) builtin_texts in record {
-  left_text = λ c. text_by left c t (text b ∷ []) refl ∙ text_alone b;
-  right_text = λ c. text_by right c t [] refl;
-  cost = λ c. omega (arith, length-filled b filled, cost_first b [], cost_by left c t (text b ∷ []) refl, cost_by right c t [] refl);
+builtin-with-d-prints {detail} letter filled = let t = builtin (68 ∷ letter ∷ []) in let b = look_up (68 ∷ letter ∷ []) builtin_texts in record {
+  left_text = λ c. text_shown detail left c t (text b ∷ []) refl ∙ alone_shown detail b;
+  right_text = λ c. text_shown detail right c t [] refl;
+  cost = λ c. omega (arith, length-filled b filled, first_cost_shown detail b [], cost_shown detail left c t (text b ∷ []) refl, cost_shown detail right c t [] refl);
   is_reference_head = λ c. refl;
   is_funarr_head = λ c. refl;
   filled = λ c. refl;

@@ -1,6 +1,7 @@
 -- Names in other names, constructors and destructors, and names with arguments.
+use Rattle.sym_print.specs.declared.detail.Detail.{Detail}
 use Rattle.std.proofs.Common.{◌≡◌, ◌≢◌, refl, ap, sym, ◌∙◌, ℕ, ◌+◌, ◌*◌, ◌≤◌, List, [], ◌∷◌, ◌++◌, length, Bool, true, false, None, arith, codes, length-append, append-nil, append_assoc}
-use Rattle.sym_print.specs.declared.detail.Detail.TheVariants.{Full}
+use Rattle.sym_print.specs.Details.{has_arguments}
 use Rattle.sym_print.specs.Unfold.{text}
 use Rattle.sym_print.specs.Unshared.{text_of, cost_of}
 use Rattle.cpp_grammar.specs.Term.{Term, within, instance, source, operator, constructor, destructor}
@@ -11,9 +12,9 @@ use Rattle.cpp_grammar.specs.Items.{left, right, base, piece, first, Context, he
 use Rattle.cpp_grammar.specs.Meaning.{is_void}
 use Rattle.cpp_grammar.specs.Parts.{as_item, says, list_part, source_text, prefix_item, last_piece, opening_text, own_piece, piece_parts, within_parts, base_within, base_tagged, instance_parts, left_parts, right_parts, base_parts, parts_in, not_empty, is_plain_integer}
 use Rattle.cpp_direct.specs.Names.{is_angle, operator_text}
-use Rattle.cpp_direct.specs.Prints.{in_form, Prints, PrintsName, NamesClass, PrintAll}
+use Rattle.cpp_direct.specs.Prints.{shown_in, Prints, PrintsName, NamesClass, PrintAll}
 use Rattle.cpp_direct.specs.WriterInvariant.{IsTail, list_with}
-use Rattle.cpp_direct.proofs.PrintedParts.{printed_by, text_by, cost_by, text_alone, cost_first, text_append, cost_append}
+use Rattle.cpp_direct.proofs.PrintedParts.{shown_by, text_shown, cost_shown, alone_shown, first_cost_shown, text_append, cost_append}
 use Rattle.cpp_direct.proofs.PrintedNames.{source-filled, piece-text, piece-cost, operator-text, operator-cost}
 use Rattle.cpp_direct.proofs.PrintedLists.{list-text-before, list-cost-before, list-closed, list-packless}
 
@@ -24,9 +25,9 @@ joins x m y b n e f = rw (e, f, append-nil n) (sym (append_assoc b m n))
 -- ## A piece in a name
 
 -- a piece of a name, with its text, that is printed after colons
-pub record IsPiece (p : Term) (x : List ℕ) : Type 0 where
-  pub piece_text : (context : Context) → text_of (in_form piece context p) ≡ x
-  pub piece_cost : (context : Context) → cost_of (in_form piece context p) ≡ 1 + length x
+pub record IsPiece (detail : Detail) (p : Term) (x : List ℕ) : Type 0 where
+  pub piece_text : (context : Context) → text_of (shown_in detail piece context p) ≡ x
+  pub piece_cost : (context : Context) → cost_of (shown_in detail piece context p) ≡ 1 + length x
   pub within_is : (context : Context) (t : Term) → within_parts context t p ≡ prefix_item context t ∷ says "::" ∷ as_item piece context p ∷ []
   pub base_is : (context : Context) (t : Term) → base_within context t p ≡ text x ∷ []
   pub tagged_is : (context : Context) (t : Term) → base_tagged context (is_structor (within t p)) (within t p) ≡ text x ∷ []
@@ -36,11 +37,11 @@ pub record IsPiece (p : Term) (x : List ℕ) : Type 0 where
   pub no_structor : (t : Term) → is_structor (within t p) ≡ false
 
 -- a source name is one
-pub source-piece : (internal : Bool) (name : List ℕ) → name ≢ [] → IsPiece (source internal name) (source_text name)
+pub source-piece : {detail : Detail} (internal : Bool) (name : List ℕ) → name ≢ [] → IsPiece detail (source internal name) (source_text name)
 unfolding within_parts base_within base_tagged own_piece without_tags piece_parts is_open pack_length is_structor
-source-piece internal name filled = record {
-  piece_text = λ c. piece-text Full c internal name;
-  piece_cost = λ c. piece-cost Full c internal name;
+source-piece {detail} internal name filled = record {
+  piece_text = λ c. piece-text detail c internal name;
+  piece_cost = λ c. piece-cost detail c internal name;
   within_is = λ c t. refl;
   base_is = λ c t. refl;
   tagged_is = λ c t. refl;
@@ -56,11 +57,11 @@ unfolding opening_text
 source-opening internal name = refl
 
 -- and so is an operator
-pub operator-piece : (a b : ℕ) → IsPiece (operator a b) (operator_text a b)
+pub operator-piece : {detail : Detail} (a b : ℕ) → IsPiece detail (operator a b) (operator_text a b)
 unfolding within_parts base_within base_tagged own_piece without_tags piece_parts is_open pack_length is_structor
-operator-piece a b = record {
-  piece_text = λ c. operator-text c a b;
-  piece_cost = λ c. operator-cost c a b;
+operator-piece {detail} a b = record {
+  piece_text = λ c. operator-text detail c a b;
+  piece_cost = λ c. operator-cost detail c a b;
   within_is = λ c t. refl;
   base_is = λ c t. refl;
   tagged_is = λ c t. refl;
@@ -75,38 +76,38 @@ pub operator-opening : (a b : ℕ) → is_angle a b ≡ false → opening_text (
 unfolding opening_text
 operator-opening a b plain = rw plain refl
 
-within-is : (c : Context) (t p : Term) (x : List ℕ) → IsPiece p x → prefix_item c t ≡ as_item left c t
+within-is : {detail : Detail} (c : Context) (t p : Term) (x : List ℕ) → IsPiece detail p x → prefix_item c t ≡ as_item left c t
     → within_parts c t p ≡ as_item left c t ∷ says "::" ∷ as_item piece c p ∷ []
 within-is c t p x is e = is.within_is c t ∙ ap (λ i. i ∷ says "::" ∷ as_item piece c p ∷ []) e
 
-within-text : (t : Term) (b : List ℕ) → Prints t b false → (p : Term) (x : List ℕ) → IsPiece p x → (c : Context)
-    → text_of (in_form left c (within t p)) ≡ b ++ codes "::" ++ x
+within-text : {detail : Detail} (t : Term) (b : List ℕ) → Prints detail t b false → (p : Term) (x : List ℕ) → IsPiece detail p x → (c : Context)
+    → text_of (shown_in detail left c (within t p)) ≡ b ++ codes "::" ++ x
 unfolding parts_in left_parts not_empty
-within-text t b prints p x is c =
-    text_by left c (within t p) (as_item left c t ∷ says "::" ∷ as_item piece c p ∷ []) (within-is c t p x is (prints.as_prefix c))
-    ∙ joins (text_of (in_form left c t)) (codes "::") (text_of (in_form piece c p)) b x (prints.left_text c) (is.piece_text c)
+within-text {detail} t b prints p x is c =
+    text_shown detail left c (within t p) (as_item left c t ∷ says "::" ∷ as_item piece c p ∷ []) (within-is c t p x is (prints.as_prefix c))
+    ∙ joins (text_of (shown_in detail left c t)) (codes "::") (text_of (shown_in detail piece c p)) b x (prints.left_text c) (is.piece_text c)
 
-within-cost : (t : Term) (b : List ℕ) → Prints t b false → (p : Term) (x : List ℕ) → IsPiece p x → (c : Context)
-    → cost_of (in_form left c (within t p)) ≡ cost_of (in_form left c t) + 4 + length x
+within-cost : {detail : Detail} (t : Term) (b : List ℕ) → Prints detail t b false → (p : Term) (x : List ℕ) → IsPiece detail p x → (c : Context)
+    → cost_of (shown_in detail left c (within t p)) ≡ cost_of (shown_in detail left c t) + 4 + length x
 unfolding parts_in left_parts not_empty
-within-cost t b prints p x is c =
+within-cost {detail} t b prints p x is c =
     omega (
       arith,
-      cost_by left c (within t p) (as_item left c t ∷ says "::" ∷ as_item piece c p ∷ []) (within-is c t p x is (prints.as_prefix c)),
+      cost_shown detail left c (within t p) (as_item left c t ∷ says "::" ∷ as_item piece c p ∷ []) (within-is c t p x is (prints.as_prefix c)),
       is.piece_cost c,
     )
 
 -- A piece in a class or a namespace names something by both.
-pub within-names : (t : Term) (b : List ℕ) → Prints t b false → (p : Term) (x : List ℕ) → IsPiece p x
-    → PrintsName (within t p) (b ++ codes "::" ++ x)
+pub within-names : {detail : Detail} (t : Term) (b : List ℕ) → Prints detail t b false → (p : Term) (x : List ℕ) → IsPiece detail p x
+    → PrintsName detail (within t p) (b ++ codes "::" ++ x)
 unfolding parts_in right_parts not_empty
-within-names t b prints p x is = let w = within t p in record {
+within-names {detail} t b prints p x is = let w = within t p in record {
   left_text = within-text t b prints p x is;
   cost = λ c. omega (
     arith,
     prints.cost c,
     within-cost t b prints p x is c,
-    cost_by right c w [] refl,
+    cost_shown detail right c w [] refl,
     is.filled,
     length-append (b ++ codes "::") x,
     length-append b (codes "::"),
@@ -114,13 +115,13 @@ within-names t b prints p x is = let w = within t p in record {
 }
 
 -- A piece in a class or a namespace prints both.
-pub within-prints : (t : Term) (b : List ℕ) → Prints t b false → (p : Term) (x : List ℕ) → IsPiece p x → opening_text p ≡ codes "<"
-    → Prints (within t p) (b ++ codes "::" ++ x) false
+pub within-prints : {detail : Detail} (t : Term) (b : List ℕ) → Prints detail t b false → (p : Term) (x : List ℕ) → IsPiece detail p x → opening_text p ≡ codes "<"
+    → Prints detail (within t p) (b ++ codes "::" ++ x) false
 unfolding parts_in left_parts right_parts not_empty head head_with is_reference is_funarr is_empty is_open pack_length first_of is_function_type length_if_pack
     prefix_item last_piece is_void is_plain_integer
-within-prints t b prints p x is opening = let w = within t p in let n = within-names t b prints p x is in record {
+within-prints {detail} t b prints p x is opening = let w = within t p in let n = within-names t b prints p x is in record {
   left_text = n.left_text;
-  right_text = λ c. text_by right c w [] refl;
+  right_text = λ c. text_shown detail right c w [] refl;
   cost = n.cost;
   is_reference_head = λ c. refl;
   is_funarr_head = λ c. refl;
@@ -137,18 +138,19 @@ within-prints t b prints p x is opening = let w = within t p in let n = within-n
 }
 
 -- It names its class without what it is in.
-pub within-class : (t : Term) (b : List ℕ) → Prints t b false → (p : Term) (x : List ℕ) → IsPiece p x → NamesClass (within t p) x
+pub within-class : {detail : Detail} (t : Term) (b : List ℕ) → Prints detail t b false → (p : Term) (x : List ℕ) → IsPiece detail p x
+    → NamesClass detail (within t p) x
 unfolding parts_in right_parts base_parts not_empty
-within-class t b prints p x is = let w = within t p in record {
-  base_text = λ c. text_by base c w (text x ∷ []) (is.base_is c t) ∙ text_alone x;
+within-class {detail} t b prints p x is = let w = within t p in record {
+  base_text = λ c. text_shown detail base c w (text x ∷ []) (is.base_is c t) ∙ alone_shown detail x;
   base_cost = λ c. omega (
     arith,
     prints.cost c,
     within-cost t b prints p x is c,
-    cost_by right c w [] refl,
+    cost_shown detail right c w [] refl,
     is.filled,
-    cost_by base c w (text x ∷ []) (is.base_is c t),
-    cost_first x [],
+    cost_shown detail base c w (text x ∷ []) (is.base_is c t),
+    first_cost_shown detail x [],
     ap length (within-text t b prints p x is c),
     length-append (b ++ codes "::") x,
     length-append b (codes "::"),
@@ -158,20 +160,20 @@ within-class t b prints p x is = let w = within t p in record {
 -- ## Constructors and destructors
 
 -- A constructor prints the name of its class.
-pub constructor-prints : (t : Term) (b class : List ℕ) → Prints t b false → NamesClass t class → (digit : ℕ)
-    → Prints (within t (constructor digit)) (b ++ codes "::" ++ class) false
+pub constructor-prints : {detail : Detail} (t : Term) (b class : List ℕ) → Prints detail t b false → NamesClass detail t class → (digit : ℕ)
+    → Prints detail (within t (constructor digit)) (b ++ codes "::" ++ class) false
 unfolding parts_in left_parts right_parts within_parts not_empty head head_with is_reference is_funarr is_empty is_open pack_length first_of
     is_function_type length_if_pack prefix_item last_piece opening_text is_void is_plain_integer
-constructor-prints t b class p n digit = let w = within t (constructor digit) in record {
-  left_text = λ c. text_by left c w (as_item left c t ∷ says "::" ∷ as_item base c t ∷ []) refl
-      ∙ joins (text_of (in_form left c t)) (codes "::") (text_of (in_form base c t)) b class (p.left_text c) (n.base_text c);
-  right_text = λ c. text_by right c w [] refl;
+constructor-prints {detail} t b class p n digit = let w = within t (constructor digit) in record {
+  left_text = λ c. text_shown detail left c w (as_item left c t ∷ says "::" ∷ as_item base c t ∷ []) refl
+      ∙ joins (text_of (shown_in detail left c t)) (codes "::") (text_of (shown_in detail base c t)) b class (p.left_text c) (n.base_text c);
+  right_text = λ c. text_shown detail right c w [] refl;
   cost = λ c. omega (
     arith,
     n.base_cost c,
     ap length (p.left_text c),
-    cost_by right c w [] refl,
-    cost_by left c w (as_item left c t ∷ says "::" ∷ as_item base c t ∷ []) refl,
+    cost_shown detail right c w [] refl,
+    cost_shown detail left c w (as_item left c t ∷ says "::" ∷ as_item base c t ∷ []) refl,
     length-append (b ++ codes "::") class,
     length-append b (codes "::"),
   );
@@ -190,20 +192,20 @@ constructor-prints t b class p n digit = let w = within t (constructor digit) in
 }
 
 -- A destructor prints it after a tilde.
-pub destructor-prints : (t : Term) (b class : List ℕ) → Prints t b false → NamesClass t class → (digit : ℕ)
-    → Prints (within t (destructor digit)) (b ++ codes "::~" ++ class) false
+pub destructor-prints : {detail : Detail} (t : Term) (b class : List ℕ) → Prints detail t b false → NamesClass detail t class → (digit : ℕ)
+    → Prints detail (within t (destructor digit)) (b ++ codes "::~" ++ class) false
 unfolding parts_in left_parts right_parts within_parts not_empty head head_with is_reference is_funarr is_empty is_open pack_length first_of
     is_function_type length_if_pack prefix_item last_piece opening_text is_void is_plain_integer
-destructor-prints t b class p n digit = let w = within t (destructor digit) in record {
-  left_text = λ c. text_by left c w (as_item left c t ∷ says "::~" ∷ as_item base c t ∷ []) refl
-      ∙ joins (text_of (in_form left c t)) (codes "::~") (text_of (in_form base c t)) b class (p.left_text c) (n.base_text c);
-  right_text = λ c. text_by right c w [] refl;
+destructor-prints {detail} t b class p n digit = let w = within t (destructor digit) in record {
+  left_text = λ c. text_shown detail left c w (as_item left c t ∷ says "::~" ∷ as_item base c t ∷ []) refl
+      ∙ joins (text_of (shown_in detail left c t)) (codes "::~") (text_of (shown_in detail base c t)) b class (p.left_text c) (n.base_text c);
+  right_text = λ c. text_shown detail right c w [] refl;
   cost = λ c. omega (
     arith,
     n.base_cost c,
     ap length (p.left_text c),
-    cost_by right c w [] refl,
-    cost_by left c w (as_item left c t ∷ says "::~" ∷ as_item base c t ∷ []) refl,
+    cost_shown detail right c w [] refl,
+    cost_shown detail left c w (as_item left c t ∷ says "::~" ∷ as_item base c t ∷ []) refl,
     length-append (b ++ codes "::~") class,
     length-append b (codes "::~"),
   );
@@ -223,48 +225,52 @@ destructor-prints t b class p n digit = let w = within t (destructor digit) in r
 
 -- ## Names with arguments
 
-instance-is : (c : Context) (t arguments : Term) → opening_text (last_piece t) ≡ codes "<"
-    → instance_parts true c t arguments ≡ (as_item left c t ∷ says "<" ∷ list_part first c arguments) ++ (says ">" ∷ [])
-unfolding instance_parts
-instance-is c t arguments e = ap (λ o. (as_item left c t ∷ text o ∷ list_part first c arguments) ++ (says ">" ∷ [])) e
+instance-is : (detail : Detail) → has_arguments detail ≡ true → (c : Context) (t arguments : Term) → opening_text (last_piece t) ≡ codes "<"
+    → parts_in detail c left (instance t arguments) ≡ (as_item left c t ∷ says "<" ∷ list_part first c arguments) ++ (says ">" ∷ [])
+unfolding parts_in left_parts instance_parts
+instance-is detail all c t arguments e =
+    ap (λ b. instance_parts b c t arguments) all ∙ ap (λ o. (as_item left c t ∷ text o ∷ list_part first c arguments) ++ (says ">" ∷ [])) e
 
 bracketed : (x y b l : List ℕ) → x ≡ b → y ≡ l → (x ++ (codes "<" ++ y)) ++ codes ">" ≡ b ++ codes "<" ++ l ++ codes ">"
 bracketed x y b l e f = rw (e, f) (ap (λ s. s ++ codes ">") (sym (append_assoc b (codes "<") l)))
 
-instance-text : (t : Term) (b : List ℕ) → Prints t b false → (ts : List Term) (tail : Term) (l : List ℕ) → IsTail tail → PrintAll 3 ts l → (c : Context)
-    → text_of (in_form left c (instance t (list_with ts tail))) ≡ b ++ codes "<" ++ l ++ codes ">"
+instance-text : {detail : Detail} → has_arguments detail ≡ true → (t : Term) (b : List ℕ) → Prints detail t b false
+    → (ts : List Term) (tail : Term) (l : List ℕ) → IsTail tail → PrintAll detail 3 ts l → (c : Context)
+    → text_of (shown_in detail left c (instance t (list_with ts tail))) ≡ b ++ codes "<" ++ l ++ codes ">"
 unfolding parts_in left_parts not_empty
-instance-text t b p ts tail l is all c =
+instance-text {detail} whole t b p ts tail l is all c =
     let ps = as_item left c t ∷ says "<" ∷ list_part first c (list_with ts tail) in
-    text_by left c (instance t (list_with ts tail)) (ps ++ (says ">" ∷ [])) (instance-is c t (list_with ts tail) p.opening)
-    ∙ text_append ps (says ">" ∷ [])
-    ∙ bracketed (text_of (in_form left c t)) (text_of (printed_by (list_part first c (list_with ts tail)))) b l (p.left_text c) (list-text-before c 3 ts tail l is all)
+    text_shown detail left c (instance t (list_with ts tail)) (ps ++ (says ">" ∷ [])) (instance-is detail whole c t (list_with ts tail) p.opening)
+    ∙ text_append detail ps (says ">" ∷ [])
+    ∙ bracketed (text_of (shown_in detail left c t)) (text_of (shown_by detail (list_part first c (list_with ts tail)))) b l (p.left_text c) (list-text-before detail c 3 ts tail l is all)
 
-instance-cost : (t : Term) (b : List ℕ) → Prints t b false → (ts : List Term) (tail : Term) (l : List ℕ) → IsTail tail → PrintAll 3 ts l → (c : Context)
-    → cost_of (in_form left c (instance t (list_with ts tail))) ≤ cost_of (in_form left c t) + 7 + 4 * length l
+instance-cost : {detail : Detail} → has_arguments detail ≡ true → (t : Term) (b : List ℕ) → Prints detail t b false
+    → (ts : List Term) (tail : Term) (l : List ℕ) → IsTail tail → PrintAll detail 3 ts l → (c : Context)
+    → cost_of (shown_in detail left c (instance t (list_with ts tail))) ≤ cost_of (shown_in detail left c t) + 7 + 4 * length l
 unfolding parts_in left_parts not_empty
-instance-cost t b p ts tail l is all c =
+instance-cost {detail} whole t b p ts tail l is all c =
     let ps = as_item left c t ∷ says "<" ∷ list_part first c (list_with ts tail) in
     omega (
       arith,
-      cost_by left c (instance t (list_with ts tail)) (ps ++ (says ">" ∷ [])) (instance-is c t (list_with ts tail) p.opening),
-      cost_append ps (says ">" ∷ []),
-      list-cost-before c 3 ts tail l (omega arith) is all,
+      cost_shown detail left c (instance t (list_with ts tail)) (ps ++ (says ">" ∷ [])) (instance-is detail whole c t (list_with ts tail) p.opening),
+      cost_append detail ps (says ">" ∷ []),
+      list-cost-before detail c 3 ts tail l (omega arith) is all,
     )
 
 -- A name with arguments prints them in brackets.
-pub instance-prints : (t : Term) (b : List ℕ) → Prints t b false → (ts : List Term) (tail : Term) (l : List ℕ) → IsTail tail → PrintAll 3 ts l
-    → Prints (instance t (list_with ts tail)) (b ++ codes "<" ++ l ++ codes ">") false
+pub instance-prints : {detail : Detail} → has_arguments detail ≡ true → (t : Term) (b : List ℕ) → Prints detail t b false
+    → (ts : List Term) (tail : Term) (l : List ℕ) → IsTail tail → PrintAll detail 3 ts l
+    → Prints detail (instance t (list_with ts tail)) (b ++ codes "<" ++ l ++ codes ">") false
 unfolding parts_in right_parts not_empty head head_with is_reference is_funarr is_empty is_open pack_length first_of is_function_type length_if_pack prefix_item
     last_piece opening_text is_void is_plain_integer
-instance-prints t b p ts tail l is all = let i = instance t (list_with ts tail) in record {
-  left_text = instance-text t b p ts tail l is all;
-  right_text = λ c. text_by right c i [] refl;
+instance-prints {detail} whole t b p ts tail l is all = let i = instance t (list_with ts tail) in record {
+  left_text = instance-text whole t b p ts tail l is all;
+  right_text = λ c. text_shown detail right c i [] refl;
   cost = λ c. omega (
     arith,
     p.cost c,
-    instance-cost t b p ts tail l is all c,
-    cost_by right c i [] refl,
+    instance-cost whole t b p ts tail l is all c,
+    cost_shown detail right c i [] refl,
     length-append (b ++ codes "<" ++ l) (codes ">"),
     length-append (b ++ codes "<") l,
     length-append b (codes "<"),
@@ -272,8 +278,8 @@ instance-prints t b p ts tail l is all = let i = instance t (list_with ts tail) 
   is_reference_head = λ c. refl;
   is_funarr_head = λ c. refl;
   filled = λ c. refl;
-  is_closed = rw (p.is_closed, list-closed 3 ts tail l is all) refl;
-  packless = λ scope. rw (p.packless scope, list-packless scope 3 ts tail l is all) refl;
+  is_closed = rw (p.is_closed, list-closed detail 3 ts tail l is all) refl;
+  packless = λ scope. rw (p.packless scope, list-packless detail scope 3 ts tail l is all) refl;
   no_function = refl;
   no_pack = refl;
   reference_cost = λ e. cc e;
@@ -284,19 +290,20 @@ instance-prints t b p ts tail l is all = let i = instance t (list_with ts tail) 
 }
 
 -- Its class is named without them.
-pub instance-class : (t : Term) (b class : List ℕ) → Prints t b false → NamesClass t class → (ts : List Term) (tail : Term) (l : List ℕ) → IsTail tail → PrintAll 3 ts l
-    → NamesClass (instance t (list_with ts tail)) class
+pub instance-class : {detail : Detail} → has_arguments detail ≡ true → (t : Term) (b class : List ℕ) → Prints detail t b false → NamesClass detail t class
+    → (ts : List Term) (tail : Term) (l : List ℕ) → IsTail tail → PrintAll detail 3 ts l
+    → NamesClass detail (instance t (list_with ts tail)) class
 unfolding parts_in right_parts base_parts not_empty
-instance-class t b class p n ts tail l is all = let i = instance t (list_with ts tail) in record {
-  base_text = λ c. text_by base c i (as_item base c t ∷ []) refl ∙ append-nil (text_of (in_form base c t)) ∙ n.base_text c;
+instance-class {detail} whole t b class p n ts tail l is all = let i = instance t (list_with ts tail) in record {
+  base_text = λ c. text_shown detail base c i (as_item base c t ∷ []) refl ∙ append-nil (text_of (shown_in detail base c t)) ∙ n.base_text c;
   base_cost = λ c. omega (
     arith,
     n.base_cost c,
     ap length (p.left_text c),
-    instance-cost t b p ts tail l is all c,
-    cost_by right c i [] refl,
-    cost_by base c i (as_item base c t ∷ []) refl,
-    ap length (instance-text t b p ts tail l is all c),
+    instance-cost whole t b p ts tail l is all c,
+    cost_shown detail right c i [] refl,
+    cost_shown detail base c i (as_item base c t ∷ []) refl,
+    ap length (instance-text whole t b p ts tail l is all c),
     length-append (b ++ codes "<" ++ l) (codes ">"),
     length-append (b ++ codes "<") l,
     length-append b (codes "<"),

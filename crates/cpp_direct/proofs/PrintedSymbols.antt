@@ -1,7 +1,7 @@
 -- Encodings of which the text is known, and the symbols that they are.
 use Rattle.std.proofs.Common.{◌≡◌, ◌≢◌, refl, ap, sym, ◌∙◌, ℕ, ◌*◌, ◌≤◌, List, [], ◌∷◌, ◌++◌, length, Bool, true, false, ◌&&◌, arith, codes, length-append, append-nil, append_assoc, subst}
 use Rattle.sym_print.specs.declared.detail.Detail.{Detail}
-use Rattle.sym_print.specs.declared.detail.Detail.TheVariants.{Full}
+use Rattle.sym_print.specs.Details.{has_parameters}
 use Rattle.sym_print.specs.Unfold.{text}
 use Rattle.sym_print.specs.Unshared.{text_of, cost_of}
 use Rattle.cpp_grammar.specs.Term.{Qualifiers, RefQualifier, non_virtual, by_table, Thunk, adjusting, covariant, Term, symbol, function, object, special, thunk, builtin, nil, list, absent}
@@ -14,9 +14,9 @@ use Rattle.cpp_grammar.specs.Parts.{as_item, says, text_part, list_part, types_o
 use Rattle.cpp_grammar.specs.Answer.{shown, root_item}
 use Rattle.cpp_direct.specs.declared.open.Mark.{Mark}
 use Rattle.cpp_direct.specs.Marks.{has_const, called_on}
-use Rattle.cpp_direct.specs.Prints.{in_form, shown_in, PrintsName, PrintsIn, IsElement, Shows, list_of, joined, PrintEachIn, PrintAllIn}
+use Rattle.cpp_direct.specs.Prints.{shown_in, PrintsName, PrintsIn, IsElement, Shows, list_of, joined, PrintEachIn, PrintAllIn}
 use Rattle.cpp_direct.specs.WriterInvariant.{qualifiers, plain_encoding}
-use Rattle.cpp_direct.proofs.PrintedParts.{printed_by, text_by, text_shown, cost_by, cost_shown, text_first, first_shown, cost_first, first_cost_shown, text_append, cost_append, part-text, part-cost, length-filled}
+use Rattle.cpp_direct.proofs.PrintedParts.{shown_by, text_shown, cost_shown, first_shown, first_cost_shown, text_append, cost_append, part-text, part-cost, length-filled}
 use Rattle.cpp_direct.proofs.PrintedLists.{list-text-in, list-cost-in, none-print-in}
 
 -- ## Functions
@@ -25,28 +25,36 @@ signed_text : (x y z b l q : List ℕ) → x ≡ b → y ≡ l → z ≡ q → (
 signed_text x y z b l q e f g =
     rw (e, f, g) (ap (λ s. s ++ (codes ")" ++ q)) (sym (append_assoc b (codes "(") l)) ∙ sym (append_assoc (b ++ codes "(" ++ l) (codes ")") q))
 
+-- a function that has no return type is shown so
+plain_parts : (detail : Detail) → has_parameters detail ≡ true → (name : Term) (q : Qualifiers) (ref : RefQualifier) (items : Term)
+    → parts_in detail closed full (function name q ref absent items) ≡ function_bare true name q ref items
+unfolding parts_in full_parts function_full
+plain_parts detail shown name q ref items = ap (λ b. function_full b name q ref absent items) shown
+
 -- A function that has no return type prints its name, its parameters and its qualifiers.
-pub function-shows : (name : Term) (b : List ℕ) → PrintsName name b → (ts : List Term) (l : List ℕ) → PrintAllIn (types_of name) 6 ts l
+pub function-shows : {detail : Detail} → has_parameters detail ≡ true → (name : Term) (b : List ℕ) → PrintsName detail name b → (ts : List Term) (l : List ℕ)
+    → PrintAllIn detail (types_of name) 6 ts l
     → (q : Qualifiers) (ref : RefQualifier)
-    → Shows Full (function name q ref absent (list_of ts)) (b ++ codes "(" ++ l ++ codes ")" ++ encoding_text q ref)
+    → Shows detail (function name q ref absent (list_of ts)) (b ++ codes "(" ++ l ++ codes ")" ++ encoding_text q ref)
 unfolding parts_in full_parts function_full function_bare not_empty
-function-shows name b p ts l all q ref =
+function-shows {detail} shown name b p ts l all q ref =
     let c = types_of name in
     let f = function name q ref absent (list_of ts) in
     let front = as_item left closed name ∷ says "(" ∷ list_part first c (list_of ts) in
     let behind = says ")" ∷ text_part (encoding_text q ref) in
+    let is = plain_parts detail shown name q ref (list_of ts) in
     record {
-      shown_text = text_by full closed f (front ++ behind) refl ∙ text_append front behind
-          ∙ signed_text (text_of (in_form left closed name)) (text_of (printed_by (list_part first c (list_of ts))))
-          (text_of (printed_by (text_part (encoding_text q ref)))) b l (encoding_text q ref) (p.left_text closed)
-          (list-text-in c 6 ts l all) (part-text (encoding_text q ref));
+      shown_text = text_shown detail full closed f (front ++ behind) is ∙ text_append detail front behind
+          ∙ signed_text (text_of (shown_in detail left closed name)) (text_of (shown_by detail (list_part first c (list_of ts))))
+          (text_of (shown_by detail (text_part (encoding_text q ref)))) b l (encoding_text q ref) (p.left_text closed)
+          (list-text-in detail c 6 ts l all) (part-text detail (encoding_text q ref));
       shown_cost = omega (
         arith,
         p.cost closed,
-        list-cost-in c 6 ts l (omega arith) all,
-        cost_by full closed f (front ++ behind) refl,
-        cost_append front behind,
-        part-cost (encoding_text q ref),
+        list-cost-in detail c 6 ts l (omega arith) all,
+        cost_shown detail full closed f (front ++ behind) is,
+        cost_append detail front behind,
+        part-cost detail (encoding_text q ref),
         length-append (b ++ codes "(" ++ l ++ codes ")") (encoding_text q ref),
         length-append (b ++ codes "(" ++ l) (codes ")"),
         length-append (b ++ codes "(") l,
@@ -55,67 +63,70 @@ function-shows name b p ts l all q ref =
     }
 
 -- what prints something is there
-not-absent : (c : Context) (t : Term) (b : List ℕ) (r : Bool) → PrintsIn c 2 t b r → t ≡ absent → ⊥
+not-absent : {detail : Detail} (c : Context) (t : Term) (b : List ℕ) (r : Bool) → PrintsIn detail c 2 t b r → t ≡ absent → ⊥
 unfolding parts_in left_parts not_empty
-not-absent c t b r p e =
-    let none : b ≡ [] = sym p.left_text ∙ ap (λ u. text_of (in_form left c u)) e ∙ text_by left c absent [] refl in
+not-absent {detail} c t b r p e =
+    let none : b ≡ [] = sym p.left_text ∙ ap (λ u. text_of (shown_in detail left c u)) e ∙ text_shown detail left c absent [] refl in
     omega (arith, p.cost, ap length none)
 
-returned_parts : (name : Term) (q : Qualifiers) (ref : RefQualifier) (r items : Term) → (r ≡ absent → ⊥)
-    → parts_in Full closed full (function name q ref r items)
+returned_parts : (detail : Detail) → has_parameters detail ≡ true → (name : Term) (q : Qualifiers) (ref : RefQualifier) (r items : Term) → (r ≡ absent → ⊥)
+    → parts_in detail closed full (function name q ref r items)
     ≡ (as_item left (types_of name) r ∷ says " " ∷ []) ++ function_bare true name q ref items ++ (as_item right (types_of name) r ∷ [])
 unfolding parts_in full_parts function_full
-returned_parts name q ref absent items there = absurd (there refl)
-returned_parts name q ref _ items there = refl
+returned_parts detail shown name q ref absent items there = absurd (there refl)
+returned_parts detail shown name q ref r items there = ap (λ b. function_full b name q ref r items) shown
 
 fronted_text : (x y z b l : List ℕ) → x ≡ b → y ≡ l → z ≡ [] → (x ++ (codes " " ++ [])) ++ y ++ (z ++ []) ≡ b ++ codes " " ++ l
 fronted_text x y z b l e f g = rw (e, f, g) (append-nil (b ++ codes " " ++ l))
 
 -- A function that has a return type prints it before what it prints without.
-pub front-shows : (name : Term) (q : Qualifiers) (ref : RefQualifier) (items : Term) (l : List ℕ) → Shows Full (function name q ref absent items) l
-    → (r : Term) (b : List ℕ) (is_reference : Bool) → PrintsIn (types_of name) 2 r b is_reference → Shows Full (function name q ref r items) (b ++ codes " " ++ l)
+pub front-shows : {detail : Detail} → has_parameters detail ≡ true → (name : Term) (q : Qualifiers) (ref : RefQualifier) (items : Term) (l : List ℕ)
+    → Shows detail (function name q ref absent items) l
+    → (r : Term) (b : List ℕ) (is_reference : Bool) → PrintsIn detail (types_of name) 2 r b is_reference
+    → Shows detail (function name q ref r items) (b ++ codes " " ++ l)
 unfolding parts_in full_parts function_full not_empty
-front-shows name q ref items l shows r b is_reference p =
+front-shows {detail} shown name q ref items l shows r b is_reference p =
     let c = types_of name in
     let f = function name q ref r items in
     let plain = function name q ref absent items in
     let front = as_item left c r ∷ says " " ∷ [] in
     let middle = function_bare true name q ref items in
     let behind = as_item right c r ∷ [] in
-    let is = returned_parts name q ref r items (not-absent c r b is_reference p) in
+    let is = returned_parts detail shown name q ref r items (not-absent c r b is_reference p) in
+    let plain_is = plain_parts detail shown name q ref items in
     record {
-      shown_text = text_by full closed f (front ++ middle ++ behind) is ∙ text_append (front ++ middle) behind
-          ∙ ap (λ x. x ++ text_of (printed_by behind)) (text_append front middle)
-          ∙ fronted_text (text_of (in_form left c r)) (text_of (printed_by middle)) (text_of (in_form right c r)) b l p.left_text
-          (sym (text_by full closed plain middle refl) ∙ shows.shown_text) p.right_text;
+      shown_text = text_shown detail full closed f (front ++ middle ++ behind) is ∙ text_append detail (front ++ middle) behind
+          ∙ ap (λ x. x ++ text_of (shown_by detail behind)) (text_append detail front middle)
+          ∙ fronted_text (text_of (shown_in detail left c r)) (text_of (shown_by detail middle)) (text_of (shown_in detail right c r)) b l p.left_text
+          (sym (text_shown detail full closed plain middle plain_is) ∙ shows.shown_text) p.right_text;
       shown_cost = omega (
         arith,
         p.cost,
         shows.shown_cost,
-        cost_by full closed f (front ++ middle ++ behind) is,
-        cost_by full closed plain middle refl,
-        cost_append (front ++ middle) behind,
-        cost_append front middle,
+        cost_shown detail full closed f (front ++ middle ++ behind) is,
+        cost_shown detail full closed plain middle plain_is,
+        cost_append detail (front ++ middle) behind,
+        cost_append detail front middle,
         length-append (b ++ codes " ") l,
         length-append b (codes " "),
       );
     }
 
 -- Data print their name.
-pub object-shows : (name : Term) (b : List ℕ) → PrintsName name b → (q : Qualifiers) (ref : RefQualifier)
-    → Shows Full (object name q ref) (b ++ encoding_text q ref)
+pub object-shows : {detail : Detail} (name : Term) (b : List ℕ) → PrintsName detail name b → (q : Qualifiers) (ref : RefQualifier)
+    → Shows detail (object name q ref) (b ++ encoding_text q ref)
 unfolding parts_in full_parts not_empty
-object-shows name b p q ref =
+object-shows {detail} name b p q ref =
     let ps = as_item left closed name ∷ text_part (encoding_text q ref) in
     record {
-      shown_text = text_by full closed (object name q ref) ps refl
-          ∙ ap (λ s. s ++ text_of (printed_by (text_part (encoding_text q ref)))) (p.left_text closed)
-          ∙ ap (λ s. b ++ s) (part-text (encoding_text q ref));
+      shown_text = text_shown detail full closed (object name q ref) ps refl
+          ∙ ap (λ s. s ++ text_of (shown_by detail (text_part (encoding_text q ref)))) (p.left_text closed)
+          ∙ ap (λ s. b ++ s) (part-text detail (encoding_text q ref));
       shown_cost = omega (
         arith,
         p.cost closed,
-        cost_by full closed (object name q ref) ps refl,
-        part-cost (encoding_text q ref),
+        cost_shown detail full closed (object name q ref) ps refl,
+        part-cost detail (encoding_text q ref),
         length-append b (encoding_text q ref),
       );
     }
@@ -124,20 +135,20 @@ element_text : (x r k b : List ℕ) → x ++ r ≡ b → k ++ (x ++ (r ++ [])) �
 element_text x r k b e = ap (λ l. k ++ (x ++ l)) (append-nil r) ∙ ap (λ l. k ++ l) e
 
 -- What the compiler makes for a type prints what it is, and the type.
-pub special-shows : (letter : ℕ) → look_up (letter ∷ []) special_texts ≢ [] → (t : Term) (b : List ℕ) → IsElement 0 t b
-    → Shows Full (special letter t) (look_up (letter ∷ []) special_texts ++ b)
+pub special-shows : {detail : Detail} (letter : ℕ) → look_up (letter ∷ []) special_texts ≢ [] → (t : Term) (b : List ℕ) → IsElement detail 0 t b
+    → Shows detail (special letter t) (look_up (letter ∷ []) special_texts ++ b)
 unfolding parts_in full_parts not_empty
-special-shows letter filled t b p =
+special-shows {detail} letter filled t b p =
     let k = look_up (letter ∷ []) special_texts in
     let behind = as_item left closed t ∷ as_item right closed t ∷ [] in
     record {
-      shown_text = text_by full closed (special letter t) (text k ∷ behind) refl ∙ text_first k behind
-          ∙ element_text (text_of (in_form left closed t)) (text_of (in_form right closed t)) k b (p.both_texts closed);
+      shown_text = text_shown detail full closed (special letter t) (text k ∷ behind) refl ∙ first_shown detail k behind
+          ∙ element_text (text_of (shown_in detail left closed t)) (text_of (shown_in detail right closed t)) k b (p.both_texts closed);
       shown_cost = omega (
         arith,
         p.cost closed,
-        cost_by full closed (special letter t) (text k ∷ behind) refl,
-        cost_first k behind,
+        cost_shown detail full closed (special letter t) (text k ∷ behind) refl,
+        first_cost_shown detail k behind,
         length-filled k filled,
         length-append k b,
       );
@@ -180,13 +191,14 @@ parameters-same element rest apart = go (is_void element) (is_nil rest) refl ref
     go false b e f = refl
 
 -- elements that don't print the word void alone are the parameters
-pub parameters-kept : (c : Context) (extra : ℕ) (ts : List Term) (l : List ℕ) → PrintAllIn c extra ts l → l ≢ codes "void" → parameters (list_of ts) ≡ list_of ts
+pub parameters-kept : (detail : Detail) (c : Context) (extra : ℕ) (ts : List Term) (l : List ℕ) → PrintAllIn detail c extra ts l → l ≢ codes "void"
+    → parameters (list_of ts) ≡ list_of ts
 unfolding parameters is_nil
-parameters-kept c extra [] l all apart = refl
-parameters-kept c extra (t ∷ u ∷ ts) l all apart = parameters-same t (list_of (u ∷ ts)) (λ e f. cc f)
-parameters-kept c extra (t ∷ []) l all apart = parameters-same t nil (λ e f. go all.0 all.1 all.2 e)
+parameters-kept detail c extra [] l all apart = refl
+parameters-kept detail c extra (t ∷ u ∷ ts) l all apart = parameters-same t (list_of (u ∷ ts)) (λ e f. cc f)
+parameters-kept detail c extra (t ∷ []) l all apart = parameters-same t nil (λ e f. go all.0 all.1 all.2 e)
   where
-    go : (texts : List (List ℕ)) → PrintEachIn c extra (t ∷ []) texts → joined texts ≡ l → is_void t ≡ true → ⊥
+    go : (texts : List (List ℕ)) → PrintEachIn detail c extra (t ∷ []) texts → joined texts ≡ l → is_void t ≡ true → ⊥
     go [] each is e = elim each [ ]
     go (b ∷ []) each is e = apart (sym is ∙ each.0.void e)
     go (b ∷ d ∷ bs) each is e = elim each.1 [ ]
@@ -233,15 +245,16 @@ pub none_bracketed : (b q : List ℕ) → b ++ codes "(" ++ [] ++ codes ")" ++ q
 none_bracketed b q = ap (λ s. s ++ codes ")" ++ q) (append-nil (b ++ codes "(")) ∙ ap (λ s. s ++ q) (append_assoc b (codes "(") (codes ")"))
 
 -- A function without parameters shows its name and its qualifiers.
-pub void-shows : (name : Term) (b : List ℕ) → PrintsName name b → (q : Qualifiers) (ref : RefQualifier)
-    → Shows Full (function name q ref absent nil) (b ++ codes "()" ++ encoding_text q ref)
-void-shows name b p q ref =
-    subst (λ l. Shows Full (function name q ref absent nil) l) (none_bracketed b (encoding_text q ref)) (function-shows name b p [] [] (none-print-in (types_of name) 6) q ref)
+pub void-shows : {detail : Detail} → has_parameters detail ≡ true → (name : Term) (b : List ℕ) → PrintsName detail name b → (q : Qualifiers) (ref : RefQualifier)
+    → Shows detail (function name q ref absent nil) (b ++ codes "()" ++ encoding_text q ref)
+void-shows {detail} shown name b p q ref =
+    subst (λ l. Shows detail (function name q ref absent nil) l) (none_bracketed b (encoding_text q ref))
+    (function-shows shown name b p [] [] (none-print-in detail (types_of name) 6) q ref)
 
 -- Without items it shows the name.
-pub object-encoded : (v : Value) (b : List ℕ) → PrintsName (tree_of v) b
-    → Shows Full (encoding_of v nil) (b ++ encoding_text (qualifiers_of v) (ref_of v))
-object-encoded v b p = subst (λ f. Shows Full f (b ++ encoding_text (qualifiers_of v) (ref_of v))) (sym (encoding-object v))
+pub object-encoded : {detail : Detail} (v : Value) (b : List ℕ) → PrintsName detail (tree_of v) b
+    → Shows detail (encoding_of v nil) (b ++ encoding_text (qualifiers_of v) (ref_of v))
+object-encoded {detail} v b p = subst (λ f. Shows detail f (b ++ encoding_text (qualifiers_of v) (ref_of v))) (sym (encoding-object v))
     (object-shows (tree_of v) b p (qualifiers_of v) (ref_of v))
 
 -- ## Symbols

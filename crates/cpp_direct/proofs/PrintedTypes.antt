@@ -1,7 +1,8 @@
 -- Types that are made of another type: pointers, references and constant types.
+use Rattle.sym_print.specs.declared.detail.Detail.{Detail}
 use Prim.Native.String.{String}
-use Rattle.cpp_direct.proofs.PrintedParts.{text_by, cost_by}
-use Rattle.cpp_direct.specs.Prints.{Prints, PrintsIn, EndsAsInteger, in_form, NamesArgument, IsElementIn}
+use Rattle.cpp_direct.proofs.PrintedParts.{text_shown, cost_shown}
+use Rattle.cpp_direct.specs.Prints.{Prints, PrintsIn, EndsAsInteger, shown_in, NamesArgument, IsElementIn}
 use Rattle.cpp_grammar.specs.Items.{closed, Form, left, right, low, Context, Head, lref, collapsed, head_with, head, is_reference, is_funarr, is_empty, argument, head_closed}
 use Rattle.cpp_grammar.specs.Meaning.{is_void}
 use Rattle.cpp_grammar.specs.Parts.{as_item, says, text_part, qualifier_text, prefix_item, last_piece, opening_text, marked_parts, reference_parts, qualified_left, qualified_right, closing_right, left_parts, right_parts, parts_in, not_empty, is_plain_integer}
@@ -25,7 +26,7 @@ unfolding closing_right
 closing c t e = rw (e, closing_right) refl
 
 -- What prints anywhere prints in a context.
-pub prints-in : (c : Context) (extra : ℕ) (t : Term) (b : List ℕ) (r : Bool) → Prints t b r → PrintsIn c extra t b r
+pub prints-in : {detail : Detail} (c : Context) (extra : ℕ) (t : Term) (b : List ℕ) (r : Bool) → Prints detail t b r → PrintsIn detail c extra t b r
 prints-in c extra t b r p = record {
   left_text = p.left_text c;
   right_text = p.right_text c;
@@ -38,10 +39,11 @@ prints-in c extra t b r p = record {
 }
 
 -- What prints in each context prints anywhere, if it is closed and names no packs.
-made-prints : (t : Term) (b : List ℕ) (r : Bool) → ((c : Context) → PrintsIn c 0 t b r) → is_open t ≡ false → ((scope : Term) → pack_length scope t ≡ None)
+made-prints : {detail : Detail} (t : Term) (b : List ℕ) (r : Bool) → ((c : Context) → PrintsIn detail c 0 t b r) → is_open t ≡ false
+    → ((scope : Term) → pack_length scope t ≡ None)
     → length_if_pack t ≡ None → ((c : Context) → prefix_item c t ≡ as_item left c t) → opening_text (last_piece t) ≡ codes "<"
     → (is_plain_integer t ≡ true → EndsAsInteger b)
-    → (r ≡ true → (c : Context) → 2 + cost_of (in_form left c t) + cost_of (in_form right c t) ≤ 4 * length b) → Prints t b r
+    → (r ≡ true → (c : Context) → 2 + cost_of (shown_in detail left c t) + cost_of (shown_in detail right c t) ≤ 4 * length b) → Prints detail t b r
 made-prints t b r h is_closed packless no_pack as_prefix opening integer reference_cost = record {
   left_text = λ c. (h c).left_text;
   right_text = λ c. (h c).right_text;
@@ -61,17 +63,18 @@ made-prints t b r h is_closed packless no_pack as_prefix opening integer referen
 }
 
 -- A pointer prints its type and a star.
-pub pointer-in : (c : Context) (extra : ℕ) (t : Term) (b : List ℕ) (r : Bool) → PrintsIn c extra t b r → PrintsIn c extra (pointer t) (b ++ codes "*") false
+pub pointer-in : {detail : Detail} (c : Context) (extra : ℕ) (t : Term) (b : List ℕ) (r : Bool) → PrintsIn detail c extra t b r
+    → PrintsIn detail c extra (pointer t) (b ++ codes "*") false
 unfolding parts_in left_parts right_parts not_empty head head_with is_reference is_funarr is_empty is_function_type is_void
-pointer-in c extra t b r p = record {
-  left_text = text_by left c (pointer t) (as_item left c t ∷ says "*" ∷ []) (marked c t "*" p.is_funarr_head) ∙ ap (λ s. s ++ codes "*") p.left_text;
-  right_text = text_by right c (pointer t) (as_item right c t ∷ []) (closing c t p.is_funarr_head) ∙ ap (λ s. s ++ []) p.right_text;
+pointer-in {detail} c extra t b r p = record {
+  left_text = text_shown detail left c (pointer t) (as_item left c t ∷ says "*" ∷ []) (marked c t "*" p.is_funarr_head) ∙ ap (λ s. s ++ codes "*") p.left_text;
+  right_text = text_shown detail right c (pointer t) (as_item right c t ∷ []) (closing c t p.is_funarr_head) ∙ ap (λ s. s ++ []) p.right_text;
   cost = omega (
     arith,
     p.cost,
     length-append b (codes "*"),
-    cost_by left c (pointer t) (as_item left c t ∷ says "*" ∷ []) (marked c t "*" p.is_funarr_head),
-    cost_by right c (pointer t) (as_item right c t ∷ []) (closing c t p.is_funarr_head),
+    cost_shown detail left c (pointer t) (as_item left c t ∷ says "*" ∷ []) (marked c t "*" p.is_funarr_head),
+    cost_shown detail right c (pointer t) (as_item right c t ∷ []) (closing c t p.is_funarr_head),
   );
   is_reference_head = refl;
   is_funarr_head = refl;
@@ -81,40 +84,41 @@ pointer-in c extra t b r p = record {
 }
 
 -- It does so anywhere.
-pub pointer-prints : (t : Term) (b : List ℕ) (r : Bool) → Prints t b r → Prints (pointer t) (b ++ codes "*") false
+pub pointer-prints : {detail : Detail} (t : Term) (b : List ℕ) (r : Bool) → Prints detail t b r → Prints detail (pointer t) (b ++ codes "*") false
 unfolding is_open pack_length length_if_pack prefix_item last_piece opening_text is_plain_integer
 pointer-prints t b r p =
     made-prints (pointer t) (b ++ codes "*") false (λ c. pointer-in c 0 t b r (prints-in c 0 t b r p)) p.is_closed p.packless refl (λ c. refl) refl (λ e. cc e)
     (λ e. cc e)
 
 -- An lvalue reference costs one less than its text allows.
-lvalue-cost : (c : Context) (t : Term) (b : List ℕ) → Prints t b false
-    → 2 + cost_of (in_form left c (lvalue t)) + cost_of (in_form right c (lvalue t)) ≤ 4 * length (b ++ codes "&")
+lvalue-cost : {detail : Detail} (c : Context) (t : Term) (b : List ℕ) → Prints detail t b false
+    → 2 + cost_of (shown_in detail left c (lvalue t)) + cost_of (shown_in detail right c (lvalue t)) ≤ 4 * length (b ++ codes "&")
 unfolding parts_in left_parts right_parts not_empty
-lvalue-cost c t b p =
+lvalue-cost {detail} c t b p =
     omega (
       arith,
       p.cost c,
       length-append b (codes "&"),
-      cost_by left c (lvalue t) (as_item left c t ∷ says "&" ∷ []) (reference c low t "&" (p.is_reference_head c) (p.is_funarr_head c)),
-      cost_by right c (lvalue t) (as_item right c t ∷ []) (closing c t (p.is_funarr_head c)),
+      cost_shown detail left c (lvalue t) (as_item left c t ∷ says "&" ∷ []) (reference c low t "&" (p.is_reference_head c) (p.is_funarr_head c)),
+      cost_shown detail right c (lvalue t) (as_item right c t ∷ []) (closing c t (p.is_funarr_head c)),
     )
 
 -- An lvalue reference prints its type, which is no reference, and its mark.
-pub lvalue-in : (c : Context) (extra : ℕ) (t : Term) (b : List ℕ) → PrintsIn c extra t b false → PrintsIn c extra (lvalue t) (b ++ codes "&") true
+pub lvalue-in : {detail : Detail} (c : Context) (extra : ℕ) (t : Term) (b : List ℕ) → PrintsIn detail c extra t b false
+    → PrintsIn detail c extra (lvalue t) (b ++ codes "&") true
 unfolding parts_in left_parts right_parts not_empty head head_with is_reference is_funarr is_empty is_function_type is_void
-lvalue-in c extra t b p =
+lvalue-in {detail} c extra t b p =
     let ps = as_item left c t ∷ says "&" ∷ [] in
     let is = reference c low t "&" p.is_reference_head p.is_funarr_head in
     record {
-      left_text = text_by left c (lvalue t) ps is ∙ ap (λ s. s ++ codes "&") p.left_text;
-      right_text = text_by right c (lvalue t) (as_item right c t ∷ []) (closing c t p.is_funarr_head) ∙ ap (λ s. s ++ []) p.right_text;
+      left_text = text_shown detail left c (lvalue t) ps is ∙ ap (λ s. s ++ codes "&") p.left_text;
+      right_text = text_shown detail right c (lvalue t) (as_item right c t ∷ []) (closing c t p.is_funarr_head) ∙ ap (λ s. s ++ []) p.right_text;
       cost = omega (
         arith,
         p.cost,
         length-append b (codes "&"),
-        cost_by left c (lvalue t) ps is,
-        cost_by right c (lvalue t) (as_item right c t ∷ []) (closing c t p.is_funarr_head),
+        cost_shown detail left c (lvalue t) ps is,
+        cost_shown detail right c (lvalue t) (as_item right c t ∷ []) (closing c t p.is_funarr_head),
       );
       is_reference_head = refl;
       is_funarr_head = refl;
@@ -124,7 +128,7 @@ lvalue-in c extra t b p =
     }
 
 -- It does so anywhere.
-pub lvalue-prints : (t : Term) (b : List ℕ) → Prints t b false → Prints (lvalue t) (b ++ codes "&") true
+pub lvalue-prints : {detail : Detail} (t : Term) (b : List ℕ) → Prints detail t b false → Prints detail (lvalue t) (b ++ codes "&") true
 unfolding is_open pack_length length_if_pack prefix_item last_piece opening_text is_plain_integer
 lvalue-prints t b p =
     made-prints (lvalue t) (b ++ codes "&") true (λ c. lvalue-in c 0 t b (prints-in c 0 t b false p)) p.is_closed p.packless refl (λ c. refl) refl (λ e. cc e)
@@ -141,33 +145,34 @@ collapsed-no_function lref = refl
 collapsed-no_function _ = refl
 
 -- An rvalue reference costs so much less, too,
-rvalue-cost : (c : Context) (t : Term) (b : List ℕ) → Prints t b false
-    → 2 + cost_of (in_form left c (rvalue t)) + cost_of (in_form right c (rvalue t)) ≤ 4 * length (b ++ codes "&&")
+rvalue-cost : {detail : Detail} (c : Context) (t : Term) (b : List ℕ) → Prints detail t b false
+    → 2 + cost_of (shown_in detail left c (rvalue t)) + cost_of (shown_in detail right c (rvalue t)) ≤ 4 * length (b ++ codes "&&")
 unfolding parts_in left_parts right_parts not_empty
-rvalue-cost c t b p =
+rvalue-cost {detail} c t b p =
     omega (
       arith,
       p.cost c,
       length-append b (codes "&&"),
-      cost_by left c (rvalue t) (as_item left c t ∷ says "&&" ∷ []) (reference c left t "&&" (p.is_reference_head c) (p.is_funarr_head c)),
-      cost_by right c (rvalue t) (as_item right c t ∷ []) (closing c t (p.is_funarr_head c)),
+      cost_shown detail left c (rvalue t) (as_item left c t ∷ says "&&" ∷ []) (reference c left t "&&" (p.is_reference_head c) (p.is_funarr_head c)),
+      cost_shown detail right c (rvalue t) (as_item right c t ∷ []) (closing c t (p.is_funarr_head c)),
     )
 
 -- and prints its type and its mark.
-pub rvalue-in : (c : Context) (extra : ℕ) (t : Term) (b : List ℕ) → PrintsIn c extra t b false → PrintsIn c extra (rvalue t) (b ++ codes "&&") true
+pub rvalue-in : {detail : Detail} (c : Context) (extra : ℕ) (t : Term) (b : List ℕ) → PrintsIn detail c extra t b false
+    → PrintsIn detail c extra (rvalue t) (b ++ codes "&&") true
 unfolding parts_in left_parts right_parts not_empty head head_with is_empty is_function_type is_void
-rvalue-in c extra t b p =
+rvalue-in {detail} c extra t b p =
     let ps = as_item left c t ∷ says "&&" ∷ [] in
     let is = reference c left t "&&" p.is_reference_head p.is_funarr_head in
     record {
-      left_text = text_by left c (rvalue t) ps is ∙ ap (λ s. s ++ codes "&&") p.left_text;
-      right_text = text_by right c (rvalue t) (as_item right c t ∷ []) (closing c t p.is_funarr_head) ∙ ap (λ s. s ++ []) p.right_text;
+      left_text = text_shown detail left c (rvalue t) ps is ∙ ap (λ s. s ++ codes "&&") p.left_text;
+      right_text = text_shown detail right c (rvalue t) (as_item right c t ∷ []) (closing c t p.is_funarr_head) ∙ ap (λ s. s ++ []) p.right_text;
       cost = omega (
         arith,
         p.cost,
         length-append b (codes "&&"),
-        cost_by left c (rvalue t) ps is,
-        cost_by right c (rvalue t) (as_item right c t ∷ []) (closing c t p.is_funarr_head),
+        cost_shown detail left c (rvalue t) ps is,
+        cost_shown detail right c (rvalue t) (as_item right c t ∷ []) (closing c t p.is_funarr_head),
       );
       is_reference_head = collapsed-refers (head c t);
       is_funarr_head = collapsed-no_function (head c t);
@@ -177,7 +182,7 @@ rvalue-in c extra t b p =
     }
 
 -- It does so anywhere.
-pub rvalue-prints : (t : Term) (b : List ℕ) → Prints t b false → Prints (rvalue t) (b ++ codes "&&") true
+pub rvalue-prints : {detail : Detail} (t : Term) (b : List ℕ) → Prints detail t b false → Prints detail (rvalue t) (b ++ codes "&&") true
 unfolding is_open pack_length length_if_pack prefix_item last_piece opening_text is_plain_integer
 rvalue-prints t b p =
     made-prints (rvalue t) (b ++ codes "&&") true (λ c. rvalue-in c 0 t b (prints-in c 0 t b false p)) p.is_closed p.packless refl (λ c. refl) refl (λ e. cc e)
@@ -199,20 +204,21 @@ qualified_right-is c (function_type linkage noexcept ref returned parameters) e 
 qualified_right-is c t e = refl
 
 -- A constant type, which is no reference, prints the word after it.
-pub const-in : (c : Context) (extra : ℕ) (t : Term) (b : List ℕ) → PrintsIn c extra t b false → PrintsIn c extra (qualified constant t) (b ++ codes " const") false
+pub const-in : {detail : Detail} (c : Context) (extra : ℕ) (t : Term) (b : List ℕ) → PrintsIn detail c extra t b false
+    → PrintsIn detail c extra (qualified constant t) (b ++ codes " const") false
 unfolding parts_in left_parts right_parts not_empty head head_with is_empty is_function_type is_void
-const-in c extra t b p =
+const-in {detail} c extra t b p =
     let ps = as_item left c t ∷ says " const" ∷ [] in
     let is = qualified_left-is c t p.no_function p.is_reference_head p.is_funarr_head in
     record {
-      left_text = text_by left c (qualified constant t) ps is ∙ ap (λ s. s ++ codes " const") p.left_text;
-      right_text = text_by right c (qualified constant t) (as_item right c t ∷ []) (qualified_right-is c t p.no_function) ∙ ap (λ s. s ++ []) p.right_text;
+      left_text = text_shown detail left c (qualified constant t) ps is ∙ ap (λ s. s ++ codes " const") p.left_text;
+      right_text = text_shown detail right c (qualified constant t) (as_item right c t ∷ []) (qualified_right-is c t p.no_function) ∙ ap (λ s. s ++ []) p.right_text;
       cost = omega (
         arith,
         p.cost,
         length-append b (codes " const"),
-        cost_by left c (qualified constant t) ps is,
-        cost_by right c (qualified constant t) (as_item right c t ∷ []) (qualified_right-is c t p.no_function),
+        cost_shown detail left c (qualified constant t) ps is,
+        cost_shown detail right c (qualified constant t) (as_item right c t ∷ []) (qualified_right-is c t p.no_function),
       );
       is_reference_head = p.is_reference_head;
       is_funarr_head = p.is_funarr_head;
@@ -222,7 +228,7 @@ const-in c extra t b p =
     }
 
 -- It does so anywhere.
-pub const-prints : (t : Term) (b : List ℕ) → Prints t b false → Prints (qualified constant t) (b ++ codes " const") false
+pub const-prints : {detail : Detail} (t : Term) (b : List ℕ) → Prints detail t b false → Prints detail (qualified constant t) (b ++ codes " const") false
 unfolding is_open pack_length length_if_pack prefix_item last_piece opening_text is_plain_integer
 const-prints t b p =
     made-prints (qualified constant t) (b ++ codes " const") false (λ c. const-in c 0 t b (prints-in c 0 t b false p)) p.is_closed p.packless refl (λ c. refl) refl (λ e. cc e)
@@ -231,7 +237,7 @@ const-prints t b p =
 -- ## Types that name the argument of a function's template
 
 -- What prints in a context prints so as an element.
-pub type-element-in : (c : Context) (t : Term) (b : List ℕ) (r : Bool) → PrintsIn c 2 t b r → IsElementIn c 6 t b
+pub type-element-in : {detail : Detail} (c : Context) (t : Term) (b : List ℕ) (r : Bool) → PrintsIn detail c 2 t b r → IsElementIn detail c 6 t b
 type-element-in c t b r p = record {
   both_texts = rw (p.left_text, p.right_text) (append-nil b);
   cost = omega (arith, p.cost);
@@ -240,19 +246,19 @@ type-element-in c t b r p = record {
 }
 
 -- A parameter prints the argument that it names.
-pub parameter-in : (c : Context) (k : ℕ) (b : List ℕ) (r : Bool) → Prints (argument c k) b r → PrintsIn c 2 (parameter k) b r
+pub parameter-in : {detail : Detail} (c : Context) (k : ℕ) (b : List ℕ) (r : Bool) → Prints detail (argument c k) b r → PrintsIn detail c 2 (parameter k) b r
 unfolding parts_in left_parts right_parts not_empty head head_closed head_with argument is_reference is_funarr is_empty is_function_type is_void
-parameter-in c k b r p =
+parameter-in {detail} c k b r p =
     let t = parameter k in
     let a = argument c k in
     record {
-      left_text = text_by left c t (as_item left closed a ∷ []) refl ∙ append-nil (text_of (in_form left closed a)) ∙ p.left_text closed;
-      right_text = text_by right c t (as_item right closed a ∷ []) refl ∙ append-nil (text_of (in_form right closed a)) ∙ p.right_text closed;
+      left_text = text_shown detail left c t (as_item left closed a ∷ []) refl ∙ append-nil (text_of (shown_in detail left closed a)) ∙ p.left_text closed;
+      right_text = text_shown detail right c t (as_item right closed a ∷ []) refl ∙ append-nil (text_of (shown_in detail right closed a)) ∙ p.right_text closed;
       cost = omega (
         arith,
         p.cost closed,
-        cost_by left c t (as_item left closed a ∷ []) refl,
-        cost_by right c t (as_item right closed a ∷ []) refl,
+        cost_shown detail left c t (as_item left closed a ∷ []) refl,
+        cost_shown detail right c t (as_item right closed a ∷ []) refl,
       );
       is_reference_head = p.is_reference_head closed;
       is_funarr_head = p.is_funarr_head closed;
@@ -261,33 +267,33 @@ parameter-in c k b r p =
       void = λ e. cc e;
     }
 
-pub parameter-prints : (k : ℕ) → NamesArgument k (parameter k) [] false
+pub parameter-prints : {detail : Detail} (k : ℕ) → NamesArgument detail k (parameter k) [] false
 unfolding pack_length is_function_type
-parameter-prints k = record {
-  prints = λ c b p. subst (λ l. PrintsIn c 2 (parameter k) l false) (sym (append-nil b)) (parameter-in c k b false p);
+parameter-prints {detail} k = record {
+  prints = λ c b p. subst (λ l. PrintsIn detail c 2 (parameter k) l false) (sym (append-nil b)) (parameter-in c k b false p);
   packless = λ scope h. h;
   no_function = refl;
 }
 
 -- An rvalue reference to a reference prints what this does.
-pub rvalue-again : (c : Context) (b : List ℕ) → Prints (argument c 0) b true → PrintsIn c 3 (rvalue (parameter 0)) b true
+pub rvalue-again : {detail : Detail} (c : Context) (b : List ℕ) → Prints detail (argument c 0) b true → PrintsIn detail c 3 (rvalue (parameter 0)) b true
 unfolding parts_in left_parts right_parts not_empty head head_closed head_with argument is_empty is_function_type is_void reference_parts closing_right
-rvalue-again c b p =
+rvalue-again {detail} c b p =
     let u = parameter 0 in
     let a = argument c 0 in
     let inner = parameter-in c 0 b true p in
     let ps = as_item left c u ∷ [] in
     let is : reference_parts c left u "&&" ≡ ps = rw (p.is_reference_head closed, reference_parts) refl in
     record {
-      left_text = text_by left c (rvalue u) ps is ∙ append-nil (text_of (in_form left c u)) ∙ inner.left_text;
-      right_text = text_by right c (rvalue u) (as_item right c u ∷ []) (closing c u inner.is_funarr_head) ∙ append-nil (text_of (in_form right c u)) ∙ inner.right_text;
+      left_text = text_shown detail left c (rvalue u) ps is ∙ append-nil (text_of (shown_in detail left c u)) ∙ inner.left_text;
+      right_text = text_shown detail right c (rvalue u) (as_item right c u ∷ []) (closing c u inner.is_funarr_head) ∙ append-nil (text_of (shown_in detail right c u)) ∙ inner.right_text;
       cost = omega (
         arith,
         p.reference_cost refl closed,
-        cost_by left c u (as_item left closed a ∷ []) refl,
-        cost_by right c u (as_item right closed a ∷ []) refl,
-        cost_by left c (rvalue u) ps is,
-        cost_by right c (rvalue u) (as_item right c u ∷ []) (closing c u inner.is_funarr_head),
+        cost_shown detail left c u (as_item left closed a ∷ []) refl,
+        cost_shown detail right c u (as_item right closed a ∷ []) refl,
+        cost_shown detail left c (rvalue u) ps is,
+        cost_shown detail right c (rvalue u) (as_item right c u ∷ []) (closing c u inner.is_funarr_head),
       );
       is_reference_head = collapsed-refers (head c u);
       is_funarr_head = collapsed-no_function (head c u);
@@ -297,34 +303,36 @@ rvalue-again c b p =
     }
 
 -- With a mark after it a type that names the argument prints that too.
-pub pointer-behind : (k : ℕ) (t : Term) (m : List ℕ) (r : Bool) → NamesArgument k t m r → NamesArgument k (pointer t) (m ++ codes "*") false
+pub pointer-behind : {detail : Detail} (k : ℕ) (t : Term) (m : List ℕ) (r : Bool) → NamesArgument detail k t m r
+    → NamesArgument detail k (pointer t) (m ++ codes "*") false
 unfolding pack_length is_function_type
-pointer-behind k t m r h = record {
-  prints = λ c b p. subst (λ l. PrintsIn c 2 (pointer t) l false) (append_assoc b m (codes "*")) (pointer-in c 2 t (b ++ m) r (h.prints c b p));
+pointer-behind {detail} k t m r h = record {
+  prints = λ c b p. subst (λ l. PrintsIn detail c 2 (pointer t) l false) (append_assoc b m (codes "*")) (pointer-in c 2 t (b ++ m) r (h.prints c b p));
   packless = h.packless;
   no_function = refl;
 }
 
-pub lvalue-behind : (k : ℕ) (t : Term) (m : List ℕ) → NamesArgument k t m false → NamesArgument k (lvalue t) (m ++ codes "&") true
+pub lvalue-behind : {detail : Detail} (k : ℕ) (t : Term) (m : List ℕ) → NamesArgument detail k t m false → NamesArgument detail k (lvalue t) (m ++ codes "&") true
 unfolding pack_length is_function_type
-lvalue-behind k t m h = record {
-  prints = λ c b p. subst (λ l. PrintsIn c 2 (lvalue t) l true) (append_assoc b m (codes "&")) (lvalue-in c 2 t (b ++ m) (h.prints c b p));
+lvalue-behind {detail} k t m h = record {
+  prints = λ c b p. subst (λ l. PrintsIn detail c 2 (lvalue t) l true) (append_assoc b m (codes "&")) (lvalue-in c 2 t (b ++ m) (h.prints c b p));
   packless = h.packless;
   no_function = refl;
 }
 
-pub rvalue-behind : (k : ℕ) (t : Term) (m : List ℕ) → NamesArgument k t m false → NamesArgument k (rvalue t) (m ++ codes "&&") true
+pub rvalue-behind : {detail : Detail} (k : ℕ) (t : Term) (m : List ℕ) → NamesArgument detail k t m false → NamesArgument detail k (rvalue t) (m ++ codes "&&") true
 unfolding pack_length is_function_type
-rvalue-behind k t m h = record {
-  prints = λ c b p. subst (λ l. PrintsIn c 2 (rvalue t) l true) (append_assoc b m (codes "&&")) (rvalue-in c 2 t (b ++ m) (h.prints c b p));
+rvalue-behind {detail} k t m h = record {
+  prints = λ c b p. subst (λ l. PrintsIn detail c 2 (rvalue t) l true) (append_assoc b m (codes "&&")) (rvalue-in c 2 t (b ++ m) (h.prints c b p));
   packless = h.packless;
   no_function = refl;
 }
 
-pub const-behind : (k : ℕ) (t : Term) (m : List ℕ) → NamesArgument k t m false → NamesArgument k (qualified constant t) (m ++ codes " const") false
+pub const-behind : {detail : Detail} (k : ℕ) (t : Term) (m : List ℕ) → NamesArgument detail k t m false
+    → NamesArgument detail k (qualified constant t) (m ++ codes " const") false
 unfolding pack_length is_function_type
-const-behind k t m h = record {
-  prints = λ c b p. subst (λ l. PrintsIn c 2 (qualified constant t) l false) (append_assoc b m (codes " const")) (const-in c 2 t (b ++ m) (h.prints c b p));
+const-behind {detail} k t m h = record {
+  prints = λ c b p. subst (λ l. PrintsIn detail c 2 (qualified constant t) l false) (append_assoc b m (codes " const")) (const-in c 2 t (b ++ m) (h.prints c b p));
   packless = h.packless;
   no_function = refl;
 }

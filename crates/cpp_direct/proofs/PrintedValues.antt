@@ -1,4 +1,5 @@
 -- Arguments that are no types: booleans and integers.
+use Rattle.sym_print.specs.declared.detail.Detail.{Detail}
 use Rattle.std.proofs.Common.{◌≡◌, ◌≢◌, refl, ap, sym, ◌∙◌, ℕ, ◌+◌, ◌≤◌, List, [], ◌∷◌, ◌++◌, length, Bool, true, false, cond, nat_eq, arith, codes, length-append, append_assoc}
 use Rattle.sym_print.specs.Unfold.{PartOf, text}
 use Rattle.sym_print.specs.Unshared.{text_of, cost_of}
@@ -10,8 +11,8 @@ use Rattle.cpp_grammar.specs.Items.{left, right, Context, Item, head_with, head,
 use Rattle.cpp_grammar.specs.Values.{normal}
 use Rattle.cpp_grammar.specs.Meaning.{is_void}
 use Rattle.cpp_grammar.specs.Parts.{as_item, says, text_part, sign_part, is_plain_integer, builtin_code, integer_parts, prefix_item, last_piece, opening_text, left_parts, right_parts, parts_in, not_empty}
-use Rattle.cpp_direct.specs.Prints.{in_form, EndsAsInteger, Prints, sign_text}
-use Rattle.cpp_direct.proofs.PrintedParts.{printed_by, text_by, cost_by, text_alone, text_first, cost_first, text_append, cost_append, part-text, part-cost, length-filled}
+use Rattle.cpp_direct.specs.Prints.{shown_in, EndsAsInteger, Prints, sign_text}
+use Rattle.cpp_direct.proofs.PrintedParts.{shown_by, text_shown, cost_shown, alone_shown, first_shown, first_cost_shown, text_append, cost_append, part-text, part-cost, length-filled}
 use Rattle.cpp_direct.proofs.PrintedNames.{builtin-prints}
 
 boolean-filled : (b : Bool) → 2 ≤ length {A = ℕ} (cond b (codes "true") (codes "false"))
@@ -19,13 +20,13 @@ boolean-filled true = omega arith
 boolean-filled false = omega arith
 
 -- A boolean prints its word.
-pub boolean-prints : (b : Bool) → Prints (boolean b) (cond b (codes "true") (codes "false")) false
+pub boolean-prints : {detail : Detail} (b : Bool) → Prints detail (boolean b) (cond b (codes "true") (codes "false")) false
 unfolding parts_in left_parts right_parts not_empty head head_with is_reference is_funarr is_empty is_open pack_length is_function_type length_if_pack prefix_item
     last_piece opening_text is_void is_plain_integer
-boolean-prints b = let t = boolean b in let w : List ℕ = cond b (codes "true") (codes "false") in record {
-  left_text = λ c. text_by left c t (text w ∷ []) refl ∙ text_alone w;
-  right_text = λ c. text_by right c t [] refl;
-  cost = λ c. omega (arith, boolean-filled b, cost_first w [], cost_by left c t (text w ∷ []) refl, cost_by right c t [] refl);
+boolean-prints {detail} b = let t = boolean b in let w : List ℕ = cond b (codes "true") (codes "false") in record {
+  left_text = λ c. text_shown detail left c t (text w ∷ []) refl ∙ alone_shown detail w;
+  right_text = λ c. text_shown detail right c t [] refl;
+  cost = λ c. omega (arith, boolean-filled b, first_cost_shown detail w [], cost_shown detail left c t (text w ∷ []) refl, cost_shown detail right c t [] refl);
   is_reference_head = λ c. refl;
   is_funarr_head = λ c. refl;
   filled = λ c. refl;
@@ -42,19 +43,19 @@ boolean-prints b = let t = boolean b in let w : List ℕ = cond b (codes "true")
 
 -- ## Signs and digits
 
-sign-text : (n : Signed) → text_of (printed_by (sign_part n)) ≡ sign_text n
+sign-text : (detail : Detail) (n : Signed) → text_of (shown_by detail (sign_part n)) ≡ sign_text n
 unfolding sign_part not_empty
-sign-text n = go n.negative
+sign-text detail n = go n.negative
   where
-    go : (b : Bool) → text_of (printed_by (cond b (says "-" ∷ []) [])) ≡ cond b (codes "-") []
+    go : (b : Bool) → text_of (shown_by detail (cond b (says "-" ∷ []) [])) ≡ cond b (codes "-") []
     go true = refl
     go false = refl
 
-sign-cost : (n : Signed) → cost_of (printed_by (sign_part n)) ≡ 1 + length (sign_text n)
+sign-cost : (detail : Detail) (n : Signed) → cost_of (shown_by detail (sign_part n)) ≡ 1 + length (sign_text n)
 unfolding sign_part not_empty
-sign-cost n = go n.negative
+sign-cost detail n = go n.negative
   where
-    go : (b : Bool) → cost_of (printed_by (cond b (says "-" ∷ []) [])) ≡ 1 + length {A = ℕ} (cond b (codes "-") [])
+    go : (b : Bool) → cost_of (shown_by detail (cond b (says "-" ∷ []) [])) ≡ 1 + length {A = ℕ} (cond b (codes "-") [])
     go true = omega arith
     go false = omega arith
 
@@ -85,28 +86,28 @@ three : (x y z s d e : List ℕ) → x ≡ s → y ≡ d ++ z → z ≡ e → x 
 three x y z s d e f g h = rw (f, g, h) (sym (append_assoc s d e))
 
 -- An integer of a type that needs no cast prints its sign, its digits and the ending of its type.
-pub plain-integer-prints : (letter : ℕ) → is_plain_integer (builtin (letter ∷ [])) ≡ true → (n : Signed) → n.digits ≢ []
-    → Prints (integer (builtin (letter ∷ [])) n) (sign_text n ++ n.digits ++ look_up (letter ∷ []) literal_endings) false
+pub plain-integer-prints : {detail : Detail} (letter : ℕ) → is_plain_integer (builtin (letter ∷ [])) ≡ true → (n : Signed) → n.digits ≢ []
+    → Prints detail (integer (builtin (letter ∷ [])) n) (sign_text n ++ n.digits ++ look_up (letter ∷ []) literal_endings) false
 unfolding parts_in left_parts right_parts builtin_code not_empty head head_with is_reference is_funarr is_empty is_open pack_length
     is_function_type length_if_pack prefix_item last_piece opening_text is_void is_plain_integer
-plain-integer-prints letter plain n filled =
+plain-integer-prints {detail} letter plain n filled =
     let t = builtin (letter ∷ []) in
     let i = integer t n in
     let ending = look_up (letter ∷ []) literal_endings in
     let behind = text n.digits ∷ text_part ending in
     record {
-      left_text = λ c. text_by left c i (sign_part n ++ behind) (plain-is c t n plain) ∙ text_append (sign_part n) behind
-          ∙ three (text_of (printed_by (sign_part n))) (text_of (printed_by behind)) (text_of (printed_by (text_part ending)))
-          (sign_text n) n.digits ending (sign-text n) (text_first n.digits (text_part ending)) (part-text ending);
-      right_text = λ c. text_by right c i [] refl;
+      left_text = λ c. text_shown detail left c i (sign_part n ++ behind) (plain-is c t n plain) ∙ text_append detail (sign_part n) behind
+          ∙ three (text_of (shown_by detail (sign_part n))) (text_of (shown_by detail behind)) (text_of (shown_by detail (text_part ending)))
+          (sign_text n) n.digits ending (sign-text detail n) (first_shown detail n.digits (text_part ending)) (part-text detail ending);
+      right_text = λ c. text_shown detail right c i [] refl;
       cost = λ c. omega (
         arith,
-        cost_by left c i (sign_part n ++ behind) (plain-is c t n plain),
-        cost_append (sign_part n) behind,
-        sign-cost n,
-        cost_first n.digits (text_part ending),
-        part-cost ending,
-        cost_by right c i [] refl,
+        cost_shown detail left c i (sign_part n ++ behind) (plain-is c t n plain),
+        cost_append detail (sign_part n) behind,
+        sign-cost detail n,
+        first_cost_shown detail n.digits (text_part ending),
+        part-cost detail ending,
+        cost_shown detail right c i [] refl,
         length-filled n.digits filled,
         length-append (sign_text n ++ n.digits) ending,
         length-append (sign_text n) n.digits,
@@ -130,29 +131,29 @@ cast_text : (x r y z b s d : List ℕ) → x ≡ b → r ≡ [] → y ≡ s → 
 cast_text x r y z b s d e f g h = rw (e, f, g, h) (ap (λ u. u ++ s ++ d) (sym (append_assoc (codes "(") b (codes ")"))))
 
 -- An integer of another type prints its type in front.
-pub enumerator-prints : (t : Term) (b : List ℕ) (r : Bool) → Prints t b r → is_plain_integer t ≡ false → (n : Signed) → n.digits ≢ []
-    → Prints (integer t n) (codes "(" ++ b ++ codes ")" ++ sign_text n ++ n.digits) false
+pub enumerator-prints : {detail : Detail} (t : Term) (b : List ℕ) (r : Bool) → Prints detail t b r → is_plain_integer t ≡ false → (n : Signed) → n.digits ≢ []
+    → Prints detail (integer t n) (codes "(" ++ b ++ codes ")" ++ sign_text n ++ n.digits) false
 unfolding parts_in left_parts right_parts not_empty head head_with is_reference is_funarr is_empty is_open pack_length is_function_type length_if_pack prefix_item
     last_piece opening_text is_void is_plain_integer
-enumerator-prints t b r p cast n filled =
+enumerator-prints {detail} t b r p cast n filled =
     let i = integer t n in
     let front : Context → List (PartOf Item) = λ c. says "(" ∷ as_item left c t ∷ as_item right c t ∷ says ")" ∷ [] in
     record {
-      left_text = λ c. text_by left c i (front c ++ sign_part n ++ (text n.digits ∷ [])) (cast-is c t n cast)
-          ∙ text_append (front c ++ sign_part n) (text n.digits ∷ [])
-          ∙ ap (λ u. u ++ text_of (printed_by (text n.digits ∷ []))) (text_append (front c) (sign_part n))
-          ∙ cast_text (text_of (in_form left c t)) (text_of (in_form right c t)) (text_of (printed_by (sign_part n)))
-          (text_of (printed_by (text n.digits ∷ []))) b (sign_text n) n.digits (p.left_text c) (p.right_text c) (sign-text n) (text_alone n.digits);
-      right_text = λ c. text_by right c i [] refl;
+      left_text = λ c. text_shown detail left c i (front c ++ sign_part n ++ (text n.digits ∷ [])) (cast-is c t n cast)
+          ∙ text_append detail (front c ++ sign_part n) (text n.digits ∷ [])
+          ∙ ap (λ u. u ++ text_of (shown_by detail (text n.digits ∷ []))) (text_append detail (front c) (sign_part n))
+          ∙ cast_text (text_of (shown_in detail left c t)) (text_of (shown_in detail right c t)) (text_of (shown_by detail (sign_part n)))
+          (text_of (shown_by detail (text n.digits ∷ []))) b (sign_text n) n.digits (p.left_text c) (p.right_text c) (sign-text detail n) (alone_shown detail n.digits);
+      right_text = λ c. text_shown detail right c i [] refl;
       cost = λ c. omega (
         arith,
         p.cost c,
-        cost_by left c i (front c ++ sign_part n ++ (text n.digits ∷ [])) (cast-is c t n cast),
-        cost_append (front c ++ sign_part n) (text n.digits ∷ []),
-        cost_append (front c) (sign_part n),
-        sign-cost n,
-        cost_first n.digits [],
-        cost_by right c i [] refl,
+        cost_shown detail left c i (front c ++ sign_part n ++ (text n.digits ∷ [])) (cast-is c t n cast),
+        cost_append detail (front c ++ sign_part n) (text n.digits ∷ []),
+        cost_append detail (front c) (sign_part n),
+        sign-cost detail n,
+        first_cost_shown detail n.digits [],
+        cost_shown detail right c i [] refl,
         length-filled n.digits filled,
         length-append (codes "(" ++ b ++ codes ")" ++ sign_text n) n.digits,
         length-append (codes "(" ++ b ++ codes ")") (sign_text n),
@@ -174,14 +175,14 @@ enumerator-prints t b r p cast n filled =
     }
 
 -- and so does one of a builtin type
-pub cast-integer-prints : (letter : ℕ) → is_plain_integer (builtin (letter ∷ [])) ≡ false → look_up (letter ∷ []) builtin_texts ≢ []
+pub cast-integer-prints : {detail : Detail} (letter : ℕ) → is_plain_integer (builtin (letter ∷ [])) ≡ false → look_up (letter ∷ []) builtin_texts ≢ []
     → (n : Signed) → n.digits ≢ []
-    → Prints (integer (builtin (letter ∷ [])) n) (codes "(" ++ look_up (letter ∷ []) builtin_texts ++ codes ")" ++ sign_text n ++ n.digits) false
+    → Prints detail (integer (builtin (letter ∷ [])) n) (codes "(" ++ look_up (letter ∷ []) builtin_texts ++ codes ")" ++ sign_text n ++ n.digits) false
 cast-integer-prints letter cast there n filled =
     enumerator-prints (builtin (letter ∷ [])) (look_up (letter ∷ []) builtin_texts) false (builtin-prints letter there) cast n filled
 
 -- a type with another name is none whose integers are without it
-pub not-integer : (t : Term) (b : List ℕ) (r : Bool) → Prints t b r → (EndsAsInteger b → ⊥) → is_plain_integer t ≡ false
+pub not-integer : {detail : Detail} (t : Term) (b : List ℕ) (r : Bool) → Prints detail t b r → (EndsAsInteger b → ⊥) → is_plain_integer t ≡ false
 not-integer t b r p other = go (is_plain_integer t) refl
   where
     go : (is : Bool) → is_plain_integer t ≡ is → is_plain_integer t ≡ false

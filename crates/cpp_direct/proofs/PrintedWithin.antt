@@ -1,7 +1,7 @@
 -- Types that are in functions, and their names.
+use Rattle.sym_print.specs.declared.detail.Detail.{Detail}
 use Rattle.std.proofs.Common.{◌≡◌, refl, ap, sym, ◌∙◌, append_assoc, ℕ, ◌+◌, List, [], ◌∷◌, ◌++◌, length, false, arith, codes, length-append, append-nil}
 use Rattle.std.specs.Prelude.{decimal}
-use Rattle.sym_print.specs.declared.detail.Detail.TheVariants.{Full}
 use Rattle.sym_print.specs.Unfold.{text}
 use Rattle.sym_print.specs.Unshared.{text_of, cost_of}
 use Rattle.cpp_grammar.specs.Term.{Term, within, lambda, nil}
@@ -11,14 +11,14 @@ use Rattle.cpp_grammar.specs.Items.{bare, left, right, piece, first, Context, cl
 use Rattle.cpp_grammar.specs.Meaning.{is_void}
 use Rattle.cpp_grammar.specs.Parts.{as_item, says, list_part, prefix_item, last_piece, opening_text, piece_parts, within_parts, left_parts, entity_of, right_parts, parts_in, not_empty, is_plain_integer}
 use Rattle.cpp_direct.specs.HolesOfLocals.{Discriminator, local_in}
-use Rattle.cpp_direct.specs.Prints.{in_form, Prints, PrintsPiece, PrintAll, Encloses, list_of}
-use Rattle.cpp_direct.proofs.PrintedParts.{printed_by, text_by, cost_by, text_first, cost_first, text_append, cost_append}
+use Rattle.cpp_direct.specs.Prints.{shown_in, Prints, PrintsPiece, PrintAll, Encloses, list_of}
+use Rattle.cpp_direct.proofs.PrintedParts.{shown_by, text_shown, cost_shown, first_shown, first_cost_shown, text_append, cost_append}
 use Rattle.cpp_direct.proofs.PrintedFunctions.{closed-list, packless-list}
 use Rattle.cpp_direct.proofs.PrintedLists.{list-text, list-cost}
 use Rattle.cpp_direct.proofs.PrintedNests.{IsPiece, joins}
 
 -- a piece of a nested name is one
-pub piece-prints : (p : Term) (x : List ℕ) → IsPiece p x → opening_text p ≡ codes "<" → PrintsPiece p x
+pub piece-prints : {detail : Detail} (p : Term) (x : List ℕ) → IsPiece detail p x → opening_text p ≡ codes "<" → PrintsPiece detail p x
 piece-prints p x is opening = record {
   piece_text = is.piece_text;
   piece_cost = λ c. omega (arith, is.piece_cost c, is.filled);
@@ -32,21 +32,22 @@ lambda_text : (d t : List ℕ) → d ≡ t → codes "{lambda(" ++ (codes ")#" +
 lambda_text d t e = ap (λ l. codes "{lambda()#" ++ l ++ codes "}") e
 
 -- a lambda without parameters prints its number
-pub lambda-prints : (number : ℕ) (digits : List ℕ) → decimal number ≡ digits → PrintsPiece (lambda nil number) (codes "{lambda()#" ++ digits ++ codes "}")
+pub lambda-prints : {detail : Detail} (number : ℕ) (digits : List ℕ) → decimal number ≡ digits
+    → PrintsPiece detail (lambda nil number) (codes "{lambda()#" ++ digits ++ codes "}")
 unfolding parts_in piece_parts list_part within_parts not_empty is_open pack_length opening_text
-lambda-prints number digits is =
+lambda-prints {detail} number digits is =
     let l = lambda nil number in
     let last = says "}" ∷ [] in
     let third = text (decimal number) ∷ last in
     let second = says ")#" ∷ third in
     record {
-      piece_text = λ c. text_by piece c l (says "{lambda(" ∷ second) refl
-          ∙ ap (λ k. codes "{lambda(" ++ (codes ")#" ++ k)) (text_first (decimal number) last)
+      piece_text = λ c. text_shown detail piece c l (says "{lambda(" ∷ second) refl
+          ∙ ap (λ k. codes "{lambda(" ++ (codes ")#" ++ k)) (first_shown detail (decimal number) last)
           ∙ lambda_text (decimal number) digits is;
       piece_cost = λ c. omega (
         arith,
-        cost_by piece c l (says "{lambda(" ∷ second) refl,
-        cost_first (decimal number) last,
+        cost_shown detail piece c l (says "{lambda(" ∷ second) refl,
+        first_cost_shown detail (decimal number) last,
         ap length is,
         length-append (codes "{lambda()#" ++ digits) (codes "}"),
         length-append (codes "{lambda()#") digits,
@@ -63,27 +64,27 @@ list-bracketed x d l t e f =
     rw (e, f) (sym (append_assoc (codes "{lambda(" ++ l) (codes ")#") (t ++ codes "}")) ∙ sym (append_assoc (codes "{lambda(" ++ l ++ codes ")#") t (codes "}")))
 
 -- one with parameters prints these too
-pub lambda-list-prints : (ts : List Term) (l : List ℕ) → PrintAll 0 ts l → (number : ℕ) (digits : List ℕ) → decimal number ≡ digits
-    → PrintsPiece (lambda (list_of ts) number) (codes "{lambda(" ++ l ++ codes ")#" ++ digits ++ codes "}")
+pub lambda-list-prints : {detail : Detail} (ts : List Term) (l : List ℕ) → PrintAll detail 0 ts l → (number : ℕ) (digits : List ℕ) → decimal number ≡ digits
+    → PrintsPiece detail (lambda (list_of ts) number) (codes "{lambda(" ++ l ++ codes ")#" ++ digits ++ codes "}")
 unfolding parts_in piece_parts within_parts not_empty is_open pack_length opening_text
-lambda-list-prints ts l all number digits is =
+lambda-list-prints {detail} ts l all number digits is =
     let t = lambda (list_of ts) number in
     let last = says "}" ∷ [] in
     let behind = says ")#" ∷ text (decimal number) ∷ last in
     record {
       piece_text = λ c.
           let front = says "{lambda(" ∷ list_part first c (list_of ts) in
-          text_by piece c t (front ++ behind) refl ∙ text_append front behind
-          ∙ ap (λ k. text_of (printed_by front) ++ (codes ")#" ++ k)) (text_first (decimal number) last)
-          ∙ list-bracketed (text_of (printed_by (list_part first c (list_of ts)))) (decimal number) l digits (list-text c 0 ts l all) is;
+          text_shown detail piece c t (front ++ behind) refl ∙ text_append detail front behind
+          ∙ ap (λ k. text_of (shown_by detail front) ++ (codes ")#" ++ k)) (first_shown detail (decimal number) last)
+          ∙ list-bracketed (text_of (shown_by detail (list_part first c (list_of ts)))) (decimal number) l digits (list-text detail c 0 ts l all) is;
       piece_cost = λ c.
           let front = says "{lambda(" ∷ list_part first c (list_of ts) in
           omega (
             arith,
-            cost_by piece c t (front ++ behind) refl,
-            cost_append front behind,
-            list-cost c 0 ts l (omega arith) all,
-            cost_first (decimal number) last,
+            cost_shown detail piece c t (front ++ behind) refl,
+            cost_append detail front behind,
+            list-cost detail c 0 ts l (omega arith) all,
+            first_cost_shown detail (decimal number) last,
             ap length is,
             length-append (codes "{lambda(" ++ l ++ codes ")#" ++ digits) (codes "}"),
             length-append (codes "{lambda(" ++ l ++ codes ")#") digits,
@@ -91,45 +92,45 @@ lambda-list-prints ts l all number digits is =
             length-append (codes "{lambda(") l,
           );
       as_component = λ c u. refl;
-      is_closed = closed-list ts l all;
-      packless = λ scope. packless-list scope ts l all;
+      is_closed = closed-list detail ts l all;
+      packless = λ scope. packless-list detail scope ts l all;
       opening = refl;
     }
 
-within-text : (c : Context) (e : Term) (b : List ℕ) → Encloses Full e b → (p : Term) (n : List ℕ) → PrintsPiece p n
-    → text_of (in_form left c (within e p)) ≡ b ++ codes "::" ++ n
+within-text : {detail : Detail} (c : Context) (e : Term) (b : List ℕ) → Encloses detail e b → (p : Term) (n : List ℕ) → PrintsPiece detail p n
+    → text_of (shown_in detail left c (within e p)) ≡ b ++ codes "::" ++ n
 unfolding parts_in left_parts not_empty
-within-text c e b h p n q =
-    text_by left c (within e p) (as_item bare closed e ∷ says "::" ∷ as_item piece c p ∷ [])
+within-text {detail} c e b h p n q =
+    text_shown detail left c (within e p) (as_item bare closed e ∷ says "::" ∷ as_item piece c p ∷ [])
     (q.as_component c e ∙ ap (λ i. i ∷ says "::" ∷ as_item piece c p ∷ []) (h.as_prefix c))
-    ∙ joins (text_of (in_form bare closed e)) (codes "::") (text_of (in_form piece c p)) b n h.bare_text (q.piece_text c)
+    ∙ joins (text_of (shown_in detail bare closed e)) (codes "::") (text_of (shown_in detail piece c p)) b n h.bare_text (q.piece_text c)
 
-within-cost : (c : Context) (e : Term) (b : List ℕ) → Encloses Full e b → (p : Term) (n : List ℕ) → PrintsPiece p n
-    → cost_of (in_form left c (within e p)) ≡ cost_of (in_form bare closed e) + 3 + cost_of (in_form piece c p)
+within-cost : {detail : Detail} (c : Context) (e : Term) (b : List ℕ) → Encloses detail e b → (p : Term) (n : List ℕ) → PrintsPiece detail p n
+    → cost_of (shown_in detail left c (within e p)) ≡ cost_of (shown_in detail bare closed e) + 3 + cost_of (shown_in detail piece c p)
 unfolding parts_in left_parts not_empty
-within-cost c e b h p n q =
+within-cost {detail} c e b h p n q =
     omega (
       arith,
-      cost_by left c (within e p) (as_item bare closed e ∷ says "::" ∷ as_item piece c p ∷ [])
+      cost_shown detail left c (within e p) (as_item bare closed e ∷ says "::" ∷ as_item piece c p ∷ [])
           (q.as_component c e ∙ ap (λ i. i ∷ says "::" ∷ as_item piece c p ∷ []) (h.as_prefix c)),
     )
 
 -- A type in a function prints the function and its own name.
-pub local-prints : (e : Term) (b : List ℕ) → Encloses Full e b → (p : Term) (n : List ℕ) → PrintsPiece p n → (digit : Discriminator)
-    → Prints (local_in e p digit) (b ++ codes "::" ++ n) false
+pub local-prints : {detail : Detail} (e : Term) (b : List ℕ) → Encloses detail e b → (p : Term) (n : List ℕ) → PrintsPiece detail p n → (digit : Discriminator)
+    → Prints detail (local_in e p digit) (b ++ codes "::" ++ n) false
 unfolding parts_in left_parts entity_of right_parts not_empty head head_with is_reference is_funarr is_empty is_open pack_length length_if_pack first_of is_function_type
     prefix_item last_piece is_void is_plain_integer
-local-prints e b h p n q digit = let t = local_in e p digit in record {
-  left_text = λ c. text_by left c t (as_item left c (within e p) ∷ []) refl ∙ append-nil (text_of (in_form left c (within e p)))
+local-prints {detail} e b h p n q digit = let t = local_in e p digit in record {
+  left_text = λ c. text_shown detail left c t (as_item left c (within e p) ∷ []) refl ∙ append-nil (text_of (shown_in detail left c (within e p)))
       ∙ within-text c e b h p n q;
-  right_text = λ c. text_by right c t [] refl;
+  right_text = λ c. text_shown detail right c t [] refl;
   cost = λ c. omega (
     arith,
     h.bare_cost,
     q.piece_cost c,
     within-cost c e b h p n q,
-    cost_by left c t (as_item left c (within e p) ∷ []) refl,
-    cost_by right c t [] refl,
+    cost_shown detail left c t (as_item left c (within e p) ∷ []) refl,
+    cost_shown detail right c t [] refl,
     length-append (b ++ codes "::") n,
     length-append b (codes "::"),
   );

@@ -1,4 +1,5 @@
 -- What a parameter of a template may name, and where it is.
+use Rattle.sym_print.specs.declared.detail.Detail.{Detail}
 use Rattle.std.proofs.Common.{◌≡◌, ℕ, zero, suc, ◌<◌, List, [], ◌∷◌, ◌++◌, slice_get, Some, None, arith, ap, sym, ◌∙◌, subst, append_assoc, refl, inl, inr, Bool, true, false}
 use Rattle.cpp_grammar.specs.Scope.{count, element, arguments_of, before_arguments, has_return_type, is_structor}
 use Rattle.cpp_grammar.specs.Term.{Term, instance}
@@ -22,7 +23,8 @@ placed-stays text more p bytes h = record {
 }
 
 -- and so do the arguments of a name
-pub arguments-stay : (text more : List ℕ) (a : Arguments) (name : Term) → HasArguments text a name → HasArguments (text ++ more) a name
+pub arguments-stay : {detail : Detail} (text more : List ℕ) (a : Arguments) (name : Term) → HasArguments detail text a name
+    → HasArguments detail (text ++ more) a name
 arguments-stay text more a name has k o = let h = has k o in record {
   bytes = h.bytes;
   placed = placed-stays text more (place_of a k) h.bytes h.placed;
@@ -36,7 +38,7 @@ arguments-stay text more a name has k o = let h = has k o in record {
 }
 
 -- also while they are read
-one-stays : (text more : List ℕ) (p : Argument) (k : ℕ) (ts : List Term) → IsAmong text p k ts → IsAmong (text ++ more) p k ts
+one-stays : {detail : Detail} (text more : List ℕ) (p : Argument) (k : ℕ) (ts : List Term) → IsAmong detail text p k ts → IsAmong detail (text ++ more) p k ts
 one-stays text more p k ts h = record {
   bytes = h.bytes;
   placed = placed-stays text more p h.bytes h.placed;
@@ -45,11 +47,13 @@ one-stays text more p k ts h = record {
   prints = h.prints;
 }
 
-pub among-stay : (text more : List ℕ) (is_pack : Bool) (a : Arguments) (ts : List Term) → AreAmong text is_pack a ts → AreAmong (text ++ more) is_pack a ts
+pub among-stay : {detail : Detail} (text more : List ℕ) (is_pack : Bool) (a : Arguments) (ts : List Term) → AreAmong detail text is_pack a ts
+    → AreAmong detail (text ++ more) is_pack a ts
 among-stay text more is_pack a ts known k o = let h = known k o in (one-stays text more (place_of a k) k ts h.0, h.1)
 
 -- and after the last of them
-pub known-stay : (text more : List ℕ) (a : Arguments) (ts : List Term) (tail : Term) → AreKnown text a ts tail → AreKnown (text ++ more) a ts tail
+pub known-stay : {detail : Detail} (text more : List ℕ) (a : Arguments) (ts : List Term) (tail : Term) → AreKnown detail text a ts tail
+    → AreKnown detail (text ++ more) a ts tail
 known-stay text more a ts tail known k o = elim (known k o) [
   | inl h ↦ inl (h.0, one-stays text more (place_of a k) k ts h.1)
   | inr h ↦ inr (h.0, h.1, h.2, h.3, one-stays text more (place_of a k) k h.1 h.4)
@@ -72,8 +76,8 @@ none-known (suc (suc (suc zero))) o = absurd (omega (arith, o))
 none-known (suc (suc (suc (suc k)))) o = absurd (omega (arith, o))
 
 -- and a function's
-pub function-stays : (text more : List ℕ) (p : Arguments) (mark : Mark) (make : Term → Term) (ts : List Term) (name texts : List ℕ)
-    → IsFunction text p mark make ts name texts → IsFunction (text ++ more) p mark make ts name texts
+pub function-stays : {detail : Detail} (text more : List ℕ) (p : Arguments) (mark : Mark) (make : Term → Term) (ts : List Term) (name texts : List ℕ)
+    → IsFunction detail text p mark make ts name texts → IsFunction detail (text ++ more) p mark make ts name texts
 function-stays text more p mark make ts name texts f = record {
   own = f.own;
   makes = f.makes;
@@ -83,8 +87,8 @@ function-stays text more p mark make ts name texts f = record {
 }
 
 -- and that of a function in which a type is
-pub enclosing-stays : (text more : List ℕ) (p : Arguments) (mark : Mark) (make : Term → Term) (ts : List Term) (name texts : List ℕ)
-    → IsEnclosing text p mark make ts name texts → IsEnclosing (text ++ more) p mark make ts name texts
+pub enclosing-stays : {detail : Detail} (text more : List ℕ) (p : Arguments) (mark : Mark) (make : Term → Term) (ts : List Term) (name texts : List ℕ)
+    → IsEnclosing detail text p mark make ts name texts → IsEnclosing detail (text ++ more) p mark make ts name texts
 enclosing-stays text more p mark make ts name texts f = record {
   own = f.own;
   returned = f.returned;
@@ -132,10 +136,11 @@ elements-there size a (suc (suc zero)) = refl
 elements-there size a (suc (suc (suc zero))) = refl
 elements-there size a (suc (suc (suc (suc k)))) = refl
 
-pub arguments-named : (text : List ℕ) (place : ℕ) (a : Arguments) (name : Term) → HasArguments text a name → HasArguments text (named_in place a) name
-arguments-named text place a name has k o =
+pub arguments-named : {detail : Detail} (text : List ℕ) (place : ℕ) (a : Arguments) (name : Term) → HasArguments detail text a name
+    → HasArguments detail text (named_in place a) name
+arguments-named {detail} text place a name has k o =
     let same = named-there place a k in
-    subst (λ (p : Argument). IsArgument text a.elements p k name) (sym same) (has k (subst IsKnown same o))
+    subst (λ (p : Argument). IsArgument detail text a.elements p k name) (sym same) (has k (subst IsKnown same o))
 
 -- elsewhere none does
 pub none-scoped : (around : Around) (open_ : List Open) → argument_of open_ ≡ None → IsScoped around open_

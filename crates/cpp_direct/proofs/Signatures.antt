@@ -1,4 +1,5 @@
 -- A writer within a function type: after its return type, between its parameters, and after it.
+use Rattle.sym_print.specs.declared.detail.Detail.{Detail}
 use Rattle.std.proofs.Common.{◌≡◌, ◌≢◌, inl, inr, ℕ, ◌+◌, ◌-◌, length, List, [], ◌∷◌, ◌++◌, reverse, Bool, true, false, Option, refl, ap, sym, take, ◌∙◌, subst, arith, codes, append_assoc, append-nil, nat_eq}
 use Rattle.std.specs.List.{ends_with}
 use Rattle.std.specs.Option.{OnSome, IfSome}
@@ -8,7 +9,7 @@ use Rattle.cpp_grammar.specs.Term.{Term, builtin, nil, list, pointer}
 use Rattle.cpp_grammar.specs.Values as values
 use Rattle.cpp_grammar.specs.Values.{Around, State, tree}
 use Rattle.cpp_grammar.specs.declared.kind.Kind.{Kind}
-use Rattle.cpp_direct.specs.Symbol.{Symbol}
+use Rattle.cpp_direct.specs.Symbol.{detail_of, Symbol}
 use Rattle.cpp_direct.specs.declared.open.Mark.{Mark}
 use Rattle.cpp_direct.specs.declared.open.Candidate.{Candidate}
 use Rattle.cpp_direct.specs.declared.open.Open.{Open}
@@ -39,11 +40,12 @@ use Rattle.cpp_direct.proofs.TypesRead.{by-step, given, popped}
 -- ## After the return type
 
 -- what is kept where a text is written
-kept : (old new : Direct) (more : List ℕ) (cs : List values.Candidate) → new.text.list.items ≡ old.text.list.items ++ more → new.candidates ≡ old.candidates
-    → AreCandidates old.text.list.items old.candidates.list.items cs → AreCandidates new.text.list.items new.candidates.list.items cs
-kept old new more cs text same p =
-    subst (λ l. AreCandidates l new.candidates.list.items cs) (sym text)
-    (subst (λ v. AreCandidates (old.text.list.items ++ more) v.list.items cs) (sym same) (candidates-stay old.text.list.items more old.candidates.list.items cs p))
+kept : (detail : Detail) (old new : Direct) (more : List ℕ) (cs : List values.Candidate) → new.text.list.items ≡ old.text.list.items ++ more
+    → new.candidates ≡ old.candidates
+    → AreCandidates detail old.text.list.items old.candidates.list.items cs → AreCandidates detail new.text.list.items new.candidates.list.items cs
+kept detail old new more cs text same p =
+    subst (λ l. AreCandidates detail l new.candidates.list.items cs) (sym text)
+    (subst (λ v. AreCandidates detail (old.text.list.items ++ more) v.list.items cs) (sym same) (candidates-stay detail old.text.list.items more old.candidates.list.items cs p))
 
 -- the parameters come
 pub signature-begins : (s : Symbol) (old new : Direct) (is_pointer : Bool) (p : IsReturned s old is_pointer)
@@ -53,7 +55,7 @@ signature-begins s old new is_pointer p text candidates waits at =
     let opening = opening_text is_pointer in
     record {
       state = p.state;
-      candidates = kept old new opening p.state.candidates text candidates p.candidates;
+      candidates = kept (detail_of s) old new opening p.state.candidates text candidates p.candidates;
       rest = p.rest;
       open_is = waits;
       outer = p.outer;
@@ -67,7 +69,7 @@ signature-begins s old new is_pointer p text candidates waits at =
       none = λ e. refl;
       some = λ e. absurd (false≢true (sym e));
       texts = [];
-      elements = none-print 0;
+      elements = none-print (detail_of s) 0;
       written = text ∙ ap (λ l. l ++ opening) p.written ∙ append_assoc p.front p.bytes opening ∙ sym (append-nil (p.front ++ (p.bytes ++ opening)));
       goes = subst (λ n. SignatureGoesOn s p.outer p.made_in is_pointer (λ l. plain_function p.returned l) n p.state) (sym at) p.goes;
       takes = p.takes;
@@ -110,7 +112,7 @@ another-next s old new is_pointer a one =
     let led = a.front ++ (a.bytes ++ opening_text is_pointer) in
     record {
       state = a.state;
-      candidates = candidates-written old new (codes ", ") a.state.candidates one a.candidates;
+      candidates = candidates-written (detail_of s) old new (codes ", ") a.state.candidates one a.candidates;
       rest = a.rest;
       open_is = ap (λ v. reverse v.list.items) one.waiting ∙ a.open_is;
       outer = a.outer;
@@ -227,8 +229,8 @@ reference-comes s old new o is_pointer is_lvalue from a begins stands is waits a
         let whole = signature-stands s old is_pointer a p.whole p.onward in
         record {
           state = a.state;
-          candidates = subst (λ v. AreCandidates v.list.items new.candidates.list.items a.state.candidates) (sym text)
-              (subst (λ v. AreCandidates old.text.list.items v.list.items a.state.candidates) (sym candidates) a.candidates);
+          candidates = subst (λ v. AreCandidates (detail_of s) v.list.items new.candidates.list.items a.state.candidates) (sym text)
+              (subst (λ v. AreCandidates (detail_of s) old.text.list.items v.list.items a.state.candidates) (sym candidates) a.candidates);
           is_before = (
             p.inner,
             p.around,
@@ -253,8 +255,8 @@ signature-closed s old new is_pointer is_first a ends apart text candidates wait
     let made = plain_function a.returned (list_with a.ts nil) in
     record {
       state = a.state;
-      candidates = subst (λ v. AreCandidates v.list.items new.candidates.list.items a.state.candidates) (sym text)
-          (subst (λ v. AreCandidates old.text.list.items v.list.items a.state.candidates) (sym candidates) a.candidates);
+      candidates = subst (λ v. AreCandidates (detail_of s) v.list.items new.candidates.list.items a.state.candidates) (sym text)
+          (subst (λ v. AreCandidates (detail_of s) old.text.list.items v.list.items a.state.candidates) (sym candidates) a.candidates);
       rest = a.rest;
       open_is = ap (λ v. reverse v.list.items) waits ∙ a.open_is;
       outer = a.outer;
@@ -281,10 +283,10 @@ signature-closed s old new is_pointer is_first a ends apart text candidates wait
     kept-apart true e = apart-behind (codes " (*)") (subst (λ b. old.text.list.items ≡ a.front ++ (a.bytes ++ opening_text b) ++ a.texts) e a.written)
     kept-apart false e = apart-behind (codes " ") (subst (λ b. old.text.list.items ≡ a.front ++ (a.bytes ++ opening_text b) ++ a.texts) e a.written)
 
-none-written : (l : List ℕ) → PrintAll 0 [] l → l ≡ []
-none-written l all = go all.0 all.1 all.2
+none-written : (detail : Detail) (l : List ℕ) → PrintAll detail 0 [] l → l ≡ []
+none-written detail l all = go all.0 all.1 all.2
   where
-    go : (texts : List (List ℕ)) → PrintEach 0 [] texts → joined texts ≡ l → l ≡ []
+    go : (texts : List (List ℕ)) → PrintEach detail 0 [] texts → joined texts ≡ l → l ≡ []
     go [] each is = sym is
     go (b ∷ bs) each is = absurd each
 
@@ -305,8 +307,8 @@ void-closed s old new is_pointer a stands text candidates waits at =
     (builtin-comes s Kind.ItemButRef p.around p.inner old.at a.state 118 tt refl p.awaits both.0) in
     record {
       state = a.state;
-      candidates = subst (λ x. AreCandidates x.list.items new.candidates.list.items a.state.candidates) (sym text)
-          (subst (λ x. AreCandidates old.text.list.items x.list.items a.state.candidates) (sym candidates) a.candidates);
+      candidates = subst (λ x. AreCandidates (detail_of s) x.list.items new.candidates.list.items a.state.candidates) (sym text)
+          (subst (λ x. AreCandidates (detail_of s) old.text.list.items x.list.items a.state.candidates) (sym candidates) a.candidates);
       rest = a.rest;
       open_is = ap (λ x. reverse x.list.items) waits ∙ a.open_is;
       outer = a.outer;
@@ -315,7 +317,7 @@ void-closed s old new is_pointer a stands text candidates waits at =
       front = a.front;
       bytes = a.bytes ++ opening;
       written = ap (λ x. x.list.items) text ∙ a.written
-          ∙ ap (λ l. a.front ++ (a.bytes ++ opening) ++ l) (none-written a.texts (subst (λ ts. PrintAll 0 ts a.texts) none a.elements))
+          ∙ ap (λ l. a.front ++ (a.bytes ++ opening) ++ l) (none-written (detail_of s) a.texts (subst (λ ts. PrintAll (detail_of s) 0 ts a.texts) none a.elements))
           ∙ append-nil (a.front ++ (a.bytes ++ opening));
       element = λ extra. void-function-element extra is_pointer a.returned a.bytes a.is_reference a.prints;
       comes = subst (λ n. Comes s a.outer (tree (pointed is_pointer made) true) n (with_pointed is_pointer a.made_in made a.state)) (omega (arith, at))
@@ -328,16 +330,17 @@ void-closed s old new is_pointer a stands text candidates waits at =
 -- ## Handed on
 
 -- one more candidate of which nothing is known
-pub one-hidden : (text : List ℕ) (ks : List Candidate) (cs : List values.Candidate) (c : values.Candidate) → AreCandidates text ks cs
-    → AreCandidates text (ks ++ hidden ∷ []) (cs ++ c ∷ [])
-one-hidden text ks cs c p = candidates-more text ks cs hidden c p (λ ordered. absurd (omega (arith, ordered)))
+pub one-hidden : (detail : Detail) (text : List ℕ) (ks : List Candidate) (cs : List values.Candidate) (c : values.Candidate) → AreCandidates detail text ks cs
+    → AreCandidates detail text (ks ++ hidden ∷ []) (cs ++ c ∷ [])
+one-hidden detail text ks cs c p = candidates-more text ks cs hidden c p (λ ordered. absurd (omega (arith, ordered)))
 
-pub hidden-candidates : (w : Direct) (is_pointer : Bool) (text : List ℕ) (made_in : Around) (t : Term) (st : State) → AreCandidates text w.candidates.list.items st.candidates
-    → AreCandidates text (with_hidden w is_pointer) (with_pointed is_pointer made_in t st).candidates
-hidden-candidates w true text made_in t st p =
-    one-hidden text (w.candidates.list.items ++ hidden ∷ []) (with_candidate made_in t st).candidates (candidate made_in (pointer t))
-    (one-hidden text w.candidates.list.items st.candidates (candidate made_in t) p)
-hidden-candidates w false text made_in t st p = one-hidden text w.candidates.list.items st.candidates (candidate made_in t) p
+pub hidden-candidates : (detail : Detail) (w : Direct) (is_pointer : Bool) (text : List ℕ) (made_in : Around) (t : Term) (st : State)
+    → AreCandidates detail text w.candidates.list.items st.candidates
+    → AreCandidates detail text (with_hidden w is_pointer) (with_pointed is_pointer made_in t st).candidates
+hidden-candidates detail w true text made_in t st p =
+    one-hidden detail text (w.candidates.list.items ++ hidden ∷ []) (with_candidate made_in t st).candidates (candidate made_in (pointer t))
+    (one-hidden detail text w.candidates.list.items st.candidates (candidate made_in t) p)
+hidden-candidates detail w false text made_in t st p = one-hidden detail text w.candidates.list.items st.candidates (candidate made_in t) p
 
 -- they are added to the candidates as they were
 pub hidden-behind : (old new : Direct) (is_pointer : Bool) → new.candidates ≡ old.candidates → with_hidden new is_pointer ≡ with_hidden old is_pointer
@@ -360,10 +363,10 @@ function-handed s old new is_pointer p text candidates waits at =
     let then_ = with_pointed is_pointer p.made_in p.made p.state in
     record {
       state = then_;
-      candidates = subst (λ l. AreCandidates l new.candidates.list.items then_.candidates) (sym text)
-          (subst (λ l. AreCandidates (old.text.list.items ++ codes ")") l then_.candidates) (sym candidates)
-          (hidden-candidates old is_pointer (old.text.list.items ++ codes ")") p.made_in p.made p.state
-          (candidates-stay old.text.list.items (codes ")") old.candidates.list.items p.state.candidates p.candidates)));
+      candidates = subst (λ l. AreCandidates (detail_of s) l new.candidates.list.items then_.candidates) (sym text)
+          (subst (λ l. AreCandidates (detail_of s) (old.text.list.items ++ codes ")") l then_.candidates) (sym candidates)
+          (hidden-candidates (detail_of s) old is_pointer (old.text.list.items ++ codes ")") p.made_in p.made p.state
+          (candidates-stay (detail_of s) old.text.list.items (codes ")") old.candidates.list.items p.state.candidates p.candidates)));
       os = p.outer;
       own = own;
       front = p.front;

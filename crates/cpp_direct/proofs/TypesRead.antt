@@ -14,7 +14,7 @@ use Rattle.cpp_grammar.specs.Texts.{Naming, look_up, builtin_texts, abbreviation
 use Rattle.cpp_grammar.specs.Parts.{source_text}
 use Rattle.cpp_grammar.specs.Values.{State, tree}
 use Rattle.cpp_grammar.specs.Between.{after, inside, no_items}
-use Rattle.cpp_direct.specs.Symbol.{Symbol}
+use Rattle.cpp_direct.specs.Symbol.{detail_of, Symbol}
 use Rattle.cpp_direct.specs.Bytes.{is_builtin, is_builtin_with_d, is_abbreviated}
 use Rattle.cpp_direct.specs.Letters.{builtin_letters, builtin_letters_with_d, abbreviation_letters}
 use Rattle.cpp_direct.specs.declared.open.Candidate.{Candidate}
@@ -78,10 +78,10 @@ mark-done s old new mark from r a waits text candidates at =
     let state : State = with_candidate a.made_in a.made a.state in
     record {
       state = state;
-      candidates = subst (λ l. AreCandidates new.text.list.items l state.candidates) (sym candidates)
+      candidates = subst (λ l. AreCandidates (detail_of s) new.text.list.items l state.candidates) (sym candidates)
           (candidates-added new.text.list.items old.candidates.list.items a.state.candidates a.front (a.bytes ++ mark) from a.made a.made_in r
-          (subst (λ l. AreCandidates l old.candidates.list.items a.state.candidates) (sym text)
-          (candidates-stay old.text.list.items mark old.candidates.list.items a.state.candidates a.candidates)) written a.from_is a.prints);
+          (subst (λ l. AreCandidates (detail_of s) l old.candidates.list.items a.state.candidates) (sym text)
+          (candidates-stay (detail_of s) old.text.list.items mark old.candidates.list.items a.state.candidates a.candidates)) written a.from_is a.prints);
       is_before = (
         a.outer,
         a.made,
@@ -108,14 +108,14 @@ mark-answer s old mid new mark from r a waits text candidates at more same_text 
 
 named-candidates : (s : Symbol) (old new : Direct) (from : ℕ) (listed r : Bool) (a : IsTypeNamed s old from listed r)
     → new.candidates.list.items ≡ added_unless old listed from
-    → AreCandidates old.text.list.items new.candidates.list.items (unless_listed listed a.around a.own a.state).candidates
+    → AreCandidates (detail_of s) old.text.list.items new.candidates.list.items (unless_listed listed a.around a.own a.state).candidates
 named-candidates s old new from true r a candidates =
-    subst (λ l. AreCandidates old.text.list.items l a.state.candidates) (sym candidates) a.candidates
+    subst (λ l. AreCandidates (detail_of s) old.text.list.items l a.state.candidates) (sym candidates) a.candidates
 named-candidates s old new from false r a candidates =
     let state : State = with_candidate a.around a.own a.state in
-    subst (λ l. AreCandidates old.text.list.items l state.candidates) (sym candidates)
+    subst (λ l. AreCandidates (detail_of s) old.text.list.items l state.candidates) (sym candidates)
     (candidates-added old.text.list.items old.candidates.list.items a.state.candidates a.front a.bytes from a.own a.around false a.candidates a.written
-    a.from_is (subst (λ b. Prints a.own a.bytes b) (a.no_reference refl) a.prints))
+    a.from_is (subst (λ b. Prints (detail_of s) a.own a.bytes b) (a.no_reference refl) a.prints))
 
 -- nothing comes after the name of a type
 pub bare-done : (s : Symbol) (old new : Direct) (from : ℕ) (listed r : Bool) → IsTypeNamed s old from listed r
@@ -126,7 +126,7 @@ bare-done s old new from listed r a waits text candidates at =
     let state : State = unless_listed listed a.around a.own a.state in
     record {
       state = state;
-      candidates = subst (λ l. AreCandidates l new.candidates.list.items state.candidates) (sym text)
+      candidates = subst (λ l. AreCandidates (detail_of s) l new.candidates.list.items state.candidates) (sym text)
           (named-candidates s old new from listed r a candidates);
       is_before = (
         a.outer,
@@ -151,8 +151,8 @@ argued-done s old new from listed a stands waits text candidates at =
     let o = arguments-open s a.named.inner a.around a.own listed old.at a.state a.named.awaits stands in
     record {
       state = state;
-      candidates = subst (λ l. AreCandidates l new.candidates.list.items state.candidates) (sym text)
-          (candidates-stay old.text.list.items (codes "<") new.candidates.list.items state.candidates
+      candidates = subst (λ l. AreCandidates (detail_of s) l new.candidates.list.items state.candidates) (sym text)
+          (candidates-stay (detail_of s) old.text.list.items (codes "<") new.candidates.list.items state.candidates
           (named-candidates s old new from listed false a candidates));
       is_before = arguments-begun s new state (opens.TypeArguments from) (reverse old.waiting.list.items) a.front a.bytes a.own
           (ap reverse waits ∙ reverse-last old.waiting.list.items (opens.TypeArguments from)) (a.from_is, a.prints)
@@ -310,9 +310,9 @@ builtin-done s old new letter a stands has text candidates waits at =
     let bytes : List ℕ = look_up (letter ∷ []) builtin_texts in
     record {
       state = a.state;
-      candidates = subst (λ l. AreCandidates new.text.list.items l a.state.candidates) (sym candidates)
-          (subst (λ l. AreCandidates l old.candidates.list.items a.state.candidates) (sym text)
-          (candidates-stay old.text.list.items bytes old.candidates.list.items a.state.candidates a.candidates));
+      candidates = subst (λ l. AreCandidates (detail_of s) new.text.list.items l a.state.candidates) (sym candidates)
+          (subst (λ l. AreCandidates (detail_of s) l old.candidates.list.items a.state.candidates) (sym text)
+          (candidates-stay (detail_of s) old.text.list.items bytes old.candidates.list.items a.state.candidates a.candidates));
       is_before = (
         a.os,
         builtin (letter ∷ []),
@@ -340,9 +340,9 @@ builtin-with-d-done s old new letter a first stands is text candidates waits at 
     let bytes : List ℕ = look_up (68 ∷ letter ∷ []) builtin_texts in
     record {
       state = a.state;
-      candidates = subst (λ v. AreCandidates new.text.list.items v.list.items a.state.candidates) (sym candidates)
-          (subst (λ l. AreCandidates l old.candidates.list.items a.state.candidates) (sym text)
-          (candidates-stay old.text.list.items bytes old.candidates.list.items a.state.candidates a.candidates));
+      candidates = subst (λ v. AreCandidates (detail_of s) new.text.list.items v.list.items a.state.candidates) (sym candidates)
+          (subst (λ l. AreCandidates (detail_of s) l old.candidates.list.items a.state.candidates) (sym text)
+          (candidates-stay (detail_of s) old.text.list.items bytes old.candidates.list.items a.state.candidates a.candidates));
       is_before = (
         a.os,
         builtin (68 ∷ letter ∷ []),
@@ -379,7 +379,7 @@ pub source-named : (s : Symbol) (old new : Direct) (from : ℕ) (name : List ℕ
     → Reads old new (source_text name) → from ≡ length old.text.list.items → IsTypeNamed s new from false false
 source-named s old new from name a is some reads begins = record {
   state = a.state;
-  candidates = candidates-read old new (source_text name) a.state.candidates reads a.candidates;
+  candidates = candidates-read (detail_of s) old new (source_text name) a.state.candidates reads a.candidates;
   around = a.around;
   outside = a.outside;
   outer = a.os;
@@ -401,10 +401,10 @@ pub std-named : (s : Symbol) (old mid new : Direct) (from : ℕ) (name : List �
     → IsNameAt s.bytes mid.at name new.at → name ≢ [] → Reads mid new (source_text name) → from ≡ length old.text.list.items → IsTypeNamed s new from false false
 std-named s old mid new from name a s_stands t_stands text candidates waits at is some reads begins = record {
   state = a.state;
-  candidates = candidates-read mid new (source_text name) a.state.candidates reads
-      (subst (λ v. AreCandidates mid.text.list.items v.list.items a.state.candidates) (sym candidates)
-      (subst (λ l. AreCandidates l old.candidates.list.items a.state.candidates) (sym text)
-      (candidates-stay old.text.list.items (codes "std::") old.candidates.list.items a.state.candidates a.candidates)));
+  candidates = candidates-read (detail_of s) mid new (source_text name) a.state.candidates reads
+      (subst (λ v. AreCandidates (detail_of s) mid.text.list.items v.list.items a.state.candidates) (sym candidates)
+      (subst (λ l. AreCandidates (detail_of s) l old.candidates.list.items a.state.candidates) (sym text)
+      (candidates-stay (detail_of s) old.text.list.items (codes "std::") old.candidates.list.items a.state.candidates a.candidates)));
   around = a.around;
   outside = a.outside;
   outer = a.os;
@@ -430,9 +430,9 @@ abbreviation-named s old new from letter a s_stands stands has text candidates w
     let bytes : List ℕ = look_up (letter ∷ []) abbreviation_texts in
     record {
       state = a.state;
-      candidates = subst (λ v. AreCandidates new.text.list.items v.list.items a.state.candidates) (sym candidates)
-          (subst (λ l. AreCandidates l old.candidates.list.items a.state.candidates) (sym text)
-          (candidates-stay old.text.list.items bytes old.candidates.list.items a.state.candidates a.candidates));
+      candidates = subst (λ v. AreCandidates (detail_of s) new.text.list.items v.list.items a.state.candidates) (sym candidates)
+          (subst (λ l. AreCandidates (detail_of s) l old.candidates.list.items a.state.candidates) (sym text)
+          (candidates-stay (detail_of s) old.text.list.items bytes old.candidates.list.items a.state.candidates a.candidates));
       around = a.around;
       outside = a.outside;
       outer = a.os;
@@ -469,9 +469,9 @@ substitution-named s old new from digits k a stands is ordered found text candid
     let prints = plainly-prints k c.0 c.2.bytes plain c.2.prints in
     record {
       state = a.state;
-      candidates = subst (λ v. AreCandidates new.text.list.items v.list.items a.state.candidates) (sym candidates)
-          (subst (λ l. AreCandidates l old.candidates.list.items a.state.candidates) (sym written)
-          (candidates-stay old.text.list.items c.2.bytes old.candidates.list.items a.state.candidates a.candidates));
+      candidates = subst (λ v. AreCandidates (detail_of s) new.text.list.items v.list.items a.state.candidates) (sym candidates)
+          (subst (λ l. AreCandidates (detail_of s) l old.candidates.list.items a.state.candidates) (sym written)
+          (candidates-stay (detail_of s) old.text.list.items c.2.bytes old.candidates.list.items a.state.candidates a.candidates));
       around = a.around;
       outside = a.outside;
       outer = a.os;
@@ -495,8 +495,8 @@ named-again s old new digits k a stands is ordered found text candidates waits d
   before = old.at;
   awaits = record {
     state = a.state;
-    candidates = subst (λ v. AreCandidates new.text.list.items v.list.items a.state.candidates) (sym candidates)
-        (subst (λ l. AreCandidates l old.candidates.list.items a.state.candidates) (sym text) a.candidates);
+    candidates = subst (λ v. AreCandidates (detail_of s) new.text.list.items v.list.items a.state.candidates) (sym candidates)
+        (subst (λ l. AreCandidates (detail_of s) l old.candidates.list.items a.state.candidates) (sym text) a.candidates);
     kind = a.kind;
     is_named = a.is_named;
     around = a.around;
@@ -527,8 +527,8 @@ pub type-opened : (s : Symbol) (old new : Direct) (o : Option Step) (entry : Ope
 type-opened s old new o entry from made a t begins stands scoped is waits at text candidates = by-step o steps.Type (IsWriting s new) is (λ e.
     record {
       state = a.state;
-      candidates = subst (λ v. AreCandidates new.text.list.items v.list.items a.state.candidates) (sym candidates)
-          (subst (λ v. AreCandidates v.list.items old.candidates.list.items a.state.candidates) (sym text) a.candidates);
+      candidates = subst (λ v. AreCandidates (detail_of s) new.text.list.items v.list.items a.state.candidates) (sym candidates)
+          (subst (λ v. AreCandidates (detail_of s) v.list.items old.candidates.list.items a.state.candidates) (sym text) a.candidates);
       is_before = (
         t.inner,
         a.around,
@@ -586,8 +586,8 @@ plain-opened s old new o from a may begins stands is waits at text candidates =
     by-step o steps.Plain (IsWriting s new) is (λ e.
     record {
       state = a.state;
-      candidates = subst (λ v. AreCandidates new.text.list.items v.list.items a.state.candidates) (sym candidates)
-          (subst (λ v. AreCandidates v.list.items old.candidates.list.items a.state.candidates) (sym text) a.candidates);
+      candidates = subst (λ v. AreCandidates (detail_of s) new.text.list.items v.list.items a.state.candidates) (sym candidates)
+          (subst (λ v. AreCandidates (detail_of s) v.list.items old.candidates.list.items a.state.candidates) (sym text) a.candidates);
       is_before = (
         t.inner,
         a.around,

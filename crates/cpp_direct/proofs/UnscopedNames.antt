@@ -10,7 +10,7 @@ use Rattle.cpp_grammar.specs.Parts.{source_text}
 use Rattle.cpp_grammar.specs.Scope.{has_return_type, arguments_of, is_structor}
 use Rattle.cpp_grammar.specs.Values.{State, piece, tree, tree_of, qualifiers_of, ref_of}
 use Rattle.cpp_grammar.specs.Between.{after, in_name, inside, no_items, with_tag}
-use Rattle.cpp_direct.specs.Symbol.{Symbol}
+use Rattle.cpp_direct.specs.Symbol.{detail_of, Symbol}
 use Rattle.cpp_direct.specs.declared.open.Mark.TheVariants as marks
 use Rattle.cpp_direct.specs.declared.open.Open.TheVariants as opens
 use Rattle.cpp_direct.specs.declared.open.Step.{Step}
@@ -70,12 +70,13 @@ name-has s false w p at name end letter at_is is =
 
 -- A name was read and written that is in no class.
 unscoped-read : (s : Symbol) (old new : Direct) (takes : Bool) (own : Term) (bytes : List ℕ) (st : State) (encoding : ℕ)
-    → AreCandidates old.text.list.items old.candidates.list.items st.candidates → HasName s old.text.list.items encoding own new.at st
-    → Reads old new bytes → PrintsName own bytes → (takes ≡ true → Prints own bytes false) → has_return_type own ≡ false → is_structor own ≡ false
+    → AreCandidates (detail_of s) old.text.list.items old.candidates.list.items st.candidates → HasName s old.text.list.items encoding own new.at st
+    → Reads old new bytes → PrintsName (detail_of s) own bytes → (takes ≡ true → Prints (detail_of s) own bytes false) → has_return_type own ≡ false
+    → is_structor own ≡ false
     → (from : ℕ) → from ≡ length old.text.list.items → IsUnscoped s new from takes
 unscoped-read s old new takes own bytes st encoding candidates has reads names prints no_return no_structor from from_is = record {
   state = st;
-  candidates = candidates-read old new bytes st.candidates reads candidates;
+  candidates = candidates-read (detail_of s) old new bytes st.candidates reads candidates;
   encoding = encoding;
   own = own;
   front = old.text.list.items;
@@ -196,7 +197,7 @@ unscoped-tagged s old new from takes tag wide p is reads =
     let own : Term = with_tag p.own tag in
     record {
       state = p.state;
-      candidates = candidates-read old new (tag_text tag) p.state.candidates reads p.candidates;
+      candidates = candidates-read (detail_of s) old new (tag_text tag) p.state.candidates reads p.candidates;
       encoding = p.encoding;
       own = own;
       front = p.front;
@@ -232,9 +233,9 @@ list-stands s read new from takes p some there candidates_are text_is waiting_is
     let state = with_candidate (in_name place) own st in
     record {
       state = state;
-      candidates = subst (λ l. AreCandidates l new.candidates.list.items state.candidates) (sym text_is)
-          (subst (λ ks. AreCandidates (read.text.list.items ++ codes "<") ks state.candidates) (sym candidates_are)
-          (candidates-stay read.text.list.items (codes "<") (added read from false) state.candidates
+      candidates = subst (λ l. AreCandidates (detail_of s) l new.candidates.list.items state.candidates) (sym text_is)
+          (subst (λ ks. AreCandidates (detail_of s) (read.text.list.items ++ codes "<") ks state.candidates) (sym candidates_are)
+          (candidates-stay (detail_of s) read.text.list.items (codes "<") (added read from false) state.candidates
           (candidates-with read st p.front p.bytes from own (in_name place) false p.candidates p.written p.from_is prints)));
       is_before = arguments-begun s new state (opens.NameArguments from) (reverse read.waiting.list.items) p.front p.bytes own
           (ap reverse waiting_is ∙ reverse-last read.waiting.list.items (opens.NameArguments from)) (p.from_is, prints, p.no_structor)

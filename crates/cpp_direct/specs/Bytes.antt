@@ -1,6 +1,5 @@
 -- The bytes at which a reader goes one way or another.
 use Rattle.std.specs.Prelude.{ℕ, List, ◌∷◌, ◌+◌, [], Bool, true, false, ◌||◌, ◌&&◌, nat_eq, nat_lt}
-use Rattle.std.specs.List.{list_any}
 use Rattle.sym_core.specs.Number.{is_decimal_digit}
 use Rattle.cpp_grammar.specs.Grammar.{among}
 use Rattle.cpp_direct.specs.Letters.{builtin_letters, builtin_letters_with_d, abbreviation_letters}
@@ -21,14 +20,6 @@ is_abbreviated byte = among abbreviation_letters byte
 unfoldable pub short_numbers : (run : ℕ) → List ℕ → Bool
 short_numbers run [] = true
 short_numbers run (b ∷ bs) = elim (is_decimal_digit b) [ true ↦ nat_lt run 19 && short_numbers (run + 1) bs | false ↦ short_numbers 0 bs ]
-
--- an opening bracket
-unfoldable pub is_bracket : ℕ → Bool
-is_bracket byte = nat_eq byte 40
-
--- a text has one
-abbrev pub has_bracket : List ℕ → Bool
-has_bracket text = list_any is_bracket text
 
 -- a symbol that names a local entity, or something special of one, has a Z or a G after its _Z
 unfoldable pub is_local : List ℕ → Bool

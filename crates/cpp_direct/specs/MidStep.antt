@@ -2,7 +2,6 @@
 use Rattle.std.specs.Prelude.{◌≡◌, ◌≢◌, ◌⊎◌, ℕ, zero, suc, ◌+◌, List, [], ◌∷◌, ◌++◌, length, reverse, ◌≤◌, Bool, true, false, cond, Some, codes, ◌-◌, take, drop, slice_get}
 use Rattle.cpp_direct.specs.Written.{Writes}
 use Rattle.sym_print.specs.declared.detail.Detail.{Detail}
-use Rattle.sym_print.specs.declared.detail.Detail.TheVariants.{Full}
 use Rattle.cpp_grammar.specs.declared.kind.Kind.{Kind}
 use Rattle.cpp_grammar.specs.Term.{Term, Signed, absent, array, function, instance, builtin, pack, list, nil}
 use Rattle.cpp_grammar.specs.Texts.{look_up, builtin_texts, literal_endings}
@@ -22,7 +21,7 @@ use Rattle.cpp_direct.specs.declared.open.Argument.{Argument}
 use Rattle.cpp_direct.specs.declared.open.Arguments.{Arguments}
 use Rattle.cpp_direct.specs.declared.open.Open.TheVariants as opens
 use Rattle.cpp_direct.specs.declared.direct.Direct.{Direct}
-use Rattle.cpp_direct.specs.Bytes.{has_bracket, is_local}
+use Rattle.cpp_direct.specs.Bytes.{is_local}
 use Rattle.cpp_direct.specs.Holes.{Opened, StandsAt, Comes, Expects, IsReferable, IsTyped, TypeNamed, NestGoesOn, NestNamed, bare_name, with_candidate, IsSeqAt}
 use Rattle.sym_core.specs.Value.{counted_value}
 use Rattle.sym_core.specs.declared.NumberKind.TheVariants.{Seq36}
@@ -54,7 +53,7 @@ pub record IsFresh (w : Direct) : Type 0 where
 -- an encoding is expected after what is written
 pub record AwaitsEncoding (s : Symbol) (w : Direct) : Type 0 where
   pub state : State
-  pub candidates : AreCandidates w.text.list.items w.candidates.list.items state.candidates
+  pub candidates : AreCandidates (detail_of s) w.text.list.items w.candidates.list.items state.candidates
   pub around : Around
   pub outer : List Opened
   pub begins : w.text.list.items ≡ [] → w.at ≡ encoding_place s.bytes
@@ -79,7 +78,7 @@ pub record HasName (s : Symbol) (lead : List ℕ) (encoding : ℕ) (t : Term) (a
 -- The name of an encoding that is in no class was read, and written from a place on. It takes arguments after it, or may have none.
 pub record IsUnscoped (s : Symbol) (w : Direct) (from : ℕ) (takes : Bool) : Type 0 where
   pub state : State
-  pub candidates : AreCandidates w.text.list.items w.candidates.list.items state.candidates
+  pub candidates : AreCandidates (detail_of s) w.text.list.items w.candidates.list.items state.candidates
   pub encoding : ℕ
   pub own : Term
   pub front : List ℕ
@@ -87,15 +86,15 @@ pub record IsUnscoped (s : Symbol) (w : Direct) (from : ℕ) (takes : Bool) : Ty
   pub has : HasName s front encoding own w.at state
   pub written : w.text.list.items ≡ front ++ bytes
   pub from_is : from ≡ length front
-  pub names : PrintsName own bytes
-  pub prints : takes ≡ true → Prints own bytes false
+  pub names : PrintsName (detail_of s) own bytes
+  pub prints : takes ≡ true → Prints (detail_of s) own bytes false
   pub no_return : has_return_type own ≡ false
   pub no_structor : is_structor own ≡ false
 
 -- a type is expected
 pub record AwaitsType (s : Symbol) (w : Direct) : Type 0 where
   pub state : State
-  pub candidates : AreCandidates w.text.list.items w.candidates.list.items state.candidates
+  pub candidates : AreCandidates (detail_of s) w.text.list.items w.candidates.list.items state.candidates
   pub kind : Kind
   pub typed : IsTyped kind
   pub referable : IsReferable kind ⊎ NoReference s.bytes w.at
@@ -109,7 +108,7 @@ pub record AwaitsType (s : Symbol) (w : Direct) : Type 0 where
 -- a type is expected that is a name
 pub record AwaitsNamedType (s : Symbol) (w : Direct) : Type 0 where
   pub state : State
-  pub candidates : AreCandidates w.text.list.items w.candidates.list.items state.candidates
+  pub candidates : AreCandidates (detail_of s) w.text.list.items w.candidates.list.items state.candidates
   pub kind : Kind
   pub is_named : IsNamedKind kind
   pub around : Around
@@ -133,7 +132,7 @@ pub record IsNamedAgain (s : Symbol) (w : Direct) (k : Candidate) : Type 0 where
 -- the name of a type was read, which is a candidate already or not, and was written from a place on
 pub record IsTypeNamed (s : Symbol) (w : Direct) (from : ℕ) (is_listed is_reference : Bool) : Type 0 where
   pub state : State
-  pub candidates : AreCandidates w.text.list.items w.candidates.list.items state.candidates
+  pub candidates : AreCandidates (detail_of s) w.text.list.items w.candidates.list.items state.candidates
   pub around : Around
   pub outside : around.prefix ≡ outermost
   pub outer : List Opened
@@ -143,14 +142,14 @@ pub record IsTypeNamed (s : Symbol) (w : Direct) (from : ℕ) (is_listed is_refe
   pub bytes : List ℕ
   pub written : w.text.list.items ≡ front ++ bytes
   pub from_is : from ≡ length front
-  pub prints : Prints own bytes is_reference
+  pub prints : Prints (detail_of s) own bytes is_reference
   pub no_reference : is_listed ≡ false → is_reference ≡ false
   pub stands : Stands s (reverse w.waiting.list.items) outer front
 
 -- A type was read that what waits for it marks. It was written from a place on, but for its mark.
 pub record AwaitsMark (s : Symbol) (w : Direct) (mark : List ℕ) (from : ℕ) (is_reference : Bool) : Type 0 where
   pub state : State
-  pub candidates : AreCandidates w.text.list.items w.candidates.list.items state.candidates
+  pub candidates : AreCandidates (detail_of s) w.text.list.items w.candidates.list.items state.candidates
   pub entry : Open
   pub rest : List Open
   pub open_is : reverse w.waiting.list.items ≡ entry ∷ rest
@@ -162,13 +161,13 @@ pub record AwaitsMark (s : Symbol) (w : Direct) (mark : List ℕ) (from : ℕ) (
   pub bytes : List ℕ
   pub written : w.text.list.items ≡ front ++ bytes
   pub from_is : from ≡ length front
-  pub prints : Prints made (bytes ++ mark) is_reference
+  pub prints : Prints (detail_of s) made (bytes ++ mark) is_reference
   pub stands : Stands s rest outer front
 
 -- A type that names the argument of the function's template was read, and what waits for it marks it. It was written, but for its mark.
 pub record AwaitsDependentMark (s : Symbol) (w : Direct) (mark : List ℕ) (is_reference : Bool) (begins number place : ℕ) : Type 0 where
   pub state : State
-  pub candidates : AreCandidates w.text.list.items w.candidates.list.items state.candidates
+  pub candidates : AreCandidates (detail_of s) w.text.list.items w.candidates.list.items state.candidates
   pub entry : Open
   pub rest : List Open
   pub open_is : reverse w.waiting.list.items ≡ entry ∷ rest
@@ -182,7 +181,7 @@ pub record AwaitsDependentMark (s : Symbol) (w : Direct) (mark : List ℕ) (is_r
   pub argument : Arguments
   pub written : w.text.list.items ≡ front ++ bytes ++ marks
   pub begins_is : begins ≡ length (front ++ bytes)
-  pub prints : NamesArgument number made (marks ++ mark) is_reference
+  pub prints : NamesArgument (detail_of s) number made (marks ++ mark) is_reference
   pub encoding_is : place ≢ 0 → made_in.encoding ≡ place
   pub place_is : place ≡ argument.encoding
   pub found : argument_of rest ≡ Some argument
@@ -193,7 +192,7 @@ pub record AwaitsDependentMark (s : Symbol) (w : Direct) (mark : List ℕ) (is_r
 -- An argument of a name was read, which is a type, after so many others.
 pub record IsArgumentRead (s : Symbol) (w : Direct) (from number : ℕ) (known : Arguments) (is_reference : Bool) : Type 0 where
   pub state : State
-  pub candidates : AreCandidates w.text.list.items w.candidates.list.items state.candidates
+  pub candidates : AreCandidates (detail_of s) w.text.list.items w.candidates.list.items state.candidates
   pub owner : Open
   pub rest : List Open
   pub open_is : reverse w.waiting.list.items ≡ opens.Argument from number known ∷ owner ∷ rest
@@ -204,19 +203,19 @@ pub record IsArgumentRead (s : Symbol) (w : Direct) (from number : ℕ) (known :
   pub texts : List ℕ
   pub t : Term
   pub bytes : List ℕ
-  pub is_template : IsTemplate owner front template name w.text.list.items
-  pub elements : PrintAll 3 ts texts
+  pub is_template : IsTemplate (detail_of s) owner front template name w.text.list.items
+  pub elements : PrintAll (detail_of s) 3 ts texts
   pub written : w.text.list.items ≡ (front ++ name ++ codes "<" ++ in_front_of_next ts texts) ++ bytes
   pub from_is : from ≡ length (front ++ name ++ codes "<" ++ in_front_of_next ts texts)
   pub number_is : number ≡ length ts
-  pub among : AreAmong w.text.list.items false known ts
-  pub prints : Prints t bytes is_reference
+  pub among : AreAmong (detail_of s) w.text.list.items false known ts
+  pub prints : Prints (detail_of s) t bytes is_reference
   pub goes : ArgumentsGoOn s owner (Stands s rest) front template (ts ++ t ∷ []) w.at state
 
 -- A type is expected as an argument of a name, after these and so many, of which some are known.
 pub record AwaitsKnownArgument (s : Symbol) (w : Direct) (before : ℕ) (known : Arguments) : Type 0 where
   pub state : State
-  pub candidates : AreCandidates w.text.list.items w.candidates.list.items state.candidates
+  pub candidates : AreCandidates (detail_of s) w.text.list.items w.candidates.list.items state.candidates
   pub owner : Open
   pub rest : List Open
   pub open_is : reverse w.waiting.list.items ≡ owner ∷ rest
@@ -225,18 +224,18 @@ pub record AwaitsKnownArgument (s : Symbol) (w : Direct) (before : ℕ) (known :
   pub name : List ℕ
   pub ts : List Term
   pub texts : List ℕ
-  pub is_template : IsTemplate owner front template name w.text.list.items
-  pub elements : PrintAll 3 ts texts
+  pub is_template : IsTemplate (detail_of s) owner front template name w.text.list.items
+  pub elements : PrintAll (detail_of s) 3 ts texts
   pub some : ts ≢ []
   pub written : w.text.list.items ≡ front ++ name ++ codes "<" ++ texts
   pub number_is : before + 1 ≡ length ts
-  pub among : AreAmong w.text.list.items false known ts
+  pub among : AreAmong (detail_of s) w.text.list.items false known ts
   pub goes : ArgumentsGoOn s owner (Stands s rest) front template ts w.at state
 
 -- An element of a pack was read, which is the first argument of a name, after so many others.
 pub record IsPackElementRead (s : Symbol) (w : Direct) (from number : ℕ) (known : Arguments) (is_reference : Bool) : Type 0 where
   pub state : State
-  pub candidates : AreCandidates w.text.list.items w.candidates.list.items state.candidates
+  pub candidates : AreCandidates (detail_of s) w.text.list.items w.candidates.list.items state.candidates
   pub owner : Open
   pub rest : List Open
   pub open_is : reverse w.waiting.list.items ≡ opens.Element from number known ∷ opens.Pack ∷ owner ∷ rest
@@ -247,19 +246,19 @@ pub record IsPackElementRead (s : Symbol) (w : Direct) (from number : ℕ) (know
   pub texts : List ℕ
   pub t : Term
   pub bytes : List ℕ
-  pub is_template : IsTemplate owner front template name w.text.list.items
-  pub elements : PrintAll 0 ts texts
+  pub is_template : IsTemplate (detail_of s) owner front template name w.text.list.items
+  pub elements : PrintAll (detail_of s) 0 ts texts
   pub written : w.text.list.items ≡ (front ++ name ++ codes "<" ++ in_front_of_next ts texts) ++ bytes
   pub from_is : from ≡ length (front ++ name ++ codes "<" ++ in_front_of_next ts texts)
   pub number_is : number ≡ length ts
-  pub among : AreAmong w.text.list.items true known ts
-  pub prints : Prints t bytes is_reference
+  pub among : AreAmong (detail_of s) w.text.list.items true known ts
+  pub prints : Prints (detail_of s) t bytes is_reference
   pub goes : GoesOn s (of_pack [] []) owner (Stands s rest) front template (ts ++ t ∷ []) w.at state
 
 -- Another one is expected, after so many.
 pub record AwaitsPackElement (s : Symbol) (w : Direct) (before : ℕ) (known : Arguments) : Type 0 where
   pub state : State
-  pub candidates : AreCandidates w.text.list.items w.candidates.list.items state.candidates
+  pub candidates : AreCandidates (detail_of s) w.text.list.items w.candidates.list.items state.candidates
   pub owner : Open
   pub rest : List Open
   pub open_is : reverse w.waiting.list.items ≡ opens.Pack ∷ owner ∷ rest
@@ -268,18 +267,18 @@ pub record AwaitsPackElement (s : Symbol) (w : Direct) (before : ℕ) (known : A
   pub name : List ℕ
   pub ts : List Term
   pub texts : List ℕ
-  pub is_template : IsTemplate owner front template name w.text.list.items
-  pub elements : PrintAll 0 ts texts
+  pub is_template : IsTemplate (detail_of s) owner front template name w.text.list.items
+  pub elements : PrintAll (detail_of s) 0 ts texts
   pub some : ts ≢ []
   pub written : w.text.list.items ≡ front ++ name ++ codes "<" ++ texts
   pub number_is : before + 1 ≡ length ts
-  pub among : AreAmong w.text.list.items true known ts
+  pub among : AreAmong (detail_of s) w.text.list.items true known ts
   pub goes : GoesOn s (of_pack [] []) owner (Stands s rest) front template ts w.at state
 
 -- the first piece of a nested name is expected
 pub record AwaitsNest (s : Symbol) (w : Direct) (purpose : Purpose) : Type 0 where
   pub state : State
-  pub candidates : AreCandidates w.text.list.items w.candidates.list.items state.candidates
+  pub candidates : AreCandidates (detail_of s) w.text.list.items w.candidates.list.items state.candidates
   pub around : Around
   pub outside : around.prefix ≡ outermost
   pub outer : List Opened
@@ -289,7 +288,7 @@ pub record AwaitsNest (s : Symbol) (w : Direct) (purpose : Purpose) : Type 0 whe
 -- A name that an S stands for was read at the front of a nested one.
 pub record IsNestKnown (s : Symbol) (w : Direct) : Type 0 where
   pub state : State
-  pub candidates : AreCandidates w.text.list.items w.candidates.list.items state.candidates
+  pub candidates : AreCandidates (detail_of s) w.text.list.items w.candidates.list.items state.candidates
   pub around : Around
   pub outer : List Opened
   pub own : Term
@@ -297,7 +296,7 @@ pub record IsNestKnown (s : Symbol) (w : Direct) : Type 0 where
   pub front : List ℕ
   pub bytes : List ℕ
   pub written : w.text.list.items ≡ front ++ bytes
-  pub is_nest : IsNest front bytes w.text.list.items w.nest own
+  pub is_nest : IsNest (detail_of s) front bytes w.text.list.items w.nest own
   pub listed : w.nest.is_listed ≡ true
   pub classless : w.nest.has_class ≡ false
   pub serves : Serves s w.nest.purpose (Stands s (reverse w.waiting.list.items)) outer front
@@ -305,7 +304,7 @@ pub record IsNestKnown (s : Symbol) (w : Direct) : Type 0 where
 -- A component of a nested name was read, or a name in std. Arguments may come after it, or tags.
 pub record IsNestNamed (s : Symbol) (w : Direct) : Type 0 where
   pub state : State
-  pub candidates : AreCandidates w.text.list.items w.candidates.list.items state.candidates
+  pub candidates : AreCandidates (detail_of s) w.text.list.items w.candidates.list.items state.candidates
   pub around : Around
   pub outer : List Opened
   pub own : Term
@@ -313,8 +312,8 @@ pub record IsNestNamed (s : Symbol) (w : Direct) : Type 0 where
   pub front : List ℕ
   pub bytes : List ℕ
   pub written : w.text.list.items ≡ front ++ bytes
-  pub is_nest : IsNest front bytes w.text.list.items w.nest own
-  pub names_tagged : w.nest.has_class ≡ true → (tag : List ℕ) → NamesClass (with_tag own tag) is_nest.class
+  pub is_nest : IsNest (detail_of s) front bytes w.text.list.items w.nest own
+  pub names_tagged : w.nest.has_class ≡ true → (tag : List ℕ) → NamesClass (detail_of s) (with_tag own tag) is_nest.class
   pub unlisted : w.nest.is_listed ≡ false
   pub no_instance : w.nest.is_instance ≡ false
   pub no_return : has_return_type own ≡ false
@@ -325,7 +324,7 @@ pub record IsNestNamed (s : Symbol) (w : Direct) : Type 0 where
 -- An operator was read that ends a nested name: no arguments are read after it.
 pub record IsOperatorRead (s : Symbol) (w : Direct) : Type 0 where
   pub state : State
-  pub candidates : AreCandidates w.text.list.items w.candidates.list.items state.candidates
+  pub candidates : AreCandidates (detail_of s) w.text.list.items w.candidates.list.items state.candidates
   pub around : Around
   pub outer : List Opened
   pub own : Term
@@ -334,14 +333,14 @@ pub record IsOperatorRead (s : Symbol) (w : Direct) : Type 0 where
   pub bytes : List ℕ
   pub written : w.text.list.items ≡ front ++ bytes
   pub from_is : w.nest.from ≡ length front
-  pub prints : PrintsName own bytes
+  pub prints : PrintsName (detail_of s) own bytes
   pub no_return : has_return_type own ≡ false
   pub serves : Serves s w.nest.purpose (Stands s (reverse w.waiting.list.items)) outer front
 
 -- A constructor or a destructor was read, and was written but for the name of its class.
 pub record AwaitsClass (s : Symbol) (w : Direct) : Type 0 where
   pub state : State
-  pub candidates : AreCandidates w.text.list.items w.candidates.list.items state.candidates
+  pub candidates : AreCandidates (detail_of s) w.text.list.items w.candidates.list.items state.candidates
   pub around : Around
   pub outer : List Opened
   pub own : Term
@@ -356,22 +355,22 @@ pub record AwaitsClass (s : Symbol) (w : Direct) : Type 0 where
   pub class_written : w.text.list.items ≡ class_front ++ class ++ class_back
   pub class_from : w.nest.class_from ≡ length class_front
   pub class_to : w.nest.class_to ≡ length class_front + length class
-  pub prints : Prints own (bytes ++ class) false
+  pub prints : Prints (detail_of s) own (bytes ++ class) false
   pub no_return : has_return_type own ≡ false
   pub structor : is_structor own ≡ true
   pub serves : Serves s w.nest.purpose (Stands s (reverse w.waiting.list.items)) outer front
 
 -- the known ones among arguments are at their places, and a pack is the only one
-abbrev pub AreKnown : (text : List ℕ) → Arguments → List Term → (tail : Term) → Type 0
-AreKnown text a ts tail =
-    (number : ℕ) → IsKnown (place_of a number) → (((place_of a number).is_pack ≡ false) × IsAmong text (place_of a number) number ts)
+abbrev pub AreKnown : (detail : Detail) (text : List ℕ) → Arguments → List Term → (tail : Term) → Type 0
+AreKnown detail text a ts tail =
+    (number : ℕ) → IsKnown (place_of a number) → (((place_of a number).is_pack ≡ false) × IsAmong detail text (place_of a number) number ts)
     ⊎ (((place_of a number).is_pack ≡ true) × (es : List Term) × (list_with ts tail ≡ list (pack (list_of es)) nil) × (length es ≡ a.elements)
-    × IsAmong text (place_of a number) number es)
+    × IsAmong detail text (place_of a number) number es)
 
 -- The arguments of what was opened last are read and their E, but for their last bracket. Those that are known are at their places.
 pub record IsListEnded (s : Symbol) (w : Direct) (argument : Arguments) : Type 0 where
   pub state : State
-  pub candidates : AreCandidates w.text.list.items w.candidates.list.items state.candidates
+  pub candidates : AreCandidates (detail_of s) w.text.list.items w.candidates.list.items state.candidates
   pub owner : Open
   pub rest : List Open
   pub open_is : reverse w.waiting.list.items ≡ owner ∷ rest
@@ -382,37 +381,37 @@ pub record IsListEnded (s : Symbol) (w : Direct) (argument : Arguments) : Type 0
   pub tail : Term
   pub is_tail : IsTail tail
   pub arguments : List ℕ
-  pub is_template : IsTemplate owner front template name w.text.list.items
-  pub elements : PrintAll 3 ts arguments
+  pub is_template : IsTemplate (detail_of s) owner front template name w.text.list.items
+  pub elements : PrintAll (detail_of s) 3 ts arguments
   pub written : w.text.list.items ≡ front ++ name ++ codes "<" ++ arguments
   pub owns : Owns s owner (Stands s rest) front (instance template (list_with ts tail)) w.at state
-  pub known : AreKnown w.text.list.items argument ts tail
+  pub known : AreKnown (detail_of s) w.text.list.items argument ts tail
 
 -- An element is expected, and the comma before it is written.
 pub record AwaitsNextArgument (s : Symbol) (w : Direct) : Type 0 where
   pub state : State
-  pub candidates : AreCandidates w.text.list.items w.candidates.list.items state.candidates
-  pub place : IsListing (reverse w.waiting.list.items) w.text.list.items
+  pub candidates : AreCandidates (detail_of s) w.text.list.items w.candidates.list.items state.candidates
+  pub place : IsListing (detail_of s) (reverse w.waiting.list.items) w.text.list.items
   pub ts : List Term
   pub texts : List ℕ
-  pub elements : PrintAll (extra_of place.listing) ts texts
+  pub elements : PrintAll (detail_of s) (extra_of place.listing) ts texts
   pub written : w.text.list.items ≡ led_by place.listing place.front place.name ++ in_front_of_next ts texts
   pub goes : GoesOn s place.listing place.owner (Stands s place.rest) place.front place.template ts w.at state
 
 -- The type of an enumerator was read, which is an element. Its number is expected.
 pub record AwaitsNumber (s : Symbol) (w : Direct) : Type 0 where
   pub state : State
-  pub candidates : AreCandidates w.text.list.items w.candidates.list.items state.candidates
+  pub candidates : AreCandidates (detail_of s) w.text.list.items w.candidates.list.items state.candidates
   pub opened : List Open
   pub open_is : reverse w.waiting.list.items ≡ opens.Enumerator ∷ opened
-  pub place : IsListing opened w.text.list.items
+  pub place : IsListing (detail_of s) opened w.text.list.items
   pub ts : List Term
   pub texts : List ℕ
-  pub elements : PrintAll (extra_of place.listing) ts texts
+  pub elements : PrintAll (detail_of s) (extra_of place.listing) ts texts
   pub type : Term
   pub bytes : List ℕ
   pub is_reference : Bool
-  pub prints : Prints type bytes is_reference
+  pub prints : Prints (detail_of s) type bytes is_reference
   pub written : w.text.list.items ≡ led_by place.listing place.front place.name ++ in_front_of_next ts texts ++ codes "(" ++ bytes
   pub goes : EnumeratorGoesOn s place.listing place.owner (Stands s place.rest) place.front place.template ts type w.at state
 
@@ -420,7 +419,7 @@ pub record AwaitsNumber (s : Symbol) (w : Direct) : Type 0 where
 -- places.
 pub record IsNameEnded (s : Symbol) (w : Direct) (mark : Mark) (is_instance : Bool) (argument : Arguments) (from : ℕ) : Type 0 where
   pub state : State
-  pub candidates : AreCandidates w.text.list.items w.candidates.list.items state.candidates
+  pub candidates : AreCandidates (detail_of s) w.text.list.items w.candidates.list.items state.candidates
   pub own : Term
   pub v : Value
   pub tree_is : tree_of v ≡ own
@@ -430,41 +429,40 @@ pub record IsNameEnded (s : Symbol) (w : Direct) (mark : Mark) (is_instance : Bo
   pub name : List ℕ
   pub written : w.text.list.items ≡ lead ++ name
   pub from_is : from ≡ length lead
-  pub prints : PrintsName own name
+  pub prints : PrintsName (detail_of s) own name
   pub no_return : is_instance ≡ false → has_return_type own ≡ false
   pub returns : is_instance ≡ true → has_return_type own ≡ true
-  pub names : HasArguments w.text.list.items argument own
+  pub names : HasArguments (detail_of s) w.text.list.items argument own
   pub awaits : AwaitsItems s lead v w.at state
 
 -- The return type of a function was read, and comes after the function's name and what is written before it.
 pub record IsFrontRead (s : Symbol) (w : Direct) (mark : Mark) (start : ℕ) (argument : Arguments) : Type 0 where
   pub state : State
-  pub candidates : AreCandidates w.text.list.items w.candidates.list.items state.candidates
+  pub candidates : AreCandidates (detail_of s) w.text.list.items w.candidates.list.items state.candidates
   pub v : Value
   pub lead : List ℕ
   pub name : List ℕ
   pub front : List ℕ
   pub front_is : front ≡ lead ++ name
-  pub is_instance : IsInstance front argument mark v name
+  pub is_instance : IsInstance (detail_of s) front argument mark v name
   pub apart : is_local s.bytes ≡ false → lead ≡ []
   pub start_is : start ≡ length front
   pub returned : Term
   pub bytes : List ℕ
   pub is_reference : Bool
-  pub prints : PrintsIn (types_of is_instance.own) 2 returned bytes is_reference
+  pub prints : PrintsIn (detail_of s) (types_of is_instance.own) 2 returned bytes is_reference
   pub written : w.text.list.items ≡ front ++ bytes
-  pub bare : s.is_bare ≡ true → has_bracket name ≡ false
   pub goes : ParametersGoOn s argument lead (encoding_of v) (returned ∷ []) w.at state
 
 -- A function's name was read and written, and what comes before it. Its parameters are expected.
 pub record AwaitsParameters (s : Symbol) (w : Direct) (mark : Mark) (start : ℕ) (argument : Arguments) : Type 0 where
   pub state : State
-  pub candidates : AreCandidates w.text.list.items w.candidates.list.items state.candidates
+  pub candidates : AreCandidates (detail_of s) w.text.list.items w.candidates.list.items state.candidates
   pub make : Term → Term
   pub front : List ℕ
   pub lead : List ℕ
   pub name : List ℕ
-  pub is_function : IsFunction w.text.list.items argument mark make [] name []
+  pub is_function : IsFunction (detail_of s) w.text.list.items argument mark make [] name []
   pub fronts : Fronts s.is_bare front start lead name
   pub written : w.text.list.items ≡ front
   pub goes : ParametersGoOn s argument lead make [] w.at state
@@ -472,7 +470,7 @@ pub record AwaitsParameters (s : Symbol) (w : Direct) (mark : Mark) (start : ℕ
 -- A parameter of a function is expected.
 pub record AwaitsNextParameter (s : Symbol) (w : Direct) (mark : Mark) (start : ℕ) (argument : Arguments) : Type 0 where
   pub state : State
-  pub candidates : AreCandidates w.text.list.items w.candidates.list.items state.candidates
+  pub candidates : AreCandidates (detail_of s) w.text.list.items w.candidates.list.items state.candidates
   pub rest : List Open
   pub open_is : reverse w.waiting.list.items ≡ opens.Parameters mark start argument ∷ rest
   pub make : Term → Term
@@ -481,7 +479,7 @@ pub record AwaitsNextParameter (s : Symbol) (w : Direct) (mark : Mark) (start : 
   pub lead : List ℕ
   pub name : List ℕ
   pub texts : List ℕ
-  pub is_function : IsFunction w.text.list.items argument mark make ts name texts
+  pub is_function : IsFunction (detail_of s) w.text.list.items argument mark make ts name texts
   pub fronts : Fronts s.is_bare front start lead name
   pub written : w.text.list.items ≡ front ++ codes "(" ++ in_front_of_next ts texts
   pub goes : ParametersGoOn s argument lead make ts w.at state
@@ -492,28 +490,28 @@ comma_text zero = []
 comma_text (suc k) = codes ", "
 
 -- a pack has these elements, and the known ones are at their places
-pub record IsPackOf (text : List ℕ) (a : Arguments) (ts : List Term) : Type 0 where
+pub record IsPackOf (detail : Detail) (text : List ℕ) (a : Arguments) (ts : List Term) : Type 0 where
   pub size : length ts ≡ a.elements
-  pub among : (k : ℕ) → IsKnown (place_of a k) → (place_of a k).is_pack ≡ true → IsAmong text (place_of a k) k ts
+  pub among : (k : ℕ) → IsKnown (place_of a k) → (place_of a k).is_pack ≡ true → IsAmong detail text (place_of a k) k ts
 
 -- a tree of which an rvalue reference has this text
-abbrev pub PrintsForwarded : Term → List ℕ → Type 0
-PrintsForwarded t bytes = (own : List ℕ) × (is_reference : Bool) × Prints t own is_reference × (bytes ≡ own ++ forwarded is_reference)
+abbrev pub PrintsForwarded : (detail : Detail) → Term → List ℕ → Type 0
+PrintsForwarded detail t bytes = (own : List ℕ) × (is_reference : Bool) × Prints detail t own is_reference × (bytes ≡ own ++ forwarded is_reference)
 
 -- References to so many elements of a pack were written, or to all.
-pub record AreForwarded (old new : Direct) (ts : List Term) (number : ℕ) : Type 0 where
+pub record AreForwarded (detail : Detail) (old new : Direct) (ts : List Term) (number : ℕ) : Type 0 where
   pub done : List Term
   pub rest : List Term
   pub all : ts ≡ done ++ rest
   pub count : (length done ≡ number) ⊎ ((rest ≡ []) × (length ts ≤ number))
   pub bytes : List ℕ
-  pub prints : PrintAllBy PrintsForwarded done bytes
+  pub prints : PrintAllBy (PrintsForwarded detail) done bytes
   pub writes : Writes old new bytes
 
 -- A parameter of a function was read.
 pub record IsParameterEnded (s : Symbol) (w : Direct) (mark : Mark) (start : ℕ) (argument : Arguments) : Type 0 where
   pub state : State
-  pub candidates : AreCandidates w.text.list.items w.candidates.list.items state.candidates
+  pub candidates : AreCandidates (detail_of s) w.text.list.items w.candidates.list.items state.candidates
   pub rest : List Open
   pub open_is : reverse w.waiting.list.items ≡ opens.Parameters mark start argument ∷ rest
   pub make : Term → Term
@@ -523,7 +521,7 @@ pub record IsParameterEnded (s : Symbol) (w : Direct) (mark : Mark) (start : ℕ
   pub lead : List ℕ
   pub name : List ℕ
   pub texts : List ℕ
-  pub is_function : IsFunction w.text.list.items argument mark make ts name texts
+  pub is_function : IsFunction (detail_of s) w.text.list.items argument mark make ts name texts
   pub fronts : Fronts s.is_bare front start lead name
   pub written : w.text.list.items ≡ front ++ codes "(" ++ texts
   pub goes : ParametersGoOn s argument lead make ts w.at state
@@ -531,7 +529,7 @@ pub record IsParameterEnded (s : Symbol) (w : Direct) (mark : Mark) (start : ℕ
 -- A function was read and written but for its last bracket and its qualifiers.
 pub record IsFunctionEnded (s : Symbol) (w : Direct) (mark : Mark) (start : ℕ) : Type 0 where
   pub state : State
-  pub candidates : AreCandidates w.text.list.items w.candidates.list.items state.candidates
+  pub candidates : AreCandidates (detail_of s) w.text.list.items w.candidates.list.items state.candidates
   pub own : Term
   pub items : Term
   pub e : Term
@@ -540,16 +538,16 @@ pub record IsFunctionEnded (s : Symbol) (w : Direct) (mark : Mark) (start : ℕ)
   pub lead : List ℕ
   pub name : List ℕ
   pub texts : List ℕ
-  pub prints : PrintsName own name
+  pub prints : PrintsName (detail_of s) own name
   pub fronts : Fronts s.is_bare front start lead name
   pub written : w.text.list.items ≡ front ++ codes "(" ++ texts
-  pub shows : Shows Full e (name ++ codes "(" ++ texts ++ codes ")" ++ mark_text mark)
+  pub shows : s.is_bare ≡ false → Shows (detail_of s) e (name ++ codes "(" ++ texts ++ codes ")" ++ mark_text mark)
   pub behind : EncodedBehind s lead e w.at
 
 -- An encoding was read and written after a text, but for its qualifier.
 pub record IsEncodingEnded (s : Symbol) (w : Direct) (mark : Mark) : Type 0 where
   pub state : State
-  pub candidates : AreCandidates w.text.list.items w.candidates.list.items state.candidates
+  pub candidates : AreCandidates (detail_of s) w.text.list.items w.candidates.list.items state.candidates
   pub e : Term
   pub lead : List ℕ
   pub bytes : List ℕ
@@ -559,23 +557,19 @@ pub record IsEncodingEnded (s : Symbol) (w : Direct) (mark : Mark) : Type 0 wher
   pub behind : EncodedBehind s lead e w.at
 
 -- The encoding of a symbol was read and written, as it is shown in a detail.
-pub record IsSymbolWritten (detail : Detail) (s : Symbol) (w : Direct) : Type 0 where
+pub record IsSymbolEnded (s : Symbol) (w : Direct) : Type 0 where
   pub state : State
-  pub candidates : AreCandidates w.text.list.items w.candidates.list.items state.candidates
+  pub candidates : AreCandidates (detail_of s) w.text.list.items w.candidates.list.items state.candidates
   pub e : Term
   pub encoded : Encoded s e w.at
-  pub shows : Shows detail e w.text.list.items
-
--- as it is to be shown
-abbrev pub IsSymbolEnded : Symbol → Direct → Type 0
-IsSymbolEnded s w = IsSymbolWritten (detail_of s) s w
+  pub shows : Shows (detail_of s) e w.text.list.items
 
 -- ## Function types
 
 -- A type was read after a text, as an element or a parameter of what is open.
 pub record IsElementRead (s : Symbol) (w : Direct) (o : Open) : Type 0 where
   pub state : State
-  pub candidates : AreCandidates w.text.list.items w.candidates.list.items state.candidates
+  pub candidates : AreCandidates (detail_of s) w.text.list.items w.candidates.list.items state.candidates
   pub rest : List Open
   pub open_is : reverse w.waiting.list.items ≡ o ∷ rest
   pub os : List Opened
@@ -583,20 +577,20 @@ pub record IsElementRead (s : Symbol) (w : Direct) (o : Open) : Type 0 where
   pub front : List ℕ
   pub bytes : List ℕ
   pub written : w.text.list.items ≡ front ++ bytes
-  pub element : (extra : ℕ) → IsElement extra own bytes
+  pub element : (extra : ℕ) → IsElement (detail_of s) extra own bytes
   pub comes : Comes s os (tree own true) w.at state
   pub stands : Stands s (o ∷ rest) os front
 
 -- The same of a type that prints on both sides of a name, where what is open takes it.
 pub record IsElementPassed (s : Symbol) (w : Direct) : Type 0 where
   pub state : State
-  pub candidates : AreCandidates w.text.list.items w.candidates.list.items state.candidates
+  pub candidates : AreCandidates (detail_of s) w.text.list.items w.candidates.list.items state.candidates
   pub os : List Opened
   pub own : Term
   pub front : List ℕ
   pub bytes : List ℕ
   pub written : w.text.list.items ≡ front ++ bytes
-  pub element : (extra : ℕ) → IsElement extra own bytes
+  pub element : (extra : ℕ) → IsElement (detail_of s) extra own bytes
   pub comes : Comes s os (tree own true) w.at state
   pub takes : TakesFunction (reverse w.waiting.list.items)
   pub stands : Stands s (reverse w.waiting.list.items) os front
@@ -604,7 +598,7 @@ pub record IsElementPassed (s : Symbol) (w : Direct) : Type 0 where
 -- The type of an array's elements was read. The digits of the size are between two places of the symbol.
 pub record IsArrayRead (s : Symbol) (w : Direct) (access : Access) (from to : ℕ) : Type 0 where
   pub state : State
-  pub candidates : AreCandidates w.text.list.items w.candidates.list.items state.candidates
+  pub candidates : AreCandidates (detail_of s) w.text.list.items w.candidates.list.items state.candidates
   pub rest : List Open
   pub open_is : reverse w.waiting.list.items ≡ opens.Array access from to ∷ rest
   pub outer : List Opened
@@ -617,7 +611,7 @@ pub record IsArrayRead (s : Symbol) (w : Direct) (access : Access) (from to : �
   pub front : List ℕ
   pub bytes : List ℕ
   pub is_reference : Bool
-  pub prints : Prints own bytes is_reference
+  pub prints : Prints (detail_of s) own bytes is_reference
   pub written : w.text.list.items ≡ front ++ bytes
   pub comes : Comes s outer (tree (accessed access (array (values.normal digits) own)) true) w.at
       (with_accessed access made_in (array (values.normal digits) own) state)
@@ -627,7 +621,7 @@ pub record IsArrayRead (s : Symbol) (w : Direct) (access : Access) (from to : �
 -- Of a function type the return type was read, or a parameter.
 pub record AwaitsSignature (s : Symbol) (w : Direct) (is_pointer is_first : Bool) : Type 0 where
   pub state : State
-  pub candidates : AreCandidates w.text.list.items w.candidates.list.items state.candidates
+  pub candidates : AreCandidates (detail_of s) w.text.list.items w.candidates.list.items state.candidates
   pub rest : List Open
   pub open_is : reverse w.waiting.list.items ≡ opens.Signature is_pointer ∷ rest
   pub outer : List Opened
@@ -636,12 +630,12 @@ pub record AwaitsSignature (s : Symbol) (w : Direct) (is_pointer is_first : Bool
   pub returned : Term
   pub bytes : List ℕ
   pub is_reference : Bool
-  pub prints : Prints returned bytes is_reference
+  pub prints : Prints (detail_of s) returned bytes is_reference
   pub ts : List Term
   pub none : is_first ≡ true → ts ≡ []
   pub some : is_first ≡ false → ts ≢ []
   pub texts : List ℕ
-  pub elements : PrintAll 0 ts texts
+  pub elements : PrintAll (detail_of s) 0 ts texts
   pub written : w.text.list.items ≡ front ++ (bytes ++ opening_text is_pointer) ++ texts
   pub goes : SignatureGoesOn s outer made_in is_pointer (λ l. plain_function returned (list_with ts l)) w.at state
   pub takes : TakesFunction rest
@@ -650,7 +644,7 @@ pub record AwaitsSignature (s : Symbol) (w : Direct) (is_pointer is_first : Bool
 -- A parameter of a function type comes next.
 pub record AwaitsParameter (s : Symbol) (w : Direct) (is_pointer : Bool) : Type 0 where
   pub state : State
-  pub candidates : AreCandidates w.text.list.items w.candidates.list.items state.candidates
+  pub candidates : AreCandidates (detail_of s) w.text.list.items w.candidates.list.items state.candidates
   pub rest : List Open
   pub open_is : reverse w.waiting.list.items ≡ opens.Signature is_pointer ∷ rest
   pub outer : List Opened
@@ -659,10 +653,10 @@ pub record AwaitsParameter (s : Symbol) (w : Direct) (is_pointer : Bool) : Type 
   pub returned : Term
   pub bytes : List ℕ
   pub is_reference : Bool
-  pub prints : Prints returned bytes is_reference
+  pub prints : Prints (detail_of s) returned bytes is_reference
   pub ts : List Term
   pub texts : List ℕ
-  pub elements : PrintAll 0 ts texts
+  pub elements : PrintAll (detail_of s) 0 ts texts
   pub written : w.text.list.items ≡ front ++ (bytes ++ opening_text is_pointer) ++ in_front_of_next ts texts
   pub goes : SignatureGoesOn s outer made_in is_pointer (λ l. plain_function returned (list_with ts l)) w.at state
   pub takes : TakesFunction rest
@@ -671,7 +665,7 @@ pub record AwaitsParameter (s : Symbol) (w : Direct) (is_pointer : Bool) : Type 
 -- The return type of a function type was read.
 pub record IsReturned (s : Symbol) (w : Direct) (is_pointer : Bool) : Type 0 where
   pub state : State
-  pub candidates : AreCandidates w.text.list.items w.candidates.list.items state.candidates
+  pub candidates : AreCandidates (detail_of s) w.text.list.items w.candidates.list.items state.candidates
   pub rest : List Open
   pub open_is : reverse w.waiting.list.items ≡ opens.Returned is_pointer ∷ rest
   pub outer : List Opened
@@ -680,7 +674,7 @@ pub record IsReturned (s : Symbol) (w : Direct) (is_pointer : Bool) : Type 0 whe
   pub returned : Term
   pub bytes : List ℕ
   pub is_reference : Bool
-  pub prints : Prints returned bytes is_reference
+  pub prints : Prints (detail_of s) returned bytes is_reference
   pub written : w.text.list.items ≡ front ++ bytes
   pub goes : SignatureGoesOn s outer made_in is_pointer (λ l. plain_function returned l) w.at state
   pub takes : TakesFunction rest
@@ -689,7 +683,7 @@ pub record IsReturned (s : Symbol) (w : Direct) (is_pointer : Bool) : Type 0 whe
 -- A function type was read, or a pointer to one, and written but for its last bracket.
 pub record IsFunctionRead (s : Symbol) (w : Direct) (is_pointer : Bool) : Type 0 where
   pub state : State
-  pub candidates : AreCandidates w.text.list.items w.candidates.list.items state.candidates
+  pub candidates : AreCandidates (detail_of s) w.text.list.items w.candidates.list.items state.candidates
   pub rest : List Open
   pub open_is : reverse w.waiting.list.items ≡ opens.Signature is_pointer ∷ rest
   pub outer : List Opened
@@ -698,7 +692,7 @@ pub record IsFunctionRead (s : Symbol) (w : Direct) (is_pointer : Bool) : Type 0
   pub front : List ℕ
   pub bytes : List ℕ
   pub written : w.text.list.items ≡ front ++ bytes
-  pub element : (extra : ℕ) → IsElement extra (pointed is_pointer made) (bytes ++ codes ")")
+  pub element : (extra : ℕ) → IsElement (detail_of s) extra (pointed is_pointer made) (bytes ++ codes ")")
   pub comes : Comes s outer (tree (pointed is_pointer made) true) w.at (with_pointed is_pointer made_in made state)
   pub takes : TakesFunction rest
   pub stands : Stands s rest outer front

@@ -1,11 +1,10 @@
 -- Where a writer is between two of its functions within a step: local entities, and types in functions.
 use Rattle.std.specs.Prelude.{◌≡◌, ◌≢◌, ℕ, ◌+◌, List, [], ◌∷◌, ◌++◌, length, reverse, Bool, true, false, cond, codes}
-use Rattle.sym_print.specs.declared.detail.Detail.TheVariants.{Full}
 use Rattle.cpp_grammar.specs.Term.{Term}
 use Rattle.cpp_grammar.specs.Scope.{has_return_type}
 use Rattle.cpp_grammar.specs.Meaning.{encoding_of}
 use Rattle.cpp_grammar.specs.Values.{State, Value, tree_of, qualifiers_of, ref_of}
-use Rattle.cpp_direct.specs.Symbol.{Symbol}
+use Rattle.cpp_direct.specs.Symbol.{detail_of, Symbol}
 use Rattle.cpp_direct.specs.declared.open.Mark.{Mark}
 use Rattle.cpp_direct.specs.declared.open.Mark.TheVariants as marks
 use Rattle.cpp_direct.specs.declared.open.Open.{Open}
@@ -35,7 +34,7 @@ pub record AwaitsEntity (s : Symbol) (w : Direct) (is_internal : Bool) : Type 0 
 -- The name of a function in which a type is was read and written from a place on, but for its qualifier.
 pub record IsEnclosingNamed (s : Symbol) (w : Direct) (mark : Mark) (from : ℕ) : Type 0 where
   pub state : State
-  pub candidates : AreCandidates w.text.list.items w.candidates.list.items state.candidates
+  pub candidates : AreCandidates (detail_of s) w.text.list.items w.candidates.list.items state.candidates
   pub own : Term
   pub v : Value
   pub tree_is : tree_of v ≡ own
@@ -45,7 +44,7 @@ pub record IsEnclosingNamed (s : Symbol) (w : Direct) (mark : Mark) (from : ℕ)
   pub name : List ℕ
   pub written : w.text.list.items ≡ front ++ name
   pub from_is : from ≡ length front
-  pub prints : PrintsName own name
+  pub prints : PrintsName (detail_of s) own name
   pub no_return : has_return_type own ≡ false
   pub goes : ItemsGoOn s nowhere (TypeWithin s (Stands s (reverse w.waiting.list.items)) front) (λ l. encoding_of v l) [] w.at state
 
@@ -53,7 +52,7 @@ pub record IsEnclosingNamed (s : Symbol) (w : Direct) (mark : Mark) (from : ℕ)
 -- noted last, or it isn't known.
 pub record IsEnclosingInstance (s : Symbol) (w : Direct) (mark : Mark) (from : ℕ) : Type 0 where
   pub state : State
-  pub candidates : AreCandidates w.text.list.items w.candidates.list.items state.candidates
+  pub candidates : AreCandidates (detail_of s) w.text.list.items w.candidates.list.items state.candidates
   pub own : Term
   pub v : Value
   pub tree_is : tree_of v ≡ own
@@ -63,19 +62,19 @@ pub record IsEnclosingInstance (s : Symbol) (w : Direct) (mark : Mark) (from : �
   pub name : List ℕ
   pub written : w.text.list.items ≡ front ++ name
   pub from_is : from ≡ length front
-  pub prints : PrintsName own name
+  pub prints : PrintsName (detail_of s) own name
   pub returns : has_return_type own ≡ true
-  pub names : HasArguments w.text.list.items w.argument own
+  pub names : HasArguments (detail_of s) w.text.list.items w.argument own
   pub goes : ItemsGoOn s (named_in 0 w.argument) (TypeWithin s (Stands s (reverse w.waiting.list.items)) front) (λ l. encoding_of v l) [] w.at state
 
 -- The name of a function in which a type is was read, and its return type if it has one. Its parameters are expected.
 pub record AwaitsEnclosingParameters (s : Symbol) (w : Direct) (mark : Mark) (from : ℕ) (argument : Arguments) : Type 0 where
   pub state : State
-  pub candidates : AreCandidates w.text.list.items w.candidates.list.items state.candidates
+  pub candidates : AreCandidates (detail_of s) w.text.list.items w.candidates.list.items state.candidates
   pub make : Term → Term
   pub front : List ℕ
   pub name : List ℕ
-  pub is_enclosing : IsEnclosing w.text.list.items argument mark make [] name []
+  pub is_enclosing : IsEnclosing (detail_of s) w.text.list.items argument mark make [] name []
   pub written : w.text.list.items ≡ front ++ name
   pub from_is : from ≡ length front
   pub goes : ItemsGoOn s argument (TypeWithin s (Stands s (reverse w.waiting.list.items)) front) make [] w.at state
@@ -83,7 +82,7 @@ pub record AwaitsEnclosingParameters (s : Symbol) (w : Direct) (mark : Mark) (fr
 -- A parameter of such a function was read.
 pub record IsEnclosingParameterRead (s : Symbol) (w : Direct) (mark : Mark) (from : ℕ) (argument : Arguments) : Type 0 where
   pub state : State
-  pub candidates : AreCandidates w.text.list.items w.candidates.list.items state.candidates
+  pub candidates : AreCandidates (detail_of s) w.text.list.items w.candidates.list.items state.candidates
   pub rest : List Open
   pub open_is : reverse w.waiting.list.items ≡ opens.Enclosing mark from argument ∷ rest
   pub make : Term → Term
@@ -92,21 +91,22 @@ pub record IsEnclosingParameterRead (s : Symbol) (w : Direct) (mark : Mark) (fro
   pub front : List ℕ
   pub name : List ℕ
   pub texts : List ℕ
-  pub is_enclosing : IsEnclosing w.text.list.items argument mark make ts name texts
+  pub is_enclosing : IsEnclosing (detail_of s) w.text.list.items argument mark make ts name texts
   pub from_is : from ≡ length front
   pub written : w.text.list.items ≡ front ++ name ++ codes "(" ++ texts
+  pub whole : s.is_bare ≡ false
   pub goes : ItemsGoOn s argument (TypeWithin s (Stands s rest) front) make ts w.at state
 
 -- Such a function was read and written from a place on, but for its qualifier.
 pub record IsEnclosingRead (s : Symbol) (w : Direct) (mark : Mark) (from : ℕ) : Type 0 where
   pub state : State
-  pub candidates : AreCandidates w.text.list.items w.candidates.list.items state.candidates
+  pub candidates : AreCandidates (detail_of s) w.text.list.items w.candidates.list.items state.candidates
   pub e : Term
   pub front : List ℕ
   pub bytes : List ℕ
   pub written : w.text.list.items ++ mark_text mark ≡ front ++ bytes
   pub from_is : from ≡ length front
-  pub encloses : Encloses Full e bytes
+  pub encloses : Encloses (detail_of s) e bytes
   pub within : TypeWithin s (Stands s (reverse w.waiting.list.items)) front e w.at state
 
 -- The name of a type is expected after the E of the function that it is in, which was written from a place on.
@@ -119,17 +119,17 @@ pub record AwaitsTypeName (s : Symbol) (w : Direct) (from : ℕ) : Type 0 where
 -- A parameter of a lambda was read, which is a type that is in a function.
 pub record IsLambdaParameterRead (s : Symbol) (w : Direct) (from : ℕ) : Type 0 where
   pub state : State
-  pub candidates : AreCandidates w.text.list.items w.candidates.list.items state.candidates
+  pub candidates : AreCandidates (detail_of s) w.text.list.items w.candidates.list.items state.candidates
   pub rest : List Open
   pub open_is : reverse w.waiting.list.items ≡ opens.Lambda from ∷ rest
   pub front : List ℕ
   pub e : Term
   pub bytes : List ℕ
-  pub encloses : Encloses Full e bytes
+  pub encloses : Encloses (detail_of s) e bytes
   pub ts : List Term
   pub some : ts ≢ []
   pub texts : List ℕ
-  pub elements : PrintAll 0 ts texts
+  pub elements : PrintAll (detail_of s) 0 ts texts
   pub from_is : from ≡ length front
   pub written : w.text.list.items ≡ front ++ (bytes ++ codes "::{lambda(") ++ texts
   pub goes : ItemsGoOn s nowhere (LambdaWithin s (Stands s rest) front e) (λ l. l) ts w.at state

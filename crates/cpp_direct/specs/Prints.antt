@@ -1,7 +1,6 @@
 -- Trees of which the text is known: those that print it at the left and nothing at the right, wherever they are.
 use Rattle.std.specs.Prelude.{◌≡◌, ℕ, ◌+◌, ◌*◌, ◌≤◌, List, [], ◌∷◌, ◌++◌, length, Bool, true, false, cond, None, codes, ◌⊎◌}
 use Rattle.sym_print.specs.declared.detail.Detail.{Detail}
-use Rattle.sym_print.specs.declared.detail.Detail.TheVariants.{Full}
 use Rattle.sym_print.specs.Unshared.{Unshared, text_of, cost_of}
 use Rattle.cpp_grammar.specs.Term.{Signed, Term, nil, list}
 use Rattle.cpp_grammar.specs.Scope.{element, is_open, pack_length, length_if_pack}
@@ -15,20 +14,16 @@ use Rattle.cpp_grammar.specs.Answer.{shown}
 abbrev pub shown_in : Detail → Form → Context → Term → Unshared
 shown_in detail form context t = shown detail (record { tree = t; form = form; context = context })
 
--- and in full
-abbrev pub in_form : Form → Context → Term → Unshared
-in_form form context t = shown_in Full form context t
-
 -- the name of a builtin type whose integers are without it is one of these words, or ends in one after a blank
 abbrev pub EndsAsInteger : List ℕ → Type 0
 EndsAsInteger bytes =
     (front : List ℕ) × ((bytes ≡ codes "int") ⊎ (bytes ≡ front ++ codes " int") ⊎ (bytes ≡ codes "long") ⊎ (bytes ≡ front ++ codes " long"))
 
 -- A tree with this text. It is a type, or the name of something; whether it is a reference is known.
-pub record Prints (t : Term) (bytes : List ℕ) (reference : Bool) : Type 0 where
-  pub left_text : (context : Context) → text_of (in_form left context t) ≡ bytes
-  pub right_text : (context : Context) → text_of (in_form right context t) ≡ []
-  pub cost : (context : Context) → 1 + cost_of (in_form left context t) + cost_of (in_form right context t) ≤ 4 * length bytes
+pub record Prints (detail : Detail) (t : Term) (bytes : List ℕ) (reference : Bool) : Type 0 where
+  pub left_text : (context : Context) → text_of (shown_in detail left context t) ≡ bytes
+  pub right_text : (context : Context) → text_of (shown_in detail right context t) ≡ []
+  pub cost : (context : Context) → 1 + cost_of (shown_in detail left context t) + cost_of (shown_in detail right context t) ≤ 4 * length bytes
   pub is_reference_head : (context : Context) → is_reference (head context t) ≡ reference
   pub is_funarr_head : (context : Context) → is_funarr (head context t) ≡ false
   pub filled : (context : Context) → is_empty context t ≡ false
@@ -36,22 +31,22 @@ pub record Prints (t : Term) (bytes : List ℕ) (reference : Bool) : Type 0 wher
   pub packless : (scope : Term) → pack_length scope t ≡ None
   pub no_function : is_function_type t ≡ false
   pub no_pack : length_if_pack t ≡ None
-  pub reference_cost : reference ≡ true → (context : Context) → 2 + cost_of (in_form left context t) + cost_of (in_form right context t) ≤ 4 * length bytes
+  pub reference_cost : reference ≡ true → (context : Context) → 2 + cost_of (shown_in detail left context t) + cost_of (shown_in detail right context t) ≤ 4 * length bytes
   pub as_prefix : (context : Context) → prefix_item context t ≡ as_item left context t
   pub opening : opening_text (last_piece t) ≡ codes "<"
   pub void : is_void t ≡ true → bytes ≡ codes "void"
   pub integer : is_plain_integer t ≡ true → EndsAsInteger bytes
 
 -- A tree with this text at the left, as the name of a function or of data has it.
-pub record PrintsName (t : Term) (bytes : List ℕ) : Type 0 where
-  pub left_text : (context : Context) → text_of (in_form left context t) ≡ bytes
-  pub cost : (context : Context) → 1 + cost_of (in_form left context t) + cost_of (in_form right context t) ≤ 4 * length bytes
+pub record PrintsName (detail : Detail) (t : Term) (bytes : List ℕ) : Type 0 where
+  pub left_text : (context : Context) → text_of (shown_in detail left context t) ≡ bytes
+  pub cost : (context : Context) → 1 + cost_of (shown_in detail left context t) + cost_of (shown_in detail right context t) ≤ 4 * length bytes
 
 -- A tree with this text in a context. It may cost so much more than one that has this text wherever it is.
-pub record PrintsIn (context : Context) (extra : ℕ) (t : Term) (bytes : List ℕ) (reference : Bool) : Type 0 where
-  pub left_text : text_of (in_form left context t) ≡ bytes
-  pub right_text : text_of (in_form right context t) ≡ []
-  pub cost : 1 + cost_of (in_form left context t) + cost_of (in_form right context t) ≤ extra + 4 * length bytes
+pub record PrintsIn (detail : Detail) (context : Context) (extra : ℕ) (t : Term) (bytes : List ℕ) (reference : Bool) : Type 0 where
+  pub left_text : text_of (shown_in detail left context t) ≡ bytes
+  pub right_text : text_of (shown_in detail right context t) ≡ []
+  pub cost : 1 + cost_of (shown_in detail left context t) + cost_of (shown_in detail right context t) ≤ extra + 4 * length bytes
   pub is_reference_head : is_reference (head context t) ≡ reference
   pub is_funarr_head : is_funarr (head context t) ≡ false
   pub filled : is_empty context t ≡ false
@@ -59,13 +54,13 @@ pub record PrintsIn (context : Context) (extra : ℕ) (t : Term) (bytes : List �
   pub void : is_void t ≡ true → bytes ≡ codes "void"
 
 -- A tree that names an argument of its scope: wherever that is a type with a text, and no reference, it prints this after it.
-abbrev pub PrintsBehind : (number : ℕ) → Term → (marks : List ℕ) → (reference : Bool) → Type 0
-PrintsBehind number t marks reference =
-    (context : Context) (bytes : List ℕ) → Prints (argument context number) bytes false → PrintsIn context 2 t (bytes ++ marks) reference
+abbrev pub PrintsBehind : (detail : Detail) (number : ℕ) → Term → (marks : List ℕ) → (reference : Bool) → Type 0
+PrintsBehind detail number t marks reference =
+    (context : Context) (bytes : List ℕ) → Prints detail (argument context number) bytes false → PrintsIn detail context 2 t (bytes ++ marks) reference
 
 -- A tree that names an argument of its scope, and is a type that may be named itself where that isn't a pack.
-pub record NamesArgument (number : ℕ) (t : Term) (marks : List ℕ) (reference : Bool) : Type 0 where
-  pub prints : PrintsBehind number t marks reference
+pub record NamesArgument (detail : Detail) (number : ℕ) (t : Term) (marks : List ℕ) (reference : Bool) : Type 0 where
+  pub prints : PrintsBehind detail number t marks reference
   pub packless : (scope : Term) → length_if_pack (element scope number) ≡ None → pack_length scope t ≡ None
   pub no_function : is_function_type t ≡ false
 
@@ -75,15 +70,15 @@ forwarded true = []
 forwarded false = codes "&&"
 
 -- A tree whose class is named so where it comes before a constructor or a destructor.
-pub record NamesClass (t : Term) (class : List ℕ) : Type 0 where
-  pub base_text : (context : Context) → text_of (in_form base context t) ≡ class
-  pub base_cost : (context : Context) → cost_of (in_form left context t) + cost_of (in_form right context t) + cost_of (in_form base context t)
-      ≤ 4 * (length (text_of (in_form left context t)) + length class)
+pub record NamesClass (detail : Detail) (t : Term) (class : List ℕ) : Type 0 where
+  pub base_text : (context : Context) → text_of (shown_in detail base context t) ≡ class
+  pub base_cost : (context : Context) → cost_of (shown_in detail left context t) + cost_of (shown_in detail right context t) + cost_of (shown_in detail base context t)
+      ≤ 4 * (length (text_of (shown_in detail left context t)) + length class)
 
 -- A piece of a name with this text, where it is a component of another name.
-pub record PrintsPiece (p : Term) (bytes : List ℕ) : Type 0 where
-  pub piece_text : (context : Context) → text_of (in_form piece context p) ≡ bytes
-  pub piece_cost : (context : Context) → cost_of (in_form piece context p) ≤ 4 * length bytes
+pub record PrintsPiece (detail : Detail) (p : Term) (bytes : List ℕ) : Type 0 where
+  pub piece_text : (context : Context) → text_of (shown_in detail piece context p) ≡ bytes
+  pub piece_cost : (context : Context) → cost_of (shown_in detail piece context p) ≤ 4 * length bytes
   pub as_component : (context : Context) (prefix : Term)
       → within_parts context prefix p ≡ prefix_item context prefix ∷ says "::" ∷ as_item piece context p ∷ []
   pub is_closed : is_open p ≡ false
@@ -121,18 +116,18 @@ joined (b ∷ []) = b
 joined (b ∷ c ∷ bs) = b ++ codes ", " ++ joined (c ∷ bs)
 
 -- A tree prints this text as the element of a list. It may cost so much more than a type with that text.
-pub record IsElement (extra : ℕ) (t : Term) (bytes : List ℕ) : Type 0 where
-  pub both_texts : (context : Context) → text_of (in_form left context t) ++ text_of (in_form right context t) ≡ bytes
-  pub cost : (context : Context) → 1 + cost_of (in_form left context t) + cost_of (in_form right context t) ≤ extra + 4 * length bytes
+pub record IsElement (detail : Detail) (extra : ℕ) (t : Term) (bytes : List ℕ) : Type 0 where
+  pub both_texts : (context : Context) → text_of (shown_in detail left context t) ++ text_of (shown_in detail right context t) ≡ bytes
+  pub cost : (context : Context) → 1 + cost_of (shown_in detail left context t) + cost_of (shown_in detail right context t) ≤ extra + 4 * length bytes
   pub filled : (context : Context) → is_empty context t ≡ false
   pub is_closed : is_open t ≡ false
   pub packless : (scope : Term) → pack_length scope t ≡ None
   pub void : is_void t ≡ true → bytes ≡ codes "void"
 
 -- The same in a context.
-pub record IsElementIn (context : Context) (extra : ℕ) (t : Term) (bytes : List ℕ) : Type 0 where
-  pub both_texts : text_of (in_form left context t) ++ text_of (in_form right context t) ≡ bytes
-  pub cost : 1 + cost_of (in_form left context t) + cost_of (in_form right context t) ≤ extra + 4 * length bytes
+pub record IsElementIn (detail : Detail) (context : Context) (extra : ℕ) (t : Term) (bytes : List ℕ) : Type 0 where
+  pub both_texts : text_of (shown_in detail left context t) ++ text_of (shown_in detail right context t) ≡ bytes
+  pub cost : 1 + cost_of (shown_in detail left context t) + cost_of (shown_in detail right context t) ≤ extra + 4 * length bytes
   pub filled : is_empty context t ≡ false
   pub void : is_void t ≡ true → bytes ≡ codes "void"
 
@@ -146,15 +141,15 @@ PrintEachBy by _ _ = ⊥
 abbrev pub PrintAllBy : (by : Term → List ℕ → Type 0) → List Term → (bytes : List ℕ) → Type 0
 PrintAllBy by ts bytes = (texts : List (List ℕ)) × PrintEachBy by ts texts × (joined texts ≡ bytes)
 
-abbrev pub PrintEach : (extra : ℕ) → List Term → List (List ℕ) → Type 0
-PrintEach extra ts texts = PrintEachBy (IsElement extra) ts texts
+abbrev pub PrintEach : (detail : Detail) (extra : ℕ) → List Term → List (List ℕ) → Type 0
+PrintEach detail extra ts texts = PrintEachBy (IsElement detail extra) ts texts
 
-abbrev pub PrintAll : (extra : ℕ) → List Term → (bytes : List ℕ) → Type 0
-PrintAll extra ts bytes = PrintAllBy (IsElement extra) ts bytes
+abbrev pub PrintAll : (detail : Detail) (extra : ℕ) → List Term → (bytes : List ℕ) → Type 0
+PrintAll detail extra ts bytes = PrintAllBy (IsElement detail extra) ts bytes
 
 -- the same in a context
-abbrev pub PrintEachIn : Context → (extra : ℕ) → List Term → List (List ℕ) → Type 0
-PrintEachIn context extra ts texts = PrintEachBy (IsElementIn context extra) ts texts
+abbrev pub PrintEachIn : (detail : Detail) → Context → (extra : ℕ) → List Term → List (List ℕ) → Type 0
+PrintEachIn detail context extra ts texts = PrintEachBy (IsElementIn detail context extra) ts texts
 
-abbrev pub PrintAllIn : Context → (extra : ℕ) → List Term → (bytes : List ℕ) → Type 0
-PrintAllIn context extra ts bytes = PrintAllBy (IsElementIn context extra) ts bytes
+abbrev pub PrintAllIn : (detail : Detail) → Context → (extra : ℕ) → List Term → (bytes : List ℕ) → Type 0
+PrintAllIn detail context extra ts bytes = PrintAllBy (IsElementIn detail context extra) ts bytes

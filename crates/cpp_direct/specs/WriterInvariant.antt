@@ -1,6 +1,6 @@
 -- What a writer's lists say while a symbol is read: what is open waits for what comes next, and what was written is its text.
+use Rattle.sym_print.specs.declared.detail.Detail.{Detail}
 use Rattle.std.specs.Prelude.{◌≡◌, ◌≢◌, ◌⊎◌, ℕ, zero, suc, ◌+◌, ◌*◌, ◌≤◌, ◌<◌, List, [], ◌∷◌, ◌++◌, ◌-◌, length, take, drop, reverse, slice_get, Bool, true, false, cond, Option, Some, None, Ok, codes, ◌&&◌}
-use Rattle.sym_print.specs.declared.detail.Detail.TheVariants.{Full}
 use Rattle.sym_print.specs.Unshared.{text_of, cost_of}
 use Rattle.sym_demangle.specs.Mangled.{StandsFor}
 use Rattle.cpp_grammar.specs.declared.kind.Kind.{Kind}
@@ -27,7 +27,7 @@ use Rattle.cpp_direct.specs.declared.open.Open.TheVariants as opens
 use Rattle.cpp_direct.specs.declared.open.Step.{Step}
 use Rattle.cpp_direct.specs.declared.open.Step.TheVariants as steps
 use Rattle.cpp_direct.specs.declared.direct.Direct.{Direct}
-use Rattle.cpp_direct.specs.Bytes.{has_bracket, is_local}
+use Rattle.cpp_direct.specs.Bytes.{is_local}
 use Rattle.cpp_direct.specs.Holes.{Opened, Comes, Expects, StandsAt, TypePasses, NestGoesOn, AwaitsComponent, with_candidate, unless_listed}
 use Rattle.cpp_direct.specs.HolesOfFunctions.{SignatureGoesOn, plain_function}
 use Rattle.cpp_direct.specs.HolesOfArrays.{accessed, with_accessed}
@@ -42,28 +42,28 @@ use Rattle.cpp_grammar.specs.Parts.{types_of}
 -- ## Candidates
 
 -- It prints a text, or that after an argument, in the encoding that begins at its place, if this is known.
-abbrev pub PrintsOrNames : (is_dependent : Bool) → Candidate → values.Candidate → (bytes : List ℕ) → Type 0
-PrintsOrNames false k c bytes = Prints c.tree bytes k.is_reference
-PrintsOrNames true k c bytes = NamesArgument k.number c.tree bytes k.is_reference × (k.encoding ≢ 0 → c.encoding ≡ k.encoding)
+abbrev pub PrintsOrNames : (detail : Detail) (is_dependent : Bool) → Candidate → values.Candidate → (bytes : List ℕ) → Type 0
+PrintsOrNames detail false k c bytes = Prints detail c.tree bytes k.is_reference
+PrintsOrNames detail true k c bytes = NamesArgument detail k.number c.tree bytes k.is_reference × (k.encoding ≢ 0 → c.encoding ≡ k.encoding)
 
-abbrev pub PrintsAs : Candidate → values.Candidate → (bytes : List ℕ) → Type 0
-PrintsAs k c bytes = PrintsOrNames k.is_dependent k c bytes
+abbrev pub PrintsAs : (detail : Detail) → Candidate → values.Candidate → (bytes : List ℕ) → Type 0
+PrintsAs detail k c bytes = PrintsOrNames detail k.is_dependent k c bytes
 
 -- what a substitution may name prints the text that is at its place
-pub record IsCandidate (text : List ℕ) (k : Candidate) (c : values.Candidate) : Type 0 where
+pub record IsCandidate (detail : Detail) (text : List ℕ) (k : Candidate) (c : values.Candidate) : Type 0 where
   pub front : List ℕ
   pub bytes : List ℕ
   pub back : List ℕ
   pub written : text ≡ front ++ bytes ++ back
   pub from_is : k.from ≡ length front
   pub to_is : k.to ≡ length front + length bytes
-  pub prints : PrintsAs k c bytes
+  pub prints : PrintsAs detail k c bytes
 
 -- each candidate is so, but for those that end before they begin, of which nothing is known
-abbrev pub AreCandidates : (text : List ℕ) → List Candidate → List values.Candidate → Type 0
-AreCandidates text [] [] = Unit {0}
-AreCandidates text (k ∷ ks) (c ∷ cs) = (k.from ≤ k.to → IsCandidate text k c) × AreCandidates text ks cs
-AreCandidates text _ _ = ⊥
+abbrev pub AreCandidates : (detail : Detail) (text : List ℕ) → List Candidate → List values.Candidate → Type 0
+AreCandidates detail text [] [] = Unit {0}
+AreCandidates detail text (k ∷ ks) (c ∷ cs) = (k.from ≤ k.to → IsCandidate detail text k c) × AreCandidates detail text ks cs
+AreCandidates detail text _ _ = ⊥
 
 -- ## Arguments of templates
 
@@ -100,7 +100,7 @@ IsKnown p = p.from ≤ p.to
 
 -- The argument of a name with this number is at a place, or the element with this number of the pack that is its only argument and
 -- has so many elements.
-pub record IsArgument (text : List ℕ) (size : ℕ) (p : Argument) (number : ℕ) (name : Term) : Type 0 where
+pub record IsArgument (detail : Detail) (text : List ℕ) (size : ℕ) (p : Argument) (number : ℕ) (name : Term) : Type 0 where
   pub bytes : List ℕ
   pub placed : IsPlaced text p bytes
   pub own : Term
@@ -109,11 +109,11 @@ pub record IsArgument (text : List ℕ) (size : ℕ) (p : Argument) (number : �
   pub there : p.is_pack ≡ false → (element all number ≡ own) × (number < count all)
   pub elements : List Term
   pub alone : p.is_pack ≡ true → (all ≡ list (pack (list_of elements)) nil) × (slice_get elements number ≡ Some own) × (length elements ≡ size)
-  pub prints : Prints own bytes p.is_reference
+  pub prints : Prints detail own bytes p.is_reference
 
 -- the known arguments of a name are at their places
-abbrev pub HasArguments : (text : List ℕ) → Arguments → (name : Term) → Type 0
-HasArguments text a name = (number : ℕ) → IsKnown (place_of a number) → IsArgument text a.elements (place_of a number) number name
+abbrev pub HasArguments : (detail : Detail) (text : List ℕ) → Arguments → (name : Term) → Type 0
+HasArguments detail text a name = (number : ℕ) → IsKnown (place_of a number) → IsArgument detail text a.elements (place_of a number) number name
 
 -- a parameter may name that argument here, or the pack
 pub record IsScope (number : ℕ) (is_pack : Bool) (around : Around) : Type 0 where
@@ -208,18 +208,18 @@ abbrev pub qualifiers : (is_const : Bool) → Qualifiers
 qualifiers is_const = record { restrict = false; volatile = false; const = is_const }
 
 -- a name so far, with these bytes after a front
-pub record IsNest (front bytes text : List ℕ) (nest : Nest) (t : Term) : Type 0 where
+pub record IsNest (detail : Detail) (front bytes text : List ℕ) (nest : Nest) (t : Term) : Type 0 where
   pub back : List ℕ
   pub written : text ≡ front ++ bytes ++ back
   pub from_is : nest.from ≡ length front
-  pub prints : Prints t bytes false
+  pub prints : Prints detail t bytes false
   pub class_front : List ℕ
   pub class : List ℕ
   pub class_back : List ℕ
   pub class_written : text ≡ class_front ++ class ++ class_back
   pub class_from : nest.class_from ≡ length class_front
   pub class_to : nest.class_to ≡ length class_front + length class
-  pub names_class : nest.has_class ≡ true → NamesClass t class
+  pub names_class : nest.has_class ≡ true → NamesClass detail t class
 
 -- ## Lists
 
@@ -256,38 +256,38 @@ plain_encoding mark own items = function own (qualifiers (has_const mark)) (call
 
 -- A function's name and the parameters so far, with their texts. All parameters make a function that has no return type. The known
 -- arguments of its template are at their places.
-pub record IsFunction (text : List ℕ) (argument : Arguments) (mark : Mark) (make : Term → Term) (ts : List Term) (name texts : List ℕ) : Type 0 where
+pub record IsFunction (detail : Detail) (text : List ℕ) (argument : Arguments) (mark : Mark) (make : Term → Term) (ts : List Term) (name texts : List ℕ) : Type 0 where
   pub own : Term
   pub makes : (t rest : Term) → make (list t rest) ≡ plain_encoding mark own (list t rest)
-  pub prints : PrintsName own name
-  pub elements : PrintAllIn (types_of own) 6 ts texts
-  pub names : HasArguments text argument own
+  pub prints : PrintsName detail own name
+  pub elements : PrintAllIn detail (types_of own) 6 ts texts
+  pub names : HasArguments detail text argument own
 
 -- What is written of a function before its parameters. Its text begins at this place in it. Where functions are shown by their names
--- alone, it ends there, and the name has no brackets: so nothing in it is shown otherwise.
+-- alone, it ends there.
 abbrev pub Fronts : (is_bare : Bool) → (front : List ℕ) → (start : ℕ) → (lead name : List ℕ) → Type 0
 Fronts false front start lead name = (aside : List ℕ) × (front ≡ aside ++ lead ++ name) × (start ≡ length aside)
 Fronts true front start lead name =
-    (aside : List ℕ) × (front ≡ lead ++ name ++ aside) × (start ≡ length (lead ++ name)) × (has_bracket name ≡ false)
+    (aside : List ℕ) × (front ≡ lead ++ name ++ aside) × (start ≡ length (lead ++ name))
 
 -- The same of a function in which a type is. All parameters make one that has some return type, or none.
-pub record IsEnclosing (text : List ℕ) (argument : Arguments) (mark : Mark) (make : Term → Term) (ts : List Term) (name texts : List ℕ) : Type 0 where
+pub record IsEnclosing (detail : Detail) (text : List ℕ) (argument : Arguments) (mark : Mark) (make : Term → Term) (ts : List Term) (name texts : List ℕ) : Type 0 where
   pub own : Term
   pub returned : Term
   pub makes : (t rest : Term) → make (list t rest) ≡ function own (qualifiers (has_const mark)) (called_on mark) returned (parameters (list t rest))
-  pub prints : PrintsName own name
-  pub elements : PrintAllIn (types_of own) 6 ts texts
-  pub names : HasArguments text argument own
+  pub prints : PrintsName detail own name
+  pub elements : PrintAllIn detail (types_of own) 6 ts texts
+  pub names : HasArguments detail text argument own
 
 -- the name of a function that has a return type, and its text, and where the arguments of its template are
-pub record IsInstance (text : List ℕ) (argument : Arguments) (mark : Mark) (v : Value) (name : List ℕ) : Type 0 where
+pub record IsInstance (detail : Detail) (text : List ℕ) (argument : Arguments) (mark : Mark) (v : Value) (name : List ℕ) : Type 0 where
   pub own : Term
   pub tree_is : tree_of v ≡ own
   pub qualifiers_are : qualifiers_of v ≡ qualifiers (has_const mark)
   pub mark_is : ref_of v ≡ called_on mark
-  pub prints : PrintsName own name
+  pub prints : PrintsName detail own name
   pub returns : has_return_type own ≡ true
-  pub names : HasArguments text argument own
+  pub names : HasArguments detail text argument own
 
 -- ## What is open
 
@@ -331,7 +331,7 @@ Serves s (purposes.Name mark) below os front =
     (t : Term) (listed : Bool) (at : ℕ) (st : State) → Comes s os (tree t listed) at st → AwaitsItems s front (named t (qualifiers (has_const mark)) (called_on mark)) at st
 Serves s (purposes.Enclosing mark) below os front =
     (text : List ℕ) (argument : Arguments) (t : Term) (listed : Bool) (at : ℕ) (st : State)
-    → HasArguments text argument t → argument.encoding ≡ 0 → Comes s os (tree t listed) at st
+    → HasArguments (detail_of s) text argument t → argument.encoding ≡ 0 → Comes s os (tree t listed) at st
     → ItemsGoOn s argument (TypeWithin s below front) (λ l. encoding_of (named t (qualifiers (has_const mark)) (called_on mark)) l) [] at st
 
 -- An instance is read, after this text: what becomes of it.
@@ -389,17 +389,17 @@ GoesOn s listing owner below front template ts at st =
     ElementsGoOn s (element_kind listing) (λ l now then. Closes s listing owner below front template l now then) ts at st
 
 -- Arguments are these elements, and what is known of them so far. The one with this number is at a place.
-pub record IsAmong (text : List ℕ) (p : Argument) (number : ℕ) (ts : List Term) : Type 0 where
+pub record IsAmong (detail : Detail) (text : List ℕ) (p : Argument) (number : ℕ) (ts : List Term) : Type 0 where
   pub bytes : List ℕ
   pub placed : IsPlaced text p bytes
   pub own : Term
   pub there : slice_get ts number ≡ Some own
-  pub prints : Prints own bytes p.is_reference
+  pub prints : Prints detail own bytes p.is_reference
 
 -- those that are known are arguments, or elements of a pack
-abbrev pub AreAmong : (text : List ℕ) → (is_pack : Bool) → Arguments → List Term → Type 0
-AreAmong text is_pack a ts =
-    (number : ℕ) → IsKnown (place_of a number) → IsAmong text (place_of a number) number ts × ((place_of a number).is_pack ≡ is_pack)
+abbrev pub AreAmong : (detail : Detail) (text : List ℕ) → (is_pack : Bool) → Arguments → List Term → Type 0
+AreAmong detail text is_pack a ts =
+    (number : ℕ) → IsKnown (place_of a number) → IsAmong detail text (place_of a number) number ts × ((place_of a number).is_pack ≡ is_pack)
 
 -- a nested name is that of a function or of data
 abbrev pub IsOwn : Purpose → Type 0
@@ -407,21 +407,21 @@ IsOwn purposes.Type = ⊥
 IsOwn _ = Unit {0}
 
 -- this template comes before the arguments
-abbrev pub IsTemplate : Open → (front : List ℕ) → Term → (name : List ℕ) → (text : List ℕ) → Type 0
-IsTemplate (opens.TypeArguments from) front template name text = (from ≡ length front) × Prints template name false
-IsTemplate (opens.NestArguments nest) front template name text =
-    IsNest front name text nest template × (IsOwn nest.purpose → nest.has_class ≡ false → is_structor template ≡ true)
+abbrev pub IsTemplate : (detail : Detail) → Open → (front : List ℕ) → Term → (name : List ℕ) → (text : List ℕ) → Type 0
+IsTemplate detail (opens.TypeArguments from) front template name text = (from ≡ length front) × Prints detail template name false
+IsTemplate detail (opens.NestArguments nest) front template name text =
+    IsNest detail front name text nest template × (IsOwn nest.purpose → nest.has_class ≡ false → is_structor template ≡ true)
     × (nest.has_class ≡ true → is_structor template ≡ false)
-IsTemplate (opens.FirstArguments nest) front template name text = IsNest front name text nest template
-IsTemplate (opens.NameArguments from) front template name text =
-    (from ≡ length front) × Prints template name false × (is_structor template ≡ false)
-IsTemplate _ front template name text = ⊥
+IsTemplate detail (opens.FirstArguments nest) front template name text = IsNest detail front name text nest template
+IsTemplate detail (opens.NameArguments from) front template name text =
+    (from ≡ length front) × Prints detail template name false × (is_structor template ≡ false)
+IsTemplate detail _ front template name text = ⊥
 
 -- a type comes as an element
 abbrev pub AwaitsElementOf : (s : Symbol) → Listing → Open → Below → List Opened → (text : List ℕ) → Type 0
 AwaitsElementOf s listing owner below os text =
     (front : List ℕ) × (template : Term) × (name : List ℕ) × (ts : List Term) × (elements : List ℕ)
-    × IsTemplate owner front template name text × PrintAll (extra_of listing) ts elements
+    × IsTemplate (detail_of s) owner front template name text × PrintAll (detail_of s) (extra_of listing) ts elements
     × (text ≡ led_by listing front name ++ in_front_of_next ts elements)
     × ((t : Term) (at : ℕ) (st : State) → Comes s os (tree t true) at st → GoesOn s listing owner below front template (ts ++ t ∷ []) at st)
 
@@ -436,25 +436,25 @@ EnumeratorGoesOn s listing owner below front template ts t at st =
 abbrev pub AwaitsEnumerator : (s : Symbol) → Listing → Open → Below → List Opened → (text : List ℕ) → Type 0
 AwaitsEnumerator s listing owner below os text =
     (front : List ℕ) × (template : Term) × (name : List ℕ) × (ts : List Term) × (elements : List ℕ)
-    × IsTemplate owner front template name text × PrintAll (extra_of listing) ts elements
+    × IsTemplate (detail_of s) owner front template name text × PrintAll (detail_of s) (extra_of listing) ts elements
     × (text ≡ led_by listing front name ++ in_front_of_next ts elements ++ codes "(")
     × ((t : Term) (at : ℕ) (st : State) → Comes s os (tree t true) at st → EnumeratorGoesOn s listing owner below front template ts t at st)
 
 -- what is open is this list of this owner
-abbrev pub Belongs : Listing → (opened : List Open) → (owner : Open) → (rest : List Open) → Type 0
-Belongs of_template opened owner rest = opened ≡ owner ∷ rest
-Belongs (of_pack before written) opened owner rest = (opened ≡ opens.Pack ∷ owner ∷ rest) × PrintAll 3 before written
+abbrev pub Belongs : (detail : Detail) → Listing → (opened : List Open) → (owner : Open) → (rest : List Open) → Type 0
+Belongs detail of_template opened owner rest = opened ≡ owner ∷ rest
+Belongs detail (of_pack before written) opened owner rest = (opened ≡ opens.Pack ∷ owner ∷ rest) × PrintAll detail 3 before written
 
 -- a list is open, and what it belongs to
-pub record IsListing (opened : List Open) (text : List ℕ) : Type 0 where
+pub record IsListing (detail : Detail) (opened : List Open) (text : List ℕ) : Type 0 where
   pub listing : Listing
   pub owner : Open
   pub rest : List Open
-  pub belongs : Belongs listing opened owner rest
+  pub belongs : Belongs detail listing opened owner rest
   pub front : List ℕ
   pub template : Term
   pub name : List ℕ
-  pub is_template : IsTemplate owner front template name text
+  pub is_template : IsTemplate detail owner front template name text
 
 -- what follows the return type of a function type, or of one that is pointed to
 abbrev pub opening_text : (is_pointer : Bool) → List ℕ
@@ -487,23 +487,23 @@ Stands s (opens.Lvalue from ∷ rest) os text = Marks s (Stands s rest) (argumen
 Stands s (opens.Rvalue from ∷ rest) os text = Marks s (Stands s rest) (argument_of rest) os text from rvalue
 Stands s (opens.Const from ∷ rest) os text = Marks s (Stands s rest) (argument_of rest) os text from (qualified (qualifiers true))
 Stands s (opens.Front mark start argument ∷ rest) os text =
-    (v : Value) × (lead : List ℕ) × (name : List ℕ) × IsInstance text argument mark v name × (is_local s.bytes ≡ false → lead ≡ [])
+    (v : Value) × (lead : List ℕ) × (name : List ℕ) × IsInstance (detail_of s) text argument mark v name × (is_local s.bytes ≡ false → lead ≡ [])
     × (text ≡ lead ++ name) × (start ≡ length text)
     × ((t : Term) (at : ℕ) (st : State) → Comes s os (tree t true) at st → ParametersGoOn s argument lead (encoding_of v) (t ∷ []) at st)
-    × (s.is_bare ≡ true → has_bracket name ≡ false)
 Stands s (opens.Parameters mark start argument ∷ rest) os text =
     (front : List ℕ) × (lead : List ℕ) × (make : Term → Term) × (ts : List Term) × (name : List ℕ) × (texts : List ℕ)
-    × IsFunction text argument mark make ts name texts × Fronts s.is_bare front start lead name
+    × IsFunction (detail_of s) text argument mark make ts name texts × Fronts s.is_bare front start lead name
     × (text ≡ front ++ codes "(" ++ in_front_of_next ts texts)
     × ((t : Term) (at : ℕ) (st : State) → Comes s os (tree t true) at st → ParametersGoOn s argument lead make (ts ++ t ∷ []) at st)
 Stands s (opens.Enclosing mark from argument ∷ rest) os text =
     (front : List ℕ) × (make : Term → Term) × (ts : List Term) × (name : List ℕ) × (texts : List ℕ)
-    × IsEnclosing text argument mark make ts name texts × (from ≡ length front) × (text ≡ front ++ name ++ codes "(" ++ in_front_of_next ts texts)
+    × IsEnclosing (detail_of s) text argument mark make ts name texts × (from ≡ length front) × (text ≡ front ++ name ++ codes "(" ++ in_front_of_next ts texts)
     × ((t : Term) (at : ℕ) (st : State) → Comes s os (tree t true) at st
     → ItemsGoOn s argument (TypeWithin s (Stands s rest) front) make (ts ++ t ∷ []) at st)
+    × (s.is_bare ≡ false)
 Stands s (opens.Lambda from ∷ rest) os text =
     (front : List ℕ) × (e : Term) × (bytes : List ℕ) × (ts : List Term) × (texts : List ℕ)
-    × Encloses Full e bytes × PrintAll 0 ts texts × (from ≡ length front)
+    × Encloses (detail_of s) e bytes × PrintAll (detail_of s) 0 ts texts × (from ≡ length front)
     × (text ≡ front ++ (bytes ++ codes "::{lambda(") ++ in_front_of_next ts texts)
     × ((t : Term) (at : ℕ) (st : State) → Comes s os (tree t true) at st
     → ItemsGoOn s nowhere (LambdaWithin s (Stands s rest) front e) (λ l. l) (ts ++ t ∷ []) at st)
@@ -513,7 +513,7 @@ Stands s (opens.Returned is_pointer ∷ rest) os text =
     × TakesFunction rest × Stands s rest outer text
 Stands s (opens.Signature is_pointer ∷ rest) os text =
     (outer : List Opened) × (around : Around) × (front : List ℕ) × (r : Term) × (bytes : List ℕ) × (is_reference : Bool) × (ts : List Term) × (texts : List ℕ)
-    × Prints r bytes is_reference × PrintAll 0 ts texts
+    × Prints (detail_of s) r bytes is_reference × PrintAll (detail_of s) 0 ts texts
     × (text ≡ front ++ (bytes ++ opening_text is_pointer) ++ in_front_of_next ts texts)
     × ((t : Term) (at : ℕ) (st : State) → Comes s os (tree t true) at st
     → SignatureGoesOn s outer around is_pointer (λ l. plain_function r (list_with (ts ++ t ∷ []) l)) at st)
@@ -528,26 +528,26 @@ Stands s (opens.Special ∷ rest) os text =
     × ((t : Term) (at : ℕ) (st : State) → Comes s os (tree t true) at st → Encoded s (special letter t) at)
 Stands s (opens.Argument from number known ∷ []) os text = ⊥
 Stands s (opens.Argument from number known ∷ owner ∷ rest) os text =
-    (front : List ℕ) × (template : Term) × (name : List ℕ) × (ts : List Term) × (elements : List ℕ) × IsTemplate owner front template name text
-    × PrintAll 3 ts elements × (text ≡ front ++ name ++ codes "<" ++ in_front_of_next ts elements) × (from ≡ length text) × (number ≡ length ts)
-    × AreAmong text false known ts
+    (front : List ℕ) × (template : Term) × (name : List ℕ) × (ts : List Term) × (elements : List ℕ) × IsTemplate (detail_of s) owner front template name text
+    × PrintAll (detail_of s) 3 ts elements × (text ≡ front ++ name ++ codes "<" ++ in_front_of_next ts elements) × (from ≡ length text) × (number ≡ length ts)
+    × AreAmong (detail_of s) text false known ts
     × ((t : Term) (at : ℕ) (st : State) → Comes s os (tree t true) at st
     → ArgumentsGoOn s owner (Stands s rest) front template (ts ++ t ∷ []) at st)
 Stands s (opens.Element from number known ∷ opens.Pack ∷ owner ∷ rest) os text =
-    (front : List ℕ) × (template : Term) × (name : List ℕ) × (ts : List Term) × (elements : List ℕ) × IsTemplate owner front template name text
-    × PrintAll 0 ts elements × (text ≡ front ++ name ++ codes "<" ++ in_front_of_next ts elements) × (from ≡ length text) × (number ≡ length ts)
-    × AreAmong text true known ts
+    (front : List ℕ) × (template : Term) × (name : List ℕ) × (ts : List Term) × (elements : List ℕ) × IsTemplate (detail_of s) owner front template name text
+    × PrintAll (detail_of s) 0 ts elements × (text ≡ front ++ name ++ codes "<" ++ in_front_of_next ts elements) × (from ≡ length text) × (number ≡ length ts)
+    × AreAmong (detail_of s) text true known ts
     × ((t : Term) (at : ℕ) (st : State) → Comes s os (tree t true) at st
     → GoesOn s (of_pack [] []) owner (Stands s rest) front template (ts ++ t ∷ []) at st)
 Stands s (opens.Element from number known ∷ rest) os text = ⊥
 Stands s (opens.Enumerator ∷ []) os text = ⊥
 Stands s (opens.Enumerator ∷ opens.Pack ∷ []) os text = ⊥
 Stands s (opens.Enumerator ∷ opens.Pack ∷ owner ∷ rest) os text =
-    (before : List Term) × (written : List ℕ) × PrintAll 3 before written × AwaitsEnumerator s (of_pack before written) owner (Stands s rest) os text
+    (before : List Term) × (written : List ℕ) × PrintAll (detail_of s) 3 before written × AwaitsEnumerator s (of_pack before written) owner (Stands s rest) os text
 Stands s (opens.Enumerator ∷ owner ∷ rest) os text = AwaitsEnumerator s of_template owner (Stands s rest) os text
 Stands s (opens.Pack ∷ []) os text = ⊥
 Stands s (opens.Pack ∷ owner ∷ rest) os text =
-    (before : List Term) × (written : List ℕ) × PrintAll 3 before written × AwaitsElementOf s (of_pack before written) owner (Stands s rest) os text
+    (before : List Term) × (written : List ℕ) × PrintAll (detail_of s) 3 before written × AwaitsElementOf s (of_pack before written) owner (Stands s rest) os text
 Stands s (owner ∷ rest) os text = AwaitsElementOf s of_template owner (Stands s rest) os text
 
 -- ## What comes next
@@ -559,7 +559,7 @@ pub record IsNesting (s : Symbol) (kind : Kind) (w : Direct) (t : Term) (st : St
   pub outer : List Opened
   pub bytes : List ℕ
   pub written : w.text.list.items ≡ front ++ bytes
-  pub is_nest : IsNest front bytes w.text.list.items w.nest t
+  pub is_nest : IsNest (detail_of s) front bytes w.text.list.items w.nest t
   pub goes : NestGoesOn s kind outer around t w.nest.is_listed w.at st
   pub serves : Serves s w.nest.purpose (Stands s (reverse w.waiting.list.items)) outer front
 
@@ -576,17 +576,17 @@ IsBefore s w st steps.Plain =
     × IsScoped around (reverse w.waiting.list.items)
 IsBefore s w st (steps.Value is_reference) =
     (os : List Opened) × (t : Term) × (front : List ℕ) × (bytes : List ℕ)
-    × (w.text.list.items ≡ front ++ bytes) × Prints t bytes is_reference
+    × (w.text.list.items ≡ front ++ bytes) × Prints (detail_of s) t bytes is_reference
     × Comes s os (tree t true) w.at st × Stands s (reverse w.waiting.list.items) os front
 IsBefore s w st (steps.Dependent is_reference begins number encoding) =
     (os : List Opened) × (t : Term) × (front : List ℕ) × (bytes : List ℕ) × (marks : List ℕ) × (a : Arguments)
-    × (w.text.list.items ≡ front ++ bytes ++ marks) × NamesArgument number t marks is_reference
+    × (w.text.list.items ≡ front ++ bytes ++ marks) × NamesArgument (detail_of s) number t marks is_reference
     × (argument_of (reverse w.waiting.list.items) ≡ Some a) × IsPlain (place_of a number) × IsPlaced front (place_of a number) bytes
     × (begins ≡ length (front ++ bytes))
     × Comes s os (tree t true) w.at st × Stands s (reverse w.waiting.list.items) os front × (encoding ≡ a.encoding)
 IsBefore s w st (steps.List is_first) =
-    (place : IsListing (reverse w.waiting.list.items) w.text.list.items) × (ts : List Term) × (elements : List ℕ)
-    × PrintAll (extra_of place.listing) ts elements
+    (place : IsListing (detail_of s) (reverse w.waiting.list.items) w.text.list.items) × (ts : List Term) × (elements : List ℕ)
+    × PrintAll (detail_of s) (extra_of place.listing) ts elements
     × (w.text.list.items ≡ led_by place.listing place.front place.name ++ elements)
     × (is_first ≡ true → ts ≡ []) × (is_first ≡ false → ts ≢ [])
     × GoesOn s place.listing place.owner (Stands s place.rest) place.front place.template ts w.at st
@@ -594,14 +594,14 @@ IsBefore s w st steps.Rest = (t : Term) × (kind : Kind) × IsFirstRest kind × 
 IsBefore s w st steps.Tail =
     (t : Term) × IsNesting s Kind.NestTail w t st × (IsOwn w.nest.purpose → w.nest.is_instance && w.nest.has_class ≡ false → has_return_type t ≡ false)
     × (w.nest.is_instance && w.nest.has_class ≡ true → has_return_type t ≡ true)
-    × (w.nest.is_instance ≡ true → HasArguments w.text.list.items w.argument t)
+    × (w.nest.is_instance ≡ true → HasArguments (detail_of s) w.text.list.items w.argument t)
 IsBefore s w st steps.Component =
     (t : Term) × (front : List ℕ) × (bytes : List ℕ) × (around : Around) × (outer : List Opened)
-    × (w.text.list.items ≡ front ++ bytes) × IsNest front bytes w.text.list.items w.nest t × AwaitsComponent s outer around t w.at st × Serves s w.nest.purpose (Stands s (reverse w.waiting.list.items)) outer front
+    × (w.text.list.items ≡ front ++ bytes) × IsNest (detail_of s) front bytes w.text.list.items w.nest t × AwaitsComponent s outer around t w.at st × Serves s w.nest.purpose (Stands s (reverse w.waiting.list.items)) outer front
 IsBefore s w st steps.Ended = IsWhole s w.text.list.items
 
 -- a writer that has come so far, and what comes next
 pub record IsWriting (s : Symbol) (w : Direct) (step : Step) : Type 0 where
   pub state : State
-  pub candidates : AreCandidates w.text.list.items w.candidates.list.items state.candidates
+  pub candidates : AreCandidates (detail_of s) w.text.list.items w.candidates.list.items state.candidates
   pub is_before : IsBefore s w state step

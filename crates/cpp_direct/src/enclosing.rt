@@ -12,7 +12,7 @@ ghost use Rattle.cpp_direct.specs.WriterInvariant.{IsWriting};
 ghost use Rattle.cpp_direct.specs.MidStep.{AwaitsNamedType};
 ghost use Rattle.cpp_direct.specs.MidStepOfLocals.{AwaitsEnclosingParameters, AwaitsTypeName, IsEnclosingInstance, IsEnclosingNamed, IsEnclosingParameterRead, IsEnclosingRead, IsLambdaParameterRead};
 ghost use Rattle.cpp_direct.specs.Written.{Reads};
-ghost use Rattle.cpp_direct.specs.Symbol.{symbol_by};
+ghost use Rattle.cpp_direct.specs.Symbol.{detail_by, symbol_by};
 
 use crate::direct::Direct;
 use crate::grammar::Grammar;
@@ -88,7 +88,8 @@ impl Direct {
         self.enclosing_parameters::<G>(s, mark, from, argument)
     }
 
-    /// Reads the parameters of a function in which a type is, up to the first type in them.
+    /// Reads the parameters of a function in which a type is, up to the first type in them. Where functions are shown by their names
+    /// alone, a symbol in which it has any is given up.
     // <bare-function-type> ::= <parameter type>+ | v
     fn enclosing_parameters<G: Grammar>(
         &mut self,
@@ -104,8 +105,15 @@ impl Direct {
         let behind = byte_at(s, self.at.checked_add(1)?);
         if byte_at(s, self.at) == b'v' && behind == b'E' {
             self.at = self.at.checked_add(1)?;
+            if G::IS_BARE {
+                return self.enclosed::<G>(s, from);
+            }
             self.push_pair(b'(', b')')?;
             return self.enclosing_ended::<G>(s, mark, from);
+        }
+        // parameters that aren't shown would have no texts, but may be named again
+        if G::IS_BARE {
+            return None;
         }
         self.push_byte(b'(')?;
         self.waiting.push(Open::Enclosing {
@@ -193,7 +201,7 @@ impl Direct {
     #[inline(always)]
     fn enclosed_piece<G: Grammar>(&mut self, s: &[u8]) -> Option<()>
         requires { IsReadable s.now }
-        ensures { OnSome result ((p : Term) × (n : List ℕ) × IsPieceAt (symbol_by G.IS_WIDE G.IS_BARE s.now) self.old.at p self.new.at × PrintsPiece p n × Reads self.old self.new n) }
+        ensures { OnSome result ((p : Term) × (n : List ℕ) × IsPieceAt (symbol_by G.IS_WIDE G.IS_BARE s.now) self.old.at p self.new.at × PrintsPiece (detail_by G.IS_BARE) p n × Reads self.old self.new n) }
     {
         if byte_at(s, self.at) == b'U' {
             return self.lambda::<G>(s);
@@ -205,7 +213,7 @@ impl Direct {
     // <closure-type-name> ::= Ul <lambda-sig> E [<nonnegative number>] _
     fn lambda<G: Grammar>(&mut self, s: &[u8]) -> Option<()>
         requires letter { StandsAt s.now self.old.at (85 ∷ []) }
-        ensures { OnSome result ((p : Term) × (n : List ℕ) × IsPieceAt (symbol_by G.IS_WIDE G.IS_BARE s.now) self.old.at p self.new.at × PrintsPiece p n × Reads self.old self.new n) }
+        ensures { OnSome result ((p : Term) × (n : List ℕ) × IsPieceAt (symbol_by G.IS_WIDE G.IS_BARE s.now) self.old.at p self.new.at × PrintsPiece (detail_by G.IS_BARE) p n × Reads self.old self.new n) }
     {
         let second = byte_at(s, self.at.checked_add(1)?);
         let third = byte_at(s, self.at.checked_add(2)?);

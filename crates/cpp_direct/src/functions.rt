@@ -154,7 +154,7 @@ impl Direct {
                 from,
                 argument,
             } => self.enclosing_parameter::<G>(s, mark, from, argument),
-            Open::Special => self.special_ended::<G>(s),
+            Open::Special => self.finish::<G>(s),
             _ => Some(Step::List { is_first: false }),
         }
     }

@@ -3,6 +3,7 @@
 ghost use Rattle.std.specs.Prelude.{◌≡◌, ◌≤◌, ◌+◌, ◌∷◌, ◌++◌, [], List, length, reverse, true, false, Some};
 ghost use Rattle.std.specs.Option.{OnSome, IfSome};
 ghost use Rattle.cpp_grammar.specs.Term.{Term};
+ghost use Rattle.sym_print.specs.declared.detail.Detail.{Detail};
 ghost use Rattle.cpp_direct.specs.declared.direct.Direct.{Direct};
 ghost use Rattle.cpp_direct.specs.Names.{IsReadable};
 ghost use Rattle.cpp_direct.specs.declared.open.Step.TheVariants as steps;
@@ -336,9 +337,9 @@ impl Direct {
     // <type> ::= O <type>
     fn forward(&mut self, argument: Arguments, number: u16) -> Option<()>
         requires few { number ≤ 3 }
-        requires before { (before : Direct) × (ts : List Term) × IsPackOf before.text.list.items argument ts × AreForwarded before self.old ts number }
-        ensures { OnSome result ((before : Direct) (ts : List Term) → IsPackOf before.text.list.items argument ts
-            → AreForwarded before self.old ts number → AreForwarded before self.new ts (number + 1)) }
+        requires before { (detail : Detail) × (before : Direct) × (ts : List Term) × IsPackOf detail before.text.list.items argument ts × AreForwarded detail before self.old ts number }
+        ensures { OnSome result ((detail : Detail) (before : Direct) (ts : List Term) → IsPackOf detail before.text.list.items argument ts
+            → AreForwarded detail before self.old ts number → AreForwarded detail before self.new ts (number + 1)) }
     {
         if number >= argument.elements {
             return Some(());

@@ -2,20 +2,19 @@
 
 ghost use Rattle.std.specs.Prelude.{◌≡◌, ◌≢◌, ◌+◌, ◌∷◌, [], length, true, false};
 ghost use Rattle.std.specs.Option.{IfSome};
-ghost use Rattle.sym_print.specs.declared.detail.Detail.TheVariants.{Full};
 ghost use Rattle.cpp_direct.specs.declared.open.Mark.TheVariants as marks;
 ghost use Rattle.cpp_direct.specs.Holes.{StandsAt};
 ghost use Rattle.cpp_direct.specs.Names.{IsReadable};
 ghost use Rattle.cpp_direct.specs.WriterInvariant.{IsWriting, encoding_place};
-ghost use Rattle.cpp_direct.specs.Bytes.{has_bracket, is_local};
-ghost use Rattle.cpp_direct.specs.MidStep.{IsFresh, AwaitsEncoding, IsNameEnded, IsFrontRead, AwaitsParameters, IsParameterEnded, IsEncodingEnded, IsFunctionEnded, IsSymbolEnded, IsSymbolWritten};
+ghost use Rattle.cpp_direct.specs.Bytes.{is_local};
+ghost use Rattle.cpp_direct.specs.MidStep.{IsFresh, AwaitsEncoding, IsNameEnded, IsFrontRead, AwaitsParameters, IsParameterEnded, IsEncodingEnded, IsFunctionEnded, IsSymbolEnded};
 ghost use Rattle.cpp_direct.specs.Symbol.{symbol_by};
 
 use crate::direct::Direct;
 use crate::grammar::Grammar;
 use crate::marks::mark_at;
 use crate::open::{Argument, Arguments, Mark, Nest, Open, Purpose, Step};
-use crate::tokens::{byte_at, has_bracket, is_local, is_suffix, may_end};
+use crate::tokens::{byte_at, is_local, is_suffix, may_end};
 
 /// Before the first nested name.
 pub const NO_NEST: Nest = Nest {
@@ -185,9 +184,6 @@ impl Direct {
         requires ended { IsNameEnded (symbol_by G.IS_WIDE G.IS_BARE s.now) self.old mark is_instance argument from }
         ensures { IfSome result (IsWriting (symbol_by G.IS_WIDE G.IS_BARE s.now) self.new) }
     {
-        if !self.is_as_shown::<G>() {
-            return None;
-        }
         if may_end(byte_at(s, self.at)) {
             return self.end::<G>(s, mark);
         }
@@ -200,17 +196,6 @@ impl Direct {
         };
         let start = self.start::<G>();
         self.begin_parameters::<G>(s, mark, start, argument)
-    }
-
-    /// Whether what is written is shown so: without parameters a text that has no brackets is, since no function in it has any.
-    #[inline(always)]
-    fn is_as_shown<G: Grammar>(&self) -> bool
-        ensures { result ≡ true → G.IS_BARE ≡ true → has_bracket self.now.text.list.items ≡ false }
-    {
-        if !G::IS_BARE {
-            return true;
-        }
-        !has_bracket(self.text.as_slice())
     }
 
     /// Where the text of a function that has no return type begins, after its name was written, or where it ends if that is all of it.
@@ -237,7 +222,6 @@ impl Direct {
     ) -> Option<Step>
         requires fits { IsReadable s.now }
         requires ended { IsNameEnded (symbol_by G.IS_WIDE G.IS_BARE s.now) self.old mark true argument from }
-        requires shown { G.IS_BARE ≡ true → has_bracket self.old.text.list.items ≡ false }
         ensures { IfSome result (IsWriting (symbol_by G.IS_WIDE G.IS_BARE s.now) self.new) }
     {
         if !has_front(s, from) {
@@ -411,17 +395,6 @@ impl Direct {
     {
         if is_local(s) {
             return self.entity::<G>(s);
-        }
-        self.finish::<G>(s)
-    }
-
-    /// What a special object is of is read.
-    pub(crate) fn special_ended<G: Grammar>(&mut self, s: &[u8]) -> Option<Step>
-        requires { IsSymbolWritten Full (symbol_by G.IS_WIDE G.IS_BARE s.now) self.old }
-        ensures { IfSome result (IsWriting (symbol_by G.IS_WIDE G.IS_BARE s.now) self.new) }
-    {
-        if !self.is_as_shown::<G>() {
-            return None;
         }
         self.finish::<G>(s)
     }

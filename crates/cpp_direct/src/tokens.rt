@@ -7,7 +7,7 @@ ghost use Rattle.sym_core.specs.Value.{counted_value};
 ghost use Rattle.sym_core.specs.declared.NumberKind.{NumberKind};
 ghost use Rattle.cpp_grammar.specs.Parts.{source_text};
 ghost use Rattle.cpp_direct.specs.Names.{IsReadable, tag_text};
-ghost use Rattle.cpp_direct.specs.Bytes.{has_bracket, is_local, short_numbers};
+ghost use Rattle.cpp_direct.specs.Bytes.{is_local, short_numbers};
 ghost use Rattle.cpp_direct.specs.Holes.{StandsAt, IsNameAt, IsSeqAt, IsTagAt};
 ghost use Rattle.cpp_direct.specs.HolesOfLists.{IsSuffix};
 ghost use Rattle.cpp_direct.specs.ItemBytes.{is_suffix_byte};
@@ -36,14 +36,6 @@ pub fn is_local(s: &[u8]) -> bool
         [_, _, byte, ..] => *byte == b'Z' || *byte == b'G',
         _ => false,
     }
-}
-
-/// Whether a text has an opening bracket.
-#[tactic(auto, unfolding(crate::specs::Bytes::is_bracket))]
-pub fn has_bracket(text: &[u8]) -> bool
-    ensures { result ≡ has_bracket text.now }
-{
-    text.iter().any(|byte| *byte == b'(')
 }
 
 /// Whether no twenty digits are side by side in a symbol.

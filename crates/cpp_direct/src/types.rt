@@ -230,7 +230,7 @@ impl Direct {
                 argument,
             } => self.enclosing_parameter::<G>(s, mark, from, argument),
             Open::Lambda { from } => self.lambda_parameter::<G>(s, from),
-            Open::Special => self.special_ended::<G>(s),
+            Open::Special => self.finish::<G>(s),
             Open::Enumerator => self.enumerator::<G>(s),
             Open::Argument {
                 from,

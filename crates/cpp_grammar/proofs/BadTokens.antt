@@ -15,7 +15,7 @@ use Rattle.cpp_grammar.specs.Scope.{count, element, is_list, has_pack, length_if
 use Rattle.cpp_grammar.specs.Values.{Candidate, State, Around, prefix_tree, Value, tree, text_of, part, local_number}
 use Rattle.cpp_grammar.specs.References.{appended, with_packs, packs_in, substituted, parameter_named}
 use Rattle.cpp_grammar.specs.Between.{listed_so_far, parameter_so_far, index_of, between, next, argument_so_far}
-use Rattle.cpp_grammar.specs.Row.{Before, quiet, goes, becomes, tests, holds, before_part}
+use Rattle.cpp_grammar.specs.Row.{Before, quiet, goes, becomes, tests, holds, unread, before_part}
 use Rattle.cpp_grammar.specs.Meant.{tested as tested_, done}
 use Rattle.cpp_grammar.specs.Rows.{row_of}
 use Rattle.cpp_grammar.specs.Rescoping.{generic_so_far, parameter_here, is_foreign, in_scope, under_scope, with_free, restated, substituted_wide, numbered, is_counted_alike, with_holder, is_instance, holder_so_far, between_wide, close_wide, cpp_wide, unfold_wide, argument_here, generic_number}
@@ -111,6 +111,7 @@ done_bad (tests after_t is_name) around place vs state =
     let at = cond after_t (place - 1) place in
     bad_bind (parameter_named around at k state) (λ s. tested_ is_name around (parameter k) vs s state) (named_bad around at k state) (λ s. tt)
 done_bad holds around place vs state = tt
+done_bad unread around place vs state = tt
 
 between_bad : (p : Production) (around : Around) (place : ℕ) (vs : List Value) (state : State) → IsBad (between p around place vs state)
 unfolding between
@@ -119,6 +120,7 @@ between_bad p around place vs state = done_bad (before_part (row_of p) (length v
 close_bad : (p : Production) (byte : ℕ) (around : Around) (place : ℕ) (began : State) (vs : List Value) (state : State) → IsBad (close p byte around place began vs state)
 unfolding close
 close_bad Production.Substitution byte around place began vs state = substituted_bad around (place - 1) (slice_get state.candidates (counted_value Seq36 (text_of (part vs 0)))) state
+close_bad Production.Inheriting byte around place began vs state = tt
 close_bad _ byte around place began vs state = tt
 
 -- ## The reading of the wide grammar
@@ -229,7 +231,7 @@ wide_between_bad Production.NestParameter around place (v ∷ []) state = here_b
 wide_between_bad Production.Parameter around place (v ∷ []) state = here_bad around place (index_of v) state
 wide_between_bad Production.ParameterArgument around place (v ∷ []) state = here_bad around (place - 1) (index_of v) state
 wide_between_bad Production.ParameterExpression around place (v ∷ []) state = argument_here_bad around place (index_of v) state
-wide_between_bad Production.BoundedArray around place (v ∷ []) state = argument_here_bad around place (index_of v) state
+wide_between_bad Production.OwnArguments around place [] state = tt
 wide_between_bad Production.Holder around place (v ∷ []) state = holder_bad around place state
 wide_between_bad p around place vs state = between_bad p around place vs state
 
@@ -237,6 +239,7 @@ wide_close_bad : (p : Production) (byte : ℕ) (around : Around) (place : ℕ) (
 unfolding close_wide
 wide_close_bad Production.Substitution byte around place began vs state = numbered_bad around (place - 1) (counted_value Seq36 (text_of (part vs 0))) state
 wide_close_bad Production.Lambda byte around place began vs state = tt
+wide_close_bad Production.Inheriting byte around place began vs state = tt
 wide_close_bad p byte around place began vs state = close_bad p byte around place began vs state
 
 -- ## Either reading

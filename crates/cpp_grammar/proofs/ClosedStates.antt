@@ -12,9 +12,9 @@ use Rattle.cpp_grammar.specs.Scope.{count, element, is_list, has_pack, length_if
 use Rattle.cpp_grammar.specs.Closed.{ScopesAreClosed}
 use Rattle.sym_core.specs.declared.NumberKind.TheVariants.{Seq36}
 use Rattle.sym_core.specs.Value.{counted_value}
-use Rattle.cpp_grammar.specs.Values.{Candidate, State, Around, prefix_tree, prefix_listed, Value, letter, tree, piece, is_listed, text_of, local_number, part, tree_of}
+use Rattle.cpp_grammar.specs.Values.{Candidate, State, Around, prefix_tree, prefix_listed, Value, letter, tree, piece, pair, is_listed, text_of, local_number, part, tree_of}
 use Rattle.cpp_grammar.specs.References.{appended, is_function_type, with_type, with_unqualified, with_prefix, with_packs, packs_in, substituted, parameter_named}
-use Rattle.cpp_grammar.specs.Rescoping.{lambda_with, as_generic_lambda, with_holder, is_counted_alike, is_foreign, in_scope, under_scope, with_free, restated, substituted_wide, numbered, close_wide}
+use Rattle.cpp_grammar.specs.Rescoping.{lambda_with, as_generic_lambda, with_holder, with_base, counted_base, is_counted_alike, is_foreign, in_scope, under_scope, with_free, restated, substituted_wide, numbered, close_wide}
 use Rattle.cpp_grammar.specs.Meaning.{parameters, meaning}
 use Rattle.cpp_grammar.specs.Unfolding as unfolding_
 use Rattle.cpp_grammar.specs.Unfolding.{close}
@@ -23,7 +23,7 @@ use Rattle.cpp_grammar.specs.Row.{Gain, nothing, the_prefix, type_of, unqualifie
 use Rattle.cpp_grammar.specs.Meant.{gained}
 use Rattle.cpp_grammar.specs.Rows.{row_of}
 use Rattle.cpp_grammar.proofs.Ways.{has_signature}
-use Rattle.cpp_grammar.proofs.ClosedValues.{all_where, prefix_where, Good, AllGood, GoodPrefix, HasClosedName, held, good_tree, good_part, good_prefix, meaning_good}
+use Rattle.cpp_grammar.proofs.ClosedValues.{all_where, prefix_where, Good, AllGood, GoodPrefix, HasClosedName, held, good_tree, good_held, good_part, good_prefix, meaning_good}
 
 -- No parameters are named here. Where those in a lambda's signature are its own, they are named in none.
 abbrev pub Bare : (own : Bool) → Around → Type 0
@@ -319,6 +319,7 @@ unfolding close
 close_good Production.Substitution byte around place began vs state r end old pre all name e =
     let both = substituted_good around (place - 1) end (counted_value Seq36 (text_of (part vs 0))) state r old e in
     record { good = both.0; grows = grows_same false around end state r.state both.1 }
+close_good Production.Inheriting byte around place began vs state r end old pre all name e = let clash : ◌≡◌ {A = Result (Found Value State) Refusal} (Err (BadReference place)) (Ok r) = e in absurd cc
 close_good production byte around place began vs state r end old pre all name e =
     let inside = all_where (Within false production around) (Bare false around) vs (λ bare. (bare, λ own. absurd (false≢true own))) all in
     made_good false production byte around began vs state r end pre inside name e
@@ -460,6 +461,28 @@ unfolding held is_open
 letter_comes byte around state r end e =
     subst (λ x. Comes true around end state x) (ok_same (found (letter byte) state) r e) (record { good = record { closed = λ h. refl; scopes = tt }; grows = grows_same true around end state state refl })
 
+-- a base class is counted
+pub base_grows : (around : Around) (end : ℕ) (t : Term) (state : State) → Good (Bare true around) t → Grows true around end state (with_base around t state)
+unfolding with_base
+base_grows around end t state good =
+    let once = appended around t state in
+    grows_then true around end end state once (with_holder around t once) (omega arith) (grows_one true around end t state good) (grows_held true around end t once good)
+
+counted_grows : (around : Around) (end : ℕ) (base : Value) (state : State) → Good (Bare true around) (held base) → Grows true around end state (counted_base around base state)
+unfolding counted_base
+counted_grows around end (pair second base own) state good = grows_same true around end state state refl
+counted_grows around end base state good = go (is_listed base)
+  where
+    go : (b : Bool) → Grows true around end state (elim b as (λ _. State) [ true ↦ state | false ↦ with_base around (tree_of base) state ])
+    go true = grows_same true around end state state refl
+    go false = base_grows around end (tree_of base) state (good_tree (Bare true around) base good)
+
+inheriting_comes : (byte : ℕ) (around : Around) (vs : List Value) (state : State) (r : Found Value State) (end : ℕ) → GoodPrefix (Bare true around) around.prefix → AllGood (Bare true around) vs →
+    ◌≡◌ {A = Result (Found Value State) Refusal} (Ok (found (meaning Production.Inheriting byte around vs) (counted_base around (part vs 1) state))) (Ok r) → Comes true around end state r
+inheriting_comes byte around vs state r end pre all e =
+    subst (λ x. Comes true around end state x) (ok_same (found (meaning Production.Inheriting byte around vs) (counted_base around (part vs 1) state)) r e)
+    (record { good = meaning_good (Bare true around) Production.Inheriting byte around vs pre all tt; grows = counted_grows around end (part vs 1) state (good_held (Bare true around) vs 1 all) })
+
 pub wide_close_good : (production : Production) (byte : ℕ) (around : Around) (place : ℕ) (began : State) (vs : List Value) (state : State) (r : Found Value State) (end : ℕ) →
     AllOld true around end state.candidates → GoodPrefix (Bare true around) around.prefix → AllGood (Within true production around) vs → HasClosedName production vs →
     close_wide production byte around place began vs state ≡ Ok r → Comes true around end state r
@@ -468,6 +491,8 @@ wide_close_good Production.Substitution byte around place began vs state r end o
     let both = numbered_good around (place - 1) end (counted_value Seq36 (text_of (part vs 0))) state r old e in
     record { good = both.0; grows = grows_same true around end state r.state both.1 }
 wide_close_good Production.Lambda byte around place began vs state r end old pre all name e = lambda_comes byte around vs state r end pre all e
+wide_close_good Production.Inheriting byte around place began vs state r end old pre all name e =
+    inheriting_comes byte around vs state r end pre (all_where (Within true Production.Inheriting around) (Bare true around) vs (λ bare. (bare, λ own. refl)) all) e
 wide_close_good Production.ValueOf byte around place began vs state r end old pre all name e = letter_comes byte around state r end e
 wide_close_good Production.OfConcept byte around place began vs state r end old pre all name e = letter_comes byte around state r end e
 wide_close_good production byte around place began vs state r end old pre all name e =

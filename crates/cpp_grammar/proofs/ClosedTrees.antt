@@ -260,7 +260,8 @@ opens_apart Production.Substitution o = absurd (false≢true o)
 opens_apart Production.Lambda o = absurd (false≢true o)
 opens_apart Production.ParameterArgument o = absurd (false≢true o)
 opens_apart Production.ParameterExpression o = absurd (false≢true o)
-opens_apart Production.BoundedArray o = absurd (false≢true o)
+opens_apart Production.OwnArguments o = absurd (false≢true o)
+opens_apart Production.Inheriting o = absurd (false≢true o)
 opens_apart Production.Holder o = absurd (false≢true o)
 opens_apart _ o = refl
 
@@ -476,7 +477,7 @@ module _ (w : Way) (keeps : KeepsClosed w) where
       let types : Next Value State Around = record { context = in_types at name; values = vs; state = first.part.state } in
       let second = stepped rule vs next first.part.state u nothing r types (ap (λ p. w.between p around at vs first.part.state) is ∙ keeps.plain.between Production.Encoding refl around at vs first.part.state) onward in
       let old1 = old_types w.own at next name first.part.state.candidates (old_grows w.own (in_name at) from next state first.part.state (omega arith) old0 c.grows) in
-      let d = all.1.0 (OfKind ITEMS) (in_types at name) next first.part.state second.part (known 41 (lit≤ tt)) trees.1.0 (omega (arith, le)) (λ opening. absurd (false≢true opening)) tt old1 second.is in
+      let d = all.1.0 (OfKind ITEMS) (in_types at name) next first.part.state second.part (known ITEMS (lit≤ tt)) trees.1.0 (omega (arith, le)) (λ opening. absurd (false≢true opening)) tt old1 second.is in
       let same : found (c.value ∷ d.value ∷ []) second.part.state ≡ r = same_found vs second.part.value (d.value ∷ []) second.part.state r d.is second.rest in
       let end = from + length (spell t ++ (spell u ++ [])) in
       subst (λ x. InnerComes w.own Production.Encoding around end state x) same

@@ -2,15 +2,15 @@
 use Rattle.std.proofs.Common.{◌≡◌, refl, ℕ, zero, suc, List, [], ◌∷◌, Bool, true, false, ◌||◌, ◌&&◌, cond, nat_eq}
 use Rattle.std.proofs.lemmas.Bool.{true≢false}
 use Rattle.cpp_grammar.specs.declared.production.Production.{Production}
-use Rattle.cpp_grammar.specs.Term.{RefQualifier, lvalue_only, rvalue_only, Term, symbol, function, within, instance, local, of_default, lvalue, rvalue, nil, list, absent}
+use Rattle.cpp_grammar.specs.Term.{RefQualifier, lvalue_only, rvalue_only, Term, symbol, function, within, instance, local, of_default, inheriting, lvalue, rvalue, encoding_literal, operation, nil, list, absent}
 use Rattle.cpp_grammar.specs.Scope.{arguments_of, is_open, has_return_type}
 use Rattle.cpp_grammar.specs.Closed.{HasNoneFree, ScopesAreClosed}
-use Rattle.cpp_grammar.specs.Values.{Around, Prefix, outermost, behind, prefix_tree, Value, nothing_there, letter, tree, piece, named, signature, tree_of, piece_of, qualifiers_of, ref_of, is_there, part}
-use Rattle.cpp_grammar.specs.Between.{extended, applied, no_items, with_tag}
-use Rattle.cpp_grammar.specs.Meaning.{is_void, is_nil, parameters, encoding_of, default_entity, listed_value, with_item, reference_to, signature_or, operator_or_literal, meaning}
-use Rattle.cpp_grammar.specs.Makers.{Maker, new_symbol, new_special, new_of_name, new_construction, new_clone, new_in_std, new_instance, new_local, new_abbreviation, new_source, new_operator, new_literal_operator, new_constructor, new_destructor, new_unnamed, new_string_literal, new_conversion, new_builtin, new_sized_float, new_constrained, new_vendor, new_pointer, new_lvalue, new_rvalue, new_array, new_bounded, new_member_pointer, new_function_type, new_qualified, new_vector, new_complex, new_expansion, new_integer, new_boolean, new_null_pointer, new_encoding_literal, new_address_of, new_pack}
+use Rattle.cpp_grammar.specs.Values.{Around, Prefix, outermost, behind, prefix_tree, Value, nothing_there, letter, tree, piece, named, signature, pair, tree_of, piece_of, letter_of, qualifiers_of, ref_of, is_there, part}
+use Rattle.cpp_grammar.specs.Between.{extended, applied, no_items, with_tag, inherited}
+use Rattle.cpp_grammar.specs.Meaning.{is_void, is_nil, parameters, encoding_of, default_entity, listed_value, with_item, reference_to, signature_or, operator_or_literal, operation_or_address, operation_by, is_code, is_comma, ends_arguments, in_parentheses, enclosed_argument, enclosed_element, meaning}
+use Rattle.cpp_grammar.specs.Makers.{Maker, new_symbol, new_special, new_of_name, new_construction, new_clone, new_in_std, new_instance, new_local, new_abbreviation, new_source, new_operator, new_literal_operator, new_constructor, new_destructor, new_unnamed, new_string_literal, new_conversion, new_builtin, new_sized_float, new_constrained, new_vendor, new_pointer, new_lvalue, new_rvalue, new_array, new_bounded, new_member_pointer, new_function_type, new_qualified, new_vector, new_complex, new_expansion, new_integer, new_boolean, new_null_pointer, new_decltype, new_encoding_literal, new_operation, new_function_parameter, new_pack}
 use Rattle.cpp_grammar.specs.Builders.{Argument, argument, built, tree_in}
-use Rattle.cpp_grammar.specs.Row.{Source, tree_at, list_at, parameters_at, piece_at, the_name, qualified_by, Made, of, only, extending, tagging, applying, packing, Own, nested_name, encoding, non_virtual_thunk, virtual_thunk, covariant_thunk, local_name, in_default, nest_end, closure, first_of_operator, reference, lvalue_signature, rvalue_signature, Form, handed, finished, the_byte, makes, a_piece, cell, item, a_name, in_place, own}
+use Rattle.cpp_grammar.specs.Row.{Source, tree_at, list_at, parameters_at, piece_at, the_name, qualified_by, Made, of, only, extending, tagging, applying, packing, Own, nested_name, encoding, non_virtual_thunk, virtual_thunk, covariant_thunk, local_name, in_default, nest_end, closure, inheriting as inheriting_, by_letters, enclosed, elements, first_of_operator, reference, lvalue_signature, rvalue_signature, Form, handed, finished, either, the_byte, makes, a_piece, a_pair, cell, item, a_name, in_place, own}
 use Rattle.cpp_grammar.specs.Own.{own_meaning}
 use Rattle.cpp_grammar.specs.Meant.{all_given, given, made, meant}
 use Rattle.cpp_grammar.specs.Rows.{row_of}
@@ -26,6 +26,8 @@ held (tree t listed) = t
 held (piece p) = p
 held (named t qualifiers ref) = t
 held (signature t ref) = t
+-- both trees of a pair
+held (pair second left right) = list left right
 held _ = absent
 
 abbrev pub AllGood : Type 0 → List Value → Type 0
@@ -44,7 +46,11 @@ pub or_no : (a b : Bool) → a ≡ false → b ≡ false → (a || b) ≡ false
 or_no false b e f = f
 or_no true b e f = absurd (true≢false e)
 
-or_right_no : (a b : Bool) → (a || b) ≡ false → b ≡ false
+pub or_left_no : (a b : Bool) → (a || b) ≡ false → a ≡ false
+or_left_no false b e = refl
+or_left_no true b e = absurd (true≢false e)
+
+pub or_right_no : (a b : Bool) → (a || b) ≡ false → b ≡ false
 or_right_no false b e = e
 or_right_no true b e = absurd (true≢false e)
 
@@ -52,10 +58,19 @@ pub good_nothing : (s : Type 0) → Good s absent
 unfolding is_open
 good_nothing s = record { closed = λ h. refl; scopes = tt }
 
+good_first : (s : Type 0) (a b : Term) → Good s (list a b) → Good s a
+unfolding is_open
+good_first s a b g = record { closed = λ h. or_left_no (is_open a) (is_open b) (g.closed h); scopes = g.scopes.0 }
+
+good_second : (s : Type 0) (a b : Term) → Good s (list a b) → Good s b
+unfolding is_open
+good_second s a b g = record { closed = λ h. or_right_no (is_open a) (is_open b) (g.closed h); scopes = g.scopes.1 }
+
 pub good_tree : (s : Type 0) (v : Value) → Good s (held v) → Good s (tree_of v)
 unfolding held tree_of
 good_tree s nothing_there g = g
 good_tree s (piece p) g = good_nothing s
+good_tree s (pair second left right) g = good_first s left right g
 good_tree s v g = g
 
 pub good_piece : (s : Type 0) (v : Value) → Good s (held v) → Good s (piece_of v)
@@ -64,7 +79,7 @@ good_piece s (piece p) g = g
 good_piece s nothing_there g = good_nothing s
 good_piece s v g = good_nothing s
 
-good_held : (s : Type 0) (vs : List Value) (k : ℕ) → AllGood s vs → Good s (held (part vs k))
+pub good_held : (s : Type 0) (vs : List Value) (k : ℕ) → AllGood s vs → Good s (held (part vs k))
 unfolding part held
 good_held s [] k all = good_nothing s
 good_held s (v ∷ vs) zero all = all.0
@@ -152,6 +167,54 @@ good_operator s first (letter second) g = record { closed = λ h. refl; scopes =
 good_operator s first nothing_there g = g
 good_operator s first v g = g
 
+-- the name of a constructor that is inherited
+good_inherited : (s : Type 0) (prefix : Prefix) (digit : ℕ) (v : Value) → GoodPrefix s prefix → Good s (held v) → Good s (held (inherited prefix digit v))
+unfolding inherited held is_open
+good_inherited s prefix digit (pair second base arguments) pre g =
+    let b = good_first s base arguments g in
+    good_instance s _ arguments (good_extended s prefix (inheriting digit base) pre (record { closed = b.closed; scopes = b.scopes })) (good_second s base arguments g)
+good_inherited s prefix digit v pre g =
+    let b = good_tree s v g in
+    good_extended s prefix (inheriting digit (tree_of v)) pre (record { closed = b.closed; scopes = b.scopes })
+
+-- operations
+good_operation : (s : Type 0) (first second : ℕ) (left right : Term) → Good s (list left right) → Good s (operation first second left right)
+unfolding is_open
+good_operation s first second left right g = record { closed = g.closed; scopes = g.scopes }
+
+good_address : (s : Type 0) (b : Bool) (first second : ℕ) (left right : Term) → Good s (list left right) → Good s (operation_or_address b first second left right)
+unfolding operation_or_address is_open
+good_address s false first second left right g = good_operation s first second left right g
+good_address s true first second (encoding_literal e) right g = record { closed = λ h. refl; scopes = g.scopes.0 }
+good_address s true first second (symbol e suffix) right g = good_operation s first second (symbol e suffix) right g
+good_address s true first second left right g = good_operation s first second left right g
+
+good_by : (s : Type 0) (first : ℕ) (v : Value) → Good s (held v) → Good s (held (operation_by first v))
+unfolding operation_by held
+good_by s first (pair second left right) g = good_address s (is_code 97 100 first second) first second left right g
+good_by s first nothing_there g = g
+good_by s first v g = g
+
+good_in_parentheses : (s : Type 0) (t : Term) → Good s t → Good s (in_parentheses t)
+unfolding in_parentheses is_open
+good_in_parentheses s t g = record { closed = λ h. or_no _ _ (g.closed h) refl; scopes = (g.scopes, tt) }
+
+good_argument : (s : Type 0) (v : Value) → Good s (held v) → Good s (held (enclosed_argument v))
+unfolding enclosed_argument held in_parentheses tree_of
+good_argument s v g = go (ends_arguments (tree_of v))
+  where
+    go : (b : Bool) → Good s (held (elim b as (λ _. Value) [ true ↦ tree (in_parentheses (tree_of v)) true | false ↦ v ]))
+    go true = good_in_parentheses s (tree_of v) (good_tree s v g)
+    go false = g
+
+good_element : (s : Type 0) (t : Term) → Good s t → Good s (enclosed_element t)
+unfolding enclosed_element
+good_element s t g = go (is_comma t)
+  where
+    go : (b : Bool) → Good s (elim b [ true ↦ in_parentheses t | false ↦ t ])
+    go true = good_in_parentheses s t g
+    go false = g
+
 none_free : (t : Term) → is_open t ≡ false → HasNoneFree (arguments_of t)
 unfolding arguments_of is_open
 none_free (instance template arguments) h = or_right_no (is_open template) (is_open arguments) h
@@ -228,12 +291,14 @@ built_good s new_function_type xs all = record { closed = λ h. or_no _ _ ((all 
 built_good s new_qualified xs all = record { closed = (all 1).closed; scopes = (all 1).scopes }
 built_good s new_vector xs all = record { closed = (all 1).closed; scopes = (all 1).scopes }
 built_good s new_complex xs all = record { closed = (all 0).closed; scopes = (all 0).scopes }
+built_good s new_decltype xs all = record { closed = (all 0).closed; scopes = (all 0).scopes }
 built_good s new_expansion xs all = record { closed = (all 0).closed; scopes = (all 0).scopes }
 built_good s new_integer xs all = record { closed = (all 0).closed; scopes = (all 0).scopes }
 built_good s new_boolean xs all = record { closed = λ h. refl; scopes = tt }
 built_good s new_null_pointer xs all = record { closed = λ h. refl; scopes = tt }
 built_good s new_encoding_literal xs all = record { closed = λ h. refl; scopes = (all 0).scopes }
-built_good s new_address_of xs all = record { closed = λ h. refl; scopes = (all 0).scopes }
+built_good s new_operation xs all = record { closed = λ h. or_no _ _ ((all 2).closed h) ((all 3).closed h); scopes = ((all 2).scopes, (all 3).scopes) }
+built_good s new_function_parameter xs all = record { closed = λ h. refl; scopes = tt }
 built_good s new_pack xs all = record { closed = (all 0).closed; scopes = (all 0).scopes }
 
 given_good : (s : Type 0) (byte : ℕ) (around : Around) (vs : List Value) (source : Source) → GoodPrefix s around.prefix → AllGood s vs → Good s (tree_in (given byte around vs source))
@@ -278,6 +343,10 @@ own_good s local_name most byte around vs other pre all =
 own_good s in_default most byte around vs other pre all = let g = good_part s vs 1 all in record { closed = g.closed; scopes = g.scopes }
 own_good s nest_end most byte around vs other pre all = good_prefix s around.prefix pre
 own_good s closure most byte around vs other pre all = let g = good_parameters s _ (good_pair s vs 0 1 all) in record { closed = g.closed; scopes = g.scopes }
+own_good s inheriting_ most byte around vs other pre all = good_inherited s around.prefix (letter_of (part vs 0)) (part vs 1) pre (good_held s vs 1 all)
+own_good s by_letters most byte around vs other pre all = good_by s byte (part vs 0) (good_held s vs 0 all)
+own_good s enclosed most byte around vs other pre all = good_argument s (part vs 0) (good_held s vs 0 all)
+own_good s elements most byte around vs other pre all = good_list s _ _ (good_element s (tree_of (part vs 0)) (good_part s vs 0 all)) (good_no_items s (part vs 1) (good_part s vs 1 all))
 own_good s first_of_operator most byte around vs other pre all = good_operator s byte (part vs 0) (good_held s vs 0 all)
 own_good s reference most byte around vs other pre all = good_reference s byte (part vs 0) (good_part s vs 0 all)
 own_good s lvalue_signature most byte around vs other pre all = good_signature_or s lvalue_only (part vs 0) (good_held s vs 0 all)
@@ -288,9 +357,15 @@ meant_good : (s : Type 0) (f : Form) (byte : ℕ) (around : Around) (vs : List V
 unfolding meant held is_open listed_value with_item
 meant_good s (handed k) byte around vs other pre all = good_held s vs k all
 meant_good s (finished k) byte around vs other pre all = good_part s vs k all
+meant_good s (either k n) byte around vs other pre all = go (is_there (part vs k))
+  where
+    go : (b : Bool) → Good s (held (elim b as (λ _. Value) [ true ↦ part vs k | false ↦ part vs n ]))
+    go true = good_held s vs k all
+    go false = good_held s vs n all
 meant_good s the_byte byte around vs other pre all = good_nothing s
 meant_good s (makes m listing) byte around vs other pre all = made_tree_good s byte around vs m pre all
 meant_good s (a_piece m) byte around vs other pre all = made_tree_good s byte around vs m pre all
+meant_good s (a_pair second m n) byte around vs other pre all = good_list s _ _ (made_tree_good s byte around vs m pre all) (made_tree_good s byte around vs n pre all)
 meant_good s (cell first rest) byte around vs other pre all = good_pair s vs first rest all
 meant_good s (item first rest) byte around vs other pre all = good_list s _ _ (good_part s vs first all) (good_part s vs rest all)
 meant_good s (a_name listing) byte around vs other pre all = good_applied s _ (part vs 1) (good_part s vs 0 all) (good_part s vs 1 all)

@@ -1,16 +1,19 @@
 -- Each item has at most eight parts.
-use Rattle.std.specs.Prelude.{ℕ, zero, suc, ◌+◌, ◌≤◌, length, List, [], ◌∷◌, ◌++◌, Bool, true, false, cond, nat_eq, Option, Some, None, codes, decimal}
+use Rattle.std.specs.Prelude.{◌≡◌, refl, ℕ, zero, suc, ◌+◌, ◌≤◌, length, List, [], ◌∷◌, ◌++◌, Bool, true, false, ◌&&◌, cond, nat_eq, nat_le, Option, Some, None, codes, decimal}
 use Prim.Native.String.{String}
 use Rattle.std.proofs.Common.{arith}
 use Rattle.std.proofs.lemmas.List.{length-append}
 use Rattle.sym_print.specs.declared.detail.Detail.{Detail}
 use Rattle.sym_print.specs.Details.{has_arguments, has_parameters}
 use Rattle.sym_print.specs.Unfold.{PartOf, text, sub}
-use Rattle.cpp_grammar.specs.Term.{Qualifiers, RefQualifier, Signed, Term, symbol, function, object, of_name, alone, in_std, within, instance, local, holder, tagged, abbreviation, parameter, source, constructor, destructor, lambda, generic_lambda, sized_float, pointer, lvalue, rvalue, array, bounded, member_pointer, function_type, qualified, expansion, integer, pack, nil, list, absent}
+use Rattle.cpp_grammar.specs.Term.{Qualifiers, RefQualifier, Signed, Term, symbol, function, object, of_name, alone, in_std, within, instance, local, holder, tagged, abbreviation, parameter, source, constructor, destructor, inheriting, lambda, generic_lambda, sized_float, pointer, lvalue, rvalue, array, bounded, member_pointer, function_type, qualified, expansion, integer, operation, function_parameter, pack, nil, list, absent}
 use Rattle.cpp_grammar.specs.Items.{Form, root, full, bare, left, right, low, base, piece, first, more, expand, Context, Item, closed, signature_in, head, is_reference, is_funarr, packs_of, is_empty}
-use Rattle.cpp_grammar.specs.Parts.{as_item, says, text_part, list_part, piece_parts, within_parts, last_piece, opening_text, instance_parts, marked_parts, reference_parts, qualified_left, blank_last, qualifier_text, expansion_parts, sign_part, is_plain_integer, integer_parts, builtin_code, member_parts, array_left, float_parts, left_parts, low_parts, function_right, ref_text, closing_right, qualified_right, right_parts, base_within, base_tagged, base_parts, types_of, encoding_text, function_bare, function_full, full_parts, bare_parts, root_parts, first_parts, more_parts, at_index, is_below, comma_before, expand_rest, expand_parts, parts_in, not_empty, parts, own_piece}
+use Rattle.cpp_grammar.specs.Parts.{as_item, says, text_part, list_part, piece_parts, within_parts, last_piece, opening_text, instance_parts, marked_parts, reference_parts, qualified_left, blank_last, qualifier_text, expansion_parts, sign_part, is_plain_integer, integer_parts, builtin_code, member_parts, array_left, float_parts, no_operation, precedence_of, operand_parts, operation_parts, printed, left_parts, low_parts, function_right, ref_text, closing_right, qualified_right, right_parts, base_within, base_tagged, base_parts, types_of, encoding_text, function_bare, function_full, full_parts, bare_parts, root_parts, first_parts, more_parts, at_index, is_below, comma_before, expand_rest, expand_parts, parts_in, not_empty, parts, own_piece}
 use Rattle.cpp_grammar.specs.Scope.{without_tags}
-use Rattle.cpp_grammar.specs.Texts.{look_up, literal_endings}
+use Rattle.std.proofs.lemmas.Bool.{leb-true}
+use Rattle.cpp_grammar.specs.Operations.{Operand, not_printed, as_it_is, as_type, as_list, from_precedence, Operation, operations, operation_of_code}
+use Rattle.cpp_grammar.specs.Texts.{look_up, same_bytes, literal_endings}
+use Rattle.cpp_grammar.proofs.Steps.{first_of_both, second_of_both}
 
 -- at most so many parts
 abbrev HasFew : ℕ → List (PartOf Item) → Type 0
@@ -62,6 +65,7 @@ within_few : (c : Context) (prefix p : Term) → HasFew 3 (within_parts c prefix
 unfolding within_parts
 within_few c prefix (constructor digit) = omega arith
 within_few c prefix (destructor digit) = omega arith
+within_few c prefix (inheriting digit class) = omega arith
 within_few c prefix _ = omega arith
 
 instance_few : (all : Bool) (c : Context) (t arguments : Term) → HasFew 4 (instance_parts all c t arguments)
@@ -108,8 +112,59 @@ float_few : (digits : List ℕ) (end : ℕ) → HasFew 3 (float_parts digits end
 unfolding float_parts
 float_few digits end = choice_few 3 (nat_eq end 98) _ _ (omega arith) (choice_few 3 (nat_eq end 120) _ _ (omega arith) (omega arith))
 
-left_few : (d : Detail) (c : Context) (t : Term) → HasFew 6 (left_parts d c t)
-unfolding left_parts
+-- how many parts an operand has at most, and an operation
+unfoldable most_parts : Operand → ℕ
+most_parts not_printed = 0
+most_parts as_it_is = 1
+most_parts as_type = 2
+most_parts as_list = 1
+most_parts (from_precedence least) = 3
+
+unfoldable most_of : Operation → ℕ
+most_of o = length (text_part o.front) + most_parts o.left + length (text_part o.between) + most_parts o.right + length (text_part o.back)
+
+operand_few : (c : Context) (o : Operand) (t : Term) → HasFew (most_parts o) (operand_parts c o t)
+unfolding operand_parts most_parts
+operand_few c not_printed t = omega arith
+operand_few c as_it_is t = omega arith
+operand_few c as_type t = omega arith
+operand_few c as_list t = list_few first c t
+operand_few c (from_precedence least) t = choice_few 3 (nat_le least (precedence_of t)) _ _ (omega arith) (omega arith)
+
+-- each operation of the table has at most seven
+unfoldable all_few : List Operation → Bool
+all_few [] = true
+all_few (o ∷ os) = nat_le (most_of o) 7 && all_few os
+
+rows_few : all_few operations ≡ true
+unfolding all_few operations most_of most_parts text_part
+rows_few = refl
+
+row_few : (code : List ℕ) (os : List Operation) → all_few os ≡ true → most_of (elim (operation_of_code code os) [ Some o ↦ o | None ↦ no_operation ]) ≤ 7
+unfolding all_few operation_of_code most_of most_parts text_part
+row_few code [] h = omega arith
+row_few code (o ∷ os) h = go (row_few code os (second_of_both (nat_le (most_of o) 7) (all_few os) h)) (same_bytes code o.code)
+  where
+    go : most_of (elim (operation_of_code code os) [ Some p ↦ p | None ↦ no_operation ]) ≤ 7 → (b : Bool) → most_of (elim (elim b as (λ _. Option Operation) [ true ↦ Some o | false ↦ operation_of_code code os ]) [ Some p ↦ p | None ↦ no_operation ]) ≤ 7
+    go rest true = leb-true (most_of o) 7 (first_of_both (nat_le (most_of o) 7) (all_few os) h)
+    go rest false = rest
+
+operation_few : (c : Context) (o : Operation) (x y : Term) → most_of o ≤ 7 → HasFew 7 (operation_parts c o x y)
+unfolding operation_parts most_of
+operation_few c o x y h =
+    let a = text_part o.front in
+    let b = operand_parts c o.left x in
+    let d = text_part o.between in
+    let e = operand_parts c o.right y in
+    let f = text_part o.back in
+    let ab = append_few (length a) (most_parts o.left) a b (omega arith) (operand_few c o.left x) in
+    let abd = append_few (length a + most_parts o.left) (length d) (a ++ b) d ab (omega arith) in
+    let abde = append_few (length a + most_parts o.left + length d) (most_parts o.right) (a ++ b ++ d) e abd (operand_few c o.right y) in
+    let all = append_few (length a + most_parts o.left + length d + most_parts o.right) (length f) (a ++ b ++ d ++ e) f abde (omega arith) in
+    omega (arith, h, all)
+
+left_few : (d : Detail) (c : Context) (t : Term) → HasFew 7 (left_parts d c t)
+unfolding left_parts printed
 left_few d c (alone p) = omega (arith, piece_few c p)
 left_few d c (in_std p) = omega arith
 left_few d c (within prefix p) = omega (arith, within_few c prefix p)
@@ -124,10 +179,12 @@ left_few d c (qualified q t) = omega (arith, qualified_few c q t)
 left_few d c (expansion t) = omega (arith, expansion_few c t (packs_of c t))
 left_few d c (pack elements) = omega (arith, list_few first c elements)
 left_few d c (integer t n) = omega (arith, integer_few c t n)
+left_few d c (operation a b x y) = operation_few c (printed a b) x y (row_few (a ∷ b ∷ []) operations rows_few)
+left_few d c (function_parameter digits) = omega (arith, text_few digits)
 left_few d c (sized_float digits end) = omega (arith, float_few digits end)
 left_few d c _ = omega arith
 
-low_few : (d : Detail) (c : Context) (t : Term) → HasFew 6 (low_parts d c t)
+low_few : (d : Detail) (c : Context) (t : Term) → HasFew 7 (low_parts d c t)
 unfolding low_parts
 low_few d c (lvalue t) = omega (arith, reference_few c low t "&")
 low_few d c (rvalue t) = omega (arith, reference_few c low t "&")
@@ -166,6 +223,7 @@ base_within_few : (c : Context) (prefix p : Term) → HasFew 5 (base_within c pr
 unfolding base_within
 base_within_few c prefix (constructor digit) = omega arith
 base_within_few c prefix (destructor digit) = omega arith
+base_within_few c prefix (inheriting digit class) = omega arith
 base_within_few c prefix p = piece_few c p
 
 base_tagged_few : (c : Context) (of_structor : Bool) (t : Term) → HasFew 5 (base_tagged c of_structor t)
@@ -173,7 +231,7 @@ unfolding base_tagged
 base_tagged_few c true t = omega arith
 base_tagged_few c false t = piece_few c (own_piece (without_tags t))
 
-base_few : (d : Detail) (c : Context) (t : Term) → HasFew 6 (base_parts d c t)
+base_few : (d : Detail) (c : Context) (t : Term) → HasFew 7 (base_parts d c t)
 unfolding base_parts
 base_few d c (alone p) = omega (arith, piece_few c p)
 base_few d c (in_std p) = omega (arith, piece_few c p)

@@ -1,16 +1,17 @@
 -- The parts of an item have smaller ranks than the item.
-use Rattle.std.specs.Prelude.{◌≡◌, refl, ℕ, zero, suc, ◌+◌, ◌-◌, ◌<◌, ◌≤◌, List, [], ◌∷◌, ◌++◌, Bool, true, false, cond, nat_eq, Option, Some, None, codes}
+use Rattle.std.specs.Prelude.{◌≡◌, refl, ℕ, zero, suc, ◌+◌, ◌-◌, ◌<◌, ◌≤◌, List, [], ◌∷◌, ◌++◌, Bool, true, false, cond, nat_eq, nat_le, Option, Some, None, codes}
 use Prim.Native.String.{String}
 use Rattle.std.proofs.Common.{arith}
 use Rattle.std.proofs.lemmas.Bool.{false≢true, ltb-true}
 use Rattle.sym_print.specs.declared.detail.Detail.{Detail}
 use Rattle.sym_print.specs.Details.{has_arguments, has_parameters}
 use Rattle.sym_print.specs.Unfold.{PartOf, text, sub, RanksBelow}
-use Rattle.cpp_grammar.specs.Term.{Qualifiers, RefQualifier, Signed, Term, symbol, function, object, special, thunk, of_name, construction, clone, alone, in_std, within, instance, local, holder, tagged, of_default, abbreviation, parameter, source, constructor, destructor, lambda, generic_lambda, conversion, sized_float, constrained, pointer, lvalue, rvalue, array, bounded, member_pointer, function_type, qualified, vector, complex, expansion, integer, pack, nil, list, absent}
+use Rattle.cpp_grammar.specs.Term.{Qualifiers, RefQualifier, Signed, Term, symbol, function, object, special, thunk, of_name, construction, clone, alone, in_std, within, instance, local, holder, tagged, of_default, abbreviation, parameter, source, constructor, destructor, inheriting, lambda, generic_lambda, conversion, sized_float, constrained, pointer, lvalue, rvalue, array, bounded, member_pointer, function_type, qualified, vector, complex, expansion, integer, operation, function_parameter, pack, nil, list, absent, decltype}
 use Rattle.cpp_grammar.specs.Scope.{element, arguments_of, pack_length, without_tags}
 use Rattle.cpp_grammar.specs.Items.{Form, root, full, bare, left, right, low, base, piece, first, more, expand, Context, Item, indexed, auto, signature_in, argument, head, is_reference, is_funarr, packs_of, is_empty}
-use Rattle.cpp_grammar.specs.Parts.{as_item, says, text_part, list_part, piece_parts, prefix_item, within_parts, instance_parts, marked_parts, reference_parts, qualified_left, blank_last, qualifier_text, expansion_parts, sign_part, is_plain_integer, integer_parts, builtin_code, member_parts, array_left, entity_of, float_parts, left_parts, low_parts, function_right, ref_text, closing_right, qualified_right, right_parts, base_within, base_tagged, base_parts, types_of, encoding_text, function_bare, function_full, full_parts, bare_parts, root_parts, first_parts, more_parts, at_index, is_below, comma_before, expand_rest, expand_parts, parts_in, not_empty, parts, own_piece}
+use Rattle.cpp_grammar.specs.Parts.{as_item, says, text_part, list_part, piece_parts, prefix_item, within_parts, instance_parts, marked_parts, reference_parts, qualified_left, blank_last, qualifier_text, expansion_parts, sign_part, is_plain_integer, integer_parts, builtin_code, member_parts, array_left, entity_of, float_parts, precedence_of, operand_parts, operation_parts, printed, left_parts, low_parts, function_right, ref_text, closing_right, qualified_right, right_parts, base_within, base_tagged, base_parts, types_of, encoding_text, function_bare, function_full, full_parts, bare_parts, root_parts, first_parts, more_parts, at_index, is_below, comma_before, expand_rest, expand_parts, parts_in, not_empty, parts, own_piece}
 use Rattle.cpp_grammar.specs.Ranks.{or_none, pack_count, weight, scope_weight, weight_in, rank_in, rank}
+use Rattle.cpp_grammar.specs.Operations.{Operand, not_printed, as_it_is, as_type, as_list, from_precedence, Operation}
 use Rattle.cpp_grammar.specs.Texts.{look_up, literal_endings}
 
 -- ## Lists of parts
@@ -63,6 +64,7 @@ weight_grows a b scope (local encoding entity discriminator) h = omega (arith, w
 weight_grows a b scope (holder name) h = omega (arith, weight_grows a b scope name h)
 weight_grows a b scope (tagged of_structor name tag) h = omega (arith, weight_grows a b scope name h)
 weight_grows a b scope (of_default digits entity) h = omega (arith, weight_grows a b scope entity h)
+weight_grows a b scope (inheriting digit class) h = omega (arith, weight_grows a b scope class h)
 weight_grows a b scope (lambda parameters number) h = omega (arith, weight_grows a b scope parameters h)
 weight_grows a b scope (conversion t) h = omega (arith, weight_grows a b scope t h)
 weight_grows a b scope (constrained letter concept) h = omega (arith, weight_grows a b scope concept h)
@@ -76,8 +78,10 @@ weight_grows a b scope (function_type c_linkage noexcept ref returned parameters
 weight_grows a b scope (qualified q t) h = omega (arith, weight_grows a b scope t h)
 weight_grows a b scope (vector digits t) h = omega (arith, weight_grows a b scope t h)
 weight_grows a b scope (complex t) h = omega (arith, weight_grows a b scope t h)
+weight_grows a b scope (decltype operand) h = omega (arith, weight_grows a b scope operand h)
 weight_grows a b scope (expansion pattern) h = omega (arith, weight_grows a b scope pattern h)
 weight_grows a b scope (integer t n) h = omega (arith, weight_grows a b scope t h)
+weight_grows a b scope (operation one two u w) h = omega (arith, weight_grows a b scope u h, weight_grows a b scope w h)
 weight_grows a b scope (pack elements) h = omega (arith, weight_grows a b scope elements h)
 weight_grows a b scope (list e rest) h = omega (arith, weight_grows a b scope e h, weight_grows a b scope rest h)
 weight_grows a b scope _ h = omega arith
@@ -137,6 +141,7 @@ within_falls : (r : ℕ) (c : Context) (prefix p : Term) → Below r c prefix �
 unfolding within_parts rank rank_in
 within_falls r c prefix (constructor digit) h g = (h, (h, tt))
 within_falls r c prefix (destructor digit) h g = (h, (h, tt))
+within_falls r c prefix (inheriting digit class) h g = (h, (h, tt))
 within_falls r c prefix (symbol e suffix) h g = falls_append r (prefix_item c prefix ∷ []) _ (prefix_falls r c prefix h) (g, tt)
 within_falls r c prefix _ h g = falls_append r (prefix_item c prefix ∷ []) _ (prefix_falls r c prefix h) (g, tt)
 
@@ -191,6 +196,25 @@ float_falls : (r : ℕ) (digits : List ℕ) (end : ℕ) → RanksBelow rank r (f
 unfolding float_parts
 float_falls r digits end = falls_choice r (nat_eq end 98) _ _ tt (falls_choice r (nat_eq end 120) _ _ tt tt)
 
+operand_falls : (r : ℕ) (c : Context) (o : Operand) (t : Term) → Below r c t → RanksBelow rank r (operand_parts c o t)
+unfolding operand_parts rank rank_in
+operand_falls r c not_printed t h = tt
+operand_falls r c as_it_is t h = (h, tt)
+operand_falls r c as_type t h = (h, (h, tt))
+operand_falls r c as_list t h = falls_first r c t h
+operand_falls r c (from_precedence least) t h = falls_choice r (nat_le least (precedence_of t)) _ _ (h, tt) (h, tt)
+
+operation_falls : (r : ℕ) (c : Context) (o : Operation) (x y : Term) → Below r c x → Below r c y → RanksBelow rank r (operation_parts c o x y)
+unfolding operation_parts
+operation_falls r c o x y h g =
+    let a = text_part o.front in
+    let b = operand_parts c o.left x in
+    let d = text_part o.between in
+    let e = operand_parts c o.right y in
+    falls_append r (a ++ b ++ d ++ e) (text_part o.back)
+    (falls_append r (a ++ b ++ d) e
+    (falls_append r (a ++ b) d (falls_append r a b (falls_text r o.front) (operand_falls r c o.left x h)) (falls_text r o.between)) (operand_falls r c o.right y g)) (falls_text r o.back)
+
 -- the entity of a local name weighs no more than what it is in
 entity_weight : (c : Context) (entity : Term) → weight_in c (entity_of entity) ≤ weight_in c entity
 unfolding entity_of weight_in weight
@@ -214,6 +238,8 @@ left_falls d c (member_pointer class t) = member_falls _ c class t (omega arith)
 left_falls d c (qualified q t) = qualified_falls _ c q t (omega arith)
 left_falls d c (expansion t) = expansion_falls c t (packs_of c t)
 left_falls d c (pack elements) = falls_first _ c elements (omega arith)
+left_falls d c (operation a b x y) = operation_falls _ c (printed a b) x y (omega arith) (omega arith)
+left_falls d c (function_parameter digits) = falls_text _ digits
 left_falls d c (local encoding entity discriminator) = (omega (arith, entity_weight c entity), tt)
 left_falls d c (integer t n) = integer_falls _ c t n (omega arith)
 left_falls d c _ = first_of (assumption tt, grind arith)
@@ -261,6 +287,7 @@ base_within_falls : (r : ℕ) (c : Context) (prefix p : Term) → Below r c pref
 unfolding base_within rank rank_in
 base_within_falls r c prefix (constructor digit) h g = (h, tt)
 base_within_falls r c prefix (destructor digit) h g = (h, tt)
+base_within_falls r c prefix (inheriting digit class) h g = (h, tt)
 base_within_falls r c prefix p h g = piece_falls r c p (omega arith)
 
 untagged_weight : (a : ℕ) (scope : Option Term) (t : Term) → weight a scope (without_tags t) ≤ weight a scope t

@@ -26,7 +26,7 @@ use Rattle.cpp_grammar.specs.Scope.{count, element, is_open, length_if_pack}
 use Rattle.cpp_grammar.specs.Values.{Candidate, State, Around, prefix_tree, prefix_listed, Value, nothing_there, text, tree, piece, tree_of, is_listed, text_of, local_number, part}
 use Rattle.cpp_grammar.specs.References.{appended, is_function_type, with_type, with_unqualified, with_prefix, with_packs, packs_in, substituted, parameter_named}
 use Rattle.cpp_grammar.specs.Between.{in_name, in_types, in_signature, under_expansion, after, inside, no_items, Going, listed_so_far, parameter_so_far, index_of, between, next, argument_so_far}
-use Rattle.cpp_grammar.specs.Row.{Gain, nothing, the_prefix, type_of, unqualified_of, itself, Where, as_before, in_its_name, in_its_types, in_a_signature, under_it, nameless, after_part, after_the_name, Before, quiet, goes, becomes, tests, holds, before_part}
+use Rattle.cpp_grammar.specs.Row.{Gain, nothing, the_prefix, type_of, unqualified_of, itself, Where, as_before, in_its_name, in_its_types, in_a_signature, under_it, nameless, after_part, after_the_name, Before, quiet, goes, becomes, tests, holds, unread, before_part}
 use Rattle.cpp_grammar.specs.Meant.{made, is_listing, around_part, packs_within, gained, replaced, tested as tested_, done}
 use Rattle.cpp_grammar.specs.Rows.{row_of}
 use Rattle.cpp_grammar.specs.Meaning.{parameters, meaning}
@@ -256,6 +256,7 @@ done_none (becomes m is_in is_name is_candidate) around place vs state here sett
     becomes_none around t is_in is_name vs (cond is_candidate (appended around t state) state) settled none all (candidate_none is_candidate around t state none cs)
 done_none (tests after_t is_name) around place vs state here settled all cs = tests_none is_name around (cond after_t (place - 1) place) (index_of (part vs 0)) vs state settled all cs
 done_none holds around place vs state here settled all cs = tt
+done_none unread around place vs state here settled all cs = tt
 
 between_none : (p : Production) (around : Around) (place : ℕ) (vs : List Value) (state : State) → Settled around → (are_closed p around ≡ true → AllNone vs) → AllHaveNone state.candidates → IfOk (between p around place vs state) (NextHasNone (are_closed p around) (has_specials p))
 unfolding are_closed has_closed_parts has_specials opens in_signature between all_pass goes_here is_here
@@ -333,7 +334,7 @@ between_stays Production.Parameter around place (v ∷ []) state n settled e = h
 between_stays Production.NestParameter around place (v ∷ []) state n settled e = here_stays around place (index_of v) state n settled e
 between_stays Production.ParameterArgument around place (v ∷ []) state n settled e = here_stays around (place - 1) (index_of v) state n settled e
 between_stays Production.ParameterExpression around place (v ∷ []) state n settled e = argument_stays around place (index_of v) state n settled e
-between_stays Production.BoundedArray around place (v ∷ []) state n settled e = argument_stays around place (index_of v) state n settled e
+between_stays Production.OwnArguments around place [] state n settled e = let clash : ◌≡◌ {A = Going} (Err (BadReference place)) (Ok n) = e in absurd cc
 between_stays Production.Holder around place (v ∷ []) state n settled e = let clash : ◌≡◌ {A = Going} (Err (BadReference place)) (Ok n) = e in absurd cc
 between_stays _ around place vs state n settled e = e
 
@@ -431,6 +432,7 @@ close_stays Production.Substitution byte around place began vs state r settled a
 close_stays Production.Lambda byte around place began vs state r settled all cs e =
     closed_stays Production.Lambda byte around began vs state r settled all cs e (Ok (found (as_generic_lambda (meaning Production.Lambda byte around vs)) state))
     (let said : Value → Result (Found Value State) Refusal = λ v. Ok (found v state) in ap said (lambda_stays around byte vs (all refl)) ∙ e)
+close_stays Production.Inheriting byte around place began vs state r settled all cs e = let clash : ◌≡◌ {A = Result (Found Value State) Refusal} (Err (BadReference place)) (Ok r) = e in absurd cc
 close_stays p byte around place began vs state r settled all cs e = closed_stays p byte around began vs state r settled all cs e (close p byte around place began vs state) e
 
 -- ## Trees

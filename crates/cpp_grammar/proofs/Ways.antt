@@ -31,7 +31,7 @@ abi_way = record { own = false; between = between; close = close }
 unfoldable pub wide_way : Way
 wide_way = record { own = true; between = between_wide; close = close_wide }
 
--- the productions in which alone they differ: those of references, and lambdas
+-- the productions in which alone they differ: those of references, lambdas, and constructors that are inherited
 unfoldable pub differs : Production → Bool
 differs Production.Lambda = true
 differs Production.Parameter = true
@@ -39,7 +39,8 @@ differs Production.NestParameter = true
 differs Production.Substitution = true
 differs Production.ParameterArgument = true
 differs Production.ParameterExpression = true
-differs Production.BoundedArray = true
+differs Production.OwnArguments = true
+differs Production.Inheriting = true
 differs Production.Holder = true
 differs _ = false
 
@@ -66,7 +67,7 @@ plain_between Production.Parameter apart around place vs state = absurd (true≢
 plain_between Production.NestParameter apart around place vs state = absurd (true≢false apart)
 plain_between Production.ParameterArgument apart around place vs state = absurd (true≢false apart)
 plain_between Production.ParameterExpression apart around place vs state = absurd (true≢false apart)
-plain_between Production.BoundedArray apart around place vs state = absurd (true≢false apart)
+plain_between Production.OwnArguments apart around place vs state = absurd (true≢false apart)
 plain_between Production.Holder apart around place vs state = absurd (true≢false apart)
 plain_between _ apart around place vs state = refl
 
@@ -75,6 +76,7 @@ plain_close : (p : Production) → differs p ≡ false → (byte : ℕ) (around 
 unfolding differs close_wide
 plain_close Production.Substitution apart byte around place began vs state = absurd (true≢false apart)
 plain_close Production.Lambda apart byte around place began vs state = absurd (true≢false apart)
+plain_close Production.Inheriting apart byte around place began vs state = absurd (true≢false apart)
 plain_close _ apart byte around place began vs state = refl
 
 pub wide_plain : IsPlain wide_way

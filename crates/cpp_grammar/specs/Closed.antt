@@ -1,6 +1,6 @@
 -- Trees in which the arguments that are a scope have no free parameters.
 use Rattle.std.specs.Prelude.{◌≡◌, false, Option, Some, None}
-use Rattle.cpp_grammar.specs.Term.{Term, symbol, function, object, special, thunk, of_name, construction, clone, alone, in_std, within, instance, local, holder, tagged, of_default, lambda, generic_lambda, conversion, pointer, lvalue, rvalue, array, constrained, bounded, member_pointer, function_type, qualified, vector, complex, expansion, integer, encoding_literal, address_of, pack, list}
+use Rattle.cpp_grammar.specs.Term.{Term, symbol, function, object, special, thunk, of_name, construction, clone, alone, in_std, within, instance, local, holder, tagged, of_default, lambda, generic_lambda, conversion, pointer, lvalue, rvalue, array, constrained, bounded, member_pointer, function_type, qualified, vector, complex, expansion, integer, encoding_literal, address_of, pack, list, inheriting, decltype, operation}
 use Rattle.cpp_grammar.specs.Scope.{arguments_of, is_open}
 
 -- the arguments of a scope, if there are some, have no free parameters
@@ -27,6 +27,7 @@ ScopesAreClosed (local encoding entity discriminator) = ScopesAreClosed encoding
 ScopesAreClosed (holder name) = ScopesAreClosed name
 ScopesAreClosed (tagged of_structor name tag) = ScopesAreClosed name
 ScopesAreClosed (of_default digits entity) = ScopesAreClosed entity
+ScopesAreClosed (inheriting digit class) = ScopesAreClosed class
 ScopesAreClosed (lambda parameters number) = ScopesAreClosed parameters
 ScopesAreClosed (generic_lambda parameters number) = ScopesAreClosed parameters
 ScopesAreClosed (conversion t) = ScopesAreClosed t
@@ -41,10 +42,12 @@ ScopesAreClosed (function_type c_linkage noexcept ref returned parameters) = Sco
 ScopesAreClosed (qualified q t) = ScopesAreClosed t
 ScopesAreClosed (vector digits t) = ScopesAreClosed t
 ScopesAreClosed (complex t) = ScopesAreClosed t
+ScopesAreClosed (decltype operand) = ScopesAreClosed operand
 ScopesAreClosed (expansion pattern) = ScopesAreClosed pattern
 ScopesAreClosed (integer t n) = ScopesAreClosed t
 ScopesAreClosed (encoding_literal e) = ScopesAreClosed e
 ScopesAreClosed (address_of e) = ScopesAreClosed e
+ScopesAreClosed (operation one two u w) = ScopesAreClosed u × ScopesAreClosed w
 ScopesAreClosed (pack elements) = ScopesAreClosed elements
 ScopesAreClosed (list first rest) = ScopesAreClosed first × ScopesAreClosed rest
 ScopesAreClosed _ = Unit {0}

@@ -22,6 +22,7 @@ pub mod Meaning
 pub mod Unfolding
 pub mod Rescoping
 pub mod Texts
+pub mod Operations
 pub mod Items
 pub mod Parts
 pub mod Ranks

@@ -32,10 +32,12 @@ pub data Maker : Type 0 where
   new_qualified : Maker
   new_vector : Maker
   new_complex : Maker
+  new_decltype : Maker
   new_expansion : Maker
   new_integer : Maker
   new_boolean : Maker
   new_null_pointer : Maker
   new_encoding_literal : Maker
-  new_address_of : Maker
+  new_operation : Maker
+  new_function_parameter : Maker
   new_pack : Maker

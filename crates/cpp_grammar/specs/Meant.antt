@@ -2,13 +2,13 @@
 use Rattle.std.specs.Prelude.{ℕ, ◌-◌, List, [], ◌∷◌, ◌++◌, Bool, true, false, cond, not, ◌&&◌, nat_eq, None, Err}
 use Rattle.sym_core.specs.declared.refusal.Refusal.TheVariants.{BadReference}
 use Rattle.sym_link.specs.Reading.{◌>>=◌}
-use Rattle.cpp_grammar.specs.Term.{Term, list, parameter, pack, any_value}
-use Rattle.cpp_grammar.specs.Values.{State, Around, prefix_tree, Value, nothing_there, letter, tree, piece, named, unqualified, tree_of, piece_of, is_listed, qualifiers_of, ref_of, letter_of, is_there, text_of, signed_of, normal, local_number, part}
+use Rattle.cpp_grammar.specs.Term.{Term, list, parameter, pack, absent, any_value}
+use Rattle.cpp_grammar.specs.Values.{State, Around, prefix_tree, Value, nothing_there, letter, tree, piece, named, pair, unqualified, tree_of, piece_of, is_listed, qualifiers_of, ref_of, letter_of, is_there, text_of, signed_of, normal, local_number, part}
 use Rattle.cpp_grammar.specs.References.{appended, with_type, with_unqualified, with_prefix, parameter_named}
 use Rattle.cpp_grammar.specs.Surrounding.{Going, next, in_name, in_types, in_signature, under_expansion, after, inside, extended, with_tag, applied, no_items, index_of}
 use Rattle.cpp_grammar.specs.Standing.{parameters, discriminator_of, listed_value, with_item}
-use Rattle.cpp_grammar.specs.Builders.{Argument, a_tree, some_bytes, a_number, a_truth, some_qualifiers, a_mark, a_signed, a_discriminator, tree_in, truth_in, built}
-use Rattle.cpp_grammar.specs.Row.{Source, tree_at, list_at, parameters_at, piece_at, the_name, text_at, digits_at, code, taken, fixed, letter_at, number_at, yes, no, there_at, letter_is, qualifiers_at, qualified_by, ref_at, signed_at, discriminator_at, Made, of, only, extending, tagging, applying, packing, Listing, listed, unlisted, as_part, unless_there, as_part_alone, Form, handed, finished, the_byte, makes, a_piece, cell, item, a_name, in_place, own, Where, as_before, in_its_name, in_its_types, in_a_signature, under_it, nameless, after_part, after_the_name, Gain, nothing, the_prefix, type_of, unqualified_of, itself, Before, quiet, goes, becomes, tests, holds, Row}
+use Rattle.cpp_grammar.specs.Builders.{Argument, a_tree, some_bytes, a_number, a_truth, some_qualifiers, a_mark, a_signed, a_discriminator, tree_in, number_in, truth_in, built}
+use Rattle.cpp_grammar.specs.Row.{Source, tree_at, list_at, parameters_at, piece_at, the_name, no_tree, text_at, digits_at, code, taken, fixed, letter_at, letter_or_taken, number_at, yes, no, there_at, letter_is, qualifiers_at, qualified_by, ref_at, signed_at, discriminator_at, Made, of, only, extending, tagging, applying, packing, Listing, listed, unlisted, as_part, unless_there, as_part_alone, Form, handed, finished, either, the_byte, makes, a_piece, a_pair, cell, item, a_name, in_place, own, Where, as_before, in_its_name, in_its_types, in_a_signature, under_it, nameless, after_part, after_the_name, Gain, nothing, the_prefix, type_of, unqualified_of, itself, Before, quiet, goes, becomes, tests, holds, unread, Row}
 use Rattle.cpp_grammar.specs.Own.{own_meaning}
 
 -- ## Trees
@@ -19,6 +19,7 @@ given byte around vs (tree_at k) = a_tree (tree_of (part vs k))
 given byte around vs (list_at k) = a_tree (no_items (part vs k))
 given byte around vs (parameters_at k) = a_tree (parameters (tree_of (part vs k)))
 given byte around vs (piece_at k) = a_tree (piece_of (part vs k))
+given byte around vs no_tree = a_tree absent
 given byte around vs the_name = a_tree (prefix_tree around.prefix)
 given byte around vs (text_at k) = some_bytes (text_of (part vs k))
 given byte around vs (digits_at k) = some_bytes (normal (text_of (part vs k)))
@@ -26,6 +27,7 @@ given byte around vs (code front) = some_bytes (front ++ (byte ∷ []))
 given byte around vs taken = a_number byte
 given byte around vs (fixed n) = a_number n
 given byte around vs (letter_at k) = a_number (letter_of (part vs k))
+given byte around vs (letter_or_taken k) = a_number (cond (nat_eq (letter_of (part vs k)) 0) byte (letter_of (part vs k)))
 given byte around vs (number_at k) = a_number (local_number (text_of (part vs k)))
 given byte around vs yes = a_truth true
 given byte around vs no = a_truth false
@@ -62,9 +64,11 @@ is_listing vs (as_part_alone k n) = is_listed (part vs k) && not (is_there (part
 unfoldable pub meant : Form → (byte : ℕ) → Around → List Value → Value
 meant (handed k) byte around vs = part vs k
 meant (finished k) byte around vs = listed_value (part vs k)
+meant (either k n) byte around vs = elim (is_there (part vs k)) [ true ↦ part vs k | false ↦ part vs n ]
 meant the_byte byte around vs = letter byte
 meant (makes m listing) byte around vs = tree (made byte around vs m) (is_listing vs listing)
 meant (a_piece m) byte around vs = piece (made byte around vs m)
+meant (a_pair l x y) byte around vs = pair (number_in (given byte around vs l)) (made byte around vs x) (made byte around vs y)
 meant (cell first rest) byte around vs = tree (list (tree_of (part vs first)) (no_items (part vs rest))) true
 meant (item first rest) byte around vs = with_item (tree_of (part vs first)) (part vs rest)
 meant (a_name listing) byte around vs = tree (applied (tree_of (part vs 0)) (part vs 1)) (is_listing vs listing)
@@ -116,6 +120,8 @@ done (tests after_t is_name) around place vs state =
     parameter_named around (cond after_t (place - 1) place) k state >>= λ s. tested is_name around (parameter k) vs s state
 -- the ABI's grammar has no M in a name
 done holds around place vs state = Err (BadReference place)
+-- nor a constructor that is inherited
+done unread around place vs state = Err (BadReference place)
 
 -- ## Once its parts are read
 

@@ -1,11 +1,12 @@
 -- The parts of what is printed: each item of a C++ tree has at most eight, texts that aren't empty and further items.
-use Rattle.std.specs.Prelude.{ℕ, zero, suc, ◌+◌, List, [], ◌∷◌, ◌++◌, drop, Bool, true, false, cond, ◌||◌, ◌&&◌, nat_eq, nat_lt, Option, Some, None, codes, decimal}
+use Rattle.std.specs.Prelude.{ℕ, zero, suc, ◌+◌, List, [], ◌∷◌, ◌++◌, drop, Bool, true, false, cond, ◌||◌, ◌&&◌, nat_eq, nat_le, nat_lt, Option, Some, None, codes, decimal}
 use Prim.Native.String.{String}
 use Rattle.sym_print.specs.declared.detail.Detail.{Detail}
 use Rattle.sym_print.specs.Details.{has_arguments, has_parameters}
 use Rattle.sym_print.specs.Unfold.{PartOf, text, sub}
 use Rattle.cpp_grammar.specs.Texts.{same_bytes, look_up, builtin_texts, operator_texts, abbreviation_texts, special_texts, named_special_texts, literal_endings}
-use Rattle.cpp_grammar.specs.Term.{Qualifiers, RefQualifier, any_value, lvalue_only, rvalue_only, Signed, non_virtual, by_table, Thunk, adjusting, covariant, Term, symbol, function, object, special, thunk, of_name, construction, clone, alone, in_std, within, instance, local, holder, tagged, of_default, abbreviation, parameter, source, operator, literal_operator, constructor, destructor, lambda, generic_lambda, unnamed, string_literal, conversion, builtin, sized_float, constrained, vendor, pointer, lvalue, rvalue, array, bounded, member_pointer, function_type, qualified, vector, complex, expansion, integer, boolean, null_pointer, encoding_literal, address_of, pack, nil, list, absent}
+use Rattle.cpp_grammar.specs.Operations.{UNARY, PRIMARY, Operand, not_printed, as_it_is, as_type, as_list, from_precedence, Operation, operations, operation_of_code}
+use Rattle.cpp_grammar.specs.Term.{Qualifiers, RefQualifier, any_value, lvalue_only, rvalue_only, Signed, non_virtual, by_table, Thunk, adjusting, covariant, Term, symbol, function, object, special, thunk, of_name, construction, clone, alone, in_std, within, instance, local, holder, tagged, of_default, abbreviation, parameter, source, operator, literal_operator, constructor, destructor, inheriting, lambda, generic_lambda, unnamed, string_literal, conversion, builtin, sized_float, constrained, vendor, pointer, lvalue, rvalue, array, bounded, member_pointer, function_type, qualified, vector, complex, decltype, expansion, integer, boolean, null_pointer, encoding_literal, address_of, operation, function_parameter, pack, nil, list, absent}
 use Rattle.cpp_grammar.specs.Scope.{arguments_of, without_tags}
 use Rattle.cpp_grammar.specs.Items.{Form, root, full, bare, left, right, low, base, piece, first, more, expand, Context, Item, closed, signature_in, argument, head, is_reference, is_funarr, packs_of, is_empty}
 
@@ -74,6 +75,7 @@ prefix_item context t = as_item left context t
 
 unfoldable pub within_parts : Context → Term → Term → List (PartOf Item)
 within_parts context prefix (constructor digit) = as_item left context prefix ∷ says "::" ∷ as_item base context prefix ∷ []
+within_parts context prefix (inheriting digit class) = as_item left context prefix ∷ says "::" ∷ as_item base context prefix ∷ []
 within_parts context prefix (destructor digit) = as_item left context prefix ∷ says "::~" ∷ as_item base context prefix ∷ []
 within_parts context prefix p = prefix_item context prefix ∷ says "::" ∷ as_item piece context p ∷ []
 
@@ -164,6 +166,36 @@ float_parts digits end = elim (nat_eq end 98) [
 unfoldable pub placeholder_text : (letter : ℕ) → List ℕ
 placeholder_text letter = elim (nat_eq letter 107) [ true ↦ codes " auto" | false ↦ codes " decltype(auto)" ]
 
+-- ## Expressions
+
+-- what isn't in the table prints nothing
+abbrev pub no_operation : Operation
+no_operation = record { code = []; precedence = PRIMARY; front = []; left = not_printed; between = []; right = not_printed; back = [] }
+
+-- how the operation of two letters is printed
+unfoldable pub printed : (a b : ℕ) → Operation
+printed a b = elim (operation_of_code (a ∷ b ∷ []) operations) [ Some o ↦ o | None ↦ no_operation ]
+
+-- what is no operation and no address needs no parentheses
+unfoldable pub precedence_of : Term → ℕ
+precedence_of (operation a b x y) = (printed a b).precedence
+precedence_of (address_of e) = UNARY
+precedence_of _ = PRIMARY
+
+unfoldable pub operand_parts : Context → Operand → Term → List (PartOf Item)
+operand_parts context not_printed t = []
+operand_parts context as_it_is t = as_item left context t ∷ []
+operand_parts context as_type t = as_item left context t ∷ as_item right context t ∷ []
+operand_parts context as_list t = list_part first context t
+operand_parts context (from_precedence least) t = elim (nat_le least (precedence_of t)) [
+  | true ↦ says "(" ∷ as_item left context t ∷ says ")" ∷ []
+  | false ↦ as_item left context t ∷ []
+]
+
+unfoldable pub operation_parts : Context → Operation → Term → Term → List (PartOf Item)
+operation_parts context o x y =
+    text_part o.front ++ operand_parts context o.left x ++ text_part o.between ++ operand_parts context o.right y ++ text_part o.back
+
 -- the entity of a local name; in which default argument it is isn't printed
 unfoldable pub entity_of : Term → Term
 entity_of (of_default digits entity) = entity
@@ -193,7 +225,10 @@ left_parts d context (member_pointer class t) = member_parts context class t
 left_parts d context (qualified q t) = qualified_left context q t
 left_parts d context (vector digits t) = as_item left context t ∷ says " __vector(" ∷ text digits ∷ says ")" ∷ []
 left_parts d context (complex t) = as_item left context t ∷ says " _Complex" ∷ []
+left_parts d context (decltype e) = says "decltype(" ∷ as_item left context e ∷ says ")" ∷ []
 left_parts d context (expansion pattern) = expansion_parts context pattern (packs_of context pattern)
+left_parts d context (operation a b x y) = operation_parts context (printed a b) x y
+left_parts d context (function_parameter digits) = says "fp" ∷ text_part digits
 left_parts d context (pack elements) = list_part first context elements
 left_parts d context (integer t n) = integer_parts context t n
 left_parts d context (boolean b) = text (cond b (codes "true") (codes "false")) ∷ []
@@ -242,6 +277,7 @@ right_parts context _ = []
 
 unfoldable pub base_within : Context → Term → Term → List (PartOf Item)
 base_within context prefix (constructor digit) = as_item base context prefix ∷ []
+base_within context prefix (inheriting digit class) = as_item base context prefix ∷ []
 base_within context prefix (destructor digit) = as_item base context prefix ∷ []
 base_within context prefix p = piece_parts context p
 

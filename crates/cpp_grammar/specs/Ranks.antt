@@ -1,6 +1,6 @@
 -- A rank of items that falls from each item to its parts, so that printing ends.
 use Rattle.std.specs.Prelude.{ℕ, ◌+◌, ◌-◌, Option, Some, None}
-use Rattle.cpp_grammar.specs.Term.{Term, symbol, function, object, special, thunk, of_name, construction, clone, alone, in_std, within, instance, local, holder, tagged, of_default, parameter, lambda, generic_lambda, conversion, pointer, lvalue, rvalue, array, constrained, bounded, member_pointer, function_type, qualified, vector, complex, expansion, integer, encoding_literal, address_of, pack, list}
+use Rattle.cpp_grammar.specs.Term.{Term, symbol, function, object, special, thunk, of_name, construction, clone, alone, in_std, within, instance, local, holder, tagged, of_default, parameter, lambda, generic_lambda, conversion, pointer, lvalue, rvalue, array, constrained, bounded, member_pointer, function_type, qualified, vector, complex, expansion, integer, encoding_literal, address_of, pack, list, inheriting, decltype, operation}
 use Rattle.cpp_grammar.specs.Scope.{arguments_of, pack_length}
 use Rattle.cpp_grammar.specs.Items.{Form, expand, Context, Item}
 
@@ -33,6 +33,7 @@ weight a scope (holder name) = 1 + weight a scope name
 weight a scope (tagged of_structor name tag) = 1 + weight a scope name
 weight a scope (of_default digits entity) = 1 + weight a scope entity
 weight a scope (parameter k) = 2 + a
+weight a scope (inheriting digit class) = 1 + weight a scope class
 weight a scope (lambda parameters number) = 1 + weight a scope parameters
 weight a scope (generic_lambda parameters number) = 1 + weight 0 None parameters
 weight a scope (conversion t) = 1 + weight a scope t
@@ -47,10 +48,12 @@ weight a scope (function_type c_linkage noexcept ref returned parameters) = 1 + 
 weight a scope (qualified q t) = 1 + weight a scope t
 weight a scope (vector digits t) = 1 + weight a scope t
 weight a scope (complex t) = 1 + weight a scope t
+weight a scope (decltype operand) = 1 + weight a scope operand
 weight a scope (expansion pattern) = 2 + weight a scope pattern + pack_count scope pattern
 weight a scope (integer t n) = 1 + weight a scope t
 weight a scope (encoding_literal e) = 1 + weight 0 None e
 weight a scope (address_of e) = 1 + weight 0 None e
+weight a scope (operation one two u w) = 1 + weight a scope u + weight a scope w
 weight a scope (pack elements) = 1 + weight a scope elements
 weight a scope (list e rest) = 1 + weight a scope e + weight a scope rest
 weight a scope _ = 1

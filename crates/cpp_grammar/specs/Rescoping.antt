@@ -12,9 +12,9 @@ use Rattle.sym_link.specs.Unfold.{found, unfold_tree}
 use Rattle.cpp_grammar.specs.declared.production.Production.{Production}
 use Rattle.cpp_grammar.specs.Term.{Term, instance, holder, parameter, lambda, generic_lambda}
 use Rattle.cpp_grammar.specs.Scope.{count, element, is_list, has_pack, is_open, Free, none_free, one_free, several_free, free_in, pack_length}
-use Rattle.cpp_grammar.specs.Values.{Candidate, State, Around, prefix_tree, Value, nothing_there, tree, piece, text, text_of, part}
+use Rattle.cpp_grammar.specs.Values.{Candidate, State, Around, prefix_tree, Value, nothing_there, tree, piece, pair, text, tree_of, is_listed, text_of, part}
 use Rattle.cpp_grammar.specs.References.{appended, with_packs, substituted}
-use Rattle.cpp_grammar.specs.Between.{Going, next, listed_so_far, parameter_so_far, argument_so_far, index_of, between}
+use Rattle.cpp_grammar.specs.Between.{Going, next, inside, listed_so_far, parameter_so_far, argument_so_far, index_of, between}
 use Rattle.cpp_grammar.specs.Meaning.{meaning}
 use Rattle.cpp_grammar.specs.Unfolding.{opening, close, production_at, byte_of, first_around, first_state, first_tree}
 
@@ -35,7 +35,7 @@ parameter_here around place k vs state = elim around.in_lambda [
   | false ↦ parameter_so_far around place k vs state
 ]
 
--- so is a parameter that is an argument itself, or the length of an array, which is no candidate
+-- so is a parameter in an expression, which is no candidate
 unfoldable pub argument_here : Around → (place : ℕ) → ℕ → State → Going
 argument_here around place k state = elim around.in_lambda [
   | true ↦ next (tree (parameter (generic_number k)) true ∷ []) around state
@@ -82,6 +82,19 @@ holder_so_far around place state = elim (is_instance (prefix_tree around.prefix)
   | true ↦ Err (BadReference place)
   | false ↦ let t = holder (prefix_tree around.prefix) in listed_so_far around t [] (with_holder around t state)
 ]
+
+-- ## Constructors that are inherited
+
+-- Nor do all compilers count the base class that is after CI, or the constructor with it: from there on no number is known to name the same
+-- tree by all of them. The base class is a candidate, unless it is there by its number alone, and again as a mark of that.
+
+unfoldable pub with_base : Around → Term → State → State
+with_base around t state = with_holder around t (appended around t state)
+
+-- Where the constructor has arguments of its own, the base class is counted before these.
+unfoldable pub counted_base : Around → (base : Value) → State → State
+counted_base around (pair letter base own) state = state
+counted_base around base state = elim (is_listed base) [ true ↦ state | false ↦ with_base around (tree_of base) state ]
 
 -- ## Substitutions
 
@@ -146,7 +159,7 @@ between_wide Production.Parameter around place (v ∷ []) state = parameter_here
 between_wide Production.NestParameter around place (v ∷ []) state = parameter_here around place (index_of v) [] state
 between_wide Production.ParameterArgument around place (v ∷ []) state = parameter_here around (place - 1) (index_of v) [] state
 between_wide Production.ParameterExpression around place (v ∷ []) state = argument_here around place (index_of v) state
-between_wide Production.BoundedArray around place (v ∷ []) state = argument_here around place (index_of v) state
+between_wide Production.OwnArguments around place [] state = next [] (inside around) (with_base around (prefix_tree around.prefix) state)
 between_wide Production.Holder around place (v ∷ []) state = holder_so_far around place state
 between_wide production around place vs state = between production around place vs state
 
@@ -154,6 +167,7 @@ unfoldable pub close_wide : Production → (byte : ℕ) → Around → (place : 
 close_wide Production.Substitution byte around place began vs state =
     numbered around (place - 1) (counted_value Seq36 (text_of (part vs 0))) state
 close_wide Production.Lambda byte around place began vs state = Ok (found (as_generic_lambda (meaning Production.Lambda byte around vs)) state)
+close_wide Production.Inheriting byte around place began vs state = Ok (found (meaning Production.Inheriting byte around vs) (counted_base around (part vs 1) state))
 close_wide production byte around place began vs state = close production byte around place began vs state
 
 -- C++ by the wide grammar as a language

@@ -11,6 +11,7 @@ pub data Source : Type 0 where
   parameters_at : ℕ → Source
   piece_at : ℕ → Source
   the_name : Source
+  no_tree : Source
   text_at : ℕ → Source
   -- a text of digits without zeros in front
   digits_at : ℕ → Source
@@ -19,6 +20,8 @@ pub data Source : Type 0 where
   taken : Source
   fixed : ℕ → Source
   letter_at : ℕ → Source
+  -- the letter of a part, or the byte that is taken, where the part has none
+  letter_or_taken : ℕ → Source
   -- the number of a lambda or an unnamed type
   number_at : ℕ → Source
   yes : Source
@@ -66,6 +69,10 @@ pub data Own : Type 0 where
   in_default : Own
   nest_end : Own
   closure : Own
+  inheriting : Own
+  by_letters : Own
+  enclosed : Own
+  elements : Own
   substitution : Own
   first_of_operator : Own
   reference : Own
@@ -87,11 +94,15 @@ pub data Form : Type 0 where
   -- what a part stands for; and the same tree, which is a candidate by now
   handed : ℕ → Form
   finished : ℕ → Form
+  -- what a part stands for, or another, where it isn't there
+  either : (part other : ℕ) → Form
   -- the byte that is taken
   the_byte : Form
   -- a tree, a piece of a name, a cell of a list, one more item of a signature
   makes : Made → Listing → Form
   a_piece : Made → Form
+  -- a letter and two trees
+  a_pair : (letter : Source) → (left right : Made) → Form
   cell : (first rest : ℕ) → Form
   item : (first rest : ℕ) → Form
   -- the first part with the arguments that the second is, if it is there; one that was tagged is in the place of another name
@@ -135,6 +146,8 @@ pub data Before : Type 0 where
   tests : (after_t is_name : Bool) → Before
   -- the first part is an M behind the name so far
   holds : Before
+  -- what the reading of the ABI's grammar refuses
+  unread : Before
 
 pub record Row : Type 0 where
   -- before each part from the first one on, and before each of the others
@@ -175,6 +188,7 @@ most_before _ = 0
 
 unfoldable pub most_at_end : Form → ℕ
 most_at_end (makes m listing) = most_made m
+most_at_end (a_pair letter left right) = most_made left + most_made right
 most_at_end (cell first rest) = 1
 most_at_end (item first rest) = 1
 most_at_end (a_name listing) = 1

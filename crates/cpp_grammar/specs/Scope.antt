@@ -1,7 +1,7 @@
 -- What the trees of C++ symbols are like: their arguments, free parameters and packs.
 -- The scope of an encoding is the list of arguments that its own name ends in. It holds for the encoding's types alone.
 use Rattle.std.specs.Prelude.{ℕ, zero, suc, Bool, true, false, not, ◌||◌, nat_eq, max, Option, Some, None}
-use Rattle.cpp_grammar.specs.Term.{Term, alone, in_std, within, instance, local, holder, tagged, of_default, parameter, constructor, destructor, lambda, conversion, pointer, lvalue, rvalue, array, constrained, bounded, member_pointer, function_type, qualified, vector, complex, expansion, integer, pack, list, absent}
+use Rattle.cpp_grammar.specs.Term.{Term, alone, in_std, within, instance, local, holder, tagged, of_default, parameter, constructor, destructor, inheriting, lambda, conversion, pointer, lvalue, rvalue, array, constrained, bounded, member_pointer, function_type, qualified, vector, complex, expansion, integer, pack, list, absent, decltype, operation}
 
 -- the length of a list
 unfoldable pub count : Term → ℕ
@@ -32,6 +32,7 @@ before_arguments name = name
 unfoldable pub is_structor : Term → Bool
 is_structor (within prefix (constructor digit)) = true
 is_structor (within prefix (destructor digit)) = true
+is_structor (within prefix (inheriting digit class)) = true
 is_structor (tagged of_structor name tag) = of_structor
 is_structor _ = false
 
@@ -57,6 +58,7 @@ is_open (local encoding entity discriminator) = is_open entity
 is_open (holder name) = is_open name
 is_open (tagged of_structor name tag) = is_open name
 is_open (of_default digits entity) = is_open entity
+is_open (inheriting digit class) = is_open class
 is_open (lambda parameters number) = is_open parameters
 is_open (conversion type) = is_open type
 is_open (constrained letter concept) = is_open concept
@@ -70,8 +72,10 @@ is_open (function_type c_linkage noexcept ref returned parameters) = is_open ret
 is_open (qualified qualifiers type) = is_open type
 is_open (vector digits type) = is_open type
 is_open (complex type) = is_open type
+is_open (decltype operand) = is_open operand
 is_open (expansion pattern) = is_open pattern
 is_open (integer type value) = is_open type
+is_open (operation one two u w) = is_open u || is_open w
 is_open (pack elements) = is_open elements
 is_open (list first rest) = is_open first || is_open rest
 is_open _ = false
@@ -102,6 +106,7 @@ free_in (local encoding entity discriminator) = free_in entity
 free_in (holder name) = free_in name
 free_in (tagged of_structor name tag) = free_in name
 free_in (of_default digits entity) = free_in entity
+free_in (inheriting digit class) = free_in class
 free_in (lambda parameters number) = free_in parameters
 free_in (conversion type) = free_in type
 free_in (constrained letter concept) = free_in concept
@@ -115,8 +120,10 @@ free_in (function_type c_linkage noexcept ref returned parameters) = both_free (
 free_in (qualified qualifiers type) = free_in type
 free_in (vector digits type) = free_in type
 free_in (complex type) = free_in type
+free_in (decltype operand) = free_in operand
 free_in (expansion pattern) = free_in pattern
 free_in (integer type value) = free_in type
+free_in (operation one two u w) = both_free (free_in u) (free_in w)
 free_in (pack elements) = free_in elements
 free_in (list first rest) = both_free (free_in first) (free_in rest)
 free_in _ = none_free
@@ -156,6 +163,7 @@ pack_length scope (local encoding entity discriminator) = pack_length scope enti
 pack_length scope (holder name) = pack_length scope name
 pack_length scope (tagged of_structor name tag) = pack_length scope name
 pack_length scope (of_default digits entity) = pack_length scope entity
+pack_length scope (inheriting digit class) = pack_length scope class
 pack_length scope (lambda parameters number) = pack_length scope parameters
 pack_length scope (conversion type) = pack_length scope type
 pack_length scope (constrained letter concept) = pack_length scope concept
@@ -169,7 +177,9 @@ pack_length scope (function_type c_linkage noexcept ref returned parameters) = f
 pack_length scope (qualified qualifiers type) = pack_length scope type
 pack_length scope (vector digits type) = pack_length scope type
 pack_length scope (complex type) = pack_length scope type
+pack_length scope (decltype operand) = pack_length scope operand
 pack_length scope (integer type value) = pack_length scope type
+pack_length scope (operation one two u w) = first_of (pack_length scope u) (pack_length scope w)
 pack_length scope (pack elements) = pack_length scope elements
 pack_length scope (list first rest) = first_of (pack_length scope first) (pack_length scope rest)
 pack_length scope _ = None

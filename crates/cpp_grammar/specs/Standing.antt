@@ -1,8 +1,8 @@
 -- Of what productions stand for: parameters, encodings, references, signatures.
-use Rattle.std.specs.Prelude.{ℕ, List, [], ◌∷◌, Bool, true, false, cond, ◌&&◌, nat_eq, Option, Some, None}
-use Rattle.cpp_grammar.specs.Term.{RefQualifier, Term, function, object, of_default, operator, builtin, lvalue, rvalue, nil, list, absent}
+use Rattle.std.specs.Prelude.{ℕ, List, [], ◌∷◌, Bool, true, false, cond, ◌||◌, ◌&&◌, nat_eq, Option, Some, None}
+use Rattle.cpp_grammar.specs.Term.{RefQualifier, Term, function, object, of_default, operator, builtin, lvalue, rvalue, encoding_literal, address_of, operation, nil, list, absent}
 use Rattle.cpp_grammar.specs.Scope.{has_return_type}
-use Rattle.cpp_grammar.specs.Values.{Value, nothing_there, letter, text, tree, piece, named, signature, tree_of, qualifiers_of, ref_of, normal}
+use Rattle.cpp_grammar.specs.Values.{Value, nothing_there, letter, text, tree, piece, named, pair, signature, tree_of, qualifiers_of, ref_of, normal}
 
 -- a lone void is no parameters
 unfoldable pub is_void : Term → Bool
@@ -52,3 +52,38 @@ default_entity digits entity = named (of_default (normal digits) (tree_of entity
 unfoldable pub operator_or_literal : ℕ → Value → Value
 operator_or_literal first (letter second) = piece (operator first second)
 operator_or_literal first v = v
+
+-- ## Expressions
+
+unfoldable pub is_code : (a b first second : ℕ) → Bool
+is_code a b first second = nat_eq first a && nat_eq second b
+
+-- the address of an encoding is a tree of its own
+unfoldable pub operation_or_address : (is_address : Bool) → (first second : ℕ) → (left right : Term) → Term
+operation_or_address true first second (encoding_literal e) right = address_of e
+operation_or_address is_address first second left right = operation first second left right
+
+-- The operation of the operator with this first letter, whose second letter and operands these are. What is an expression already is that.
+unfoldable pub operation_by : (first : ℕ) → Value → Value
+operation_by first (pair second left right) = tree (operation_or_address (is_code 97 100 first second) first second left right) true
+operation_by first v = v
+
+unfoldable pub is_comma : Term → Bool
+is_comma (operation first second left right) = is_code 99 109 first second
+is_comma _ = false
+
+-- a comma, > or >>, by which template arguments would seem to go on or to end
+unfoldable pub ends_arguments : Term → Bool
+ends_arguments (operation first second left right) = is_code 99 109 first second || is_code 103 116 first second || is_code 114 115 first second
+ends_arguments _ = false
+
+unfoldable pub in_parentheses : Term → Term
+in_parentheses t = operation 40 41 t absent
+
+-- an expression as a template argument
+unfoldable pub enclosed_argument : Value → Value
+enclosed_argument v = elim (ends_arguments (tree_of v)) [ true ↦ tree (in_parentheses (tree_of v)) true | false ↦ v ]
+
+-- and one that is an element of a list
+unfoldable pub enclosed_element : Term → Term
+enclosed_element t = elim (is_comma t) [ true ↦ in_parentheses t | false ↦ t ]

@@ -2,7 +2,7 @@
 -- The productions are gone through in the order of their bytes. What is around a part is inherited; the candidates run along.
 use Rattle.std.specs.Prelude.{ℕ, ◌-◌, ◌^◌, List, [], ◌∷◌, true, false, nat_lt, slice_get, Some, None, Result, Ok, Err}
 use Rattle.sym_core.specs.declared.refusal.Refusal.{Refusal}
-use Rattle.sym_core.specs.declared.refusal.Refusal.TheVariants.{BadValue}
+use Rattle.sym_core.specs.declared.refusal.Refusal.TheVariants.{BadReference, BadValue}
 use Rattle.sym_core.specs.declared.NumberKind.TheVariants.{Seq36}
 use Rattle.sym_core.specs.Value.{counted_value}
 use Rattle.sym_shape.specs.Tree.{Tree, Forest, token, nothing, grown}
@@ -48,6 +48,8 @@ behind p byte around began vs state = state_after (row_of p) around began (meani
 unfoldable pub close : Production → (byte : ℕ) → Around → (place : ℕ) → (began : State) → List Value → State → Result (Found Value State) Refusal
 close Production.Substitution byte around place began vs state =
     substituted around (place - 1) (slice_get state.candidates (counted_value Seq36 (text_of (part vs 0)))) state
+-- the ABI's grammar has no constructor that is inherited
+close Production.Inheriting byte around place began vs state = Err (BadReference place)
 close production byte around place began vs state =
     Ok (found (meaning production byte around vs) (behind production byte around began vs state))
 

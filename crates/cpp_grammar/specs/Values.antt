@@ -54,6 +54,9 @@ pub data Value : Type 0 where
   piece : Term → Value
   -- the name of an encoding, with the qualifiers that belong to the encoding
   named : Term → Qualifiers → RefQualifier → Value
+  -- A letter and two trees, of which the second may be absent: the operands of an operator with this second letter, or a base class,
+  -- with the arguments of the constructor that is inherited from it.
+  pair : (second : ℕ) → (left right : Term) → Value
   -- the parameters of a function type, and its mark
   signature : Term → RefQualifier → Value
 
@@ -66,6 +69,7 @@ unfoldable pub tree_of : Value → Term
 tree_of (tree t listed) = t
 tree_of (named t qualifiers ref) = t
 tree_of (signature t ref) = t
+tree_of (pair second left right) = left
 tree_of _ = absent
 
 unfoldable pub piece_of : Value → Term
@@ -87,6 +91,7 @@ ref_of _ = any_value
 
 unfoldable pub letter_of : Value → ℕ
 letter_of (letter byte) = byte
+letter_of (pair second left right) = second
 letter_of _ = 0
 
 unfoldable pub is_there : Value → Bool

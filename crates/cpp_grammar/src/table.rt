@@ -49,151 +49,229 @@ const NEST_TAIL: Sym = Sym::Kind(18);
 
 const COMPONENT: Sym = Sym::Kind(19);
 
-const CONSTRUCTOR_DIGIT: Sym = Sym::Kind(20);
+const CONSTRUCTOR_AFTER_C: Sym = Sym::Kind(20);
 
-const DESTRUCTOR_DIGIT: Sym = Sym::Kind(21);
+const CONSTRUCTOR_DIGIT: Sym = Sym::Kind(21);
 
-const ABBREVIATION: Sym = Sym::Kind(22);
+const INHERITED_DIGIT: Sym = Sym::Kind(22);
 
-const ENTITY: Sym = Sym::Kind(23);
+const DESTRUCTOR_DIGIT: Sym = Sym::Kind(23);
 
-const TYPE_ENTITY: Sym = Sym::Kind(24);
+const ABBREVIATION: Sym = Sym::Kind(24);
 
-const MAYBE_DISCRIMINATOR: Sym = Sym::Kind(25);
+const ENTITY: Sym = Sym::Kind(25);
 
-const DISCRIMINATOR_REST: Sym = Sym::Kind(26);
+const TYPE_ENTITY: Sym = Sym::Kind(26);
 
-const ANONYMOUS: Sym = Sym::Kind(27);
+const MAYBE_DISCRIMINATOR: Sym = Sym::Kind(27);
 
-const TYPE: Sym = Sym::Kind(28);
+const DISCRIMINATOR_REST: Sym = Sym::Kind(28);
 
-const PLAIN: Sym = Sym::Kind(29);
+const ANONYMOUS: Sym = Sym::Kind(29);
 
-const ITEM: Sym = Sym::Kind(30);
+const TYPE: Sym = Sym::Kind(30);
 
-const ITEM_BUT_REF: Sym = Sym::Kind(31);
+const PLAIN: Sym = Sym::Kind(31);
 
-const ITEM_AFTER_D: Sym = Sym::Kind(32);
+const ITEM: Sym = Sym::Kind(32);
 
-const AFTER_D: Sym = Sym::Kind(33);
+const ITEM_BUT_REF: Sym = Sym::Kind(33);
 
-const SOLID: Sym = Sym::Kind(34);
+const ITEM_AFTER_D: Sym = Sym::Kind(34);
 
-const MAYBE_C_LINKAGE: Sym = Sym::Kind(35);
+const AFTER_D: Sym = Sym::Kind(35);
 
-const TYPE_AFTER_S: Sym = Sym::Kind(36);
+const SOLID: Sym = Sym::Kind(36);
 
-const SOURCE_OR_LOCAL: Sym = Sym::Kind(37);
+const MAYBE_C_LINKAGE: Sym = Sym::Kind(37);
 
-const FUNCTION_REST: Sym = Sym::Kind(38);
+const TYPE_AFTER_S: Sym = Sym::Kind(38);
 
-const AFTER_R: Sym = Sym::Kind(39);
+const SOURCE_OR_LOCAL: Sym = Sym::Kind(39);
 
-const AFTER_O: Sym = Sym::Kind(40);
+const FUNCTION_REST: Sym = Sym::Kind(40);
 
-const ITEMS: Sym = Sym::Kind(41);
+const AFTER_R: Sym = Sym::Kind(41);
 
-const MAYBE_ARGUMENTS: Sym = Sym::Kind(42);
+const AFTER_O: Sym = Sym::Kind(42);
 
-const ARGUMENTS: Sym = Sym::Kind(43);
+const ITEMS: Sym = Sym::Kind(43);
 
-const ARGUMENT_LIST: Sym = Sym::Kind(44);
+const MAYBE_ARGUMENTS: Sym = Sym::Kind(44);
 
-const PACK_LIST: Sym = Sym::Kind(45);
+const ARGUMENTS: Sym = Sym::Kind(45);
 
-const ADDRESS: Sym = Sym::Kind(46);
+const ARGUMENT_LIST: Sym = Sym::Kind(46);
 
-const LITERAL: Sym = Sym::Kind(47);
+const PACK_LIST: Sym = Sym::Kind(47);
 
-const BIT: Sym = Sym::Kind(48);
+const LITERAL: Sym = Sym::Kind(48);
 
-const LITERAL_AFTER_D: Sym = Sym::Kind(49);
+const BIT: Sym = Sym::Kind(49);
 
-const MAYBE_ZERO: Sym = Sym::Kind(50);
+const LITERAL_AFTER_D: Sym = Sym::Kind(50);
 
-const LITERAL_TYPE: Sym = Sym::Kind(51);
+const MAYBE_ZERO: Sym = Sym::Kind(51);
 
-const OPERATOR: Sym = Sym::Kind(52);
+const LITERAL_TYPE: Sym = Sym::Kind(52);
 
-const OPERATOR_AFTER_N: Sym = Sym::Kind(53);
+const OPERATOR: Sym = Sym::Kind(53);
 
-const OPERATOR_AFTER_D: Sym = Sym::Kind(54);
+const OPERATOR_AFTER_N: Sym = Sym::Kind(54);
 
-const OPERATOR_AFTER_A: Sym = Sym::Kind(55);
+const OPERATOR_AFTER_D: Sym = Sym::Kind(55);
 
-const OPERATOR_AFTER_P: Sym = Sym::Kind(56);
+const OPERATOR_AFTER_A: Sym = Sym::Kind(56);
 
-const OPERATOR_AFTER_C: Sym = Sym::Kind(57);
+const OPERATOR_AFTER_P: Sym = Sym::Kind(57);
 
-const OPERATOR_AFTER_M: Sym = Sym::Kind(58);
+const OPERATOR_AFTER_C: Sym = Sym::Kind(58);
 
-const OPERATOR_AFTER_R: Sym = Sym::Kind(59);
+const OPERATOR_AFTER_M: Sym = Sym::Kind(59);
 
-const OPERATOR_AFTER_O: Sym = Sym::Kind(60);
+const OPERATOR_AFTER_R: Sym = Sym::Kind(60);
 
-const OPERATOR_AFTER_E: Sym = Sym::Kind(61);
+const OPERATOR_AFTER_O: Sym = Sym::Kind(61);
 
-const OPERATOR_AFTER_L: Sym = Sym::Kind(62);
+const OPERATOR_AFTER_E: Sym = Sym::Kind(62);
 
-const OPERATOR_AFTER_S: Sym = Sym::Kind(63);
+const OPERATOR_AFTER_L: Sym = Sym::Kind(63);
 
-const OPERATOR_AFTER_I: Sym = Sym::Kind(64);
+const OPERATOR_AFTER_S: Sym = Sym::Kind(64);
 
-const OPERATOR_AFTER_G: Sym = Sym::Kind(65);
+const OPERATOR_AFTER_I: Sym = Sym::Kind(65);
 
-const NEST_REST_OR_END: Sym = Sym::Kind(66);
+const OPERATOR_AFTER_G: Sym = Sym::Kind(66);
 
-const ARGUMENTS_ALONE: Sym = Sym::Kind(67);
+const NEST_REST_OR_END: Sym = Sym::Kind(67);
 
-const NEST_REST_ALONE: Sym = Sym::Kind(68);
+const ARGUMENTS_ALONE: Sym = Sym::Kind(68);
 
-const HOLDER_MARK: Sym = Sym::Kind(69);
+const NEST_REST_ALONE: Sym = Sym::Kind(69);
 
-const HELD_COMPONENT: Sym = Sym::Kind(70);
+const HOLDER_MARK: Sym = Sym::Kind(70);
 
-const FLOAT_END: Sym = Sym::Kind(71);
+const HELD_COMPONENT: Sym = Sym::Kind(71);
 
-const COMPONENT_AFTER_C: Sym = Sym::Kind(72);
+const FLOAT_END: Sym = Sym::Kind(72);
 
-const OTHER_OPERATOR: Sym = Sym::Kind(73);
+const COMPONENT_AFTER_C: Sym = Sym::Kind(73);
 
-const ARGUMENTS_FIRST: Sym = Sym::Kind(74);
+const OTHER_OPERATOR: Sym = Sym::Kind(74);
 
-const PLAIN_ENTITY: Sym = Sym::Kind(75);
+const BASE_CLASS: Sym = Sym::Kind(75);
 
-const PLAIN_TYPE_ENTITY: Sym = Sym::Kind(76);
+const BASE_AFTER_S: Sym = Sym::Kind(76);
 
-const SPECIAL_MARK: Sym = Sym::Kind(77);
+const BASE_ARGUMENTS: Sym = Sym::Kind(77);
 
-const SPECIAL_AFTER_G: Sym = Sym::Kind(78);
+const OWN_ARGUMENTS: Sym = Sym::Kind(78);
 
-const CLONE_LETTER: Sym = Sym::Kind(79);
+const ARGUMENTS_FIRST: Sym = Sym::Kind(79);
 
-const TYPE_IN_STD: Sym = Sym::Kind(80);
+const PLAIN_ENTITY: Sym = Sym::Kind(80);
 
-const MAYBE_TAGS: Sym = Sym::Kind(81);
+const PLAIN_TYPE_ENTITY: Sym = Sym::Kind(81);
 
-const ARGUMENT: Sym = Sym::Kind(82);
+const SPECIAL_MARK: Sym = Sym::Kind(82);
 
-const ARGUMENT_AFTER_T: Sym = Sym::Kind(83);
+const SPECIAL_AFTER_G: Sym = Sym::Kind(83);
 
-const ONE_ARGUMENT: Sym = Sym::Kind(84);
+const CLONE_LETTER: Sym = Sym::Kind(84);
 
-const DECLARATION_AFTER_T: Sym = Sym::Kind(85);
+const TYPE_IN_STD: Sym = Sym::Kind(85);
 
-const DECLARATIONS: Sym = Sym::Kind(86);
+const MAYBE_TAGS: Sym = Sym::Kind(86);
 
-const CONCEPT: Sym = Sym::Kind(87);
+const ARGUMENT: Sym = Sym::Kind(87);
 
-const SOLID_BUT_T: Sym = Sym::Kind(88);
+const ARGUMENT_AFTER_T: Sym = Sym::Kind(88);
 
-const EXPRESSION_REST: Sym = Sym::Kind(89);
+const ONE_ARGUMENT: Sym = Sym::Kind(89);
 
-const ANY_ARRAY: Sym = Sym::Kind(90);
+const DECLARATION_AFTER_T: Sym = Sym::Kind(90);
 
-const ARRAY_REST: Sym = Sym::Kind(91);
+const DECLARATIONS: Sym = Sym::Kind(91);
 
-const NEST_MORE_OR_END: Sym = Sym::Kind(92);
+const CONCEPT: Sym = Sym::Kind(92);
+
+const SOLID_BUT_T: Sym = Sym::Kind(93);
+
+const EXPRESSION: Sym = Sym::Kind(94);
+
+const ADDRESSED_EXPRESSION: Sym = Sym::Kind(95);
+
+const ADDRESSED_LITERAL: Sym = Sym::Kind(96);
+
+const EXPRESSION_AFTER_A: Sym = Sym::Kind(97);
+
+const EXPRESSION_AFTER_C: Sym = Sym::Kind(98);
+
+const EXPRESSION_AFTER_D: Sym = Sym::Kind(99);
+
+const EXPRESSION_AFTER_E: Sym = Sym::Kind(100);
+
+const EXPRESSION_AFTER_F: Sym = Sym::Kind(101);
+
+const EXPRESSION_AFTER_G: Sym = Sym::Kind(102);
+
+const EXPRESSION_AFTER_I: Sym = Sym::Kind(103);
+
+const EXPRESSION_AFTER_L: Sym = Sym::Kind(104);
+
+const EXPRESSION_AFTER_M: Sym = Sym::Kind(105);
+
+const EXPRESSION_AFTER_N: Sym = Sym::Kind(106);
+
+const EXPRESSION_AFTER_O: Sym = Sym::Kind(107);
+
+const EXPRESSION_AFTER_P: Sym = Sym::Kind(108);
+
+const EXPRESSION_AFTER_Q: Sym = Sym::Kind(109);
+
+const EXPRESSION_AFTER_R: Sym = Sym::Kind(110);
+
+const EXPRESSION_AFTER_S: Sym = Sym::Kind(111);
+
+const EXPRESSION_AFTER_T: Sym = Sym::Kind(112);
+
+const EXPRESSIONS: Sym = Sym::Kind(113);
+
+const MAYBE_BEFORE: Sym = Sym::Kind(114);
+
+const OUTER_REST: Sym = Sym::Kind(115);
+
+const PARAMETER_NUMBER: Sym = Sym::Kind(116);
+
+const CONVERTED_TYPE: Sym = Sym::Kind(117);
+
+const CONVERTED_SOLID: Sym = Sym::Kind(118);
+
+const DECLTYPE_AFTER_D: Sym = Sym::Kind(119);
+
+const CONVERT_REST: Sym = Sym::Kind(120);
+
+const UNRESOLVED: Sym = Sym::Kind(121);
+
+const UNRESOLVED_TYPE: Sym = Sym::Kind(122);
+
+const LEVEL: Sym = Sym::Kind(123);
+
+const MORE_LEVELS: Sym = Sym::Kind(124);
+
+const UNRESOLVED_NAME: Sym = Sym::Kind(125);
+
+const OPERATOR_NAME: Sym = Sym::Kind(126);
+
+const ANY_ARRAY: Sym = Sym::Kind(127);
+
+const ARRAY_REST: Sym = Sym::Kind(128);
+
+const BOUND: Sym = Sym::Kind(129);
+
+const NEST_MORE_OR_END: Sym = Sym::Kind(130);
+
+const TAGGED_SOURCE: Sym = Sym::Kind(131);
 
 const NAME: Sym = Sym::Name;
 
@@ -207,7 +285,7 @@ const DIGITS: Sym = Sym::Number(NumberKind::Digits);
 pub const FIRST_LETTER: u8 = b'!';
 
 // For each kind a row: for each byte from `$` to `z` the letter of the production that the kind takes there.
-static LETTERS: [[u8; 87]; 93] = [
+static LETTERS: [[u8; 87]; 132] = [
     // $%&'()*+,-./0123456789:;<=>?@ABCDEFGHIJKLMNOPQRSTUVWXYZ[\]^_`abcdefghijklmnopqrstuvwxyz
     *b"                                                           *                           ", // Symbol
     *b"          +                                                                            ", // MaybeSuffix
@@ -229,39 +307,40 @@ static LETTERS: [[u8; 87]; 93] = [
     *b"            GGGGGGGGGG         GG    F  G        G           G GGG G G  GGGGG GG       ", // NestRest
     *b"            GGGGGGGGGG         GGI      G        G           G GGG G G  GGGGG GG       ", // NestTail
     *b"            $$$$$$$$$$         JK       \"        #           M LMM M M  MMMMM MM       ", // Component
+    *b"             PPP                                                                       ", // ConstructorAfterC
     *b"             !!!                                                                       ", // ConstructorDigit
+    *b"             !! !!                                                                     ", // InheritedDigit
     *b"            !!!                                                                        ", // DestructorDigit
-    *b"            PPPPPPPPPP       PPPPPPPPPPPPPPPPPPPPPPPPPP    P OO O    O     O   O       ", // Abbreviation
-    *b"            $$$$$$$$$$                  \" )      #                             R       ", // Entity
-    *b"            $$$$$$$$$$                  \" Q      #                                     ", // TypeEntity
-    *b"                                                           U                           ", // MaybeDiscriminator
-    *b"            VVVVVVVVVV                                     W                           ", // DiscriminatorRest
-    *b"                                                                        X       Y      ", // Anonymous
-    *b"            ^^^^^^^^^^       ^ ^_ ^    \\ ^^]^ ]^^^[   ^      ^^^^^^^^^^ ^^^^  Z^^^^^^^^", // Type
-    *b"            aaaaaaaaaa       a a` a      aa]a ]aaa    a      aaaaaaaaaa aaaa   aaaaaaaa", // Plain
-    *b"            ^^^^^^^^^^       ^ ^b ^    \\ ^^]^ ]^^^[   ^      ^^^^^^^^^^ ^^^^  Z^^^^^^^^", // Item
-    *b"            ^^^^^^^^^^       ^ ^b ^    \\ ^^ ^  ^^^[   ^      ^^^^^^^^^^ ^^^^  Z^^^^^^^^", // ItemButRef
-    *b"                                                             d d     d    ddc  d dd    ", // ItemAfterD
-    *b"                                                             e e     e    eg   e ef    ", // AfterD
-    *b"            $$$$$$$$$$       q s  r      kQ j  ml#    n      oooooooooo oooo   oopooooo", // Solid
+    *b"            RRRRRRRRRR       RRRRRRRRRRRRRRRRRRRRRRRRRR    R QQ Q    Q     Q   Q       ", // Abbreviation
+    *b"            $$$$$$$$$$                  \" )      #                             T       ", // Entity
+    *b"            $$$$$$$$$$                  \" S      #                                     ", // TypeEntity
+    *b"                                                           W                           ", // MaybeDiscriminator
+    *b"            XXXXXXXXXX                                     Y                           ", // DiscriminatorRest
+    *b"                                                                        Z       [      ", // Anonymous
+    *b"            ``````````       ` `a `    ^ ``_` _```]   `      `````````` ````  \\````````", // Type
+    *b"            cccccccccc       c cb c      cc_c _ccc    c      cccccccccc cccc   cccccccc", // Plain
+    *b"            ``````````       ` `d `    ^ ``_` _```]   `      `````````` ````  \\````````", // Item
+    *b"            ``````````       ` `d `    ^ `` `  ```]   `      `````````` ````  \\````````", // ItemButRef
+    *b"                                                             f f     f    ffe  f ff    ", // ItemAfterD
+    *b"                                                             g g     g    gi   g gh    ", // AfterD
+    *b"            $$$$$$$$$$       t v  u      nS m  po#    q      rrrrrrrrrr rrrr   rrsrrrrr", // Solid
     *b"                                                     !                                 ", // MaybeCLinkage
-    *b"            uuuuuuuuuu       uuuuuuuuuuuuuuuuuuuuuuuuuu    u uu u    u     u   ut      ", // TypeAfterS
+    *b"            xxxxxxxxxx       xxxxxxxxxxxxxxxxxxxxxxxxxx    x xx x    x     x   xw      ", // TypeAfterS
     *b"            ((((((((((                  &        '                                     ", // SourceOrLocal
-    *b"            yyyyyyyyyy       y yyvy    y yyxy wyyyy   y      yyyyyyyyyy yyyy  yyyyyyyyy", // FunctionRest
-    *b"            {{{{{{{{{{       { {{z{    { {{{{ {{{{{   {      {{{{{{{{{{ {{{{  {{{{{{{{{", // AfterR
-    *b"            ||||||||||       | ||z|    | |||| |||||   |      |||||||||| ||||  |||||||||", // AfterO
-    *b"            }}}}}}}}}}       } }} }    } }}}} }}}}}   }      }}}}}}}}}} }}}}  }}}}}}}}}", // Items
-    *b"                                     ~                                                 ", // MaybeArguments
-    *b"                                     ~                                                 ", // Arguments
-    *b"            \x82\x82\x82\x82\x82\x82\x82\x82\x82\x82       \x82 \x82\x82 \x82   \x80\x82\x81\x82\x82\x82\x82 \x82\x82\x82\x82\x82 \x82 \x82      \x82\x82\x82\x82\x82\x82\x82\x82\x82\x82 \x82\x82\x82\x82  \x82\x82\x82\x82\x82\x82\x82\x82\x82", // ArgumentList
-    *b"            \x84\x84\x84\x84\x84\x84\x84\x84\x84\x84       \x84 \x84\x84 \x84    \x84\x83\x84\x84\x84\x84 \x84\x84\x84\x84\x84 \x84 \x84      \x84\x84\x84\x84\x84\x84\x84\x84\x84\x84 \x84\x84\x84\x84  \x84\x84\x84\x84\x84\x84\x84\x84\x84", // PackList
-    *b"                                        \x85                                              ", // Address
-    *b"            \x89\x89\x89\x89\x89\x89\x89\x89\x89\x89          \x88        \x89\x89 \x89  \x89\x89\x89    \x89    \x86 \x89\x87\x89    \x89\x89\x89 \x89\x89\x89\x89   \x89\x89  \x89\x89\x89 ", // Literal
+    *b"            ||||||||||       | ||y|    | ||{| z||||   |      |||||||||| ||||  |||||||||", // FunctionRest
+    *b"            ~~~~~~~~~~       ~ ~~}~    ~ ~~~~ ~~~~~   ~      ~~~~~~~~~~ ~~~~  ~~~~~~~~~", // AfterR
+    *b"            \x7f\x7f\x7f\x7f\x7f\x7f\x7f\x7f\x7f\x7f       \x7f \x7f\x7f}\x7f    \x7f \x7f\x7f\x7f\x7f \x7f\x7f\x7f\x7f\x7f   \x7f      \x7f\x7f\x7f\x7f\x7f\x7f\x7f\x7f\x7f\x7f \x7f\x7f\x7f\x7f  \x7f\x7f\x7f\x7f\x7f\x7f\x7f\x7f\x7f", // AfterO
+    *b"            \x80\x80\x80\x80\x80\x80\x80\x80\x80\x80       \x80 \x80\x80 \x80    \x80 \x80\x80\x80\x80 \x80\x80\x80\x80\x80   \x80      \x80\x80\x80\x80\x80\x80\x80\x80\x80\x80 \x80\x80\x80\x80  \x80\x80\x80\x80\x80\x80\x80\x80\x80", // Items
+    *b"                                     \x81                                                 ", // MaybeArguments
+    *b"                                     \x81                                                 ", // Arguments
+    *b"            \x85\x85\x85\x85\x85\x85\x85\x85\x85\x85       \x85 \x85\x85 \x85   \x83\x85\x84\x85\x85\x85\x85 \x85\x85\x85\x85\x85 \x85 \x85      \x85\x85\x85\x85\x85\x85\x85\x85\x85\x85 \x85\x85\x85\x85  \x85\x85\x85\x85\x85\x85\x85\x85\x85", // ArgumentList
+    *b"            \x87\x87\x87\x87\x87\x87\x87\x87\x87\x87       \x87 \x87\x87 \x87    \x87\x86\x87\x87\x87\x87 \x87\x87\x87\x87\x87 \x87 \x87      \x87\x87\x87\x87\x87\x87\x87\x87\x87\x87 \x87\x87\x87\x87  \x87\x87\x87\x87\x87\x87\x87\x87\x87", // PackList
+    *b"            \x8b\x8b\x8b\x8b\x8b\x8b\x8b\x8b\x8b\x8b          \x8a        \x8b\x8b \x8b  \x8b\x8b\x8b    \x8b    \x88 \x8b\x89\x8b    \x8b\x8b\x8b \x8b\x8b\x8b\x8b   \x8b\x8b  \x8b\x8b\x8b ", // Literal
     *b"            !!                                                                         ", // Bit
-    *b"                                                                     \x8b    \x8a    \x8b \x8b     ", // LiteralAfterD
+    *b"                                                                     \x8d    \x8c    \x8d \x8d     ", // LiteralAfterD
     *b"            !                                                                          ", // MaybeZero
-    *b"            $$$$$$$$$$                   kQ j  ml#    n      o o    ooo oooo   oo  ooo ", // LiteralType
-    *b"                                                             \x8e \x90\x8d\x94 \x98 \x97  \x95\x91\x8c\x93\x8f \x92\x96       ", // Operator
+    *b"            $$$$$$$$$$                   nS m  po#    q      r r    rrr rrrr   rr  rrr ", // LiteralType
+    *b"                                                             \x90 \x92\x8f\x96 \x9a \x99  \x97\x93\x8e\x95\x91 \x94\x98       ", // Operator
     *b"                                                             !   ! !            !  !   ", // OperatorAfterN
     *b"                                                  !          !   !      !         !    ", // OperatorAfterD
     *b"                                          !    !             !  !         !        !   ", // OperatorAfterA
@@ -271,37 +350,75 @@ static LETTERS: [[u8; 87]; 93] = [
     *b"                                         !     !                         !     !       ", // OperatorAfterR
     *b"                                              !                            !  !        ", // OperatorAfterO
     *b"                                           !                               ! !         ", // OperatorAfterE
-    *b"                                               !                 !   \x99         !!      ", // OperatorAfterL
+    *b"                                               !                 !   \x9b         !!      ", // OperatorAfterL
     *b"                                                                               !       ", // OperatorAfterS
     *b"                                                                                    !  ", // OperatorAfterI
     *b"                                                                 !              !      ", // OperatorAfterG
-    *b"            GGGGGGGGGG         GG    \x9a  G        G           G GGG G G  GGGGG GG       ", // NestRestOrEnd
-    *b"                                     ~                                                 ", // ArgumentsAlone
+    *b"            GGGGGGGGGG         GG    \x9c  G        G           G GGG G G  GGGGG GG       ", // NestRestOrEnd
+    *b"                                     \x81                                                 ", // ArgumentsAlone
     *b"            GGGGGGGGGG         GG    F  G        G           G GGG G G  GGGGG GG       ", // NestRestAlone
     *b"                                         !                                             ", // HolderMark
     *b"            $$$$$$$$$$         JK       \"        #           M LMM M M  MMMMM MM       ", // HeldComponent
     *b"                                                           !  !                     !  ", // FloatEnd
-    *b"                                                                        \x9c\x9c \x9c           ", // ComponentAfterC
-    *b"                                                             \x8e  \x8d\x94 \x98 \x97  \x95\x91\x8c\x93\x8f \x92\x96       ", // OtherOperator
-    *b"            \x82\x82\x82\x82\x82\x82\x82\x82\x82\x82       \x82 \x82\x82 \x82   \x80\x82\x81\x82\x82\x82\x82 \x82\x82\x82\x82\x82 \x82 \x82      \x82\x82\x82\x82\x82\x82\x82\x82\x82\x82 \x82\x82\x82\x82  \x82\x82\x82\x82\x82\x82\x82\x82\x82", // ArgumentsFirst
+    *b"                                                                        \x9e\x9e \x9e           ", // ComponentAfterC
+    *b"                                                             \x90  \x8f\x96 \x9a \x99  \x97\x93\x8e\x95\x91 \x94\x98       ", // OtherOperator
+    *b"            \xa2\xa2\xa2\xa2\xa2\xa2\xa2\xa2\xa2\xa2                    \xa0    \xa1      q                                ", // BaseClass
+    *b"            xxxxxxxxxx       xxxxxxxxxxxxxxxxxxxxxxxxxx    x xx x    x     x   x\xa3      ", // BaseAfterS
+    *b"                                     \xa4                                                 ", // BaseArguments
+    *b"                                     \x9f                                                 ", // OwnArguments
+    *b"            \x85\x85\x85\x85\x85\x85\x85\x85\x85\x85       \x85 \x85\x85 \x85   \x83\x85\x84\x85\x85\x85\x85 \x85\x85\x85\x85\x85 \x85 \x85      \x85\x85\x85\x85\x85\x85\x85\x85\x85\x85 \x85\x85\x85\x85  \x85\x85\x85\x85\x85\x85\x85\x85\x85", // ArgumentsFirst
     *b"            $$$$$$$$$$                  \" )      #                                     ", // PlainEntity
-    *b"            $$$$$$$$$$                  \" Q      #                                     ", // PlainTypeEntity
+    *b"            $$$$$$$$$$                  \" S      #                                     ", // PlainTypeEntity
     *b"                                   !                                                   ", // SpecialMark
     *b"                                                  4                                    ", // SpecialAfterG
     *b"                                                                          !     !      ", // CloneLetter
-    *b"                                                                                \x9e      ", // TypeInStd
+    *b"                                                                                \xa6      ", // TypeInStd
     *b"                                                                                       ", // MaybeTags
-    *b"            \xa2\xa2\xa2\xa2\xa2\xa2\xa2\xa2\xa2\xa2       \xa2 \xa2b \xa2    \\ \xa2\xa2]\xa2 ]\xa2\xa1\xa2[ \xa0 \xa2      \xa2\xa2\xa2\xa2\xa2\xa2\xa2\xa2\xa2\xa2 \xa2\xa2\xa2\xa2  Z\xa2\xa2\xa2\xa2\xa2\xa2\xa2\xa2", // Argument
-    *b"            \xa4\xa4\xa4\xa4\xa4\xa4\xa4\xa4\xa4\xa4                                     \xa4                           ", // ArgumentAfterT
-    *b"            \xa2\xa2\xa2\xa2\xa2\xa2\xa2\xa2\xa2\xa2       \xa2 \xa2b \xa2   \xa6\\\xa5\xa2\xa2]\xa2 ]\xa2\xa1\xa2[ \xa0 \xa2      \xa2\xa2\xa2\xa2\xa2\xa2\xa2\xa2\xa2\xa2 \xa2\xa2\xa2\xa2  Z\xa2\xa2\xa2\xa2\xa2\xa2\xa2\xa2", // OneArgument
-    *b"                                                                       \xa9  \xa8 \xab   \xaa    \xa7 ", // DeclarationAfterT
-    *b"                                                \xac                                      ", // Declarations
-    *b"            $$$$$$$$$$                    Q    m                                       ", // Concept
-    *b"            $$$$$$$$$$       q s  r      kQ j  m #    n      oooooooooo oooo   oopooooo", // SolidButT
-    *b"                                                             \xad                         ", // ExpressionRest
-    *b"                             \xaf                                                         ", // AnyArray
-    *b"            \xb1\xb1\xb1\xb1\xb1\xb1\xb1\xb1\xb1\xb1                                     \xb1                           ", // ArrayRest
+    *b"            \xaa\xaa\xaa\xaa\xaa\xaa\xaa\xaa\xaa\xaa       \xaa \xaad \xaa    ^ \xaa\xaa_\xaa _\xaa\xa9\xaa] \xa8 \xaa      \xaa\xaa\xaa\xaa\xaa\xaa\xaa\xaa\xaa\xaa \xaa\xaa\xaa\xaa  \\\xaa\xaa\xaa\xaa\xaa\xaa\xaa\xaa", // Argument
+    *b"            \xac\xac\xac\xac\xac\xac\xac\xac\xac\xac                                     \xac                           ", // ArgumentAfterT
+    *b"            \xaa\xaa\xaa\xaa\xaa\xaa\xaa\xaa\xaa\xaa       \xaa \xaad \xaa   \xae^\xad\xaa\xaa_\xaa _\xaa\xa9\xaa] \xa8 \xaa      \xaa\xaa\xaa\xaa\xaa\xaa\xaa\xaa\xaa\xaa \xaa\xaa\xaa\xaa  \\\xaa\xaa\xaa\xaa\xaa\xaa\xaa\xaa", // OneArgument
+    *b"                                                                       \xb1  \xb0 \xb3   \xb2    \xaf ", // DeclarationAfterT
+    *b"                                                \xb4                                      ", // Declarations
+    *b"            $$$$$$$$$$                    S    p                                       ", // Concept
+    *b"            $$$$$$$$$$       t v  u      nS m  p #    q      rrrrrrrrrr rrrr   rrsrrrrr", // SolidButT
+    *b"                                                             \xc7                         ", // Expression
+    *b"                                        \xd8                                              ", // AddressedExpression
+    *b"                                                           \x88                           ", // AddressedLiteral
+    *b"                                                                \xb9                      ", // ExpressionAfterA
+    *b"                                                               \xb5        \xbd\xba \xbb      \xbe    ", // ExpressionAfterC
+    *b"                                                  \xba            \xb5 \xbb             \xba\xba \xba    ", // ExpressionAfterD
+    *b"                                           \xba                               \xba \xba         ", // ExpressionAfterE
+    *b"                                        \xbf                                   \xb8          ", // ExpressionAfterF
+    *b"                                                                 \xba              \xba      ", // ExpressionAfterG
+    *b"                                                                        \xc0           \xba  ", // ExpressionAfterI
+    *b"                                               \xba                 \xba             \xba\xba      ", // ExpressionAfterL
+    *b"                                     \xba  \xba                            \xba  \xba\xc1             ", // ExpressionAfterM
+    *b"                                                                 \xba \xbb            \xbb   \xbb  ", // ExpressionAfterN
+    *b"                                              \xba                           \xb6\xba  \xba        ", // ExpressionAfterO
+    *b"                                        \xba                               \xba\xba  \xc1  \xbb\xba      ", // ExpressionAfterP
+    *b"                                                                                 \xc2     ", // ExpressionAfterQ
+    *b"                                         \xba     \xba               \xb5         \xba     \xba       ", // ExpressionAfterR
+    *b"                                                      \xc4        \xb5            \xc3 \xc5\xba\xbc     \xbb", // ExpressionAfterS
+    *b"                                                                 \xbb   \xbc  \xc6              ", // ExpressionAfterT
+    *b"                                                             \xd9                         ", // Expressions
+    *b"                                                           !                           ", // MaybeBefore
+    *b"                                                                            \xb8          ", // OuterRest
+    *b"            \xdb\xdb\xdb\xdb\xdb\xdb\xdb\xdb\xdb\xdb                          \xda          \xdb                           ", // ParameterNumber
+    *b"            \xe0\xe0\xe0\xe0\xe0\xe0\xe0\xe0\xe0\xe0          \xdc \xe0    \xdd  \xe0\xdf\xde \xdf\xe0\xe0\xe0           \xe0\xe0\xe0\xe0\xe0\xe0\xe0\xe0\xe0\xe0 \xe0\xe0\xe0\xe0   \xe0\xe0 \xe0\xe0\xe0\xe0\xe0", // ConvertedType
+    *b"            $$$$$$$$$$            u       S    po#           rrrrrrrrrr rrrr   rr rrrrr", // ConvertedSolid
+    *b"                                                l                               l      ", // DecltypeAfterD
+    *b"            \xb7\xb7\xb7\xb7\xb7\xb7\xb7\xb7\xb7\xb7                  \xad       \xd7          \xc0 \xc7 \xc8\xc9\xca\xcb\xcc \xcd  \xce\xcf\xd0\xd1\xd2\xd3\xd4\xd5\xd6      ", // ConvertRest
+    *b"            \xe2\xe2\xe2\xe2\xe2\xe2\xe2\xe2\xe2\xe2          \xe1         \xe1    \xe1\xe1                                      ", // Unresolved
+    *b"                                \xdc         S    po                                      ", // UnresolvedType
+    *b"            \xb7\xb7\xb7\xb7\xb7\xb7\xb7\xb7\xb7\xb7                                                                 ", // Level
+    *b"            \xe2\xe2\xe2\xe2\xe2\xe2\xe2\xe2\xe2\xe2           \xe3                                                     ", // MoreLevels
+    *b"            \xb7\xb7\xb7\xb7\xb7\xb7\xb7\xb7\xb7\xb7                                                     \xe4           ", // UnresolvedName
+    *b"                                                                          \xb6            ", // OperatorName
+    *b"                             \xe5                                                         ", // AnyArray
+    *b"            \xe7\xe7\xe7\xe7\xe7\xe7\xe7\xe7\xe7\xe7                                     \xe7                           ", // ArrayRest
+    *b"                                        \xad       \xd7            \xc7 \xc8\xc9\xca\xcb\xcc \xcd  \xce\xcf\xd0\xd1\xd2\xd3\xd4\xd5\xd6      ", // Bound
     *b"            GGGGGGGGGG         GG       G        G           G GGG G G  GGGGG GG       ", // NestMoreOrEnd
+    *b"            \xe8\xe8\xe8\xe8\xe8\xe8\xe8\xe8\xe8\xe8                                                                 ", // TaggedSource
 ];
 
 /// A rule without its number and its symbols.
@@ -331,7 +448,7 @@ macro_rules! chains {
 }
 
 // The rules of the productions, in the order of their numbers.
-pub static HEADS: [Head; 145] = [
+pub static HEADS: [Head; 200] = [
     takes!(0), // ! Mark
     takes!(2), // \" InternalName
     takes!(2), // # LocalTypeName
@@ -373,114 +490,169 @@ pub static HEADS: [Head; 145] = [
     chains!(2), // G NestNext
     takes!(2), // H NestTag
     takes!(0), // I NestEnd
-    takes!(2), // J Constructor
+    takes!(1), // J AnyConstructor
     takes!(2), // K Destructor
     takes!(1), // L ComponentWithC
     chains!(2), // M OtherOperatorName
     chains!(2), // N Holder
-    takes!(0), // O Abbreviation
-    chains!(1), // P Substitution
-    takes!(1), // Q NestedType
-    takes!(0), // R StringLiteral
-    takes!(2), // S DefaultEntity
-    takes!(2), // T DefaultTypeEntity
-    takes!(1), // U Discriminator
-    takes!(0), // V OneDigit
-    takes!(2), // W ManyDigits
-    takes!(4), // X Lambda
-    takes!(1), // Y Unnamed
-    takes!(3), // Z RestrictType
-    takes!(2), // [ VolatileType
-    takes!(1), // \\ ConstType
-    takes!(1), // ] ReferenceType
-    chains!(1), // ^ PlainType
-    takes!(1), // _ TypeWithD
-    takes!(1), // ` PlainWithD
-    chains!(1), // a QualifiedPlain
-    takes!(1), // b ItemWithD
-    takes!(1), // c Expansion
-    chains!(1), // d ItemIsType
-    takes!(0), // e BuiltinWithD
-    takes!(3), // f Vector
-    takes!(4), // g NoexceptFunction
-    takes!(2), // h SizedFloat
-    takes!(1), // i ConstrainedAuto
-    takes!(1), // j Pointer
-    takes!(2), // k MemberPointer
-    takes!(2), // l Parameter
-    takes!(2), // m TypeWithS
-    takes!(4), // n LocalType
-    takes!(0), // o Builtin
-    takes!(1), // p Vendor
-    chains!(1), // q ArrayType
-    takes!(3), // r Function
-    takes!(1), // s Complex
-    chains!(1), // t TypeInStd
-    chains!(1), // u AbbreviatedType
-    takes!(0), // v RestEnd
-    takes!(1), // w RestLvalue
-    takes!(1), // x RestRvalue
-    chains!(2), // y RestItem
-    takes!(0), // z RefEnd
-    chains!(2), // { LvalueItem
-    chains!(2), // | RvalueItem
-    chains!(2), // } Items
-    takes!(2), // ~ Arguments
-    takes!(2), // \x7f Tag
-    takes!(3), // \x80 PackArgument
-    takes!(3), // \x81 LiteralArgument
-    chains!(2), // \x82 AnyArgument
-    takes!(3), // \x83 LiteralElement
-    chains!(2), // \x84 AnyElement
-    takes!(5), // \x85 Address
-    takes!(2), // \x86 EncodingLiteral
-    takes!(1), // \x87 BoolLiteral
-    takes!(1), // \x88 LiteralWithD
-    chains!(2), // \x89 IntegerLiteral
-    takes!(1), // \x8a NullLiteral
-    takes!(1), // \x8b CharLiteral
-    takes!(1), // \x8c OperatorN
-    takes!(1), // \x8d OperatorD
-    takes!(1), // \x8e OperatorA
-    takes!(1), // \x8f OperatorP
-    takes!(1), // \x90 OperatorC
-    takes!(1), // \x91 OperatorM
-    takes!(1), // \x92 OperatorR
-    takes!(1), // \x93 OperatorO
-    takes!(1), // \x94 OperatorE
-    takes!(1), // \x95 OperatorL
-    takes!(1), // \x96 OperatorS
-    takes!(1), // \x97 OperatorI
-    takes!(1), // \x98 OperatorG
-    takes!(1), // \x99 LiteralOperator
-    takes!(3), // \x9a NestInstance
-    takes!(1), // \x9b Conversion
-    chains!(2), // \x9c OperatorNameWithC
-    takes!(2), // \x9d Clone
-    takes!(2), // \x9e TaggedStdType
-    takes!(2), // \x9f TypeTag
-    takes!(1), // \xa0 Expression
-    takes!(1), // \xa1 ArgumentWithT
-    chains!(1), // \xa2 PlainArgument
-    chains!(2), // \xa3 DeclaredArgument
-    chains!(2), // \xa4 ParameterArgument
-    takes!(2), // \xa5 OneLiteral
-    takes!(2), // \xa6 OnePack
-    takes!(0), // \xa7 AnyType
-    takes!(1), // \xa8 ValueOf
-    takes!(1), // \xa9 OfConcept
-    takes!(2), // \xaa TemplateOf
-    takes!(2), // \xab PackOf
-    takes!(2), // \xac Declarations
-    takes!(2), // \xad AddressExpression
-    takes!(2), // \xae ParameterExpression
-    takes!(1), // \xaf AnyArray
-    takes!(3), // \xb0 BoundedArray
-    chains!(2), // \xb1 LengthArray
+    takes!(2), // O Inheriting
+    chains!(2), // P Constructor
+    takes!(0), // Q Abbreviation
+    chains!(1), // R Substitution
+    takes!(1), // S NestedType
+    takes!(0), // T StringLiteral
+    takes!(2), // U DefaultEntity
+    takes!(2), // V DefaultTypeEntity
+    takes!(1), // W Discriminator
+    takes!(0), // X OneDigit
+    takes!(2), // Y ManyDigits
+    takes!(4), // Z Lambda
+    takes!(1), // [ Unnamed
+    takes!(3), // \\ RestrictType
+    takes!(2), // ] VolatileType
+    takes!(1), // ^ ConstType
+    takes!(1), // _ ReferenceType
+    chains!(1), // ` PlainType
+    takes!(1), // a TypeWithD
+    takes!(1), // b PlainWithD
+    chains!(1), // c QualifiedPlain
+    takes!(1), // d ItemWithD
+    takes!(1), // e Expansion
+    chains!(1), // f ItemIsType
+    takes!(0), // g BuiltinWithD
+    takes!(3), // h Vector
+    takes!(4), // i NoexceptFunction
+    takes!(2), // j SizedFloat
+    takes!(1), // k ConstrainedAuto
+    takes!(2), // l Decltype
+    takes!(1), // m Pointer
+    takes!(2), // n MemberPointer
+    takes!(2), // o Parameter
+    takes!(2), // p TypeWithS
+    takes!(4), // q LocalType
+    takes!(0), // r Builtin
+    takes!(1), // s Vendor
+    chains!(1), // t ArrayType
+    takes!(3), // u Function
+    takes!(1), // v Complex
+    chains!(1), // w TypeInStd
+    chains!(1), // x AbbreviatedType
+    takes!(0), // y RestEnd
+    takes!(1), // z RestLvalue
+    takes!(1), // { RestRvalue
+    chains!(2), // | RestItem
+    takes!(0), // } RefEnd
+    chains!(2), // ~ LvalueItem
+    chains!(2), // \x7f RvalueItem
+    chains!(2), // \x80 Items
+    takes!(2), // \x81 Arguments
+    takes!(2), // \x82 Tag
+    takes!(3), // \x83 PackArgument
+    takes!(3), // \x84 LiteralArgument
+    chains!(2), // \x85 AnyArgument
+    takes!(3), // \x86 LiteralElement
+    chains!(2), // \x87 AnyElement
+    takes!(2), // \x88 EncodingLiteral
+    takes!(1), // \x89 BoolLiteral
+    takes!(1), // \x8a LiteralWithD
+    chains!(2), // \x8b IntegerLiteral
+    takes!(1), // \x8c NullLiteral
+    takes!(1), // \x8d CharLiteral
+    takes!(1), // \x8e OperatorN
+    takes!(1), // \x8f OperatorD
+    takes!(1), // \x90 OperatorA
+    takes!(1), // \x91 OperatorP
+    takes!(1), // \x92 OperatorC
+    takes!(1), // \x93 OperatorM
+    takes!(1), // \x94 OperatorR
+    takes!(1), // \x95 OperatorO
+    takes!(1), // \x96 OperatorE
+    takes!(1), // \x97 OperatorL
+    takes!(1), // \x98 OperatorS
+    takes!(1), // \x99 OperatorI
+    takes!(1), // \x9a OperatorG
+    takes!(1), // \x9b LiteralOperator
+    takes!(3), // \x9c NestInstance
+    takes!(1), // \x9d Conversion
+    chains!(2), // \x9e OperatorNameWithC
+    takes!(2), // \x9f OwnArguments
+    takes!(2), // \xa0 NestedBase
+    takes!(1), // \xa1 BaseWithS
+    chains!(2), // \xa2 SourceBase
+    chains!(2), // \xa3 BaseInStd
+    takes!(3), // \xa4 BaseArguments
+    takes!(2), // \xa5 Clone
+    takes!(2), // \xa6 TaggedStdType
+    takes!(2), // \xa7 TypeTag
+    takes!(2), // \xa8 Expression
+    takes!(1), // \xa9 ArgumentWithT
+    chains!(1), // \xaa PlainArgument
+    chains!(2), // \xab DeclaredArgument
+    chains!(2), // \xac ParameterArgument
+    takes!(2), // \xad OneLiteral
+    takes!(2), // \xae OnePack
+    takes!(0), // \xaf AnyType
+    takes!(1), // \xb0 ValueOf
+    takes!(1), // \xb1 OfConcept
+    takes!(2), // \xb2 TemplateOf
+    takes!(2), // \xb3 PackOf
+    takes!(2), // \xb4 Declarations
+    takes!(2), // \xb5 Cast
+    takes!(2), // \xb6 OperatorReference
+    chains!(2), // \xb7 SimpleId
+    takes!(4), // \xb8 FunctionParameter
+    takes!(1), // \xb9 AddressExpression
+    takes!(2), // \xba Binary
+    takes!(1), // \xbb Unary
+    takes!(1), // \xbc OfType
+    takes!(3), // \xbd Call
+    takes!(2), // \xbe Convert
+    takes!(2), // \xbf OuterParameter
+    takes!(2), // \xc0 Braces
+    takes!(2), // \xc1 Step
+    takes!(3), // \xc2 Conditional
+    takes!(1), // \xc3 ExpandExpression
+    takes!(1), // \xc4 PackSize
+    takes!(1), // \xc5 Unresolved
+    takes!(3), // \xc6 TypedBraces
+    takes!(1), // \xc7 ExpressionA
+    takes!(1), // \xc8 ExpressionC
+    takes!(1), // \xc9 ExpressionD
+    takes!(1), // \xca ExpressionE
+    takes!(1), // \xcb ExpressionF
+    takes!(1), // \xcc ExpressionG
+    takes!(1), // \xcd ExpressionI
+    takes!(1), // \xce ExpressionL
+    takes!(1), // \xcf ExpressionM
+    takes!(1), // \xd0 ExpressionN
+    takes!(1), // \xd1 ExpressionO
+    takes!(1), // \xd2 ExpressionP
+    takes!(1), // \xd3 ExpressionQ
+    takes!(1), // \xd4 ExpressionR
+    takes!(1), // \xd5 ExpressionS
+    takes!(1), // \xd6 ExpressionT
+    takes!(2), // \xd7 ParameterExpression
+    takes!(2), // \xd8 AddressedLiteral
+    chains!(2), // \xd9 Expressions
+    takes!(0), // \xda This
+    chains!(1), // \xdb ParameterNumber
+    takes!(1), // \xdc ConvertedDecltype
+    takes!(1), // \xdd ConvertedConst
+    takes!(1), // \xde ConvertedPointer
+    takes!(1), // \xdf ConvertedReference
+    chains!(1), // \xe0 ConvertedType
+    chains!(2), // \xe1 UnresolvedInType
+    chains!(2), // \xe2 Levels
+    takes!(1), // \xe3 LevelsEnd
+    takes!(1), // \xe4 UnresolvedOperator
+    takes!(1), // \xe5 AnyArray
+    chains!(3), // \xe6 BoundedArray
+    chains!(2), // \xe7 LengthArray
+    chains!(2), // \xe8 TaggedSource
 ];
 
 // The symbols of the rules, in the same order.
-pub static SYMBOLS: [Sym; 876] = symbols_listed! {
+pub static SYMBOLS: [Sym; 1206] = symbols_listed! {
     [NONE, NONE, NONE, NONE, NONE], // ! Mark
     [NAME, MAYBE_ARGUMENTS, NONE, NONE, NONE], // \" InternalName
     [ANONYMOUS, MAYBE_ARGUMENTS, NONE, NONE, NONE], // # LocalTypeName
@@ -522,117 +694,172 @@ pub static SYMBOLS: [Sym; 876] = symbols_listed! {
     [COMPONENT, NEST_TAIL, NONE, NONE, NONE], // G NestNext
     [NAME, NEST_REST, NONE, NONE, NONE], // H NestTag
     [NONE, NONE, NONE, NONE, NONE], // I NestEnd
-    [CONSTRUCTOR_DIGIT, MAYBE_ARGUMENTS, NONE, NONE, NONE], // J Constructor
+    [CONSTRUCTOR_AFTER_C, NONE, NONE, NONE, NONE], // J AnyConstructor
     [DESTRUCTOR_DIGIT, MAYBE_ARGUMENTS, NONE, NONE, NONE], // K Destructor
     [COMPONENT_AFTER_C, NONE, NONE, NONE, NONE], // L ComponentWithC
     [OTHER_OPERATOR, MAYBE_ARGUMENTS, NONE, NONE, NONE], // M OtherOperatorName
     [HOLDER_MARK, HELD_COMPONENT, NONE, NONE, NONE], // N Holder
-    [NONE, NONE, NONE, NONE, NONE], // O Abbreviation
-    [SEQ36, NONE, NONE, NONE, NONE], // P Substitution
-    [NEST, NONE, NONE, NONE, NONE], // Q NestedType
-    [NONE, NONE, NONE, NONE, NONE], // R StringLiteral
-    [DECIMAL, PLAIN_ENTITY, NONE, NONE, NONE], // S DefaultEntity
-    [DECIMAL, PLAIN_TYPE_ENTITY, NONE, NONE, NONE], // T DefaultTypeEntity
-    [DISCRIMINATOR_REST, NONE, NONE, NONE, NONE], // U Discriminator
-    [NONE, NONE, NONE, NONE, NONE], // V OneDigit
-    [DIGITS, Sym::Byte(b'_'), NONE, NONE, NONE], // W ManyDigits
-    [ITEM, ITEMS, Sym::Byte(b'E'), DECIMAL, NONE], // X Lambda
-    [DECIMAL, NONE, NONE, NONE, NONE], // Y Unnamed
-    [MAYBE_VOLATILE, MAYBE_CONST, PLAIN, NONE, NONE], // Z RestrictType
-    [MAYBE_CONST, PLAIN, NONE, NONE, NONE], // [ VolatileType
-    [PLAIN, NONE, NONE, NONE, NONE], // \\ ConstType
-    [TYPE, NONE, NONE, NONE, NONE], // ] ReferenceType
-    [SOLID, NONE, NONE, NONE, NONE], // ^ PlainType
-    [AFTER_D, NONE, NONE, NONE, NONE], // _ TypeWithD
-    [AFTER_D, NONE, NONE, NONE, NONE], // ` PlainWithD
-    [SOLID, NONE, NONE, NONE, NONE], // a QualifiedPlain
-    [ITEM_AFTER_D, NONE, NONE, NONE, NONE], // b ItemWithD
-    [TYPE, NONE, NONE, NONE, NONE], // c Expansion
-    [AFTER_D, NONE, NONE, NONE, NONE], // d ItemIsType
-    [NONE, NONE, NONE, NONE, NONE], // e BuiltinWithD
-    [DIGITS, Sym::Byte(b'_'), TYPE, NONE, NONE], // f Vector
-    [Sym::Byte(b'F'), MAYBE_C_LINKAGE, TYPE, FUNCTION_REST, NONE], // g NoexceptFunction
-    [DIGITS, FLOAT_END, NONE, NONE, NONE], // h SizedFloat
-    [CONCEPT, NONE, NONE, NONE, NONE], // i ConstrainedAuto
-    [TYPE, NONE, NONE, NONE, NONE], // j Pointer
-    [TYPE, TYPE, NONE, NONE, NONE], // k MemberPointer
-    [DECIMAL, ARGUMENTS_ALONE, NONE, NONE, NONE], // l Parameter
-    [TYPE_AFTER_S, ARGUMENTS_ALONE, NONE, NONE, NONE], // m TypeWithS
-    [ENCODING, Sym::Byte(b'E'), TYPE_ENTITY, MAYBE_DISCRIMINATOR, NONE], // n LocalType
-    [NONE, NONE, NONE, NONE, NONE], // o Builtin
-    [NAME, NONE, NONE, NONE, NONE], // p Vendor
-    [ANY_ARRAY, NONE, NONE, NONE, NONE], // q ArrayType
-    [MAYBE_C_LINKAGE, TYPE, FUNCTION_REST, NONE, NONE], // r Function
-    [TYPE, NONE, NONE, NONE, NONE], // s Complex
-    [TYPE_IN_STD, NONE, NONE, NONE, NONE], // t TypeInStd
-    [ABBREVIATION, NONE, NONE, NONE, NONE], // u AbbreviatedType
-    [NONE, NONE, NONE, NONE, NONE], // v RestEnd
-    [AFTER_R, NONE, NONE, NONE, NONE], // w RestLvalue
-    [AFTER_O, NONE, NONE, NONE, NONE], // x RestRvalue
-    [ITEM_BUT_REF, FUNCTION_REST, NONE, NONE, NONE], // y RestItem
-    [NONE, NONE, NONE, NONE, NONE], // z RefEnd
-    [TYPE, FUNCTION_REST, NONE, NONE, NONE], // { LvalueItem
-    [TYPE, FUNCTION_REST, NONE, NONE, NONE], // | RvalueItem
-    [ITEM, ITEMS, NONE, NONE, NONE], // } Items
-    [ARGUMENTS_FIRST, Sym::Byte(b'E'), NONE, NONE, NONE], // ~ Arguments
-    [NAME, MAYBE_ARGUMENTS, NONE, NONE, NONE], // \x7f Tag
-    [PACK_LIST, Sym::Byte(b'E'), ARGUMENT_LIST, NONE, NONE], // \x80 PackArgument
-    [LITERAL, Sym::Byte(b'E'), ARGUMENT_LIST, NONE, NONE], // \x81 LiteralArgument
-    [ARGUMENT, ARGUMENT_LIST, NONE, NONE, NONE], // \x82 AnyArgument
-    [LITERAL, Sym::Byte(b'E'), PACK_LIST, NONE, NONE], // \x83 LiteralElement
-    [ARGUMENT, PACK_LIST, NONE, NONE, NONE], // \x84 AnyElement
-    [Sym::Byte(b'_'), Sym::Byte(b'Z'), ENCODING, Sym::Byte(b'E'), Sym::Byte(b'E')], // \x85 Address
-    [Sym::Byte(b'Z'), ENCODING, NONE, NONE, NONE], // \x86 EncodingLiteral
-    [BIT, NONE, NONE, NONE, NONE], // \x87 BoolLiteral
-    [LITERAL_AFTER_D, NONE, NONE, NONE, NONE], // \x88 LiteralWithD
-    [LITERAL_TYPE, INTEGER, NONE, NONE, NONE], // \x89 IntegerLiteral
-    [MAYBE_ZERO, NONE, NONE, NONE, NONE], // \x8a NullLiteral
-    [INTEGER, NONE, NONE, NONE, NONE], // \x8b CharLiteral
-    [OPERATOR_AFTER_N, NONE, NONE, NONE, NONE], // \x8c OperatorN
-    [OPERATOR_AFTER_D, NONE, NONE, NONE, NONE], // \x8d OperatorD
-    [OPERATOR_AFTER_A, NONE, NONE, NONE, NONE], // \x8e OperatorA
-    [OPERATOR_AFTER_P, NONE, NONE, NONE, NONE], // \x8f OperatorP
-    [OPERATOR_AFTER_C, NONE, NONE, NONE, NONE], // \x90 OperatorC
-    [OPERATOR_AFTER_M, NONE, NONE, NONE, NONE], // \x91 OperatorM
-    [OPERATOR_AFTER_R, NONE, NONE, NONE, NONE], // \x92 OperatorR
-    [OPERATOR_AFTER_O, NONE, NONE, NONE, NONE], // \x93 OperatorO
-    [OPERATOR_AFTER_E, NONE, NONE, NONE, NONE], // \x94 OperatorE
-    [OPERATOR_AFTER_L, NONE, NONE, NONE, NONE], // \x95 OperatorL
-    [OPERATOR_AFTER_S, NONE, NONE, NONE, NONE], // \x96 OperatorS
-    [OPERATOR_AFTER_I, NONE, NONE, NONE, NONE], // \x97 OperatorI
-    [OPERATOR_AFTER_G, NONE, NONE, NONE, NONE], // \x98 OperatorG
-    [NAME, NONE, NONE, NONE, NONE], // \x99 LiteralOperator
-    [ARGUMENTS_FIRST, Sym::Byte(b'E'), NEST_MORE_OR_END, NONE, NONE], // \x9a NestInstance
-    [TYPE, NONE, NONE, NONE, NONE], // \x9b Conversion
-    [OPERATOR_AFTER_C, MAYBE_ARGUMENTS, NONE, NONE, NONE], // \x9c OperatorNameWithC
-    [CLONE_LETTER, ENCODING, NONE, NONE, NONE], // \x9d Clone
-    [SOURCE_OR_LOCAL, MAYBE_TAGS, NONE, NONE, NONE], // \x9e TaggedStdType
-    [NAME, MAYBE_TAGS, NONE, NONE, NONE], // \x9f TypeTag
-    [EXPRESSION_REST, NONE, NONE, NONE, NONE], // \xa0 Expression
-    [ARGUMENT_AFTER_T, NONE, NONE, NONE, NONE], // \xa1 ArgumentWithT
-    [SOLID_BUT_T, NONE, NONE, NONE, NONE], // \xa2 PlainArgument
-    [DECLARATION_AFTER_T, ONE_ARGUMENT, NONE, NONE, NONE], // \xa3 DeclaredArgument
-    [DECIMAL, ARGUMENTS_ALONE, NONE, NONE, NONE], // \xa4 ParameterArgument
-    [LITERAL, Sym::Byte(b'E'), NONE, NONE, NONE], // \xa5 OneLiteral
-    [PACK_LIST, Sym::Byte(b'E'), NONE, NONE, NONE], // \xa6 OnePack
-    [NONE, NONE, NONE, NONE, NONE], // \xa7 AnyType
-    [TYPE, NONE, NONE, NONE, NONE], // \xa8 ValueOf
-    [CONCEPT, NONE, NONE, NONE, NONE], // \xa9 OfConcept
-    [DECLARATIONS, Sym::Byte(b'E'), NONE, NONE, NONE], // \xaa TemplateOf
-    [Sym::Byte(b'T'), DECLARATION_AFTER_T, NONE, NONE, NONE], // \xab PackOf
-    [DECLARATION_AFTER_T, DECLARATIONS, NONE, NONE, NONE], // \xac Declarations
-    [Sym::Byte(b'd'), ADDRESS, NONE, NONE, NONE], // \xad AddressExpression
-    [DECIMAL, Sym::Byte(b'E'), NONE, NONE, NONE], // \xae ParameterExpression
-    [ARRAY_REST, NONE, NONE, NONE, NONE], // \xaf AnyArray
-    [DECIMAL, Sym::Byte(b'_'), TYPE, NONE, NONE], // \xb0 BoundedArray
-    [DECIMAL, TYPE, NONE, NONE, NONE], // \xb1 LengthArray
+    [INHERITED_DIGIT, BASE_CLASS, NONE, NONE, NONE], // O Inheriting
+    [CONSTRUCTOR_DIGIT, MAYBE_ARGUMENTS, NONE, NONE, NONE], // P Constructor
+    [NONE, NONE, NONE, NONE, NONE], // Q Abbreviation
+    [SEQ36, NONE, NONE, NONE, NONE], // R Substitution
+    [NEST, NONE, NONE, NONE, NONE], // S NestedType
+    [NONE, NONE, NONE, NONE, NONE], // T StringLiteral
+    [DECIMAL, PLAIN_ENTITY, NONE, NONE, NONE], // U DefaultEntity
+    [DECIMAL, PLAIN_TYPE_ENTITY, NONE, NONE, NONE], // V DefaultTypeEntity
+    [DISCRIMINATOR_REST, NONE, NONE, NONE, NONE], // W Discriminator
+    [NONE, NONE, NONE, NONE, NONE], // X OneDigit
+    [DIGITS, Sym::Byte(b'_'), NONE, NONE, NONE], // Y ManyDigits
+    [ITEM, ITEMS, Sym::Byte(b'E'), DECIMAL, NONE], // Z Lambda
+    [DECIMAL, NONE, NONE, NONE, NONE], // [ Unnamed
+    [MAYBE_VOLATILE, MAYBE_CONST, PLAIN, NONE, NONE], // \\ RestrictType
+    [MAYBE_CONST, PLAIN, NONE, NONE, NONE], // ] VolatileType
+    [PLAIN, NONE, NONE, NONE, NONE], // ^ ConstType
+    [TYPE, NONE, NONE, NONE, NONE], // _ ReferenceType
+    [SOLID, NONE, NONE, NONE, NONE], // ` PlainType
+    [AFTER_D, NONE, NONE, NONE, NONE], // a TypeWithD
+    [AFTER_D, NONE, NONE, NONE, NONE], // b PlainWithD
+    [SOLID, NONE, NONE, NONE, NONE], // c QualifiedPlain
+    [ITEM_AFTER_D, NONE, NONE, NONE, NONE], // d ItemWithD
+    [TYPE, NONE, NONE, NONE, NONE], // e Expansion
+    [AFTER_D, NONE, NONE, NONE, NONE], // f ItemIsType
+    [NONE, NONE, NONE, NONE, NONE], // g BuiltinWithD
+    [DIGITS, Sym::Byte(b'_'), TYPE, NONE, NONE], // h Vector
+    [Sym::Byte(b'F'), MAYBE_C_LINKAGE, TYPE, FUNCTION_REST, NONE], // i NoexceptFunction
+    [DIGITS, FLOAT_END, NONE, NONE, NONE], // j SizedFloat
+    [CONCEPT, NONE, NONE, NONE, NONE], // k ConstrainedAuto
+    [EXPRESSION, Sym::Byte(b'E'), NONE, NONE, NONE], // l Decltype
+    [TYPE, NONE, NONE, NONE, NONE], // m Pointer
+    [TYPE, TYPE, NONE, NONE, NONE], // n MemberPointer
+    [DECIMAL, ARGUMENTS_ALONE, NONE, NONE, NONE], // o Parameter
+    [TYPE_AFTER_S, ARGUMENTS_ALONE, NONE, NONE, NONE], // p TypeWithS
+    [ENCODING, Sym::Byte(b'E'), TYPE_ENTITY, MAYBE_DISCRIMINATOR, NONE], // q LocalType
+    [NONE, NONE, NONE, NONE, NONE], // r Builtin
+    [NAME, NONE, NONE, NONE, NONE], // s Vendor
+    [ANY_ARRAY, NONE, NONE, NONE, NONE], // t ArrayType
+    [MAYBE_C_LINKAGE, TYPE, FUNCTION_REST, NONE, NONE], // u Function
+    [TYPE, NONE, NONE, NONE, NONE], // v Complex
+    [TYPE_IN_STD, NONE, NONE, NONE, NONE], // w TypeInStd
+    [ABBREVIATION, NONE, NONE, NONE, NONE], // x AbbreviatedType
+    [NONE, NONE, NONE, NONE, NONE], // y RestEnd
+    [AFTER_R, NONE, NONE, NONE, NONE], // z RestLvalue
+    [AFTER_O, NONE, NONE, NONE, NONE], // { RestRvalue
+    [ITEM_BUT_REF, FUNCTION_REST, NONE, NONE, NONE], // | RestItem
+    [NONE, NONE, NONE, NONE, NONE], // } RefEnd
+    [TYPE, FUNCTION_REST, NONE, NONE, NONE], // ~ LvalueItem
+    [TYPE, FUNCTION_REST, NONE, NONE, NONE], // \x7f RvalueItem
+    [ITEM, ITEMS, NONE, NONE, NONE], // \x80 Items
+    [ARGUMENTS_FIRST, Sym::Byte(b'E'), NONE, NONE, NONE], // \x81 Arguments
+    [NAME, MAYBE_ARGUMENTS, NONE, NONE, NONE], // \x82 Tag
+    [PACK_LIST, Sym::Byte(b'E'), ARGUMENT_LIST, NONE, NONE], // \x83 PackArgument
+    [LITERAL, Sym::Byte(b'E'), ARGUMENT_LIST, NONE, NONE], // \x84 LiteralArgument
+    [ARGUMENT, ARGUMENT_LIST, NONE, NONE, NONE], // \x85 AnyArgument
+    [LITERAL, Sym::Byte(b'E'), PACK_LIST, NONE, NONE], // \x86 LiteralElement
+    [ARGUMENT, PACK_LIST, NONE, NONE, NONE], // \x87 AnyElement
+    [Sym::Byte(b'Z'), ENCODING, NONE, NONE, NONE], // \x88 EncodingLiteral
+    [BIT, NONE, NONE, NONE, NONE], // \x89 BoolLiteral
+    [LITERAL_AFTER_D, NONE, NONE, NONE, NONE], // \x8a LiteralWithD
+    [LITERAL_TYPE, INTEGER, NONE, NONE, NONE], // \x8b IntegerLiteral
+    [MAYBE_ZERO, NONE, NONE, NONE, NONE], // \x8c NullLiteral
+    [INTEGER, NONE, NONE, NONE, NONE], // \x8d CharLiteral
+    [OPERATOR_AFTER_N, NONE, NONE, NONE, NONE], // \x8e OperatorN
+    [OPERATOR_AFTER_D, NONE, NONE, NONE, NONE], // \x8f OperatorD
+    [OPERATOR_AFTER_A, NONE, NONE, NONE, NONE], // \x90 OperatorA
+    [OPERATOR_AFTER_P, NONE, NONE, NONE, NONE], // \x91 OperatorP
+    [OPERATOR_AFTER_C, NONE, NONE, NONE, NONE], // \x92 OperatorC
+    [OPERATOR_AFTER_M, NONE, NONE, NONE, NONE], // \x93 OperatorM
+    [OPERATOR_AFTER_R, NONE, NONE, NONE, NONE], // \x94 OperatorR
+    [OPERATOR_AFTER_O, NONE, NONE, NONE, NONE], // \x95 OperatorO
+    [OPERATOR_AFTER_E, NONE, NONE, NONE, NONE], // \x96 OperatorE
+    [OPERATOR_AFTER_L, NONE, NONE, NONE, NONE], // \x97 OperatorL
+    [OPERATOR_AFTER_S, NONE, NONE, NONE, NONE], // \x98 OperatorS
+    [OPERATOR_AFTER_I, NONE, NONE, NONE, NONE], // \x99 OperatorI
+    [OPERATOR_AFTER_G, NONE, NONE, NONE, NONE], // \x9a OperatorG
+    [NAME, NONE, NONE, NONE, NONE], // \x9b LiteralOperator
+    [ARGUMENTS_FIRST, Sym::Byte(b'E'), NEST_MORE_OR_END, NONE, NONE], // \x9c NestInstance
+    [TYPE, NONE, NONE, NONE, NONE], // \x9d Conversion
+    [OPERATOR_AFTER_C, MAYBE_ARGUMENTS, NONE, NONE, NONE], // \x9e OperatorNameWithC
+    [ARGUMENTS_FIRST, Sym::Byte(b'E'), NONE, NONE, NONE], // \x9f OwnArguments
+    [NEST, OWN_ARGUMENTS, NONE, NONE, NONE], // \xa0 NestedBase
+    [BASE_AFTER_S, NONE, NONE, NONE, NONE], // \xa1 BaseWithS
+    [TAGGED_SOURCE, BASE_ARGUMENTS, NONE, NONE, NONE], // \xa2 SourceBase
+    [TYPE_IN_STD, BASE_ARGUMENTS, NONE, NONE, NONE], // \xa3 BaseInStd
+    [ARGUMENTS_FIRST, Sym::Byte(b'E'), OWN_ARGUMENTS, NONE, NONE], // \xa4 BaseArguments
+    [CLONE_LETTER, ENCODING, NONE, NONE, NONE], // \xa5 Clone
+    [SOURCE_OR_LOCAL, MAYBE_TAGS, NONE, NONE, NONE], // \xa6 TaggedStdType
+    [NAME, MAYBE_TAGS, NONE, NONE, NONE], // \xa7 TypeTag
+    [EXPRESSION, Sym::Byte(b'E'), NONE, NONE, NONE], // \xa8 Expression
+    [ARGUMENT_AFTER_T, NONE, NONE, NONE, NONE], // \xa9 ArgumentWithT
+    [SOLID_BUT_T, NONE, NONE, NONE, NONE], // \xaa PlainArgument
+    [DECLARATION_AFTER_T, ONE_ARGUMENT, NONE, NONE, NONE], // \xab DeclaredArgument
+    [DECIMAL, ARGUMENTS_ALONE, NONE, NONE, NONE], // \xac ParameterArgument
+    [LITERAL, Sym::Byte(b'E'), NONE, NONE, NONE], // \xad OneLiteral
+    [PACK_LIST, Sym::Byte(b'E'), NONE, NONE, NONE], // \xae OnePack
+    [NONE, NONE, NONE, NONE, NONE], // \xaf AnyType
+    [TYPE, NONE, NONE, NONE, NONE], // \xb0 ValueOf
+    [CONCEPT, NONE, NONE, NONE, NONE], // \xb1 OfConcept
+    [DECLARATIONS, Sym::Byte(b'E'), NONE, NONE, NONE], // \xb2 TemplateOf
+    [Sym::Byte(b'T'), DECLARATION_AFTER_T, NONE, NONE, NONE], // \xb3 PackOf
+    [DECLARATION_AFTER_T, DECLARATIONS, NONE, NONE, NONE], // \xb4 Declarations
+    [TYPE, EXPRESSION, NONE, NONE, NONE], // \xb5 Cast
+    [OPERATOR, ARGUMENTS_ALONE, NONE, NONE, NONE], // \xb6 OperatorReference
+    [NAME, ARGUMENTS_ALONE, NONE, NONE, NONE], // \xb7 SimpleId
+    [MAYBE_RESTRICT, MAYBE_VOLATILE, MAYBE_CONST, PARAMETER_NUMBER, NONE], // \xb8 FunctionParameter
+    [ADDRESSED_EXPRESSION, NONE, NONE, NONE, NONE], // \xb9 AddressExpression
+    [EXPRESSION, EXPRESSION, NONE, NONE, NONE], // \xba Binary
+    [EXPRESSION, NONE, NONE, NONE, NONE], // \xbb Unary
+    [CONVERTED_TYPE, NONE, NONE, NONE, NONE], // \xbc OfType
+    [EXPRESSION, EXPRESSIONS, Sym::Byte(b'E'), NONE, NONE], // \xbd Call
+    [CONVERTED_TYPE, CONVERT_REST, NONE, NONE, NONE], // \xbe Convert
+    [DIGITS, OUTER_REST, NONE, NONE, NONE], // \xbf OuterParameter
+    [EXPRESSIONS, Sym::Byte(b'E'), NONE, NONE, NONE], // \xc0 Braces
+    [MAYBE_BEFORE, EXPRESSION, NONE, NONE, NONE], // \xc1 Step
+    [EXPRESSION, EXPRESSION, EXPRESSION, NONE, NONE], // \xc2 Conditional
+    [EXPRESSION, NONE, NONE, NONE, NONE], // \xc3 ExpandExpression
+    [EXPRESSION, NONE, NONE, NONE, NONE], // \xc4 PackSize
+    [UNRESOLVED, NONE, NONE, NONE, NONE], // \xc5 Unresolved
+    [TYPE, EXPRESSIONS, Sym::Byte(b'E'), NONE, NONE], // \xc6 TypedBraces
+    [EXPRESSION_AFTER_A, NONE, NONE, NONE, NONE], // \xc7 ExpressionA
+    [EXPRESSION_AFTER_C, NONE, NONE, NONE, NONE], // \xc8 ExpressionC
+    [EXPRESSION_AFTER_D, NONE, NONE, NONE, NONE], // \xc9 ExpressionD
+    [EXPRESSION_AFTER_E, NONE, NONE, NONE, NONE], // \xca ExpressionE
+    [EXPRESSION_AFTER_F, NONE, NONE, NONE, NONE], // \xcb ExpressionF
+    [EXPRESSION_AFTER_G, NONE, NONE, NONE, NONE], // \xcc ExpressionG
+    [EXPRESSION_AFTER_I, NONE, NONE, NONE, NONE], // \xcd ExpressionI
+    [EXPRESSION_AFTER_L, NONE, NONE, NONE, NONE], // \xce ExpressionL
+    [EXPRESSION_AFTER_M, NONE, NONE, NONE, NONE], // \xcf ExpressionM
+    [EXPRESSION_AFTER_N, NONE, NONE, NONE, NONE], // \xd0 ExpressionN
+    [EXPRESSION_AFTER_O, NONE, NONE, NONE, NONE], // \xd1 ExpressionO
+    [EXPRESSION_AFTER_P, NONE, NONE, NONE, NONE], // \xd2 ExpressionP
+    [EXPRESSION_AFTER_Q, NONE, NONE, NONE, NONE], // \xd3 ExpressionQ
+    [EXPRESSION_AFTER_R, NONE, NONE, NONE, NONE], // \xd4 ExpressionR
+    [EXPRESSION_AFTER_S, NONE, NONE, NONE, NONE], // \xd5 ExpressionS
+    [EXPRESSION_AFTER_T, NONE, NONE, NONE, NONE], // \xd6 ExpressionT
+    [DECIMAL, ARGUMENTS_ALONE, NONE, NONE, NONE], // \xd7 ParameterExpression
+    [ADDRESSED_LITERAL, Sym::Byte(b'E'), NONE, NONE, NONE], // \xd8 AddressedLiteral
+    [EXPRESSION, EXPRESSIONS, NONE, NONE, NONE], // \xd9 Expressions
+    [NONE, NONE, NONE, NONE, NONE], // \xda This
+    [DECIMAL, NONE, NONE, NONE, NONE], // \xdb ParameterNumber
+    [DECLTYPE_AFTER_D, NONE, NONE, NONE, NONE], // \xdc ConvertedDecltype
+    [CONVERTED_TYPE, NONE, NONE, NONE, NONE], // \xdd ConvertedConst
+    [CONVERTED_TYPE, NONE, NONE, NONE, NONE], // \xde ConvertedPointer
+    [CONVERTED_TYPE, NONE, NONE, NONE, NONE], // \xdf ConvertedReference
+    [CONVERTED_SOLID, NONE, NONE, NONE, NONE], // \xe0 ConvertedType
+    [UNRESOLVED_TYPE, UNRESOLVED_NAME, NONE, NONE, NONE], // \xe1 UnresolvedInType
+    [LEVEL, MORE_LEVELS, NONE, NONE, NONE], // \xe2 Levels
+    [UNRESOLVED_NAME, NONE, NONE, NONE, NONE], // \xe3 LevelsEnd
+    [OPERATOR_NAME, NONE, NONE, NONE, NONE], // \xe4 UnresolvedOperator
+    [ARRAY_REST, NONE, NONE, NONE, NONE], // \xe5 AnyArray
+    [BOUND, Sym::Byte(b'_'), TYPE, NONE, NONE], // \xe6 BoundedArray
+    [DECIMAL, TYPE, NONE, NONE, NONE], // \xe7 LengthArray
+    [NAME, MAYBE_TAGS, NONE, NONE, NONE], // \xe8 TaggedSource
 };
 
 /// The number of the rule that a kind takes at a byte, if it takes one.
 #[inline]
 fn number(kind: u16, byte: u8) -> Option<usize>
     requires { kind < abi.kinds }
-    ensures few { IfSome result (λ number. number < 145) }
+    ensures few { IfSome result (λ number. number < 200) }
     ensures rule { (head : Head) → MatchOption result (abi.rule kind byte ≡ None) (λ number. abi.rule kind byte ≡ Some (listed_rule head number)) }
 {
     match letter_in(&LETTERS[kind as usize], byte) {

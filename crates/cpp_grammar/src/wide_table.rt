@@ -8,7 +8,7 @@ use crate::table::{FIRST_LETTER, HEADS, SYMBOLS};
 use sym_shape::{Rule, letter_in, place_of, symbols_from};
 
 // For each kind a row: for each byte from `$` to `z` the letter of the production that the kind takes there.
-static WIDE_LETTERS: [[u8; 87]; 93] = [
+static WIDE_LETTERS: [[u8; 87]; 132] = [
     // $%&'()*+,-./0123456789:;<=>?@ABCDEFGHIJKLMNOPQRSTUVWXYZ[\]^_`abcdefghijklmnopqrstuvwxyz
     *b"                                                           *                           ", // Symbol
     *b"          +                                                                            ", // MaybeSuffix
@@ -30,39 +30,40 @@ static WIDE_LETTERS: [[u8; 87]; 93] = [
     *b"            GGGGGGGGGG        HGG    F  GG       G           G GGG G G  GGGGG GG       ", // NestRest
     *b"            GGGGGGGGGG         GGI      GG       G           G GGG G G  GGGGG GG       ", // NestTail
     *b"            $$$$$$$$$$         JK       \"N       #           M LMM M M  MMMMM MM       ", // Component
+    *b"             PPPPP                   O                                                 ", // ConstructorAfterC
     *b"             !!!!!                                                                     ", // ConstructorDigit
+    *b"             !! !!                                                                     ", // InheritedDigit
     *b"            !!! !!                                                                     ", // DestructorDigit
-    *b"            PPPPPPPPPP       PPPPPPPPPPPPPPPPPPPPPPPPPP    P OO O    O     O   O       ", // Abbreviation
-    *b"            $$$$$$$$$$                  \" )      #              S              R       ", // Entity
-    *b"            $$$$$$$$$$                  \" Q      #              T                      ", // TypeEntity
-    *b"                                                           U                           ", // MaybeDiscriminator
-    *b"            VVVVVVVVVV                                     W                           ", // DiscriminatorRest
-    *b"                                                                        X       Y      ", // Anonymous
-    *b"            ^^^^^^^^^^       ^ ^_ ^    \\ ^^]^ ]^^^[   ^      ^^^^^^^^^^ ^^^^  Z^^^^^^^^", // Type
-    *b"            aaaaaaaaaa       a a` a      aa]a ]aaa    a      aaaaaaaaaa aaaa   aaaaaaaa", // Plain
-    *b"            ^^^^^^^^^^       ^ ^b ^    \\ ^^]^ ]^^^[   ^      ^^^^^^^^^^ ^^^^  Z^^^^^^^^", // Item
-    *b"            ^^^^^^^^^^       ^ ^b ^    \\ ^^ ^  ^^^[   ^      ^^^^^^^^^^ ^^^^  Z^^^^^^^^", // ItemButRef
-    *b"                                  d    d                     d dddd dd d  ddc  d dd    ", // ItemAfterD
-    *b"                                  h    i                     e eeee ee i  eg   e ef    ", // AfterD
-    *b"            $$$$$$$$$$       q s  r      kQ j  ml#    n      oooooooooo oooo   oopooooo", // Solid
+    *b"            RRRRRRRRRR       RRRRRRRRRRRRRRRRRRRRRRRRRR    R QQ Q    Q     Q   Q       ", // Abbreviation
+    *b"            $$$$$$$$$$                  \" )      #              U              T       ", // Entity
+    *b"            $$$$$$$$$$                  \" S      #              V                      ", // TypeEntity
+    *b"                                                           W                           ", // MaybeDiscriminator
+    *b"            XXXXXXXXXX                                     Y                           ", // DiscriminatorRest
+    *b"                                                                        Z       [      ", // Anonymous
+    *b"            ``````````       ` `a `    ^ ``_` _```]   `      `````````` ````  \\````````", // Type
+    *b"            cccccccccc       c cb c      cc_c _ccc    c      cccccccccc cccc   cccccccc", // Plain
+    *b"            ``````````       ` `d `    ^ ``_` _```]   `      `````````` ````  \\````````", // Item
+    *b"            ``````````       ` `d `    ^ `` `  ```]   `      `````````` ````  \\````````", // ItemButRef
+    *b"                                  f    f        f            f ffff ff f  ffe  ffff    ", // ItemAfterD
+    *b"                                  j    k        l            g gggg gg k  gi   glgh    ", // AfterD
+    *b"            $$$$$$$$$$       t v  u      nS m  po#    q      rrrrrrrrrr rrrr   rrsrrrrr", // Solid
     *b"                                                     !                                 ", // MaybeCLinkage
-    *b"            uuuuuuuuuu       uuuuuuuuuuuuuuuuuuuuuuuuuu    u uu u    u     u   ut      ", // TypeAfterS
+    *b"            xxxxxxxxxx       xxxxxxxxxxxxxxxxxxxxxxxxxx    x xx x    x     x   xw      ", // TypeAfterS
     *b"            ((((((((((                  &        '                                     ", // SourceOrLocal
-    *b"            yyyyyyyyyy       y yyvy    y yyxy wyyyy   y      yyyyyyyyyy yyyy  yyyyyyyyy", // FunctionRest
-    *b"            {{{{{{{{{{       { {{z{    { {{{{ {{{{{   {      {{{{{{{{{{ {{{{  {{{{{{{{{", // AfterR
-    *b"            ||||||||||       | ||z|    | |||| |||||   |      |||||||||| ||||  |||||||||", // AfterO
-    *b"            }}}}}}}}}}       } }} }    } }}}} }}}}}   }      }}}}}}}}}} }}}}  }}}}}}}}}", // Items
-    *b"                              \x7f      ~                                                 ", // MaybeArguments
-    *b"                                     ~                                                 ", // Arguments
-    *b"            \x82\x82\x82\x82\x82\x82\x82\x82\x82\x82       \x82 \x82\x82 \x82   \x80\x82\x81\x82\x82\x82\x82 \x82\x82\x82\x82\x82 \x82 \x82      \x82\x82\x82\x82\x82\x82\x82\x82\x82\x82 \x82\x82\x82\x82  \x82\x82\x82\x82\x82\x82\x82\x82\x82", // ArgumentList
-    *b"            \x84\x84\x84\x84\x84\x84\x84\x84\x84\x84       \x84 \x84\x84 \x84    \x84\x83\x84\x84\x84\x84 \x84\x84\x84\x84\x84 \x84 \x84      \x84\x84\x84\x84\x84\x84\x84\x84\x84\x84 \x84\x84\x84\x84  \x84\x84\x84\x84\x84\x84\x84\x84\x84", // PackList
-    *b"                                        \x85                                              ", // Address
-    *b"            \x89\x89\x89\x89\x89\x89\x89\x89\x89\x89          \x88        \x89\x89 \x89  \x89\x89\x89    \x89    \x86 \x89\x87\x89    \x89\x89\x89 \x89\x89\x89\x89   \x89\x89  \x89\x89\x89 ", // Literal
+    *b"            ||||||||||       | ||y|    | ||{| z||||   |      |||||||||| ||||  |||||||||", // FunctionRest
+    *b"            ~~~~~~~~~~       ~ ~~}~    ~ ~~~~ ~~~~~   ~      ~~~~~~~~~~ ~~~~  ~~~~~~~~~", // AfterR
+    *b"            \x7f\x7f\x7f\x7f\x7f\x7f\x7f\x7f\x7f\x7f       \x7f \x7f\x7f}\x7f    \x7f \x7f\x7f\x7f\x7f \x7f\x7f\x7f\x7f\x7f   \x7f      \x7f\x7f\x7f\x7f\x7f\x7f\x7f\x7f\x7f\x7f \x7f\x7f\x7f\x7f  \x7f\x7f\x7f\x7f\x7f\x7f\x7f\x7f\x7f", // AfterO
+    *b"            \x80\x80\x80\x80\x80\x80\x80\x80\x80\x80       \x80 \x80\x80 \x80    \x80 \x80\x80\x80\x80 \x80\x80\x80\x80\x80   \x80      \x80\x80\x80\x80\x80\x80\x80\x80\x80\x80 \x80\x80\x80\x80  \x80\x80\x80\x80\x80\x80\x80\x80\x80", // Items
+    *b"                              \x82      \x81                                                 ", // MaybeArguments
+    *b"                                     \x81                                                 ", // Arguments
+    *b"            \x85\x85\x85\x85\x85\x85\x85\x85\x85\x85       \x85 \x85\x85 \x85   \x83\x85\x84\x85\x85\x85\x85 \x85\x85\x85\x85\x85 \x85 \x85      \x85\x85\x85\x85\x85\x85\x85\x85\x85\x85 \x85\x85\x85\x85  \x85\x85\x85\x85\x85\x85\x85\x85\x85", // ArgumentList
+    *b"            \x87\x87\x87\x87\x87\x87\x87\x87\x87\x87       \x87 \x87\x87 \x87    \x87\x86\x87\x87\x87\x87 \x87\x87\x87\x87\x87 \x87 \x87      \x87\x87\x87\x87\x87\x87\x87\x87\x87\x87 \x87\x87\x87\x87  \x87\x87\x87\x87\x87\x87\x87\x87\x87", // PackList
+    *b"            \x8b\x8b\x8b\x8b\x8b\x8b\x8b\x8b\x8b\x8b          \x8a        \x8b\x8b \x8b  \x8b\x8b\x8b    \x8b    \x88 \x8b\x89\x8b    \x8b\x8b\x8b \x8b\x8b\x8b\x8b   \x8b\x8b  \x8b\x8b\x8b ", // Literal
     *b"            !!                                                                         ", // Bit
-    *b"                                                                     \x8b    \x8a    \x8b \x8b     ", // LiteralAfterD
+    *b"                                                                     \x8d    \x8c    \x8d \x8d     ", // LiteralAfterD
     *b"            !                                                                          ", // MaybeZero
-    *b"            $$$$$$$$$$                   kQ j  ml#    n      o o    ooo oooo   oo  ooo ", // LiteralType
-    *b"                                                             \x8e \x90\x8d\x94 \x98 \x97  \x95\x91\x8c\x93\x8f \x92\x96       ", // Operator
+    *b"            $$$$$$$$$$                   nS m  po#    q      r r    rrr rrrr   rr  rrr ", // LiteralType
+    *b"                                                             \x90 \x92\x8f\x96 \x9a \x99  \x97\x93\x8e\x95\x91 \x94\x98       ", // Operator
     *b"                                                             !   ! !            !  !   ", // OperatorAfterN
     *b"                                                  !          !   !      !         !    ", // OperatorAfterD
     *b"                                          !    !             !  !         !        !   ", // OperatorAfterA
@@ -72,44 +73,82 @@ static WIDE_LETTERS: [[u8; 87]; 93] = [
     *b"                                         !     !                         !     !       ", // OperatorAfterR
     *b"                                              !                            !  !        ", // OperatorAfterO
     *b"                                           !                               ! !         ", // OperatorAfterE
-    *b"                                               !                 !   \x99         !!      ", // OperatorAfterL
+    *b"                                               !                 !   \x9b         !!      ", // OperatorAfterL
     *b"                                                                               !       ", // OperatorAfterS
     *b"                                                                                    !  ", // OperatorAfterI
     *b"                                                                 !              !      ", // OperatorAfterG
-    *b"            GGGGGGGGGG         GG    \x9a  GG       G           G GGG G G  GGGGG GG       ", // NestRestOrEnd
-    *b"                                     ~                                                 ", // ArgumentsAlone
+    *b"            GGGGGGGGGG         GG    \x9c  GG       G           G GGG G G  GGGGG GG       ", // NestRestOrEnd
+    *b"                                     \x81                                                 ", // ArgumentsAlone
     *b"            GGGGGGGGGG         GG    F  GG       G           G GGG G G  GGGGG GG       ", // NestRestAlone
     *b"                                         !                                             ", // HolderMark
     *b"            $$$$$$$$$$         JK       \"        #           M LMM M M  MMMMM MM       ", // HeldComponent
     *b"                                                           !  !                     !  ", // FloatEnd
-    *b"                                                                        \x9c\x9c \x9c      \x9b    ", // ComponentAfterC
-    *b"                                                             \x8e  \x8d\x94 \x98 \x97  \x95\x91\x8c\x93\x8f \x92\x96       ", // OtherOperator
-    *b"            \x82\x82\x82\x82\x82\x82\x82\x82\x82\x82       \x82 \x82\x82 \x82  \x80\x80\x82\x81\x82\x82\x82\x82 \x82\x82\x82\x82\x82 \x82 \x82      \x82\x82\x82\x82\x82\x82\x82\x82\x82\x82 \x82\x82\x82\x82  \x82\x82\x82\x82\x82\x82\x82\x82\x82", // ArgumentsFirst
+    *b"                                                                        \x9e\x9e \x9e      \x9d    ", // ComponentAfterC
+    *b"                                                             \x90  \x8f\x96 \x9a \x99  \x97\x93\x8e\x95\x91 \x94\x98       ", // OtherOperator
+    *b"            \xa2\xa2\xa2\xa2\xa2\xa2\xa2\xa2\xa2\xa2                    \xa0    \xa1      q                                ", // BaseClass
+    *b"            xxxxxxxxxx       xxxxxxxxxxxxxxxxxxxxxxxxxx    x xx x    x     x   x\xa3      ", // BaseAfterS
+    *b"                                     \xa4                                                 ", // BaseArguments
+    *b"                                     \x9f                                                 ", // OwnArguments
+    *b"            \x85\x85\x85\x85\x85\x85\x85\x85\x85\x85       \x85 \x85\x85 \x85  \x83\x83\x85\x84\x85\x85\x85\x85 \x85\x85\x85\x85\x85 \x85 \x85      \x85\x85\x85\x85\x85\x85\x85\x85\x85\x85 \x85\x85\x85\x85  \x85\x85\x85\x85\x85\x85\x85\x85\x85", // ArgumentsFirst
     *b"            $$$$$$$$$$                  \" )      #                                     ", // PlainEntity
-    *b"            $$$$$$$$$$                  \" Q      #                                     ", // PlainTypeEntity
+    *b"            $$$$$$$$$$                  \" S      #                                     ", // PlainTypeEntity
     *b"                                   !                                                   ", // SpecialMark
-    *b"                                                \x9d 4                                    ", // SpecialAfterG
+    *b"                                                \xa5 4                                    ", // SpecialAfterG
     *b"                                                                          !     !      ", // CloneLetter
-    *b"                                                                                \x9e      ", // TypeInStd
-    *b"                              \x9f                                                        ", // MaybeTags
-    *b"            \xa2\xa2\xa2\xa2\xa2\xa2\xa2\xa2\xa2\xa2       \xa2 \xa2b \xa2    \\ \xa2\xa2]\xa2 ]\xa2\xa1\xa2[ \xa0 \xa2      \xa2\xa2\xa2\xa2\xa2\xa2\xa2\xa2\xa2\xa2 \xa2\xa2\xa2\xa2  Z\xa2\xa2\xa2\xa2\xa2\xa2\xa2\xa2", // Argument
-    *b"            \xa4\xa4\xa4\xa4\xa4\xa4\xa4\xa4\xa4\xa4                                     \xa4           \xa3  \xa3 \xa3   \xa3    \xa3 ", // ArgumentAfterT
-    *b"            \xa2\xa2\xa2\xa2\xa2\xa2\xa2\xa2\xa2\xa2       \xa2 \xa2b \xa2   \xa6\\\xa5\xa2\xa2]\xa2 ]\xa2\xa1\xa2[ \xa0 \xa2      \xa2\xa2\xa2\xa2\xa2\xa2\xa2\xa2\xa2\xa2 \xa2\xa2\xa2\xa2  Z\xa2\xa2\xa2\xa2\xa2\xa2\xa2\xa2", // OneArgument
-    *b"                                                                       \xa9  \xa8 \xab   \xaa    \xa7 ", // DeclarationAfterT
-    *b"                                                \xac                                      ", // Declarations
-    *b"            $$$$$$$$$$                    Q    m                                       ", // Concept
-    *b"            $$$$$$$$$$       q s  r      kQ j  m #    n      oooooooooo oooo   oopooooo", // SolidButT
-    *b"                                                \xae            \xad                         ", // ExpressionRest
-    *b"                             \xaf                                                         ", // AnyArray
-    *b"            \xb1\xb1\xb1\xb1\xb1\xb1\xb1\xb1\xb1\xb1                          \xb0          \xb1                           ", // ArrayRest
+    *b"                                                                                \xa6      ", // TypeInStd
+    *b"                              \xa7                                                        ", // MaybeTags
+    *b"            \xaa\xaa\xaa\xaa\xaa\xaa\xaa\xaa\xaa\xaa       \xaa \xaad \xaa    ^ \xaa\xaa_\xaa _\xaa\xa9\xaa] \xa8 \xaa      \xaa\xaa\xaa\xaa\xaa\xaa\xaa\xaa\xaa\xaa \xaa\xaa\xaa\xaa  \\\xaa\xaa\xaa\xaa\xaa\xaa\xaa\xaa", // Argument
+    *b"            \xac\xac\xac\xac\xac\xac\xac\xac\xac\xac                                     \xac           \xab  \xab \xab   \xab    \xab ", // ArgumentAfterT
+    *b"            \xaa\xaa\xaa\xaa\xaa\xaa\xaa\xaa\xaa\xaa       \xaa \xaad \xaa   \xae^\xad\xaa\xaa_\xaa _\xaa\xa9\xaa] \xa8 \xaa      \xaa\xaa\xaa\xaa\xaa\xaa\xaa\xaa\xaa\xaa \xaa\xaa\xaa\xaa  \\\xaa\xaa\xaa\xaa\xaa\xaa\xaa\xaa", // OneArgument
+    *b"                                                                       \xb1  \xb0 \xb3   \xb2    \xaf ", // DeclarationAfterT
+    *b"                                                \xb4                                      ", // Declarations
+    *b"            $$$$$$$$$$                    S    p                                       ", // Concept
+    *b"            $$$$$$$$$$       t v  u      nS m  p #    q      rrrrrrrrrr rrrr   rrsrrrrr", // SolidButT
+    *b"            \xb7\xb7\xb7\xb7\xb7\xb7\xb7\xb7\xb7\xb7                  \xad       \xd7            \xc7 \xc8\xc9\xca\xcb\xcc \xcd  \xce\xcf\xd0\xd1\xd2\xd3\xd4\xd5\xd6      ", // Expression
+    *b"            \xb7\xb7\xb7\xb7\xb7\xb7\xb7\xb7\xb7\xb7                  \xd8       \xd7            \xc7 \xc8\xc9\xca\xcb\xcc \xcd  \xce\xcf\xd0\xd1\xd2\xd3\xd4\xd5\xd6      ", // AddressedExpression
+    *b"            \x8b\x8b\x8b\x8b\x8b\x8b\x8b\x8b\x8b\x8b          \x8a        \x8b\x8b \x8b  \x8b\x8b\x8b    \x8b    \x88 \x8b\x89\x8b    \x8b\x8b\x8b \x8b\x8b\x8b\x8b   \x8b\x8b  \x8b\x8b\x8b ", // AddressedLiteral
+    *b"                                          \xba    \xba             \xba  \xb9         \xba     \xbc  \xbb  \xbb", // ExpressionAfterA
+    *b"                                                               \xb5        \xbd\xba \xbb      \xbe    ", // ExpressionAfterC
+    *b"                                                  \xba            \xb5 \xbb             \xba\xba \xba    ", // ExpressionAfterD
+    *b"                                           \xba                               \xba \xba         ", // ExpressionAfterE
+    *b"                                        \xbf                                   \xb8          ", // ExpressionAfterF
+    *b"                                                                 \xba              \xba      ", // ExpressionAfterG
+    *b"                                                                        \xc0           \xba  ", // ExpressionAfterI
+    *b"                                               \xba                 \xba             \xba\xba      ", // ExpressionAfterL
+    *b"                                     \xba  \xba                            \xba  \xba\xc1             ", // ExpressionAfterM
+    *b"                                                                 \xba \xbb            \xbb   \xbb  ", // ExpressionAfterN
+    *b"                                              \xba                           \xb6\xba  \xba        ", // ExpressionAfterO
+    *b"                                        \xba                               \xba\xba  \xc1  \xbb\xba      ", // ExpressionAfterP
+    *b"                                                                                 \xc2     ", // ExpressionAfterQ
+    *b"                                         \xba     \xba               \xb5         \xba     \xba       ", // ExpressionAfterR
+    *b"                                                      \xc4        \xb5            \xc3 \xc5\xba\xbc     \xbb", // ExpressionAfterS
+    *b"                                                                 \xbb   \xbc  \xc6              ", // ExpressionAfterT
+    *b"            \xd9\xd9\xd9\xd9\xd9\xd9\xd9\xd9\xd9\xd9                  \xd9       \xd9            \xd9 \xd9\xd9\xd9\xd9\xd9 \xd9  \xd9\xd9\xd9\xd9\xd9\xd9\xd9\xd9\xd9      ", // Expressions
+    *b"                                                           !                           ", // MaybeBefore
+    *b"                                                                            \xb8          ", // OuterRest
+    *b"            \xdb\xdb\xdb\xdb\xdb\xdb\xdb\xdb\xdb\xdb                          \xda          \xdb                           ", // ParameterNumber
+    *b"            \xe0\xe0\xe0\xe0\xe0\xe0\xe0\xe0\xe0\xe0          \xdc \xe0    \xdd  \xe0\xdf\xde \xdf\xe0\xe0\xe0           \xe0\xe0\xe0\xe0\xe0\xe0\xe0\xe0\xe0\xe0 \xe0\xe0\xe0\xe0   \xe0\xe0 \xe0\xe0\xe0\xe0\xe0", // ConvertedType
+    *b"            $$$$$$$$$$            u       S    po#           rrrrrrrrrr rrrr   rr rrrrr", // ConvertedSolid
+    *b"                                                l                               l      ", // DecltypeAfterD
+    *b"            \xb7\xb7\xb7\xb7\xb7\xb7\xb7\xb7\xb7\xb7                  \xad       \xd7          \xc0 \xc7 \xc8\xc9\xca\xcb\xcc \xcd  \xce\xcf\xd0\xd1\xd2\xd3\xd4\xd5\xd6      ", // ConvertRest
+    *b"            \xe2\xe2\xe2\xe2\xe2\xe2\xe2\xe2\xe2\xe2          \xe1         \xe1    \xe1\xe1                                      ", // Unresolved
+    *b"                                \xdc         S    po                                      ", // UnresolvedType
+    *b"            \xb7\xb7\xb7\xb7\xb7\xb7\xb7\xb7\xb7\xb7                                                                 ", // Level
+    *b"            \xe2\xe2\xe2\xe2\xe2\xe2\xe2\xe2\xe2\xe2           \xe3                                                     ", // MoreLevels
+    *b"            \xb7\xb7\xb7\xb7\xb7\xb7\xb7\xb7\xb7\xb7                                                     \xe4           ", // UnresolvedName
+    *b"                                                                          \xb6            ", // OperatorName
+    *b"                             \xe5                                                         ", // AnyArray
+    *b"            \xe7\xe7\xe7\xe7\xe7\xe7\xe7\xe7\xe7\xe7                  \xe6       \xe6          \xe7 \xe6 \xe6\xe6\xe6\xe6\xe6 \xe6  \xe6\xe6\xe6\xe6\xe6\xe6\xe6\xe6\xe6      ", // ArrayRest
+    *b"                                        \xad       \xd7            \xc7 \xc8\xc9\xca\xcb\xcc \xcd  \xce\xcf\xd0\xd1\xd2\xd3\xd4\xd5\xd6      ", // Bound
     *b"            GGGGGGGGGG         GGI      GG       G           G GGG G G  GGGGG GG       ", // NestMoreOrEnd
+    *b"            \xe8\xe8\xe8\xe8\xe8\xe8\xe8\xe8\xe8\xe8                                                                 ", // TaggedSource
 ];
 
 /// The number of the rule that a kind takes at a byte, if it takes one.
 #[inline]
 fn number(kind: u16, byte: u8) -> Option<usize>
     requires { kind < wide.kinds }
-    ensures few { IfSome result (λ number. number < 145) }
+    ensures few { IfSome result (λ number. number < 200) }
     ensures rule { (head : Head) → MatchOption result (wide.rule kind byte ≡ None) (λ number. wide.rule kind byte ≡ Some (listed_rule head number)) }
 {
     match letter_in(&WIDE_LETTERS[kind as usize], byte) {

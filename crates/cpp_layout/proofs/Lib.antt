@@ -3,6 +3,7 @@ pub mod Suffixes
 pub mod Functions
 pub mod CodeLetters
 pub mod Coding
+pub mod Operating
 pub mod Naming
 pub mod Typing
 pub mod Printing

@@ -130,11 +130,12 @@ piece-none s ts given c Piece.StringLiteral h1 h2 h3 h4 h8 h5 h6 h7 = absurd (h6
 piece-none s ts given c (Piece.Conversion t) h1 h2 h3 h4 h8 h5 h6 h7 = absurd (h7 t refl)
 piece-none s ts given c _ h1 h2 h3 h4 h8 h5 h6 h7 = refl
 
-pub base-other : (s : List ℕ) (ts : List Term) (given : Option Term) (c : items.Context) (prefix : Term) (p : Piece) → ((d : ℕ) → p ≡ Piece.Constructor d → ⊥) → ((d : ℕ) → p ≡ Piece.Destructor d → ⊥) → piece_parts c (reargued given (piece_of s ts p)) ≡ base_within c prefix (reargued given (piece_of s ts p))
+pub base-other : (s : List ℕ) (ts : List Term) (given : Option Term) (c : items.Context) (prefix : Term) (p : Piece) → ((d : ℕ) → p ≡ Piece.Constructor d → ⊥) → ((d b : ℕ) → p ≡ Piece.Inheriting d b → ⊥) → ((d : ℕ) → p ≡ Piece.Destructor d → ⊥) → piece_parts c (reargued given (piece_of s ts p)) ≡ base_within c prefix (reargued given (piece_of s ts p))
 unfolding piece_of base_within reargued
-base-other s ts given c prefix (Piece.Constructor d) h1 h2 = absurd (h1 d refl)
-base-other s ts given c prefix (Piece.Destructor d) h1 h2 = absurd (h2 d refl)
-base-other s ts given c prefix _ h1 h2 = refl
+base-other s ts given c prefix (Piece.Constructor d) h1 h3 h2 = absurd (h1 d refl)
+base-other s ts given c prefix (Piece.Inheriting d b) h1 h3 h2 = absurd (h3 d b refl)
+base-other s ts given c prefix (Piece.Destructor d) h1 h3 h2 = absurd (h2 d refl)
+base-other s ts given c prefix _ h1 h3 h2 = refl
 
 -- ## Prefixes
 
@@ -173,20 +174,21 @@ pub prefix-held : (s : List ℕ) (us : List Thunk) (ts : List Term) (given : Opt
 unfolding tree_of prefix_item reargued is_again
 prefix-held s us ts given c n flat t a is held = ap (λ m. prefix_item c (reargued given (tree_of s us ts m))) (sym held) ∙ ap (λ u. prefix_item c u) (sym is)
 
-pub within-other : (s : List ℕ) (ts : List Term) (given : Option Term) (c : items.Context) (prefix t : Term) (p : Piece) → t ≡ reargued given (piece_of s ts p) → ((d : ℕ) → p ≡ Piece.Constructor d → ⊥) → ((d : ℕ) → p ≡ Piece.Destructor d → ⊥)
+pub within-other : (s : List ℕ) (ts : List Term) (given : Option Term) (c : items.Context) (prefix t : Term) (p : Piece) → t ≡ reargued given (piece_of s ts p) → ((d : ℕ) → p ≡ Piece.Constructor d → ⊥) → ((d b : ℕ) → p ≡ Piece.Inheriting d b → ⊥) → ((d : ℕ) → p ≡ Piece.Destructor d → ⊥)
     → prefix_item c prefix ∷ text (fixed_text COLONS) ∷ as_item heads.piece c t ∷ [] ≡ within_parts c prefix (reargued given (piece_of s ts p))
 unfolding piece_of within_parts reargued
-within-other s ts given c prefix t (Piece.Constructor d) is h1 h2 = absurd (h1 d refl)
-within-other s ts given c prefix t (Piece.Destructor d) is h1 h2 = absurd (h2 d refl)
-within-other s ts given c prefix t (Piece.Source i b) is h1 h2 = rw is refl
-within-other s ts given c prefix t (Piece.Operator a b) is h1 h2 = rw is refl
-within-other s ts given c prefix t (Piece.LiteralOperator b) is h1 h2 = rw is refl
-within-other s ts given c prefix t (Piece.Lambda a n) is h1 h2 = rw is refl
-within-other s ts given c prefix t (Piece.GenericLambda a n) is h1 h2 = rw is refl
-within-other s ts given c prefix t (Piece.Unnamed n) is h1 h2 = rw is refl
-within-other s ts given c prefix t (Piece.Conversion a) is h1 h2 = rw is refl
-within-other s ts given c prefix t Piece.StringLiteral is h1 h2 = rw is refl
-within-other s ts given c prefix t Piece.Absent is h1 h2 = rw is refl
+within-other s ts given c prefix t (Piece.Constructor d) is h1 h3 h2 = absurd (h1 d refl)
+within-other s ts given c prefix t (Piece.Inheriting d b) is h1 h3 h2 = absurd (h3 d b refl)
+within-other s ts given c prefix t (Piece.Destructor d) is h1 h3 h2 = absurd (h2 d refl)
+within-other s ts given c prefix t (Piece.Source i b) is h1 h3 h2 = rw is refl
+within-other s ts given c prefix t (Piece.Operator a b) is h1 h3 h2 = rw is refl
+within-other s ts given c prefix t (Piece.LiteralOperator b) is h1 h3 h2 = rw is refl
+within-other s ts given c prefix t (Piece.Lambda a n) is h1 h3 h2 = rw is refl
+within-other s ts given c prefix t (Piece.GenericLambda a n) is h1 h3 h2 = rw is refl
+within-other s ts given c prefix t (Piece.Unnamed n) is h1 h3 h2 = rw is refl
+within-other s ts given c prefix t (Piece.Conversion a) is h1 h3 h2 = rw is refl
+within-other s ts given c prefix t Piece.StringLiteral is h1 h3 h2 = rw is refl
+within-other s ts given c prefix t Piece.Absent is h1 h3 h2 = rw is refl
 
 -- ## The entity of a local name
 

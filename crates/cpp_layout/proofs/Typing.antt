@@ -201,41 +201,44 @@ no-type-flat (Node.Reargued t a) k = elim k [ ]
 no-type-flat _ k = refl
 
 pub left-none : (s : List ℕ) (us : List Thunk) (ts : List Term) (given : Option Term) (d : Detail) (c : items.Context) (n : Node) (flat : is_again n ≡ false) → IsNoType n → ((t : ℕ) → n ≡ Node.Expansion t → ⊥) → ((t : ℕ) → n ≡ Node.Pack t → ⊥) → ((t : ℕ) (v : Signed) → n ≡ Node.Integer t v → ⊥) → ((b : Bool) → n ≡ Node.Boolean b → ⊥)
-    → (n ≡ Node.NullPointer → ⊥) → ((e : ℕ) → n ≡ Node.EncodingLiteral e → ⊥) → ((e : ℕ) → n ≡ Node.AddressOf e → ⊥) → [] ≡ left_parts d c (reargued given (tree_of s us ts n))
+    → (n ≡ Node.NullPointer → ⊥) → ((e : ℕ) → n ≡ Node.EncodingLiteral e → ⊥) → ((e : ℕ) → n ≡ Node.AddressOf e → ⊥) → ((e : ℕ) → n ≡ Node.Decltype e → ⊥) → ((a b x y : ℕ) → n ≡ Node.Operation a b x y → ⊥) → ((g : Span) → n ≡ Node.FunctionParameter g → ⊥) → [] ≡ left_parts d c (reargued given (tree_of s us ts n))
 unfolding tree_of left_parts reargued is_again
-left-none s us ts given d c (Node.Alone p) flat k h1 h2 h3 h4 h5 h6 h7 = elim k [ ]
-left-none s us ts given d c (Node.InStd p) flat k h1 h2 h3 h4 h5 h6 h7 = elim k [ ]
-left-none s us ts given d c (Node.Within a p) flat k h1 h2 h3 h4 h5 h6 h7 = elim k [ ]
-left-none s us ts given d c (Node.Instance a b) flat k h1 h2 h3 h4 h5 h6 h7 = elim k [ ]
-left-none s us ts given d c (Node.Local e a o) flat k h1 h2 h3 h4 h5 h6 h7 = elim k [ ]
-left-none s us ts given d c (Node.Holder a) flat k h1 h2 h3 h4 h5 h6 h7 = elim k [ ]
-left-none s us ts given d c (Node.Tagged b a g) flat k h1 h2 h3 h4 h5 h6 h7 = elim k [ ]
-left-none s us ts given d c (Node.Abbreviation a) flat k h1 h2 h3 h4 h5 h6 h7 = elim k [ ]
-left-none s us ts given d c (Node.Parameter a b) flat k h1 h2 h3 h4 h5 h6 h7 = elim k [ ]
-left-none s us ts given d c (Node.Builtin a) flat k h1 h2 h3 h4 h5 h6 h7 = elim k [ ]
-left-none s us ts given d c (Node.BuiltinWithD a) flat k h1 h2 h3 h4 h5 h6 h7 = elim k [ ]
-left-none s us ts given d c (Node.Vendor a) flat k h1 h2 h3 h4 h5 h6 h7 = elim k [ ]
-left-none s us ts given d c (Node.Pointer a) flat k h1 h2 h3 h4 h5 h6 h7 = elim k [ ]
-left-none s us ts given d c (Node.Lvalue a) flat k h1 h2 h3 h4 h5 h6 h7 = elim k [ ]
-left-none s us ts given d c (Node.Rvalue a) flat k h1 h2 h3 h4 h5 h6 h7 = elim k [ ]
-left-none s us ts given d c (Node.Array a b) flat k h1 h2 h3 h4 h5 h6 h7 = elim k [ ]
-left-none s us ts given d c (Node.FunctionType l e m r p) flat k h1 h2 h3 h4 h5 h6 h7 = elim k [ ]
-left-none s us ts given d c (Node.MemberPointer a b) flat k h1 h2 h3 h4 h5 h6 h7 = elim k [ ]
-left-none s us ts given d c (Node.Qualified a b) flat k h1 h2 h3 h4 h5 h6 h7 = elim k [ ]
-left-none s us ts given d c (Node.Vector a b) flat k h1 h2 h3 h4 h5 h6 h7 = elim k [ ]
-left-none s us ts given d c (Node.Complex a) flat k h1 h2 h3 h4 h5 h6 h7 = elim k [ ]
-left-none s us ts given d c (Node.SizedFloat a b) flat k h1 h2 h3 h4 h5 h6 h7 = elim k [ ]
-left-none s us ts given d c (Node.Bounded a b) flat k h1 h2 h3 h4 h5 h6 h7 = elim k [ ]
-left-none s us ts given d c (Node.Constrained a b) flat k h1 h2 h3 h4 h5 h6 h7 = elim k [ ]
-left-none s us ts given d c (Node.Expansion t) flat k h1 h2 h3 h4 h5 h6 h7 = absurd (h1 t refl)
-left-none s us ts given d c (Node.Pack t) flat k h1 h2 h3 h4 h5 h6 h7 = absurd (h2 t refl)
-left-none s us ts given d c (Node.Integer t v) flat k h1 h2 h3 h4 h5 h6 h7 = absurd (h3 t v refl)
-left-none s us ts given d c (Node.Boolean b) flat k h1 h2 h3 h4 h5 h6 h7 = absurd (h4 b refl)
-left-none s us ts given d c Node.NullPointer flat k h1 h2 h3 h4 h5 h6 h7 = absurd (h5 refl)
-left-none s us ts given d c (Node.EncodingLiteral e) flat k h1 h2 h3 h4 h5 h6 h7 = absurd (h6 e refl)
-left-none s us ts given d c (Node.AddressOf e) flat k h1 h2 h3 h4 h5 h6 h7 = absurd (h7 e refl)
-left-none s us ts given d c (Node.Reargued x z) flat k h1 h2 h3 h4 h5 h6 h7 = absurd (true≢false flat)
-left-none s us ts given d c _ flat k h1 h2 h3 h4 h5 h6 h7 = refl
+left-none s us ts given d c (Node.Alone p) flat k h1 h2 h3 h4 h5 h6 h7 h8 h9 h10 = elim k [ ]
+left-none s us ts given d c (Node.InStd p) flat k h1 h2 h3 h4 h5 h6 h7 h8 h9 h10 = elim k [ ]
+left-none s us ts given d c (Node.Within a p) flat k h1 h2 h3 h4 h5 h6 h7 h8 h9 h10 = elim k [ ]
+left-none s us ts given d c (Node.Instance a b) flat k h1 h2 h3 h4 h5 h6 h7 h8 h9 h10 = elim k [ ]
+left-none s us ts given d c (Node.Local e a o) flat k h1 h2 h3 h4 h5 h6 h7 h8 h9 h10 = elim k [ ]
+left-none s us ts given d c (Node.Holder a) flat k h1 h2 h3 h4 h5 h6 h7 h8 h9 h10 = elim k [ ]
+left-none s us ts given d c (Node.Tagged b a g) flat k h1 h2 h3 h4 h5 h6 h7 h8 h9 h10 = elim k [ ]
+left-none s us ts given d c (Node.Abbreviation a) flat k h1 h2 h3 h4 h5 h6 h7 h8 h9 h10 = elim k [ ]
+left-none s us ts given d c (Node.Parameter a b) flat k h1 h2 h3 h4 h5 h6 h7 h8 h9 h10 = elim k [ ]
+left-none s us ts given d c (Node.Builtin a) flat k h1 h2 h3 h4 h5 h6 h7 h8 h9 h10 = elim k [ ]
+left-none s us ts given d c (Node.BuiltinWithD a) flat k h1 h2 h3 h4 h5 h6 h7 h8 h9 h10 = elim k [ ]
+left-none s us ts given d c (Node.Vendor a) flat k h1 h2 h3 h4 h5 h6 h7 h8 h9 h10 = elim k [ ]
+left-none s us ts given d c (Node.Pointer a) flat k h1 h2 h3 h4 h5 h6 h7 h8 h9 h10 = elim k [ ]
+left-none s us ts given d c (Node.Lvalue a) flat k h1 h2 h3 h4 h5 h6 h7 h8 h9 h10 = elim k [ ]
+left-none s us ts given d c (Node.Rvalue a) flat k h1 h2 h3 h4 h5 h6 h7 h8 h9 h10 = elim k [ ]
+left-none s us ts given d c (Node.Array a b) flat k h1 h2 h3 h4 h5 h6 h7 h8 h9 h10 = elim k [ ]
+left-none s us ts given d c (Node.FunctionType l e m r p) flat k h1 h2 h3 h4 h5 h6 h7 h8 h9 h10 = elim k [ ]
+left-none s us ts given d c (Node.MemberPointer a b) flat k h1 h2 h3 h4 h5 h6 h7 h8 h9 h10 = elim k [ ]
+left-none s us ts given d c (Node.Qualified a b) flat k h1 h2 h3 h4 h5 h6 h7 h8 h9 h10 = elim k [ ]
+left-none s us ts given d c (Node.Vector a b) flat k h1 h2 h3 h4 h5 h6 h7 h8 h9 h10 = elim k [ ]
+left-none s us ts given d c (Node.Complex a) flat k h1 h2 h3 h4 h5 h6 h7 h8 h9 h10 = elim k [ ]
+left-none s us ts given d c (Node.SizedFloat a b) flat k h1 h2 h3 h4 h5 h6 h7 h8 h9 h10 = elim k [ ]
+left-none s us ts given d c (Node.Bounded a b) flat k h1 h2 h3 h4 h5 h6 h7 h8 h9 h10 = elim k [ ]
+left-none s us ts given d c (Node.Constrained a b) flat k h1 h2 h3 h4 h5 h6 h7 h8 h9 h10 = elim k [ ]
+left-none s us ts given d c (Node.Expansion t) flat k h1 h2 h3 h4 h5 h6 h7 h8 h9 h10 = absurd (h1 t refl)
+left-none s us ts given d c (Node.Pack t) flat k h1 h2 h3 h4 h5 h6 h7 h8 h9 h10 = absurd (h2 t refl)
+left-none s us ts given d c (Node.Integer t v) flat k h1 h2 h3 h4 h5 h6 h7 h8 h9 h10 = absurd (h3 t v refl)
+left-none s us ts given d c (Node.Boolean b) flat k h1 h2 h3 h4 h5 h6 h7 h8 h9 h10 = absurd (h4 b refl)
+left-none s us ts given d c Node.NullPointer flat k h1 h2 h3 h4 h5 h6 h7 h8 h9 h10 = absurd (h5 refl)
+left-none s us ts given d c (Node.EncodingLiteral e) flat k h1 h2 h3 h4 h5 h6 h7 h8 h9 h10 = absurd (h6 e refl)
+left-none s us ts given d c (Node.AddressOf e) flat k h1 h2 h3 h4 h5 h6 h7 h8 h9 h10 = absurd (h7 e refl)
+left-none s us ts given d c (Node.Decltype e) flat k h1 h2 h3 h4 h5 h6 h7 h8 h9 h10 = absurd (h8 e refl)
+left-none s us ts given d c (Node.Operation a b x y) flat k h1 h2 h3 h4 h5 h6 h7 h8 h9 h10 = absurd (h9 a b x y refl)
+left-none s us ts given d c (Node.FunctionParameter g) flat k h1 h2 h3 h4 h5 h6 h7 h8 h9 h10 = absurd (h10 g refl)
+left-none s us ts given d c (Node.Reargued x z) flat k h1 h2 h3 h4 h5 h6 h7 h8 h9 h10 = absurd (true≢false flat)
+left-none s us ts given d c _ flat k h1 h2 h3 h4 h5 h6 h7 h8 h9 h10 = refl
 
 pub own-none : (s : List ℕ) (us : List Thunk) (ts : List Term) (given : Option Term) (c : items.Context) (n : Node) (flat : is_again n ≡ false) (t : Term) → t ≡ reargued given (tree_of s us ts n) → ((p : Piece) → n ≡ Node.Alone p → ⊥) → ((p : Piece) → n ≡ Node.InStd p → ⊥) → ((a : ℕ) (p : Piece) → n ≡ Node.Within a p → ⊥) → [] ≡ piece_parts c (own_piece t)
 unfolding tree_of own_piece piece_parts reargued is_again

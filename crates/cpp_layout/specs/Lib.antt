@@ -1,3 +1,4 @@
 pub mod TextLists
 pub mod Texts
 pub mod Layout
+pub mod Operations

@@ -51,7 +51,9 @@ plain_texts =
     codes "transaction clone for " ∷
     codes "non-transaction clone for " ∷
     codes " auto" ∷
-    codes " decltype(auto)" ∷ []
+    codes " decltype(auto)" ∷
+    codes "decltype(" ∷
+    codes "fp" ∷ []
 
 -- what follows a function's parameters
 abbrev pub suffix_texts : List (List ℕ)
@@ -115,3 +117,72 @@ blanked_texts =
     codes "const restrict " ∷
     codes "const volatile " ∷
     codes "const volatile restrict " ∷ []
+
+-- texts of operations, each once
+abbrev pub operation_texts : List (List ℕ)
+operation_texts =
+    codes "+" ∷
+    codes "-" ∷
+    codes "&" ∷
+    codes "*" ∷
+    codes "~" ∷
+    codes "!" ∷
+    codes "co_await " ∷
+    codes "++" ∷
+    codes "--" ∷
+    codes ".*" ∷
+    codes "->*" ∷
+    codes " * " ∷
+    codes " / " ∷
+    codes " % " ∷
+    codes " + " ∷
+    codes " - " ∷
+    codes " << " ∷
+    codes " <=> " ∷
+    codes " < " ∷
+    codes " <= " ∷
+    codes " >= " ∷
+    codes " == " ∷
+    codes " != " ∷
+    codes " & " ∷
+    codes " ^ " ∷
+    codes " | " ∷
+    codes " && " ∷
+    codes " || " ∷
+    codes " > " ∷
+    codes " >> " ∷
+    codes ", " ∷
+    codes " = " ∷
+    codes " += " ∷
+    codes " -= " ∷
+    codes " *= " ∷
+    codes " /= " ∷
+    codes " %= " ∷
+    codes " &= " ∷
+    codes " |= " ∷
+    codes " ^= " ∷
+    codes " <<= " ∷
+    codes " >>= " ∷
+    codes "[" ∷
+    codes "]" ∷
+    codes "." ∷
+    codes "->" ∷
+    codes " ? " ∷
+    codes " : " ∷
+    codes "(" ∷
+    codes ")" ∷
+    codes ")(" ∷
+    codes "{" ∷
+    codes "}" ∷
+    codes "dynamic_cast<" ∷
+    codes ">(" ∷
+    codes "static_cast<" ∷
+    codes "const_cast<" ∷
+    codes "reinterpret_cast<" ∷
+    codes "typeid (" ∷
+    codes "sizeof (" ∷
+    codes "alignof (" ∷
+    codes "noexcept (" ∷
+    codes "sizeof...(" ∷
+    codes "::" ∷
+    codes "this" ∷ []

@@ -4,7 +4,7 @@ use Rattle.std.specs.Prelude.{Bool, ◌+◌, ◌*◌, cond}
 use Rattle.cpp_grammar.specs.Term.{Qualifiers, RefQualifier}
 use Rattle.cpp_grammar.specs.Texts.{Naming, builtin_texts, operator_texts, abbreviation_texts, special_texts, named_special_texts, literal_endings}
 use Rattle.cpp_grammar.specs.Parts.{encoding_text}
-use Rattle.cpp_layout.specs.TextLists.{plain_texts, suffix_texts, blanked_texts}
+use Rattle.cpp_layout.specs.TextLists.{plain_texts, suffix_texts, blanked_texts, operation_texts}
 
 -- texts as a table has them, after others
 abbrev pub named_texts : (List ℕ → List ℕ) → List Naming → List (List ℕ) → List (List ℕ)
@@ -18,7 +18,7 @@ word_texts = codes "operator" ∷ []
 abbrev pub texts : List (List ℕ)
 texts = plain_texts ++ (suffix_texts ++ named_texts (λ t. t) builtin_texts (named_texts (λ t. codes "operator" ++ t) operator_texts
     (named_texts (λ t. t) abbreviation_texts (named_texts (λ t. drop 5 t) abbreviation_texts
-    (named_texts (λ t. t) special_texts (named_texts (λ t. t) named_special_texts (named_texts (λ t. t) literal_endings (blanked_texts ++ word_texts))))))))
+    (named_texts (λ t. t) special_texts (named_texts (λ t. t) named_special_texts (named_texts (λ t. t) literal_endings (blanked_texts ++ (word_texts ++ operation_texts)))))))))
 
 abbrev pub fixed_text : ℕ → List ℕ
 fixed_text number = elim (slice_get texts number) [ Some text ↦ text | None ↦ [] ]

@@ -13,6 +13,7 @@ ghost use Rattle.cpp_layout.specs.Layout.{table_of, context_of, Shows, IsNoName,
 use crate::codes::placeholder;
 use crate::context::Context;
 use crate::numbered::{abbreviation, builtin, builtin_with_d, last_of_abbreviation};
+use crate::operation_rows::operation_of;
 use crate::symbol::Symbol;
 use crate::{form, texts};
 use cpp_tree::node::Node;
@@ -84,6 +85,17 @@ impl Symbol {
                 self.fill_encoding_literal(parts, encoding, false, ctx);
             }
             Node::AddressOf(encoding) => self.fill_encoding_literal(parts, encoding, true, ctx),
+            Node::Decltype(expression) => self.fill_decltype(parts, expression, ctx),
+            Node::Operation {
+                first,
+                second,
+                left,
+                right,
+            } => self.fill_operation(parts, operation_of(first, second), left, right, ctx),
+            Node::FunctionParameter(digits) => {
+                self.push_bytes(parts, digits);
+                self.push_text(parts, texts::FUNCTION_PARAMETER);
+            }
             _ => {}
         }
     }

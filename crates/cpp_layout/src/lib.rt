@@ -10,6 +10,8 @@ mod lists;
 mod literals;
 mod names;
 mod numbered;
+mod operation_rows;
+mod operations;
 mod parts;
 mod print;
 mod qualified;

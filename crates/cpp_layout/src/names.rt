@@ -317,6 +317,7 @@ impl Symbol {
     {
         match piece {
             Piece::Constructor(_) => self.fill_structor(parts, prefix, texts::COLONS, ctx),
+            Piece::Inheriting { .. } => self.fill_structor(parts, prefix, texts::COLONS, ctx),
             Piece::Destructor(_) => self.fill_structor(parts, prefix, texts::COLONS_TILDE, ctx),
             _ => self.fill_nested(parts, node, prefix, ctx),
         }
@@ -410,6 +411,7 @@ impl Symbol {
     {
         match piece {
             Piece::Constructor(_) => self.push_item(parts, prefix, form::BASE, 0, ctx),
+            Piece::Inheriting { .. } => self.push_item(parts, prefix, form::BASE, 0, ctx),
             Piece::Destructor(_) => self.push_item(parts, prefix, form::BASE, 0, ctx),
             _ => self.fill_piece(parts, piece, ctx),
         }

@@ -100,85 +100,169 @@ pub const AUTO: u16 = 46;
 
 pub const DECLTYPE_AUTO: u16 = 47;
 
+pub const DECLTYPE: u16 = 48;
+
+pub const FUNCTION_PARAMETER: u16 = 49;
+
 /// Where the texts after a function's parameters begin.
-pub const SUFFIX: u16 = 48;
+pub const SUFFIX: u16 = 50;
 
 /// No text.
-pub const NONE: u16 = 48;
+pub const NONE: u16 = 50;
 
 /// Where the builtin types begin.
-pub const BUILTIN: u16 = 96;
+pub const BUILTIN: u16 = 98;
 
 /// Where the names of operators begin.
-pub const OPERATOR: u16 = 127;
+pub const OPERATOR: u16 = 129;
 
 /// How many operators there are.
 pub const OPERATORS: u16 = 48;
 
 /// Where the abbreviations begin, and their names without `std::`.
-pub const ABBREVIATION: u16 = 175;
+pub const ABBREVIATION: u16 = 177;
 
-pub const LAST_OF_ABBREVIATION: u16 = 181;
+pub const LAST_OF_ABBREVIATION: u16 = 183;
 
 /// Where the special names begin.
-pub const SPECIAL: u16 = 187;
+pub const SPECIAL: u16 = 189;
 
 /// Where the special names of names begin.
-pub const NAMED_SPECIAL: u16 = 191;
+pub const NAMED_SPECIAL: u16 = 193;
 
 /// Where the endings of integer literals begin.
-pub const ENDING: u16 = 194;
+pub const ENDING: u16 = 196;
 
 /// Where the qualifiers begin whose blank comes after them, but for those of no qualifier.
-pub const BLANKED: u16 = 198;
+pub const BLANKED: u16 = 200;
 
 /// The name of an operator that has no code.
-pub const OPERATOR_ALONE: u16 = 206;
+pub const OPERATOR_ALONE: u16 = 208;
+
+/// Where the texts of operations begin.
+pub const OPERATION: u16 = 209;
 
 /// How many texts there are.
-pub const COUNT: u16 = 207;
+pub const COUNT: u16 = 274;
+
+/// A text of an operation.
+#[tactic(auto, unfolding(crate::specs::Texts::fixed_text, cpp_grammar::specs::Texts::builtin_texts, cpp_grammar::specs::Texts::operator_texts, cpp_grammar::specs::Texts::abbreviation_texts, cpp_grammar::specs::Texts::special_texts, cpp_grammar::specs::Texts::named_special_texts, cpp_grammar::specs::Texts::literal_endings))]
+#[inline(always)]
+fn operation_text(number: u16) -> &'static [u8]
+    requires { 209 ≤ number }
+    ensures { result.now ≡ fixed_text number }
+{
+    match number {
+        209 => b"+",
+        210 => b"-",
+        211 => b"&",
+        212 => b"*",
+        213 => b"~",
+        214 => b"!",
+        215 => b"co_await ",
+        216 => b"++",
+        217 => b"--",
+        218 => b".*",
+        219 => b"->*",
+        220 => b" * ",
+        221 => b" / ",
+        222 => b" % ",
+        223 => b" + ",
+        224 => b" - ",
+        225 => b" << ",
+        226 => b" <=> ",
+        227 => b" < ",
+        228 => b" <= ",
+        229 => b" >= ",
+        230 => b" == ",
+        231 => b" != ",
+        232 => b" & ",
+        233 => b" ^ ",
+        234 => b" | ",
+        235 => b" && ",
+        236 => b" || ",
+        237 => b" > ",
+        238 => b" >> ",
+        239 => b", ",
+        240 => b" = ",
+        241 => b" += ",
+        242 => b" -= ",
+        243 => b" *= ",
+        244 => b" /= ",
+        245 => b" %= ",
+        246 => b" &= ",
+        247 => b" |= ",
+        248 => b" ^= ",
+        249 => b" <<= ",
+        250 => b" >>= ",
+        251 => b"[",
+        252 => b"]",
+        253 => b".",
+        254 => b"->",
+        255 => b" ? ",
+        256 => b" : ",
+        257 => b"(",
+        258 => b")",
+        259 => b")(",
+        260 => b"{",
+        261 => b"}",
+        262 => b"dynamic_cast<",
+        263 => b">(",
+        264 => b"static_cast<",
+        265 => b"const_cast<",
+        266 => b"reinterpret_cast<",
+        267 => b"typeid (",
+        268 => b"sizeof (",
+        269 => b"alignof (",
+        270 => b"noexcept (",
+        271 => b"sizeof...(",
+        272 => b"::",
+        273 => b"this",
+        _ => b"",
+    }
+}
 
 /// A text after the operators: an abbreviation, a special name, an ending, a qualifier.
 #[tactic(auto, unfolding(crate::specs::Texts::fixed_text, cpp_grammar::specs::Texts::builtin_texts, cpp_grammar::specs::Texts::operator_texts, cpp_grammar::specs::Texts::abbreviation_texts, cpp_grammar::specs::Texts::special_texts, cpp_grammar::specs::Texts::named_special_texts, cpp_grammar::specs::Texts::literal_endings))]
 #[inline(always)]
 fn remaining_text(number: u16) -> &'static [u8]
-    requires { 175 ≤ number }
+    requires { 177 ≤ number }
     ensures { result.now ≡ fixed_text number }
 {
     match number {
-        175 => b"std::allocator",
-        176 => b"std::basic_string",
-        177 => b"std::string",
-        178 => b"std::istream",
-        179 => b"std::ostream",
-        180 => b"std::iostream",
-        181 => b"allocator",
-        182 => b"basic_string",
-        183 => b"string",
-        184 => b"istream",
-        185 => b"ostream",
-        186 => b"iostream",
-        187 => b"vtable for ",
-        188 => b"VTT for ",
-        189 => b"typeinfo for ",
-        190 => b"typeinfo name for ",
-        191 => b"guard variable for ",
-        192 => b"thread-local initialization routine for ",
-        193 => b"thread-local wrapper routine for ",
-        194 => b"u",
-        195 => b"l",
-        196 => b"ul",
-        197 => b"ll",
-        198 => b"ull",
-        199 => b"restrict ",
-        200 => b"volatile ",
-        201 => b"volatile restrict ",
-        202 => b"const ",
-        203 => b"const restrict ",
-        204 => b"const volatile ",
-        205 => b"const volatile restrict ",
+        177 => b"std::allocator",
+        178 => b"std::basic_string",
+        179 => b"std::string",
+        180 => b"std::istream",
+        181 => b"std::ostream",
+        182 => b"std::iostream",
+        183 => b"allocator",
+        184 => b"basic_string",
+        185 => b"string",
+        186 => b"istream",
+        187 => b"ostream",
+        188 => b"iostream",
+        189 => b"vtable for ",
+        190 => b"VTT for ",
+        191 => b"typeinfo for ",
+        192 => b"typeinfo name for ",
+        193 => b"guard variable for ",
+        194 => b"thread-local initialization routine for ",
+        195 => b"thread-local wrapper routine for ",
+        196 => b"u",
+        197 => b"l",
+        198 => b"ul",
+        199 => b"ll",
+        200 => b"ull",
+        201 => b"restrict ",
+        202 => b"volatile ",
+        203 => b"volatile restrict ",
+        204 => b"const ",
+        205 => b"const restrict ",
+        206 => b"const volatile ",
+        207 => b"const volatile restrict ",
         OPERATOR_ALONE => b"operator",
-        _ => b"",
+        _ => operation_text(number),
     }
 }
 
@@ -186,58 +270,58 @@ fn remaining_text(number: u16) -> &'static [u8]
 #[tactic(auto, unfolding(crate::specs::Texts::fixed_text, cpp_grammar::specs::Texts::builtin_texts, cpp_grammar::specs::Texts::operator_texts))]
 #[inline(always)]
 fn operator_text(number: u16) -> &'static [u8]
-    requires { 127 ≤ number }
+    requires { 129 ≤ number }
     ensures { result.now ≡ fixed_text number }
 {
     match number {
-        127 => b"operator new",
-        128 => b"operator new[]",
-        129 => b"operator delete",
-        130 => b"operator delete[]",
-        131 => b"operator co_await",
-        132 => b"operator+",
-        133 => b"operator-",
-        134 => b"operator&",
-        135 => b"operator*",
-        136 => b"operator~",
-        137 => b"operator+",
-        138 => b"operator-",
-        139 => b"operator*",
-        140 => b"operator/",
-        141 => b"operator%",
-        142 => b"operator&",
-        143 => b"operator^",
-        144 => b"operator=",
-        145 => b"operator+=",
-        146 => b"operator-=",
-        147 => b"operator*=",
-        148 => b"operator/=",
-        149 => b"operator%=",
-        150 => b"operator&=",
-        151 => b"operator|=",
-        152 => b"operator^=",
-        153 => b"operator<<",
-        154 => b"operator>>",
-        155 => b"operator<<=",
-        156 => b"operator>>=",
-        157 => b"operator==",
-        158 => b"operator!=",
-        159 => b"operator<",
-        160 => b"operator>",
-        161 => b"operator<=",
-        162 => b"operator>=",
-        163 => b"operator<=>",
-        164 => b"operator!",
-        165 => b"operator&&",
-        166 => b"operator||",
-        167 => b"operator++",
-        168 => b"operator--",
-        169 => b"operator,",
-        170 => b"operator->*",
-        171 => b"operator->",
-        172 => b"operator()",
-        173 => b"operator[]",
-        174 => b"operator|",
+        129 => b"operator new",
+        130 => b"operator new[]",
+        131 => b"operator delete",
+        132 => b"operator delete[]",
+        133 => b"operator co_await",
+        134 => b"operator+",
+        135 => b"operator-",
+        136 => b"operator&",
+        137 => b"operator*",
+        138 => b"operator~",
+        139 => b"operator+",
+        140 => b"operator-",
+        141 => b"operator*",
+        142 => b"operator/",
+        143 => b"operator%",
+        144 => b"operator&",
+        145 => b"operator^",
+        146 => b"operator=",
+        147 => b"operator+=",
+        148 => b"operator-=",
+        149 => b"operator*=",
+        150 => b"operator/=",
+        151 => b"operator%=",
+        152 => b"operator&=",
+        153 => b"operator|=",
+        154 => b"operator^=",
+        155 => b"operator<<",
+        156 => b"operator>>",
+        157 => b"operator<<=",
+        158 => b"operator>>=",
+        159 => b"operator==",
+        160 => b"operator!=",
+        161 => b"operator<",
+        162 => b"operator>",
+        163 => b"operator<=",
+        164 => b"operator>=",
+        165 => b"operator<=>",
+        166 => b"operator!",
+        167 => b"operator&&",
+        168 => b"operator||",
+        169 => b"operator++",
+        170 => b"operator--",
+        171 => b"operator,",
+        172 => b"operator->*",
+        173 => b"operator->",
+        174 => b"operator()",
+        175 => b"operator[]",
+        176 => b"operator|",
         _ => remaining_text(number),
     }
 }
@@ -246,41 +330,41 @@ fn operator_text(number: u16) -> &'static [u8]
 #[tactic(auto, unfolding(crate::specs::Texts::fixed_text, cpp_grammar::specs::Texts::builtin_texts))]
 #[inline(always)]
 fn builtin_text(number: u16) -> &'static [u8]
-    requires { 96 ≤ number }
+    requires { 98 ≤ number }
     ensures { result.now ≡ fixed_text number }
 {
     match number {
-        96 => b"void",
-        97 => b"wchar_t",
-        98 => b"bool",
-        99 => b"char",
-        100 => b"signed char",
-        101 => b"unsigned char",
-        102 => b"short",
-        103 => b"unsigned short",
-        104 => b"int",
-        105 => b"unsigned int",
-        106 => b"long",
-        107 => b"unsigned long",
-        108 => b"long long",
-        109 => b"unsigned long long",
-        110 => b"__int128",
-        111 => b"unsigned __int128",
-        112 => b"float",
-        113 => b"double",
-        114 => b"long double",
-        115 => b"__float128",
-        116 => b"...",
-        117 => b"char32_t",
-        118 => b"char16_t",
-        119 => b"char8_t",
-        120 => b"auto",
-        121 => b"decltype(auto)",
-        122 => b"std::nullptr_t",
-        123 => b"decimal64",
-        124 => b"decimal128",
-        125 => b"decimal32",
-        126 => b"half",
+        98 => b"void",
+        99 => b"wchar_t",
+        100 => b"bool",
+        101 => b"char",
+        102 => b"signed char",
+        103 => b"unsigned char",
+        104 => b"short",
+        105 => b"unsigned short",
+        106 => b"int",
+        107 => b"unsigned int",
+        108 => b"long",
+        109 => b"unsigned long",
+        110 => b"long long",
+        111 => b"unsigned long long",
+        112 => b"__int128",
+        113 => b"unsigned __int128",
+        114 => b"float",
+        115 => b"double",
+        116 => b"long double",
+        117 => b"__float128",
+        118 => b"...",
+        119 => b"char32_t",
+        120 => b"char16_t",
+        121 => b"char8_t",
+        122 => b"auto",
+        123 => b"decltype(auto)",
+        124 => b"std::nullptr_t",
+        125 => b"decimal64",
+        126 => b"decimal128",
+        127 => b"decimal32",
+        128 => b"half",
         _ => operator_text(number),
     }
 }
@@ -289,58 +373,58 @@ fn builtin_text(number: u16) -> &'static [u8]
 #[tactic(auto, unfolding(crate::specs::Texts::fixed_text))]
 #[inline(always)]
 fn suffix_text(number: u16) -> &'static [u8]
-    requires { 48 ≤ number }
+    requires { 50 ≤ number }
     ensures { result.now ≡ fixed_text number }
 {
     match number {
         NONE => b"",
-        49 => b" restrict",
-        50 => b" volatile",
-        51 => b" volatile restrict",
-        52 => b" const",
-        53 => b" const restrict",
-        54 => b" const volatile",
-        55 => b" const volatile restrict",
-        56 => b" &",
-        57 => b" restrict &",
-        58 => b" volatile &",
-        59 => b" volatile restrict &",
-        60 => b" const &",
-        61 => b" const restrict &",
-        62 => b" const volatile &",
-        63 => b" const volatile restrict &",
-        64 => b" &&",
-        65 => b" restrict &&",
-        66 => b" volatile &&",
-        67 => b" volatile restrict &&",
-        68 => b" const &&",
-        69 => b" const restrict &&",
-        70 => b" const volatile &&",
-        71 => b" const volatile restrict &&",
-        72 => b" noexcept",
-        73 => b" restrict noexcept",
-        74 => b" volatile noexcept",
-        75 => b" volatile restrict noexcept",
-        76 => b" const noexcept",
-        77 => b" const restrict noexcept",
-        78 => b" const volatile noexcept",
-        79 => b" const volatile restrict noexcept",
-        80 => b" & noexcept",
-        81 => b" restrict & noexcept",
-        82 => b" volatile & noexcept",
-        83 => b" volatile restrict & noexcept",
-        84 => b" const & noexcept",
-        85 => b" const restrict & noexcept",
-        86 => b" const volatile & noexcept",
-        87 => b" const volatile restrict & noexcept",
-        88 => b" && noexcept",
-        89 => b" restrict && noexcept",
-        90 => b" volatile && noexcept",
-        91 => b" volatile restrict && noexcept",
-        92 => b" const && noexcept",
-        93 => b" const restrict && noexcept",
-        94 => b" const volatile && noexcept",
-        95 => b" const volatile restrict && noexcept",
+        51 => b" restrict",
+        52 => b" volatile",
+        53 => b" volatile restrict",
+        54 => b" const",
+        55 => b" const restrict",
+        56 => b" const volatile",
+        57 => b" const volatile restrict",
+        58 => b" &",
+        59 => b" restrict &",
+        60 => b" volatile &",
+        61 => b" volatile restrict &",
+        62 => b" const &",
+        63 => b" const restrict &",
+        64 => b" const volatile &",
+        65 => b" const volatile restrict &",
+        66 => b" &&",
+        67 => b" restrict &&",
+        68 => b" volatile &&",
+        69 => b" volatile restrict &&",
+        70 => b" const &&",
+        71 => b" const restrict &&",
+        72 => b" const volatile &&",
+        73 => b" const volatile restrict &&",
+        74 => b" noexcept",
+        75 => b" restrict noexcept",
+        76 => b" volatile noexcept",
+        77 => b" volatile restrict noexcept",
+        78 => b" const noexcept",
+        79 => b" const restrict noexcept",
+        80 => b" const volatile noexcept",
+        81 => b" const volatile restrict noexcept",
+        82 => b" & noexcept",
+        83 => b" restrict & noexcept",
+        84 => b" volatile & noexcept",
+        85 => b" volatile restrict & noexcept",
+        86 => b" const & noexcept",
+        87 => b" const restrict & noexcept",
+        88 => b" const volatile & noexcept",
+        89 => b" const volatile restrict & noexcept",
+        90 => b" && noexcept",
+        91 => b" restrict && noexcept",
+        92 => b" volatile && noexcept",
+        93 => b" volatile restrict && noexcept",
+        94 => b" const && noexcept",
+        95 => b" const restrict && noexcept",
+        96 => b" const volatile && noexcept",
+        97 => b" const volatile restrict && noexcept",
         _ => builtin_text(number),
     }
 }
@@ -400,6 +484,8 @@ pub fn fixed_text(number: u16) -> &'static [u8]
         OTHER_CLONE => b"non-transaction clone for ",
         AUTO => b" auto",
         DECLTYPE_AUTO => b" decltype(auto)",
+        DECLTYPE => b"decltype(",
+        FUNCTION_PARAMETER => b"fp",
         _ => suffix_text(number),
     }
 }

@@ -1,57 +1,152 @@
 -- The byte at the place of an open rule serves as the one that it takes: a rule that takes none means the same by any byte.
-use Rattle.std.proofs.Common.{◌≡◌, refl, sym, ◌∙◌, ap, subst, ℕ, zero, suc, List, [], ◌∷◌, ◌++◌, drop, Bool, true, false, not, if◌then◌else◌}
+use Rattle.std.proofs.Common.{◌≡◌, refl, sym, ◌∙◌, ap, subst, ℕ, zero, suc, List, [], ◌∷◌, ◌++◌, drop, Bool, true, false, not, ◌&&◌, ◌||◌, if◌then◌else◌, Result, Ok}
 use Rattle.std.specs.Prelude.{slice_index}
-use Rattle.std.proofs.lemmas.Bool.{false≢true}
+use Rattle.std.proofs.lemmas.Bool.{false≢true, and_parts}
+use Rattle.sym_core.specs.declared.refusal.Refusal.{Refusal}
 use Rattle.sym_shape.specs.declared.rule.Rule.{Rule}
-use Rattle.sym_link.specs.Reading.{Open}
+use Rattle.sym_link.specs.Reading.{Found, Open}
 use Rattle.sym_link.specs.Threads.{IsThere}
+use Rattle.sym_link.specs.Unfold.{found}
 use Rattle.cpp_grammar.specs.declared.production.Production.{Production}
 use Rattle.cpp_grammar.specs.Grammar.{is_chain}
+use Rattle.cpp_grammar.specs.Row.{Source, code, taken, letter_or_taken, qualified_by, Made, of, only, extending, applying, Own, by_letters, first_of_operator, reference, character, suffix, one_digit, Form, the_byte, makes, a_piece, a_pair, own}
+use Rattle.cpp_grammar.specs.Rows.{row_of}
 use Rattle.cpp_grammar.specs.Table.{wide, rule_of}
 use Rattle.cpp_grammar.specs.Unfolding.{production_at, byte_of}
 use Rattle.cpp_grammar.proofs.ClosedTrees.{Taken, taken_rule, at_number}
-use Rattle.cpp_term.specs.Values.{State, Value, Around}
+use Rattle.cpp_term.specs.Builders.{Argument, some_qualifiers, tree_in, truth_in, built}
+use Rattle.cpp_term.specs.Values.{State, Value, tree, piece, Around, part}
+use Rattle.cpp_term.specs.Between.{extended, applied}
 use Rattle.cpp_term.specs.Meaning.{meaning}
+use Rattle.cpp_term.specs.Meant.{given, all_given, made, is_listing, meant, state_after}
+use Rattle.cpp_term.specs.Own.{own_meaning}
 use Rattle.cpp_term.specs.Unfolding.{behind, close}
 use Rattle.cpp_link.specs.LinkReading.{link_meaning, link_close}
 
--- a rule that takes no byte means the same by any byte
+-- ## Rows that don't speak of the byte
+
+unfoldable is_byteless : Source → Bool
+is_byteless (code front) = false
+is_byteless taken = false
+is_byteless (letter_or_taken k) = false
+is_byteless (qualified_by r v c) = is_byteless r && (is_byteless v && is_byteless c)
+is_byteless _ = true
+
+unfoldable all_byteless : List Source → Bool
+all_byteless [] = true
+all_byteless (x ∷ xs) = is_byteless x && all_byteless xs
+
+unfoldable makes_byteless : Made → Bool
+makes_byteless (of maker xs) = all_byteless xs
+makes_byteless (only x) = is_byteless x
+makes_byteless (extending m) = makes_byteless m
+makes_byteless (applying m k) = makes_byteless m
+makes_byteless _ = true
+
+unfoldable own_byteless : Own → Bool
+own_byteless by_letters = false
+own_byteless first_of_operator = false
+own_byteless reference = false
+own_byteless character = false
+own_byteless suffix = false
+own_byteless one_digit = false
+own_byteless _ = true
+
+unfoldable means_byteless : Form → Bool
+means_byteless the_byte = false
+means_byteless (makes m listing) = makes_byteless m
+means_byteless (a_piece m) = makes_byteless m
+means_byteless (a_pair letter left right) = is_byteless letter && (makes_byteless left && makes_byteless right)
+means_byteless (own o most) = own_byteless o
+means_byteless _ = true
+
+module _ (b c : ℕ) (around : Around) (vs : List Value) where
+  any_given : (x : Source) → is_byteless x ≡ true → given b around vs x ≡ given c around vs x
+  unfolding is_byteless given
+  any_given (code front) is = absurd (false≢true is)
+  any_given taken is = absurd (false≢true is)
+  any_given (letter_or_taken k) is = absurd (false≢true is)
+  any_given (qualified_by x y z) is =
+      let one = and_parts (is_byteless x) (is_byteless y && is_byteless z) is in
+      let two = and_parts (is_byteless y) (is_byteless z) one.1 in
+      qualifiers (given b around vs x) (given c around vs x) (given b around vs y) (given c around vs y) (given b around vs z) (given c around vs z) (any_given x one.0) (any_given y two.0) (any_given z two.1)
+    where
+      qualifiers : (x u y v z w : Argument) → x ≡ u → y ≡ v → z ≡ w
+          → some_qualifiers (record { restrict = truth_in x; volatile = truth_in y; const = truth_in z }) ≡ some_qualifiers (record { restrict = truth_in u; volatile = truth_in v; const = truth_in w })
+      qualifiers x u y v z w e f g = rw (e, f, g) refl
+  any_given _ is = refl
+
+  all_any : (xs : List Source) → all_byteless xs ≡ true → all_given b around vs xs ≡ all_given c around vs xs
+  unfolding all_byteless all_given
+  all_any [] is = refl
+  all_any (x ∷ xs) is =
+      let both = and_parts (is_byteless x) (all_byteless xs) is in
+      rw (any_given x both.0, all_any xs both.1) refl
+
+  any_made : (m : Made) → makes_byteless m ≡ true → made b around vs m ≡ made c around vs m
+  unfolding makes_byteless made
+  any_made (of maker xs) is = ap (λ ys. built maker ys) (all_any xs is)
+  any_made (only x) is = ap (λ y. tree_in y) (any_given x is)
+  any_made (extending m) is = ap (λ t. extended around.prefix t) (any_made m is)
+  any_made (applying m k) is = ap (λ t. applied t (part vs k)) (any_made m is)
+  any_made _ is = refl
+
+  any_own : (o : Own) → own_byteless o ≡ true → own_meaning o b around vs ≡ own_meaning o c around vs
+  unfolding own_byteless own_meaning
+  any_own by_letters is = absurd (false≢true is)
+  any_own first_of_operator is = absurd (false≢true is)
+  any_own reference is = absurd (false≢true is)
+  any_own character is = absurd (false≢true is)
+  any_own suffix is = absurd (false≢true is)
+  any_own one_digit is = absurd (false≢true is)
+  any_own _ is = refl
+
+  any_meant : (form : Form) → means_byteless form ≡ true → meant form b around vs ≡ meant form c around vs
+  unfolding means_byteless meant
+  any_meant the_byte is = absurd (false≢true is)
+  any_meant (makes m listing) is = ap (λ t. tree t (is_listing vs listing)) (any_made m is)
+  any_meant (a_piece m) is = ap (λ t. piece t) (any_made m is)
+  any_meant (a_pair letter left right) is =
+      let one = and_parts (is_byteless letter) (makes_byteless left && makes_byteless right) is in
+      let two = and_parts (makes_byteless left) (makes_byteless right) one.1 in
+      rw (any_given letter one.0, any_made left two.0, any_made right two.1) refl
+  any_meant (own o most) is = any_own o is
+  any_meant _ is = refl
+
+-- the row of a rule that takes no byte doesn't speak of it
+chain_byteless : (p : Production) → not (is_chain p) || means_byteless (row_of p).form ≡ true
+unfolding is_chain row_of means_byteless own_byteless makes_byteless all_byteless is_byteless
+chain_byteless Production.Mark = refl
+chain_byteless _ = refl
+
+or_false : (a b : Bool) → a ≡ true → not a || b ≡ true → b ≡ true
+or_false true b is e = e
+or_false false b is e = absurd (false≢true is)
+
+-- so it means the same by any byte
+any_meaning : (p : Production) (b c : ℕ) (around : Around) (vs : List Value) → is_chain p ≡ true → meaning p b around vs ≡ meaning p c around vs
+unfolding meaning
+any_meaning p b c around vs chain = any_meant b c around vs (row_of p).form (or_false (is_chain p) (means_byteless (row_of p).form) chain (chain_byteless p))
+
+any_behind : (p : Production) (b c : ℕ) (around : Around) (began : State) (vs : List Value) (state : State) → is_chain p ≡ true → behind p b around began vs state ≡ behind p c around began vs state
+unfolding behind
+any_behind p b c around began vs state chain = ap (λ v. state_after (row_of p) around began v vs state) (any_meaning p b c around vs chain)
+
+same_found : (u v : Value) (x y : State) → u ≡ v → x ≡ y → ◌≡◌ {A = Result (Found Value State) Refusal} (Ok (found u x)) (Ok (found v y))
+same_found u v x y e f = rw (e, f) refl
+
 any_byte : (s : List ℕ) (p : Production) (b c : ℕ) (around : Around) (place : ℕ) (began : State) (vs : List Value) (state : State) → is_chain p ≡ true
     → link_close s p b around place began vs state ≡ link_close s p c around place began vs state
-unfolding is_chain link_close link_meaning close meaning behind
-any_byte s Production.SourceName b c around place began vs state chain = refl
-any_byte s Production.OperatorName b c around place began vs state chain = refl
-any_byte s Production.OtherOperatorName b c around place began vs state chain = refl
-any_byte s Production.OperatorNameWithC b c around place began vs state chain = refl
-any_byte s Production.SourcePiece b c around place began vs state chain = refl
-any_byte s Production.Encoding b c around place began vs state chain = refl
-any_byte s Production.Positive b c around place began vs state chain = refl
-any_byte s Production.AbbreviatedName b c around place began vs state chain = refl
-any_byte s Production.OperatorPiece b c around place began vs state chain = refl
-any_byte s Production.NestSource b c around place began vs state chain = refl
-any_byte s Production.NestTemplate b c around place began vs state chain = refl
-any_byte s Production.Holder b c around place began vs state chain = refl
-any_byte s Production.OtherSpecial b c around place began vs state chain = refl
-any_byte s Production.TypeInStd b c around place began vs state chain = refl
-any_byte s Production.NestNext b c around place began vs state chain = refl
+unfolding is_chain link_close link_meaning close
 any_byte s Production.Substitution b c around place began vs state chain = refl
-any_byte s Production.PlainType b c around place began vs state chain = refl
-any_byte s Production.QualifiedPlain b c around place began vs state chain = refl
-any_byte s Production.ItemIsType b c around place began vs state chain = refl
-any_byte s Production.AbbreviatedType b c around place began vs state chain = refl
-any_byte s Production.RestItem b c around place began vs state chain = refl
-any_byte s Production.LvalueItem b c around place began vs state chain = refl
-any_byte s Production.RvalueItem b c around place began vs state chain = refl
-any_byte s Production.Items b c around place began vs state chain = refl
-any_byte s Production.AnyArgument b c around place began vs state chain = refl
-any_byte s Production.AnyElement b c around place began vs state chain = refl
-any_byte s Production.PlainArgument b c around place began vs state chain = refl
-any_byte s Production.ParameterArgument b c around place began vs state chain = refl
-any_byte s Production.DeclaredArgument b c around place began vs state chain = refl
-any_byte s Production.ArrayType b c around place began vs state chain = refl
-any_byte s Production.LengthArray b c around place began vs state chain = refl
-any_byte s Production.IntegerLiteral b c around place began vs state chain = refl
-any_byte s _ b c around place began vs state chain = absurd (false≢true chain)
+any_byte s Production.Inheriting b c around place began vs state chain = refl
+any_byte s Production.Suffix b c around place began vs state chain = absurd (false≢true chain)
+any_byte s Production.SuffixByte b c around place began vs state chain = absurd (false≢true chain)
+any_byte s Production.Lambda b c around place began vs state chain = absurd (false≢true chain)
+any_byte s Production.Unnamed b c around place began vs state chain = absurd (false≢true chain)
+any_byte s p b c around place began vs state chain = same_found _ _ _ _ (any_meaning p b c around vs chain) (any_behind p b c around began vs state chain)
+
+-- ## The byte at a place
 
 byte_there : (s : List ℕ) (place b : ℕ) (more : List ℕ) → drop place s ≡ b ∷ more → slice_index s place ≡ b
 byte_there [] zero b more is = cc
@@ -59,24 +154,24 @@ byte_there [] (suc n) b more is = cc
 byte_there (c ∷ s) zero b more is = cc
 byte_there (c ∷ s) (suc n) b more is = byte_there s n b more is
 
-byte_is : (s : List ℕ) (place b : ℕ) (taken more : List ℕ) → taken ≡ b ∷ [] → drop place s ≡ taken ++ more → byte_of taken ≡ slice_index s place
+byte_is : (s : List ℕ) (place b : ℕ) (eaten more : List ℕ) → eaten ≡ b ∷ [] → drop place s ≡ eaten ++ more → byte_of eaten ≡ slice_index s place
 unfolding byte_of
-byte_is s place b taken more is at = ap byte_of is ∙ sym (byte_there s place b more (at ∙ ap (λ xs. xs ++ more) is))
+byte_is s place b eaten more is at = ap byte_of is ∙ sym (byte_there s place b more (at ∙ ap (λ xs. xs ++ more) is))
 
-by_eating : (s : List ℕ) (place b : ℕ) (taken more : List ℕ) (p : Production) (chain : Bool) (around : Around) (began : State) (vs : List Value) (state : State) → is_chain p ≡ chain
-    → taken ≡ (if not chain then b ∷ [] else []) → drop place s ≡ taken ++ more
-    → link_close s p (byte_of taken) around place began vs state ≡ link_close s p (slice_index s place) around place began vs state
-by_eating s place b taken more p true around began vs state chain is at = any_byte s p (byte_of taken) (slice_index s place) around place began vs state chain
-by_eating s place b taken more p false around began vs state chain is at = ap (λ c. link_close s p c around place began vs state) (byte_is s place b taken more is at)
+by_eating : (s : List ℕ) (place b : ℕ) (eaten more : List ℕ) (p : Production) (chain : Bool) (around : Around) (began : State) (vs : List Value) (state : State) → is_chain p ≡ chain
+    → eaten ≡ (if not chain then b ∷ [] else []) → drop place s ≡ eaten ++ more
+    → link_close s p (byte_of eaten) around place began vs state ≡ link_close s p (slice_index s place) around place began vs state
+by_eating s place b eaten more p true around began vs state chain is at = any_byte s p (byte_of eaten) (slice_index s place) around place began vs state chain
+by_eating s place b eaten more p false around began vs state chain is at = ap (λ c. link_close s p c around place began vs state) (byte_is s place b eaten more is at)
 
 pub byte_serves : (s : List ℕ) (rule : Open State Around) (known : List Value) (state : State) → IsThere wide s rule
     → link_close s (production_at rule.rule.number) (byte_of rule.taken) rule.context rule.place rule.before known state
     ≡ link_close s (production_at rule.rule.number) (slice_index s rule.place) rule.context rule.place rule.before known state
 unfolding rule_of
 byte_serves s rule known state there =
-    let taken : Taken there.kind rule.rule = taken_rule there.kind rule.rule rule.taken there.is_kind there.takes in
-    let p : Production = taken.production in
-    let number : production_at rule.rule.number ≡ p = ap (λ (r : Rule). production_at r.number) taken.is ∙ at_number p in
-    let takes : rule.taken ≡ (if not (is_chain p) then there.takes.byte ∷ [] else []) = there.takes.takes ∙ ap (λ (r : Rule). if r.eats then there.takes.byte ∷ [] else []) taken.is in
+    let t : Taken there.kind rule.rule = taken_rule there.kind rule.rule rule.taken there.is_kind there.takes in
+    let p : Production = t.production in
+    let number : production_at rule.rule.number ≡ p = ap (λ (r : Rule). production_at r.number) t.is ∙ at_number p in
+    let takes : rule.taken ≡ (if not (is_chain p) then there.takes.byte ∷ [] else []) = there.takes.takes ∙ ap (λ (r : Rule). if r.eats then there.takes.byte ∷ [] else []) t.is in
     subst (λ q. link_close s q (byte_of rule.taken) rule.context rule.place rule.before known state ≡ link_close s q (slice_index s rule.place) rule.context rule.place rule.before known state) (sym number)
     (by_eating s rule.place there.takes.byte rule.taken there.behind p (is_chain p) rule.context rule.before known state refl takes there.spelled)

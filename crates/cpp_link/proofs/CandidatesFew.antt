@@ -1,7 +1,7 @@
 -- What a production appends to the candidates, it has made as nodes: a name or a type that is made is appended at most once, then or
 -- later. What is made and not appended yet is pending.
-use Rattle.std.proofs.Common.{◌≡◌, refl, ap, sym, ◌∙◌, subst, arith, ℕ, ◌+◌, ◌≤◌, List, [], ◌∷◌, ◌++◌, length, length-append, Bool, true, false, not, ◌&&◌, ◌||◌, nat_eq, nat_lt, cond, Option, Some, None, Result, Ok, Err}
-use Rattle.std.proofs.lemmas.Bool.{false≢true}
+use Rattle.std.proofs.Common.{◌≡◌, refl, ap, sym, ◌∙◌, subst, arith, ℕ, zero, suc, ◌+◌, ◌-◌, ◌≤◌, List, [], ◌∷◌, ◌++◌, length, length-append, get_or, Bool, true, false, not, ◌&&◌, ◌||◌, nat_eq, nat_lt, cond, Option, Some, None, Result, Ok, Err}
+use Rattle.std.proofs.lemmas.Bool.{false≢true, and_parts}
 use Rattle.sym_core.specs.declared.refusal.Refusal.{Refusal}
 use Rattle.sym_core.specs.declared.refusal.Refusal.TheVariants.{BadReference}
 use Rattle.sym_shape.specs.declared.rule.Sym.{Sym}
@@ -9,15 +9,21 @@ use Rattle.sym_shape.specs.declared.rule.Sym.TheVariants.{Kind as OfKind}
 use Rattle.sym_link.specs.Reading.{Found, Next, ◌>>=◌}
 use Rattle.sym_link.specs.Unfold.{found}
 use Rattle.cpp_grammar.specs.declared.production.Production.{Production}
-use Rattle.cpp_grammar.specs.KindNumbers.{NEST_REST, MAYBE_ARGUMENTS}
+use Rattle.cpp_grammar.specs.KindNumbers.{NEST, NEST_AFTER_S, NEST_REST, NEST_TAIL, NEST_REST_OR_END, NEST_REST_ALONE, NEST_MORE_OR_END, COMPONENT, CONSTRUCTOR_AFTER_C, HELD_COMPONENT, COMPONENT_AFTER_C, ABBREVIATION, ITEM_AFTER_D, AFTER_D, SOLID, SOLID_BUT_T, TYPE_AFTER_S, TYPE_IN_STD, TAGGED_SOURCE, LITERAL_TYPE, MAYBE_ARGUMENTS, ARGUMENTS, ARGUMENTS_ALONE, MAYBE_TAGS, ARGUMENT_AFTER_T, CONCEPT, ANY_ARRAY, ARRAY_REST, BASE_ARGUMENTS, CONVERTED_SOLID, DECLTYPE_AFTER_D, UNRESOLVED_TYPE}
+use Rattle.cpp_grammar.specs.Row.{of, only, extending, tagging, applying, packing, Where, under_it, nothing, the_prefix, type_of, unqualified_of, itself, Before, quiet, goes, becomes, tests, holds, unread, Row, before_part}
+use Rattle.cpp_grammar.specs.Rows.{row_of}
 use Rattle.cpp_grammar.proofs.ClosedStates.{ok_same, behind_bind}
 use Rattle.cpp_term.specs.Term.{Term, parameter}
 use Rattle.cpp_term.specs.Scope.{count, element, is_open, length_if_pack, pack_length}
-use Rattle.cpp_term.specs.Values.{State, Around, Candidate, prefix_tree, prefix_listed, Value, nothing_there, tree, named, tree_of, is_listed, is_there}
+use Rattle.cpp_term.specs.Values.{State, Around, Candidate, prefix_tree, prefix_listed, Value, nothing_there, tree, named, tree_of, is_listed, is_there, part}
 use Rattle.cpp_term.specs.References.{appended, is_function_type, with_type, with_unqualified, with_prefix, with_packs, substituted, parameter_named}
-use Rattle.cpp_term.specs.Between.{Going, after, listed_so_far, parameter_so_far, argument_so_far, argument_at, between}
-use Rattle.cpp_term.specs.Unfolding.{close}
+use Rattle.cpp_term.specs.Between.{Going, after, argument_at, index_of, between}
+use Rattle.cpp_term.specs.Meant.{made, meant, around_part, packs_within, gained, replaced, tested, done, state_after}
+use Rattle.cpp_term.specs.Meaning.{meaning}
+use Rattle.cpp_term.specs.Unfolding.{behind, close}
 use Rattle.cpp_link.specs.NodeCount.{makes_before, makes_at_end, one_if_there, one_if_arguments}
+use Rattle.cpp_link.specs.RowNodes.{nodes_made, nodes_before, nodes_at_end}
+use Rattle.cpp_link.proofs.RowNodes.{same_before_nodes, same_end_nodes}
 
 -- ## What is pending
 
@@ -31,20 +37,21 @@ unlisted_around around = cond (prefix_listed around.prefix) 0 1
 
 -- components of nested names, and other kinds whose trees become candidates later, if they do
 unfoldable pub is_component : ℕ → Bool
-is_component k = nat_eq k 19 || nat_eq k 70 || nat_eq k 72
+is_component k = nat_eq k COMPONENT || nat_eq k CONSTRUCTOR_AFTER_C || nat_eq k HELD_COMPONENT || nat_eq k COMPONENT_AFTER_C || nat_eq k TYPE_IN_STD || nat_eq k TAGGED_SOURCE
 
 unfoldable pub becomes_candidate : ℕ → Bool
 becomes_candidate k =
-    nat_eq k 15 || nat_eq k 16 || nat_eq k 17 || nat_eq k 18 || nat_eq k 22
-    || nat_eq k 32 || nat_eq k 33 || nat_eq k 34 || nat_eq k 36 || nat_eq k 51 || nat_eq k 66 || nat_eq k 68 || nat_eq k 80
-    || nat_eq k 83 || nat_eq k 87 || nat_eq k 88 || nat_eq k 90 || nat_eq k 91 || nat_eq k 92
+    nat_eq k NEST || nat_eq k NEST_AFTER_S || nat_eq k NEST_REST || nat_eq k NEST_TAIL || nat_eq k NEST_REST_OR_END || nat_eq k NEST_REST_ALONE || nat_eq k NEST_MORE_OR_END
+    || nat_eq k ABBREVIATION || nat_eq k ITEM_AFTER_D || nat_eq k AFTER_D || nat_eq k SOLID || nat_eq k SOLID_BUT_T || nat_eq k TYPE_AFTER_S || nat_eq k LITERAL_TYPE
+    || nat_eq k ARGUMENT_AFTER_T || nat_eq k CONCEPT || nat_eq k ANY_ARRAY || nat_eq k ARRAY_REST
+    || nat_eq k CONVERTED_SOLID || nat_eq k DECLTYPE_AFTER_D || nat_eq k UNRESOLVED_TYPE
 
 -- what goes on with the name so far, and arguments after it
 unfoldable pub goes_on : ℕ → Bool
-goes_on k = nat_eq k 17 || nat_eq k 18 || nat_eq k 66 || nat_eq k 68 || nat_eq k 92
+goes_on k = nat_eq k NEST_REST || nat_eq k NEST_TAIL || nat_eq k NEST_REST_OR_END || nat_eq k NEST_REST_ALONE || nat_eq k NEST_MORE_OR_END || nat_eq k BASE_ARGUMENTS
 
 unfoldable pub is_arguments : ℕ → Bool
-is_arguments k = nat_eq k 42 || nat_eq k 43 || nat_eq k 67 || nat_eq k 81
+is_arguments k = nat_eq k MAYBE_ARGUMENTS || nat_eq k ARGUMENTS || nat_eq k ARGUMENTS_ALONE || nat_eq k MAYBE_TAGS
 
 -- a name with tags in the place of the arguments after it, which isn't a candidate yet
 unfoldable pub in_place : Value → ℕ
@@ -68,11 +75,15 @@ makes_name Production.InternalName = true
 makes_name Production.LocalTypeName = true
 makes_name Production.SourceName = true
 makes_name Production.OperatorName = true
+makes_name Production.AnyConstructor = true
+makes_name Production.Inheriting = true
 makes_name Production.Constructor = true
 makes_name Production.Destructor = true
 makes_name Production.Holder = true
 makes_name Production.Tag = true
 makes_name Production.TypeTag = true
+makes_name Production.TaggedStdType = true
+makes_name Production.TaggedSource = true
 makes_name Production.OtherOperatorName = true
 makes_name Production.OperatorNameWithC = true
 makes_name Production.ComponentWithC = true
@@ -101,6 +112,7 @@ may_leave Production.ItemIsType = true
 may_leave Production.BuiltinWithD = true
 may_leave Production.Vector = true
 may_leave Production.NoexceptFunction = true
+may_leave Production.Decltype = true
 may_leave Production.Pointer = true
 may_leave Production.MemberPointer = true
 may_leave Production.Parameter = true
@@ -112,7 +124,6 @@ may_leave Production.Function = true
 may_leave Production.Complex = true
 may_leave Production.AbbreviatedType = true
 may_leave Production.SizedFloat = true
-may_leave Production.TaggedStdType = true
 may_leave Production.TypeInStd = true
 may_leave Production.ArrayType = true
 may_leave Production.AnyArray = true
@@ -121,6 +132,7 @@ may_leave Production.BoundedArray = true
 may_leave Production.ParameterArgument = true
 may_leave Production.DeclaredArgument = true
 may_leave Production.ConstrainedAuto = true
+may_leave Production.ConvertedDecltype = true
 may_leave _ = false
 
 -- what goes on with the name so far
@@ -129,6 +141,7 @@ takes_name Production.NestArguments = true
 takes_name Production.NestInstance = true
 takes_name Production.NestNext = true
 takes_name Production.NestEnd = true
+takes_name Production.BaseArguments = true
 takes_name _ = false
 
 -- arguments after it
@@ -251,66 +264,37 @@ substituted-none around place (Some c) state one e = go (is_open c.tree && (arou
         subst (λ y. length y.state.candidates + cond (is_listed y.value) 0 1 ≤ length state.candidates) same
         (omega (arith, ap length (packs-keep place around.in_expansion (pack_length c.tree) state b.value b.is)))
 
--- a parameter becomes a candidate, and is none that is pending
-pub record NamedParameter (around : Around) (vs : List Value) (state : State) (next : Next Value State Around) : Type 0 where
-  pub own : Term
-  pub mid : State
-  pub is : next ≡ going (tree own true ∷ vs) (after own true around) mid
-  pub one : length mid.candidates ≡ length state.candidates + 1
-
-pub parameter-one : (around : Around) (place k : ℕ) (vs : List Value) (state : State) (next : Next Value State Around)
-    → parameter_so_far around place k vs state ≡ Ok next → NamedParameter around vs state next
-unfolding parameter_so_far parameter_named listed_so_far
-parameter-one around place k vs state next e = go around.scope e
+-- a parameter becomes a candidate
+pub parameter-one : (around : Around) (place k : ℕ) (state new : State) → parameter_named around place k state ≡ Ok new → length new.candidates ≡ length state.candidates + 1
+unfolding parameter_named
+parameter-one around place k state new e = go around.scope e
   where
-    own : Term
-    own = parameter k (argument_at around k)
-
-    go : (o : Option Term) → ◌≡◌ {A = Going} ((elim o as (λ _. Result State Refusal) [
+    go : (o : Option Term) → ◌≡◌ {A = Result State Refusal} (elim o [
       | None ↦ Err (BadReference place)
       | Some arguments ↦ elim (nat_lt k (count arguments)) [
         | false ↦ Err (BadReference place)
         | true ↦ with_packs place around.in_expansion (length_if_pack (element arguments k)) state >>= λ s. Ok
             (appended around (parameter k (element arguments k)) s)
       ]
-    ]) >>= λ s. Ok (going (tree own true ∷ vs) (after own true around) s)) (Ok next) → NamedParameter around vs state next
+    ]) (Ok new) → length new.candidates ≡ length state.candidates + 1
     go None h = absurd cc
     go (Some arguments) h = tested (nat_lt k (count arguments)) h
       where
-        tested : (b : Bool) → ◌≡◌ {A = Going} ((elim b as (λ _. Result State Refusal) [
+        tested : (b : Bool) → ◌≡◌ {A = Result State Refusal} (elim b [
           | false ↦ Err (BadReference place)
           | true ↦ with_packs place around.in_expansion (length_if_pack (element arguments k)) state >>= λ s. Ok
               (appended around (parameter k (element arguments k)) s)
-        ]) >>= λ s. Ok (going (tree own true ∷ vs) (after own true around) s)) (Ok next) → NamedParameter around vs state next
+        ]) (Ok new) → length new.candidates ≡ length state.candidates + 1
         tested false g = absurd cc
         tested true g =
-            let packs = with_packs place around.in_expansion (length_if_pack (element arguments k)) state in
-            let a = behind_bind (packs >>= λ s. Ok (appended around (parameter k (element arguments k)) s))
-            (λ s. Ok (going (tree own true ∷ vs) (after own true around) s)) next g in
-            let b = behind_bind packs (λ s. Ok (appended around (parameter k (element arguments k)) s)) a.value a.is in
-            let last : appended around (parameter k (element arguments k)) b.value ≡ a.value = ok_same
-            (appended around (parameter k (element arguments k)) b.value) a.value b.next in
-            record {
-              own = own;
-              mid = a.value;
-              is = sym (ok_same (going (tree own true ∷ vs) (after own true around) a.value) next a.next);
-              one = omega (
-                arith,
-                ap (λ s. length s.candidates) last,
-                appended-one around (parameter k (element arguments k)) b.value,
-                ap length (packs-keep place around.in_expansion (length_if_pack (element arguments k)) state b.value b.is),
-              );
-            }
-
--- a parameter that is an argument itself is none
-pub argument-none : (around : Around) (place k : ℕ) (state : State) (next : Next Value State Around) → argument_so_far around place k state ≡ Ok next
-    → length next.state.candidates ≡ length state.candidates
-unfolding argument_so_far
-argument-none around place k state next e =
-    let b = behind_bind (parameter_named around place k state)
-    (λ s. Ok (going (tree (parameter k (argument_at around k)) true ∷ []) around (record s { candidates = state.candidates }))) next e in
-    ap (λ n. length n.state.candidates)
-    (sym (ok_same (going (tree (parameter k (argument_at around k)) true ∷ []) around (record b.value { candidates = state.candidates })) next b.next))
+            let b = behind_bind (with_packs place around.in_expansion (length_if_pack (element arguments k)) state)
+            (λ s. Ok (appended around (parameter k (element arguments k)) s)) new g in
+            omega (
+              arith,
+              ap (λ s. length s.candidates) (ok_same (appended around (parameter k (element arguments k)) b.value) new b.next),
+              appended-one around (parameter k (element arguments k)) b.value,
+              ap length (packs-keep place around.in_expansion (length_if_pack (element arguments k)) state b.value b.is),
+            )
 
 -- ## Steps
 
@@ -319,24 +303,61 @@ pub came : {x : Sym} {made now : ℕ} {state : State} {rest : List Value → ℕ
     → Onward x made now state rest n → Onward x made now state rest next
 came {x} {made} {now} {state} {rest} n next e on = subst (λ m. Onward x made now state rest m) (ok_same n next e) on
 
-pub ended : (p : Production) (made now : ℕ) (state : State) (f one : Found Value State) → ◌≡◌ {A = Result (Found Value State) Refusal}
-    (Ok f) (Ok one)
-    → length f.state.candidates + leaves p f.value ≤ length state.candidates + made + now
-    → length one.state.candidates + leaves p one.value ≤ length state.candidates + made + now
-ended p made now state f one e few =
-    subst (λ o. length o.state.candidates + leaves p o.value ≤ length state.candidates + made + now) (ok_same f one e) few
-
 -- a part before which nothing is appended, and before which nothing is pending
-pub quiet : {x : Sym} {made : ℕ} {state : State} {rest : List Value → ℕ → Type 0} (next : Next Value State Around)
+pub none-appended : {x : Sym} {made : ℕ} {state : State} {rest : List Value → ℕ → Type 0} (next : Next Value State Around)
     → length next.state.candidates ≤ length state.candidates + made → ((v : Value) → pending_around x next.context v ≡ 0)
     → ((v : Value) → rest (next.values ++ v ∷ []) 0) → Onward x made 0 state rest next
-quiet {x} {made} {state} {rest} next few none goes = record {
+none-appended {x} {made} {state} {rest} next few none later_ = record {
   over = 0;
   few = omega (arith, few);
-  later = λ v. record { now = 0; few = omega (arith, none v); goes = goes v };
+  later = λ v. record { now = 0; few = omega (arith, none v); goes = later_ v };
 }
 
--- ## Productions that leave nothing pending from part to part
+-- ## By rows
+
+-- the same of a row, whose value leaves so much
+abbrev pub RowFlow : Row → (Value → ℕ) → Around → (place : ℕ) → List Sym → List Value → (now : ℕ) → Type 0
+RowFlow row leave around place [] vs now =
+    (byte : ℕ) (began state : State)
+    → length (state_after row around began (meant row.form byte around vs) vs state).candidates + leave (meant row.form byte around vs)
+    ≤ length state.candidates + nodes_at_end row.form vs + now
+RowFlow row leave around place (x ∷ xs) vs now =
+    (state : State) (next : Next Value State Around) → done (before_part row (length vs)) around place vs state ≡ Ok next
+    → Onward x (nodes_before (before_part row (length vs)) vs) now state (RowFlow row leave around place xs) next
+
+-- what a production leaves by its row
+abbrev pub By : Production → Around → (place : ℕ) → List Sym → List Value → (now : ℕ) → Type 0
+By p = RowFlow (row_of p) (leaves p)
+
+-- the productions that close as their rows say
+unfoldable pub closes_by_row : Production → Bool
+closes_by_row Production.Substitution = false
+closes_by_row Production.Inheriting = false
+closes_by_row _ = true
+
+closed-by : (p : Production) → closes_by_row p ≡ true → (byte : ℕ) (around : Around) (place : ℕ) (began : State) (vs : List Value) (state : State)
+    → close p byte around place began vs state ≡ Ok (found (meant (row_of p).form byte around vs) (state_after (row_of p) around began (meant (row_of p).form byte around vs) vs state))
+unfolding closes_by_row close behind meaning
+closed-by Production.Substitution is byte around place began vs state = absurd (false≢true is)
+closed-by Production.Inheriting is byte around place began vs state = absurd (false≢true is)
+closed-by _ is byte around place began vs state = refl
+
+pub of-row : (p : Production) → closes_by_row p ≡ true → (around : Around) (place : ℕ) (xs : List Sym) (vs : List Value) (now : ℕ) → By p around place xs vs now → Flow p around place xs vs now
+unfolding between
+of-row p is around place [] vs now flow = λ byte began state one e. (
+    let v : Value = meant (row_of p).form byte around vs in
+    let f : Found Value State = found v (state_after (row_of p) around began v vs state) in
+    let same : f ≡ one = ok_same f one (sym (closed-by p is byte around place began vs state) ∙ e) in
+    omega (arith, ap (λ o. length o.state.candidates) same, ap (λ o. leaves p o.value) same, flow byte began state, same_end_nodes p vs))
+of-row p is around place (x ∷ xs) vs now flow = λ state next e. (
+    let on = flow state next e in
+    record {
+      over = on.over;
+      few = omega (arith, on.few, same_before_nodes p vs);
+      later = λ v. record { now = (on.later v).now; few = (on.later v).few; goes = of-row p is around place xs (next.values ++ v ∷ []) (on.later v).now (on.later v).goes };
+    })
+
+-- ## Rows that leave nothing pending from part to part
 
 unfoldable pub takes_pending : Sym → Bool
 takes_pending (OfKind k) = goes_on k || is_arguments k
@@ -360,28 +381,81 @@ both-of : (a b : Bool) → not a && b ≡ true → (a ≡ false) × (b ≡ true)
 both-of false b h = (refl, h)
 both-of true b h = absurd (false≢true h)
 
-pub plain-flow : (p : Production) (around : Around) (place : ℕ)
-    → ((vs : List Value) (state : State) (next : Next Value State Around) → between p around place vs state ≡ Ok next
-    → length next.state.candidates ≤ length state.candidates + makes_before p vs)
-    → ((vs : List Value) → Flow p around place [] vs 0) → (xs : List Sym) → take_nothing xs ≡ true → (vs : List Value)
-    → Flow p around place xs vs 0
-unfolding take_nothing
-plain-flow p around place keeps closes [] h vs = closes vs
-plain-flow p around place keeps closes (x ∷ xs) h vs = λ state next e. (
-    let both = both-of (takes_pending x) (take_nothing xs) h in
-    quiet next (keeps vs state next e) (λ v. none-taken x both.0 next.context v)
-    (λ v. plain-flow p around place keeps closes xs both.1 (next.values ++ v ∷ [])))
+-- what is appended before a part is made there
+unfoldable pub keeps : Before → Bool
+keeps (goes nothing w) = true
+keeps (goes gain w) = false
+keeps (becomes (of maker sources) is_in is_name is_candidate) = true
+keeps (becomes m is_in is_name is_candidate) = not is_candidate
+keeps _ = true
 
-pub kept : (vs : List Value) (around : Around) (state : State) (next : Next Value State Around) (made : ℕ) → ◌≡◌ {A = Going}
-    (Ok (going vs around state)) (Ok next)
+unfoldable pub all_keep : List Before → Bool
+all_keep [] = true
+all_keep (b ∷ bs) = keeps b && all_keep bs
+
+packs-same : (w : Where) (state : State) → (packs_within w state).candidates ≡ state.candidates
+unfolding packs_within
+packs-same under_it state = refl
+packs-same _ state = refl
+
+stays : (vs : List Value) (around : Around) (state : State) (next : Next Value State Around) (made : ℕ) → ◌≡◌ {A = Going} (Ok (going vs around state)) (Ok next)
     → length next.state.candidates ≤ length state.candidates + made
-kept vs around state next made e = omega (arith, ap (λ n. length n.state.candidates) (ok_same (going vs around state) next e))
+stays vs around state next made e = omega (arith, ap (λ n. length n.state.candidates) (ok_same (going vs around state) next e))
+
+keeps-few : (b : Before) → keeps b ≡ true → (around : Around) (place : ℕ) (vs : List Value) (state : State) (next : Next Value State Around) → done b around place vs state ≡ Ok next
+    → length next.state.candidates ≤ length state.candidates + nodes_before b vs
+unfolding keeps done gained tested nodes_before nodes_made
+keeps-few quiet is around place vs state next e = stays vs around state next 0 e
+keeps-few (goes nothing w) is around place vs state next e =
+    omega (arith, ap (λ n. length n.state.candidates) (ok_same (going vs (around_part around place vs w) (packs_within w state)) next e), ap length (packs-same w state))
+keeps-few (goes the_prefix w) is around place vs state next e = absurd (false≢true is)
+keeps-few (goes (type_of k) w) is around place vs state next e = absurd (false≢true is)
+keeps-few (goes (unqualified_of k) w) is around place vs state next e = absurd (false≢true is)
+keeps-few (goes itself w) is around place vs state next e = absurd (false≢true is)
+keeps-few (becomes (of maker sources) is_in is_name true) is around place vs state next e =
+    let t : Term = made 0 around vs (of maker sources) in
+    omega (arith, ap (λ n. length n.state.candidates) (ok_same (going (replaced (tree t is_in) vs) (cond is_name (after t is_in around) around) (appended around t state)) next e), appended-one around t state)
+keeps-few (becomes (only source) is_in is_name true) is around place vs state next e = absurd (false≢true is)
+keeps-few (becomes (extending m) is_in is_name true) is around place vs state next e = absurd (false≢true is)
+keeps-few (becomes (tagging k) is_in is_name true) is around place vs state next e = absurd (false≢true is)
+keeps-few (becomes (applying m k) is_in is_name true) is around place vs state next e = absurd (false≢true is)
+keeps-few (becomes (packing k) is_in is_name true) is around place vs state next e = absurd (false≢true is)
+keeps-few (becomes m is_in is_name false) is around place vs state next e =
+    let t : Term = made 0 around vs m in
+    stays (replaced (tree t is_in) vs) (cond is_name (after t is_in around) around) state next (nodes_before (becomes m is_in is_name false) vs) e
+keeps-few (tests after_t is_name) is around place vs state next e =
+    let k : ℕ = index_of (part vs 0) in
+    let t : Term = parameter k (argument_at around k) in
+    let named = parameter_named around (cond after_t (place - 1) place) k state in
+    let b = behind_bind named (λ s. tested is_name around t vs s state) next e in
+    by is_name (replaced (tree t true) vs) (cond is_name (after t true around) around) b.value (parameter-one around (cond after_t (place - 1) place) k state b.value b.is) b.next
+  where
+    by : (is_name : Bool) (us : List Value) (a : Around) (s : State) → length s.candidates ≡ length state.candidates + 1
+        → ◌≡◌ {A = Going} (Ok (going us a (cond is_name s (record s { candidates = state.candidates })))) (Ok next) → length next.state.candidates ≤ length state.candidates + 1
+    by true us a s one h = omega (arith, one, ap (λ n. length n.state.candidates) (ok_same (going us a s) next h))
+    by false us a s one h = omega (arith, ap (λ n. length n.state.candidates) (ok_same (going us a (record s { candidates = state.candidates })) next h))
+keeps-few holds is around place vs state next e = absurd (let clash : ◌≡◌ {A = Going} (Err (BadReference place)) (Ok next) = e in cc)
+keeps-few unread is around place vs state next e = absurd (let clash : ◌≡◌ {A = Going} (Err (BadReference place)) (Ok next) = e in cc)
+
+kept-part : (bs : List Before) (onward : Before) (k : ℕ) → all_keep bs ≡ true → keeps onward ≡ true → keeps (get_or bs k onward) ≡ true
+unfolding all_keep
+kept-part [] onward k all is = is
+kept-part (b ∷ bs) onward zero all is = (and_parts (keeps b) (all_keep bs) all).0
+kept-part (b ∷ bs) onward (suc k) all is = kept-part bs onward k (and_parts (keeps b) (all_keep bs) all).1 is
+
+pub plain-flow : (p : Production) (around : Around) (place : ℕ) → all_keep ((row_of p).onward ∷ (row_of p).before) ≡ true → ((vs : List Value) → Flow p around place [] vs 0)
+    → (xs : List Sym) → take_nothing xs ≡ true → (vs : List Value) → Flow p around place xs vs 0
+unfolding all_keep take_nothing between before_part
+plain-flow p around place keep closes [] none vs = closes vs
+plain-flow p around place keep closes (x ∷ xs) none vs = λ state next e. (
+    let kept = and_parts (keeps (row_of p).onward) (all_keep (row_of p).before) keep in
+    let both = both-of (takes_pending x) (take_nothing xs) none in
+    none-appended next
+    (omega (arith, keeps-few (before_part (row_of p) (length vs)) (kept-part (row_of p).before (row_of p).onward (length vs) kept.1 kept.0) around place vs state next e, same_before_nodes p vs))
+    (λ v. none-taken x both.0 next.context v)
+    (λ v. plain-flow p around place keep closes xs both.1 (next.values ++ v ∷ [])))
 
 -- ## Names before arguments
-
-pub still : (m : Value) (state : State) (one : Found Value State) → ◌≡◌ {A = Result (Found Value State) Refusal} (Ok (found m state))
-    (Ok one) → one.state ≡ state
-still m state one e = ap (λ o. o.state) (sym (ok_same (found m state) one e))
 
 -- what is pending of it after what may be arguments
 unfoldable pub behind_name : ℕ → Value → ℕ
@@ -399,117 +473,16 @@ spent-or-not n nothing_there = omega arith
 spent-or-not n (named t qualifiers ref) = omega arith
 spent-or-not n _ = omega arith
 
--- a name is made, and is pending where nothing follows
-pub made-flow : (p : Production) (around : Around) (place : ℕ) (x y : Sym) (t : Value → Term) →
-    ((a : Around) (v : Value) → pending_around x a v ≡ 0)
-    → ((v : Value) → pending y v ≡ in_place v)
-    → ((a : Around) (v : Value) → pending_around y a v ≡ cond (is_there v) (unlisted_around a) 0)
-    → ((state : State) → between p around place [] state ≡ Ok (going [] around state))
-    → ((v : Value) (state : State) → between p around place (v ∷ []) state ≡ Ok
-    (going (tree (t v) false ∷ []) (after (t v) false around) state))
-    → ((v : Value) → makes_before p (v ∷ []) ≡ 1) → ((u w : Value) → makes_at_end p (u ∷ w ∷ []) ≡ one_if_arguments w) →
-    ((v : Value) → leaves p v ≤ 1)
-    → ((byte : ℕ) (began : State) (vs : List Value) (state : State) (one : Found Value State)
-    → close p byte around place began vs state ≡ Ok one → one.state ≡ state)
-    → Flow p around place (x ∷ y ∷ []) [] 0
-unfolding unlisted_around after prefix_listed
-made-flow p around place x y t none behind_y front_y first second made end few same = λ state next e.
-    subst (Onward x (makes_before p []) 0 state (Flow p around place (y ∷ [])))
-    (ok_same (going [] around state) next (sym (first state) ∙ e))
-    (quiet (going [] around state) (omega arith) (λ v. none around v) begun)
-  where
-    closes : (u w : Value) → Flow p around place [] (u ∷ w ∷ []) (behind_name 1 w)
-    closes u w = λ byte began state one e. omega
-        (arith, few one.value, end u w, ap (λ s. length s.candidates) (same byte began (u ∷ w ∷ []) state one e), there-or-not w)
-
-    begun : (v : Value) → Flow p around place (y ∷ []) (v ∷ []) 0
-    begun v = λ state next e.
-        subst (Onward y (makes_before p (v ∷ [])) 0 state (Flow p around place []))
-        (ok_same (going (tree (t v) false ∷ []) (after (t v) false around) state) next (sym (second v state) ∙ e))
-        (record {
-          over = 1;
-          few = omega (arith, made v);
-          later = λ w. record {
-            now = behind_name 1 w;
-            few = omega (arith, spent-or-not 1 w, behind_y w, front_y (after (t v) false around) w);
-            goes = closes (tree (t v) false) w;
-          };
-        })
-
--- where arguments may follow
-pub name-flow : (p : Production) (around : Around) (place : ℕ) (x : Sym) (t : Value → Term) →
-    ((a : Around) (v : Value) → pending_around x a v ≡ 0)
-    → ((state : State) → between p around place [] state ≡ Ok (going [] around state))
-    → ((v : Value) (state : State) → between p around place (v ∷ []) state ≡ Ok
-    (going (tree (t v) false ∷ []) (after (t v) false around) state))
-    → ((v : Value) → makes_before p (v ∷ []) ≡ 1) → ((u w : Value) → makes_at_end p (u ∷ w ∷ []) ≡ one_if_arguments w) →
-    ((v : Value) → leaves p v ≤ 1)
-    → ((byte : ℕ) (began : State) (vs : List Value) (state : State) (one : Found Value State)
-    → close p byte around place began vs state ≡ Ok one → one.state ≡ state)
-    → Flow p around place (x ∷ OfKind MAYBE_ARGUMENTS ∷ []) [] 0
-unfolding pending pending_around goes_on is_arguments is_component becomes_candidate
-name-flow p around place x t none = made-flow p around place x (OfKind MAYBE_ARGUMENTS) t none (λ v. refl) (λ a v. refl)
-
--- ## What passes its part on
-
-pub value-flow : (p : Production) (around : Around) (place : ℕ) (x : Sym) → ((a : Around) (v : Value) → pending_around x a v ≡ 0) →
-    ((v : Value) → pending x v ≡ unlisted v)
-    → ((state : State) → between p around place [] state ≡ Ok (going [] around state))
-    → ((v : Value) → Flow p around place [] (v ∷ []) (unlisted v)) → Flow p around place (x ∷ []) [] 0
-value-flow p around place x none is first closes = λ state next e.
-    subst (Onward x (makes_before p []) 0 state (Flow p around place [])) (ok_same (going [] around state) next (sym (first state) ∙ e))
-    (record {
-      over = 0;
-      few = omega arith;
-      later = λ v. record {
-        now = unlisted v;
-        few = omega (arith, none around v, is v);
-        goes = closes v;
-      };
-    })
-
--- where the value of the last part is the whole's
-pub same-closes : (p : Production) (around : Around) (place : ℕ) (vs : List Value) (w : Value) → ((v : Value) → leaves p v ≡ unlisted v)
-    → ((byte : ℕ) (began state : State) → close p byte around place began vs state ≡ Ok (found w state)) → Flow p around place [] vs
-    (unlisted w)
-same-closes p around place vs w is means = λ byte began state one e. (
-    let same : found w state ≡ one = ok_same (found w state) one (sym (means byte began state) ∙ e) in
-    omega (arith, ap (λ o. length o.state.candidates) same, ap (λ o. unlisted o.value) same, is one.value))
-
 -- after a name that was made, or one that is a candidate already, what follows goes on with it
-pub rest-step : (p : Production) (around : Around) (place k made now : ℕ) (state : State) (vs : List Value) (t : Term) (listed : Bool)
+pub rest-step : (row : Row) (leave : Value → ℕ) (around : Around) (place k made now : ℕ) (state : State) (vs : List Value) (t : Term) (listed : Bool)
     (new : State)
     → ((a : Around) (v : Value) → pending_around (OfKind k) a v ≡ unlisted_around a) → ((v : Value) → pending (OfKind k) v ≡ unlisted v)
     → length new.candidates + cond listed 0 1 ≤ length state.candidates + made + now
-    → ((w : Value) → Flow p around place [] (vs ++ w ∷ []) (unlisted w))
-    → Onward (OfKind k) made now state (Flow p around place []) (going vs (after t listed around) new)
+    → ((w : Value) → RowFlow row leave around place [] (vs ++ w ∷ []) (unlisted w))
+    → Onward (OfKind k) made now state (RowFlow row leave around place []) (going vs (after t listed around) new)
 unfolding unlisted_around after prefix_listed
-rest-step p around place k made now state vs t listed new taken is few closes = record {
+rest-step row leave around place k made now state vs t listed new taken is few closes = record {
   over = cond listed 0 1;
   few = few;
   later = λ w. record { now = unlisted w; few = omega (arith, taken (after t listed around) w, is w); goes = closes w };
 }
-
--- a piece is added to the name so far, and what follows goes on with it
-pub nest-flow : (p : Production) (around : Around) (place : ℕ) (x : Sym) (t : Value → Term) →
-    ((a : Around) (v : Value) → pending_around x a v ≡ 0)
-    → ((state : State) → between p around place [] state ≡ Ok (going [] around state))
-    → ((v : Value) (state : State) → between p around place (v ∷ []) state ≡ Ok
-    (going (tree (t v) false ∷ []) (after (t v) false around) state))
-    → ((v : Value) → makes_before p (v ∷ []) ≡ 1) → ((v : Value) → leaves p v ≡ unlisted v)
-    → ((byte : ℕ) (began state : State) (u w : Value) → close p byte around place began (u ∷ w ∷ []) state ≡ Ok (found w state))
-    → Flow p around place (x ∷ OfKind NEST_REST ∷ []) [] 0
-unfolding pending pending_around goes_on is_arguments is_component becomes_candidate
-nest-flow p around place x t none first second made is means = λ state next e.
-    subst (Onward x (makes_before p []) 0 state (Flow p around place (OfKind NEST_REST ∷ [])))
-    (ok_same (going [] around state) next (sym (first state) ∙ e))
-    (quiet (going [] around state) (omega arith) (λ v. none around v) begun)
-  where
-    begun : (v : Value) → Flow p around place (OfKind NEST_REST ∷ []) (v ∷ []) 0
-    begun v = λ state next e.
-        subst (Onward (OfKind NEST_REST) (makes_before p (v ∷ [])) 0 state (Flow p around place []))
-        (ok_same (going (tree (t v) false ∷ []) (after (t v) false around) state) next (sym (second v state) ∙ e))
-        (rest-step p around place 17 (makes_before p (v ∷ [])) 0 state (tree (t v) false ∷ []) (t v) false state (λ a w. refl) (λ w. refl)
-        (omega (arith, made v))
-        (λ w. same-closes p around place (tree (t v) false ∷ w ∷ []) w is
-        (λ byte began later. means byte began later (tree (t v) false) w)))

@@ -1,193 +1,99 @@
 -- Each production appends to the candidates what was pending or what it makes.
-use Rattle.std.proofs.Common.{◌≡◌, refl, ap, sym, ◌∙◌, subst, arith, ℕ, ◌+◌, ◌≤◌, List, [], ◌∷◌, length, Bool, true, false, not, ◌&&◌, cond, Ok, Err}
+use Rattle.std.proofs.Common.{◌≡◌, refl, ap, sym, ◌∙◌, subst, arith, ℕ, ◌+◌, ◌-◌, ◌≤◌, List, [], ◌∷◌, ◌++◌, length, Bool, true, false, not, ◌&&◌, cond, Result, Ok, Err}
+use Rattle.std.specs.Prelude.{slice_get}
+use Rattle.sym_core.specs.declared.refusal.Refusal.{Refusal}
 use Rattle.sym_core.specs.declared.refusal.Refusal.TheVariants.{BadReference}
-use Rattle.std.specs.Prelude.{None, ◌-◌, slice_get}
 use Rattle.sym_core.specs.declared.NumberKind.TheVariants.{Decimal, Seq36}
 use Rattle.sym_core.specs.Value.{counted_value}
+use Rattle.sym_shape.specs.declared.rule.Sym.{Sym}
 use Rattle.sym_shape.specs.declared.rule.Sym.TheVariants.{Kind as OfKind, Name, Number, Byte}
-use Rattle.sym_link.specs.Reading.{Found, Next}
-use Rattle.sym_link.specs.Unfold.{found}
+use Rattle.sym_link.specs.Reading.{Found}
 use Rattle.cpp_grammar.specs.declared.production.Production.{Production}
-use Rattle.cpp_grammar.specs.KindNumbers.{INTEGER, UNQUALIFIED, NEST, NEST_AFTER_S, NEST_REST, NEST_REST_OR_END, NEST_MORE_OR_END, NEST_REST_ALONE, ARGUMENTS_ALONE, NEST_TAIL, COMPONENT, HOLDER_MARK, HELD_COMPONENT, COMPONENT_AFTER_C, OPERATOR_AFTER_C, OTHER_OPERATOR, CONSTRUCTOR_DIGIT, DESTRUCTOR_DIGIT, ABBREVIATION, ANONYMOUS, ITEM_AFTER_D, AFTER_D, SOLID, TYPE_AFTER_S, TYPE_IN_STD, SOURCE_OR_LOCAL, MAYBE_TAGS, ARGUMENT_AFTER_T, SOLID_BUT_T, ANY_ARRAY, ARRAY_REST, MAYBE_ARGUMENTS, ARGUMENTS, ARGUMENTS_FIRST, LITERAL_TYPE, OPERATOR}
+use Rattle.cpp_grammar.specs.KindNumbers.{INTEGER, ANONYMOUS, OPERATOR, OTHER_OPERATOR, OPERATOR_AFTER_C, CONSTRUCTOR_DIGIT, DESTRUCTOR_DIGIT, SOURCE_OR_LOCAL, NEST, NEST_AFTER_S, AFTER_D, ITEM_AFTER_D, SOLID, SOLID_BUT_T, ARGUMENT_AFTER_T, ANY_ARRAY, ARRAY_REST, LITERAL_TYPE, CONVERTED_SOLID, DECLTYPE_AFTER_D, UNRESOLVED_TYPE, UNRESOLVED_NAME, UNQUALIFIED, NEST_REST, NEST_REST_OR_END, NEST_REST_ALONE, NEST_TAIL, NEST_MORE_OR_END, COMPONENT, COMPONENT_AFTER_C, CONSTRUCTOR_AFTER_C, HOLDER_MARK, HELD_COMPONENT, ABBREVIATION, TYPE_AFTER_S, TYPE_IN_STD, TAGGED_SOURCE, MAYBE_ARGUMENTS, MAYBE_TAGS, ARGUMENTS, ARGUMENTS_ALONE, ARGUMENTS_FIRST, BASE_ARGUMENTS, OWN_ARGUMENTS}
 use Rattle.cpp_grammar.specs.Grammar.{parts_of, number_of_kind}
-use Rattle.cpp_grammar.proofs.ClosedStates.{ok_same}
-use Rattle.cpp_term.specs.Term.{Term, source, operator, constructor, destructor, in_std, instance, pack, lvalue, rvalue}
-use Rattle.cpp_term.specs.Values.{State, Around, prefix_tree, prefix_listed, Value, nothing_there, tree, named, tree_of, piece_of, letter_of, text_of, is_listed, is_there, part}
-use Rattle.cpp_term.specs.References.{appended, with_type, with_unqualified, with_prefix, parameter_named}
-use Rattle.cpp_term.specs.Between.{Going, in_name, in_types, in_signature, under_expansion, after, inside, extended, applied, no_items, named_so_far, listed_so_far, with_tag, index_of, between, parameter_so_far, argument_so_far}
-use Rattle.cpp_term.specs.Meaning.{meaning, listed_value}
-use Rattle.cpp_term.specs.Unfolding.{behind, close}
-use Rattle.cpp_link.specs.Owed.{made_before, made_at_end}
-use Rattle.cpp_link.specs.NodeCount.{makes_before, makes_at_end, one_if_there, one_if_arguments, std_before, name_at_end}
-use Rattle.cpp_link.proofs.CandidatesFew.{unlisted, unlisted_around, is_component, becomes_candidate, goes_on, is_arguments, in_place, behind_name, pending, pending_around, makes_name, may_leave, takes_name, begins_arguments, leaves, starts_with, Onward, Flow, going, appended-one, typed-one, unqualified-one, prefix-one, substituted-none, parameter-one, argument-none, came, ended, quiet, takes_pending, take_nothing, plain-flow, kept, still, there-or-not, spent-or-not, made-flow, name-flow, value-flow, same-closes, rest-step, nest-flow}
+use Rattle.cpp_grammar.specs.Row.{Made, listed, unlisted, as_part, unless_there, as_part_alone, Listing, Form, handed, finished, either, a_name, Where, as_before, after_part, Gain, nothing, type_of, unqualified_of, itself, Before, quiet, goes, becomes, tests, Row, before_part}
+use Rattle.cpp_grammar.specs.Rows.{row_of}
+use Rattle.cpp_term.specs.Term.{Term, in_std, instance, parameter}
+use Rattle.cpp_term.specs.Values.{State, Around, prefix_tree, prefix_listed, Value, nothing_there, tree, named, tree_of, piece_of, text_of, is_listed, is_there, part}
+use Rattle.cpp_term.specs.References.{appended, with_type, with_prefix, parameter_named}
+use Rattle.cpp_term.specs.Builders.{argument, built, bytes_in, tree_in, truth_in, number_in}
+use Rattle.cpp_term.specs.Between.{Going, after, inside, argument_at, index_of, no_items, applied}
+use Rattle.cpp_term.specs.Meant.{all_given, given, made, meant, is_listing, around_part, packs_within, gained, replaced, tested, done, state_after}
+use Rattle.cpp_term.specs.Own.{own_meaning}
+use Rattle.cpp_term.specs.Meaning.{listed_value}
+use Rattle.cpp_term.specs.Unfolding.{close}
+use Rattle.cpp_link.specs.NodeCount.{one_if_there, one_if_arguments, makes_at_end}
+use Rattle.cpp_link.specs.RowNodes.{nodes_made, nodes_before, nodes_of, nodes_at_end}
+use Rattle.cpp_grammar.proofs.ClosedStates.{behind_bind}
+use Rattle.cpp_link.proofs.CandidatesFew as few_
+use Rattle.cpp_link.proofs.CandidatesFew.{is_component, becomes_candidate, goes_on, is_arguments, in_place, behind_name, pending, pending_around, makes_name, may_leave, takes_name, begins_arguments, leaves, starts_with, takes_pending, take_nothing, keeps, all_keep, closes_by_row, Onward, Flow, RowFlow, By, going, appended-one, typed-one, unqualified-one, prefix-one, substituted-none, parameter-one, came, none-appended, plain-flow, of-row, there-or-not, spent-or-not, rest-step}
+
+abbrev plain : Form → Gain → Row
+plain form gain = record { before = []; onward = quiet; form = form; gain = gain; restores_packs = false; tests_number = false }
+
+abbrev after_steps : List Before → Form → Row
+after_steps before form = record { before = before; onward = quiet; form = form; gain = nothing; restores_packs = false; tests_number = false }
+
+-- a name is made before the second part; a name that is a candidate already, or never is one; that of a parameter
+abbrev named_row : Made → Form → Row
+named_row m form = after_steps (quiet ∷ becomes m false true false ∷ []) form
+
+abbrev listed_row : Made → Row
+listed_row m = after_steps (quiet ∷ becomes m true true false ∷ []) (a_name unlisted)
+
+abbrev parameter_row : (after_t : Bool) → Row
+parameter_row after_t = after_steps (quiet ∷ tests after_t true ∷ []) (a_name (unless_there 1))
+
+-- how much a value leaves
+abbrev Left : Type 0
+Left = Value → ℕ
+
+-- nothing is pending before these
+abbrev Untaken : Sym → Type 0
+Untaken x = (around : Around) (v : Value) → pending_around x around v ≡ 0
+
+-- arguments or tags that may be after a name
+abbrev AfterName : ℕ → Type 0
+AfterName k = ((w : Value) → pending (OfKind k) w ≡ in_place w) × ((around : Around) (w : Value) → pending_around (OfKind k) around w ≡ cond (is_there w) (few_.unlisted_around around) 0)
 
 -- ## Names
 
-internal-name : (around : Around) (place : ℕ) → Flow Production.InternalName around place (Name ∷ OfKind MAYBE_ARGUMENTS ∷ []) [] 0
-unfolding pending_around between named_so_far makes_before made_before makes_at_end name_at_end part leaves makes_name close behind
-internal-name around place =
-    name-flow Production.InternalName around place Name (λ v. extended around.prefix (source true (text_of v))) (λ a v. refl)
-    (λ state. refl)
-    (λ v state. refl) (λ v. refl) (λ u w. refl) (λ v. omega arith) (λ byte began vs state one e. still
-    (meaning Production.InternalName byte around vs) state one e)
-
-source-name : (around : Around) (place : ℕ) → Flow Production.SourceName around place (Name ∷ OfKind MAYBE_ARGUMENTS ∷ []) [] 0
-unfolding pending_around between named_so_far makes_before made_before makes_at_end name_at_end part leaves makes_name close behind
-source-name around place =
-    name-flow Production.SourceName around place Name (λ v. extended around.prefix (source false (text_of v))) (λ a v. refl) (λ state. refl)
-    (λ v state. refl) (λ v. refl) (λ u w. refl) (λ v. omega arith) (λ byte began vs state one e. still
-    (meaning Production.SourceName byte around vs) state one e)
-
-local-type-name : (around : Around) (place : ℕ) → Flow Production.LocalTypeName around place (OfKind ANONYMOUS ∷ OfKind MAYBE_ARGUMENTS ∷ []) [] 0
-unfolding pending_around goes_on is_arguments between named_so_far makes_before made_before makes_at_end name_at_end part leaves makes_name close behind
-local-type-name around place =
-    name-flow Production.LocalTypeName around place (OfKind ANONYMOUS) (λ v. extended around.prefix (piece_of v)) (λ a v. refl) (λ state. refl)
-    (λ v state. refl) (λ v. refl) (λ u w. refl) (λ v. omega arith) (λ byte began vs state one e. still
-    (meaning Production.LocalTypeName byte around vs) state one e)
-
-operator-name : (around : Around) (place : ℕ) → Flow Production.OperatorName around place (OfKind OPERATOR ∷ OfKind MAYBE_ARGUMENTS ∷ []) [] 0
-unfolding pending_around goes_on is_arguments between named_so_far makes_before made_before makes_at_end name_at_end part leaves makes_name close behind
-operator-name around place =
-    name-flow Production.OperatorName around place (OfKind OPERATOR) (λ v. extended around.prefix (piece_of v)) (λ a v. refl) (λ state. refl)
-    (λ v state. refl) (λ v. refl) (λ u w. refl) (λ v. omega arith) (λ byte began vs state one e. still
-    (meaning Production.OperatorName byte around vs) state one e)
-
-other-operator-name : (around : Around) (place : ℕ) → Flow Production.OtherOperatorName around place (OfKind OTHER_OPERATOR ∷ OfKind MAYBE_ARGUMENTS ∷ []) [] 0
-unfolding pending_around goes_on is_arguments between named_so_far makes_before made_before makes_at_end name_at_end part leaves makes_name close behind
-other-operator-name around place =
-    name-flow Production.OtherOperatorName around place (OfKind OTHER_OPERATOR) (λ v. extended around.prefix (piece_of v)) (λ a v. refl) (λ state. refl)
-    (λ v state. refl) (λ v. refl) (λ u w. refl) (λ v. omega arith) (λ byte began vs state one e. still
-    (meaning Production.OtherOperatorName byte around vs) state one e)
-
-operator-name-with-c : (around : Around) (place : ℕ) → Flow Production.OperatorNameWithC around place (OfKind OPERATOR_AFTER_C ∷ OfKind MAYBE_ARGUMENTS ∷ []) [] 0
-unfolding pending_around goes_on is_arguments between named_so_far makes_before made_before makes_at_end name_at_end part leaves makes_name close behind
-operator-name-with-c around place =
-    name-flow Production.OperatorNameWithC around place (OfKind OPERATOR_AFTER_C) (λ v. extended around.prefix (operator 99 (letter_of v))) (λ a v. refl) (λ state. refl)
-    (λ v state. refl) (λ v. refl) (λ u w. refl) (λ v. omega arith) (λ byte began vs state one e. still
-    (meaning Production.OperatorNameWithC byte around vs) state one e)
-
--- a component after a c is one that is made
-component-with-c : (around : Around) (place : ℕ) → Flow Production.ComponentWithC around place (OfKind COMPONENT_AFTER_C ∷ []) [] 0
-unfolding pending pending_around goes_on is_arguments is_component becomes_candidate between makes_before made_before makes_at_end made_at_end part leaves makes_name meaning close behind
-component-with-c around place = λ state next e. came (going [] around state) next e (record {
-  over = 0;
-  few = omega arith;
-  later = λ w. record {
-    now = 1;
-    few = omega arith;
-    goes = λ byte began last one g. ended Production.ComponentWithC 0 1 last (found w last) one g (omega arith);
-  };
-})
-
-constructor-name : (around : Around) (place : ℕ) → Flow Production.Constructor around place (OfKind CONSTRUCTOR_DIGIT ∷ OfKind MAYBE_ARGUMENTS ∷ []) [] 0
-unfolding pending_around goes_on is_arguments between named_so_far makes_before made_before makes_at_end name_at_end part leaves makes_name close behind
-constructor-name around place =
-    name-flow Production.Constructor around place (OfKind CONSTRUCTOR_DIGIT) (λ v. extended around.prefix (constructor (letter_of v))) (λ a v. refl)
-    (λ state. refl)
-    (λ v state. refl) (λ v. refl) (λ u w. refl) (λ v. omega arith) (λ byte began vs state one e. still
-    (meaning Production.Constructor byte around vs) state one e)
-
-destructor-name : (around : Around) (place : ℕ) → Flow Production.Destructor around place (OfKind DESTRUCTOR_DIGIT ∷ OfKind MAYBE_ARGUMENTS ∷ []) [] 0
-unfolding pending_around goes_on is_arguments between named_so_far makes_before made_before makes_at_end name_at_end part leaves makes_name close behind
-destructor-name around place =
-    name-flow Production.Destructor around place (OfKind DESTRUCTOR_DIGIT) (λ v. extended around.prefix (destructor (letter_of v))) (λ a v. refl)
-    (λ state. refl)
-    (λ v state. refl) (λ v. refl) (λ u w. refl) (λ v. omega arith) (λ byte began vs state one e. still
-    (meaning Production.Destructor byte around vs) state one e)
-
-std-name : (around : Around) (place : ℕ) → Flow Production.StdName around place (OfKind UNQUALIFIED ∷ OfKind MAYBE_ARGUMENTS ∷ []) [] 0
-unfolding pending_around goes_on is_arguments between named_so_far makes_before made_before makes_at_end name_at_end part leaves makes_name may_leave close behind
-std-name around place =
-    name-flow Production.StdName around place (OfKind UNQUALIFIED) (λ v. in_std (piece_of v)) (λ a v. refl) (λ state. refl)
-    (λ v state. refl) (λ v. refl) (λ u w. refl) (λ v. omega arith) (λ byte began vs state one e. still
-    (meaning Production.StdName byte around vs) state one e)
-
-tag-name : (around : Around) (place : ℕ) → Flow Production.Tag around place (Name ∷ OfKind MAYBE_ARGUMENTS ∷ []) [] 0
-unfolding pending_around between named_so_far makes_before made_before makes_at_end name_at_end part leaves makes_name close behind
-tag-name around place =
-    name-flow Production.Tag around place Name (λ v. with_tag (prefix_tree around.prefix) (text_of v)) (λ a v. refl) (λ state. refl)
-    (λ v state. refl) (λ v. refl) (λ u w. refl) (λ v. omega arith) (λ byte began vs state one e. still
-    (meaning Production.Tag byte around vs) state one e)
-
-abbreviated-name : (around : Around) (place : ℕ) → Flow Production.AbbreviatedName around place (OfKind ABBREVIATION ∷ OfKind ARGUMENTS ∷ []) [] 0
-unfolding pending pending_around unlisted_around goes_on is_arguments is_component becomes_candidate after prefix_listed between listed_so_far makes_before made_before makes_at_end name_at_end part leaves makes_name may_leave close behind
-abbreviated-name around place = λ state next e. came (going [] around state) next e
-    (quiet (going [] around state) (omega arith) (λ v. refl) (λ v.
-    λ later after_ f. came (going (tree (tree_of v) true ∷ []) (after (tree_of v) true around) later) after_ f
-    (quiet (going (tree (tree_of v) true ∷ []) (after (tree_of v) true around) later) (omega arith) (λ w. none (is_there w))
-    (λ w. λ byte began last one g. ended Production.AbbreviatedName (makes_at_end Production.AbbreviatedName
-    (tree (tree_of v) true ∷ w ∷ [])) 0 last
-    (found (meaning Production.AbbreviatedName byte around (tree (tree_of v) true ∷ w ∷ [])) last) one g (omega arith)))))
+-- a name is made, and is pending where nothing follows
+named-flow : (m : Made) (form : Form) (leave : Left) (around : Around) (place : ℕ) (x : Sym) (k : ℕ) → ((vs : List Value) → nodes_made m vs ≡ 1) → ((vs : List Value) → nodes_at_end form vs ≡ one_if_arguments (part vs 1))
+    → ((v : Value) → leave v ≤ 1) → Untaken x → AfterName k → RowFlow (named_row m form) leave around place (x ∷ OfKind k ∷ []) [] 0
+unfolding few_.unlisted_around before_part done replaced after prefix_listed state_after gained nodes_before part
+named-flow m form leave around place x k one ends few none follows = λ state next e. came (going [] around state) next e (none-appended (going [] around state) (omega arith) (λ v. none around v) begun)
   where
-    none : (b : Bool) → ◌≡◌ {A = ℕ} (cond b 0 0) 0
-    none true = refl
-    none false = refl
+    closes : (u w : Value) → RowFlow (named_row m form) leave around place [] (u ∷ w ∷ []) (behind_name 1 w)
+    closes u w = λ byte began state. omega (arith, few (meant form byte around (u ∷ w ∷ [])), ends (u ∷ w ∷ []), there-or-not w)
 
--- ## Types
+    begun : (v : Value) → RowFlow (named_row m form) leave around place (OfKind k ∷ []) (v ∷ []) 0
+    begun v = λ state next e. (
+        let t : Term = made 0 around (v ∷ []) m in
+        came (going (tree t false ∷ []) (after t false around) state) next e (record {
+          over = 1;
+          few = omega (arith, one (v ∷ []));
+          later = λ w. record { now = behind_name 1 w; few = omega (arith, spent-or-not 1 w, follows.0 w, follows.1 (after t false around) w); goes = closes (tree t false) w };
+        }))
 
--- a name in std as a type, and tags after it
-tagged-std-type : (around : Around) (place : ℕ) → Flow Production.TaggedStdType around place (OfKind SOURCE_OR_LOCAL ∷ OfKind MAYBE_TAGS ∷ []) [] 0
-unfolding pending pending_around goes_on is_arguments is_component becomes_candidate between named_so_far makes_before made_before makes_at_end name_at_end part leaves makes_name may_leave unlisted close behind
-tagged-std-type around place =
-    made-flow Production.TaggedStdType around place (OfKind SOURCE_OR_LOCAL) (OfKind MAYBE_TAGS) (λ v. in_std (piece_of v)) (λ a v. refl) (λ v. refl) (λ a v. refl)
-    (λ state. refl) (λ v state. refl) (λ v. refl) (λ u w. refl) (λ v. at_most_one (is_listed v)) (λ byte began vs state one e. still
-    (meaning Production.TaggedStdType byte around vs) state one e)
+-- a name that is a candidate already, or never is one, before its arguments
+listed-flow : (m : Made) (leave : Left) (around : Around) (place : ℕ) (x : Sym) (k : ℕ) → ((v : Value) → leave v ≡ 0) → Untaken x → AfterName k
+    → RowFlow (listed_row m) leave around place (x ∷ OfKind k ∷ []) [] 0
+unfolding few_.unlisted_around before_part done replaced after prefix_listed state_after gained nodes_before nodes_at_end part
+listed-flow m leave around place x k leaves_none none follows = λ state next e. came (going [] around state) next e (none-appended (going [] around state) (omega arith) (λ v. none around v) begun)
   where
-    at_most_one : (b : Bool) → cond b 0 1 ≤ 1
-    at_most_one true = omega arith
-    at_most_one false = omega arith
+    no_more : (b : Bool) → ◌≡◌ {A = ℕ} (cond b 0 0) 0
+    no_more true = refl
+    no_more false = refl
 
-type-tag : (around : Around) (place : ℕ) → Flow Production.TypeTag around place (Name ∷ OfKind MAYBE_TAGS ∷ []) [] 0
-unfolding pending pending_around goes_on is_arguments is_component becomes_candidate between named_so_far makes_before made_before makes_at_end name_at_end part leaves makes_name close behind
-type-tag around place =
-    made-flow Production.TypeTag around place Name (OfKind MAYBE_TAGS) (λ v. with_tag (prefix_tree around.prefix) (text_of v)) (λ a v. refl) (λ v. refl) (λ a v. refl)
-    (λ state. refl) (λ v state. refl) (λ v. refl) (λ u w. refl) (λ v. omega arith) (λ byte began vs state one e. still
-    (meaning Production.TypeTag byte around vs) state one e)
+    closes : (u w : Value) → RowFlow (listed_row m) leave around place [] (u ∷ w ∷ []) 0
+    closes u w = λ byte began state. omega (arith, leaves_none (meant (a_name unlisted) byte around (u ∷ w ∷ [])))
 
-solid-type : (p : Production) (around : Around) (place k : ℕ) → ((a : Around) (v : Value) → pending_around (OfKind k) a v ≡ 0)
-    → ((v : Value) → pending (OfKind k) v ≡ unlisted v) → ((state : State) → between p around place [] state ≡ Ok (going [] around state))
-    → ((v : Value) → leaves p v ≡ 0)
-    → ((byte : ℕ) (began state : State) (v : Value) → close p byte around place began (v ∷ []) state ≡ Ok
-    (found (meaning p byte around (v ∷ [])) (with_type around v state)))
-    → Flow p around place (OfKind k ∷ []) [] 0
-solid-type p around place k none is first leave means =
-    value-flow p around place (OfKind k) none is first (λ v. λ byte began state one e. (
-    let f : Found Value State = found (meaning p byte around (v ∷ [])) (with_type around v state) in
-    let same : f ≡ one = ok_same f one (sym (means byte began state v) ∙ e) in
-    omega (arith, ap (λ o. length o.state.candidates) same, leave one.value, typed-one around v state)))
-
-unqualified-type : (p : Production) (around : Around) (place k : ℕ) → ((a : Around) (v : Value) → pending_around (OfKind k) a v ≡ 0)
-    → ((v : Value) → pending (OfKind k) v ≡ unlisted v) → ((state : State) → between p around place [] state ≡ Ok (going [] around state))
-    → ((v : Value) → leaves p v ≡ 0)
-    → ((byte : ℕ) (began state : State) (v : Value) → close p byte around place began (v ∷ []) state ≡ Ok
-    (found (meaning p byte around (v ∷ [])) (with_unqualified around v state)))
-    → Flow p around place (OfKind k ∷ []) [] 0
-unqualified-type p around place k none is first leave means =
-    value-flow p around place (OfKind k) none is first (λ v. λ byte began state one e. (
-    let f : Found Value State = found (meaning p byte around (v ∷ [])) (with_unqualified around v state) in
-    let same : f ≡ one = ok_same f one (sym (means byte began state v) ∙ e) in
-    omega (arith, ap (λ o. length o.state.candidates) same, leave one.value, unqualified-one around v state)))
-
-integer-literal : (around : Around) (place : ℕ) → Flow Production.IntegerLiteral around place (OfKind LITERAL_TYPE ∷ OfKind INTEGER ∷ []) [] 0
-unfolding pending pending_around goes_on is_arguments is_component becomes_candidate between makes_before made_before makes_at_end made_at_end leaves makes_name may_leave close behind
-integer-literal around place = λ state next e. came (going [] around state) next e (record {
-  over = 0;
-  few = omega arith;
-  later = λ v. record {
-    now = unlisted v;
-    few = omega arith;
-    goes = λ later after_ f. came (going (v ∷ []) around (with_type around v later)) after_ f (record {
-      over = 0;
-      few = omega (arith, typed-one around v later);
-      later = λ w. record {
-        now = 0;
-        few = omega arith;
-        goes = λ byte began last one g. ended Production.IntegerLiteral 1 0 last
-            (found (meaning Production.IntegerLiteral byte around (v ∷ w ∷ [])) last) one g (omega arith);
-      };
-    });
-  };
-})
+    begun : (v : Value) → RowFlow (listed_row m) leave around place (OfKind k ∷ []) (v ∷ []) 0
+    begun v = λ state next e. (
+        let t : Term = made 0 around (v ∷ []) m in
+        came (going (tree t true ∷ []) (after t true around) state) next e
+        (none-appended (going (tree t true ∷ []) (after t true around) state) (omega arith) (λ w. follows.1 (after t true around) w ∙ no_more (is_there w)) (λ w. closes (tree t true) w)))
 
 -- a name is a candidate after it, or its arguments are one, or it is one already
 spent-behind : (a : Bool) (w : Value) → cond (a && not (is_there w)) 0 1 ≤ one_if_arguments w + behind_name (cond a 0 1) w
@@ -200,184 +106,211 @@ spent-behind false (named t qualifiers ref) = omega arith
 spent-behind false _ = omega arith
 
 -- a parameter is a candidate before its arguments
-parameter-type : (around : Around) (place : ℕ) → Flow Production.Parameter around place (Number Decimal ∷ OfKind ARGUMENTS_ALONE ∷ []) [] 0
-unfolding pending pending_around unlisted_around goes_on is_arguments is_component becomes_candidate after prefix_listed between makes_before made_before makes_at_end name_at_end part leaves makes_name may_leave unlisted is_listed meaning one_if_there close behind parameter_so_far parameter_named listed_so_far
-parameter-type around place = λ state next e. came (going [] around state) next e
-    (quiet (going [] around state) (omega arith) (λ v. refl) begun)
+parameter-flow : (after_t : Bool) (around : Around) (place : ℕ) → RowFlow (parameter_row after_t) few_.unlisted around place (Number Decimal ∷ OfKind ARGUMENTS_ALONE ∷ []) [] 0
+unfolding pending pending_around few_.unlisted few_.unlisted_around goes_on is_arguments is_component becomes_candidate before_part done tested replaced after prefix_listed state_after gained meant is_listing is_listed nodes_before nodes_at_end part
+parameter-flow after_t around place = λ state next e. came (going [] around state) next e (none-appended (going [] around state) (omega arith) (λ v. refl) begun)
   where
-    closes : (u w : Value) → Flow Production.Parameter around place [] (u ∷ w ∷ []) (behind_name 0 w)
-    closes u w = λ byte began state one e.
-        ended Production.Parameter (one_if_arguments w) (behind_name 0 w) state (found (tree (applied (tree_of u) w) (not (is_there w))) state) one e
-        (omega (arith, spent-behind true w))
+    closes : (u w : Value) → RowFlow (parameter_row after_t) few_.unlisted around place [] (u ∷ w ∷ []) (behind_name 0 w)
+    closes u w = λ byte began state. omega (arith, spent-behind true w)
 
-    begun : (v : Value) → Flow Production.Parameter around place (OfKind ARGUMENTS_ALONE ∷ []) (v ∷ []) 0
+    begun : (v : Value) → RowFlow (parameter_row after_t) few_.unlisted around place (OfKind ARGUMENTS_ALONE ∷ []) (v ∷ []) 0
     begun v = λ state next e. (
-        let n = parameter-one around place (index_of v) [] state next e in
-        subst (Onward (OfKind ARGUMENTS_ALONE) 1 0 state (Flow Production.Parameter around place [])) (sym n.is)
-        (record {
+        let k : ℕ = index_of v in
+        let t : Term = parameter k (argument_at around k) in
+        let b = behind_bind (parameter_named around (cond after_t (place - 1) place) k state) (λ s. tested true around t (v ∷ []) s state) next e in
+        came (going (tree t true ∷ []) (after t true around) b.value) next b.next (record {
           over = 0;
-          few = omega (arith, n.one);
-          later = λ w. record { now = behind_name 0 w; few = spent-or-not 0 w; goes = closes (tree n.own true) w };
+          few = omega (arith, parameter-one around (cond after_t (place - 1) place) k state b.value b.is);
+          later = λ w. record { now = behind_name 0 w; few = spent-or-not 0 w; goes = closes (tree t true) w };
         }))
 
--- the same after its T
-parameter-behind-t : (around : Around) (place : ℕ) → Flow Production.ParameterArgument around place (Number Decimal ∷ OfKind ARGUMENTS_ALONE ∷ []) [] 0
-unfolding pending pending_around unlisted_around goes_on is_arguments is_component becomes_candidate after prefix_listed between makes_before made_before makes_at_end name_at_end part leaves makes_name may_leave unlisted is_listed meaning one_if_there close behind parameter_so_far parameter_named listed_so_far
-parameter-behind-t around place = λ state next e. came (going [] around state) next e
-    (quiet (going [] around state) (omega arith) (λ v. refl) begun)
+-- one in an expression is made, and no candidate: what is pending around it may become one before its arguments
+expression-parameter : (around : Around) (place : ℕ) → By Production.ParameterExpression around place (Number Decimal ∷ OfKind ARGUMENTS_ALONE ∷ []) [] 0
+unfolding pending pending_around few_.unlisted_around goes_on is_arguments is_component becomes_candidate row_of before_part done tested replaced state_after gained nodes_before nodes_at_end leaves makes_name may_leave part
+expression-parameter around place = λ state next e. came (going [] around state) next e (none-appended (going [] around state) (omega arith) (λ v. refl) begun)
   where
-    closes : (u w : Value) → Flow Production.ParameterArgument around place [] (u ∷ w ∷ []) (behind_name 0 w)
-    closes u w = λ byte began state one e.
-        ended Production.ParameterArgument (one_if_arguments w) (behind_name 0 w) state (found (tree (applied (tree_of u) w) (not (is_there w))) state) one e
-        (omega (arith, spent-behind true w))
+    closes : (u w : Value) (now : ℕ) → By Production.ParameterExpression around place [] (u ∷ w ∷ []) now
+    closes u w now = λ byte began state. omega arith
 
-    begun : (v : Value) → Flow Production.ParameterArgument around place (OfKind ARGUMENTS_ALONE ∷ []) (v ∷ []) 0
+    at_most_one : (a b : Bool) → cond a (cond b 0 1) 0 ≤ 1
+    at_most_one true true = omega arith
+    at_most_one true false = omega arith
+    at_most_one false b = omega arith
+
+    begun : (v : Value) → By Production.ParameterExpression around place (OfKind ARGUMENTS_ALONE ∷ []) (v ∷ []) 0
     begun v = λ state next e. (
-        let n = parameter-one around (place - 1) (index_of v) [] state next e in
-        subst (Onward (OfKind ARGUMENTS_ALONE) 1 0 state (Flow Production.ParameterArgument around place [])) (sym n.is)
-        (record {
-          over = 0;
-          few = omega (arith, n.one);
-          later = λ w. record { now = behind_name 0 w; few = spent-or-not 0 w; goes = closes (tree n.own true) w };
+        let k : ℕ = index_of v in
+        let t : Term = parameter k (argument_at around k) in
+        let b = behind_bind (parameter_named around place k state) (λ s. tested false around t (v ∷ []) s state) next e in
+        came (going (tree t true ∷ []) around (record b.value { candidates = state.candidates })) next b.next (record {
+          over = 1;
+          few = omega arith;
+          later = λ w. record { now = 0; few = omega (arith, at_most_one (is_there w) (prefix_listed around.prefix)); goes = closes (tree t true) w 0 };
         }))
 
 -- an abbreviation or what a reference names, or a name in std, before its arguments
-with-s-type : (around : Around) (place : ℕ) → Flow Production.TypeWithS around place (OfKind TYPE_AFTER_S ∷ OfKind ARGUMENTS_ALONE ∷ []) [] 0
-unfolding pending pending_around unlisted_around goes_on is_arguments is_component becomes_candidate after prefix_listed between makes_before made_before makes_at_end name_at_end part leaves makes_name may_leave unlisted is_listed meaning one_if_there close behind
+with-s-type : (around : Around) (place : ℕ) → By Production.TypeWithS around place (OfKind TYPE_AFTER_S ∷ OfKind ARGUMENTS_ALONE ∷ []) [] 0
+unfolding pending pending_around few_.unlisted few_.unlisted_around goes_on is_arguments is_component becomes_candidate row_of before_part done around_part packs_within gained after prefix_listed is_listing is_listed meant state_after nodes_before nodes_at_end leaves makes_name may_leave part
 with-s-type around place = λ state next e. came (going [] around state) next e (record {
   over = 0;
   few = omega arith;
-  later = λ v. record { now = unlisted v; few = omega arith; goes = begun v };
+  later = λ v. record { now = few_.unlisted v; few = omega arith; goes = begun v };
 })
   where
-    closes : (v w : Value) → Flow Production.TypeWithS around place [] (v ∷ w ∷ []) (behind_name (unlisted v) w)
-    closes v w = λ byte began state one e.
-        ended Production.TypeWithS (one_if_arguments w) (behind_name (unlisted v) w) state
-        (found (tree (applied (tree_of v) w) (is_listed v && not (is_there w))) state) one e (omega (arith, spent-behind (is_listed v) w))
+    closes : (v w : Value) → By Production.TypeWithS around place [] (v ∷ w ∷ []) (behind_name (few_.unlisted v) w)
+    closes v w = λ byte began state. omega (arith, spent-behind (is_listed v) w)
 
-    begun : (v : Value) → Flow Production.TypeWithS around place (OfKind ARGUMENTS_ALONE ∷ []) (v ∷ []) (unlisted v)
+    begun : (v : Value) → By Production.TypeWithS around place (OfKind ARGUMENTS_ALONE ∷ []) (v ∷ []) (few_.unlisted v)
     begun v = λ state next e. came (going (v ∷ []) (after (tree_of v) (is_listed v) around) state) next e (record {
-      over = unlisted v;
+      over = few_.unlisted v;
       few = omega arith;
-      later = λ w. record { now = behind_name (unlisted v) w; few = spent-or-not (unlisted v) w; goes = closes v w };
+      later = λ w. record { now = behind_name (few_.unlisted v) w; few = spent-or-not (few_.unlisted v) w; goes = closes v w };
     })
+
+-- ## What is handed on
+
+-- where the value of the only part is the whole's
+handed-flow : (leave : Left) (around : Around) (place : ℕ) (x : Sym) → Untaken x → ((v : Value) → leave v ≤ pending x v) → RowFlow (plain (handed 0) nothing) leave around place (x ∷ []) [] 0
+unfolding before_part done state_after gained meant nodes_before nodes_at_end part
+handed-flow leave around place x none few = λ state next e. came (going [] around state) next e (record {
+  over = 0;
+  few = omega arith;
+  later = λ v. record { now = pending x v; few = omega (arith, none around v); goes = λ byte began state. omega (arith, few v) };
+})
+
+-- where it becomes a candidate
+typed-flow : (leave : Left) (around : Around) (place : ℕ) (x : Sym) → Untaken x → ((v : Value) → pending x v ≡ few_.unlisted v) → ((v : Value) → leave (listed_value v) ≡ 0)
+    → RowFlow (plain (finished 0) (type_of 0)) leave around place (x ∷ []) [] 0
+unfolding before_part done state_after gained meant nodes_before nodes_at_end part
+typed-flow leave around place x none is left = λ state next e. came (going [] around state) next e (record {
+  over = 0;
+  few = omega arith;
+  later = λ v. record { now = few_.unlisted v; few = omega (arith, none around v, is v); goes = λ byte began state. omega (arith, left v, typed-one around v state) };
+})
+
+-- unless it is a function type
+unqualified-flow : (leave : Left) (around : Around) (place : ℕ) (x : Sym) → Untaken x → ((v : Value) → pending x v ≡ few_.unlisted v) → ((v : Value) → leave (listed_value v) ≡ 0)
+    → RowFlow (plain (finished 0) (unqualified_of 0)) leave around place (x ∷ []) [] 0
+unfolding before_part done state_after gained meant nodes_before nodes_at_end part
+unqualified-flow leave around place x none is left = λ state next e. came (going [] around state) next e (record {
+  over = 0;
+  few = omega arith;
+  later = λ v. record { now = few_.unlisted v; few = omega (arith, none around v, is v); goes = λ byte began state. omega (arith, left v, unqualified-one around v state) };
+})
+
+-- where the type that is made becomes one
+own-type : (form : Form) (leave : Left) (around : Around) (place : ℕ) (vs : List Value) → ((v : Value) → leave v ≡ 0) → ((us : List Value) → nodes_at_end form us ≡ 1) → RowFlow (plain form itself) leave around place [] vs 0
+unfolding state_after gained
+own-type form leave around place vs left one = λ byte began state. omega (arith, left (meant form byte around vs), one vs, appended-one around (tree_of (meant form byte around vs)) state)
+
+-- where a type becomes one before what is of it
+of-type-flow : (form : Form) (leave : Left) (around : Around) (place : ℕ) (x y : Sym) → Untaken x → Untaken y → ((v : Value) → pending x v ≡ few_.unlisted v) → ((v : Value) → leave v ≡ 0)
+    → RowFlow (after_steps (quiet ∷ goes (type_of 0) as_before ∷ []) form) leave around place (x ∷ y ∷ []) [] 0
+unfolding before_part done around_part packs_within state_after gained nodes_before part
+of-type-flow form leave around place x y none free is left = λ state next e. came (going [] around state) next e (record {
+  over = 0;
+  few = omega arith;
+  later = λ v. record {
+    now = few_.unlisted v;
+    few = omega (arith, none around v, is v);
+    goes = λ later after_ f. came (going (v ∷ []) around (with_type around v later)) after_ f (record {
+      over = 0;
+      few = omega (arith, typed-one around v later);
+      later = λ w. record { now = 0; few = omega (arith, free around w); goes = λ byte began last. omega (arith, left (meant form byte around (v ∷ w ∷ []))) };
+    });
+  };
+})
 
 -- ## Nested names
 
-nest-internal : (around : Around) (place : ℕ) → Flow Production.NestInternal around place (Name ∷ OfKind NEST_REST ∷ []) [] 0
-unfolding pending_around between named_so_far makes_before made_before part leaves makes_name may_leave meaning close behind
-nest-internal around place =
-    nest-flow Production.NestInternal around place Name (λ v. extended around.prefix (source true (text_of v))) (λ a v. refl)
-    (λ state. refl)
-    (λ v state. refl) (λ v. refl) (λ v. refl) (λ byte began state u w. refl)
-
-nest-source : (around : Around) (place : ℕ) → Flow Production.NestSource around place (Name ∷ OfKind NEST_REST ∷ []) [] 0
-unfolding pending_around between named_so_far makes_before made_before part leaves makes_name may_leave meaning close behind
-nest-source around place =
-    nest-flow Production.NestSource around place Name (λ v. extended around.prefix (source false (text_of v))) (λ a v. refl) (λ state. refl)
-    (λ v state. refl) (λ v. refl) (λ v. refl) (λ byte began state u w. refl)
-
-nest-tag : (around : Around) (place : ℕ) → Flow Production.NestTag around place (Name ∷ OfKind NEST_REST ∷ []) [] 0
-unfolding pending_around between named_so_far makes_before made_before part leaves makes_name may_leave meaning close behind
-nest-tag around place =
-    nest-flow Production.NestTag around place Name (λ v. with_tag (prefix_tree around.prefix) (text_of v)) (λ a v. refl) (λ state. refl)
-    (λ v state. refl) (λ v. refl) (λ v. refl) (λ byte began state u w. refl)
-
-nest-local-type : (around : Around) (place : ℕ) → Flow Production.NestLocalType around place (OfKind ANONYMOUS ∷ OfKind NEST_REST ∷ []) [] 0
-unfolding pending_around goes_on is_arguments between named_so_far makes_before made_before part leaves makes_name may_leave meaning close behind
-nest-local-type around place =
-    nest-flow Production.NestLocalType around place (OfKind ANONYMOUS) (λ v. extended around.prefix (piece_of v)) (λ a v. refl) (λ state. refl)
-    (λ v state. refl) (λ v. refl) (λ v. refl) (λ byte began state u w. refl)
-
-nest-template : (around : Around) (place : ℕ) → Flow Production.NestTemplate around place (OfKind ABBREVIATION ∷ OfKind NEST_REST_OR_END ∷ []) [] 0
-unfolding pending pending_around goes_on is_arguments is_component becomes_candidate between listed_so_far makes_before made_before part leaves makes_name may_leave meaning close behind
-nest-template around place = λ state next e. came (going [] around state) next e
-    (quiet (going [] around state) (omega arith) (λ v. refl) (λ v.
-    λ later after_ f. came (going (tree (tree_of v) true ∷ []) (after (tree_of v) true around) later) after_ f
-    (rest-step Production.NestTemplate around place 66 0 0 later (tree (tree_of v) true ∷ []) (tree_of v) true later (λ a w. refl)
-    (λ w. refl)
-    (omega arith)
-    (λ w. same-closes Production.NestTemplate around place (tree (tree_of v) true ∷ w ∷ []) w (λ u. refl) (λ byte began last. refl)))))
-
-nest-parameter : (around : Around) (place : ℕ) → Flow Production.NestParameter around place (Number Decimal ∷ OfKind NEST_REST_ALONE ∷ []) [] 0
-unfolding pending pending_around goes_on is_arguments is_component becomes_candidate between makes_before made_before part leaves makes_name may_leave meaning close behind parameter_so_far parameter_named listed_so_far
-nest-parameter around place = λ state next e. came (going [] around state) next e
-    (quiet (going [] around state) (omega arith) (λ v. refl) begun)
+-- a piece is added to the name so far, and what follows goes on with it
+nest-flow : (m : Made) (leave : Left) (around : Around) (place : ℕ) (x : Sym) → ((v : Value) → leave v ≡ few_.unlisted v) → ((vs : List Value) → nodes_made m vs ≡ 1) → Untaken x
+    → RowFlow (named_row m (handed 1)) leave around place (x ∷ OfKind NEST_REST ∷ []) [] 0
+unfolding pending pending_around goes_on is_arguments is_component becomes_candidate before_part done replaced state_after gained meant nodes_before nodes_at_end part
+nest-flow m leave around place x left one none = λ state next e. came (going [] around state) next e (none-appended (going [] around state) (omega arith) (λ v. none around v) begun)
   where
-    begun : (v : Value) → Flow Production.NestParameter around place (OfKind NEST_REST_ALONE ∷ []) (v ∷ []) 0
+    begun : (v : Value) → RowFlow (named_row m (handed 1)) leave around place (OfKind NEST_REST ∷ []) (v ∷ []) 0
     begun v = λ state next e. (
-        let n = parameter-one around place (index_of v) [] state next e in
-        subst (Onward (OfKind NEST_REST_ALONE) 1 0 state (Flow Production.NestParameter around place [])) (sym n.is)
-        (rest-step Production.NestParameter around place 68 1 0 state (tree n.own true ∷ []) n.own true n.mid (λ a w. refl) (λ w. refl)
-        (omega (arith, n.one))
-        (λ w. same-closes Production.NestParameter around place (tree n.own true ∷ w ∷ []) w (λ u. refl) (λ byte began last. refl))))
+        let t : Term = made 0 around (v ∷ []) m in
+        came (going (tree t false ∷ []) (after t false around) state) next e
+        (rest-step (named_row m (handed 1)) leave around place NEST_REST (nodes_made m (v ∷ [])) 0 state (tree t false ∷ []) t false state (λ a w. refl) (λ w. refl) (omega (arith, one (v ∷ [])))
+        (λ w. λ byte began last. omega (arith, left w))))
 
-nest-std : (around : Around) (place : ℕ) → Flow Production.NestStd around place (OfKind UNQUALIFIED ∷ OfKind MAYBE_ARGUMENTS ∷ OfKind NEST_TAIL ∷ []) [] 0
-unfolding pending pending_around unlisted_around goes_on is_arguments is_component becomes_candidate after prefix_listed between named_so_far makes_before std_before part leaves makes_name may_leave meaning close behind
-nest-std around place = λ state next e. came (going [] around state) next e (quiet (going [] around state) (omega arith) (λ v. refl) named)
+nest-template : (around : Around) (place : ℕ) → By Production.NestTemplate around place (OfKind ABBREVIATION ∷ OfKind NEST_REST_OR_END ∷ []) [] 0
+unfolding pending pending_around goes_on is_arguments is_component becomes_candidate row_of before_part done replaced made given tree_in state_after gained meant nodes_before nodes_made nodes_at_end leaves makes_name may_leave part
+nest-template around place = λ state next e. came (going [] around state) next e
+    (none-appended (going [] around state) (omega arith) (λ v. refl) (λ v.
+    λ later after_ f. came (going (tree (tree_of v) true ∷ []) (after (tree_of v) true around) later) after_ f
+    (rest-step (row_of Production.NestTemplate) (leaves Production.NestTemplate) around place NEST_REST_OR_END 0 0 later (tree (tree_of v) true ∷ []) (tree_of v) true later (λ a w. refl)
+    (λ w. refl) (omega arith) (λ w. λ byte began last. omega arith))))
+
+nest-parameter : (around : Around) (place : ℕ) → By Production.NestParameter around place (Number Decimal ∷ OfKind NEST_REST_ALONE ∷ []) [] 0
+unfolding pending pending_around goes_on is_arguments is_component becomes_candidate row_of before_part done tested replaced state_after gained meant nodes_before nodes_at_end leaves makes_name may_leave part
+nest-parameter around place = λ state next e. came (going [] around state) next e (none-appended (going [] around state) (omega arith) (λ v. refl) begun)
   where
-    ends : (u w : Value) → Flow Production.NestStd around place (OfKind NEST_TAIL ∷ []) (u ∷ w ∷ []) (behind_name 1 w)
-    ends u w = λ state next e. came (going (tree (applied (tree_of u) w) false ∷ w ∷ [])
-        (after (applied (tree_of u) w) false around) state) next e
-        (rest-step Production.NestStd around place 18 (one_if_arguments w) (behind_name 1 w) state
-        (tree (applied (tree_of u) w) false ∷ w ∷ [])
-        (applied (tree_of u) w) false state (λ a z. refl) (λ z. refl) (omega (arith, there-or-not w))
-        (λ z. same-closes Production.NestStd around place (tree (applied (tree_of u) w) false ∷ w ∷ z ∷ []) z (λ v. refl)
-        (λ byte began last. refl)))
+    begun : (v : Value) → By Production.NestParameter around place (OfKind NEST_REST_ALONE ∷ []) (v ∷ []) 0
+    begun v = λ state next e. (
+        let k : ℕ = index_of v in
+        let t : Term = parameter k (argument_at around k) in
+        let b = behind_bind (parameter_named around place k state) (λ s. tested true around t (v ∷ []) s state) next e in
+        came (going (tree t true ∷ []) (after t true around) b.value) next b.next
+        (rest-step (row_of Production.NestParameter) (leaves Production.NestParameter) around place NEST_REST_ALONE 1 0 state (tree t true ∷ []) t true b.value (λ a w. refl) (λ w. refl)
+        (omega (arith, parameter-one around place k state b.value b.is)) (λ w. λ byte began last. omega arith)))
 
-    named : (v : Value) → Flow Production.NestStd around place (OfKind MAYBE_ARGUMENTS ∷ OfKind NEST_TAIL ∷ []) (v ∷ []) 0
-    named v = λ state next e. came (going (tree (in_std (piece_of v)) false ∷ []) (after (in_std (piece_of v)) false around) state) next e
-        (record {
+nest-std : (around : Around) (place : ℕ) → By Production.NestStd around place (OfKind UNQUALIFIED ∷ OfKind MAYBE_ARGUMENTS ∷ OfKind NEST_TAIL ∷ []) [] 0
+unfolding pending pending_around few_.unlisted_around goes_on is_arguments is_component becomes_candidate after prefix_listed row_of before_part done replaced made given all_given built argument tree_in state_after gained meant nodes_before nodes_made nodes_at_end leaves makes_name may_leave part
+nest-std around place = λ state next e. came (going [] around state) next e (none-appended (going [] around state) (omega arith) (λ v. refl) named_)
+  where
+    ends : (u w : Value) → By Production.NestStd around place (OfKind NEST_TAIL ∷ []) (u ∷ w ∷ []) (behind_name 1 w)
+    ends u w = λ state next e. came (going (tree (applied (tree_of u) w) false ∷ w ∷ []) (after (applied (tree_of u) w) false around) state) next e
+        (rest-step (row_of Production.NestStd) (leaves Production.NestStd) around place NEST_TAIL (one_if_arguments w) (behind_name 1 w) state (tree (applied (tree_of u) w) false ∷ w ∷ [])
+        (applied (tree_of u) w) false state (λ a z. refl) (λ z. refl) (omega (arith, there-or-not w)) (λ z. λ byte began last. omega arith))
+
+    named_ : (v : Value) → By Production.NestStd around place (OfKind MAYBE_ARGUMENTS ∷ OfKind NEST_TAIL ∷ []) (v ∷ []) 0
+    named_ v = λ state next e. (
+        let t : Term = in_std (piece_of v) in
+        came (going (tree t false ∷ []) (after t false around) state) next e (record {
           over = 1;
           few = omega arith;
-          later = λ w. record {
-            now = behind_name 1 w;
-            few = spent-or-not 1 w;
-            goes = ends
-                (tree (in_std (piece_of v)) false) w;
-          };
-        })
+          later = λ w. record { now = behind_name 1 w; few = spent-or-not 1 w; goes = ends (tree t false) w };
+        }))
 
-nest-next : (around : Around) (place : ℕ) → Flow Production.NestNext around place (OfKind COMPONENT ∷ OfKind NEST_TAIL ∷ []) [] (unlisted_around around)
-unfolding pending pending_around goes_on is_arguments is_component becomes_candidate between makes_before made_before part leaves makes_name may_leave meaning close behind
-nest-next around place = λ state next e. came (going [] (after (prefix_tree around.prefix) true around) (with_prefix around state)) next e
-    (record {
-      over = 0;
-      few = omega (arith, prefix-one around state);
-      later = λ v. record { now = 1; few = omega arith; goes = ends v };
-    })
+nest-next : (around : Around) (place : ℕ) → By Production.NestNext around place (OfKind COMPONENT ∷ OfKind NEST_TAIL ∷ []) [] (few_.unlisted_around around)
+unfolding pending pending_around goes_on is_arguments is_component becomes_candidate row_of before_part done around_part packs_within is_listing state_after gained meant nodes_before nodes_at_end leaves makes_name may_leave part
+nest-next around place = λ state next e. came (going [] (after (prefix_tree around.prefix) true around) (with_prefix around state)) next e (record {
+  over = 0;
+  few = omega (arith, prefix-one around state);
+  later = λ v. record { now = 1; few = omega arith; goes = ends v };
+})
   where
-    ends : (v : Value) → Flow Production.NestNext around place (OfKind NEST_TAIL ∷ []) (v ∷ []) 1
+    ends : (v : Value) → By Production.NestNext around place (OfKind NEST_TAIL ∷ []) (v ∷ []) 1
     ends v = λ state next e. came (going (v ∷ []) (after (tree_of v) false around) state) next e
-        (rest-step Production.NestNext around place 18 0 1 state (v ∷ []) (tree_of v) false state (λ a w. refl) (λ w. refl) (omega arith)
-        (λ w. same-closes Production.NestNext around place (v ∷ w ∷ []) w (λ u. refl) (λ byte began last. refl)))
+        (rest-step (row_of Production.NestNext) (leaves Production.NestNext) around place NEST_TAIL 0 1 state (v ∷ []) (tree_of v) false state (λ a w. refl) (λ w. refl) (omega arith)
+        (λ w. λ byte began last. omega arith))
 
 -- the reading of the ABI's grammar has no name with its M
-holder-component : (around : Around) (place : ℕ) → Flow Production.Holder around place (OfKind HOLDER_MARK ∷ OfKind HELD_COMPONENT ∷ []) [] 0
-unfolding pending pending_around goes_on is_arguments is_component becomes_candidate between makes_before made_before makes_at_end made_at_end part leaves makes_name meaning close behind
-holder-component around place = λ state next e. came (going [] around state) next e
-    (quiet (going [] around state) (omega arith) (λ v. refl) held)
+holder-component : (around : Around) (place : ℕ) → By Production.Holder around place (OfKind HOLDER_MARK ∷ OfKind HELD_COMPONENT ∷ []) [] 0
+unfolding pending_around goes_on is_arguments row_of before_part done nodes_before
+holder-component around place = λ state next e. came (going [] around state) next e (none-appended (going [] around state) (omega arith) (λ v. refl) held)
   where
-    held : (v : Value) → Flow Production.Holder around place (OfKind HELD_COMPONENT ∷ []) (v ∷ []) 0
+    held : (v : Value) → By Production.Holder around place (OfKind HELD_COMPONENT ∷ []) (v ∷ []) 0
     held v = λ state next e. absurd (let clash : ◌≡◌ {A = Going} (Err (BadReference place)) (Ok next) = e in cc)
 
-nest-arguments : (around : Around) (place : ℕ)
-    → Flow Production.NestArguments around place (OfKind ARGUMENTS_FIRST ∷ Byte 69 ∷ OfKind COMPONENT ∷ OfKind NEST_TAIL ∷ []) [] (unlisted_around around)
-unfolding pending pending_around goes_on is_arguments is_component becomes_candidate between listed_so_far makes_before made_before part leaves makes_name may_leave meaning close behind
+nest-arguments : (around : Around) (place : ℕ) → By Production.NestArguments around place (OfKind ARGUMENTS_FIRST ∷ Byte 69 ∷ OfKind COMPONENT ∷ OfKind NEST_TAIL ∷ []) [] (few_.unlisted_around around)
+unfolding pending pending_around goes_on is_arguments is_component becomes_candidate row_of before_part done around_part packs_within replaced made given all_given built argument tree_in is_listing state_after gained meant nodes_before nodes_made nodes_at_end leaves makes_name may_leave part
 nest-arguments around place = λ state next e. came (going [] (inside around) (with_prefix around state)) next e (record {
   over = 0;
   few = omega (arith, prefix-one around state);
   later = λ v. record { now = 0; few = omega arith; goes = ended-by v };
 })
   where
-    ends : (u b v : Value) → Flow Production.NestArguments around place (OfKind NEST_TAIL ∷ []) (u ∷ b ∷ v ∷ []) 1
+    ends : (u b v : Value) → By Production.NestArguments around place (OfKind NEST_TAIL ∷ []) (u ∷ b ∷ v ∷ []) 1
     ends u b v = λ state next e. came (going (u ∷ b ∷ v ∷ []) (after (tree_of v) false around) state) next e
-        (rest-step Production.NestArguments around place 18 0 1 state (u ∷ b ∷ v ∷ []) (tree_of v) false state (λ a w. refl) (λ w. refl)
-        (omega arith)
-        (λ w. same-closes Production.NestArguments around place (u ∷ b ∷ v ∷ w ∷ []) w (λ x. refl) (λ byte began last. refl)))
+        (rest-step (row_of Production.NestArguments) (leaves Production.NestArguments) around place NEST_TAIL 0 1 state (u ∷ b ∷ v ∷ []) (tree_of v) false state (λ a w. refl) (λ w. refl) (omega arith)
+        (λ w. λ byte began last. omega arith))
 
-    made : (v b : Value) → Flow Production.NestArguments around place (OfKind COMPONENT ∷ OfKind NEST_TAIL ∷ []) (v ∷ b ∷ []) 0
-    made v b = λ state next e. (
+    instanced : (v b : Value) → By Production.NestArguments around place (OfKind COMPONENT ∷ OfKind NEST_TAIL ∷ []) (v ∷ b ∷ []) 0
+    instanced v b = λ state next e. (
         let t : Term = instance (prefix_tree around.prefix) (no_items v) in
         came (going (tree t true ∷ b ∷ []) (after t true around) (appended around t state)) next e (record {
           over = 0;
@@ -385,301 +318,236 @@ nest-arguments around place = λ state next e. came (going [] (inside around) (w
           later = λ w. record { now = 1; few = omega arith; goes = ends (tree t true) b w };
         }))
 
-    ended-by : (v : Value) → Flow Production.NestArguments around place (Byte 69 ∷ OfKind COMPONENT ∷ OfKind NEST_TAIL ∷ []) (v ∷ []) 0
-    ended-by v = λ state next e. came (going (v ∷ []) around state) next e
-        (quiet (going (v ∷ []) around state) (omega arith) (λ b. refl) (λ b. made v b))
+    ended-by : (v : Value) → By Production.NestArguments around place (Byte 69 ∷ OfKind COMPONENT ∷ OfKind NEST_TAIL ∷ []) (v ∷ []) 0
+    ended-by v = λ state next e. came (going (v ∷ []) around state) next e (none-appended (going (v ∷ []) around state) (omega arith) (λ b. refl) (λ b. instanced v b))
 
-nest-instance : (around : Around) (place : ℕ)
-    → Flow Production.NestInstance around place (OfKind ARGUMENTS_FIRST ∷ Byte 69 ∷ OfKind NEST_MORE_OR_END ∷ []) [] (unlisted_around around)
-unfolding pending pending_around goes_on is_arguments is_component becomes_candidate between named_so_far makes_before made_before part leaves makes_name may_leave meaning close behind
+nest-instance : (around : Around) (place : ℕ) → By Production.NestInstance around place (OfKind ARGUMENTS_FIRST ∷ Byte 69 ∷ OfKind NEST_MORE_OR_END ∷ []) [] (few_.unlisted_around around)
+unfolding pending pending_around goes_on is_arguments is_component becomes_candidate row_of before_part done around_part packs_within replaced made given all_given built argument tree_in state_after gained meant nodes_before nodes_made nodes_at_end leaves makes_name may_leave part
 nest-instance around place = λ state next e. came (going [] (inside around) (with_prefix around state)) next e (record {
   over = 0;
   few = omega (arith, prefix-one around state);
   later = λ v. record { now = 0; few = omega arith; goes = ended-by v };
 })
   where
-    made : (v b : Value) → Flow Production.NestInstance around place (OfKind NEST_MORE_OR_END ∷ []) (v ∷ b ∷ []) 0
-    made v b = λ state next e. (
+    instanced : (v b : Value) → By Production.NestInstance around place (OfKind NEST_MORE_OR_END ∷ []) (v ∷ b ∷ []) 0
+    instanced v b = λ state next e. (
         let t : Term = instance (prefix_tree around.prefix) (no_items v) in
         came (going (tree t false ∷ b ∷ []) (after t false around) state) next e
-        (rest-step Production.NestInstance around place 92 1 0 state (tree t false ∷ b ∷ []) t false state (λ a w. refl) (λ w. refl)
-        (omega arith)
-        (λ w. same-closes Production.NestInstance around place (tree t false ∷ b ∷ w ∷ []) w (λ x. refl) (λ byte began last. refl))))
+        (rest-step (row_of Production.NestInstance) (leaves Production.NestInstance) around place NEST_MORE_OR_END 1 0 state (tree t false ∷ b ∷ []) t false state (λ a w. refl) (λ w. refl) (omega arith)
+        (λ w. λ byte began last. omega arith)))
 
-    ended-by : (v : Value) → Flow Production.NestInstance around place (Byte 69 ∷ OfKind NEST_MORE_OR_END ∷ []) (v ∷ []) 0
-    ended-by v = λ state next e. came (going (v ∷ []) around state) next e
-        (quiet (going (v ∷ []) around state) (omega arith) (λ b. refl) (λ b. made v b))
+    ended-by : (v : Value) → By Production.NestInstance around place (Byte 69 ∷ OfKind NEST_MORE_OR_END ∷ []) (v ∷ []) 0
+    ended-by v = λ state next e. came (going (v ∷ []) around state) next e (none-appended (going (v ∷ []) around state) (omega arith) (λ b. refl) (λ b. instanced v b))
 
-nest-end : (around : Around) (place : ℕ) → Flow Production.NestEnd around place [] [] (unlisted_around around)
-unfolding unlisted unlisted_around is_listed makes_at_end made_at_end leaves makes_name may_leave meaning close behind
-nest-end around place = λ byte began state one e.
-    ended Production.NestEnd 0 (unlisted_around around) state (found (tree (prefix_tree around.prefix)
-    (prefix_listed around.prefix)) state) one e (omega arith)
+nest-end : (around : Around) (place : ℕ) → By Production.NestEnd around place [] [] (few_.unlisted_around around)
+unfolding few_.unlisted few_.unlisted_around is_listed row_of state_after gained meant own_meaning nodes_at_end nodes_of leaves makes_name may_leave
+nest-end around place = λ byte began state. omega arith
 
-arguments : (around : Around) (place : ℕ) → Flow Production.Arguments around place (OfKind ARGUMENTS_FIRST ∷ Byte 69 ∷ []) [] (unlisted_around around)
-unfolding pending pending_around goes_on is_arguments is_component becomes_candidate between makes_before made_before makes_at_end made_at_end leaves makes_name may_leave close behind
+arguments : (around : Around) (place : ℕ) → By Production.Arguments around place (OfKind ARGUMENTS_FIRST ∷ Byte 69 ∷ []) [] (few_.unlisted_around around)
+unfolding pending pending_around goes_on is_arguments is_component becomes_candidate row_of before_part done around_part packs_within state_after gained nodes_before nodes_made nodes_at_end leaves makes_name may_leave
 arguments around place = λ state next e. came (going [] (inside around) (with_prefix around state)) next e (record {
   over = 0;
   few = omega (arith, prefix-one around state);
   later = λ v. record {
     now = 0;
     few = omega arith;
-    goes = λ later after_ f. came (going (v ∷ []) around later) after_ f (quiet (going (v ∷ []) around later) (omega arith) (λ b. refl)
-        (λ b. λ byte began last one g. ended Production.Arguments 0 0 last
-        (found (meaning Production.Arguments byte around (v ∷ b ∷ [])) last) one g (omega arith)));
+    goes = λ later after_ f. came (going (v ∷ []) around later) after_ f (none-appended (going (v ∷ []) around later) (omega arith) (λ b. refl) (λ b. λ byte began last. omega arith));
   };
 })
 
--- ## Productions that leave nothing pending
+-- ## The base class of a constructor that is inherited
 
--- a state with as many candidates
-same-kept : (n next : Next Value State Around) (state : State) (made : ℕ) → ◌≡◌ {A = Going} (Ok n) (Ok next)
-    → length n.state.candidates ≤ length state.candidates + made
-    → length next.state.candidates ≤ length state.candidates + made
-same-kept n next state made e few = subst (λ m. length m.state.candidates ≤ length state.candidates + made) (ok_same n next e) few
+base-arguments : (around : Around) (place : ℕ) → By Production.BaseArguments around place (OfKind ARGUMENTS_FIRST ∷ Byte 69 ∷ OfKind OWN_ARGUMENTS ∷ []) [] (few_.unlisted_around around)
+unfolding pending pending_around goes_on is_arguments is_component becomes_candidate row_of before_part done around_part packs_within replaced made given all_given built argument tree_in state_after gained meant nodes_before nodes_made nodes_at_end leaves makes_name may_leave part
+base-arguments around place = λ state next e. came (going [] (inside around) (with_prefix around state)) next e (record {
+  over = 0;
+  few = omega (arith, prefix-one around state);
+  later = λ v. record { now = 0; few = omega arith; goes = ended-by v };
+})
+  where
+    instanced : (v b : Value) → By Production.BaseArguments around place (OfKind OWN_ARGUMENTS ∷ []) (v ∷ b ∷ []) 0
+    instanced v b = λ state next e. (
+        let t : Term = instance (prefix_tree around.prefix) (no_items v) in
+        came (going (tree t false ∷ b ∷ []) (after t false around) state) next e
+        (none-appended (going (tree t false ∷ b ∷ []) (after t false around) state) (omega arith) (λ w. refl) (λ w. λ byte began last. omega arith)))
 
-abbrev Keeps : Production → Around → (place : ℕ) → Type 0
-Keeps p around place =
-    (vs : List Value) (state : State) (next : Next Value State Around) → between p around place vs state ≡ Ok next
-    → length next.state.candidates ≤ length state.candidates + makes_before p vs
+    ended-by : (v : Value) → By Production.BaseArguments around place (Byte 69 ∷ OfKind OWN_ARGUMENTS ∷ []) (v ∷ []) 0
+    ended-by v = λ state next e. came (going (v ∷ []) around state) next e (none-appended (going (v ∷ []) around state) (omega arith) (λ b. refl) (λ b. instanced v b))
 
-abbrev Closes : Production → Around → (place : ℕ) → Type 0
-Closes p around place = (vs : List Value) → Flow p around place [] vs 0
+-- after the name of a base class its arguments go on with it
+base-flow : (leave : Left) (around : Around) (place : ℕ) (x : Sym) → Untaken x → ((v : Value) → pending x v ≡ 1) → ((v : Value) → leave v ≡ 0)
+    → RowFlow (after_steps (quiet ∷ goes nothing (after_part 0 unlisted) ∷ []) (either 1 0)) leave around place (x ∷ OfKind BASE_ARGUMENTS ∷ []) [] 0
+unfolding pending pending_around few_.unlisted_around goes_on is_arguments is_component becomes_candidate before_part done around_part packs_within is_listing after prefix_listed state_after gained nodes_before nodes_at_end part
+base-flow leave around place x none one left = λ state next e. came (going [] around state) next e (record {
+  over = 0;
+  few = omega arith;
+  later = λ v. record {
+    now = 1;
+    few = omega (arith, none around v, one v);
+    goes = λ later after_ f. came (going (v ∷ []) (after (tree_of v) false around) later) after_ f (record {
+      over = 1;
+      few = omega arith;
+      later = λ w. record { now = 0; few = omega arith; goes = λ byte began last. omega (arith, left (meant (either 1 0) byte around (v ∷ w ∷ []))) };
+    });
+  };
+})
 
-encoding-keeps : (around : Around) (place : ℕ) → Keeps Production.Encoding around place
-unfolding between makes_before made_before
-encoding-keeps around place [] state next e = kept [] (in_name place) state next 0 e
-encoding-keeps around place (v ∷ vs) state next e = kept (v ∷ vs) (in_types place (tree_of v)) state next 0 e
+-- ## All productions
 
-conversion-keeps : (around : Around) (place : ℕ) → Keeps Production.Conversion around place
-unfolding between makes_before made_before
-conversion-keeps around place [] state next e = kept [] (inside around) state next 0 e
-conversion-keeps around place (v ∷ vs) state next e = kept (v ∷ vs) around state next 0 e
-
-local-name-keeps : (around : Around) (place : ℕ) → Keeps Production.LocalName around place
-unfolding between makes_before made_before
-local-name-keeps around place [] state next e = kept [] around state next 0 e
-local-name-keeps around place (v ∷ vs) state next e = kept (v ∷ vs) (after (tree_of v) true around) state next 0 e
-
-local-type-keeps : (around : Around) (place : ℕ) → Keeps Production.LocalType around place
-unfolding between makes_before made_before
-local-type-keeps around place [] state next e = kept [] around state next 0 e
-local-type-keeps around place (v ∷ vs) state next e = kept (v ∷ vs) (after (tree_of v) true around) state next 0 e
-
-pack-keeps : (around : Around) (place : ℕ) → Keeps Production.PackArgument around place
-unfolding between
-pack-keeps around place [] state next e = kept [] around state next (makes_before Production.PackArgument []) e
-pack-keeps around place (v ∷ []) state next e = kept (tree (pack (no_items v)) true ∷ []) around state next
-    (makes_before Production.PackArgument (v ∷ [])) e
-pack-keeps around place (v ∷ w ∷ vs) state next e = kept (v ∷ w ∷ vs) around state next
-    (makes_before Production.PackArgument (v ∷ w ∷ vs)) e
-
-parameter-keeps : (around : Around) (place : ℕ) → Keeps Production.ParameterExpression around place
-unfolding between makes_before made_before argument_so_far parameter_named
-parameter-keeps around place [] state next e = kept [] around state next 0 e
-parameter-keeps around place (v ∷ []) state next e = omega (arith, argument-none around place (index_of v) state next e)
-parameter-keeps around place (v ∷ w ∷ vs) state next e = kept (v ∷ w ∷ vs) around state next
-    (makes_before Production.ParameterExpression (v ∷ w ∷ vs)) e
-
-bounded-keeps : (around : Around) (place : ℕ) → Keeps Production.BoundedArray around place
-unfolding between makes_before made_before argument_so_far parameter_named
-bounded-keeps around place [] state next e = kept [] around state next 0 e
-bounded-keeps around place (v ∷ []) state next e = omega (arith, argument-none around place (index_of v) state next e)
-bounded-keeps around place (v ∷ w ∷ vs) state next e = kept (v ∷ w ∷ vs) around state next
-    (makes_before Production.BoundedArray (v ∷ w ∷ vs)) e
-
-declared-keeps : (around : Around) (place : ℕ) → Keeps Production.DeclaredArgument around place
-unfolding between makes_before made_before
-declared-keeps around place vs state next e = kept vs around state next 0 e
-
-lvalue-keeps : (around : Around) (place : ℕ) → Keeps Production.LvalueItem around place
-unfolding between makes_before made_before
-lvalue-keeps around place [] state next e = kept [] around state next 0 e
-lvalue-keeps around place (v ∷ []) state next e =
-    let t : Term = lvalue (tree_of v) in
-    same-kept (going (tree t true ∷ []) around (appended around t state)) next state 1 e (omega (arith, appended-one around t state))
-lvalue-keeps around place (v ∷ w ∷ vs) state next e = kept (v ∷ w ∷ vs) around state next
-    (makes_before Production.LvalueItem (v ∷ w ∷ vs)) e
-
-rvalue-keeps : (around : Around) (place : ℕ) → Keeps Production.RvalueItem around place
-unfolding between makes_before made_before
-rvalue-keeps around place [] state next e = kept [] around state next 0 e
-rvalue-keeps around place (v ∷ []) state next e =
-    let t : Term = rvalue (tree_of v) in
-    same-kept (going (tree t true ∷ []) around (appended around t state)) next state 1 e (omega (arith, appended-one around t state))
-rvalue-keeps around place (v ∷ w ∷ vs) state next e = kept (v ∷ w ∷ vs) around state next
-    (makes_before Production.RvalueItem (v ∷ w ∷ vs)) e
-
-substitution-closes : (around : Around) (place : ℕ) → Closes Production.Substitution around place
+substitution-closes : (around : Around) (place : ℕ) (vs : List Value) → Flow Production.Substitution around place [] vs 0
 unfolding close leaves makes_name may_leave
 substitution-closes around place vs = λ byte began state one e. omega (
   arith,
   substituted-none around (place - 1) (slice_get state.candidates (counted_value Seq36 (text_of (part vs 0)))) state one e,
 )
 
--- where a production appends the type that it makes
-type-closes : (p : Production) (around : Around) (place : ℕ)
-    → ((byte : ℕ) (began : State) (vs : List Value) (state : State) → close p byte around place began vs state
-    ≡ Ok (found (meaning p byte around vs) (appended around (tree_of (meaning p byte around vs)) state)))
-    → ((v : Value) → leaves p v ≡ 0) → ((vs : List Value) → makes_at_end p vs ≡ 1) → Closes p around place
-type-closes p around place means leave made vs = λ byte began state one e. (
-    let t : Term = tree_of (meaning p byte around vs) in
-    let f : Found Value State = found (meaning p byte around vs) (appended around t state) in
-    let same : f ≡ one = ok_same f one (sym (means byte began vs state) ∙ e) in
-    omega (arith, ap (λ o. length o.state.candidates) same, leave one.value, made vs, appended-one around t state))
+-- the reading of the ABI's grammar has no constructor that is inherited
+inheriting-closes : (around : Around) (place : ℕ) (vs : List Value) → Flow Production.Inheriting around place [] vs 0
+unfolding close
+inheriting-closes around place vs = λ byte began state one e. absurd (let clash : ◌≡◌ {A = Result (Found Value State) Refusal} (Err (BadReference place)) (Ok one) = e in cc)
 
--- where a production appends nothing at its end
-plain-closes : (p : Production) (around : Around) (place : ℕ)
-    → ((byte : ℕ) (began : State) (vs : List Value) (state : State) → close p byte around place began vs state ≡ Ok
-    (found (meaning p byte around vs) (behind p byte around began vs state)))
-    → ((byte : ℕ) (began : State) (vs : List Value) (state : State) → (behind p byte around began vs state).candidates ≡ state.candidates)
-    → ((byte : ℕ) (vs : List Value) → leaves p (meaning p byte around vs) ≤ makes_at_end p vs) → Closes p around place
-plain-closes p around place means same few vs = λ byte began state one e. (
-    let f : Found Value State = found (meaning p byte around vs) (behind p byte around began vs state) in
-    ended p (makes_at_end p vs) 0 state f one (sym (means byte began vs state) ∙ e)
-    (omega (arith, ap length (same byte began vs state), few byte vs)))
+leaves-one : (p : Production) (v : Value) → leaves p v ≤ 1
+unfolding leaves few_.unlisted
+leaves-one p v = go (makes_name p) (may_leave p) (is_listed v)
+  where
+    go : (a b c : Bool) → cond a 1 (cond b (cond c 0 1) 0) ≤ 1
+    go true b c = omega arith
+    go false true true = omega arith
+    go false true false = omega arith
+    go false false c = omega arith
+
+maybe-arguments : AfterName MAYBE_ARGUMENTS
+unfolding pending pending_around goes_on is_arguments is_component becomes_candidate
+maybe-arguments = (λ w. refl, λ around w. refl)
+
+arguments-next : AfterName ARGUMENTS
+unfolding pending pending_around goes_on is_arguments is_component becomes_candidate
+arguments-next = (λ w. refl, λ around w. refl)
+
+arguments-alone : AfterName ARGUMENTS_ALONE
+unfolding pending pending_around goes_on is_arguments is_component becomes_candidate
+arguments-alone = (λ w. refl, λ around w. refl)
+
+maybe-tags : AfterName MAYBE_TAGS
+unfolding pending pending_around goes_on is_arguments is_component becomes_candidate
+maybe-tags = (λ w. refl, λ around w. refl)
+
+module _ (p : Production) (is : closes_by_row p ≡ true) (around : Around) (place : ℕ) where
+  made_name : (m : Made) (form : Form) (x : Sym) (k : ℕ) → row_of p ≡ named_row m form → ((vs : List Value) → nodes_made m vs ≡ 1)
+      → ((vs : List Value) → nodes_at_end form vs ≡ one_if_arguments (part vs 1)) → Untaken x → AfterName k → Flow p around place (x ∷ OfKind k ∷ []) [] 0
+  made_name m form x k row one ends none follows =
+      of-row p is around place (x ∷ OfKind k ∷ []) [] 0
+      (subst (λ r. RowFlow r (leaves p) around place (x ∷ OfKind k ∷ []) [] 0) (sym row) (named-flow m form (leaves p) around place x k one ends (leaves-one p) none follows))
+
+  listed_name : (m : Made) (x : Sym) (k : ℕ) → row_of p ≡ listed_row m → ((v : Value) → leaves p v ≡ 0) → Untaken x → AfterName k
+      → Flow p around place (x ∷ OfKind k ∷ []) [] 0
+  listed_name m x k row left none follows =
+      of-row p is around place (x ∷ OfKind k ∷ []) [] 0
+      (subst (λ r. RowFlow r (leaves p) around place (x ∷ OfKind k ∷ []) [] 0) (sym row) (listed-flow m (leaves p) around place x k left none follows))
+
+  nested : (m : Made) (x : Sym) → row_of p ≡ named_row m (handed 1) → ((v : Value) → leaves p v ≡ few_.unlisted v) → ((vs : List Value) → nodes_made m vs ≡ 1) → Untaken x
+      → Flow p around place (x ∷ OfKind NEST_REST ∷ []) [] 0
+  nested m x row left one none =
+      of-row p is around place (x ∷ OfKind NEST_REST ∷ []) [] 0
+      (subst (λ r. RowFlow r (leaves p) around place (x ∷ OfKind NEST_REST ∷ []) [] 0) (sym row) (nest-flow m (leaves p) around place x left one none))
+
+  handed_on : (x : Sym) → row_of p ≡ plain (handed 0) nothing → Untaken x → ((v : Value) → leaves p v ≤ pending x v) → Flow p around place (x ∷ []) [] 0
+  handed_on x row none few =
+      of-row p is around place (x ∷ []) [] 0 (subst (λ r. RowFlow r (leaves p) around place (x ∷ []) [] 0) (sym row) (handed-flow (leaves p) around place x none few))
+
+  typed : (x : Sym) → row_of p ≡ plain (finished 0) (type_of 0) → Untaken x → ((v : Value) → pending x v ≡ few_.unlisted v) → ((v : Value) → leaves p (listed_value v) ≡ 0) → Flow p around place (x ∷ []) [] 0
+  typed x row none is_ left =
+      of-row p is around place (x ∷ []) [] 0 (subst (λ r. RowFlow r (leaves p) around place (x ∷ []) [] 0) (sym row) (typed-flow (leaves p) around place x none is_ left))
+
+  unqualified : (x : Sym) → row_of p ≡ plain (finished 0) (unqualified_of 0) → Untaken x → ((v : Value) → pending x v ≡ few_.unlisted v) → ((v : Value) → leaves p (listed_value v) ≡ 0) → Flow p around place (x ∷ []) [] 0
+  unqualified x row none is_ left =
+      of-row p is around place (x ∷ []) [] 0 (subst (λ r. RowFlow r (leaves p) around place (x ∷ []) [] 0) (sym row) (unqualified-flow (leaves p) around place x none is_ left))
+
+  of_type : (form : Form) (x y : Sym) → row_of p ≡ after_steps (quiet ∷ goes (type_of 0) as_before ∷ []) form → Untaken x → Untaken y → ((v : Value) → pending x v ≡ few_.unlisted v) → ((v : Value) → leaves p v ≡ 0)
+      → Flow p around place (x ∷ y ∷ []) [] 0
+  of_type form x y row none free is_ left =
+      of-row p is around place (x ∷ y ∷ []) [] 0 (subst (λ r. RowFlow r (leaves p) around place (x ∷ y ∷ []) [] 0) (sym row) (of-type-flow form (leaves p) around place x y none free is_ left))
+
+  base_name : (x : Sym) → row_of p ≡ after_steps (quiet ∷ goes nothing (after_part 0 unlisted) ∷ []) (either 1 0) → Untaken x → ((v : Value) → pending x v ≡ 1) → ((v : Value) → leaves p v ≡ 0)
+      → Flow p around place (x ∷ OfKind BASE_ARGUMENTS ∷ []) [] 0
+  base_name x row none one left =
+      of-row p is around place (x ∷ OfKind BASE_ARGUMENTS ∷ []) [] 0
+      (subst (λ r. RowFlow r (leaves p) around place (x ∷ OfKind BASE_ARGUMENTS ∷ []) [] 0) (sym row) (base-flow (leaves p) around place x none one left))
+
+  own_type : (form : Form) (xs : List Sym) → row_of p ≡ plain form itself → all_keep ((row_of p).onward ∷ (row_of p).before) ≡ true → take_nothing xs ≡ true → ((v : Value) → leaves p v ≡ 0) → ((vs : List Value) → nodes_at_end form vs ≡ 1)
+      → Flow p around place xs [] 0
+  own_type form xs row keep none left one =
+      plain-flow p around place keep
+      (λ vs. of-row p is around place [] vs 0 (subst (λ r. RowFlow r (leaves p) around place [] vs 0) (sym row) (own-type form (leaves p) around place vs left one))) xs none []
+
+  simple : (xs : List Sym) → all_keep ((row_of p).onward ∷ (row_of p).before) ≡ true → take_nothing xs ≡ true → ((vs : List Value) → By p around place [] vs 0) → Flow p around place xs [] 0
+  simple xs keep none closes = plain-flow p around place keep (λ vs. of-row p is around place [] vs 0 (closes vs)) xs none []
 
 pub flows : (p : Production) (around : Around) (place : ℕ) → Flow p around place (parts_of p) [] (starts_with p around)
-unfolding parts_of number_of_kind starts_with takes_name begins_arguments take_nothing takes_pending pending pending_around goes_on is_arguments is_component becomes_candidate between makes_before made_before makes_at_end made_at_end close behind leaves makes_name may_leave unlisted is_listed listed_value meaning part
-flows Production.InternalName around place = internal-name around place
-flows Production.LocalTypeName around place = local-type-name around place
-flows Production.SourceName around place = source-name around place
-flows Production.OperatorName around place = operator-name around place
-flows Production.OtherOperatorName around place = other-operator-name around place
-flows Production.OperatorNameWithC around place = operator-name-with-c around place
-flows Production.ComponentWithC around place = component-with-c around place
-flows Production.Conversion around place = plain-flow Production.Conversion around place (conversion-keeps around place)
-    (plain-closes Production.Conversion around place (λ byte began vs state. refl) (λ byte began vs state. refl) (λ byte vs. omega arith))
-    (parts_of Production.Conversion) refl []
-flows Production.Constructor around place = constructor-name around place
-flows Production.Destructor around place = destructor-name around place
-flows Production.StdName around place = std-name around place
-flows Production.AbbreviatedName around place = abbreviated-name around place
-flows Production.NestWithS around place = value-flow Production.NestWithS around place (OfKind NEST_AFTER_S) (λ a v. refl) (λ v. refl) (λ state. refl)
-    (λ v. same-closes Production.NestWithS around place (v ∷ []) v (λ u. refl) (λ byte began state. refl))
-flows Production.NestedType around place = value-flow Production.NestedType around place (OfKind NEST) (λ a v. refl) (λ v. refl)
-    (λ state. refl)
-    (λ v. same-closes Production.NestedType around place (v ∷ []) v (λ u. refl) (λ byte began state. refl))
-flows Production.ItemIsType around place = value-flow Production.ItemIsType around place (OfKind AFTER_D) (λ a v. refl) (λ v. refl)
-    (λ state. refl)
-    (λ v. same-closes Production.ItemIsType around place (v ∷ []) v (λ u. refl) (λ byte began state. refl))
-flows Production.AbbreviatedType around place = value-flow Production.AbbreviatedType around place (OfKind ABBREVIATION) (λ a v. refl) (λ v. refl)
-    (λ state. refl)
-    (λ v. same-closes Production.AbbreviatedType around place (v ∷ []) v (λ u. refl) (λ byte began state. refl))
-flows Production.TypeInStd around place = value-flow Production.TypeInStd around place (OfKind TYPE_IN_STD) (λ a v. refl) (λ v. refl)
-    (λ state. refl)
-    (λ v. same-closes Production.TypeInStd around place (v ∷ []) v (λ u. refl) (λ byte began state. refl))
-flows Production.TaggedStdType around place = tagged-std-type around place
-flows Production.TypeTag around place = type-tag around place
-flows Production.PlainType around place = solid-type Production.PlainType around place SOLID (λ a v. refl) (λ v. refl) (λ state. refl)
-    (λ v. refl) (λ byte began state v. refl)
-flows Production.TypeWithD around place = solid-type Production.TypeWithD around place AFTER_D (λ a v. refl) (λ v. refl) (λ state. refl)
-    (λ v. refl) (λ byte began state v. refl)
-flows Production.ItemWithD around place = solid-type Production.ItemWithD around place ITEM_AFTER_D (λ a v. refl) (λ v. refl) (λ state. refl)
-    (λ v. refl) (λ byte began state v. refl)
-flows Production.QualifiedPlain around place =
-    unqualified-type Production.QualifiedPlain around place SOLID (λ a v. refl) (λ v. refl) (λ state. refl) (λ v. refl)
-    (λ byte began state v. refl)
-flows Production.PlainWithD around place = unqualified-type Production.PlainWithD around place AFTER_D (λ a v. refl) (λ v. refl)
-    (λ state. refl) (λ v. refl) (λ byte began state v. refl)
-flows Production.IntegerLiteral around place = integer-literal around place
-flows Production.Tag around place = tag-name around place
-flows Production.NestTag around place = nest-tag around place
-flows Production.Parameter around place = parameter-type around place
-flows Production.TypeWithS around place = with-s-type around place
-flows Production.NestInternal around place = nest-internal around place
-flows Production.NestSource around place = nest-source around place
-flows Production.NestLocalType around place = nest-local-type around place
-flows Production.NestTemplate around place = nest-template around place
-flows Production.NestParameter around place = nest-parameter around place
-flows Production.NestStd around place = nest-std around place
-flows Production.NestNext around place = nest-next around place
-flows Production.Holder around place = holder-component around place
-flows Production.NestArguments around place = nest-arguments around place
-flows Production.NestInstance around place = nest-instance around place
-flows Production.NestEnd around place = nest-end around place
-flows Production.Arguments around place = arguments around place
-flows Production.Encoding around place = plain-flow Production.Encoding around place (encoding-keeps around place)
-    (plain-closes Production.Encoding around place (λ byte began vs state. refl) (λ byte began vs state. refl) (λ byte vs. omega arith))
-    (parts_of Production.Encoding) refl []
-flows Production.Special around place = plain-flow Production.Special around place
-    (λ vs state next e. kept vs (in_name place) state next 0 e)
-    (plain-closes Production.Special around place (λ byte began vs state. refl) (λ byte began vs state. refl) (λ byte vs. omega arith))
-    (parts_of Production.Special) refl []
-flows Production.OtherSpecial around place = plain-flow Production.OtherSpecial around place (λ vs state next e. kept vs (in_name place) state next 0 e)
-    (plain-closes Production.OtherSpecial around place (λ byte began vs state. refl) (λ byte began vs state. refl) (λ byte vs. omega arith))
-    (parts_of Production.OtherSpecial) refl []
-flows Production.Lambda around place = plain-flow Production.Lambda around place
-    (λ vs state next e. kept vs (in_signature around) state next 0 e)
-    (plain-closes Production.Lambda around place (λ byte began vs state. refl) (λ byte began vs state. refl) (λ byte vs. omega arith))
-    (parts_of Production.Lambda) refl []
-flows Production.LocalName around place = plain-flow Production.LocalName around place (local-name-keeps around place)
-    (plain-closes Production.LocalName around place (λ byte began vs state. refl) (λ byte began vs state. refl) (λ byte vs. omega arith))
-    (parts_of Production.LocalName) refl []
-flows Production.LocalType around place = plain-flow Production.LocalType around place (local-type-keeps around place)
-    (plain-closes Production.LocalType around place (λ byte began vs state. refl) (λ byte began vs state. refl) (λ byte vs. omega arith))
-    (parts_of Production.LocalType) refl []
-flows Production.PackArgument around place = plain-flow Production.PackArgument around place (pack-keeps around place)
-    (plain-closes Production.PackArgument around place (λ byte began vs state. refl) (λ byte began vs state. refl)
-    (λ byte vs. omega arith)) (parts_of Production.PackArgument) refl []
-flows Production.ArrayType around place = value-flow Production.ArrayType around place (OfKind ANY_ARRAY) (λ a v. refl) (λ v. refl)
-    (λ state. refl)
-    (λ v. same-closes Production.ArrayType around place (v ∷ []) v (λ u. refl) (λ byte began state. refl))
-flows Production.AnyArray around place = value-flow Production.AnyArray around place (OfKind ARRAY_REST) (λ a v. refl) (λ v. refl)
-    (λ state. refl)
-    (λ v. same-closes Production.AnyArray around place (v ∷ []) v (λ u. refl) (λ byte began state. refl))
-flows Production.BoundedArray around place = plain-flow Production.BoundedArray around place (bounded-keeps around place)
-    (plain-closes Production.BoundedArray around place (λ byte began vs state. refl) (λ byte began vs state. refl)
-    (λ byte vs. omega arith)) (parts_of Production.BoundedArray) refl []
-flows Production.PlainArgument around place = solid-type Production.PlainArgument around place SOLID_BUT_T (λ a v. refl) (λ v. refl) (λ state. refl)
-    (λ v. refl) (λ byte began state v. refl)
-flows Production.ArgumentWithT around place = solid-type Production.ArgumentWithT around place ARGUMENT_AFTER_T (λ a v. refl) (λ v. refl)
-    (λ state. refl) (λ v. refl) (λ byte began state v. refl)
-flows Production.ParameterArgument around place = parameter-behind-t around place
-flows Production.ValueOf around place = plain-flow Production.ValueOf around place
-    (λ vs state next e. kept vs (in_signature around) state next 0 e)
-    (plain-closes Production.ValueOf around place (λ byte began vs state. refl) (λ byte began vs state. refl) (λ byte vs. omega arith))
-    (parts_of Production.ValueOf) refl []
-flows Production.OfConcept around place = plain-flow Production.OfConcept around place
-    (λ vs state next e. kept vs (in_signature around) state next 0 e)
-    (plain-closes Production.OfConcept around place (λ byte began vs state. refl) (λ byte began vs state. refl) (λ byte vs. omega arith))
-    (parts_of Production.OfConcept) refl []
-flows Production.DeclaredArgument around place = plain-flow Production.DeclaredArgument around place (declared-keeps around place)
-    (plain-closes Production.DeclaredArgument around place (λ byte began vs state. refl) (λ byte began vs state. refl)
-    (λ byte vs. omega arith)) (parts_of Production.DeclaredArgument) refl []
-flows Production.ParameterExpression around place = plain-flow Production.ParameterExpression around place (parameter-keeps around place)
-    (plain-closes Production.ParameterExpression around place (λ byte began vs state. refl) (λ byte began vs state. refl)
-    (λ byte vs. omega arith)) (parts_of Production.ParameterExpression) refl []
-flows Production.Expansion around place =
-    plain-flow Production.Expansion around place
-    (λ vs state next e. same-kept (going vs (under_expansion around) (record state { packs = None })) next state 0 e (omega arith))
-    (plain-closes Production.Expansion around place (λ byte began vs state. refl) (λ byte began vs state. refl) (λ byte vs. omega arith))
-    (parts_of Production.Expansion) refl []
-flows Production.LvalueItem around place = plain-flow Production.LvalueItem around place (lvalue-keeps around place)
-    (plain-closes Production.LvalueItem around place (λ byte began vs state. refl) (λ byte began vs state. refl) (λ byte vs. omega arith))
-    (parts_of Production.LvalueItem) refl []
-flows Production.RvalueItem around place = plain-flow Production.RvalueItem around place (rvalue-keeps around place)
-    (plain-closes Production.RvalueItem around place (λ byte began vs state. refl) (λ byte began vs state. refl) (λ byte vs. omega arith))
-    (parts_of Production.RvalueItem) refl []
-flows Production.Substitution around place =
-    plain-flow Production.Substitution around place (λ vs state next e. kept vs around state next 0 e) (substitution-closes around place)
-    (parts_of Production.Substitution) refl []
-flows Production.RestrictType around place =
-    plain-flow Production.RestrictType around place (λ vs state next e. kept vs around state next 0 e)
-    (type-closes Production.RestrictType around place (λ byte began vs state. refl) (λ v. refl) (λ vs. refl))
-    (parts_of Production.RestrictType) refl []
-flows Production.VolatileType around place =
-    plain-flow Production.VolatileType around place (λ vs state next e. kept vs around state next 0 e)
-    (type-closes Production.VolatileType around place (λ byte began vs state. refl) (λ v. refl) (λ vs. refl))
-    (parts_of Production.VolatileType) refl []
-flows Production.ConstType around place =
-    plain-flow Production.ConstType around place (λ vs state next e. kept vs around state next 0 e)
-    (type-closes Production.ConstType around place (λ byte began vs state. refl) (λ v. refl) (λ vs. refl))
-    (parts_of Production.ConstType) refl []
-flows Production.ReferenceType around place =
-    plain-flow Production.ReferenceType around place (λ vs state next e. kept vs around state next 0 e)
-    (type-closes Production.ReferenceType around place (λ byte began vs state. refl) (λ v. refl) (λ vs. refl))
-    (parts_of Production.ReferenceType) refl []
-flows p around place =
-    plain-flow p around place (λ vs state next e. kept vs around state next (makes_before p vs) e)
-    (plain-closes p around place (λ byte began vs state. refl) (λ byte began vs state. refl) (λ byte vs. omega arith)) (parts_of p) refl []
+unfolding parts_of number_of_kind starts_with takes_name begins_arguments take_nothing takes_pending all_keep keeps closes_by_row row_of pending pending_around goes_on is_arguments is_component becomes_candidate state_after gained meant own_meaning is_listing made given all_given built argument tree_in bytes_in truth_in number_in nodes_made nodes_of nodes_at_end leaves makes_name may_leave few_.unlisted is_listed listed_value part
+flows Production.InternalName around place = made_name Production.InternalName refl around place _ _ Name MAYBE_ARGUMENTS refl (λ vs. refl) (λ vs. refl) (λ a v. refl) maybe-arguments
+flows Production.SourceName around place = made_name Production.SourceName refl around place _ _ Name MAYBE_ARGUMENTS refl (λ vs. refl) (λ vs. refl) (λ a v. refl) maybe-arguments
+flows Production.LocalTypeName around place = made_name Production.LocalTypeName refl around place _ _ (OfKind ANONYMOUS) MAYBE_ARGUMENTS refl (λ vs. refl) (λ vs. refl) (λ a v. refl) maybe-arguments
+flows Production.OperatorName around place = made_name Production.OperatorName refl around place _ _ (OfKind OPERATOR) MAYBE_ARGUMENTS refl (λ vs. refl) (λ vs. refl) (λ a v. refl) maybe-arguments
+flows Production.OtherOperatorName around place = made_name Production.OtherOperatorName refl around place _ _ (OfKind OTHER_OPERATOR) MAYBE_ARGUMENTS refl (λ vs. refl) (λ vs. refl) (λ a v. refl) maybe-arguments
+flows Production.OperatorNameWithC around place = made_name Production.OperatorNameWithC refl around place _ _ (OfKind OPERATOR_AFTER_C) MAYBE_ARGUMENTS refl (λ vs. refl) (λ vs. refl) (λ a v. refl) maybe-arguments
+flows Production.Constructor around place = made_name Production.Constructor refl around place _ _ (OfKind CONSTRUCTOR_DIGIT) MAYBE_ARGUMENTS refl (λ vs. refl) (λ vs. refl) (λ a v. refl) maybe-arguments
+flows Production.Destructor around place = made_name Production.Destructor refl around place _ _ (OfKind DESTRUCTOR_DIGIT) MAYBE_ARGUMENTS refl (λ vs. refl) (λ vs. refl) (λ a v. refl) maybe-arguments
+flows Production.StdName around place = made_name Production.StdName refl around place _ _ (OfKind UNQUALIFIED) MAYBE_ARGUMENTS refl (λ vs. refl) (λ vs. refl) (λ a v. refl) maybe-arguments
+flows Production.Tag around place = made_name Production.Tag refl around place _ _ Name MAYBE_ARGUMENTS refl (λ vs. refl) (λ vs. refl) (λ a v. refl) maybe-arguments
+flows Production.TaggedStdType around place = made_name Production.TaggedStdType refl around place _ _ (OfKind SOURCE_OR_LOCAL) MAYBE_TAGS refl (λ vs. refl) (λ vs. refl) (λ a v. refl) maybe-tags
+flows Production.TaggedSource around place = made_name Production.TaggedSource refl around place _ _ Name MAYBE_TAGS refl (λ vs. refl) (λ vs. refl) (λ a v. refl) maybe-tags
+flows Production.TypeTag around place = made_name Production.TypeTag refl around place _ _ Name MAYBE_TAGS refl (λ vs. refl) (λ vs. refl) (λ a v. refl) maybe-tags
+flows Production.AbbreviatedName around place = listed_name Production.AbbreviatedName refl around place _ (OfKind ABBREVIATION) ARGUMENTS refl (λ v. refl) (λ a v. refl) arguments-next
+flows Production.SimpleId around place = listed_name Production.SimpleId refl around place _ Name ARGUMENTS_ALONE refl (λ v. refl) (λ a v. refl) arguments-alone
+flows Production.OperatorReference around place = listed_name Production.OperatorReference refl around place _ (OfKind OPERATOR) ARGUMENTS_ALONE refl (λ v. refl) (λ a v. refl) arguments-alone
+flows Production.NestInternal around place = nested Production.NestInternal refl around place _ Name refl (λ v. refl) (λ vs. refl) (λ a v. refl)
+flows Production.NestSource around place = nested Production.NestSource refl around place _ Name refl (λ v. refl) (λ vs. refl) (λ a v. refl)
+flows Production.NestTag around place = nested Production.NestTag refl around place _ Name refl (λ v. refl) (λ vs. refl) (λ a v. refl)
+flows Production.NestLocalType around place = nested Production.NestLocalType refl around place _ (OfKind ANONYMOUS) refl (λ v. refl) (λ vs. refl) (λ a v. refl)
+flows Production.NestWithS around place = handed_on Production.NestWithS refl around place (OfKind NEST_AFTER_S) refl (λ a v. refl) (λ v. omega arith)
+flows Production.NestedType around place = handed_on Production.NestedType refl around place (OfKind NEST) refl (λ a v. refl) (λ v. omega arith)
+flows Production.ItemIsType around place = handed_on Production.ItemIsType refl around place (OfKind AFTER_D) refl (λ a v. refl) (λ v. omega arith)
+flows Production.AbbreviatedType around place = handed_on Production.AbbreviatedType refl around place (OfKind ABBREVIATION) refl (λ a v. refl) (λ v. omega arith)
+flows Production.ArrayType around place = handed_on Production.ArrayType refl around place (OfKind ANY_ARRAY) refl (λ a v. refl) (λ v. omega arith)
+flows Production.AnyArray around place = handed_on Production.AnyArray refl around place (OfKind ARRAY_REST) refl (λ a v. refl) (λ v. omega arith)
+flows Production.TypeInStd around place = handed_on Production.TypeInStd refl around place (OfKind TYPE_IN_STD) refl (λ a v. refl) (leaves-one Production.TypeInStd)
+flows Production.AnyConstructor around place = handed_on Production.AnyConstructor refl around place (OfKind CONSTRUCTOR_AFTER_C) refl (λ a v. refl) (leaves-one Production.AnyConstructor)
+flows Production.ComponentWithC around place = handed_on Production.ComponentWithC refl around place (OfKind COMPONENT_AFTER_C) refl (λ a v. refl) (leaves-one Production.ComponentWithC)
+flows Production.PlainType around place = typed Production.PlainType refl around place (OfKind SOLID) refl (λ a v. refl) (λ v. refl) (λ v. refl)
+flows Production.TypeWithD around place = typed Production.TypeWithD refl around place (OfKind AFTER_D) refl (λ a v. refl) (λ v. refl) (λ v. refl)
+flows Production.ItemWithD around place = typed Production.ItemWithD refl around place (OfKind ITEM_AFTER_D) refl (λ a v. refl) (λ v. refl) (λ v. refl)
+flows Production.PlainArgument around place = typed Production.PlainArgument refl around place (OfKind SOLID_BUT_T) refl (λ a v. refl) (λ v. refl) (λ v. refl)
+flows Production.ArgumentWithT around place = typed Production.ArgumentWithT refl around place (OfKind ARGUMENT_AFTER_T) refl (λ a v. refl) (λ v. refl) (λ v. refl)
+flows Production.ConvertedType around place = typed Production.ConvertedType refl around place (OfKind CONVERTED_SOLID) refl (λ a v. refl) (λ v. refl) (λ v. refl)
+flows Production.ConvertedDecltype around place = typed Production.ConvertedDecltype refl around place (OfKind DECLTYPE_AFTER_D) refl (λ a v. refl) (λ v. refl) (λ v. refl)
+flows Production.QualifiedPlain around place = unqualified Production.QualifiedPlain refl around place (OfKind SOLID) refl (λ a v. refl) (λ v. refl) (λ v. refl)
+flows Production.PlainWithD around place = unqualified Production.PlainWithD refl around place (OfKind AFTER_D) refl (λ a v. refl) (λ v. refl) (λ v. refl)
+flows Production.IntegerLiteral around place = of_type Production.IntegerLiteral refl around place _ (OfKind LITERAL_TYPE) (OfKind INTEGER) refl (λ a v. refl) (λ a v. refl) (λ v. refl) (λ v. refl)
+flows Production.UnresolvedInType around place = of_type Production.UnresolvedInType refl around place _ (OfKind UNRESOLVED_TYPE) (OfKind UNRESOLVED_NAME) refl (λ a v. refl) (λ a v. refl) (λ v. refl) (λ v. refl)
+flows Production.RestrictType around place = own_type Production.RestrictType refl around place _ (parts_of Production.RestrictType) refl refl refl (λ v. refl) (λ vs. refl)
+flows Production.VolatileType around place = own_type Production.VolatileType refl around place _ (parts_of Production.VolatileType) refl refl refl (λ v. refl) (λ vs. refl)
+flows Production.ConstType around place = own_type Production.ConstType refl around place _ (parts_of Production.ConstType) refl refl refl (λ v. refl) (λ vs. refl)
+flows Production.ReferenceType around place = own_type Production.ReferenceType refl around place _ (parts_of Production.ReferenceType) refl refl refl (λ v. refl) (λ vs. refl)
+flows Production.ConvertedConst around place = own_type Production.ConvertedConst refl around place _ (parts_of Production.ConvertedConst) refl refl refl (λ v. refl) (λ vs. refl)
+flows Production.ConvertedPointer around place = own_type Production.ConvertedPointer refl around place _ (parts_of Production.ConvertedPointer) refl refl refl (λ v. refl) (λ vs. refl)
+flows Production.ConvertedReference around place = own_type Production.ConvertedReference refl around place _ (parts_of Production.ConvertedReference) refl refl refl (λ v. refl) (λ vs. refl)
+flows Production.Parameter around place = of-row Production.Parameter refl around place (parts_of Production.Parameter) [] 0 (parameter-flow false around place)
+flows Production.ParameterArgument around place = of-row Production.ParameterArgument refl around place (parts_of Production.ParameterArgument) [] 0 (parameter-flow true around place)
+flows Production.ParameterExpression around place = of-row Production.ParameterExpression refl around place (parts_of Production.ParameterExpression) [] 0 (expression-parameter around place)
+flows Production.TypeWithS around place = of-row Production.TypeWithS refl around place (parts_of Production.TypeWithS) [] 0 (with-s-type around place)
+flows Production.NestTemplate around place = of-row Production.NestTemplate refl around place (parts_of Production.NestTemplate) [] 0 (nest-template around place)
+flows Production.NestParameter around place = of-row Production.NestParameter refl around place (parts_of Production.NestParameter) [] 0 (nest-parameter around place)
+flows Production.NestStd around place = of-row Production.NestStd refl around place (parts_of Production.NestStd) [] 0 (nest-std around place)
+flows Production.NestNext around place = of-row Production.NestNext refl around place (parts_of Production.NestNext) [] (few_.unlisted_around around) (nest-next around place)
+flows Production.Holder around place = of-row Production.Holder refl around place (parts_of Production.Holder) [] 0 (holder-component around place)
+flows Production.NestArguments around place = of-row Production.NestArguments refl around place (parts_of Production.NestArguments) [] (few_.unlisted_around around) (nest-arguments around place)
+flows Production.NestInstance around place = of-row Production.NestInstance refl around place (parts_of Production.NestInstance) [] (few_.unlisted_around around) (nest-instance around place)
+flows Production.NestEnd around place = of-row Production.NestEnd refl around place [] [] (few_.unlisted_around around) (nest-end around place)
+flows Production.Arguments around place = of-row Production.Arguments refl around place (parts_of Production.Arguments) [] (few_.unlisted_around around) (arguments around place)
+flows Production.BaseArguments around place = of-row Production.BaseArguments refl around place (parts_of Production.BaseArguments) [] (few_.unlisted_around around) (base-arguments around place)
+flows Production.BaseInStd around place = base_name Production.BaseInStd refl around place (OfKind TYPE_IN_STD) refl (λ a v. refl) (λ v. refl) (λ v. refl)
+flows Production.SourceBase around place = base_name Production.SourceBase refl around place (OfKind TAGGED_SOURCE) refl (λ a v. refl) (λ v. refl) (λ v. refl)
+flows Production.Substitution around place = plain-flow Production.Substitution around place refl (substitution-closes around place) (parts_of Production.Substitution) refl []
+flows Production.Inheriting around place = plain-flow Production.Inheriting around place refl (inheriting-closes around place) (parts_of Production.Inheriting) refl []
+flows p around place = simple p refl around place (parts_of p) refl refl (λ vs. λ byte began state. omega arith)

@@ -345,8 +345,9 @@ closes_same s kind rule taken parts place context before begun inner rest known 
 -- and so it is by the wide grammar
 wide_plain_closes : (s : List ℕ) (p : Production) (byte : ℕ) (around : Around) (place : ℕ) (began : State) (vs : List Value) (state : State) → is_plain p ≡ true
     → link_close_wide s p byte around place began vs state ≡ close_wide p byte around place began vs state
-unfolding link_close_wide close_wide is_plain
+unfolding link_close_wide close_wide link_meaning is_plain
 wide_plain_closes s Production.Substitution byte around place began vs state plain = refl
+wide_plain_closes s Production.Inheriting byte around place began vs state plain = refl
 wide_plain_closes s Production.Lambda byte around place began vs state plain = absurd (false≢true plain)
 wide_plain_closes s p byte around place began vs state plain = plain_closes s p byte around place began vs state plain
 
@@ -355,6 +356,7 @@ other_closes : (s : List ℕ) (p : Production) → is_plain p ≡ false → (byt
     → link_close_wide s p byte around place began vs state ≡ close_wide p byte around place began vs state
 unfolding is_plain link_close_wide close_wide link_close close behind
 other_closes s Production.Substitution other byte around place began vs state same = absurd (true≢false other)
+other_closes s Production.Inheriting other byte around place began vs state same = absurd (true≢false other)
 other_closes s Production.Lambda other byte around place began vs state same = ap (λ r. r >>= λ made. Ok (found (as_generic_lambda made.value) made.state)) same
 other_closes s p other byte around place began vs state same = same
 

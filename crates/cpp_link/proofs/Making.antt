@@ -128,11 +128,12 @@ common_meaning s _ byte place around vs common = refl
 
 -- ## What a production closes to
 
-other_close : (s : List ℕ) (p : Production) (byte : ℕ) (around : Around) (place : ℕ) (began : State) (vs : List Value) (state : State) → (p ≡ Production.Substitution → ⊥)
+other_close : (s : List ℕ) (p : Production) (byte : ℕ) (around : Around) (place : ℕ) (began : State) (vs : List Value) (state : State) → (p ≡ Production.Substitution → ⊥) → (p ≡ Production.Inheriting → ⊥)
     → link_close s p byte around place began vs state ≡ Ok (found (link_meaning s p byte place around vs) (behind p byte around began vs state))
 unfolding link_close
-other_close s Production.Substitution byte around place began vs state other = absurd (other refl)
-other_close s _ byte around place began vs state other = refl
+other_close s Production.Substitution byte around place began vs state other own = absurd (other refl)
+other_close s Production.Inheriting byte around place began vs state other own = absurd (own refl)
+other_close s _ byte around place began vs state other own = refl
 
 module _ (s : List ℕ) (p : Production) (byte : ℕ) (around : Around) (place : ℕ) (vs : List Value) (state then : State) (packs : Option ℕ) (value : Part → Value) (result : Result Part Refusal) where
   abbrev named : Result (Found Value State) Refusal
@@ -156,15 +157,15 @@ module _ (s : List ℕ) (p : Production) (byte : ℕ) (around : Around) (place :
       go (Ok made) refused = tt
       go (Err e) refused = λ began. subst (λ q. Fails e (link_close s q byte around place began vs state)) (sym is) refused
 
-  pub other_closes : (p ≡ Production.Substitution → ⊥) → IfOk result (λ made. value made ≡ link_meaning s p byte place around vs)
+  pub other_closes : (p ≡ Production.Substitution → ⊥) → (p ≡ Production.Inheriting → ⊥) → IfOk result (λ made. value made ≡ link_meaning s p byte place around vs)
       → OnOk result ((began : State) → began.packs ≡ packs → behind p byte around began vs state ≡ then)
       → IfOk result (λ made. (began : State) → began.packs ≡ packs → link_close s p byte around place began vs state ≡ Ok (found (value made) then))
-  other_closes other = go result
+  other_closes other own = go result
     where
       go : (r : Result Part Refusal) → IfOk r (λ made. value made ≡ link_meaning s p byte place around vs)
           → OnOk r ((began : State) → began.packs ≡ packs → behind p byte around began vs state ≡ then)
           → IfOk r (λ made. (began : State) → began.packs ≡ packs → link_close s p byte around place began vs state ≡ Ok (found (value made) then))
       go (Ok made) is comes = λ began same.
-          other_close s p byte around place began vs state other
+          other_close s p byte around place began vs state other own
           ∙ ap (λ v. Ok (found v (behind p byte around began vs state))) (sym is) ∙ ap (λ t. Ok (found (value made) t)) (comes began same)
       go (Err e) is comes = tt

@@ -35,7 +35,7 @@ use Rattle.cpp_link.specs.declared.part.Part.{Part}
 use Rattle.cpp_references.specs.declared.around.Surroundings.{Surroundings}
 use Rattle.cpp_link.specs.declared.part.Step.{Step}
 use Rattle.cpp_link.specs.LinkReading.{link_close, link_meaning}
-use Rattle.cpp_link.specs.LinkRescoping.{link_close_wide, linked_wide, is_parameter, is_parameter_argument, generic_read, is_substitution, is_lambda_production, is_holder, names_generic, names_holder, number_in, named_by, substituted_nodes, wide_at_end, wide_view}
+use Rattle.cpp_link.specs.LinkRescoping.{link_close_wide, linked_wide, is_parameter, is_parameter_argument, generic_read, is_substitution, is_lambda_production, is_holder, is_own_arguments, is_inheriting, names_generic, names_holder, counts_base, number_in, named_by, substituted_nodes, wide_at_end, wide_view}
 use Rattle.cpp_link.specs.Making.{state_of}
 use Rattle.cpp_link.specs.NodeCount.{makes_before, makes_at_end}
 use Rattle.cpp_link.specs.Parts.{trees_in, value_of, values_of, value_in, values_in, is_lambda, around_of, candidates_of, packs_of, IsClosed, IsThere, AreCandidatesThere}
@@ -50,29 +50,29 @@ use Rattle.cpp_link.proofs.Within.{at_plain}
 
 -- ## Before a part
 
--- where no parameter of a lambda is named, and no name with its M, it goes as in the other reading
+-- where no parameter of a lambda is named, and no name with its M, and no base class is counted, it goes as in the other reading
 apart_between : (p : Production) (around : Around) (place : ℕ) (vs : List Value) (state : State) → names_generic p around.in_lambda (length vs) ≡ false
-    → names_holder p (length vs) ≡ false → between_wide p around place vs state ≡ between p around place vs state
-unfolding between_wide between is_parameter is_holder parameter_here argument_here parameter_named parameter_so_far listed_so_far argument_so_far
-apart_between Production.Parameter around place (v ∷ []) state apart unheld = go around.in_lambda apart
+    → names_holder p (length vs) ≡ false → counts_base p (length vs) ≡ false → between_wide p around place vs state ≡ between p around place vs state
+unfolding between_wide between is_parameter is_holder is_own_arguments parameter_here argument_here parameter_named parameter_so_far listed_so_far argument_so_far
+apart_between Production.Parameter around place (v ∷ []) state apart unheld uncounted = go around.in_lambda apart
   where
     go : (b : Bool) → (b && true && nat_eq (length (v ∷ [])) 1) ≡ false
         → elim b [ true ↦ generic_so_far around (index_of v) [] state | false ↦ parameter_so_far around place (index_of v) [] state ] ≡ parameter_so_far around place (index_of v) [] state
     go true e = absurd (true≢false e)
     go false e = refl
-apart_between Production.NestParameter around place (v ∷ []) state apart unheld = go around.in_lambda apart
+apart_between Production.NestParameter around place (v ∷ []) state apart unheld uncounted = go around.in_lambda apart
   where
     go : (b : Bool) → (b && true && nat_eq (length (v ∷ [])) 1) ≡ false
         → elim b [ true ↦ generic_so_far around (index_of v) [] state | false ↦ parameter_so_far around place (index_of v) [] state ] ≡ parameter_so_far around place (index_of v) [] state
     go true e = absurd (true≢false e)
     go false e = refl
-apart_between Production.ParameterArgument around place (v ∷ []) state apart unheld = go around.in_lambda apart
+apart_between Production.ParameterArgument around place (v ∷ []) state apart unheld uncounted = go around.in_lambda apart
   where
     go : (b : Bool) → (b && true && nat_eq (length (v ∷ [])) 1) ≡ false
         → elim b [ true ↦ generic_so_far around (index_of v) [] state | false ↦ parameter_so_far around (place - 1) (index_of v) [] state ] ≡ parameter_so_far around (place - 1) (index_of v) [] state
     go true e = absurd (true≢false e)
     go false e = refl
-apart_between Production.ParameterExpression around place (v ∷ []) state apart unheld = go around.in_lambda apart
+apart_between Production.ParameterExpression around place (v ∷ []) state apart unheld uncounted = go around.in_lambda apart
   where
     own : Going
     own = next (tree (term.parameter (generic_number (index_of v)) auto) true ∷ []) around state
@@ -81,17 +81,9 @@ apart_between Production.ParameterExpression around place (v ∷ []) state apart
         → elim b [ true ↦ own | false ↦ argument_so_far around place (index_of v) state ] ≡ argument_so_far around place (index_of v) state
     go true e = absurd (true≢false e)
     go false e = refl
-apart_between Production.BoundedArray around place (v ∷ []) state apart unheld = go around.in_lambda apart
-  where
-    own : Going
-    own = next (tree (term.parameter (generic_number (index_of v)) auto) true ∷ []) around state
-
-    go : (b : Bool) → (b && true && nat_eq (length (v ∷ [])) 1) ≡ false
-        → elim b [ true ↦ own | false ↦ argument_so_far around place (index_of v) state ] ≡ argument_so_far around place (index_of v) state
-    go true e = absurd (true≢false e)
-    go false e = refl
-apart_between Production.Holder around place (v ∷ []) state apart unheld = absurd (true≢false unheld)
-apart_between p around place vs state apart unheld = refl
+apart_between Production.Holder around place (v ∷ []) state apart unheld uncounted = absurd (true≢false unheld)
+apart_between Production.OwnArguments around place [] state apart unheld uncounted = absurd (true≢false uncounted)
+apart_between p around place vs state apart unheld uncounted = refl
 
 -- what is done before the next part of the open rule of the reading, in terms of the frame
 pub wide_read_is : (s : List ℕ) (old : Linked) (frame : Frame Surroundings) (own : List Part) (rule : Open State Around) (known : List Value) (state : State) → IsAt (cpp_view s) s old frame own rule known state
@@ -112,12 +104,15 @@ same_test m n a b h k e f g is = rw (← e, ← f, ← g) is
 same_holder : (m n h k : ℕ) → m ≡ n → h ≡ k → names_holder (production_at m) h ≡ false → names_holder (production_at n) k ≡ false
 same_holder m n h k e g is = rw (← e, ← g) is
 
--- What was done where no parameter of a lambda is named, and no name with its M, is what the wide reading says.
+same_base : (m n h k : ℕ) → m ≡ n → h ≡ k → counts_base (production_at m) h ≡ false → counts_base (production_at n) k ≡ false
+same_base m n h k e g is = rw (← e, ← g) is
+
+-- What was done where no parameter of a lambda is named, and no name with its M, and no base class is counted, is what the wide reading says.
 pub apart_goes : (s : List ℕ) (old new : Linked) (frame : Frame Surroundings) (parts new_parts : List Part) (held : ℕ) (result : Result Surroundings Refusal) → held ≡ length parts - frame.base
     → names_generic (production_at frame.rule) (is_lambda frame.kept.scope) held ≡ false → names_holder (production_at frame.rule) held ≡ false
-    → GoesOn (cpp_view s) s (Surrounds s) old new frame parts new_parts result → GoesOn (wide_view s) s (Surrounds s) old new frame parts new_parts result
+    → counts_base (production_at frame.rule) held ≡ false → GoesOn (cpp_view s) s (Surrounds s) old new frame parts new_parts result → GoesOn (wide_view s) s (Surrounds s) old new frame parts new_parts result
 unfolding cpp cpp_wide around_of
-apart_goes s old new frame parts new_parts held result counted apart unheld goes rule known state is =
+apart_goes s old new frame parts new_parts held result counted apart unheld uncounted goes rule known state is =
     let at = at_plain s old frame (drop frame.base parts) rule known state is in
     let known_are = (parts_are s old (drop frame.base parts) known is.parts).1 in
     let many : held ≡ length known =
@@ -126,7 +121,8 @@ apart_goes s old new frame parts new_parts held result counted apart unheld goes
     subst (λ read. Goes (cpp_view s) (Surrounds s) new (take frame.base parts) new_parts result read)
     (sym (apart_between (production_at rule.rule.number) rule.context rule.place known state
     (same_test frame.rule rule.rule.number (is_lambda frame.kept.scope) rule.context.in_lambda held (length known) is.number lambda many apart)
-    (same_holder frame.rule rule.rule.number held (length known) is.number many unheld)))
+    (same_holder frame.rule rule.rule.number held (length known) is.number many unheld)
+    (same_base frame.rule rule.rule.number held (length known) is.number many uncounted)))
     (goes rule known state at)
 
 -- the step that was taken is that of the wide reading
@@ -152,20 +148,22 @@ wide_goes_right s old new frame parts new_parts step then step_is takes rule kno
 
 -- ## Where a rule closes
 
-apart_close : (s : List ℕ) (p : Production) (byte : ℕ) (around : Around) (place : ℕ) (began : State) (vs : List Value) (state : State) → (p ≡ Production.Substitution → ⊥) → (p ≡ Production.Lambda → ⊥)
+apart_close : (s : List ℕ) (p : Production) (byte : ℕ) (around : Around) (place : ℕ) (began : State) (vs : List Value) (state : State) → (p ≡ Production.Substitution → ⊥) → (p ≡ Production.Lambda → ⊥) → (p ≡ Production.Inheriting → ⊥)
     → link_close_wide s p byte around place began vs state ≡ link_close s p byte around place began vs state
 unfolding link_close_wide
-apart_close s Production.Substitution byte around place began vs state apart other = absurd (apart refl)
-apart_close s Production.Lambda byte around place began vs state apart other = absurd (other refl)
-apart_close s _ byte around place began vs state apart other = refl
+apart_close s Production.Substitution byte around place began vs state apart other uninherited = absurd (apart refl)
+apart_close s Production.Lambda byte around place began vs state apart other uninherited = absurd (other refl)
+apart_close s Production.Inheriting byte around place began vs state apart other uninherited = absurd (uninherited refl)
+apart_close s _ byte around place began vs state apart other uninherited = refl
 
--- a rule that is no substitution and no lambda closes as in the other reading
+-- a rule that is no substitution, no lambda and no constructor that is inherited closes as in the other reading
 pub apart_closes : (s : List ℕ) (old new : Linked) (frame : Frame Surroundings) (parts new_parts : List Part) (result : Result (Unit {0}) Refusal) → (production_at frame.rule ≡ Production.Substitution → ⊥)
-    → (production_at frame.rule ≡ Production.Lambda → ⊥)
+    → (production_at frame.rule ≡ Production.Lambda → ⊥) → (production_at frame.rule ≡ Production.Inheriting → ⊥)
     → ClosesAll (cpp_view s) s old new frame parts new_parts result → ClosesAll (wide_view s) s old new frame parts new_parts result
-apart_closes s old new frame parts new_parts result apart other closes rule known state is =
+apart_closes s old new frame parts new_parts result apart other uninherited closes rule known state is =
     subst (λ read. Puts (cpp_view s) new (take frame.base parts) new_parts result read)
-    (sym (apart_close s (production_at rule.rule.number) (byte_of rule.taken) rule.context rule.place rule.before known state (λ substitution. apart (ap production_at is.number ∙ substitution)) (λ lambda. other (ap production_at is.number ∙ lambda))))
+    (sym (apart_close s (production_at rule.rule.number) (byte_of rule.taken) rule.context rule.place rule.before known state (λ substitution. apart (ap production_at is.number ∙ substitution)) (λ lambda. other (ap production_at is.number ∙ lambda))
+    (λ inheriting. uninherited (ap production_at is.number ∙ inheriting))))
     (closes rule known state (at_plain s old frame (drop frame.base parts) rule known state is))
 
 -- what comes of a substitution by the wide reading, in terms of the frame
@@ -333,8 +331,6 @@ generic_between Production.ParameterArgument around place v state is lambda =
     ap (λ b. elim b as (λ _. Going) [ true ↦ generic_so_far around (index_of v) [] state | false ↦ parameter_so_far around (place - 1) (index_of v) [] state ]) lambda
 generic_between Production.ParameterExpression around place v state is lambda =
     ap (λ b. elim b as (λ _. Going) [ true ↦ next (tree (term.parameter (generic_number (index_of v)) auto) true ∷ []) around state | false ↦ argument_so_far around place (index_of v) state ]) lambda
-generic_between Production.BoundedArray around place v state is lambda =
-    ap (λ b. elim b as (λ _. Going) [ true ↦ next (tree (term.parameter (generic_number (index_of v)) auto) true ∷ []) around state | false ↦ argument_so_far around place (index_of v) state ]) lambda
 generic_between _ around place v state is lambda = absurd (false≢true is)
 
 pub generic_is : (s : List ℕ) (y : Stored) (kept : Surroundings) (p : Production) (place : ℕ) (own : List Part) (digits : List ℕ) (cs : List values.Candidate) (packs : Option ℕ) (step : Step)
@@ -366,6 +362,20 @@ lambda_alone _ is = absurd (false≢true is)
 pub no_lambda : (p : Production) → is_lambda_production p ≡ false → p ≡ Production.Lambda → ⊥
 unfolding is_lambda_production
 no_lambda p is lambda = absurd (true≢false (ap is_lambda_production (sym lambda) ∙ is))
+
+pub own_arguments_alone : (p : Production) → is_own_arguments p ≡ true → p ≡ Production.OwnArguments
+unfolding is_own_arguments
+own_arguments_alone Production.OwnArguments is = refl
+own_arguments_alone _ is = absurd (false≢true is)
+
+pub inheriting_alone : (p : Production) → is_inheriting p ≡ true → p ≡ Production.Inheriting
+unfolding is_inheriting
+inheriting_alone Production.Inheriting is = refl
+inheriting_alone _ is = absurd (false≢true is)
+
+pub not_inheriting : (p : Production) → is_inheriting p ≡ false → p ≡ Production.Inheriting → ⊥
+unfolding is_inheriting
+not_inheriting p is inheriting = absurd (true≢false (ap is_inheriting (sym inheriting) ∙ is))
 
 pub no_substitution : (p : Production) → is_substitution p ≡ false → p ≡ Production.Substitution → ⊥
 unfolding is_substitution

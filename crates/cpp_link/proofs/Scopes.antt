@@ -5,7 +5,7 @@ use Rattle.sym_core.specs.declared.refusal.Refusal.{Refusal}
 use Rattle.sym_core.specs.declared.refusal.Refusal.TheVariants.{BadReference}
 use Rattle.sym_link.specs.Reading.{Next, ◌>>=◌}
 use Rattle.cpp_grammar.specs.declared.production.Production.{Production}
-use Rattle.cpp_grammar.specs.Row.{Where, as_before, in_its_name, in_its_types, in_a_signature, under_it, nameless, after_part, after_the_name, Before, quiet, goes, becomes, tests, holds, before_part}
+use Rattle.cpp_grammar.specs.Row.{Where, as_before, in_its_name, in_its_types, in_a_signature, under_it, nameless, after_part, after_the_name, Before, quiet, goes, becomes, tests, holds, unread, before_part}
 use Rattle.cpp_grammar.specs.Rows.{row_of}
 use Rattle.cpp_term.specs.Term.{Term, holder, parameter}
 use Rattle.cpp_term.specs.Items.{auto}
@@ -53,6 +53,7 @@ done_closed (tests after_t is_name) around place vs state closed = by (parameter
     by (Ok s) = name_closed is_name around t true closed
     by (Err e) = tt
 done_closed holds around place vs state closed = tt
+done_closed unread around place vs state closed = tt
 
 goes_closed : (p : Production) (around : Around) (place : ℕ) (vs : List Value) (state : State) → IsClosed around → GoesClosed (between p around place vs state)
 unfolding between
@@ -98,12 +99,12 @@ holder_closed around place state closed = by (is_instance (prefix_tree around.pr
     by false = closed
 
 wide_goes_closed : (p : Production) (around : Around) (place : ℕ) (vs : List Value) (state : State) → IsClosed around → GoesClosed (between_wide p around place vs state)
-unfolding between_wide
+unfolding between_wide inside
 wide_goes_closed Production.Parameter around place (v ∷ []) state closed = here_closed around place (index_of v) state closed
 wide_goes_closed Production.NestParameter around place (v ∷ []) state closed = here_closed around place (index_of v) state closed
 wide_goes_closed Production.ParameterArgument around place (v ∷ []) state closed = here_closed around (place - 1) (index_of v) state closed
 wide_goes_closed Production.ParameterExpression around place (v ∷ []) state closed = argument_here_closed around place (index_of v) state closed
-wide_goes_closed Production.BoundedArray around place (v ∷ []) state closed = argument_here_closed around place (index_of v) state closed
+wide_goes_closed Production.OwnArguments around place [] state closed = closed
 wide_goes_closed Production.Holder around place (v ∷ []) state closed = holder_closed around place state closed
 wide_goes_closed p around place vs state closed = goes_closed p around place vs state closed
 

@@ -56,13 +56,6 @@ expression_steps (Ok (Step.Go candidate then packs)) = tt
 expression_steps (Ok (Step.Named node listed is_name)) = omega arith
 expression_steps (Ok (Step.Made node listed is_name is_candidate packs)) = (omega arith, refl)
 
-pub length_steps : (result : Result Step Refusal) → IfOk result (λ step. IsStepOf Production.BoundedArray 1 step)
-unfolding made_before
-length_steps (Err e) = tt
-length_steps (Ok (Step.Go candidate then packs)) = tt
-length_steps (Ok (Step.Named node listed is_name)) = omega arith
-length_steps (Ok (Step.Made node listed is_name is_candidate packs)) = (omega arith, refl)
-
 -- what a production owes pays for the nodes of a step
 pub step_owed : (p : Production) (held : ℕ) (step : Step) → IsStepOf p held step → nodes_of_step step + owes_of p (suc held) ≤ owes_of p held
 step_owed p held (Step.Go candidate then packs) of = omega (arith, quiet_owed p held)

@@ -7,7 +7,7 @@ use Rattle.cpp_grammar.specs.declared.production.Production.{Production}
 use Rattle.cpp_term.specs.Term.{parameter}
 use Rattle.cpp_term.specs.Values.{State, Value, tree, Around, part}
 use Rattle.cpp_term.specs.References.{parameter_named}
-use Rattle.cpp_grammar.specs.Row.{Before, quiet, goes, becomes, tests, holds, before_part}
+use Rattle.cpp_grammar.specs.Row.{Before, quiet, goes, becomes, tests, holds, unread, before_part}
 use Rattle.cpp_grammar.specs.Rows.{row_of}
 use Rattle.cpp_term.specs.Between.{between, next, listed_so_far, parameter_so_far, argument_so_far, argument_at, index_of}
 use Rattle.cpp_term.specs.Meant.{done, made, replaced, tested}
@@ -44,6 +44,7 @@ done_counts (tests after_t is_name) around place vs state = go (parameter_named 
     go (Ok s) = replaced_counts (tree (parameter (index_of (part vs 0)) (argument_at around (index_of (part vs 0)))) true) vs
     go (Err e) = tt
 done_counts holds around place vs state = tt
+done_counts unread around place vs state = tt
 
 pub between_counts : (p : Production) (around : Around) (place : ℕ) (vs : List Value) (state : State) → IfOk (between p around place vs state) (λ next. length next.values ≡ length vs)
 unfolding between

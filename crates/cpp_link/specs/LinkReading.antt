@@ -31,6 +31,8 @@ link_meaning s production byte place around vs = meaning production byte around 
 unfoldable pub link_close : List ℕ → Production → (byte : ℕ) → Around → (place : ℕ) → (began : State) → List Value → State
     → Result (Found Value State) Refusal
 link_close s Production.Substitution byte around place began vs state = close Production.Substitution byte around place began vs state
+-- nor has the ABI's grammar a constructor that is inherited
+link_close s Production.Inheriting byte around place began vs state = close Production.Inheriting byte around place began vs state
 link_close s production byte around place began vs state =
     Ok (found (link_meaning s production byte place around vs) (behind production byte around began vs state))
 

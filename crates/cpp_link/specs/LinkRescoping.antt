@@ -11,12 +11,13 @@ use Rattle.sym_link.specs.Tally.{Tally, tally, Makes, tallied, tallied_view}
 use Rattle.cpp_grammar.specs.declared.production.Production.{Production}
 use Rattle.cpp_grammar.specs.Rescoping.{generic_number}
 use Rattle.cpp_grammar.specs.Unfolding.{production_at, byte_of}
-use Rattle.cpp_term.specs.Term.{parameter}
+use Rattle.cpp_term.specs.Term.{Term, parameter}
 use Rattle.cpp_term.specs.Items.{auto}
-use Rattle.cpp_term.specs.Values.{Candidate, State, Around, Value, tree, text_of, part}
+use Rattle.cpp_term.specs.Values.{Candidate, State, Around, Value, tree, pair, is_listed, text_of, part}
 use Rattle.cpp_term.specs.Unfolding.{first_around, first_state}
-use Rattle.cpp_term.specs.Rescoping.{generic_so_far, is_foreign, as_generic_lambda, close_wide, cpp_wide}
+use Rattle.cpp_term.specs.Rescoping.{generic_so_far, is_foreign, as_generic_lambda, with_base, counted_base, close_wide, cpp_wide}
 use Rattle.cpp_term.specs.Between.{Going, next}
+use Rattle.cpp_tree.specs.Nodes.{tree_at}
 use Rattle.cpp_link.specs.declared.linked.Linked.{Linked}
 use Rattle.cpp_link.specs.declared.rescoping.Rescoping.{Rescoping}
 use Rattle.cpp_link.specs.declared.part.Part.{Part}
@@ -31,6 +32,7 @@ unfoldable pub link_close_wide : List ℕ → Production → (byte : ℕ) → Ar
     → Result (Found Value State) Refusal
 link_close_wide s Production.Substitution byte around place began vs state = close_wide Production.Substitution byte around place began vs state
 link_close_wide s Production.Lambda byte around place began vs state = Ok (found (as_generic_lambda (link_meaning s Production.Lambda byte place around vs)) state)
+link_close_wide s Production.Inheriting byte around place began vs state = Ok (found (link_meaning s Production.Inheriting byte place around vs) (counted_base around (part vs 1) state))
 link_close_wide s production byte around place began vs state = link_close s production byte around place began vs state
 
 abbrev pub linked_wide : List ℕ → Reading Value State Around
@@ -50,13 +52,11 @@ is_parameter Production.Parameter = true
 is_parameter Production.NestParameter = true
 is_parameter Production.ParameterArgument = true
 is_parameter Production.ParameterExpression = true
-is_parameter Production.BoundedArray = true
 is_parameter _ = false
 
--- one that is an argument itself, or the length of an array
+-- one in an expression
 unfoldable pub is_parameter_argument : Production → Bool
 is_parameter_argument Production.ParameterExpression = true
-is_parameter_argument Production.BoundedArray = true
 is_parameter_argument _ = false
 
 unfoldable pub is_substitution : Production → Bool
@@ -66,6 +66,28 @@ is_substitution _ = false
 unfoldable pub is_holder : Production → Bool
 is_holder Production.Holder = true
 is_holder _ = false
+
+unfoldable pub is_own_arguments : Production → Bool
+is_own_arguments Production.OwnArguments = true
+is_own_arguments _ = false
+
+unfoldable pub is_inheriting : Production → Bool
+is_inheriting Production.Inheriting = true
+is_inheriting _ = false
+
+-- before the part after these the base class of a constructor that is inherited is counted
+abbrev pub counts_base : Production → (held : ℕ) → Bool
+counts_base p held = is_own_arguments p && nat_eq held 0
+
+-- a base class that was counted before arguments of the constructor's own, or is there by its number alone
+unfoldable pub is_counted : Value → Bool
+is_counted (pair letter base own) = true
+is_counted base = is_listed base
+
+-- this base class is counted, if one is to be
+unfoldable pub base_counted : Around → List Term → Option ℕ → State → State
+base_counted around ts None state = state
+base_counted around ts (Some base) state = with_base around (tree_at ts base) state
 
 -- before the part after these a name becomes a candidate with its M
 abbrev pub names_holder : Production → (held : ℕ) → Bool

@@ -11,6 +11,8 @@ unfoldable pub nodes_of_outcome : Outcome → ℕ
 nodes_of_outcome (Outcome.Given part) = 0
 nodes_of_outcome (Outcome.There node listed) = 0
 nodes_of_outcome (Outcome.Character letter value) = 2
+nodes_of_outcome (Outcome.Enclosed first rest) = 2
+nodes_of_outcome (Outcome.Applied name arguments) = 2
 nodes_of_outcome _ = 1
 
 -- the state in which the nodes are

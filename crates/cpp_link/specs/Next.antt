@@ -42,7 +42,6 @@ type_mark byte = elim (nat_eq byte 86) [ true ↦ 0 | false ↦ 1 ]
 unfoldable pub behind_bytes : Production → (held : ℕ) → ℕ
 behind_bytes Production.Symbol held = at_least 1 held
 behind_bytes Production.EncodingLiteral held = at_least 1 held
-behind_bytes Production.Address held = at_least 2 held
 behind_bytes Production.NonVirtualThunk held = over 1 held
 behind_bytes Production.VirtualThunk held = over 3 (over 1 held)
 behind_bytes Production.VirtualOffset held = over 1 held
@@ -53,7 +52,6 @@ behind_bytes Production.LiteralArgument held = over 1 held
 behind_bytes Production.LiteralElement held = over 1 held
 behind_bytes Production.ConstructionVtable held = over 2 held
 behind_bytes Production.PackOf held = at_least 1 held
-behind_bytes Production.AddressExpression held = at_least 1 held
 behind_bytes Production.BoundedArray held = over 1 held
 behind_bytes _ held = held
 
@@ -66,9 +64,12 @@ unfoldable pub next_part : Production → (held rule byte : ℕ) → ℕ
 next_part Production.NestedName held rule byte = elim (is_mark rule) [ true ↦ nested_mark byte | false ↦ 4 ]
 next_part Production.RestrictType held rule byte = elim (is_mark rule) [ true ↦ type_mark byte | false ↦ 2 ]
 next_part Production.VolatileType held rule byte = elim (is_mark rule) [ true ↦ 0 | false ↦ 1 ]
+next_part Production.Step held rule byte = elim (is_mark rule) [ true ↦ 0 | false ↦ 1 ]
+next_part Production.FunctionParameter held rule byte = elim (is_mark rule) [ true ↦ nested_mark byte | false ↦ 3 ]
 next_part Production.NestStd held rule byte = elim (nat_eq held 0) [ true ↦ 0 | false ↦ elim (is_list rule) [ true ↦ 1 | false ↦ 2 ] ]
 next_part Production.NestArguments held rule byte = behind_list held rule
 next_part Production.NestInstance held rule byte = behind_list held rule
+next_part Production.BaseArguments held rule byte = behind_list held rule
 next_part Production.NoexceptFunction held rule byte = elim (is_mark rule) [ true ↦ 1 | false ↦ at_least 2 held ]
 next_part Production.Function held rule byte = elim (is_mark rule) [ true ↦ 0 | false ↦ at_least 1 held ]
 next_part Production.PackArgument held rule byte = elim (is_element rule) [ true ↦ 0 | false ↦ 2 ]

@@ -8,9 +8,9 @@ use Rattle.sym_link.specs.Linking.{View}
 use Rattle.sym_link.specs.Tally.{Tally, tally, Makes, tallied, tallied_view}
 use Rattle.cpp_grammar.specs.declared.production.Production.{Production}
 use Rattle.cpp_grammar.specs.Unfolding.{production_at}
-use Rattle.cpp_term.specs.Values.{State, Value, named, Around, part, tree_of, is_there}
+use Rattle.cpp_term.specs.Values.{State, Value, named, pair, Around, part, tree_of, is_there}
 use Rattle.cpp_term.specs.Between.{no_items}
-use Rattle.cpp_term.specs.Meaning.{is_void, is_nil}
+use Rattle.cpp_term.specs.Meaning.{is_void, is_nil, is_comma, ends_arguments}
 use Rattle.cpp_term.specs.Unfolding.{cpp, first_around, first_state}
 use Rattle.cpp_link.specs.declared.linked.Linked.{Linked}
 use Rattle.cpp_link.specs.declared.part.Part.{Part}
@@ -54,6 +54,23 @@ name_at_end known = one_if_arguments (part known 1)
 unfoldable pub lambda_at_end : List Value → ℕ
 lambda_at_end known = if is_void (tree_of (part known 0)) && is_nil (no_items (part known 1)) then 0 else 1
 
+-- one that is inherited makes its name, and one node more where it has arguments of its own
+unfoldable pub inheriting_at_end : Value → ℕ
+inheriting_at_end (pair second base own) = 2
+inheriting_at_end base = 1
+
+-- an expression is put in parentheses where an argument may not end in it
+unfoldable pub enclosed_at_end : List Value → ℕ
+enclosed_at_end known = if ends_arguments (tree_of (part known 0)) then 1 else 0
+
+unfoldable pub elements_at_end : List Value → ℕ
+elements_at_end known = if is_comma (tree_of (part known 0)) then 2 else 1
+
+-- an operation is made of operands, and no expression again
+unfoldable pub operation_at_end : Value → ℕ
+operation_at_end (pair second left right) = 1
+operation_at_end v = 0
+
 -- where it closes
 unfoldable pub makes_at_end : Production → List Value → ℕ
 makes_at_end Production.InternalName known = name_at_end known
@@ -66,6 +83,29 @@ makes_at_end Production.StdName known = name_at_end known
 makes_at_end Production.AbbreviatedName known = name_at_end known
 makes_at_end Production.Constructor known = name_at_end known
 makes_at_end Production.Destructor known = name_at_end known
+makes_at_end Production.TaggedSource known = name_at_end known
+makes_at_end Production.Inheriting known = inheriting_at_end (part known 1)
+makes_at_end Production.SimpleId known = name_at_end known
+makes_at_end Production.OperatorReference known = name_at_end known
+makes_at_end Production.ParameterExpression known = name_at_end known
+makes_at_end Production.Expression known = enclosed_at_end known
+makes_at_end Production.Expressions known = elements_at_end known
+makes_at_end Production.ExpressionA known = operation_at_end (part known 0)
+makes_at_end Production.ExpressionC known = operation_at_end (part known 0)
+makes_at_end Production.ExpressionD known = operation_at_end (part known 0)
+makes_at_end Production.ExpressionE known = operation_at_end (part known 0)
+makes_at_end Production.ExpressionF known = operation_at_end (part known 0)
+makes_at_end Production.ExpressionG known = operation_at_end (part known 0)
+makes_at_end Production.ExpressionI known = operation_at_end (part known 0)
+makes_at_end Production.ExpressionL known = operation_at_end (part known 0)
+makes_at_end Production.ExpressionM known = operation_at_end (part known 0)
+makes_at_end Production.ExpressionN known = operation_at_end (part known 0)
+makes_at_end Production.ExpressionO known = operation_at_end (part known 0)
+makes_at_end Production.ExpressionP known = operation_at_end (part known 0)
+makes_at_end Production.ExpressionQ known = operation_at_end (part known 0)
+makes_at_end Production.ExpressionR known = operation_at_end (part known 0)
+makes_at_end Production.ExpressionS known = operation_at_end (part known 0)
+makes_at_end Production.ExpressionT known = operation_at_end (part known 0)
 makes_at_end Production.Parameter known = name_at_end known
 makes_at_end Production.ParameterArgument known = name_at_end known
 makes_at_end Production.TypeWithS known = name_at_end known

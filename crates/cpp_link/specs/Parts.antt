@@ -1,8 +1,9 @@
 -- The values that parts stand for: functions of the nodes.
-use Rattle.std.specs.Prelude.{◌≡◌, ℕ, ◌<◌, List, [], ◌∷◌, Bool, true, false, ◌||◌, Some}
+use Rattle.std.specs.Prelude.{◌≡◌, ℕ, ◌<◌, List, [], ◌∷◌, Bool, true, false, ◌||◌, Some, None}
 use Rattle.cpp_term.specs.Term as term
 use Rattle.cpp_term.specs.Term.{Term}
 use Rattle.cpp_term.specs.Values as values
+use Rattle.cpp_term.specs.Standing.{in_parentheses}
 use Rattle.cpp_term.specs.Values.{Value, Around}
 use Rattle.cpp_tree.specs.Nodes as nodes
 use Rattle.cpp_tree.specs.Nodes.{Stored, tree_at, bytes_at, IsWithin, IsPieceBelow, IsBelow, IsAdjustmentWithin, IsThunkWithin}
@@ -25,6 +26,7 @@ value_of s ts (Part.Adjusted a) = values.adjusted (nodes.adjustment_of s a)
 value_of s ts (Part.Tree node listed) = values.tree (tree_at ts node) listed
 value_of s ts (Part.Piece p) = values.piece (nodes.piece_of s ts p)
 value_of s ts (Part.Named node q m) = values.named (tree_at ts node) (nodes.qualifiers_of q) (nodes.mark_of m)
+value_of s ts (Part.Pair letter left right) = values.pair letter (tree_at ts left) (tree_at ts right)
 value_of s ts (Part.Signature list m) = values.signature (tree_at ts list) (nodes.mark_of m)
 
 unfoldable pub values_of : List ℕ → List Term → List Part → List Value
@@ -46,6 +48,10 @@ outcome_value s y (Outcome.Entity node q m) = values.named (tree_of_node s y nod
 outcome_value s y (Outcome.Items node m) = values.signature (tree_of_node s y node) (nodes.mark_of m)
 outcome_value s y (Outcome.Thunk thunk encoding) = values.tree (term.thunk (nodes.thunk_of s (Some thunk)) (tree_at (trees_in s y) encoding)) true
 outcome_value s y (Outcome.Character letter value) = values.tree (term.integer (term.builtin (68 ∷ letter ∷ [])) (nodes.signed_of s value)) true
+outcome_value s y (Outcome.MadeOperand letter None node) = values.pair letter (tree_of_node s y node) term.absent
+outcome_value s y (Outcome.MadeOperand letter (Some left) node) = values.pair letter (tree_at (trees_in s y) left) (tree_of_node s y node)
+outcome_value s y (Outcome.Enclosed first rest) = values.tree (term.list (in_parentheses (tree_at (trees_in s y) first)) (tree_at (trees_in s y) rest)) true
+outcome_value s y (Outcome.Applied name arguments) = values.tree (term.instance (tree_of_node s y name) (tree_at (trees_in s y) arguments)) false
 outcome_value s y (Outcome.Lambda first rest number) = values.piece (term.lambda (term.list (tree_at (trees_in s y) first) (tree_at (trees_in s y) rest)) number)
 
 -- ## Parts that are there
@@ -58,6 +64,7 @@ IsThere s n (Part.Tree node listed) = node < n
 IsThere s n (Part.Piece p) = IsPieceBelow s n p
 IsThere s n (Part.Named node q m) = node < n
 IsThere s n (Part.Signature list m) = list < n
+IsThere s n (Part.Pair letter left right) = (left < n) × (right < n)
 IsThere s n _ = Unit {0}
 
 abbrev pub AreThere : List ℕ → ℕ → List Part → Type 0
@@ -72,6 +79,9 @@ IsOutcomeThere s held n (Outcome.Entity node q m) = IsBelow s held n node
 IsOutcomeThere s held n (Outcome.Items node m) = IsBelow s held n node
 IsOutcomeThere s held n (Outcome.Thunk thunk encoding) = IsThunkWithin s thunk × (encoding < n)
 IsOutcomeThere s held n (Outcome.Character letter value) = IsWithin value.digits s
+IsOutcomeThere s held n (Outcome.MadeOperand letter left node) = nodes.IsThereBelow n left × IsBelow s held n node
+IsOutcomeThere s held n (Outcome.Enclosed first rest) = (first < n) × (rest < n)
+IsOutcomeThere s held n (Outcome.Applied name arguments) = IsBelow s held n name × (arguments < n)
 IsOutcomeThere s held n (Outcome.Lambda first rest number) = (first < n) × (rest < n)
 
 -- whether one of these candidates is a name with its M, or one before them

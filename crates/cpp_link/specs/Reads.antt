@@ -1,5 +1,6 @@
 -- What is read of nodes and of references.
-use Rattle.std.specs.Prelude.{ℕ, ◌<◌, List, [], ◌∷◌, Bool, true, false, ◌&&◌, nat_eq, Option, Some, None, Ok}
+use Rattle.std.specs.Prelude.{ℕ, ◌<◌, List, [], ◌∷◌, Bool, true, false, ◌||◌, ◌&&◌, nat_eq, Option, Some, None, Ok}
+use Rattle.cpp_grammar.specs.Standing.{is_code}
 use Rattle.cpp_term.specs.Term as term
 use Rattle.cpp_term.specs.Term.{Term, absent, nil}
 use Rattle.cpp_term.specs.Scope.{has_return_type}
@@ -31,6 +32,26 @@ nil_node _ = false
 unfoldable pub instance_node : Node → Bool
 instance_node (Node.Instance template arguments) = true
 instance_node _ = false
+
+-- an operation whose operator is a comma
+unfoldable pub comma_node : Node → Bool
+comma_node (Node.Operation first second left right) = is_code 99 109 first second
+comma_node _ = false
+
+-- or also > or >>
+unfoldable pub ending_node : Node → Bool
+ending_node (Node.Operation first second left right) = is_code 99 109 first second || is_code 103 116 first second || is_code 114 115 first second
+ending_node _ = false
+
+-- the encoding that is a literal
+unfoldable pub encoding_in : Node → Option ℕ
+encoding_in (Node.EncodingLiteral encoding) = Some encoding
+encoding_in _ = None
+
+-- an operation, or the address of this encoding
+unfoldable pub operation_read : List Term → Option ℕ → (first second : ℕ) → (left right : Term) → Term
+operation_read ts None first second left right = term.operation first second left right
+operation_read ts (Some encoding) first second left right = term.address_of (tree_at ts encoding)
 
 -- the first element and the others of a list that has some, and the argument under which both are
 unfoldable pub cell_under : Node → Option ℕ → Option Split

@@ -14,6 +14,7 @@ module _ (s : List ℕ) (old new : Stored) (stays : (i : ℕ) → i < length old
   piece_stays (Piece.Lambda parameters number) there = rw (stays parameters there) refl
   piece_stays (Piece.GenericLambda parameters number) there = rw (stays parameters there) refl
   piece_stays (Piece.Conversion ty) there = rw (stays ty there) refl
+  piece_stays (Piece.Inheriting digit base) there = rw (stays base there) refl
   piece_stays _ there = refl
 
   pub value_stays : (p : Part) → IsThere s (length old.nodes) p → value_in s new p ≡ value_in s old p
@@ -22,6 +23,7 @@ module _ (s : List ℕ) (old new : Stored) (stays : (i : ℕ) → i < length old
   value_stays (Part.Piece p) there = rw (piece_stays p there) refl
   value_stays (Part.Named node q m) there = rw (stays node there) refl
   value_stays (Part.Signature list m) there = rw (stays list there) refl
+  value_stays (Part.Pair letter left right) there = rw (stays left there.0, stays right there.1) refl
   value_stays Part.Nothing there = refl
   value_stays (Part.Letter byte) there = refl
   value_stays (Part.Text span) there = refl
@@ -65,9 +67,11 @@ there_more s m n (Part.Piece p) le there = piece p there
     piece (Piece.Lambda parameters number) below = omega (arith, le, below)
     piece (Piece.GenericLambda parameters number) below = omega (arith, le, below)
     piece (Piece.Conversion ty) below = omega (arith, le, below)
+    piece (Piece.Inheriting digit base) below = omega (arith, le, below)
     piece _ below = tt
 there_more s m n (Part.Named node q ref) le there = omega (arith, le, there)
 there_more s m n (Part.Signature list ref) le there = omega (arith, le, there)
+there_more s m n (Part.Pair letter left right) le there = (omega (arith, le, there.0), omega (arith, le, there.1))
 there_more s m n (Part.Text span) le there = there
 there_more s m n (Part.Signed v) le there = there
 there_more s m n (Part.Adjusted a) le there = there

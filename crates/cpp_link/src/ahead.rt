@@ -95,7 +95,6 @@ fn behind_bytes(production: Production, held: usize) -> usize
     match production {
         Production::Symbol => at_least(1, held),
         Production::EncodingLiteral => at_least(1, held),
-        Production::Address => at_least(2, held),
         Production::NonVirtualThunk => over(1, held),
         Production::VirtualThunk => over(3, over(1, held)),
         Production::VirtualOffset => over(1, held),
@@ -106,7 +105,6 @@ fn behind_bytes(production: Production, held: usize) -> usize
         Production::LiteralElement => over(1, held),
         Production::ConstructionVtable => over(2, held),
         Production::PackOf => at_least(1, held),
-        Production::AddressExpression => at_least(1, held),
         Production::BoundedArray => over(1, held),
         _ => held,
     }
@@ -133,6 +131,8 @@ fn next_part(production: Production, held: usize, rule: u16, byte: u8) -> usize
         Production::NestedName => if is_mark(rule) { nested_mark(byte) } else { 4 },
         Production::RestrictType => if is_mark(rule) { type_mark(byte) } else { 2 },
         Production::VolatileType => if is_mark(rule) { 0 } else { 1 },
+        Production::Step => if is_mark(rule) { 0 } else { 1 },
+        Production::FunctionParameter => if is_mark(rule) { nested_mark(byte) } else { 3 },
         Production::NestStd => if held == 0 {
             0
         } else if is_list(rule) {
@@ -142,6 +142,7 @@ fn next_part(production: Production, held: usize, rule: u16, byte: u8) -> usize
         },
         Production::NestArguments => behind_list(held, rule),
         Production::NestInstance => behind_list(held, rule),
+        Production::BaseArguments => behind_list(held, rule),
         Production::NoexceptFunction => if is_mark(rule) { 1 } else { at_least(2, held) },
         Production::Function => if is_mark(rule) { 0 } else { at_least(1, held) },
         Production::PackArgument => if is_element(rule) { 0 } else { 2 },

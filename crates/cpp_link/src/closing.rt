@@ -97,7 +97,35 @@ impl Linked {
                 candidate: self.unqualified_candidate(symbol, kept, self.given(symbol, parts, 0)),
                 packs: self.packs,
             },
+            Production::ConvertedConst => AfterRule {
+                candidate: Some(self.node(symbol, made)),
+                packs: self.packs,
+            },
+            Production::ConvertedPointer => AfterRule {
+                candidate: Some(self.node(symbol, made)),
+                packs: self.packs,
+            },
+            Production::ConvertedReference => AfterRule {
+                candidate: Some(self.node(symbol, made)),
+                packs: self.packs,
+            },
+            Production::ConvertedType => AfterRule {
+                candidate: self.type_candidate(symbol, kept, self.given(symbol, parts, 0)),
+                packs: self.packs,
+            },
+            Production::ConvertedDecltype => AfterRule {
+                candidate: self.type_candidate(symbol, kept, self.given(symbol, parts, 0)),
+                packs: self.packs,
+            },
             Production::Expansion => AfterRule {
+                candidate: None,
+                packs: kept.packs(),
+            },
+            Production::ExpandExpression => AfterRule {
+                candidate: None,
+                packs: kept.packs(),
+            },
+            Production::PackSize => AfterRule {
                 candidate: None,
                 packs: kept.packs(),
             },

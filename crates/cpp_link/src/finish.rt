@@ -13,6 +13,7 @@ ghost use Rattle.cpp_term.specs.Values.{State, part, text_of};
 ghost use Rattle.cpp_term.specs.References.{substituted};
 ghost use Rattle.cpp_term.specs.Unfolding as unfolding_;
 ghost use Rattle.cpp_tree.specs.Nodes.{bytes_at, IsWithin};
+ghost use Rattle.cpp_grammar.specs.declared.production.Production.TheVariants as productions;
 ghost use Rattle.cpp_grammar.specs.Unfolding.{production_at};
 ghost use Rattle.cpp_link.specs.Grows.{HasPlace};
 ghost use Rattle.cpp_link.specs.LinkReading.{link_meaning, link_close};
@@ -206,7 +207,46 @@ impl Linked {
         }
     }
 
-    /// What a rare production that begins at a place closes to, with these parts.
+    /// A rule closes, of a production that is rare.
+    ///
+    /// # Errors
+    ///
+    /// `Memory` where a list couldn't grow.
+    #[inline(always)]
+    pub(crate) fn make_rare(
+        &mut self,
+        symbol: &[u8],
+        production: Production,
+        place: u32,
+        kept: Surroundings,
+        parts: &[Part],
+    ) -> Result<Part, Refusal>
+        requires rare { IsRare production }
+        requires fits { FitsSymbol symbol.now }
+        requires place { place < length symbol.now }
+        requires room { HasPlace symbol.now self.old.nodes 2 }
+        requires paid { IsPaid self.old }
+        requires whole { IsWhole symbol.now self.old }
+        requires there { AreThere symbol.now (length self.old.nodes.nodes) parts.now }
+        requires kept { IsKeptThere (length self.old.nodes.nodes) kept }
+        ensures value { IfOk result (λ made. value_in symbol.now self.new.nodes made ≡ link_meaning symbol.now production (slice_index symbol.now place) place (around_of (trees_in symbol.now self.old.nodes) kept) (values_in symbol.now self.old.nodes parts.now)) }
+        ensures state { OnOk result ((began : State) → began.packs ≡ packs_of kept
+            → unfolding_.behind production (slice_index symbol.now place) (around_of (trees_in symbol.now self.old.nodes) kept) began (values_in symbol.now self.old.nodes parts.now) (state_of symbol.now self.old) ≡ state_of symbol.now self.new) }
+        ensures there { IfOk result (λ made. IsThere symbol.now (length self.new.nodes.nodes) made) }
+        ensures grows { OnOk result (GoesOn symbol.now self.old self.new) }
+        ensures few { length self.new.nodes.nodes ≤ length self.old.nodes.nodes + ends_of production parts.now }
+        ensures makes { OnOk result (length self.new.nodes.nodes ≡ length self.old.nodes.nodes + makes_at_end production (values_in symbol.now self.old.nodes parts.now)) }
+        ensures paid { OnOk result (IsPaid self.new) }
+        ensures whole { OnOk result (IsWhole symbol.now self.new) }
+        ensures memory { IfErr result (λ e. e ≡ refusals.Memory) }
+        ensures keeps { KeepsRoom self.old self.new }
+        ensures full { OnErr result (LacksRoom self.old self.new) }
+    {
+        let outcome = self.outcome_of_rare(symbol, production, place, kept, parts);
+        self.add_node_and_candidate(symbol, production, place, kept, parts, outcome)
+    }
+
+    /// What a rare production that begins at a place closes to, with these parts, where the ABI's grammar has it.
     ///
     /// # Errors
     ///
@@ -221,6 +261,7 @@ impl Linked {
         parts: &[Part],
     ) -> Result<Part, Refusal>
         requires rare { IsRare production }
+        requires read { production ≡ productions.Inheriting → ⊥ }
         requires fits { FitsSymbol symbol.now }
         requires place { place < length symbol.now }
         requires room { HasPlace symbol.now self.old.nodes 2 }
@@ -241,8 +282,7 @@ impl Linked {
         ensures keeps { KeepsRoom self.old self.new }
         ensures full { IfErr result (λ e. e ≡ refusals.Memory → LacksRoom self.old self.new) }
     {
-        let outcome = self.outcome_of_rare(symbol, production, place, kept, parts);
-        self.add_node_and_candidate(symbol, production, place, kept, parts, outcome)
+        self.make_rare(symbol, production, place, kept, parts)
     }
 
     /// The frame's rule closes, of this production, over all its parts: what it means takes their place.
@@ -297,6 +337,7 @@ impl Linked {
         parts: &mut Vec<Part>,
     ) -> Result<(), Refusal>
         requires rare { IsRare production }
+        requires read { production ≡ productions.Inheriting → ⊥ }
         requires numbered { production ≡ production_at frame.now.rule }
         requires room { HasRoom (cpp_view symbol.now) symbol.now self.old (owed_behind (cpp_view symbol.now) frame.now parts.old.items) }
         requires open { IsOpenAt (cpp_view symbol.now) symbol.now self.old frame.now parts.old.items }
@@ -325,7 +366,8 @@ impl Linked {
     ///
     /// # Errors
     ///
-    /// `BadReference` at a substitution that names no candidate that it may name, `Memory` where a list couldn't grow.
+    /// `BadReference` at a substitution that names no candidate that it may name, and at a constructor that is inherited, `Memory`
+    /// where a list couldn't grow.
     #[inline(never)]
     pub fn finish_rule(
         &mut self,
@@ -346,6 +388,8 @@ impl Linked {
     {
         let production = production_of(frame.rule);
         match production {
+            // the ABI's grammar has no constructor that is inherited
+            Production::Inheriting => Err(Refusal::BadReference { at: frame.place }),
             // Generated by tools/trees.py. The productions that are common
             Production::NestNext => self.finish_as(symbol, Production::NestNext, frame, parts),
             Production::SourceName => self.finish_as(symbol, Production::SourceName, frame, parts),

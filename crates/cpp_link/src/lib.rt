@@ -6,6 +6,7 @@ pub mod begin;
 pub mod between;
 pub mod closing;
 pub mod dispatch;
+pub mod expressions;
 pub mod finish;
 pub mod holders;
 pub mod language;

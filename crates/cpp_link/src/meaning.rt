@@ -15,12 +15,13 @@ ghost use Rattle.cpp_link.specs.LinkReading.{link_meaning};
 ghost use Rattle.cpp_link.specs.Making.{IsCommon, IsRare, nodes_of_outcome};
 ghost use Rattle.cpp_link.specs.NodeCount.{makes_at_end};
 
+use crate::expressions::pair;
 use crate::linked::Linked;
 use crate::numbers::{from_byte, local_number, normal, one_byte, signed_digits};
 use crate::part::{Outcome, Part, Surroundings};
 use cpp_grammar::production::Production;
 use cpp_tree::node::{Adjustment, Mark, Node, Piece, Qualifiers, Thunk};
-use cpp_tree::nodes::NIL;
+use cpp_tree::nodes::{ABSENT, NIL};
 
 /// A node to come, which is a tree.
 #[inline(always)]
@@ -271,7 +272,7 @@ impl Linked {
                 },
                 false,
             ),
-            // <array-type> ::= A <template-param> _ <element type>, after the A
+            // <array-type> ::= A <expression> _ <element type>, after the A
             Production::BoundedArray => made(
                 Node::Bounded {
                     bound: self.tree(symbol, parts, 0),
@@ -355,12 +356,118 @@ impl Linked {
             Production::PackOf => Outcome::Given(Part::Letter(byte)),
             // <template-param-decl>*
             Production::Declarations => Outcome::Given(Part::Letter(byte)),
-            // X <expression> E
-            Production::Expression => Outcome::Given(self.given(symbol, parts, 0)),
-            // <expression> ::= ad <expression>, after the a
-            Production::AddressExpression => Outcome::Given(self.given(symbol, parts, 1)),
-            // <expression> ::= <template-param>
-            Production::ParameterExpression => Outcome::Given(self.given(symbol, parts, 0)),
+            // <expression>, by the first letter of its operator, and what is after that
+            Production::ExpressionA => self.operation_by(symbol, byte, parts),
+            Production::ExpressionC => self.operation_by(symbol, byte, parts),
+            Production::ExpressionD => self.operation_by(symbol, byte, parts),
+            Production::ExpressionE => self.operation_by(symbol, byte, parts),
+            Production::ExpressionF => self.operation_by(symbol, byte, parts),
+            Production::ExpressionG => self.operation_by(symbol, byte, parts),
+            Production::ExpressionI => self.operation_by(symbol, byte, parts),
+            Production::ExpressionL => self.operation_by(symbol, byte, parts),
+            Production::ExpressionM => self.operation_by(symbol, byte, parts),
+            Production::ExpressionN => self.operation_by(symbol, byte, parts),
+            Production::ExpressionO => self.operation_by(symbol, byte, parts),
+            Production::ExpressionP => self.operation_by(symbol, byte, parts),
+            Production::ExpressionQ => self.operation_by(symbol, byte, parts),
+            Production::ExpressionR => self.operation_by(symbol, byte, parts),
+            Production::ExpressionS => self.operation_by(symbol, byte, parts),
+            Production::ExpressionT => self.operation_by(symbol, byte, parts),
+            // <template-arg> ::= X <expression> E
+            Production::Expression => self.enclosed_argument(symbol, parts),
+            // <expression>*
+            Production::Expressions => self.elements(symbol, parts),
+            // an operator's second letter, and its operands
+            Production::Unary => self.operand(symbol, byte, self.tree(symbol, parts, 0)),
+            Production::AddressExpression => {
+                self.operand(symbol, byte, self.tree(symbol, parts, 0))
+            }
+            Production::OfType => self.operand(symbol, byte, self.tree(symbol, parts, 0)),
+            Production::Braces => self.operand(symbol, byte, self.list(symbol, parts, 0)),
+            Production::Step => self.operand(
+                symbol,
+                self.letter_or(symbol, parts, 0, byte),
+                self.tree(symbol, parts, 1),
+            ),
+            Production::Binary => pair(
+                byte,
+                self.tree(symbol, parts, 0),
+                self.tree(symbol, parts, 1),
+            ),
+            Production::Cast => pair(
+                byte,
+                self.tree(symbol, parts, 0),
+                self.tree(symbol, parts, 1),
+            ),
+            Production::Convert => pair(
+                self.letter_or(symbol, parts, 1, byte),
+                self.tree(symbol, parts, 0),
+                self.tree(symbol, parts, 1),
+            ),
+            Production::Call => pair(
+                byte,
+                self.tree(symbol, parts, 0),
+                self.list(symbol, parts, 1),
+            ),
+            Production::TypedBraces => pair(
+                byte,
+                self.tree(symbol, parts, 0),
+                self.list(symbol, parts, 1),
+            ),
+            // <expression> ::= qu <expression> <expression> <expression>, after the q
+            Production::Conditional => self.conditional(symbol, byte, parts),
+            // <expression> ::= sZ <template-param> | sZ <function-param>, after the s
+            Production::PackSize => self.pack_size(symbol, byte, parts),
+            // <expression> ::= sp <expression>, after the s
+            Production::ExpandExpression => made(
+                Node::Expansion(self.tree(symbol, parts, 0)),
+                true,
+            ),
+            // <function-param> ::= fp .. | fL <number> p .., after the f
+            Production::FunctionParameter => Outcome::Given(self.given(symbol, parts, 3)),
+            Production::OuterParameter => Outcome::Given(self.given(symbol, parts, 1)),
+            // <unresolved-name> ::= sr .., after the s
+            Production::Unresolved => Outcome::Given(self.given(symbol, parts, 0)),
+            Production::UnresolvedInType => self.in_scope(symbol, parts),
+            Production::Levels => self.in_scope(symbol, parts),
+            Production::LevelsEnd => Outcome::Given(self.given(symbol, parts, 0)),
+            // <unresolved-name> ::= on <operator-name> [<template-args>]
+            Production::UnresolvedOperator => Outcome::Given(self.given(symbol, parts, 0)),
+            // <expr-primary>
+            Production::AddressedLiteral => Outcome::Given(self.given(symbol, parts, 0)),
+            // <expression> ::= <template-param> [<template-args>]
+            Production::ParameterExpression => self.applied(symbol, parts, false),
+            // <unresolved-name> ::= <source-name> [<template-args>] | on <operator-name> [<template-args>]
+            Production::SimpleId => self.applied(symbol, parts, false),
+            Production::OperatorReference => self.applied(symbol, parts, false),
+            // <function-param> ::= fpT
+            Production::This => made(
+                Node::Operation {
+                    first: b'f',
+                    second: b'T',
+                    left: ABSENT,
+                    right: ABSENT,
+                },
+                true,
+            ),
+            // <function-param> ::= fp [<CV-qualifiers>] [<number>] _
+            Production::ParameterNumber => made(
+                Node::FunctionParameter(normal(symbol, self.text(symbol, parts, 0))),
+                true,
+            ),
+            // <decltype> ::= Dt <expression> E | DT <expression> E
+            Production::Decltype => made(Node::Decltype(self.tree(symbol, parts, 0)), false),
+            // <type> after st, ti, at and cv
+            Production::ConvertedDecltype => tree(self.tree(symbol, parts, 0), true),
+            Production::ConvertedType => tree(self.tree(symbol, parts, 0), true),
+            Production::ConvertedConst => qualified(
+                false,
+                false,
+                true,
+                self.tree(symbol, parts, 0),
+            ),
+            Production::ConvertedPointer => made(Node::Pointer(self.tree(symbol, parts, 0)), true),
+            Production::ConvertedReference => self.reference_meant(symbol, byte, parts),
             // <type> ::= R <type>, a parameter, and those after it
             Production::LvalueItem => items(
                 self.tree(symbol, parts, 0),
@@ -379,8 +486,6 @@ impl Linked {
                 self.tree(symbol, parts, 1),
                 self.reference(symbol, parts, 1),
             ),
-            // <expr-primary> ::= L <mangled-name> E
-            Production::Address => made(Node::AddressOf(self.tree(symbol, parts, 2)), true),
             // <expr-primary> ::= L <mangled-name> E, as an argument
             Production::EncodingLiteral => made(
                 Node::EncodingLiteral(self.tree(symbol, parts, 1)),
@@ -425,7 +530,24 @@ impl Linked {
                 ),
                 false,
             ),
-            // <ctor-dtor-name> ::= C1 | C2 | C3
+            // <ctor-dtor-name> ::= C1 | C2 | .., which begins with C
+            Production::AnyConstructor => Outcome::Given(self.given(symbol, parts, 0)),
+            // <ctor-dtor-name> ::= CI1 <base class type> | CI2 <base class type>, after the C, perhaps with <template-args>
+            Production::Inheriting => self.inherited(symbol, kept.prefix(), parts),
+            // <template-args> of a constructor that is inherited
+            Production::OwnArguments => Outcome::Given(Part::Pair {
+                letter: byte,
+                left: self.prefix_node(symbol, kept),
+                right: self.list(symbol, parts, 0),
+            }),
+            // the base class of a constructor that is inherited, perhaps with arguments of the constructor's own
+            Production::NestedBase => Outcome::Given(self.either(symbol, parts, 1, 0)),
+            Production::BaseWithS => Outcome::Given(self.given(symbol, parts, 0)),
+            Production::TaggedSource => self.applied(symbol, parts, false),
+            Production::SourceBase => Outcome::Given(self.either(symbol, parts, 1, 0)),
+            Production::BaseInStd => Outcome::Given(self.either(symbol, parts, 1, 0)),
+            Production::BaseArguments => Outcome::Given(self.either(symbol, parts, 2, 0)),
+            // <ctor-dtor-name> ::= C1 | C2 | C3, after the C
             Production::Constructor => self.applied(symbol, parts, false),
             // <ctor-dtor-name> ::= D0 | D1 | D2
             Production::Destructor => self.applied(symbol, parts, false),

@@ -27,6 +27,12 @@ pub enum Part {
         list: u32,
         mark: Mark,
     },
+    /// A letter and two trees, of which the second may be absent.
+    Pair {
+        letter: u8,
+        left: u32,
+        right: u32,
+    },
 }
 
 /// What a production stands for: a part, or one whose node isn't there yet.
@@ -57,6 +63,22 @@ pub enum Outcome {
     Character {
         letter: u8,
         value: Signed,
+    },
+    /// A pair of which one tree isn't there yet: the right one, or the left one, without which there is no right one.
+    MadeOperand {
+        letter: u8,
+        left: Option<u32>,
+        node: Node,
+    },
+    /// An element in parentheses, and those after it.
+    Enclosed {
+        first: u32,
+        rest: u32,
+    },
+    /// A name with arguments.
+    Applied {
+        name: Node,
+        arguments: u32,
     },
     Lambda {
         first: u32,

@@ -66,19 +66,17 @@ pub fn is_parameter(production: Production) -> bool
         Production::NestParameter => true,
         Production::ParameterArgument => true,
         Production::ParameterExpression => true,
-        Production::BoundedArray => true,
         _ => false,
     }
 }
 
-/// Whether a production is a parameter that is an argument itself, or the length of an array.
+/// Whether a production is a parameter in an expression.
 #[tactic(auto, unfolding(crate::specs::LinkRescoping::is_parameter_argument))]
 fn is_parameter_argument(production: Production) -> bool
     ensures { result ≡ is_parameter_argument production }
 {
     match production {
         Production::ParameterExpression => true,
-        Production::BoundedArray => true,
         _ => false,
     }
 }

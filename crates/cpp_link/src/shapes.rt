@@ -1,11 +1,11 @@
 // What productions stand for whose parts are told apart.
 
-ghost use Rattle.std.specs.Prelude.{◌≡◌, ℕ, ◌≤◌, List, length, not, ◌&&◌};
+ghost use Rattle.std.specs.Prelude.{◌≡◌, ℕ, ◌≤◌, List, length, true, false, not, ◌&&◌};
 ghost use Rattle.cpp_term.specs.Term as term;
 ghost use Rattle.cpp_term.specs.Term.{Term};
 ghost use Rattle.cpp_term.specs.Values as values;
-ghost use Rattle.cpp_term.specs.Values.{tree_of, is_there, text_of, part, prefix_tree, prefix_listed};
-ghost use Rattle.cpp_term.specs.Between.{applied, no_items, extended};
+ghost use Rattle.cpp_term.specs.Values.{tree_of, letter_of, is_there, text_of, part, prefix_tree, prefix_listed};
+ghost use Rattle.cpp_term.specs.Between.{applied, no_items, extended, inherited};
 ghost use Rattle.cpp_term.specs.Meaning.{parameters, default_entity, discriminator_of, reference_to, listed_value, signature_or, operator_or_literal};
 ghost use Rattle.cpp_grammar.specs.Term.{any_value};
 ghost use Rattle.cpp_grammar.specs.Values.{unqualified, local_number};
@@ -15,7 +15,7 @@ ghost use Rattle.cpp_tree.specs.Nodes.{over, IsTable, IsSpan, IsPieceBelow, IsBe
 ghost use Rattle.cpp_link.specs.Closes.{name_closes};
 ghost use Rattle.cpp_link.specs.LinkReading.{in_64_bits};
 ghost use Rattle.cpp_link.specs.Making.{nodes_of_outcome};
-ghost use Rattle.cpp_link.specs.NodeCount.{name_at_end, lambda_at_end};
+ghost use Rattle.cpp_link.specs.NodeCount.{name_at_end, lambda_at_end, inheriting_at_end};
 ghost use Rattle.cpp_link.specs.Parts.{trees_in, tree_of_node, value_of, value_in, values_in, prefix_of, outcome_value, IsThere, AreThere, IsOutcomeThere, IsPrefixThere};
 
 use crate::linked::Linked;
@@ -214,6 +214,49 @@ impl Linked {
             },
             qualifiers: self.qualifiers(symbol, parts, 1),
             mark: self.reference(symbol, parts, 1),
+        }
+    }
+
+    /// The part with this number, or another, where it isn't there.
+    pub fn either(&self, symbol: &[u8], parts: &[Part], k: usize, other: usize) -> Part
+        ensures is { value_in symbol.now self.now.nodes result ≡ elim (is_there (part (values_in symbol.now self.now.nodes parts.now) k)) [ true ↦ part (values_in symbol.now self.now.nodes parts.now) k | false ↦ part (values_in symbol.now self.now.nodes parts.now) other ] }
+        ensures there { AreThere symbol.now (length self.now.nodes.nodes) parts.now → IsThere symbol.now (length self.now.nodes.nodes) result }
+    {
+        if self.there(symbol, parts, k) {
+            return self.given(symbol, parts, k);
+        }
+        self.given(symbol, parts, other)
+    }
+
+    /// The name of a constructor that is inherited, with arguments of its own where there are some.
+    #[tactic(auto, unfolding(cpp_term::specs::Between::inherited, crate::specs::Parts::outcome_value, crate::specs::Parts::value_of, cpp_tree::specs::Nodes::tree_of, cpp_tree::specs::Nodes::piece_of, crate::specs::Making::nodes_of_outcome))]
+    pub fn inherited(&self, symbol: &[u8], prefix: Prefix, parts: &[Part]) -> Outcome
+        requires table { IsTable (over symbol.now self.now.nodes) }
+        requires there { AreThere symbol.now (length self.now.nodes.nodes) parts.now }
+        requires prefix { IsPrefixThere (length self.now.nodes.nodes) prefix }
+        ensures is { outcome_value symbol.now self.now.nodes result ≡ inherited (prefix_of (trees_in symbol.now self.now.nodes) prefix) (letter_of (part (values_in symbol.now self.now.nodes parts.now) 0)) (part (values_in symbol.now self.now.nodes parts.now) 1) }
+        ensures there { IsOutcomeThere symbol.now (length self.now.nodes.thunks) (length self.now.nodes.nodes) result }
+        ensures nodes { nodes_of_outcome result ≤ 2 }
+        ensures makes { nodes_of_outcome result ≡ inheriting_at_end (part (values_in symbol.now self.now.nodes parts.now) 1) }
+    {
+        let digit = self.letter(symbol, parts, 0);
+        let base = self.given(symbol, parts, 1);
+        match base {
+            Part::Pair { left, right, .. } => Outcome::Applied {
+                name: self.extended(symbol, prefix, Piece::Inheriting { digit, base: left }),
+                arguments: right,
+            },
+            _ => made(
+                self.extended(
+                    symbol,
+                    prefix,
+                    Piece::Inheriting {
+                        digit,
+                        base: self.node(symbol, base),
+                    },
+                ),
+                false,
+            ),
         }
     }
 

@@ -71,6 +71,20 @@ impl Linked {
         }
     }
 
+    /// A name is made of this node, which is no candidate.
+    #[inline(always)]
+    fn listed_name(&self, node: Node) -> Step
+        ensures { result ≡ Step.Made node true true false self.now.packs }
+    {
+        Step::Made {
+            node,
+            listed: true,
+            is_name: true,
+            is_candidate: false,
+            packs: self.packs,
+        }
+    }
+
     /// The node of a part.
     #[inline(always)]
     pub fn node(&self, symbol: &[u8], part: Part) -> u32
@@ -111,7 +125,7 @@ impl Linked {
     #[inline(always)]
     pub(crate) fn prefix_node(&self, symbol: &[u8], kept: Surroundings) -> u32
         requires table { IsTable (over symbol.now self.now.nodes) }
-        requires kept { IsKeptThere (length self.now.nodes.nodes) kept }
+        requires prefix { IsPrefixThere (length self.now.nodes.nodes) (name_of kept) }
         ensures is { tree_at (trees_in symbol.now self.now.nodes) result ≡ prefix_tree (prefix_of (trees_in symbol.now self.now.nodes) (name_of kept)) }
         ensures there { result < length self.now.nodes.nodes }
     {
@@ -131,7 +145,7 @@ impl Linked {
         opened(&self.nodes, symbol, name).node.is_structor()
     }
 
-    /// What is done before the first part.
+    /// What is done before the first part, of a production that isn't the arguments of a constructor that is inherited.
     #[tactic(auto, unfolding(cpp_term::specs::Between::between, cpp_term::specs::Between::in_name, cpp_term::specs::Between::in_types, cpp_term::specs::Between::in_signature, cpp_term::specs::Between::under_expansion, cpp_term::specs::Between::after, cpp_term::specs::Between::inside, cpp_term::specs::Between::applied, cpp_term::specs::Between::named_so_far, cpp_term::specs::Between::listed_so_far, cpp_term::specs::Values::tree_of, crate::specs::Parts::around_of, crate::specs::Parts::prefix_of, cpp_tree::specs::Nodes::tree_if_there, cpp_tree::specs::Nodes::tree_of, cpp_tree::specs::Nodes::piece_of, crate::specs::Reads::goes_on, crate::specs::Reads::behind_first, crate::specs::Reads::named_if, crate::specs::Reads::appended_if, crate::specs::Reads::with_candidate, crate::specs::NodeCount::makes_before, crate::specs::Owed::made_before, crate::specs::NodeCount::std_before, crate::specs::NodeCount::one_if_there, crate::specs::NodeCount::pack_before))]
     #[inline(always)]
     fn step_first(
@@ -143,6 +157,7 @@ impl Linked {
     ) -> Step
         requires table { IsTable (over symbol.now self.now.nodes) }
         requires kept { IsKeptThere (length self.now.nodes.nodes) kept }
+        requires own { production ≡ productions.OwnArguments → ⊥ }
         ensures is { (cs : List values.Candidate) → between production (around_of (trees_in symbol.now self.now.nodes) kept) place [] (record { candidates = cs; packs = self.now.packs }) ≡ goes_on symbol.now self.now.nodes kept [] cs self.now.packs result }
         ensures there { IsStepThere symbol.now (length self.now.nodes.thunks) (length self.now.nodes.nodes) result }
         ensures of { (held : ℕ) → IsStepOf production held result }
@@ -160,6 +175,16 @@ impl Linked {
                 then: self.under_expansion(kept),
                 packs: None,
             },
+            Production::ExpandExpression => Step::Go {
+                candidate: None,
+                then: self.under_expansion(kept),
+                packs: None,
+            },
+            Production::PackSize => Step::Go {
+                candidate: None,
+                then: self.under_expansion(kept),
+                packs: None,
+            },
             Production::NestArguments => Step::Go {
                 candidate: self.prefix_candidate(symbol, kept),
                 then: self.inside(kept),
@@ -171,6 +196,11 @@ impl Linked {
                 packs: self.packs,
             },
             Production::Arguments => Step::Go {
+                candidate: self.prefix_candidate(symbol, kept),
+                then: self.inside(kept),
+                packs: self.packs,
+            },
+            Production::BaseArguments => Step::Go {
                 candidate: self.prefix_candidate(symbol, kept),
                 then: self.inside(kept),
                 packs: self.packs,
@@ -309,7 +339,6 @@ impl Linked {
         requires nest { production ≡ productions.NestParameter → ⊥ }
         requires argument { production ≡ productions.ParameterArgument → ⊥ }
         requires expression { production ≡ productions.ParameterExpression → ⊥ }
-        requires length { production ≡ productions.BoundedArray → ⊥ }
         requires pack { production ≡ productions.PackArgument → ⊥ }
         requires holder { production ≡ productions.Holder → ⊥ }
         ensures is { (cs : List values.Candidate) → between production (around_of (trees_in symbol.now self.now.nodes) kept) place (value_in symbol.now self.now.nodes first ∷ []) (record { candidates = cs; packs = self.now.packs }) ≡ goes_on symbol.now self.now.nodes kept (value_in symbol.now self.now.nodes first ∷ []) cs self.now.packs result }
@@ -373,6 +402,30 @@ impl Linked {
                     internal: false,
                     bytes: self.text_in(symbol, first),
                 },
+            )),
+            Production::TaggedSource => self.named(self.extended(
+                symbol,
+                kept.prefix(),
+                Piece::Source {
+                    internal: false,
+                    bytes: self.text_in(symbol, first),
+                },
+            )),
+            Production::Inheriting => self.go(self.inside(kept)),
+            Production::NestedBase => self.go(self.behind_name(
+                kept,
+                self.node(symbol, first),
+                false,
+            )),
+            Production::SourceBase => self.go(self.behind_name(
+                kept,
+                self.node(symbol, first),
+                false,
+            )),
+            Production::BaseInStd => self.go(self.behind_name(
+                kept,
+                self.node(symbol, first),
+                false,
             )),
             Production::LocalTypeName => self.named(self.extended(
                 symbol,
@@ -458,6 +511,24 @@ impl Linked {
                 is_candidate: true,
                 packs: self.packs,
             },
+            Production::SimpleId => self.listed_name(self.extended(
+                symbol,
+                kept.prefix(),
+                Piece::Source {
+                    internal: false,
+                    bytes: self.text_in(symbol, first),
+                },
+            )),
+            Production::OperatorReference => self.listed_name(self.extended(
+                symbol,
+                kept.prefix(),
+                self.piece_in(symbol, first),
+            )),
+            Production::UnresolvedInType => Step::Go {
+                candidate: self.type_candidate(symbol, kept, first),
+                then: kept,
+                packs: self.packs,
+            },
             Production::IntegerLiteral => Step::Go {
                 candidate: self.type_candidate(symbol, kept, first),
                 then: kept,
@@ -528,6 +599,10 @@ impl Linked {
                 }
             }
             Production::NestInstance => self.named(Node::Instance {
+                template: self.prefix_node(symbol, kept),
+                arguments: self.list_in(symbol, first),
+            }),
+            Production::BaseArguments => self.named(Node::Instance {
                 template: self.prefix_node(symbol, kept),
                 arguments: self.list_in(symbol, first),
             }),
@@ -638,6 +713,35 @@ impl Linked {
         }
     }
 
+    /// What is done before the first part.
+    ///
+    /// # Errors
+    ///
+    /// `BadReference` at the arguments of a constructor that is inherited, which the ABI's grammar doesn't have.
+    #[tactic(auto, unfolding(cpp_term::specs::Between::between))]
+    #[inline(always)]
+    fn step_begin(
+        &self,
+        symbol: &[u8],
+        production: Production,
+        place: u32,
+        kept: Surroundings,
+    ) -> Result<Step, Refusal>
+        requires table { IsTable (over symbol.now self.now.nodes) }
+        requires kept { IsKeptThere (length self.now.nodes.nodes) kept }
+        ensures is { IfOk result (λ step. (cs : List values.Candidate) → between production (around_of (trees_in symbol.now self.now.nodes) kept) place [] (record { candidates = cs; packs = self.now.packs }) ≡ goes_on symbol.now self.now.nodes kept [] cs self.now.packs step) }
+        ensures refused { IfErr result (λ e. (cs : List values.Candidate) → Fails e (between production (around_of (trees_in symbol.now self.now.nodes) kept) place [] (record { candidates = cs; packs = self.now.packs }))) }
+        ensures there { IfOk result (λ step. IsStepThere symbol.now (length self.now.nodes.thunks) (length self.now.nodes.nodes) step) }
+        ensures of { (held : ℕ) → IfOk result (λ step. IsStepOf production held step) }
+        ensures makes { IfOk result (λ step. nodes_of_step step ≡ makes_before production []) }
+        ensures bad { IfErr result (λ e. e ≡ refusals.Memory → ⊥) }
+    {
+        match production {
+            Production::OwnArguments => Err(Refusal::BadReference { at: place }),
+            _ => Ok(self.step_first(symbol, production, place, kept)),
+        }
+    }
+
     /// What is done before the second part.
     ///
     /// # Errors
@@ -683,10 +787,6 @@ impl Linked {
                 let digits = self.text_in(symbol, first);
                 self.parameter_argument(symbol, kept, place, digits)
             }
-            Production::BoundedArray => {
-                let digits = self.text_in(symbol, first);
-                self.parameter_argument(symbol, kept, place, digits)
-            }
             Production::PackArgument => Ok(self.pack(symbol, first)),
             Production::Holder => Err(Refusal::BadReference { at: place }),
             _ => Ok(self.step_second(symbol, production, place, kept, first)),
@@ -721,7 +821,7 @@ impl Linked {
         ensures bad { IfErr result (λ e. e ≡ refusals.Memory → ⊥) }
     {
         if parts.is_empty() {
-            return Ok(self.step_first(symbol, production, place, kept));
+            return self.step_begin(symbol, production, place, kept);
         }
         let first = self.given(symbol, parts, 0);
         if parts.len() == 1 {

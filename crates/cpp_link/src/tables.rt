@@ -3,7 +3,7 @@
 use cpp_grammar::production::Production;
 
 /// The productions.
-pub(crate) const PRODUCTIONS: [Production; 145] = [
+pub(crate) const PRODUCTIONS: [Production; 200] = [
     Production::Mark,
     Production::InternalName,
     Production::LocalTypeName,
@@ -45,11 +45,13 @@ pub(crate) const PRODUCTIONS: [Production; 145] = [
     Production::NestNext,
     Production::NestTag,
     Production::NestEnd,
-    Production::Constructor,
+    Production::AnyConstructor,
     Production::Destructor,
     Production::ComponentWithC,
     Production::OtherOperatorName,
     Production::Holder,
+    Production::Inheriting,
+    Production::Constructor,
     Production::Abbreviation,
     Production::Substitution,
     Production::NestedType,
@@ -77,6 +79,7 @@ pub(crate) const PRODUCTIONS: [Production; 145] = [
     Production::NoexceptFunction,
     Production::SizedFloat,
     Production::ConstrainedAuto,
+    Production::Decltype,
     Production::Pointer,
     Production::MemberPointer,
     Production::Parameter,
@@ -104,7 +107,6 @@ pub(crate) const PRODUCTIONS: [Production; 145] = [
     Production::AnyArgument,
     Production::LiteralElement,
     Production::AnyElement,
-    Production::Address,
     Production::EncodingLiteral,
     Production::BoolLiteral,
     Production::LiteralWithD,
@@ -128,6 +130,12 @@ pub(crate) const PRODUCTIONS: [Production; 145] = [
     Production::NestInstance,
     Production::Conversion,
     Production::OperatorNameWithC,
+    Production::OwnArguments,
+    Production::NestedBase,
+    Production::BaseWithS,
+    Production::SourceBase,
+    Production::BaseInStd,
+    Production::BaseArguments,
     Production::Clone,
     Production::TaggedStdType,
     Production::TypeTag,
@@ -144,15 +152,62 @@ pub(crate) const PRODUCTIONS: [Production; 145] = [
     Production::TemplateOf,
     Production::PackOf,
     Production::Declarations,
+    Production::Cast,
+    Production::OperatorReference,
+    Production::SimpleId,
+    Production::FunctionParameter,
     Production::AddressExpression,
+    Production::Binary,
+    Production::Unary,
+    Production::OfType,
+    Production::Call,
+    Production::Convert,
+    Production::OuterParameter,
+    Production::Braces,
+    Production::Step,
+    Production::Conditional,
+    Production::ExpandExpression,
+    Production::PackSize,
+    Production::Unresolved,
+    Production::TypedBraces,
+    Production::ExpressionA,
+    Production::ExpressionC,
+    Production::ExpressionD,
+    Production::ExpressionE,
+    Production::ExpressionF,
+    Production::ExpressionG,
+    Production::ExpressionI,
+    Production::ExpressionL,
+    Production::ExpressionM,
+    Production::ExpressionN,
+    Production::ExpressionO,
+    Production::ExpressionP,
+    Production::ExpressionQ,
+    Production::ExpressionR,
+    Production::ExpressionS,
+    Production::ExpressionT,
     Production::ParameterExpression,
+    Production::AddressedLiteral,
+    Production::Expressions,
+    Production::This,
+    Production::ParameterNumber,
+    Production::ConvertedDecltype,
+    Production::ConvertedConst,
+    Production::ConvertedPointer,
+    Production::ConvertedReference,
+    Production::ConvertedType,
+    Production::UnresolvedInType,
+    Production::Levels,
+    Production::LevelsEnd,
+    Production::UnresolvedOperator,
     Production::AnyArray,
     Production::BoundedArray,
     Production::LengthArray,
+    Production::TaggedSource,
 ];
 
 /// How many parts each has.
-pub(crate) const PART_COUNTS: [u8; 145] = [
+pub(crate) const PART_COUNTS: [u8; 200] = [
     0, // Mark
     2, // InternalName
     2, // LocalTypeName
@@ -194,11 +249,13 @@ pub(crate) const PART_COUNTS: [u8; 145] = [
     2, // NestNext
     2, // NestTag
     0, // NestEnd
-    2, // Constructor
+    1, // AnyConstructor
     2, // Destructor
     1, // ComponentWithC
     2, // OtherOperatorName
     2, // Holder
+    2, // Inheriting
+    2, // Constructor
     0, // Abbreviation
     1, // Substitution
     1, // NestedType
@@ -226,6 +283,7 @@ pub(crate) const PART_COUNTS: [u8; 145] = [
     4, // NoexceptFunction
     2, // SizedFloat
     1, // ConstrainedAuto
+    2, // Decltype
     1, // Pointer
     2, // MemberPointer
     2, // Parameter
@@ -253,7 +311,6 @@ pub(crate) const PART_COUNTS: [u8; 145] = [
     2, // AnyArgument
     3, // LiteralElement
     2, // AnyElement
-    5, // Address
     2, // EncodingLiteral
     1, // BoolLiteral
     1, // LiteralWithD
@@ -277,10 +334,16 @@ pub(crate) const PART_COUNTS: [u8; 145] = [
     3, // NestInstance
     1, // Conversion
     2, // OperatorNameWithC
+    2, // OwnArguments
+    2, // NestedBase
+    1, // BaseWithS
+    2, // SourceBase
+    2, // BaseInStd
+    3, // BaseArguments
     2, // Clone
     2, // TaggedStdType
     2, // TypeTag
-    1, // Expression
+    2, // Expression
     1, // ArgumentWithT
     1, // PlainArgument
     2, // DeclaredArgument
@@ -293,15 +356,62 @@ pub(crate) const PART_COUNTS: [u8; 145] = [
     2, // TemplateOf
     2, // PackOf
     2, // Declarations
-    2, // AddressExpression
+    2, // Cast
+    2, // OperatorReference
+    2, // SimpleId
+    4, // FunctionParameter
+    1, // AddressExpression
+    2, // Binary
+    1, // Unary
+    1, // OfType
+    3, // Call
+    2, // Convert
+    2, // OuterParameter
+    2, // Braces
+    2, // Step
+    3, // Conditional
+    1, // ExpandExpression
+    1, // PackSize
+    1, // Unresolved
+    3, // TypedBraces
+    1, // ExpressionA
+    1, // ExpressionC
+    1, // ExpressionD
+    1, // ExpressionE
+    1, // ExpressionF
+    1, // ExpressionG
+    1, // ExpressionI
+    1, // ExpressionL
+    1, // ExpressionM
+    1, // ExpressionN
+    1, // ExpressionO
+    1, // ExpressionP
+    1, // ExpressionQ
+    1, // ExpressionR
+    1, // ExpressionS
+    1, // ExpressionT
     2, // ParameterExpression
+    2, // AddressedLiteral
+    2, // Expressions
+    0, // This
+    1, // ParameterNumber
+    1, // ConvertedDecltype
+    1, // ConvertedConst
+    1, // ConvertedPointer
+    1, // ConvertedReference
+    1, // ConvertedType
+    2, // UnresolvedInType
+    2, // Levels
+    1, // LevelsEnd
+    1, // UnresolvedOperator
     1, // AnyArray
     3, // BoundedArray
     2, // LengthArray
+    2, // TaggedSource
 ];
 
 /// Whether parts without a row may be between those of each.
-pub(crate) const SKIPS_PARTS: [bool; 145] = [
+pub(crate) const SKIPS_PARTS: [bool; 200] = [
     false, // Mark
     false, // InternalName
     false, // LocalTypeName
@@ -343,11 +453,13 @@ pub(crate) const SKIPS_PARTS: [bool; 145] = [
     false, // NestNext
     false, // NestTag
     false, // NestEnd
-    false, // Constructor
+    false, // AnyConstructor
     false, // Destructor
     false, // ComponentWithC
     false, // OtherOperatorName
     false, // Holder
+    false, // Inheriting
+    false, // Constructor
     false, // Abbreviation
     false, // Substitution
     false, // NestedType
@@ -375,6 +487,7 @@ pub(crate) const SKIPS_PARTS: [bool; 145] = [
     true, // NoexceptFunction
     false, // SizedFloat
     false, // ConstrainedAuto
+    false, // Decltype
     false, // Pointer
     false, // MemberPointer
     false, // Parameter
@@ -402,7 +515,6 @@ pub(crate) const SKIPS_PARTS: [bool; 145] = [
     false, // AnyArgument
     true, // LiteralElement
     false, // AnyElement
-    true, // Address
     true, // EncodingLiteral
     false, // BoolLiteral
     false, // LiteralWithD
@@ -426,6 +538,12 @@ pub(crate) const SKIPS_PARTS: [bool; 145] = [
     true, // NestInstance
     false, // Conversion
     false, // OperatorNameWithC
+    false, // OwnArguments
+    false, // NestedBase
+    false, // BaseWithS
+    false, // SourceBase
+    false, // BaseInStd
+    true, // BaseArguments
     false, // Clone
     false, // TaggedStdType
     false, // TypeTag
@@ -442,15 +560,62 @@ pub(crate) const SKIPS_PARTS: [bool; 145] = [
     false, // TemplateOf
     true, // PackOf
     false, // Declarations
-    true, // AddressExpression
+    false, // Cast
+    false, // OperatorReference
+    false, // SimpleId
+    true, // FunctionParameter
+    false, // AddressExpression
+    false, // Binary
+    false, // Unary
+    false, // OfType
+    false, // Call
+    false, // Convert
+    false, // OuterParameter
+    false, // Braces
+    true, // Step
+    false, // Conditional
+    false, // ExpandExpression
+    false, // PackSize
+    false, // Unresolved
+    false, // TypedBraces
+    false, // ExpressionA
+    false, // ExpressionC
+    false, // ExpressionD
+    false, // ExpressionE
+    false, // ExpressionF
+    false, // ExpressionG
+    false, // ExpressionI
+    false, // ExpressionL
+    false, // ExpressionM
+    false, // ExpressionN
+    false, // ExpressionO
+    false, // ExpressionP
+    false, // ExpressionQ
+    false, // ExpressionR
+    false, // ExpressionS
+    false, // ExpressionT
     false, // ParameterExpression
+    false, // AddressedLiteral
+    false, // Expressions
+    false, // This
+    false, // ParameterNumber
+    false, // ConvertedDecltype
+    false, // ConvertedConst
+    false, // ConvertedPointer
+    false, // ConvertedReference
+    false, // ConvertedType
+    false, // UnresolvedInType
+    false, // Levels
+    false, // LevelsEnd
+    false, // UnresolvedOperator
     false, // AnyArray
     true, // BoundedArray
     false, // LengthArray
+    false, // TaggedSource
 ];
 
 /// Before how many of its parts nothing is done in each: before none, the first, or all, which are five at most.
-pub(crate) const QUIET_PARTS: [u8; 145] = [
+pub(crate) const QUIET_PARTS: [u8; 200] = [
     5, // Mark
     1, // InternalName
     1, // LocalTypeName
@@ -492,11 +657,13 @@ pub(crate) const QUIET_PARTS: [u8; 145] = [
     0, // NestNext
     1, // NestTag
     5, // NestEnd
-    1, // Constructor
+    5, // AnyConstructor
     1, // Destructor
     5, // ComponentWithC
     1, // OtherOperatorName
     1, // Holder
+    1, // Inheriting
+    1, // Constructor
     5, // Abbreviation
     5, // Substitution
     5, // NestedType
@@ -524,6 +691,7 @@ pub(crate) const QUIET_PARTS: [u8; 145] = [
     5, // NoexceptFunction
     5, // SizedFloat
     5, // ConstrainedAuto
+    5, // Decltype
     5, // Pointer
     5, // MemberPointer
     1, // Parameter
@@ -551,7 +719,6 @@ pub(crate) const QUIET_PARTS: [u8; 145] = [
     5, // AnyArgument
     5, // LiteralElement
     5, // AnyElement
-    5, // Address
     5, // EncodingLiteral
     5, // BoolLiteral
     5, // LiteralWithD
@@ -575,6 +742,12 @@ pub(crate) const QUIET_PARTS: [u8; 145] = [
     0, // NestInstance
     0, // Conversion
     1, // OperatorNameWithC
+    0, // OwnArguments
+    1, // NestedBase
+    5, // BaseWithS
+    1, // SourceBase
+    1, // BaseInStd
+    0, // BaseArguments
     5, // Clone
     1, // TaggedStdType
     1, // TypeTag
@@ -591,9 +764,56 @@ pub(crate) const QUIET_PARTS: [u8; 145] = [
     5, // TemplateOf
     5, // PackOf
     5, // Declarations
+    5, // Cast
+    1, // OperatorReference
+    1, // SimpleId
+    5, // FunctionParameter
     5, // AddressExpression
+    5, // Binary
+    5, // Unary
+    5, // OfType
+    5, // Call
+    5, // Convert
+    5, // OuterParameter
+    5, // Braces
+    5, // Step
+    5, // Conditional
+    0, // ExpandExpression
+    0, // PackSize
+    5, // Unresolved
+    5, // TypedBraces
+    5, // ExpressionA
+    5, // ExpressionC
+    5, // ExpressionD
+    5, // ExpressionE
+    5, // ExpressionF
+    5, // ExpressionG
+    5, // ExpressionI
+    5, // ExpressionL
+    5, // ExpressionM
+    5, // ExpressionN
+    5, // ExpressionO
+    5, // ExpressionP
+    5, // ExpressionQ
+    5, // ExpressionR
+    5, // ExpressionS
+    5, // ExpressionT
     1, // ParameterExpression
+    5, // AddressedLiteral
+    5, // Expressions
+    5, // This
+    5, // ParameterNumber
+    5, // ConvertedDecltype
+    5, // ConvertedConst
+    5, // ConvertedPointer
+    5, // ConvertedReference
+    5, // ConvertedType
+    1, // UnresolvedInType
+    5, // Levels
+    5, // LevelsEnd
+    5, // UnresolvedOperator
     5, // AnyArray
-    1, // BoundedArray
+    5, // BoundedArray
     5, // LengthArray
+    1, // TaggedSource
 ];

@@ -48,6 +48,7 @@ pub fn node_of(part: Part) -> u32
         Part::Tree { node, .. } => node,
         Part::Named { node, .. } => node,
         Part::Signature { list, .. } => list,
+        Part::Pair { left, .. } => left,
         _ => ABSENT,
     }
 }
@@ -77,6 +78,7 @@ pub fn list_of(part: Part) -> u32
         Part::Tree { node, .. } => node,
         Part::Named { node, .. } => node,
         Part::Signature { list, .. } => list,
+        Part::Pair { left, .. } => left,
         _ => ABSENT,
     }
 }
@@ -142,6 +144,7 @@ pub fn letter_of(part: Part) -> u8
 {
     match part {
         Part::Letter(byte) => byte,
+        Part::Pair { letter, .. } => letter,
         _ => 0,
     }
 }

@@ -11,12 +11,12 @@ ghost use Rattle.cpp_link.specs.declared.part.Part.TheVariants as variants;
 ghost use Rattle.cpp_term.specs.Values.{Value, State, Around};
 ghost use Rattle.cpp_link.specs.Parts.{is_lambda};
 ghost use Rattle.cpp_link.specs.View.{Surrounds};
-ghost use Rattle.cpp_link.specs.LinkRescoping.{names_generic, names_holder, wide_counted};
+ghost use Rattle.cpp_link.specs.LinkRescoping.{names_generic, names_holder, counts_base, wide_counted};
 ghost use Rattle.cpp_link.specs.RescopingLaws.{wide_laws, wide_threads};
 ghost use Rattle.cpp_link.specs.declared.rescoping.Rescoping.{Rescoping};
 
 use crate::dispatch::production_of;
-use crate::holders::is_holder;
+use crate::holders::{is_holder, is_inheriting, is_own_arguments};
 use crate::language::OUTSIDE;
 use crate::part::{Part, Surroundings};
 use crate::rescoping::{Rescoping, is_lambda_production, is_parameter, is_substitution};
@@ -38,6 +38,13 @@ fn names_holder(production: Production, held: usize) -> bool
     ensures { result ≡ names_holder production held }
 {
     is_holder(production) && held == 1
+}
+
+/// Whether before the part after so many the base class of a constructor that is inherited is counted.
+fn counts_base(production: Production, held: usize) -> bool
+    ensures { result ≡ counts_base production held }
+{
+    is_own_arguments(production) && held == 0
 }
 
 impl Threading for Rescoping {
@@ -89,6 +96,9 @@ impl Threading for Rescoping {
         if names_holder(production, held) {
             return self.linked.before_holder(symbol, frame, parts);
         }
+        if counts_base(production, held) {
+            return self.linked.before_own_arguments(symbol, frame);
+        }
         self.linked.before_part(symbol, frame, parts)
     }
 
@@ -135,6 +145,9 @@ impl Threading for Rescoping {
         }
         if is_lambda_production(production) {
             return self.linked.finish_lambda(symbol, frame, parts);
+        }
+        if is_inheriting(production) {
+            return self.linked.finish_inheriting(symbol, frame, parts);
         }
         self.linked.finish_rule(symbol, frame, parts)
     }

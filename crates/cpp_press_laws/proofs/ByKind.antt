@@ -11,6 +11,7 @@ pub mod Pieces
 pub mod PieceKinds
 pub mod Arguments
 pub mod AbiTrees
+pub mod Steps
 pub mod Known
 pub mod Pieced
 pub mod Encodings

@@ -1,6 +1,6 @@
 -- No two components that are compared and equal are both spelled out.
 use Rattle.std.specs.Prelude.{◌≡◌, ℕ, List, [], ◌∷◌, ◌++◌, ◌⊎◌, true, false}
-use Rattle.cpp_grammar.specs.Term.{Term, symbol, function, object, special, thunk, of_name, construction, clone, alone, in_std, within, instance, local, holder, tagged, of_default, lambda, generic_lambda, conversion, pointer, lvalue, rvalue, array, constrained, bounded, member_pointer, function_type, qualified, vector, complex, expansion, integer, encoding_literal, address_of, pack, list}
+use Rattle.cpp_grammar.specs.Term.{Term, symbol, function, object, special, thunk, of_name, construction, clone, alone, in_std, within, instance, local, holder, tagged, of_default, inheriting, lambda, generic_lambda, conversion, pointer, lvalue, rvalue, array, constrained, bounded, member_pointer, function_type, qualified, vector, complex, decltype, expansion, integer, encoding_literal, address_of, operation, pack, list}
 use Rattle.cpp_press_laws.specs.Texts.{name_letters}
 use Rattle.cpp_press_laws.specs.Components.{Component, is_same}
 use Rattle.cpp_press_laws.specs.Pressing.{ways_of, pressed}
@@ -40,6 +40,7 @@ IsNeverReferred own (local e entity discriminator) = IsTemplateOf own entity ⊎
 IsNeverReferred own (holder name) = IsNeverReferred own name
 IsNeverReferred own (tagged of_structor name tag) = IsNeverReferred own name
 IsNeverReferred own (of_default digits entity) = IsNeverReferred own entity
+IsNeverReferred own (inheriting digit class) = IsNeverReferred own class
 IsNeverReferred own (lambda parameters k) = IsNeverReferred own parameters
 IsNeverReferred own (generic_lambda parameters number) = IsNeverReferred own parameters
 IsNeverReferred own (conversion type) = IsNeverReferred own type
@@ -54,10 +55,12 @@ IsNeverReferred own (function_type c_linkage noexcept ref returned parameters) =
 IsNeverReferred own (qualified q type) = IsNeverReferred own type
 IsNeverReferred own (vector digits type) = IsNeverReferred own type
 IsNeverReferred own (complex type) = IsNeverReferred own type
+IsNeverReferred own (decltype operand) = IsNeverReferred own operand
 IsNeverReferred own (expansion pattern) = IsNeverReferred own pattern
 IsNeverReferred own (integer type value) = IsNeverReferred own type
 IsNeverReferred own (encoding_literal e) = IsNeverReferred own e
 IsNeverReferred own (address_of e) = IsNeverReferred own e
+IsNeverReferred own (operation one two u w) = IsNeverReferred own u ⊎ IsNeverReferred own w
 IsNeverReferred own (pack elements) = IsNeverReferred own elements
 IsNeverReferred own (list first rest) = IsNeverReferred own first ⊎ IsNeverReferred own rest
 IsNeverReferred own _ = ⊥

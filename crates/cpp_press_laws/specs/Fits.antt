@@ -6,7 +6,7 @@ use Rattle.sym_spell.specs.Pressing.{◌and◌, text}
 use Rattle.cpp_grammar.specs.declared.kind.Kind.{Kind}
 use Rattle.cpp_grammar.specs.declared.production.Production.{Production}
 use Rattle.cpp_grammar.specs.Grammar.{choose}
-use Rattle.cpp_grammar.specs.Term.{Qualifiers, RefQualifier, Adjustment, non_virtual, by_table, Thunk, adjusting, covariant, Term, symbol, function, object, special, thunk, of_name, construction, clone, alone, in_std, within, instance, local, holder, tagged, of_default, abbreviation, parameter, source, operator, literal_operator, constructor, destructor, lambda, generic_lambda, unnamed, string_literal, conversion, builtin, sized_float, constrained, vendor, pointer, lvalue, rvalue, array, bounded, member_pointer, function_type, qualified, vector, complex, expansion, integer, boolean, null_pointer, encoding_literal, address_of, pack, nil, list, absent}
+use Rattle.cpp_grammar.specs.Term.{Qualifiers, RefQualifier, Adjustment, non_virtual, by_table, Thunk, adjusting, covariant, Term, symbol, function, object, special, thunk, of_name, construction, clone, alone, in_std, within, instance, local, holder, tagged, of_default, abbreviation, parameter, source, operator, literal_operator, constructor, destructor, inheriting, lambda, generic_lambda, unnamed, string_literal, conversion, builtin, sized_float, constrained, vendor, pointer, lvalue, rvalue, array, bounded, member_pointer, function_type, qualified, vector, complex, decltype, expansion, integer, boolean, null_pointer, encoding_literal, address_of, operation, function_parameter, pack, nil, list, absent}
 use Rattle.cpp_grammar.specs.Scope.{count, element, length_if_pack, has_return_type, is_open}
 use Rattle.cpp_grammar.specs.References.{packs_in}
 use Rattle.cpp_grammar.specs.Values.{Prefix, outermost, behind, Around}
@@ -286,16 +286,20 @@ fits_of (special l type) =
 fits_of (thunk kind e) =
     encoding_fits (λ allowed here cs. IsSpellableThunk kind × Behind (text (thunk_text kind)) ((fits_of e).as_encoding allowed) here cs)
 fits_of (of_name l name q ref) = encoding_fits (λ allowed here cs. (l ≡ 86) × (fits_of name).as_name q ref (in_name here) allowed (here + 2) cs)
--- construction vtables, clones, what holds others in its initializer, lambdas with parameters of their own, conversions, floats of so many
--- bits, and entities of default arguments are read by the wide grammar alone
+-- construction vtables, clones, what holds others in its initializer, constructors that are inherited, lambdas with parameters of their own,
+-- conversions, floats of so many bits, entities of default arguments, and expressions are read by the wide grammar alone
 fits_of (construction derived digits parent) = fits_nowhere
 fits_of (clone letter e) = fits_nowhere
 fits_of (holder name) = fits_nowhere
+fits_of (inheriting digit class) = fits_nowhere
 fits_of (generic_lambda parameters number) = fits_nowhere
 fits_of (conversion type) = fits_nowhere
 fits_of (sized_float digits end) = fits_nowhere
 fits_of (bounded bound type) = fits_nowhere
 fits_of (constrained letter concept) = fits_nowhere
+fits_of (decltype operand) = fits_nowhere
+fits_of (operation one two u w) = fits_nowhere
+fits_of (function_parameter digits) = fits_nowhere
 fits_of (of_default digits entity) = fits_nowhere
 -- a piece alone
 fits_of (alone p) = record fits_nowhere {

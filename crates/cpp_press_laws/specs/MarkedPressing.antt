@@ -3,7 +3,7 @@
 use Rattle.std.specs.Prelude.{ℕ, ◌-◌, List, [], ◌∷◌, ◌++◌, Bool, true, false, cond, ◌&&◌, codes, Option}
 use Prim.Native.String.{String}
 use Rattle.sym_spell.specs.Pressing.{◌and◌, text, nothing}
-use Rattle.cpp_grammar.specs.Term.{RefQualifier, Term, symbol, function, object, special, thunk, of_name, construction, clone, alone, in_std, within, instance, local, holder, tagged, of_default, abbreviation, parameter, source, operator, literal_operator, constructor, destructor, lambda, generic_lambda, unnamed, string_literal, conversion, builtin, sized_float, constrained, vendor, pointer, lvalue, rvalue, array, bounded, member_pointer, function_type, qualified, vector, complex, expansion, integer, boolean, null_pointer, encoding_literal, address_of, pack, nil, list, absent}
+use Rattle.cpp_grammar.specs.Term.{RefQualifier, Term, symbol, function, object, special, thunk, of_name, construction, clone, alone, in_std, within, instance, local, holder, tagged, of_default, abbreviation, parameter, source, operator, literal_operator, constructor, destructor, inheriting, lambda, generic_lambda, unnamed, string_literal, conversion, builtin, sized_float, constrained, vendor, pointer, lvalue, rvalue, array, bounded, member_pointer, function_type, qualified, vector, complex, decltype, expansion, integer, boolean, null_pointer, encoding_literal, address_of, operation, function_parameter, pack, nil, list, absent}
 use Rattle.cpp_press_laws.specs.Texts.{counted, ordinal, signed_text, qualifier_letters, mark_letter, name_letters, special_code, thunk_text, discriminator_text}
 use Rattle.cpp_press_laws.specs.MarkedComponents.{compared, not_compared, Spelling, referred, component}
 use Rattle.cpp_press_laws.specs.Pressing.{is_operator, is_one_piece}
@@ -161,6 +161,8 @@ ways_of n (operator a b) = piece_ways (text (a ∷ b ∷ []))
 ways_of n (literal_operator name) = piece_ways (text (codes "li" ++ counted name))
 ways_of n (constructor digit) = piece_ways (text (codes "C" ++ digit ∷ []))
 ways_of n (destructor digit) = piece_ways (text (codes "D" ++ digit ∷ []))
+-- nor are constructors that are inherited
+ways_of n (inheriting digit class) = no_ways
 ways_of n (lambda parameters k) = piece_ways (says "Ul" and (ways_of n parameters).as_parameters and text (codes "E" ++ ordinal (k - 1)))
 -- nor are lambdas with parameters of their own
 ways_of n (generic_lambda parameters number) = no_ways
@@ -169,9 +171,12 @@ ways_of n string_literal = piece_ways (says "s")
 ways_of n (conversion type) = piece_ways (says "cv" and (ways_of n type).as_type)
 ways_of n (builtin code) = type_ways (text code)
 ways_of n (sized_float digits end) = type_ways (says "DF" and text digits and text (end ∷ []))
--- arrays whose length is a parameter and placeholders of which a concept is asked aren't pressed, either
+-- arrays whose length is an expression, placeholders of which a concept is asked, and expressions aren't pressed, either
 ways_of n (bounded bound type) = no_ways
 ways_of n (constrained letter concept) = no_ways
+ways_of n (decltype operand) = no_ways
+ways_of n (operation one two u w) = no_ways
+ways_of n (function_parameter digits) = no_ways
 ways_of n (vendor name) = type_ways (component n (vendor name) (text (codes "u" ++ counted name)))
 ways_of n (pointer type) = type_ways (component n (pointer type) (says "P" and (ways_of n type).as_type))
 ways_of n (lvalue type) = type_ways (component n (lvalue type) (says "R" and (ways_of n type).as_type))

@@ -1,7 +1,7 @@
 -- Whether two trees are the same, in each mark, number and name.
 use Rattle.std.specs.Prelude.{ℕ, List, Bool, true, false, not, ◌&&◌, nat_eq, Option, Some, None}
 use Rattle.cpp_grammar.specs.Texts.{same_bytes}
-use Rattle.cpp_grammar.specs.Term.{Qualifiers, RefQualifier, any_value, lvalue_only, rvalue_only, Signed, Adjustment, non_virtual, by_table, Thunk, adjusting, covariant, Term, symbol, function, object, special, thunk, of_name, construction, clone, alone, in_std, within, instance, local, holder, tagged, of_default, abbreviation, parameter, source, operator, literal_operator, constructor, destructor, lambda, generic_lambda, unnamed, string_literal, conversion, builtin, sized_float, constrained, vendor, pointer, lvalue, rvalue, array, bounded, member_pointer, function_type, qualified, vector, complex, expansion, integer, boolean, null_pointer, encoding_literal, address_of, pack, nil, list, absent}
+use Rattle.cpp_grammar.specs.Term.{Qualifiers, RefQualifier, any_value, lvalue_only, rvalue_only, Signed, Adjustment, non_virtual, by_table, Thunk, adjusting, covariant, Term, symbol, function, object, special, thunk, of_name, construction, clone, alone, in_std, within, instance, local, holder, tagged, of_default, abbreviation, parameter, source, operator, literal_operator, constructor, destructor, inheriting, lambda, generic_lambda, unnamed, string_literal, conversion, builtin, sized_float, constrained, vendor, pointer, lvalue, rvalue, array, bounded, member_pointer, function_type, qualified, vector, complex, decltype, expansion, integer, boolean, null_pointer, encoding_literal, address_of, operation, function_parameter, pack, nil, list, absent}
 
 unfoldable pub same_truth : Bool → Bool → Bool
 same_truth true b = b
@@ -60,6 +60,7 @@ same_tree (operator a0 a1) (operator b0 b1) = nat_eq a0 b0 && nat_eq a1 b1
 same_tree (literal_operator a0) (literal_operator b0) = same_bytes a0 b0
 same_tree (constructor a0) (constructor b0) = nat_eq a0 b0
 same_tree (destructor a0) (destructor b0) = nat_eq a0 b0
+same_tree (inheriting a0 a1) (inheriting b0 b1) = nat_eq a0 b0 && same_tree a1 b1
 same_tree (lambda a0 a1) (lambda b0 b1) = same_tree a0 b0 && nat_eq a1 b1
 same_tree (generic_lambda a0 a1) (generic_lambda b0 b1) = same_tree a0 b0 && nat_eq a1 b1
 same_tree (unnamed a0) (unnamed b0) = nat_eq a0 b0
@@ -79,12 +80,15 @@ same_tree (function_type a0 a1 a2 a3 a4) (function_type b0 b1 b2 b3 b4) = same_t
 same_tree (qualified a0 a1) (qualified b0 b1) = same_qualifiers a0 b0 && same_tree a1 b1
 same_tree (vector a0 a1) (vector b0 b1) = same_bytes a0 b0 && same_tree a1 b1
 same_tree (complex a0) (complex b0) = same_tree a0 b0
+same_tree (decltype a0) (decltype b0) = same_tree a0 b0
 same_tree (expansion a0) (expansion b0) = same_tree a0 b0
 same_tree (integer a0 a1) (integer b0 b1) = same_tree a0 b0 && same_signed a1 b1
 same_tree (boolean a0) (boolean b0) = same_truth a0 b0
 same_tree null_pointer null_pointer = true
 same_tree (encoding_literal a0) (encoding_literal b0) = same_tree a0 b0
 same_tree (address_of a0) (address_of b0) = same_tree a0 b0
+same_tree (operation a0 a1 a2 a3) (operation b0 b1 b2 b3) = nat_eq a0 b0 && nat_eq a1 b1 && same_tree a2 b2 && same_tree a3 b3
+same_tree (function_parameter a0) (function_parameter b0) = same_bytes a0 b0
 same_tree (pack a0) (pack b0) = same_tree a0 b0
 same_tree nil nil = true
 same_tree (list a0 a1) (list b0 b1) = same_tree a0 b0 && same_tree a1 b1

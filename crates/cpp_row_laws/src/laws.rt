@@ -7,7 +7,7 @@ ghost use Rattle.cpp_term.specs.Values.{Value};
 ghost use Rattle.cpp_link.specs.NodeCount.{makes_at_end, makes_before};
 ghost use Rattle.cpp_link.specs.Owed.{made_at_end};
 ghost use Rattle.cpp_link.specs.Tables.{quiet_parts};
-ghost use Rattle.cpp_row_laws.specs.Nodes.{nodes_at_end, nodes_before};
+ghost use Rattle.cpp_link.specs.RowNodes.{nodes_at_end, nodes_before};
 
 /// Before how many of its parts nothing is done in a production, how many nodes it makes before each part and at its end, and how many
 /// it makes at most, is what its row says.

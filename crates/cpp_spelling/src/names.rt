@@ -105,6 +105,8 @@ pub fn then_piece(symbol: &Symbol, piece: Piece, encoding: u64, tasks: &mut Vec<
         Piece::LiteralOperator(bytes) => then_text(symbol, Text::Counted(b"li", bytes), tasks),
         Piece::Constructor(digit) => then_text(symbol, Text::Pair(b'C', digit), tasks),
         Piece::Destructor(digit) => then_text(symbol, Text::Pair(b'D', digit), tasks),
+        // <ctor-dtor-name> ::= CI1 <base class type>: read by the ABI's grammar no symbol has one.
+        Piece::Inheriting { .. } => {}
         Piece::Lambda { parameters, number } => then_lambda(
             symbol, parameters, number, encoding, tasks,
         ),

@@ -8,17 +8,17 @@ use Rattle.sym_link.specs.Unfold.{found}
 use Rattle.sym_core.specs.declared.NumberKind.TheVariants.{Decimal, Seq36}
 use Rattle.sym_core.specs.Value.{counted_value}
 use Rattle.cpp_grammar.specs.declared.production.Production.{Production}
-use Rattle.cpp_grammar.specs.Rescoping.{generic_number, generic_so_far, parameter_here, argument_here, lambda_with, as_generic_lambda, with_holder, is_instance, holder_so_far, numbered, between_wide, close_wide}
+use Rattle.cpp_grammar.specs.Rescoping.{generic_number, generic_so_far, parameter_here, argument_here, lambda_with, as_generic_lambda, with_holder, is_instance, holder_so_far, numbered, with_base, counted_base, between_wide, close_wide}
 use Rattle.cpp_grammar.specs.Scope.{count, element, is_open, length_if_pack}
 use Rattle.cpp_grammar.specs.Term.{Term, lambda, generic_lambda, list, instance, holder, parameter}
 use Rattle.cpp_grammar.specs.Values as leaf_
-use Rattle.cpp_grammar.specs.Values.{Around, prefix_tree, Value, State, Candidate, local_number, tree_of, text_of, part}
+use Rattle.cpp_grammar.specs.Values.{Around, prefix_tree, Value, State, Candidate, local_number, tree_of, text_of, is_listed, part}
 use Rattle.cpp_grammar.specs.References.{appended, with_type, with_unqualified, with_packs, substituted, parameter_named}
 use Rattle.cpp_grammar.specs.Between.{in_signature, under_expansion, after, inside, no_items, listed_so_far, next, parameter_so_far, argument_so_far, index_of, between}
 use Rattle.cpp_grammar.specs.Meaning.{parameters, meaning}
 use Rattle.cpp_grammar.specs.Unfolding as unfolding_
 use Rattle.cpp_grammar.specs.Unfolding.{close}
-use Rattle.cpp_grammar.specs.Row.{Gain, nothing, the_prefix, type_of, unqualified_of, itself, Where, as_before, in_its_name, in_its_types, in_a_signature, under_it, nameless, after_part, after_the_name, Before, quiet, goes, becomes, tests, holds, Row, before_part}
+use Rattle.cpp_grammar.specs.Row.{Gain, nothing, the_prefix, type_of, unqualified_of, itself, Where, as_before, in_its_name, in_its_types, in_a_signature, under_it, nameless, after_part, after_the_name, Before, quiet, goes, becomes, tests, holds, unread, Row, before_part}
 use Rattle.cpp_grammar.specs.Meant.{made, is_listing, around_part, packs_within, gained, replaced, tested, done}
 use Rattle.cpp_grammar.specs.Rows.{row_of}
 use Rattle.cpp_grammar.proofs.ClosedParts.{StaysInside}
@@ -36,8 +36,8 @@ use Rattle.cpp_term.specs.Unfolding as unfolded_
 use Rattle.cpp_term.specs.Rescoping as wide_
 use Rattle.cpp_term.specs.Annotated.{Place, around_place, place_in, in_own, argument_in, annotate, noted_scope, noted_value, noted_values, noted_prefix, noted_around}
 use Rattle.cpp_term.proofs.Notes.{both, open_noted, closed_noted}
-use Rattle.cpp_term.proofs.MeaningNoted.{part_noted, tree_part, tree_noted, text_noted, text_part_, prefix_tree_noted, Inside, lambda_noted, takes_encodings, is_of_none, made_inside, made_noted, listing_noted, meaning_noted}
-use Rattle.cpp_term.proofs.StatesNoted.{IsOutside, Settled, own_place, Alike, alike_bind, Same, Moves, moves_none, one_moves, type_moves, unqualified_moves, prefix_moves, Comes, get_noted, substituted_noted, wide_numbered_noted, held_moves, parameter_noted}
+use Rattle.cpp_term.proofs.MeaningNoted.{part_noted, tree_part, tree_noted, text_noted, text_part_, prefix_tree_noted, Inside, lambda_noted, takes_encodings, is_of_none, made_inside, made_noted, listing_noted, listed_noted, meaning_noted}
+use Rattle.cpp_term.proofs.StatesNoted.{IsOutside, Settled, own_place, Alike, alike_bind, Same, Moves, moves_none, moves_then, one_moves, type_moves, unqualified_moves, prefix_moves, Comes, get_noted, substituted_noted, wide_numbered_noted, held_moves, parameter_noted}
 
 -- what is inside has the same scope, or none
 abbrev pub InScope : Around → Around → Type 0
@@ -210,6 +210,7 @@ done_noted own (tests after_t is_name) around place vs x y plain packs =
     >>= λ s. meant_.tested is_name (noted_around own around) (term_.parameter k (between_.argument_at (noted_around own around) k)) (noted_values (around_place own around) vs) s y))
     (sym (index_part (around_place own around) vs)) (tests_goes own around x y at (index_of (part vs 0)) is_name vs packs)
 done_noted own holds around place vs x y plain packs = refl
+done_noted own unread around place vs x y plain packs = refl
 
 row_noted : (own : Bool) (row : Row) (around : Around) (place : ℕ) (vs : List Value) (x : State) (y : value_.State) → all_pass is_plain row.before row.onward ≡ true → y.packs ≡ x.packs →
     Alike (Goes own (around_place own around) around x y) (done (before_part row (length vs)) around place vs x)
@@ -277,6 +278,7 @@ close_noted Production.Substitution byte around place began first vs x y h settl
     outside : (o : Option Candidate) → IsOutside false o
     outside None = tt
     outside (Some c) = λ opens own. absurd (false≢true own)
+close_noted Production.Inheriting byte around place began first vs x y h settled same e = refl
 close_noted production byte around place began first vs x y h settled same e = made_close false production byte around began first vs x y h same e
 
 -- ## The reading of the wide grammar
@@ -361,10 +363,26 @@ holder_goes around x y place packs =
     go true false f = absurd cc
     go false true f = absurd cc
 
+base_moves : (around : Around) (t : Term) (u : term_.Term) (x : State) (y : value_.State) → y.packs ≡ x.packs → u ≡ annotate (around_place true around) t → Moves true around x y (with_base around t x) (wide_.with_base (noted_around true around) u y)
+unfolding with_base wide_.with_base
+base_moves around t u x y packs e =
+    let a = appended around t x in
+    let b = reference_.appended (noted_around true around) u y in
+    let one = one_moves true around t u x y packs e in
+    moves_then true around x a (with_holder around t a) y b (wide_.with_holder (noted_around true around) u b) one (held_moves true around t u a b one.packs e)
+
+base_goes : (around : Around) (x : State) (y : value_.State) → y.packs ≡ x.packs →
+    Alike {A = Next Value State Around} (Goes true (around_place true around) around x y) (next [] (inside around) (with_base around (prefix_tree around.prefix) x))
+    (between_.next [] (between_.inside (noted_around true around)) (wide_.with_base (noted_around true around) (value_.prefix_tree (noted_prefix (around_place true around) around.prefix)) y))
+unfolding inside between_.inside noted_around noted_prefix noted_values
+base_goes around x y packs =
+    let s = around_place true around in
+    record { values = refl; context = refl; moves = base_moves around (prefix_tree around.prefix) (value_.prefix_tree (noted_prefix s around.prefix)) x y packs (prefix_tree_noted s around.prefix); scope = inl (refl, refl); place = inl refl }
+
 pub wide_between_noted : (production : Production) (around : Around) (place : ℕ) (vs : List Value) (x : State) (y : value_.State) → StaysInside production → Settled around → y.packs ≡ x.packs →
     Alike (Goes true (parts_place true production around) around x y) (between_wide production around place vs x)
     (wide_.between_wide production (noted_around true around) place (noted_values (parts_place true production around) vs) y)
-unfolding between_wide wide_.between_wide noted_values parts_place has_signature
+unfolding between_wide wide_.between_wide noted_values parts_place has_signature noted_around noted_prefix
 wide_between_noted Production.Parameter around place [] x y stays settled packs = between_noted true Production.Parameter around place [] x y stays packs
 wide_between_noted Production.Parameter around place (v ∷ []) x y stays settled packs = here_goes around x y place v settled packs
 wide_between_noted Production.Parameter around place (v ∷ w ∷ vs) x y stays settled packs = between_noted true Production.Parameter around place (v ∷ w ∷ vs) x y stays packs
@@ -377,9 +395,8 @@ wide_between_noted Production.ParameterArgument around place (v ∷ w ∷ vs) x 
 wide_between_noted Production.ParameterExpression around place [] x y stays settled packs = between_noted true Production.ParameterExpression around place [] x y stays packs
 wide_between_noted Production.ParameterExpression around place (v ∷ []) x y stays settled packs = argument_here_goes around x y place v settled packs
 wide_between_noted Production.ParameterExpression around place (v ∷ w ∷ vs) x y stays settled packs = between_noted true Production.ParameterExpression around place (v ∷ w ∷ vs) x y stays packs
-wide_between_noted Production.BoundedArray around place [] x y stays settled packs = between_noted true Production.BoundedArray around place [] x y stays packs
-wide_between_noted Production.BoundedArray around place (v ∷ []) x y stays settled packs = argument_here_goes around x y place v settled packs
-wide_between_noted Production.BoundedArray around place (v ∷ w ∷ vs) x y stays settled packs = between_noted true Production.BoundedArray around place (v ∷ w ∷ vs) x y stays packs
+wide_between_noted Production.OwnArguments around place [] x y stays settled packs = base_goes around x y packs
+wide_between_noted Production.OwnArguments around place (v ∷ vs) x y stays settled packs = between_noted true Production.OwnArguments around place (v ∷ vs) x y stays packs
 wide_between_noted Production.Holder around place [] x y stays settled packs = between_noted true Production.Holder around place [] x y stays packs
 wide_between_noted Production.Holder around place (v ∷ []) x y stays settled packs = holder_goes around x y place packs
 wide_between_noted Production.Holder around place (v ∷ w ∷ vs) x y stays settled packs = between_noted true Production.Holder around place (v ∷ w ∷ vs) x y stays packs
@@ -405,6 +422,21 @@ own_lambda s byte around other vs =
     ap wide_.as_generic_lambda (lambda_noted in_own vs)
     ∙ ap value_.piece (lambda_with_noted s (parameters (list (tree_of (part vs 0)) (no_items (part vs 1)))) (local_number (text_of (part vs 3))))
 
+counted_moves : (around : Around) (v : Value) (x : State) (y : value_.State) → y.packs ≡ x.packs → Moves true around x y (counted_base around v x) (wide_.counted_base (noted_around true around) (noted_value (around_place true around) v) y)
+unfolding counted_base wide_.counted_base noted_value
+counted_moves around (leaf_.pair second base own) x y packs = moves_none true around x x y y refl refl packs
+counted_moves around v x y packs = go (is_listed v) (value_.is_listed (noted_value s v)) (listed_noted s v)
+  where
+    s : Place
+    s = around_place true around
+
+    go : (b c : Bool) → c ≡ b → Moves true around x y (elim b as (λ _. State) [ true ↦ x | false ↦ with_base around (tree_of v) x ])
+        (elim c as (λ _. value_.State) [ true ↦ y | false ↦ wide_.with_base (noted_around true around) (value_.tree_of (noted_value s v)) y ])
+    go true true e = moves_none true around x x y y refl refl packs
+    go false false e = base_moves around (tree_of v) (value_.tree_of (noted_value s v)) x y packs (tree_noted s v)
+    go true false e = absurd cc
+    go false true e = absurd cc
+
 pub wide_close_noted : (production : Production) (byte : ℕ) (around : Around) (place : ℕ) (began : State) (first : value_.State) (vs : List Value) (x : State) (y : value_.State) → Inside production vs →
     Settled around → Same true around x y → first.packs ≡ began.packs →
     Alike (Comes true around x y) (close_wide production byte around place began vs x) (wide_.close_wide production byte (noted_around true around) place first (noted_values (parts_place true production around) vs) y)
@@ -414,6 +446,10 @@ wide_close_noted Production.Substitution byte around place began first vs x y h 
     (sym (text_part_ (around_place true around) vs 0)) (wide_numbered_noted around (place - 1) (counted_value Seq36 (text_of (part vs 0))) x y settled same)
 wide_close_noted Production.Lambda byte around place began first vs x y h settled same e =
     record { value = own_lambda (around_place true around) byte around (noted_around true around) vs; moves = moves_none true around x x y y refl refl same.packs }
+wide_close_noted Production.Inheriting byte around place began first vs x y h settled same e = record {
+  value = meaning_noted true Production.Inheriting byte around vs tt;
+  moves = subst (λ v. Moves true around x y (counted_base around (part vs 1) x) (wide_.counted_base (noted_around true around) v y)) (sym (part_noted (around_place true around) vs 1)) (counted_moves around (part vs 1) x y same.packs);
+}
 wide_close_noted Production.ValueOf byte around place began first vs x y h settled same e = record { value = refl; moves = moves_none true around x x y y refl refl same.packs }
 wide_close_noted Production.OfConcept byte around place began first vs x y h settled same e = record { value = refl; moves = moves_none true around x x y y refl refl same.packs }
 wide_close_noted production byte around place began first vs x y h settled same e = made_close true production byte around began first vs x y h same e

@@ -8,7 +8,7 @@ use Rattle.sym_link.specs.Driving.{Fails}
 use Rattle.sym_link.specs.Reading.{Found, ◌>>=◌}
 use Rattle.sym_link.specs.Unfold.{unfold_tree}
 use Rattle.cpp_grammar.specs.Table.{wide}
-use Rattle.cpp_grammar.specs.Term.{Term, symbol, function, object, special, thunk, of_name, construction, clone, alone, in_std, within, instance, local, holder, tagged, of_default, lambda, generic_lambda, conversion, pointer, lvalue, rvalue, array, constrained, bounded, member_pointer, function_type, qualified, vector, complex, expansion, integer, encoding_literal, address_of, pack, list}
+use Rattle.cpp_grammar.specs.Term.{Term, symbol, function, object, special, thunk, of_name, construction, clone, alone, in_std, within, instance, local, holder, tagged, of_default, lambda, generic_lambda, conversion, pointer, lvalue, rvalue, array, constrained, bounded, member_pointer, function_type, qualified, vector, complex, expansion, integer, encoding_literal, address_of, pack, list, decltype, inheriting, operation}
 use Rattle.cpp_grammar.specs.Unfolding.{unfold_cpp}
 use Rattle.cpp_grammar.specs.Rescoping.{unfold_wide}
 use Rattle.cpp_term.specs.Term as term_
@@ -43,6 +43,7 @@ erased s (local encoding entity discriminator) = both (λ a b. local a b discrim
 erased s (holder name) = ap (λ a. holder a) (erased s name)
 erased s (tagged of_structor name tag) = ap (λ a. tagged of_structor a tag) (erased s name)
 erased s (of_default digits entity) = ap (λ a. of_default digits a) (erased s entity)
+erased s (inheriting digit class) = ap (λ a. inheriting digit a) (erased s class)
 erased s (lambda parameters number) = ap (λ a. lambda a number) (erased s parameters)
 erased s (generic_lambda parameters number) = ap (λ a. generic_lambda a number) (erased in_own parameters)
 erased s (conversion t) = ap (λ a. conversion a) (erased s t)
@@ -57,10 +58,12 @@ erased s (function_type c_linkage noexcept ref returned parameters) = both (λ a
 erased s (qualified q t) = ap (λ a. qualified q a) (erased s t)
 erased s (vector digits t) = ap (λ a. vector digits a) (erased s t)
 erased s (complex t) = ap (λ a. complex a) (erased s t)
+erased s (decltype operand) = ap (λ a. decltype a) (erased s operand)
 erased s (expansion pattern) = ap (λ a. expansion a) (erased s pattern)
 erased s (integer t n) = ap (λ a. integer a n) (erased s t)
 erased s (encoding_literal e) = ap (λ a. encoding_literal a) (erased nowhere e)
 erased s (address_of e) = ap (λ a. address_of a) (erased nowhere e)
+erased s (operation one two u w) = both (λ a b. operation one two a b) (erased s u) (erased s w)
 erased s (pack elements) = ap (λ a. pack a) (erased s elements)
 erased s (list e rest) = both (λ a b. list a b) (erased s e) (erased s rest)
 erased s _ = refl

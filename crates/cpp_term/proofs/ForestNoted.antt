@@ -22,7 +22,7 @@ use Rattle.cpp_grammar.proofs.ClosedTrees.{is_encoding, has_encoding, TreeComes,
 use Rattle.cpp_term.specs.Values as value_
 use Rattle.cpp_term.specs.Annotated.{Place, nowhere, around_place, place_in, annotate, noted_value, noted_values, noted_around}
 use Rattle.cpp_term.proofs.KindsNoted.{is_special_kind}
-use Rattle.cpp_term.proofs.Notes.{both, closed_noted}
+use Rattle.cpp_term.proofs.Notes.{both, or_left, or_right, closed_noted}
 use Rattle.cpp_term.proofs.StatesNoted.{Settled, Alike, alike_bind, Same, Moves, moves_none, moves_then, same_moves, IsNoted, AllNoted}
 use Rattle.cpp_term.proofs.BetweenNoted.{InScope, parts_place, Goes}
 use Rattle.cpp_term.proofs.NotedWays.{NotedWay, reading_noted_by, IsNotedBy}
@@ -104,11 +104,12 @@ values_append s [] ws = refl
 values_append s (v ∷ vs) ws = ap (λ us. noted_value s v ∷ us) (values_append s vs ws)
 
 pub value_closed : (s r : Place) (v : Value) → is_open (held v) ≡ false → noted_value s v ≡ noted_value r v
-unfolding noted_value held
+unfolding noted_value held is_open
 value_closed s r (leaf_.piece p) h = ap value_.piece (closed_noted s r p h)
 value_closed s r (leaf_.tree t listed) h = ap (λ u. value_.tree u listed) (closed_noted s r t h)
 value_closed s r (leaf_.named t qualifiers ref) h = ap (λ u. value_.named u qualifiers ref) (closed_noted s r t h)
 value_closed s r (leaf_.signature t ref) h = ap (λ u. value_.signature u ref) (closed_noted s r t h)
+value_closed s r (leaf_.pair second x y) h = both (value_.pair second) (closed_noted s r x (or_left (is_open x) (is_open y) h)) (closed_noted s r y (or_right (is_open x) (is_open y) h))
 value_closed s r _ h = refl
 
 -- ## Trees and forests

@@ -2,14 +2,14 @@
 use Rattle.std.proofs.Common.{◌≡◌, refl, ap, sym, ◌∙◌, ℕ, zero, suc, List, [], ◌∷◌, Bool, true, false, not, ◌&&◌, cond, nat_eq, Option, Some, None}
 use Rattle.std.proofs.lemmas.Bool.{true≢false, false≢true}
 use Rattle.cpp_grammar.specs.declared.production.Production.{Production}
-use Rattle.cpp_grammar.specs.Term.{RefQualifier, any_value, lvalue_only, rvalue_only, non_virtual, by_table, adjusting, covariant, Term, function, within, instance, local, tagged, of_default, constructor, destructor, builtin, lvalue, rvalue, nil, list, absent, lambda}
+use Rattle.cpp_grammar.specs.Term.{RefQualifier, any_value, lvalue_only, rvalue_only, non_virtual, by_table, adjusting, covariant, Term, function, within, instance, local, tagged, of_default, constructor, destructor, inheriting, builtin, lvalue, rvalue, encoding_literal, operation, nil, list, absent, lambda}
 use Rattle.cpp_grammar.specs.Scope.{arguments_of, before_arguments, is_structor, has_return_type, is_open}
 use Rattle.cpp_grammar.specs.Values as leaf_
 use Rattle.cpp_grammar.specs.Values.{Around, Prefix, prefix_tree, prefix_listed, Value, unqualified, tree_of, piece_of, is_listed, qualifiers_of, ref_of, letter_of, is_there, mark_of, text_of, signed_of, adjustment_of, normal, signed_digits, local_number, part}
 use Rattle.cpp_grammar.specs.Between as going_
 use Rattle.cpp_grammar.specs.Meaning as meaning_
 use Rattle.cpp_grammar.specs.Meaning.{meaning}
-use Rattle.cpp_grammar.specs.Makers.{Maker, new_symbol, new_special, new_of_name, new_construction, new_clone, new_in_std, new_instance, new_local, new_abbreviation, new_source, new_operator, new_literal_operator, new_constructor, new_destructor, new_unnamed, new_string_literal, new_conversion, new_builtin, new_sized_float, new_constrained, new_vendor, new_pointer, new_lvalue, new_rvalue, new_array, new_bounded, new_member_pointer, new_function_type, new_qualified, new_vector, new_complex, new_expansion, new_integer, new_boolean, new_null_pointer, new_encoding_literal, new_address_of, new_pack}
+use Rattle.cpp_grammar.specs.Makers.{Maker, new_symbol, new_special, new_of_name, new_construction, new_clone, new_in_std, new_instance, new_local, new_abbreviation, new_source, new_operator, new_literal_operator, new_constructor, new_destructor, new_unnamed, new_string_literal, new_conversion, new_builtin, new_sized_float, new_constrained, new_vendor, new_pointer, new_lvalue, new_rvalue, new_array, new_bounded, new_member_pointer, new_function_type, new_qualified, new_vector, new_complex, new_expansion, new_integer, new_boolean, new_null_pointer, new_decltype, new_encoding_literal, new_operation, new_function_parameter, new_pack}
 use Rattle.cpp_grammar.specs.Builders.{Argument, a_tree, some_bytes, a_number, a_truth, some_qualifiers, a_mark, a_signed, a_discriminator, tree_in, bytes_in, number_in, truth_in, qualifiers_in, mark_in, signed_in, discriminator_in, argument, built}
 use Rattle.cpp_grammar.specs.Row as row_
 use Rattle.cpp_grammar.specs.Row.{Source, Made, Listing, Own, Form}
@@ -224,12 +224,63 @@ unfolding value_.prefix_listed prefix_listed noted_prefix
 prefix_listed_noted s leaf_.outermost = refl
 prefix_listed_noted s (leaf_.behind u listed) = refl
 
+inherited_noted : (s : Place) (p : Prefix) (digit : ℕ) (v : Value) → between_.inherited (noted_prefix s p) digit (noted_value s v) ≡ noted_value s (going_.inherited p digit v)
+unfolding between_.inherited going_.inherited noted_value annotate
+inherited_noted s p digit (leaf_.pair second base own) = ap (λ n. value_.tree (term_.instance n (annotate s own)) false) (extended_noted s p (inheriting digit base))
+inherited_noted s p digit v = ap (λ b. value_.tree (between_.extended (noted_prefix s p) (term_.inheriting digit b)) false) (tree_noted s v) ∙ ap (λ n. value_.tree n false) (extended_noted s p (inheriting digit (tree_of v)))
+
+-- ## Expressions
+
+address_noted : (s : Place) (b : Bool) (first second : ℕ) (left right : Term) →
+    noted_.operation_or_address b first second (annotate s left) (annotate s right) ≡ annotate s (meaning_.operation_or_address b first second left right)
+unfolding noted_.operation_or_address meaning_.operation_or_address annotate
+address_noted s false first second left right = refl
+address_noted s true first second (encoding_literal e) right = refl
+address_noted s true first second _ right = refl
+
+operation_noted : (s : Place) (first : ℕ) (v : Value) → noted_.operation_by first (noted_value s v) ≡ noted_value s (meaning_.operation_by first v)
+unfolding noted_.operation_by meaning_.operation_by noted_value
+operation_noted s first (leaf_.pair second left right) = ap (λ t. value_.tree t true) (address_noted s (meaning_.is_code 97 100 first second) first second left right)
+operation_noted s first _ = refl
+
+comma_noted : (s : Place) (t : Term) → noted_.is_comma (annotate s t) ≡ meaning_.is_comma t
+unfolding noted_.is_comma meaning_.is_comma annotate
+comma_noted s (operation first second left right) = refl
+comma_noted s _ = refl
+
+ends_noted : (s : Place) (t : Term) → noted_.ends_arguments (annotate s t) ≡ meaning_.ends_arguments t
+unfolding noted_.ends_arguments meaning_.ends_arguments annotate
+ends_noted s (operation first second left right) = refl
+ends_noted s _ = refl
+
+argument_enclosed : (s : Place) (v : Value) → noted_.enclosed_argument (noted_value s v) ≡ noted_value s (meaning_.enclosed_argument v)
+unfolding noted_.enclosed_argument meaning_.enclosed_argument noted_.in_parentheses meaning_.in_parentheses noted_value annotate
+argument_enclosed s v = go (noted_.ends_arguments (value_.tree_of (noted_value s v))) (meaning_.ends_arguments (tree_of v)) (ap noted_.ends_arguments (tree_noted s v) ∙ ends_noted s (tree_of v))
+  where
+    go : (c b : Bool) → c ≡ b → (elim c as (λ _. value_.Value) [ true ↦ value_.tree (noted_.in_parentheses (value_.tree_of (noted_value s v))) true | false ↦ noted_value s v ])
+        ≡ noted_value s (elim b as (λ _. Value) [ true ↦ leaf_.tree (meaning_.in_parentheses (tree_of v)) true | false ↦ v ])
+    go true true e = ap (λ t. value_.tree (noted_.in_parentheses t) true) (tree_noted s v)
+    go false false e = refl
+    go true false e = absurd cc
+    go false true e = absurd cc
+
+element_enclosed : (s : Place) (t : Term) → noted_.enclosed_element (annotate s t) ≡ annotate s (meaning_.enclosed_element t)
+unfolding noted_.enclosed_element meaning_.enclosed_element noted_.in_parentheses meaning_.in_parentheses annotate
+element_enclosed s t = go (noted_.is_comma (annotate s t)) (meaning_.is_comma t) (comma_noted s t)
+  where
+    go : (c b : Bool) → c ≡ b → (elim c as (λ _. term_.Term) [ true ↦ noted_.in_parentheses (annotate s t) | false ↦ annotate s t ]) ≡ annotate s (elim b as (λ _. Term) [ true ↦ meaning_.in_parentheses t | false ↦ t ])
+    go true true e = refl
+    go false false e = refl
+    go true false e = absurd cc
+    go false true e = absurd cc
+
 -- ## Encodings
 
 pub structor_noted : (s : Place) (t : Term) → scope_.is_structor (annotate s t) ≡ is_structor t
 unfolding scope_.is_structor is_structor annotate
 structor_noted s (within prefix (constructor digit)) = refl
 structor_noted s (within prefix (destructor digit)) = refl
+structor_noted s (within prefix (inheriting digit base)) = refl
 structor_noted s (tagged of_structor name tag) = refl
 structor_noted s _ = refl
 
@@ -299,7 +350,6 @@ Inside Production.CovariantThunk vs = is_open (tree_of (part vs 2)) ≡ false
 Inside Production.LocalName vs = is_open (tree_of (part vs 0)) ≡ false
 Inside Production.LocalType vs = is_open (tree_of (part vs 0)) ≡ false
 Inside Production.EncodingLiteral vs = is_open (tree_of (part vs 1)) ≡ false
-Inside Production.Address vs = is_open (tree_of (part vs 2)) ≡ false
 Inside Production.Encoding vs = ⊥
 Inside _ vs = Unit {0}
 
@@ -417,7 +467,6 @@ takes_encodings new_construction = true
 takes_encodings new_clone = true
 takes_encodings new_local = true
 takes_encodings new_encoding_literal = true
-takes_encodings new_address_of = true
 takes_encodings _ = false
 
 -- Generated by tools/trees.py. No parameters are free in the encodings
@@ -429,7 +478,6 @@ AreShut new_construction xs = (is_open (tree_in (argument xs 0)) ≡ false) × (
 AreShut new_clone xs = is_open (tree_in (argument xs 1)) ≡ false
 AreShut new_local xs = is_open (tree_in (argument xs 0)) ≡ false
 AreShut new_encoding_literal xs = is_open (tree_in (argument xs 0)) ≡ false
-AreShut new_address_of xs = is_open (tree_in (argument xs 0)) ≡ false
 AreShut _ xs = Unit {0}
 
 -- Generated by tools/trees.py.
@@ -442,7 +490,6 @@ none_are_taken new_construction xs h = absurd (true≢false h)
 none_are_taken new_clone xs h = absurd (true≢false h)
 none_are_taken new_local xs h = absurd (true≢false h)
 none_are_taken new_encoding_literal xs h = absurd (true≢false h)
-none_are_taken new_address_of xs h = absurd (true≢false h)
 none_are_taken _ xs h = tt
 
 -- Generated by tools/trees.py.
@@ -479,21 +526,24 @@ built_noted s new_function_type xs h = five term_.function_type (truth_there s x
 built_noted s new_qualified xs h = both term_.qualified (qualifiers_there s xs 0) (tree_there s xs 1)
 built_noted s new_vector xs h = both term_.vector (bytes_there s xs 0) (tree_there s xs 1)
 built_noted s new_complex xs h = ap term_.complex (tree_there s xs 0)
+built_noted s new_decltype xs h = ap term_.decltype (tree_there s xs 0)
 built_noted s new_expansion xs h = ap term_.expansion (tree_there s xs 0)
 built_noted s new_integer xs h = both term_.integer (tree_there s xs 0) (signed_there s xs 1)
 built_noted s new_boolean xs h = ap term_.boolean (truth_there s xs 0)
 built_noted s new_null_pointer xs h = refl
 built_noted s new_encoding_literal xs h = ap term_.encoding_literal (shut_there s xs 0 h)
-built_noted s new_address_of xs h = ap term_.address_of (shut_there s xs 0 h)
+built_noted s new_operation xs h = four term_.operation (number_there s xs 0) (number_there s xs 1) (tree_there s xs 2) (tree_there s xs 3)
+built_noted s new_function_parameter xs h = ap term_.function_parameter (bytes_there s xs 0)
 built_noted s new_pack xs h = ap term_.pack (tree_there s xs 0)
 
 given_noted : (own : Bool) (byte : ℕ) (around : Around) (vs : List Value) (source : Source) →
     meant_.given byte (noted_around own around) (noted_values (around_place own around) vs) source ≡ noted_argument (around_place own around) (given byte around vs source)
-unfolding meant_.given given noted_around noted_argument
+unfolding meant_.given given noted_around noted_argument annotate
 given_noted own byte around vs (row_.tree_at k) = ap builder_.a_tree (tree_part (around_place own around) vs k)
 given_noted own byte around vs (row_.list_at k) = ap builder_.a_tree (items_part (around_place own around) vs k)
 given_noted own byte around vs (row_.parameters_at k) = ap builder_.a_tree (parameters_part (around_place own around) vs k)
 given_noted own byte around vs (row_.piece_at k) = ap (λ v. builder_.a_tree (value_.piece_of v)) (part_noted (around_place own around) vs k) ∙ ap builder_.a_tree (piece_noted (around_place own around) (part vs k))
+given_noted own byte around vs row_.no_tree = refl
 given_noted own byte around vs row_.the_name = ap builder_.a_tree (prefix_tree_noted (around_place own around) around.prefix)
 given_noted own byte around vs (row_.text_at k) = ap builder_.some_bytes (text_part_ (around_place own around) vs k)
 given_noted own byte around vs (row_.digits_at k) = ap (λ x. builder_.some_bytes (normal x)) (text_part_ (around_place own around) vs k)
@@ -501,6 +551,7 @@ given_noted own byte around vs (row_.code front) = refl
 given_noted own byte around vs row_.taken = refl
 given_noted own byte around vs (row_.fixed n) = refl
 given_noted own byte around vs (row_.letter_at k) = ap builder_.a_number (letter_part (around_place own around) vs k)
+given_noted own byte around vs (row_.letter_or_taken k) = ap (λ x. builder_.a_number (cond (nat_eq x 0) byte x)) (letter_part (around_place own around) vs k)
 given_noted own byte around vs (row_.number_at k) = ap (λ x. builder_.a_number (local_number x)) (text_part_ (around_place own around) vs k)
 given_noted own byte around vs row_.yes = refl
 given_noted own byte around vs row_.no = refl
@@ -585,6 +636,12 @@ own_noted own row_.local_name byte around vs h = five (λ x y d q r. value_.name
 own_noted own row_.in_default byte around vs h = default_noted (around_place own around) vs
 own_noted own row_.nest_end byte around vs h = both value_.tree (prefix_tree_noted (around_place own around) around.prefix) (prefix_listed_noted (around_place own around) around.prefix)
 own_noted own row_.closure byte around vs h = lambda_noted (around_place own around) vs
+own_noted own row_.inheriting byte around vs h =
+    both (between_.inherited (noted_prefix (around_place own around) around.prefix)) (letter_part (around_place own around) vs 0) (part_noted (around_place own around) vs 1) ∙ inherited_noted (around_place own around) around.prefix (letter_of (part vs 0)) (part vs 1)
+own_noted own row_.by_letters byte around vs h = ap (noted_.operation_by byte) (part_noted (around_place own around) vs 0) ∙ operation_noted (around_place own around) byte (part vs 0)
+own_noted own row_.enclosed byte around vs h = ap noted_.enclosed_argument (part_noted (around_place own around) vs 0) ∙ argument_enclosed (around_place own around) (part vs 0)
+own_noted own row_.elements byte around vs h =
+    both (λ x y. value_.tree (term_.list x y) true) (ap noted_.enclosed_element (tree_part (around_place own around) vs 0) ∙ element_enclosed (around_place own around) (tree_of (part vs 0))) (items_part (around_place own around) vs 1)
 own_noted own row_.substitution byte around vs h = refl
 own_noted own row_.first_of_operator byte around vs h = ap (noted_.operator_or_literal byte) (part_noted (around_place own around) vs 0) ∙ operator_noted (around_place own around) byte (part vs 0)
 own_noted own row_.reference byte around vs h = ap noted_.listed_value (ap (noted_.reference_to byte) (part_noted (around_place own around) vs 0) ∙ reference_to_noted (around_place own around) byte (part vs 0)) ∙ listed_value_noted (around_place own around) (meaning_.reference_to byte (part vs 0))
@@ -601,10 +658,24 @@ own_noted own row_.positive byte around vs h = ap (λ x. value_.signed (signed_d
 own_noted own row_.one_digit byte around vs h = refl
 own_noted own row_.many_digits byte around vs h = ap (λ x. value_.text (normal x)) (text_part_ (around_place own around) vs 0)
 
+-- the trees of a pair are made of no encodings
+abbrev OfNone : Bool → Type 0
+OfNone true = Unit {0}
+OfNone false = ⊥
+
+both_inside : (byte : ℕ) (around : Around) (vs : List Value) (left right : Made) → OfNone (is_of_none left && is_of_none right) → MadeInside byte around vs left × MadeInside byte around vs right
+both_inside byte around vs left right h = go (is_of_none left) (is_of_none right) refl refl h
+  where
+    go : (a b : Bool) → is_of_none left ≡ a → is_of_none right ≡ b → OfNone (a && b) → MadeInside byte around vs left × MadeInside byte around vs right
+    go true true e f k = (made_inside byte around vs left e, made_inside byte around vs right f)
+    go true false e f k = absurd k
+    go false b e f k = absurd k
+
 abbrev FormInside : Form → (byte : ℕ) → Around → List Value → Type 0
 FormInside (row_.makes m listing) byte around vs = MadeInside byte around vs m
 FormInside (row_.a_piece m) byte around vs = MadeInside byte around vs m
 FormInside (row_.own o most) byte around vs = OwnInside o vs
+FormInside (row_.a_pair letter left right) byte around vs = OfNone (is_of_none left && is_of_none right)
 FormInside _ byte around vs = Unit {0}
 
 meant_noted : (own : Bool) (form : Form) (byte : ℕ) (around : Around) (vs : List Value) → FormInside form byte around vs →
@@ -612,9 +683,22 @@ meant_noted : (own : Bool) (form : Form) (byte : ℕ) (around : Around) (vs : Li
 unfolding meant_.meant meant noted_.with_item meaning_.with_item noted_value annotate
 meant_noted own (row_.handed k) byte around vs h = part_noted (around_place own around) vs k
 meant_noted own (row_.finished k) byte around vs h = listed_whole (around_place own around) vs k
+meant_noted own (row_.either k n) byte around vs h = go (value_.is_there (value_.part (noted_values (around_place own around) vs) k)) (is_there (part vs k)) (there_part (around_place own around) vs k)
+  where
+    s : Place
+    s = around_place own around
+
+    go : (c b : Bool) → c ≡ b → (elim c as (λ _. value_.Value) [ true ↦ value_.part (noted_values s vs) k | false ↦ value_.part (noted_values s vs) n ]) ≡ noted_value s (elim b as (λ _. Value) [ true ↦ part vs k | false ↦ part vs n ])
+    go true true e = part_noted s vs k
+    go false false e = part_noted s vs n
+    go true false e = absurd cc
+    go false true e = absurd cc
 meant_noted own row_.the_byte byte around vs h = refl
 meant_noted own (row_.makes m listing) byte around vs h = both value_.tree (made_noted own byte around vs m h) (listing_noted (around_place own around) vs listing)
 meant_noted own (row_.a_piece m) byte around vs h = ap value_.piece (made_noted own byte around vs m h)
+meant_noted own (row_.a_pair letter left right) byte around vs h =
+    let i = both_inside byte around vs left right h in
+    three value_.pair (ap builder_.number_in (given_noted own byte around vs letter) ∙ number_in_noted (around_place own around) (given byte around vs letter)) (made_noted own byte around vs left i.0) (made_noted own byte around vs right i.1)
 meant_noted own (row_.cell i j) byte around vs h = both (λ x y. value_.tree (term_.list x y) true) (tree_part (around_place own around) vs i) (items_part (around_place own around) vs j)
 meant_noted own (row_.item i j) byte around vs h = three (λ x y z. value_.signature (term_.list x y) z) (tree_part (around_place own around) vs i) (tree_part (around_place own around) vs j) (ref_part (around_place own around) vs j)
 meant_noted own (row_.a_name listing) byte around vs h = both value_.tree (applied_part (around_place own around) vs 0 1) (listing_noted (around_place own around) vs listing)
@@ -623,6 +707,6 @@ meant_noted own (row_.own o most) byte around vs h = own_noted own o byte around
 
 pub meaning_noted : (own : Bool) (production : Production) (byte : ℕ) (around : Around) (vs : List Value) → Inside production vs →
     noted_.meaning production byte (noted_around own around) (noted_values (around_place own around) vs) ≡ noted_value (around_place own around) (meaning production byte around vs)
-unfolding noted_.meaning meaning all_given given argument tree_in
+unfolding noted_.meaning meaning all_given given argument tree_in is_of_none takes_encodings
 meaning_noted own Production.Encoding byte around vs h = absurd h
 meaning_noted own production byte around vs h = meant_noted own (row_of production).form byte around vs h

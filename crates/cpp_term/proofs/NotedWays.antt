@@ -66,7 +66,7 @@ plain_between Production.Parameter apart around place vs state = absurd (true≢
 plain_between Production.NestParameter apart around place vs state = absurd (true≢false apart)
 plain_between Production.ParameterArgument apart around place vs state = absurd (true≢false apart)
 plain_between Production.ParameterExpression apart around place vs state = absurd (true≢false apart)
-plain_between Production.BoundedArray apart around place vs state = absurd (true≢false apart)
+plain_between Production.OwnArguments apart around place vs state = absurd (true≢false apart)
 plain_between Production.Holder apart around place vs state = absurd (true≢false apart)
 plain_between _ apart around place vs state = refl
 
@@ -75,6 +75,7 @@ plain_close : (p : Production) → differs p ≡ false → (byte : ℕ) (around 
 unfolding differs close_wide
 plain_close Production.Substitution apart byte around place began vs state = absurd (true≢false apart)
 plain_close Production.Lambda apart byte around place began vs state = absurd (true≢false apart)
+plain_close Production.Inheriting apart byte around place began vs state = absurd (true≢false apart)
 plain_close _ apart byte around place began vs state = refl
 
 pub wide_is_noted : IsNotedBy wide_way wide_noted

@@ -1,14 +1,15 @@
 -- The parts of an annotated item are those of the item.
-use Rattle.std.proofs.Common.{◌≡◌, refl, ap, sym, ◌∙◌, ℕ, zero, suc, ◌+◌, List, [], ◌∷◌, ◌++◌, Bool, true, false, cond, nat_eq, Option, Some, None, codes}
+use Rattle.std.proofs.Common.{◌≡◌, refl, ap, sym, ◌∙◌, ℕ, zero, suc, ◌+◌, List, [], ◌∷◌, ◌++◌, Bool, true, false, cond, nat_eq, nat_le, Option, Some, None, codes}
 use Prim.Native.String.{String}
 use Rattle.sym_print.specs.declared.detail.Detail.{Detail}
 use Rattle.sym_print.specs.Details.{has_arguments, has_parameters}
 use Rattle.sym_print.specs.Unfold.{PartOf, text, sub}
-use Rattle.cpp_grammar.specs.Term.{Qualifiers, RefQualifier, Signed, Term, symbol, function, object, of_name, alone, in_std, within, instance, local, holder, tagged, of_default, abbreviation, parameter, source, operator, constructor, destructor, lambda, generic_lambda, builtin, sized_float, pointer, lvalue, rvalue, array, bounded, member_pointer, function_type, qualified, expansion, integer, pack, nil, list, absent}
+use Rattle.cpp_grammar.specs.Term.{Qualifiers, RefQualifier, Signed, Term, symbol, function, object, of_name, alone, in_std, within, instance, local, holder, tagged, of_default, abbreviation, parameter, source, operator, constructor, destructor, inheriting, lambda, generic_lambda, builtin, sized_float, pointer, lvalue, rvalue, array, bounded, member_pointer, function_type, qualified, expansion, integer, operation, function_parameter, pack, nil, list, absent}
 use Rattle.cpp_grammar.specs.Scope.{arguments_of, without_tags}
 use Rattle.cpp_grammar.specs.Items.{Form, root, full, bare, left, right, low, base, piece, first, more, expand, Context, signature_in, Item, closed, argument, head, is_reference, is_funarr, packs_of, is_empty}
 use Rattle.cpp_grammar.specs.Parts as leaf_
 use Rattle.cpp_grammar.specs.Parts.{qualifier_text, ref_text, blank_last, encoding_text, is_below}
+use Rattle.cpp_grammar.specs.Operations.{Operand, not_printed, as_it_is, as_type, as_list, from_precedence, Operation}
 use Rattle.cpp_grammar.specs.Texts.{look_up, named_special_texts, literal_endings}
 use Rattle.cpp_term.specs.Items as item_
 use Rattle.cpp_term.specs.Scope as scope_
@@ -64,6 +65,7 @@ within_noted : (c : Context) (prefix p : Term) → part_.within_parts (noted_con
 unfolding part_.within_parts leaf_.within_parts annotate noted_parts noted_part noted_item
 within_noted c prefix (constructor digit) = refl
 within_noted c prefix (destructor digit) = refl
+within_noted c prefix (inheriting digit class) = refl
 within_noted c prefix p = ap (λ i. i ∷ part_.says "::" ∷ part_.as_item piece (noted_context c) (annotate (at c) p) ∷ []) (prefix_noted c prefix)
 
 opening_noted : (s : Place) (t : Term) → part_.opening_text (annotate s t) ≡ leaf_.opening_text t
@@ -165,6 +167,30 @@ float_noted digits end = go (nat_eq end 98) (nat_eq end 120)
     go false true = refl
     go false false = refl
 
+precedence_noted : (s : Place) (t : Term) → part_.precedence_of (annotate s t) ≡ leaf_.precedence_of t
+unfolding part_.precedence_of leaf_.precedence_of annotate
+precedence_noted s (operation a b x y) = refl
+precedence_noted s _ = refl
+
+operand_noted : (c : Context) (o : Operand) (t : Term) → part_.operand_parts (noted_context c) o (annotate (at c) t) ≡ noted_parts (leaf_.operand_parts c o t)
+unfolding part_.operand_parts leaf_.operand_parts noted_parts noted_part noted_item
+operand_noted c not_printed t = refl
+operand_noted c as_it_is t = refl
+operand_noted c as_type t = refl
+operand_noted c as_list t = list_noted first c t
+operand_noted c (from_precedence least) t = choice (nat_le least (leaf_.precedence_of t)) (nat_le least (part_.precedence_of (annotate (at c) t))) _ _ _ _ (ap (λ p. nat_le least p) (precedence_noted (at c) t)) refl refl
+
+operation_noted : (c : Context) (o : Operation) (x y : Term) → part_.operation_parts (noted_context c) o (annotate (at c) x) (annotate (at c) y) ≡ noted_parts (leaf_.operation_parts c o x y)
+unfolding part_.operation_parts leaf_.operation_parts
+operation_noted c o x y =
+    let a = leaf_.text_part o.front in
+    let b = leaf_.operand_parts c o.left x in
+    let d = leaf_.text_part o.between in
+    let e = leaf_.operand_parts c o.right y in
+    joins (a ++ b ++ d ++ e) _ _ _
+    (joins (a ++ b ++ d) _ _ _
+    (joins (a ++ b) _ _ _ (joins a _ _ _ (text_noted o.front) (operand_noted c o.left x)) (text_noted o.between)) (operand_noted c o.right y)) (text_noted o.back)
+
 entity_noted : (c : Context) (form : Form) (t : Term) → (part_.as_item form (noted_context c) (part_.entity_of (annotate (at c) t)) ∷ []) ≡ noted_parts (leaf_.as_item form c (leaf_.entity_of t) ∷ [])
 unfolding part_.entity_of leaf_.entity_of annotate noted_parts noted_part noted_item
 entity_noted c form (of_default digits entity) = refl
@@ -189,6 +215,8 @@ left_noted d c (qualified q t) = qualified_noted c q t
 left_noted d c (expansion pattern) = ap (part_.expansion_parts (noted_context c) (annotate (at c) pattern)) (packs_of_noted c pattern) ∙ expansion_noted c pattern (packs_of c pattern)
 left_noted d c (pack elements) = list_noted first c elements
 left_noted d c (integer t n) = integer_noted c t n
+left_noted d c (operation a b x y) = operation_noted c (leaf_.printed a b) x y
+left_noted d c (function_parameter digits) = ap (λ ps. text (codes "fp") ∷ ps) (text_noted digits)
 left_noted d c _ = refl
 
 low_noted : (d : Detail) (c : Context) (t : Term) → part_.low_parts d (noted_context c) (annotate (at c) t) ≡ noted_parts (leaf_.low_parts d c t)
@@ -237,6 +265,7 @@ base_within_noted : (c : Context) (prefix p : Term) → part_.base_within (noted
 unfolding part_.base_within leaf_.base_within annotate noted_parts noted_part noted_item
 base_within_noted c prefix (constructor digit) = refl
 base_within_noted c prefix (destructor digit) = refl
+base_within_noted c prefix (inheriting digit class) = refl
 base_within_noted c prefix p = piece_noted c p
 
 untagged_noted : (s : Place) (t : Term) → scope_.without_tags (annotate s t) ≡ annotate s (without_tags t)

@@ -1,5 +1,5 @@
 -- The parts of an item have smaller ranks than the item.
-use Rattle.std.specs.Prelude.{◌≡◌, refl, ℕ, zero, suc, ◌+◌, ◌-◌, ◌<◌, ◌≤◌, List, [], ◌∷◌, ◌++◌, Bool, true, false, cond, nat_eq, Option, Some, None, codes}
+use Rattle.std.specs.Prelude.{◌≡◌, refl, ℕ, zero, suc, ◌+◌, ◌-◌, ◌<◌, ◌≤◌, nat_le, List, [], ◌∷◌, ◌++◌, Bool, true, false, cond, nat_eq, Option, Some, None, codes}
 use Prim.Native.String.{String}
 use Rattle.std.proofs.Common.{arith}
 use Rattle.std.proofs.lemmas.Bool.{false≢true, ltb-true}
@@ -7,12 +7,13 @@ use Rattle.sym_print.specs.declared.detail.Detail.{Detail}
 use Rattle.sym_print.specs.Details.{has_arguments, has_parameters}
 use Rattle.sym_print.specs.Unfold.{PartOf, text, sub, RanksBelow}
 use Rattle.cpp_grammar.specs.Term.{Qualifiers, RefQualifier, Signed}
-use Rattle.cpp_term.specs.Term.{Term, symbol, function, object, special, thunk, of_name, construction, clone, alone, in_std, within, instance, local, holder, tagged, of_default, abbreviation, parameter, source, constructor, destructor, lambda, generic_lambda, conversion, pointer, lvalue, rvalue, array, bounded, member_pointer, function_type, qualified, expansion, integer, pack, nil, list, absent, sized_float}
+use Rattle.cpp_term.specs.Term.{Term, symbol, function, object, special, thunk, of_name, construction, clone, alone, in_std, within, instance, local, holder, tagged, of_default, inheriting, abbreviation, parameter, source, constructor, destructor, lambda, generic_lambda, conversion, pointer, lvalue, rvalue, array, bounded, member_pointer, function_type, qualified, expansion, integer, operation, function_parameter, pack, nil, list, absent, sized_float}
 use Rattle.cpp_term.specs.Scope.{element, pack_length, without_tags}
 use Rattle.cpp_grammar.specs.Items.{Form, root, full, bare, left, right, low, base, piece, first, more, expand, is_reference, is_funarr}
 use Rattle.cpp_term.specs.Items.{Context, Item, indexed, argument, head, packs_of, is_empty}
-use Rattle.cpp_grammar.specs.Parts.{blank_last, qualifier_text, ref_text, encoding_text, is_below}
-use Rattle.cpp_term.specs.Parts.{as_item, says, text_part, list_part, piece_parts, prefix_item, within_parts, instance_parts, marked_parts, reference_parts, qualified_left, expansion_parts, sign_part, is_plain_integer, integer_parts, builtin_code, member_parts, array_left, entity_of, float_parts, left_parts, low_parts, function_right, closing_right, qualified_right, right_parts, base_within, base_tagged, base_parts, types_of, function_bare, function_full, full_parts, bare_parts, root_parts, first_parts, more_parts, at_index, comma_before, expand_rest, expand_parts, parts_in, not_empty, parts, own_piece}
+use Rattle.cpp_grammar.specs.Parts.{blank_last, qualifier_text, ref_text, encoding_text, printed, is_below}
+use Rattle.cpp_grammar.specs.Operations.{Operand, not_printed, as_it_is, as_type, as_list, from_precedence, Operation}
+use Rattle.cpp_term.specs.Parts.{as_item, says, text_part, list_part, piece_parts, prefix_item, within_parts, instance_parts, marked_parts, reference_parts, qualified_left, expansion_parts, sign_part, is_plain_integer, integer_parts, builtin_code, member_parts, array_left, entity_of, float_parts, precedence_of, operand_parts, operation_parts, left_parts, low_parts, function_right, closing_right, qualified_right, right_parts, base_within, base_tagged, base_parts, types_of, function_bare, function_full, full_parts, bare_parts, root_parts, first_parts, more_parts, at_index, comma_before, expand_rest, expand_parts, parts_in, not_empty, parts, own_piece}
 use Rattle.cpp_grammar.specs.Ranks.{or_none}
 use Rattle.cpp_term.specs.Ranks.{pack_count, weight, weight_in, rank_in, rank}
 use Rattle.cpp_grammar.specs.Texts.{look_up, literal_endings}
@@ -95,6 +96,7 @@ within_falls : (r : ℕ) (c : Context) (prefix p : Term) → Below r c prefix �
 unfolding within_parts rank rank_in
 within_falls r c prefix (constructor digit) h g = (h, (h, tt))
 within_falls r c prefix (destructor digit) h g = (h, (h, tt))
+within_falls r c prefix (inheriting digit class) h g = (h, (h, tt))
 within_falls r c prefix (symbol e suffix) h g = falls_append r (prefix_item c prefix ∷ []) _ (prefix_falls r c prefix h) (g, tt)
 within_falls r c prefix _ h g = falls_append r (prefix_item c prefix ∷ []) _ (prefix_falls r c prefix h) (g, tt)
 
@@ -149,6 +151,25 @@ float_falls : (r : ℕ) (digits : List ℕ) (end : ℕ) → RanksBelow rank r (f
 unfolding float_parts
 float_falls r digits end = falls_choice r (nat_eq end 98) _ _ tt (falls_choice r (nat_eq end 120) _ _ tt tt)
 
+operand_falls : (r : ℕ) (c : Context) (o : Operand) (t : Term) → Below r c t → RanksBelow rank r (operand_parts c o t)
+unfolding operand_parts rank rank_in
+operand_falls r c not_printed t h = tt
+operand_falls r c as_it_is t h = (h, tt)
+operand_falls r c as_type t h = (h, (h, tt))
+operand_falls r c as_list t h = falls_first r c t h
+operand_falls r c (from_precedence least) t h = falls_choice r (nat_le least (precedence_of t)) _ _ (h, tt) (h, tt)
+
+operation_falls : (r : ℕ) (c : Context) (o : Operation) (x y : Term) → Below r c x → Below r c y → RanksBelow rank r (operation_parts c o x y)
+unfolding operation_parts
+operation_falls r c o x y h g =
+    let a = text_part o.front in
+    let b = operand_parts c o.left x in
+    let d = text_part o.between in
+    let e = operand_parts c o.right y in
+    falls_append r (a ++ b ++ d ++ e) (text_part o.back)
+    (falls_append r (a ++ b ++ d) e
+    (falls_append r (a ++ b) d (falls_append r a b (falls_text r o.front) (operand_falls r c o.left x h)) (falls_text r o.between)) (operand_falls r c o.right y g)) (falls_text r o.back)
+
 -- the entity of a local name weighs no more than what it is in
 entity_weight : (c : Context) (entity : Term) → weight_in c (entity_of entity) ≤ weight_in c entity
 unfolding entity_of weight_in weight
@@ -173,6 +194,8 @@ left_falls d c (member_pointer class t) = member_falls _ c class t (omega arith)
 left_falls d c (qualified q t) = qualified_falls _ c q t (omega arith)
 left_falls d c (expansion t) = expansion_falls c t (packs_of c t)
 left_falls d c (pack elements) = falls_first _ c elements (omega arith)
+left_falls d c (operation a b x y) = operation_falls _ c (printed a b) x y (omega arith) (omega arith)
+left_falls d c (function_parameter digits) = falls_text _ digits
 left_falls d c (integer t n) = integer_falls _ c t n (omega arith)
 left_falls d c _ = first_of (assumption tt, grind arith)
 
@@ -219,6 +242,7 @@ base_within_falls : (r : ℕ) (c : Context) (prefix p : Term) → Below r c pref
 unfolding base_within rank rank_in
 base_within_falls r c prefix (constructor digit) h g = (h, tt)
 base_within_falls r c prefix (destructor digit) h g = (h, tt)
+base_within_falls r c prefix (inheriting digit class) h g = (h, tt)
 base_within_falls r c prefix p h g = piece_falls r c p (omega arith)
 
 untagged_weight : (t : Term) → weight (without_tags t) ≤ weight t

@@ -383,9 +383,9 @@ module _ (way : Way) (keeps : KeepsClosed way) (noted_way : NotedWay) (ways : Is
       (keeps.plain.between (production_at rule.rule.number) (ap differs is) around at a.value a.state ∙ types_next rule c.value a.value a.state is c.is) (ways.plain.between (production_at rule.rule.number) (ap differs is) (noted_around way.own around) at b.value b.state ∙ noted_types_next way.own rule c.value a.value b.value b.state ((good_tree (Bare way.own (in_name at)) c.value c.good).closed (refl, λ o. refl)) is c.is many.values)
       (alike_bind (Many way.own (around_place way.own (in_types at name)) (in_types at name) a.state b.state) (Inner way.own Production.Encoding around x y) (unfold_tree (reading_by way) (in_types at name) next u a.state) (unfold_tree (reading_noted_by noted_way) (noted_around way.own (in_types at name)) next u b.state)
       (λ part. unfold_forest (reading_by way) rule (a.value ++ part.value) (next + length (spell u)) nothing part.state) (λ part. unfold_forest (reading_noted_by noted_way) (noted_open way.own rule first) (b.value ++ part.value) (next + length (spell u)) nothing part.state)
-      (all.1.0 (OfKind ITEMS) (in_types at name) next a.state b.state (trees_.known 41 (lit≤ tt)) trees.1.0 (omega (arith, le)) (λ opening. absurd (false≢true opening)) (λ special. absurd (false≢true special)) (λ l. absurd (false≢true l)) tt old2 same2)
+      (all.1.0 (OfKind ITEMS) (in_types at name) next a.state b.state (trees_.known ITEMS (lit≤ tt)) trees.1.0 (omega (arith, le)) (λ opening. absurd (false≢true opening)) (λ special. absurd (false≢true special)) (λ l. absurd (false≢true l)) tt old2 same2)
       (λ d e d-is more.
-      let g = trees_.tree_good_by way keeps u (OfKind ITEMS) (in_types at name) next a.state d (trees_.known 41 (lit≤ tt)) trees.1.0 (omega (arith, le)) (λ opening. absurd (false≢true opening)) tt old2 d-is in
+      let g = trees_.tree_good_by way keeps u (OfKind ITEMS) (in_types at name) next a.state d (trees_.known ITEMS (lit≤ tt)) trees.1.0 (omega (arith, le)) (λ opening. absurd (false≢true opening)) tt old2 d-is in
       record {
         means = λ byte. encoding_means way.own around byte a.value b.value d.value e.value c.value g.value c.is g.is many.values (more.values ∙ ap (λ s. noted_values s d.value) (items_place way.own at name));
         moves = moves_then way.own around x a.state d.state y b.state e.state (moves_out way.own around (in_name at) at next x a.state y b.state refl lt c.grows many.moves)

@@ -2,7 +2,7 @@
 use Rattle.std.specs.Prelude.{ℕ, List, [], ◌∷◌, Bool, true, false, ◌&&◌, Option, Some, None, Result, Ok, Err}
 use Rattle.sym_core.specs.declared.refusal.Refusal.{Refusal}
 use Rattle.sym_print.specs.Unfold.{PartOf, text, sub}
-use Rattle.cpp_grammar.specs.Term.{Term, symbol, function, object, special, thunk, of_name, construction, clone, alone, in_std, within, instance, local, holder, tagged, of_default, abbreviation, parameter, source, operator, literal_operator, constructor, destructor, lambda, generic_lambda, unnamed, string_literal, conversion, builtin, sized_float, constrained, vendor, pointer, lvalue, rvalue, array, bounded, member_pointer, function_type, qualified, vector, complex, expansion, integer, boolean, null_pointer, encoding_literal, address_of, pack, nil, list, absent}
+use Rattle.cpp_grammar.specs.Term.{Term, symbol, function, object, special, thunk, of_name, construction, clone, alone, in_std, within, instance, local, holder, tagged, of_default, abbreviation, parameter, source, operator, literal_operator, constructor, destructor, lambda, generic_lambda, unnamed, string_literal, conversion, builtin, sized_float, constrained, vendor, pointer, lvalue, rvalue, array, bounded, member_pointer, function_type, qualified, vector, complex, expansion, integer, boolean, null_pointer, encoding_literal, address_of, pack, nil, list, absent, decltype, function_parameter, inheriting, operation}
 use Rattle.cpp_grammar.specs.Values.{Prefix, Around, Value}
 use Rattle.cpp_grammar.specs.Values as leaf_
 use Rattle.cpp_grammar.specs.Items.{Context, Item}
@@ -54,6 +54,7 @@ annotate s (operator a b) = term_.operator a b
 annotate s (literal_operator bytes) = term_.literal_operator bytes
 annotate s (constructor digit) = term_.constructor digit
 annotate s (destructor digit) = term_.destructor digit
+annotate s (inheriting digit class) = term_.inheriting digit (annotate s class)
 annotate s (lambda parameters number) = term_.lambda (annotate s parameters) number
 annotate s (generic_lambda parameters number) = term_.generic_lambda (annotate in_own parameters) number
 annotate s (unnamed number) = term_.unnamed number
@@ -73,12 +74,15 @@ annotate s (function_type c_linkage noexcept ref returned parameters) = term_.fu
 annotate s (qualified q t) = term_.qualified q (annotate s t)
 annotate s (vector digits t) = term_.vector digits (annotate s t)
 annotate s (complex t) = term_.complex (annotate s t)
+annotate s (decltype operand) = term_.decltype (annotate s operand)
 annotate s (expansion pattern) = term_.expansion (annotate s pattern)
 annotate s (integer t n) = term_.integer (annotate s t) n
 annotate s (boolean b) = term_.boolean b
 annotate s null_pointer = term_.null_pointer
 annotate s (encoding_literal e) = term_.encoding_literal (annotate nowhere e)
 annotate s (address_of e) = term_.address_of (annotate nowhere e)
+annotate s (operation one two u w) = term_.operation one two (annotate s u) (annotate s w)
+annotate s (function_parameter digits) = term_.function_parameter digits
 annotate s (pack elements) = term_.pack (annotate s elements)
 annotate s nil = term_.nil
 annotate s (list e rest) = term_.list (annotate s e) (annotate s rest)
@@ -112,6 +116,7 @@ noted_value s (leaf_.adjusted a) = value_.adjusted a
 noted_value s (leaf_.tree t listed) = value_.tree (annotate s t) listed
 noted_value s (leaf_.piece p) = value_.piece (annotate s p)
 noted_value s (leaf_.named t qualifiers ref) = value_.named (annotate s t) qualifiers ref
+noted_value s (leaf_.pair second left right) = value_.pair second (annotate s left) (annotate s right)
 noted_value s (leaf_.signature t ref) = value_.signature (annotate s t) ref
 
 unfoldable pub noted_prefix : Place → Prefix → value_.Prefix

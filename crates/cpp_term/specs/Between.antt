@@ -9,7 +9,7 @@ use Rattle.cpp_term.specs.Builders.{argument, built, bytes_in, number_in, tree_i
 use Rattle.cpp_grammar.specs.Row.{before_part}
 use Rattle.cpp_term.specs.Meant.{all_given, around_part, done, gained, given, is_listing, made, packs_within, replaced, tested}
 use Rattle.cpp_grammar.specs.Rows.{row_of}
-unfoldable pub use Rattle.cpp_term.specs.Surrounding.{in_name, closed_arguments, in_types, in_signature, under_expansion, after, inside, extended, with_tag, applied, no_items, Going, next, named_so_far, listed_so_far, argument_at, parameter_so_far, argument_so_far, index_of}
+unfoldable pub use Rattle.cpp_term.specs.Surrounding.{in_name, closed_arguments, in_types, in_signature, under_expansion, after, inside, extended, with_tag, applied, no_items, inherited, Going, next, named_so_far, listed_so_far, argument_at, parameter_so_far, argument_so_far, index_of}
 
 -- What is done before the next part of a production that begins at a place, after parts with these values: some of the
 -- values are made into trees, and candidates are appended.

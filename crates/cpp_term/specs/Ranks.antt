@@ -1,7 +1,7 @@
 -- A rank of items that falls from each item to its parts, so that printing ends.
 use Rattle.std.specs.Prelude.{ℕ, ◌+◌, ◌-◌}
 use Rattle.cpp_grammar.specs.Ranks.{or_none}
-use Rattle.cpp_term.specs.Term.{Term, symbol, function, object, special, thunk, of_name, construction, clone, alone, in_std, within, instance, local, holder, tagged, of_default, parameter, lambda, generic_lambda, conversion, pointer, lvalue, rvalue, array, constrained, bounded, member_pointer, function_type, qualified, vector, complex, expansion, integer, encoding_literal, address_of, pack, list}
+use Rattle.cpp_term.specs.Term.{Term, symbol, function, object, special, thunk, of_name, construction, clone, alone, in_std, within, instance, local, holder, tagged, of_default, parameter, lambda, generic_lambda, conversion, pointer, lvalue, rvalue, array, constrained, bounded, member_pointer, function_type, qualified, vector, complex, expansion, integer, encoding_literal, address_of, pack, list, decltype, inheriting, operation}
 use Rattle.cpp_term.specs.Scope.{pack_length}
 use Rattle.cpp_grammar.specs.Items.{Form, expand}
 use Rattle.cpp_term.specs.Items.{Context, Item}
@@ -30,6 +30,7 @@ weight (holder name) = 1 + weight name
 weight (tagged of_structor name tag) = 1 + weight name
 weight (of_default digits entity) = 1 + weight entity
 weight (parameter k argument) = 2 + weight argument
+weight (inheriting digit class) = 1 + weight class
 weight (lambda parameters number) = 1 + weight parameters
 weight (generic_lambda parameters number) = 1 + weight parameters
 weight (conversion t) = 1 + weight t
@@ -44,10 +45,12 @@ weight (function_type c_linkage noexcept ref returned parameters) = 1 + weight r
 weight (qualified q t) = 1 + weight t
 weight (vector digits t) = 1 + weight t
 weight (complex t) = 1 + weight t
+weight (decltype operand) = 1 + weight operand
 weight (expansion pattern) = 2 + weight pattern + pack_count pattern
 weight (integer t n) = 1 + weight t
 weight (encoding_literal e) = 1 + weight e
 weight (address_of e) = 1 + weight e
+weight (operation one two u w) = 1 + weight u + weight w
 weight (pack elements) = 1 + weight elements
 weight (list e rest) = 1 + weight e + weight rest
 weight _ = 1

@@ -1,6 +1,6 @@
 -- A tree whose free parameters carry another argument, and what of it depends on that argument.
 use Rattle.std.specs.Prelude.{ℕ, Bool, true, false, ◌||◌, ◌&&◌, Option, Some, None}
-use Rattle.cpp_term.specs.Term.{Term, alone, in_std, within, instance, local, holder, tagged, of_default, parameter, lambda, conversion, pointer, lvalue, rvalue, array, constrained, bounded, member_pointer, function_type, qualified, vector, complex, expansion, integer, pack, nil, list, absent}
+use Rattle.cpp_term.specs.Term.{Term, alone, in_std, within, instance, local, holder, tagged, of_default, parameter, lambda, conversion, pointer, lvalue, rvalue, array, constrained, bounded, member_pointer, function_type, qualified, vector, complex, expansion, integer, pack, nil, list, absent, decltype, inheriting, operation}
 use Rattle.cpp_grammar.specs.Scope.{Free, one_free}
 use Rattle.cpp_term.specs.Scope.{element, is_alone}
 use Rattle.cpp_term.specs.Items.{HeadClass, collapsed_class}
@@ -35,6 +35,7 @@ reargued c (holder name) = holder (reargued c name)
 reargued c (tagged of_structor name tag) = tagged of_structor (reargued c name) tag
 reargued c (of_default digits entity) = of_default digits (reargued c entity)
 reargued c (parameter k argument) = parameter k (argument_or c k argument)
+reargued c (inheriting digit class) = inheriting digit (reargued c class)
 reargued c (lambda parameters number) = lambda (reargued c parameters) number
 reargued c (conversion t) = conversion (reargued c t)
 reargued c (constrained letter concept) = constrained letter (reargued c concept)
@@ -48,8 +49,10 @@ reargued c (function_type c_linkage noexcept ref returned parameters) = function
 reargued c (qualified q t) = qualified q (reargued c t)
 reargued c (vector digits t) = vector digits (reargued c t)
 reargued c (complex t) = complex (reargued c t)
+reargued c (decltype operand) = decltype (reargued c operand)
 reargued c (expansion pattern) = expansion (reargued c pattern)
 reargued c (integer t n) = integer (reargued c t) n
+reargued c (operation one two u w) = operation one two (reargued c u) (reargued c w)
 reargued c (pack elements) = pack (reargued c elements)
 reargued c (list e rest) = list (reargued c e) (reargued c rest)
 reargued c t = t
@@ -69,6 +72,7 @@ bare (holder name) = bare name
 bare (tagged of_structor name tag) = bare name
 bare (of_default digits entity) = bare entity
 bare (parameter k argument) = true
+bare (inheriting digit class) = bare class
 bare (lambda parameters number) = bare parameters
 bare (conversion t) = bare t
 bare (constrained letter concept) = bare concept
@@ -82,7 +86,9 @@ bare (function_type c_linkage noexcept ref returned parameters) = bare returned 
 bare (qualified q t) = bare t
 bare (vector digits t) = bare t
 bare (complex t) = bare t
+bare (decltype operand) = bare operand
 bare (integer t n) = bare t
+bare (operation one two u w) = bare u || bare w
 bare (pack elements) = bare elements
 bare (list e rest) = bare e || bare rest
 bare _ = false

@@ -4,9 +4,9 @@ use Rattle.sym_core.specs.declared.refusal.Refusal.{Refusal}
 use Rattle.sym_core.specs.declared.NumberKind.TheVariants.{Decimal}
 use Rattle.sym_core.specs.Value.{counted_value}
 use Rattle.sym_link.specs.Reading.{Next, ◌>>=◌}
-use Rattle.cpp_term.specs.Term.{Term, alone, within, instance, tagged, parameter, nil, absent}
+use Rattle.cpp_term.specs.Term.{Term, alone, within, instance, tagged, parameter, inheriting, nil, absent}
 use Rattle.cpp_term.specs.Scope.{arguments_of, is_structor, element, is_open}
-use Rattle.cpp_term.specs.Values.{State, Prefix, outermost, behind, Around, Value, nothing_there, tree, named, tree_of, is_there, text_of}
+use Rattle.cpp_term.specs.Values.{State, Prefix, outermost, behind, Around, Value, nothing_there, tree, named, pair, tree_of, is_there, text_of}
 use Rattle.cpp_term.specs.References.{parameter_named}
 
 -- ## What surrounds a part
@@ -54,6 +54,11 @@ unfoldable pub no_items : Value → Term
 no_items nothing_there = nil
 no_items v = tree_of v
 
+-- The name of a constructor that is inherited from a base class, with arguments of its own where there are some.
+unfoldable pub inherited : Prefix → (digit : ℕ) → (base : Value) → Value
+inherited prefix digit (pair letter base own) = tree (instance (extended prefix (inheriting digit base)) own) false
+inherited prefix digit base = tree (extended prefix (inheriting digit (tree_of base))) false
+
 -- these values so far, these surroundings of the next part, and this state before it
 abbrev pub Going : Type 0
 Going = Result (Next Value State Around) Refusal
@@ -77,7 +82,7 @@ argument_at around k = elim around.scope [ None ↦ absent | Some arguments ↦ 
 unfoldable pub parameter_so_far : Around → (place : ℕ) → ℕ → List Value → State → Going
 parameter_so_far around place k vs state = parameter_named around place k state >>= λ s. listed_so_far around (parameter k (argument_at around k)) vs s
 
--- a parameter that is an argument itself, or the length of an array, is tested in the same way, and no candidate
+-- a parameter in an expression is tested in the same way, and no candidate
 unfoldable pub argument_so_far : Around → (place : ℕ) → ℕ → State → Going
 argument_so_far around place k state = parameter_named around place k state >>= λ s. next (tree (parameter k (argument_at around k)) true ∷ []) around (record s { candidates = state.candidates })
 

@@ -36,6 +36,8 @@ pub data Term : Type 0 where
   literal_operator : (bytes : List ℕ) → Term
   constructor : (digit : ℕ) → Term
   destructor : (digit : ℕ) → Term
+  -- a constructor that is inherited from a base class
+  inheriting : (digit : ℕ) → (base : Term) → Term
   lambda : (parameters : Term) → (number : ℕ) → Term
   -- one whose signature names parameters of its own
   generic_lambda : (parameters : Term) → (number : ℕ) → Term
@@ -61,6 +63,8 @@ pub data Term : Type 0 where
   qualified : Qualifiers → Term → Term
   vector : (digits : List ℕ) → (element : Term) → Term
   complex : Term → Term
+  -- the type of an expression
+  decltype : (expression : Term) → Term
   expansion : (pattern : Term) → Term
   -- template arguments that are no types
   integer : (type : Term) → Signed → Term
@@ -68,6 +72,11 @@ pub data Term : Type 0 where
   null_pointer : Term
   encoding_literal : (encoding : Term) → Term
   address_of : (encoding : Term) → Term
+  -- An operation of an expression, by the two letters of its operator. An operand that it hasn't is absent; the right one may be a list. What has
+  -- three operands is two operations.
+  operation : (first second : ℕ) → (left right : Term) → Term
+  -- a parameter of the function in whose types it is, as an expression, by its digits
+  function_parameter : (digits : List ℕ) → Term
   pack : (elements : Term) → Term
   -- lists, and the return type of a function that has none
   nil : Term

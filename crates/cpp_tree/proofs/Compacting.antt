@@ -72,12 +72,25 @@ pub conversion-within : (ns : List Entry) (n : Node) (e : Entry) (piece : Piece)
 unfolding piece_packs piece_frees piece_by_argument joined passed
 conversion-within ns n e piece t is = rw is refl
 
-pub other-alone : (ns : List Entry) (n : Node) (piece : Piece) → ((p k : ℕ) → piece ≡ Piece.Lambda p k → ⊥) → ((t : ℕ) → piece ≡ Piece.Conversion t → ⊥)
+pub inheriting-alone : (ns : List Entry) (n : Node) (piece : Piece) (k t : ℕ) → piece ≡ Piece.Inheriting k t
+    → kept n (entry_at ns t).packs (entry_at ns t).free false (passed (by_argument_at ns t)) Words.Plain 0 0
+    ≡ kept n (piece_packs ns piece) (piece_frees ns piece) false (piece_by_argument ns piece) Words.Plain 0 0
+unfolding piece_packs piece_frees piece_by_argument
+inheriting-alone ns n piece k t is = rw is refl
+
+pub inheriting-within : (ns : List Entry) (n : Node) (e : Entry) (piece : Piece) (k t : ℕ) → piece ≡ Piece.Inheriting k t
+    → kept n (first_of e.packs (entry_at ns t).packs) (both_free e.free (entry_at ns t).free) false (joined e.by_argument (by_argument_at ns t)) Words.Plain 0 0
+    ≡ kept n (first_of e.packs (piece_packs ns piece)) (both_free e.free (piece_frees ns piece)) false (joined e.by_argument (piece_by_argument ns piece)) Words.Plain 0 0
+unfolding piece_packs piece_frees piece_by_argument joined passed
+inheriting-within ns n e piece k t is = rw is refl
+
+pub other-alone : (ns : List Entry) (n : Node) (piece : Piece) → ((p k : ℕ) → piece ≡ Piece.Lambda p k → ⊥) → ((k t : ℕ) → piece ≡ Piece.Inheriting k t → ⊥) → ((t : ℕ) → piece ≡ Piece.Conversion t → ⊥)
     → bare_entry n false ≡ kept n (piece_packs ns piece) (piece_frees ns piece) false (piece_by_argument ns piece) Words.Plain 0 0
 unfolding piece_packs piece_frees piece_by_argument class_kept arguments_kept untagged_kept returns_kept count_kept run_kept has_pack_kept
-other-alone ns n (Piece.Lambda p k) other none = absurd (other p k refl)
-other-alone ns n (Piece.Conversion t) other none = absurd (none t refl)
-other-alone ns n _ other none = refl
+other-alone ns n (Piece.Lambda p k) other inherits none = absurd (other p k refl)
+other-alone ns n (Piece.Inheriting k t) other inherits none = absurd (inherits k t refl)
+other-alone ns n (Piece.Conversion t) other inherits none = absurd (none t refl)
+other-alone ns n _ other inherits none = refl
 
 first-none : (p : Option ℕ) → p ≡ first_of p None
 unfolding first_of
@@ -101,13 +114,14 @@ within-none n e =
     ∙ ap (λ f. kept n (first_of e.packs None) f false (passed e.by_argument) Words.Plain 0 0) (both-none e.free)
     ∙ ap (λ l. kept n (first_of e.packs None) (both_free e.free Free.None) false l Words.Plain 0 0) (joined-none e.by_argument)
 
-pub other-within : (ns : List Entry) (n : Node) (e : Entry) (piece : Piece) → ((p k : ℕ) → piece ≡ Piece.Lambda p k → ⊥) → ((t : ℕ) → piece ≡ Piece.Conversion t → ⊥)
+pub other-within : (ns : List Entry) (n : Node) (e : Entry) (piece : Piece) → ((p k : ℕ) → piece ≡ Piece.Lambda p k → ⊥) → ((k t : ℕ) → piece ≡ Piece.Inheriting k t → ⊥) → ((t : ℕ) → piece ≡ Piece.Conversion t → ⊥)
     → kept n e.packs e.free false (passed e.by_argument) Words.Plain 0 0
     ≡ kept n (first_of e.packs (piece_packs ns piece)) (both_free e.free (piece_frees ns piece)) false (joined e.by_argument (piece_by_argument ns piece)) Words.Plain 0 0
 unfolding piece_packs piece_frees piece_by_argument
-other-within ns n e (Piece.Lambda p k) other none = absurd (other p k refl)
-other-within ns n e (Piece.Conversion t) other none = absurd (none t refl)
-other-within ns n e _ other none = within-none n e
+other-within ns n e (Piece.Lambda p k) other inherits none = absurd (other p k refl)
+other-within ns n e (Piece.Inheriting k t) other inherits none = absurd (inherits k t refl)
+other-within ns n e (Piece.Conversion t) other inherits none = absurd (none t refl)
+other-within ns n e _ other inherits none = within-none n e
 
 pub expansion-is : (n : Node) (empty : Bool) (held : Compact) (e : Entry) → entry_of held ≡ e → empty ≡ heads.is_none_of (packs_kept held.packs)
     → kept n None (free_kept held.free held.number) empty (of_expansion held.by_argument) Words.Plain 0 0
@@ -151,8 +165,10 @@ pub record IsOther (n : Node) : Type 0 where
   pub not_qualified : (q : Qualifiers) (i : ℕ) → n ≡ Node.Qualified q i → ⊥
   pub not_vector : (d : Span) (i : ℕ) → n ≡ Node.Vector d i → ⊥
   pub not_complex : (i : ℕ) → n ≡ Node.Complex i → ⊥
+  pub not_decltype : (i : ℕ) → n ≡ Node.Decltype i → ⊥
   pub not_expansion : (i : ℕ) → n ≡ Node.Expansion i → ⊥
   pub not_integer : (i : ℕ) (v : Signed) → n ≡ Node.Integer i v → ⊥
+  pub not_operation : (k : ℕ) (l : ℕ) (i : ℕ) (j : ℕ) → n ≡ Node.Operation k l i j → ⊥
   pub not_pack : (i : ℕ) → n ≡ Node.Pack i → ⊥
   pub not_cell : (i : ℕ) (j : ℕ) → n ≡ Node.Cell i j → ⊥
   pub not_reargued : (i : ℕ) (j : ℕ) → n ≡ Node.Reargued i j → ⊥
@@ -181,8 +197,10 @@ other-node ns (Node.FunctionType x y m i j) other = absurd (other.not_functionty
 other-node ns (Node.Qualified q i) other = absurd (other.not_qualified q i refl)
 other-node ns (Node.Vector d i) other = absurd (other.not_vector d i refl)
 other-node ns (Node.Complex i) other = absurd (other.not_complex i refl)
+other-node ns (Node.Decltype i) other = absurd (other.not_decltype i refl)
 other-node ns (Node.Expansion i) other = absurd (other.not_expansion i refl)
 other-node ns (Node.Integer i v) other = absurd (other.not_integer i v refl)
+other-node ns (Node.Operation k l i j) other = absurd (other.not_operation k l i j refl)
 other-node ns (Node.Pack i) other = absurd (other.not_pack i refl)
 other-node ns (Node.Cell i j) other = absurd (other.not_cell i j refl)
 other-node ns (Node.Reargued i j) other = absurd (other.not_reargued i j refl)

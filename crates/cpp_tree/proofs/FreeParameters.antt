@@ -1,7 +1,7 @@
 -- Whether a tree has free parameters, by which they are.
 use Rattle.std.proofs.Common.{◌≡◌, refl, ap, ◌∙◌, sym, nat_eq, max, ℕ, length, ◌<◌, Bool, true, false, ◌||◌}
 use Rattle.cpp_grammar.specs.Scope.{Free, none_free, one_free, several_free, both_free}
-use Rattle.cpp_term.specs.Term.{Term, alone, in_std, within, instance, local, holder, tagged, of_default, lambda, conversion, pointer, lvalue, rvalue, array, constrained, bounded, member_pointer, function_type, qualified, vector, complex, expansion, integer, pack, list}
+use Rattle.cpp_term.specs.Term.{Term, alone, in_std, within, instance, local, holder, tagged, of_default, inheriting, lambda, conversion, pointer, lvalue, rvalue, array, constrained, bounded, member_pointer, function_type, qualified, vector, complex, decltype, expansion, integer, operation, pack, list}
 use Rattle.cpp_term.specs.Scope.{is_open, free_in}
 use Rattle.cpp_term.proofs.Notes.{both}
 use Rattle.cpp_tree.specs.Nodes.{Table, tree_at, trees, entry_at, free_is, has_free, IsTable}
@@ -34,6 +34,7 @@ open-free (local encoding entity discriminator) = open-free entity
 open-free (holder name) = open-free name
 open-free (tagged of_structor name tag) = open-free name
 open-free (of_default digits entity) = open-free entity
+open-free (inheriting digit class) = open-free class
 open-free (lambda parameters number) = open-free parameters
 open-free (conversion t) = open-free t
 open-free (constrained letter concept) = open-free concept
@@ -47,8 +48,10 @@ open-free (function_type c_linkage noexcept ref returned parameters) = either-op
 open-free (qualified q t) = open-free t
 open-free (vector digits t) = open-free t
 open-free (complex t) = open-free t
+open-free (decltype operand) = open-free operand
 open-free (expansion pattern) = open-free pattern
 open-free (integer t n) = open-free t
+open-free (operation one two u w) = either-open (free_in u) (free_in w) (open-free u) (open-free w)
 open-free (pack elements) = open-free elements
 open-free (list e rest) = either-open (free_in e) (free_in rest) (open-free e) (open-free rest)
 open-free _ = refl

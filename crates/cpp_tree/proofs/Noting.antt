@@ -141,6 +141,7 @@ module _ (y : Table) (table : IsTable y) where
   piece-free : (p : Piece) → IsPieceBelow y.bytes (length y.nodes) p → free_is (piece_frees y.nodes p) ≡ free_in (piece_of y.bytes (trees y) p)
   unfolding piece_frees piece_of free_in free_is
   piece-free (Piece.Lambda parameters number) b = at parameters b
+  piece-free (Piece.Inheriting digit base) b = at base b
   piece-free (Piece.Conversion t) b = at t b
   piece-free _ b = refl
 
@@ -166,8 +167,10 @@ module _ (y : Table) (table : IsTable y) where
   node-free (Node.Qualified q t) b = at t b
   node-free (Node.Vector digits t) b = at t b.1
   node-free (Node.Complex t) b = at t b
+  node-free (Node.Decltype operand) b = at operand b
   node-free (Node.Expansion pattern) b = at pattern b
   node-free (Node.Integer t n) b = at t b.0
+  node-free (Node.Operation one two u w) b = both-are (free_at y.nodes u) (free_at y.nodes w) (at u b.0) (at w b.1)
   node-free (Node.Pack elements) b = at elements b
   node-free (Node.Cell first rest) b = both-are (free_at y.nodes first) (free_at y.nodes rest) (at first b.0) (at rest b.1)
   node-free (Node.Reargued t a) b = at t b.0 ∙ sym (free_reargued (Some (tree_at (trees y) a)) (tree_at (trees y) t))
@@ -179,6 +182,7 @@ module _ (y : Table) (table : IsTable y) where
   piece-by-argument : (p : Piece) → IsPieceBelow y.bytes (length y.nodes) p → piece_by_argument y.nodes p ≡ passed (by_argument_of (piece_of y.bytes (trees y) p))
   unfolding piece_by_argument piece_of by_argument_of bare head_from is_empty_with head_noted passed
   piece-by-argument (Piece.Lambda parameters number) b = ap passed (by-argument-at parameters b)
+  piece-by-argument (Piece.Inheriting digit base) b = ap passed (by-argument-at base b)
   piece-by-argument (Piece.Conversion t) b = ap passed (by-argument-at t b)
   piece-by-argument _ b = refl
 
@@ -205,8 +209,10 @@ module _ (y : Table) (table : IsTable y) where
   node-by-argument (Node.Qualified q t) b = ap (λ l. of_head l.head l) (by-argument-at t b)
   node-by-argument (Node.Vector digits t) b = ap passed (by-argument-at t b.1)
   node-by-argument (Node.Complex t) b = ap passed (by-argument-at t b)
+  node-by-argument (Node.Decltype operand) b = ap passed (by-argument-at operand b)
   node-by-argument (Node.Expansion pattern) b = expansion-by-argument (by_argument_at y.nodes pattern) (tree_at (trees y) pattern) (by-argument-at pattern b)
   node-by-argument (Node.Integer t n) b = ap passed (by-argument-at t b.0)
+  node-by-argument (Node.Operation one two u w) b = rw (by-argument-at u b.0, by-argument-at w b.1) refl
   node-by-argument (Node.Pack elements) b = ap of_pack (by-argument-at elements b)
   node-by-argument (Node.Cell first rest) b = rw (by-argument-at first b.0, by-argument-at rest b.1) refl
   node-by-argument (Node.Reargued t a) b = by-argument-at t b.0 ∙ sym (by_argument_reargued (Some (tree_at (trees y) a)) (tree_at (trees y) t))
@@ -469,6 +475,7 @@ module _ (y : Table) (table : IsTable y) where
   piece-pack : (p : Piece) → IsPieceBelow y.bytes (length y.nodes) p → piece_packs y.nodes p ≡ pack_length (piece_of y.bytes (trees y) p)
   unfolding piece_packs piece_of pack_length
   piece-pack (Piece.Lambda parameters number) b = pack-at parameters b
+  piece-pack (Piece.Inheriting digit base) b = pack-at base b
   piece-pack (Piece.Conversion t) b = pack-at t b
   piece-pack _ b = refl
 
@@ -520,7 +527,9 @@ module _ (y : Table) (table : IsTable y) where
   node-pack (Node.Qualified q t) b = pack-at t b
   node-pack (Node.Vector digits t) b = pack-at t b.1
   node-pack (Node.Complex t) b = pack-at t b
+  node-pack (Node.Decltype operand) b = pack-at operand b
   node-pack (Node.Integer t n) b = pack-at t b.0
+  node-pack (Node.Operation one two u w) b = rw (pack-at u b.0, pack-at w b.1) refl
   node-pack (Node.Pack elements) b = pack-at elements b
   node-pack (Node.Cell first rest) b = rw (pack-at first b.0, pack-at rest b.1) refl
   node-pack (Node.Reargued t a) b = again-pack t a b.0 b.1

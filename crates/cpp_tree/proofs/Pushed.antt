@@ -52,6 +52,7 @@ module _ (s : List ℕ) (us : List Thunk) (ts : List Term) (t : Term) (i : ℕ) 
   unfolding piece_of
   piece-stays (Piece.Lambda parameters number) below = rw (early parameters below) refl
   piece-stays (Piece.GenericLambda parameters number) below = rw (early parameters below) refl
+  piece-stays (Piece.Inheriting digit base) below = rw (early base below) refl
   piece-stays (Piece.Conversion t) below = rw (early t below) refl
   piece-stays _ below = refl
 
@@ -92,12 +93,15 @@ module _ (s : List ℕ) (us : List Thunk) (ts : List Term) (t : Term) (i : ℕ) 
   node-stays (Node.Qualified q x) b = rw (early x b) refl
   node-stays (Node.Vector digits x) b = rw (early x b.1) refl
   node-stays (Node.Complex x) b = rw (early x b) refl
+  node-stays (Node.Decltype operand) b = rw (early operand b) refl
   node-stays (Node.Expansion pattern) b = rw (early pattern b) refl
   node-stays (Node.Integer x n) b = rw (early x b.0) refl
   node-stays (Node.Boolean y) b = refl
   node-stays Node.NullPointer b = refl
   node-stays (Node.EncodingLiteral e) b = rw (early e b) refl
   node-stays (Node.AddressOf e) b = rw (early e b) refl
+  node-stays (Node.Operation one two u w) b = rw (early u b.0, early w b.1) refl
+  node-stays (Node.FunctionParameter digits) b = refl
   node-stays (Node.Pack elements) b = rw (early elements b) refl
   node-stays (Node.Cell first rest) b = rw (early first b.0, early rest b.1) refl
   node-stays (Node.Whole e suffix) b = rw (early e b.0) refl

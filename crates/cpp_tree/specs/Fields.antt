@@ -1,9 +1,9 @@
 -- What a tree has beside its production: numbers, texts and the trees of its parts. The productions are constants of the code.
 use Rattle.std.specs.Prelude.{ℕ, ◌+◌, ◌*◌, List, [], ◌∷◌, ◌-◌, ◌++◌, Bool, true, false, ◌==◌, ◌||◌, nat_lt, if◌then◌else◌, cond, get_or, Option, Some, None}
-use Rattle.cpp_grammar.specs.Term.{Qualifiers, RefQualifier, any_value, lvalue_only, rvalue_only, Signed, non_virtual, by_table, Thunk, adjusting, covariant, Term, symbol, function, object, special, thunk, of_name, construction, clone, alone, in_std, within, instance, local, holder, tagged, of_default, abbreviation, parameter, source, operator, literal_operator, constructor, destructor, lambda, generic_lambda, unnamed, string_literal, conversion, builtin, sized_float, constrained, vendor, pointer, lvalue, rvalue, array, bounded, member_pointer, function_type, qualified, vector, complex, expansion, integer, boolean, null_pointer, encoding_literal, address_of, pack, nil, list, absent}
+use Rattle.cpp_grammar.specs.Term.{Qualifiers, RefQualifier, any_value, lvalue_only, rvalue_only, Signed, non_virtual, by_table, Thunk, adjusting, covariant, Term, symbol, function, object, special, thunk, of_name, construction, clone, alone, in_std, within, instance, local, holder, tagged, of_default, abbreviation, parameter, source, operator, literal_operator, constructor, destructor, inheriting, lambda, generic_lambda, unnamed, string_literal, conversion, builtin, sized_float, constrained, vendor, pointer, lvalue, rvalue, array, bounded, member_pointer, function_type, qualified, vector, complex, decltype, expansion, integer, boolean, null_pointer, encoding_literal, address_of, operation, function_parameter, pack, nil, list, absent}
 use Rattle.cpp_tree.specs.declared.view.Names.{Names}
 use Rattle.cpp_tree.specs.declared.view.TheConstants.{ALONE, IN_STD, NESTED}
-use Rattle.cpp_tree.specs.declared.tree_production.TheConstants.{ABSENT, NIL, LIST, SYMBOL, FUNCTION, OBJECT, SPECIAL, GUARD, OF_NAME, CONSTRUCTION, CLONE, THUNK, TABLE_THUNK, COVARIANT_THUNK, WIDE_THUNK, INSTANCE, LOCAL, NUMBERED_LOCAL, HOLDER, TAGGED, OF_DEFAULT, ABBREVIATION, PARAMETER, BUILTIN, BUILTIN_WITH_D, SIZED_FLOAT, BOUNDED, CONSTRAINED, VENDOR, POINTER, LVALUE, RVALUE, ARRAY, MEMBER_POINTER, FUNCTION_TYPE, QUALIFIED, VECTOR, COMPLEX, EXPANSION, INTEGER, BOOLEAN, NULL_POINTER, ENCODING_LITERAL, ADDRESS_OF, PACK, NO_NODE}
+use Rattle.cpp_tree.specs.declared.tree_production.TheConstants.{ABSENT, NIL, LIST, SYMBOL, FUNCTION, OBJECT, SPECIAL, GUARD, OF_NAME, CONSTRUCTION, CLONE, THUNK, TABLE_THUNK, COVARIANT_THUNK, WIDE_THUNK, INSTANCE, LOCAL, NUMBERED_LOCAL, HOLDER, TAGGED, OF_DEFAULT, ABBREVIATION, PARAMETER, BUILTIN, BUILTIN_WITH_D, SIZED_FLOAT, BOUNDED, CONSTRAINED, VENDOR, POINTER, LVALUE, RVALUE, ARRAY, MEMBER_POINTER, FUNCTION_TYPE, QUALIFIED, VECTOR, COMPLEX, DECLTYPE, EXPANSION, INTEGER, BOOLEAN, NULL_POINTER, ENCODING_LITERAL, ADDRESS_OF, OPERATION, FUNCTION_PARAMETER, PACK, NO_NODE}
 
 -- a production, its two numbers, the bytes of its two texts, and the trees of its parts
 pub record Fields : Type 0 where
@@ -42,6 +42,7 @@ name_fields names prefix whole (operator first second) = fields names.operator f
 name_fields names prefix whole (literal_operator bytes) = fields names.literal_operator 0 0 bytes prefix
 name_fields names prefix whole (constructor digit) = fields names.constructor digit 0 [] prefix
 name_fields names prefix whole (destructor digit) = fields names.destructor digit 0 [] prefix
+name_fields names prefix whole (inheriting digit base) = fields names.inheriting digit 0 [] (prefix ++ base ∷ [])
 name_fields names prefix whole (lambda parameters number) = fields names.lambda number 0 [] (prefix ++ parameters ∷ [])
 name_fields names prefix whole (generic_lambda parameters number) = fields names.generic_lambda number 0 [] (prefix ++ parameters ∷ [])
 name_fields names prefix whole (unnamed number) = fields names.unnamed number 0 [] prefix
@@ -116,12 +117,15 @@ fields_of (function_type c_linkage noexcept mark returned parameters) =
 fields_of (qualified q type) = fields QUALIFIED (qualifiers_number q) 0 [] (type ∷ [])
 fields_of (vector digits element) = fields VECTOR 0 0 digits (element ∷ [])
 fields_of (complex type) = fields COMPLEX 0 0 [] (type ∷ [])
+fields_of (decltype operand) = fields DECLTYPE 0 0 [] (operand ∷ [])
 fields_of (expansion pattern) = fields EXPANSION 0 0 [] (pattern ∷ [])
 fields_of (integer type value) = fields INTEGER (bit value.negative) 0 value.digits (type ∷ [])
 fields_of (boolean truth) = fields BOOLEAN (bit truth) 0 [] []
 fields_of null_pointer = fields NULL_POINTER 0 0 [] []
 fields_of (encoding_literal encoding) = fields ENCODING_LITERAL 0 0 [] (encoding ∷ [])
 fields_of (address_of encoding) = fields ADDRESS_OF 0 0 [] (encoding ∷ [])
+fields_of (operation one two u w) = fields OPERATION one two [] (u ∷ w ∷ [])
+fields_of (function_parameter digits) = fields FUNCTION_PARAMETER 0 0 digits []
 fields_of (pack elements) = fields PACK 0 0 [] (elements ∷ [])
 fields_of (alone piece) = name_fields ALONE [] (alone piece) piece
 fields_of (in_std piece) = name_fields IN_STD [] (in_std piece) piece
@@ -193,6 +197,7 @@ names_in names given part named =
     ∷ (names.literal_operator, named (literal_operator (text_in given 0)))
     ∷ (names.constructor, named (constructor (number_in given 0)))
     ∷ (names.destructor, named (destructor (number_in given 0)))
+    ∷ (names.inheriting, named (inheriting (number_in given 0) part))
     ∷ (names.lambda, named (lambda part (number_in given 0)))
     ∷ (names.generic_lambda, named (generic_lambda part (number_in given 0)))
     ∷ (names.conversion, named (conversion part))
@@ -246,12 +251,15 @@ narrow_tree_from given = tree_at given.production (
     ∷ (QUALIFIED, qualified (qualifiers_in (number_in given 0)) (part_in given 0))
     ∷ (VECTOR, vector (text_in given 0) (part_in given 0))
     ∷ (COMPLEX, complex (part_in given 0))
+    ∷ (DECLTYPE, decltype (part_in given 0))
     ∷ (EXPANSION, expansion (part_in given 0))
     ∷ (INTEGER, integer (part_in given 0) (signed_in given 0))
     ∷ (BOOLEAN, boolean (is_so given 0))
     ∷ (NULL_POINTER, null_pointer)
     ∷ (ENCODING_LITERAL, encoding_literal (part_in given 0))
     ∷ (ADDRESS_OF, address_of (part_in given 0))
+    ∷ (OPERATION, operation (number_in given 0) (number_in given 1) (part_in given 0) (part_in given 1))
+    ∷ (FUNCTION_PARAMETER, function_parameter (text_in given 0))
     ∷ (PACK, pack (part_in given 0))
     ∷ (NO_NODE, part_in given 0)
     ∷ names_in ALONE given (part_in given 0) alone ++ names_in IN_STD given (part_in given 0) in_std ++ names_in NESTED given (part_in given 1) (within (part_in given 0))

@@ -31,6 +31,7 @@ both_free (Free.Several m) (Free.Several n) = Free.Several (max m n)
 -- those of a lambda's own signature aren't free outside
 unfoldable pub piece_frees : List Entry → Piece → Free
 piece_frees es (Piece.Lambda parameters number) = free_at es parameters
+piece_frees es (Piece.Inheriting digit base) = free_at es base
 piece_frees es (Piece.Conversion t) = free_at es t
 piece_frees es _ = Free.None
 
@@ -56,8 +57,10 @@ frees es (Node.FunctionType c n m returned parameters) = both_free (free_at es r
 frees es (Node.Qualified q t) = free_at es t
 frees es (Node.Vector digits t) = free_at es t
 frees es (Node.Complex t) = free_at es t
+frees es (Node.Decltype operand) = free_at es operand
 frees es (Node.Expansion t) = free_at es t
 frees es (Node.Integer t n) = free_at es t
+frees es (Node.Operation one two u w) = both_free (free_at es u) (free_at es w)
 frees es (Node.Pack t) = free_at es t
 frees es (Node.Cell first rest) = both_free (free_at es first) (free_at es rest)
 frees es (Node.Reargued t a) = free_at es t
@@ -77,6 +80,7 @@ joined l m = record { is_bare = l.is_bare || m.is_bare; head = HeadFrom.Own; emp
 
 unfoldable pub piece_by_argument : List Entry → Piece → ByArgument
 piece_by_argument es (Piece.Lambda parameters number) = passed (by_argument_at es parameters)
+piece_by_argument es (Piece.Inheriting digit base) = passed (by_argument_at es base)
 piece_by_argument es (Piece.Conversion t) = passed (by_argument_at es t)
 piece_by_argument es _ = by_none false
 
@@ -122,8 +126,10 @@ node_by_argument es (Node.FunctionType c n m returned parameters) = joined (by_a
 node_by_argument es (Node.Qualified q t) = of_head (by_argument_at es t).head (by_argument_at es t)
 node_by_argument es (Node.Vector digits t) = passed (by_argument_at es t)
 node_by_argument es (Node.Complex t) = passed (by_argument_at es t)
+node_by_argument es (Node.Decltype operand) = passed (by_argument_at es operand)
 node_by_argument es (Node.Expansion t) = of_expansion (by_argument_at es t)
 node_by_argument es (Node.Integer t n) = passed (by_argument_at es t)
+node_by_argument es (Node.Operation one two u w) = joined (by_argument_at es u) (by_argument_at es w)
 node_by_argument es (Node.Pack t) = of_pack (by_argument_at es t)
 node_by_argument es (Node.Cell first rest) = of_cell (by_argument_at es first) (by_argument_at es rest)
 node_by_argument es (Node.Reargued t a) = by_argument_at es t
@@ -238,6 +244,7 @@ packs_at es i = (entry_at es i).packs
 
 unfoldable pub piece_packs : List Entry → Piece → Option ℕ
 piece_packs es (Piece.Lambda parameters number) = packs_at es parameters
+piece_packs es (Piece.Inheriting digit base) = packs_at es base
 piece_packs es (Piece.Conversion t) = packs_at es t
 piece_packs es _ = None
 
@@ -263,7 +270,9 @@ packing es (Node.FunctionType c n m returned parameters) = first_of (packs_at es
 packing es (Node.Qualified q t) = packs_at es t
 packing es (Node.Vector digits t) = packs_at es t
 packing es (Node.Complex t) = packs_at es t
+packing es (Node.Decltype operand) = packs_at es operand
 packing es (Node.Integer t n) = packs_at es t
+packing es (Node.Operation one two u w) = first_of (packs_at es u) (packs_at es w)
 packing es (Node.Pack t) = packs_at es t
 packing es (Node.Cell first rest) = first_of (packs_at es first) (packs_at es rest)
 packing es (Node.Reargued t a) = packs_by (by_argument_at es t).is_bare (argument_packs es (shape_at es a))
@@ -274,6 +283,7 @@ packing es _ = None
 unfoldable pub is_structor_piece : Piece → Bool
 is_structor_piece (Piece.Constructor digit) = true
 is_structor_piece (Piece.Destructor digit) = true
+is_structor_piece (Piece.Inheriting digit base) = true
 is_structor_piece _ = false
 
 unfoldable pub is_structor_node : Node → Bool

@@ -109,6 +109,8 @@ pub enum Piece {
     LiteralOperator(Span),
     Constructor(u8),
     Destructor(u8),
+    /// A constructor that is inherited from a base class.
+    Inheriting { digit: u8, base: u32 },
     Lambda { parameters: u32, number: u64 },
     /// A lambda whose signature names parameters of its own.
     GenericLambda { parameters: u32, number: u64 },
@@ -237,6 +239,8 @@ pub enum Node {
         element: u32,
     },
     Complex(u32),
+    /// The type of an expression.
+    Decltype(u32),
     Expansion(u32),
     Integer {
         ty: u32,
@@ -246,6 +250,15 @@ pub enum Node {
     NullPointer,
     EncodingLiteral(u32),
     AddressOf(u32),
+    /// An operation of an expression, by the two letters of its operator. An operand that it hasn't is absent.
+    Operation {
+        first: u8,
+        second: u8,
+        left: u32,
+        right: u32,
+    },
+    /// A parameter of the function in whose types it is, as an expression.
+    FunctionParameter(Span),
     Pack(u32),
     Cell {
         first: u32,
@@ -306,6 +319,10 @@ impl Node {
             } => true,
             Node::Within {
                 piece: Piece::Destructor(_),
+                ..
+            } => true,
+            Node::Within {
+                piece: Piece::Inheriting { .. },
                 ..
             } => true,
             Node::Tagged { of_structor, .. } => of_structor,

@@ -474,6 +474,7 @@ impl Nodes {
     {
         match piece {
             Piece::Lambda { parameters, .. } => self.noted_type(node, parameters, Words::Plain),
+            Piece::Inheriting { base, .. } => self.noted_type(node, base, Words::Plain),
             Piece::Conversion(ty) => self.noted_type(node, ty, Words::Plain),
             _ => bare(node, false),
         }
@@ -491,6 +492,7 @@ impl Nodes {
             Piece::Lambda { parameters, .. } => {
                 self.noted_types(node, prefix, parameters, Words::Plain)
             }
+            Piece::Inheriting { base, .. } => self.noted_types(node, prefix, base, Words::Plain),
             Piece::Conversion(ty) => self.noted_types(node, prefix, ty, Words::Plain),
             _ => self.noted_type(node, prefix, Words::Plain),
         }
@@ -821,8 +823,12 @@ impl Nodes {
             Node::Qualified { ty, .. } => self.noted_qualified(node, ty),
             Node::Vector { element, .. } => self.noted_type(node, element, Words::Plain),
             Node::Complex(ty) => self.noted_type(node, ty, Words::Plain),
+            Node::Decltype(expression) => self.noted_type(node, expression, Words::Plain),
             Node::Expansion(pattern) => self.noted_expansion(node, pattern),
             Node::Integer { ty, .. } => self.noted_type(node, ty, Words::Plain),
+            Node::Operation { left, right, .. } => {
+                self.noted_types(node, left, right, Words::Plain)
+            }
             Node::Pack(elements) => self.noted_pack(node, elements),
             Node::Nil => bare(node, true),
             Node::Cell { first, rest } => self.noted_cell(symbol, node, first, rest),

@@ -254,3 +254,23 @@ pub const BOUNDED: u16 = 77;
 /// A placeholder type of which a concept is asked. Numbers: the last letter of its code, k of `auto` and K of `decltype(auto)`. Parts:
 /// the concept. Symbols of the wide grammar alone have it.
 pub const CONSTRAINED: u16 = 78;
+
+/// A constructor that is inherited, in no scope. Numbers: its digit, as a letter. Parts: the base class that it is inherited from. Symbols
+/// of the wide grammar alone have it, and the next two.
+pub const INHERITING: u16 = 79;
+
+/// As `INHERITING`, in std.
+pub const STD_INHERITING: u16 = 80;
+
+/// As `INHERITING`, in a prefix: its base class is the second part.
+pub const NESTED_INHERITING: u16 = 81;
+
+/// The type of an expression. Parts: the expression. Symbols of the wide grammar alone have it, and the next two.
+pub const DECLTYPE: u16 = 82;
+
+/// An operation of an expression. Numbers: the two letters of its operator. Parts: its operands, of which one that it hasn't is absent and
+/// the second may be a list.
+pub const OPERATION: u16 = 83;
+
+/// A parameter of the function in whose types it is, as an expression. Texts: the digits of its number.
+pub const FUNCTION_PARAMETER: u16 = 84;

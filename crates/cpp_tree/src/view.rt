@@ -11,17 +11,17 @@ ghost use Rattle.cpp_tree.specs.Views.{plain_tree, prefix_trees, seen_of, seen_b
 use crate::node::{Adjustment, Mark, Piece, Qualifiers, Signed, Thunk, bit};
 use crate::tree_production::{
     ABBREVIATION, ABSENT, ADDRESS_OF, ARRAY, BOOLEAN, BOUNDED, BUILTIN, BUILTIN_WITH_D, CLONE,
-    COMPLEX, CONSTRAINED, CONSTRUCTION, CONSTRUCTOR, CONVERSION, COVARIANT_THUNK, DESTRUCTOR,
-    ENCODING_LITERAL, EXPANSION, FUNCTION, FUNCTION_TYPE, GENERIC_LAMBDA, GUARD, HOLDER, INSTANCE,
-    INTEGER, LAMBDA, LIST, LITERAL_OPERATOR, LOCAL, LVALUE, MEMBER_POINTER, NESTED_CONSTRUCTOR,
-    NESTED_CONVERSION, NESTED_DESTRUCTOR, NESTED_GENERIC_LAMBDA, NESTED_LAMBDA,
-    NESTED_LITERAL_OPERATOR, NESTED_NO_PIECE, NESTED_OPERATOR, NESTED_SOURCE,
-    NESTED_STRING_LITERAL, NESTED_UNNAMED, NIL, NO_PIECE, NULL_POINTER, NUMBERED_LOCAL, OBJECT,
-    OF_DEFAULT, OF_NAME, OPERATOR, PACK, PARAMETER, POINTER, QUALIFIED, RVALUE, SIZED_FLOAT,
-    SOURCE, SPECIAL, STD_CONSTRUCTOR, STD_CONVERSION, STD_DESTRUCTOR, STD_GENERIC_LAMBDA,
-    STD_LAMBDA, STD_LITERAL_OPERATOR, STD_NO_PIECE, STD_OPERATOR, STD_SOURCE, STD_STRING_LITERAL,
-    STD_UNNAMED, STRING_LITERAL, SYMBOL, TABLE_THUNK, TAGGED, THUNK, UNNAMED, VECTOR, VENDOR,
-    WIDE_THUNK,
+    COMPLEX, CONSTRAINED, CONSTRUCTION, CONSTRUCTOR, CONVERSION, COVARIANT_THUNK, DECLTYPE,
+    DESTRUCTOR, ENCODING_LITERAL, EXPANSION, FUNCTION, FUNCTION_PARAMETER, FUNCTION_TYPE,
+    GENERIC_LAMBDA, GUARD, HOLDER, INHERITING, INSTANCE, INTEGER, LAMBDA, LIST, LITERAL_OPERATOR,
+    LOCAL, LVALUE, MEMBER_POINTER, NESTED_CONSTRUCTOR, NESTED_CONVERSION, NESTED_DESTRUCTOR,
+    NESTED_GENERIC_LAMBDA, NESTED_INHERITING, NESTED_LAMBDA, NESTED_LITERAL_OPERATOR,
+    NESTED_NO_PIECE, NESTED_OPERATOR, NESTED_SOURCE, NESTED_STRING_LITERAL, NESTED_UNNAMED, NIL,
+    NO_PIECE, NULL_POINTER, NUMBERED_LOCAL, OBJECT, OF_DEFAULT, OF_NAME, OPERATION, OPERATOR, PACK,
+    PARAMETER, POINTER, QUALIFIED, RVALUE, SIZED_FLOAT, SOURCE, SPECIAL, STD_CONSTRUCTOR,
+    STD_CONVERSION, STD_DESTRUCTOR, STD_GENERIC_LAMBDA, STD_INHERITING, STD_LAMBDA,
+    STD_LITERAL_OPERATOR, STD_NO_PIECE, STD_OPERATOR, STD_SOURCE, STD_STRING_LITERAL, STD_UNNAMED,
+    STRING_LITERAL, SYMBOL, TABLE_THUNK, TAGGED, THUNK, UNNAMED, VECTOR, VENDOR, WIDE_THUNK,
 };
 use crate::{Nodes, node};
 use sym_core::Span;
@@ -50,6 +50,7 @@ struct Names {
     literal_operator: u16,
     constructor: u16,
     destructor: u16,
+    inheriting: u16,
     lambda: u16,
     generic_lambda: u16,
     conversion: u16,
@@ -65,6 +66,7 @@ const ALONE: Names = Names {
     literal_operator: LITERAL_OPERATOR,
     constructor: CONSTRUCTOR,
     destructor: DESTRUCTOR,
+    inheriting: INHERITING,
     lambda: LAMBDA,
     generic_lambda: GENERIC_LAMBDA,
     conversion: CONVERSION,
@@ -80,6 +82,7 @@ const IN_STD: Names = Names {
     literal_operator: STD_LITERAL_OPERATOR,
     constructor: STD_CONSTRUCTOR,
     destructor: STD_DESTRUCTOR,
+    inheriting: STD_INHERITING,
     lambda: STD_LAMBDA,
     generic_lambda: STD_GENERIC_LAMBDA,
     conversion: STD_CONVERSION,
@@ -95,6 +98,7 @@ const NESTED: Names = Names {
     literal_operator: NESTED_LITERAL_OPERATOR,
     constructor: NESTED_CONSTRUCTOR,
     destructor: NESTED_DESTRUCTOR,
+    inheriting: NESTED_INHERITING,
     lambda: NESTED_LAMBDA,
     generic_lambda: NESTED_GENERIC_LAMBDA,
     conversion: NESTED_CONVERSION,
@@ -193,6 +197,10 @@ fn view_of_name(
         Piece::LiteralOperator(bytes) => named(names.literal_operator, [0; 2], bytes, prefix),
         Piece::Constructor(digit) => named(names.constructor, [digit as u64, 0], NO_TEXT, prefix),
         Piece::Destructor(digit) => named(names.destructor, [digit as u64, 0], NO_TEXT, prefix),
+        Piece::Inheriting { digit, base } => match prefix {
+            None => one(names.inheriting, [digit as u64, 0], NO_TEXT, base),
+            Some(prefix) => two(names.inheriting, [digit as u64, 0], NO_TEXT, prefix, base),
+        },
         Piece::Lambda { parameters, number } => match prefix {
             None => one(names.lambda, [number, 0], NO_TEXT, parameters),
             Some(prefix) => two(names.lambda, [number, 0], NO_TEXT, prefix, parameters),
@@ -452,6 +460,7 @@ fn view_of_own(symbol: &[u8], nodes: &Nodes, node: node::Node) -> NodeView
         }
         node::Node::Vector { digits, element } => one(VECTOR, none, digits, element),
         node::Node::Complex(ty) => one(COMPLEX, none, NO_TEXT, ty),
+        node::Node::Decltype(expression) => one(DECLTYPE, none, NO_TEXT, expression),
         node::Node::Expansion(pattern) => one(EXPANSION, none, NO_TEXT, pattern),
         node::Node::Integer { ty, value } => {
             one(INTEGER, [bit(value.negative) as u64, 0], value.digits, ty)
@@ -460,6 +469,18 @@ fn view_of_own(symbol: &[u8], nodes: &Nodes, node: node::Node) -> NodeView
         node::Node::NullPointer => leaf(NULL_POINTER, 0),
         node::Node::EncodingLiteral(encoding) => one(ENCODING_LITERAL, none, NO_TEXT, encoding),
         node::Node::AddressOf(encoding) => one(ADDRESS_OF, none, NO_TEXT, encoding),
+        node::Node::Operation {
+            first,
+            second,
+            left,
+            right,
+        } => {
+            let letters = [first as u64, second as u64];
+            two(OPERATION, letters, NO_TEXT, left, right)
+        }
+        node::Node::FunctionParameter(digits) => {
+            seen(FUNCTION_PARAMETER, none, [digits, NO_TEXT], 0, [0; 3])
+        }
         node::Node::Pack(elements) => one(PACK, none, NO_TEXT, elements),
         node::Node::Cell { first, rest } => two(LIST, none, NO_TEXT, first, rest),
         node::Node::Whole { encoding, suffix } => one(SYMBOL, none, suffix, encoding),

@@ -52,6 +52,7 @@ tree_part s ts n (Part.Adjusted adjustment) t listed is there = absurd cc
 tree_part s ts n (Part.Piece p) t listed is there = absurd cc
 tree_part s ts n (Part.Named node q m) t listed is there = absurd cc
 tree_part s ts n (Part.Signature list m) t listed is there = absurd cc
+tree_part s ts n (Part.Pair letter left right) t listed is there = absurd cc
 
 value_first : Value → List Value → Value
 value_first other [] = other

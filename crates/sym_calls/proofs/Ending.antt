@@ -1,5 +1,5 @@
 -- How a call ends, by what was answered.
-use Rattle.std.proofs.Common.{◌≡◌, ◌≢◌, ◌≤◌, inl, inr, ℕ, ◌-◌, Bool, true, false, cond, List, [], ◌++◌, length, take, drop, Option, Some, Result, Ok, Err, refl, sym, ap, ap₂, subst, ◌∙◌, arith}
+use Rattle.std.proofs.Common.{◌≡◌, ◌≢◌, ◌≤◌, inl, inr, ℕ, ◌-◌, Bool, true, false, cond, List, [], ◌++◌, length, take, drop, Option, Some, Result, Ok, Err, refl, sym, ap, subst, ◌∙◌, arith}
 use Rattle.std.specs.Prelude.{nat_le, IfSome}
 use Rattle.std.proofs.lemmas.List.{length-drop, take_all}
 use Rattle.sym_core.specs.declared.refusal.Refusal.{Refusal}
@@ -12,13 +12,14 @@ use Rattle.sym_demangle.proofs.Answering.{is_answer}
 use Rattle.sym_filter.specs.Demangled.{IsAppended}
 use Rattle.sym_filter.specs.declared.kinds.Kind.{Kind}
 use Rattle.sym_filter.specs.Kinds.{symbol_of}
-use Rattle.sym_languages.specs.Languages.{answer_of, wide_answer_of, legacy_answer_of, legacy_wide_answer_of, pressed_of, AreCountsOf, AreWideCountsOf}
+use Rattle.rust_legacy.specs.Text.{legacy_answer}
+use Rattle.sym_languages.specs.Languages.{answer_of, language_answer_by, wide_answer_of, legacy_answer_of, legacy_wide_answer_of, pressed_of, AreCountsOf, AreWideCountsOf}
 use Rattle.sym_filter.specs.Runs.{Answering, filtered_at, tally_at}
 use Rattle.sym_calls.specs.declared.counting.SymbolCounts.{SymbolCounts}
 use Rattle.sym_calls.specs.declared.flags.Asked.{Asked}
 use Rattle.sym_calls.specs.declared.filtering.TextTally.{TextTally}
 use Rattle.sym_calls.specs.declared.outcome.Outcome.{Outcome}
-use Rattle.sym_calls.specs.Calls.{CountingEndsAs, CountingEndsBy, Ending, EndsAs, IsCounted, IsTallied, IsTextWritten, NameCounted, Tallied, answered, answers_at, filter_told, ending_of, named, name_told, numbers_of, press_told, refused, status_alone, text_told, told_of, written}
+use Rattle.sym_calls.specs.Calls.{CountingEndsAs, CountingEndsBy, Ending, EndsAs, IsCounted, IsTallied, IsTextWritten, NameCounted, Tallied, answered, answers_at, answers_by, filter_told, ending_of, named, name_told, numbers_of, press_told, refused, status_alone, text_told, told_of, written}
 
 -- what follows so many bytes, as a slice
 pub rest-of : (at : ℕ) (bytes : List ℕ) → take (length bytes - at) (drop at bytes) ≡ drop at bytes
@@ -101,10 +102,14 @@ pub name-ends : (answers : Answering) (asked : Asked) (name buffer : List ℕ) (
 unfolding told_of
 name-ends answers asked name buffer kind found is ends = subst (λ r. EndsAs (told_of answers r name buffer) buffer found) (sym is) ends
 
--- one for whose lists there is no memory
+-- a symbol for whose lists there is no memory
+pub no-symbol-lists : (answer : Result (List ℕ) Refusal) (skip : ℕ) (buffer : List ℕ) (found : Ending) → found ≡ status_alone 5 buffer → EndsAs (answered answer skip buffer) buffer found
+no-symbol-lists answer skip buffer found told = inr (answered-low answer skip buffer, told)
+
+-- a name for whose lists there is none
 pub no-lists-end : (answers : Answering) (asked : Asked) (name buffer : List ℕ) (kind : Kind) (found : Ending) → named asked.underscore name ≡ Ok kind
     → found ≡ status_alone 5 buffer → EndsAs (name_told answers asked name buffer) buffer found
-no-lists-end answers asked name buffer kind found is told = name-ends answers asked name buffer kind found is (inr (answered-low _ kind.skip buffer, told))
+no-lists-end answers asked name buffer kind found is told = name-ends answers asked name buffer kind found is (no-symbol-lists _ kind.skip buffer found told)
 
 -- one that has no symbol, or a symbol of too many bytes
 pub no-name-ends : (answers : Answering) (asked : Asked) (name buffer : List ℕ) (status : ℕ) (found : Ending) → named asked.underscore name ≡ Err status
@@ -147,33 +152,42 @@ counting-ends option asked kind name wide old new found is same known ends =
 pub no-filter-ends : (bytes buffer : List ℕ) (found : Ending) → found ≡ status_alone 5 buffer → EndsAs (written bytes buffer) buffer found
 no-filter-ends bytes buffer found told = inr (written-low bytes buffer, told)
 
--- what is answered with each grammar, and where legacy Rust names are paths
-answers-chosen : (asked : Asked) (legacy wide : Bool) (limit : ℕ) → asked.legacy ≡ legacy → asked.wide ≡ wide → answers_at asked limit
-    ≡ cond legacy (cond wide (legacy_wide_answer_of limit asked.detail) (legacy_answer_of limit asked.detail)) (cond wide (wide_answer_of limit asked.detail) (answer_of limit asked.detail))
-answers-chosen asked legacy wide limit l w =
-    ap₂ (λ (a b : Bool). cond a (cond b (legacy_wide_answer_of limit asked.detail) (legacy_answer_of limit asked.detail)) (cond b (wide_answer_of limit asked.detail) (answer_of limit asked.detail))) l w
-
-by-choice : {A : Type 0} → (P : Answering → A → Type 0) (choice : ℕ → Detail → Answering) (asked : Asked) (limit of_languages : ℕ) (detail : Detail) (found : A)
-    → answers_at asked limit ≡ choice limit asked.detail → of_languages ≡ limit → detail ≡ asked.detail → P (choice of_languages detail) found → P (answers_at asked limit) found
-by-choice P choice asked limit of_languages detail found is same_limit same_detail given =
+-- what is answered at a limit and a detail that are those asked for
+by-choice : {A : Type 0} → (P : Answering → A → Type 0) (answers : Answering) (choice : ℕ → Detail → Answering) (asked : Asked) (limit of_languages : ℕ) (detail : Detail) (found : A)
+    → answers ≡ choice limit asked.detail → of_languages ≡ limit → detail ≡ asked.detail → P (choice of_languages detail) found → P answers found
+by-choice P answers choice asked limit of_languages detail found is same_limit same_detail given =
     subst (λ a. P a found) (sym is)
     (subst (λ n. P (choice n asked.detail) found) same_limit (subst (λ d. P (choice of_languages d) found) same_detail given))
 
-pub by-abi : {A : Type 0} → (P : Answering → A → Type 0) (asked : Asked) (limit of_languages : ℕ) (detail : Detail) (found : A) → asked.legacy ≡ false → asked.wide ≡ false → of_languages ≡ limit → detail ≡ asked.detail
-    → P (answer_of of_languages detail) found → P (answers_at asked limit) found
-by-abi P asked limit of_languages detail found l w = by-choice P answer_of asked limit of_languages detail found (answers-chosen asked false false limit l w)
+-- with a grammar of C++, where legacy Rust names are paths and where they aren't
+pub by-legacy : {A W : Type 0} → (P : Answering → A → Type 0) (cpp : Mangled W) (asked : Asked) (limit of_languages : ℕ) (detail : Detail) (found : A) → asked.legacy ≡ true → of_languages ≡ limit → detail ≡ asked.detail
+    → P (λ kind symbol. legacy_answer of_languages symbol (language_answer_by cpp of_languages detail kind.lang symbol)) found → P (answers_by cpp asked limit) found
+by-legacy P cpp asked limit of_languages detail found legacy =
+    let paths : ℕ → Detail → Answering = λ n d kind symbol. legacy_answer n symbol (language_answer_by cpp n d kind.lang symbol) in
+    let others : Answering = λ kind symbol. language_answer_by cpp limit asked.detail kind.lang symbol in
+    by-choice P (answers_by cpp asked limit) paths asked limit of_languages detail found (ap (λ (b : Bool). cond b (paths limit asked.detail) others) legacy)
 
-pub by-wide : {A : Type 0} → (P : Answering → A → Type 0) (asked : Asked) (limit of_languages : ℕ) (detail : Detail) (found : A) → asked.legacy ≡ false → asked.wide ≡ true → of_languages ≡ limit → detail ≡ asked.detail
-    → P (wide_answer_of of_languages detail) found → P (answers_at asked limit) found
-by-wide P asked limit of_languages detail found l w = by-choice P wide_answer_of asked limit of_languages detail found (answers-chosen asked false true limit l w)
+pub by-languages : {A W : Type 0} → (P : Answering → A → Type 0) (cpp : Mangled W) (asked : Asked) (limit of_languages : ℕ) (detail : Detail) (found : A) → asked.legacy ≡ false → of_languages ≡ limit → detail ≡ asked.detail
+    → P (λ kind symbol. language_answer_by cpp of_languages detail kind.lang symbol) found → P (answers_by cpp asked limit) found
+by-languages P cpp asked limit of_languages detail found not_legacy =
+    let paths : Answering = λ kind symbol. legacy_answer limit symbol (language_answer_by cpp limit asked.detail kind.lang symbol) in
+    let others : ℕ → Detail → Answering = λ n d kind symbol. language_answer_by cpp n d kind.lang symbol in
+    by-choice P (answers_by cpp asked limit) others asked limit of_languages detail found (ap (λ (b : Bool). cond b paths (others limit asked.detail)) not_legacy)
 
-pub by-legacy : {A : Type 0} → (P : Answering → A → Type 0) (asked : Asked) (limit of_languages : ℕ) (detail : Detail) (found : A) → asked.legacy ≡ true → asked.wide ≡ false → of_languages ≡ limit → detail ≡ asked.detail
-    → P (legacy_answer_of of_languages detail) found → P (answers_at asked limit) found
-by-legacy P asked limit of_languages detail found l w = by-choice P legacy_answer_of asked limit of_languages detail found (answers-chosen asked true false limit l w)
+-- with each grammar
+by-width : {A : Type 0} → (P : Answering → A → Type 0) (asked : Asked) (wide : Bool) (limit : ℕ) (found : A) → asked.wide ≡ wide
+    → P (cond asked.legacy (cond wide (legacy_wide_answer_of limit asked.detail) (legacy_answer_of limit asked.detail)) (cond wide (wide_answer_of limit asked.detail) (answer_of limit asked.detail))) found
+    → P (answers_at asked limit) found
+by-width P asked wide limit found is given =
+    subst (λ b. P (cond asked.legacy (cond b (legacy_wide_answer_of limit asked.detail) (legacy_answer_of limit asked.detail)) (cond b (wide_answer_of limit asked.detail) (answer_of limit asked.detail))) found) (sym is) given
 
-pub by-wide-legacy : {A : Type 0} → (P : Answering → A → Type 0) (asked : Asked) (limit of_languages : ℕ) (detail : Detail) (found : A) → asked.legacy ≡ true → asked.wide ≡ true → of_languages ≡ limit → detail ≡ asked.detail
-    → P (legacy_wide_answer_of of_languages detail) found → P (answers_at asked limit) found
-by-wide-legacy P asked limit of_languages detail found l w = by-choice P legacy_wide_answer_of asked limit of_languages detail found (answers-chosen asked true true limit l w)
+pub by-wide : {A : Type 0} → (P : Answering → A → Type 0) (asked : Asked) (limit : ℕ) (found : A) → asked.wide ≡ true
+    → P (cond asked.legacy (legacy_wide_answer_of limit asked.detail) (wide_answer_of limit asked.detail)) found → P (answers_at asked limit) found
+by-wide P asked limit found is given = by-width P asked true limit found is given
+
+pub by-abi : {A : Type 0} → (P : Answering → A → Type 0) (asked : Asked) (limit : ℕ) (found : A) → asked.wide ≡ false
+    → P (cond asked.legacy (legacy_answer_of limit asked.detail) (answer_of limit asked.detail)) found → P (answers_at asked limit) found
+by-abi P asked limit found is given = by-width P asked false limit found is given
 
 -- a symbol that isn't read
 pub refusal-counts : (refusal : Refusal) (answer : Result (List ℕ) Refusal) (are_counts : Counts → Type 0) (skip : ℕ) (counts : SymbolCounts) (found : Ending)
@@ -198,18 +212,14 @@ unfolding IsCounted
 no-lists-count answer are_counts skip counts found told = inr (refl, inl told)
 
 -- counting with either grammar
-pub wide-counted : (kind : Kind) (limit : ℕ) (detail : Detail) (symbol slice : List ℕ) (old new : SymbolCounts) (found : Ending) → slice ≡ symbol → limit ≡ 0 → detail ≡ Detail.Full
-    → IsCounted (wide_answer_of limit detail kind slice) (AreWideCountsOf kind.lang slice) kind.skip old new found → CountingEndsBy true kind symbol old new found
+pub wide-counted : (kind : Kind) (symbol slice : List ℕ) (old new : SymbolCounts) (found : Ending) → slice ≡ symbol
+    → IsCounted (wide_answer_of 0 Detail.Full kind slice) (AreWideCountsOf kind.lang slice) kind.skip old new found → CountingEndsBy true kind symbol old new found
 unfolding CountingEndsBy
-wide-counted kind limit detail symbol slice old new found same none full given =
-    subst (λ s. IsCounted (wide_answer_of 0 Detail.Full kind s) (AreWideCountsOf kind.lang s) kind.skip old new found) same
-    (subst (λ d. IsCounted (wide_answer_of 0 d kind slice) (AreWideCountsOf kind.lang slice) kind.skip old new found) full
-    (subst (λ n. IsCounted (wide_answer_of n detail kind slice) (AreWideCountsOf kind.lang slice) kind.skip old new found) none given))
+wide-counted kind symbol slice old new found same given =
+    subst (λ s. IsCounted (wide_answer_of 0 Detail.Full kind s) (AreWideCountsOf kind.lang s) kind.skip old new found) same given
 
-pub abi-counted : (kind : Kind) (limit : ℕ) (detail : Detail) (symbol slice : List ℕ) (old new : SymbolCounts) (found : Ending) → slice ≡ symbol → limit ≡ 0 → detail ≡ Detail.Full
-    → IsCounted (answer_of limit detail kind slice) (AreCountsOf kind.lang slice) kind.skip old new found → CountingEndsBy false kind symbol old new found
+pub abi-counted : (kind : Kind) (symbol slice : List ℕ) (old new : SymbolCounts) (found : Ending) → slice ≡ symbol
+    → IsCounted (answer_of 0 Detail.Full kind slice) (AreCountsOf kind.lang slice) kind.skip old new found → CountingEndsBy false kind symbol old new found
 unfolding CountingEndsBy
-abi-counted kind limit detail symbol slice old new found same none full given =
-    subst (λ s. IsCounted (answer_of 0 Detail.Full kind s) (AreCountsOf kind.lang s) kind.skip old new found) same
-    (subst (λ d. IsCounted (answer_of 0 d kind slice) (AreCountsOf kind.lang slice) kind.skip old new found) full
-    (subst (λ n. IsCounted (answer_of n detail kind slice) (AreCountsOf kind.lang slice) kind.skip old new found) none given))
+abi-counted kind symbol slice old new found same given =
+    subst (λ s. IsCounted (answer_of 0 Detail.Full kind s) (AreCountsOf kind.lang s) kind.skip old new found) same given

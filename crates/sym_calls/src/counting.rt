@@ -2,6 +2,7 @@
 ghost use Rattle.std.specs.Prelude.{◌≡◌, []};
 ghost use Rattle.sym_core.specs.Number.{FitsSymbol};
 ghost use Rattle.sym_print.specs.declared.detail.Detail.TheVariants.{Full};
+ghost use Rattle.sym_languages.specs.Languages.{AreCountsBy, language_answer_by};
 ghost use Rattle.sym_calls.specs.Calls.{CountingEndsAs, IsCounted, asked_of, ending_of, numbers_of, status_alone};
 
 use crate::flags::asked_of;
@@ -38,21 +39,30 @@ pub fn counts_of(alloc: Global, name: &[u8], flags: u32, counts: &mut SymbolCoun
     };
     let symbol = &name[kind.skip as usize..];
     if asked.wide {
-        return count_by(alloc, &reading(Wide), kind, symbol, counts);
+        return count_in(alloc, Wide, kind, symbol, counts);
     }
-    count_by(alloc, &reading(Abi), kind, symbol, counts)
+    count_in(alloc, Abi, kind, symbol, counts)
 }
 
-/// Both manglings with no room for a text.
-fn reading<C: Cpp>(cpp: C) -> Languages<C>
-    ensures limit { result.limit ≡ 0 }
-    ensures detail { result.detail ≡ Full }
+/// Puts the counts of a symbol, which is read with a grammar of C++ and has no room for a text, into the caller's.
+fn count_in<C: Cpp>(
+    alloc: Global,
+    cpp: C,
+    kind: Kind,
+    symbol: &[u8],
+    counts: &mut SymbolCounts,
+) -> Outcome
+    requires { FitsSymbol symbol.now }
+    ensures { IsCounted (language_answer_by C.mangled 0 Full kind.lang symbol.now)
+        (AreCountsBy (record { mangled = C.mangled; IsRead = C.is_read; bytes_of = C.bytes_of; whole_of = C.whole_of; are_nodes = C.are_nodes; nodes_a_byte = C.nodes_a_byte }) kind.lang symbol.now)
+        kind.skip counts.old counts.new (ending_of result []) }
 {
-    Languages {
+    let languages = Languages {
         limit: 0,
         detail: Detail::Full,
         cpp,
-    }
+    };
+    count_by(alloc, &languages, kind, symbol, counts)
 }
 
 /// Puts the counts of a symbol into the caller's.

@@ -1,12 +1,13 @@
 // A text with the texts of all symbols in it.
 ghost use Rattle.std.specs.Prelude.{◌≡◌};
 ghost use Rattle.sym_filter.specs.Runs.{filtered_at, tally_at};
-ghost use Rattle.sym_calls.specs.Calls.{EndsAs, IsTallied, Tallied, asked_of, ending_of, filter_told, written};
+ghost use Rattle.sym_calls.specs.Calls.{EndsAs, IsTallied, Tallied, answers_by, asked_of, ending_of, filter_told, written};
 
-use crate::flags::asked_of;
+use crate::flags::{Asked, asked_of};
 use crate::outcome::{FLAGS, OK, Outcome, alone, no_memory, write};
 use std::alloc::Global;
 use sym_filter::{Demangler, Letters, ListSink, ReaderSource, Tally, filter_words};
+use sym_languages::languages::Cpp;
 use sym_languages::{Abi, Wide};
 
 /// How many words of a text name symbols, were replaced by a text, and were not.
@@ -52,6 +53,27 @@ fn filter_by<D: Demangler>(
     }
 }
 
+/// Writes a text that is filtered as is asked for, with a grammar of C++, to the front of the buffer.
+fn filter_in<C: Cpp>(
+    alloc: Global,
+    cpp: C,
+    asked: Asked,
+    limit: u32,
+    text: &[u8],
+    buffer: &mut [u8],
+    tally: &mut TextTally,
+) -> Outcome
+    ensures ending { EndsAs (written (filtered_at asked.letters (answers_by C.mangled asked limit) text.now) buffer.old) buffer.old (ending_of result buffer.new) }
+    ensures tally { Tallied (tally_at asked.letters (answers_by C.mangled asked limit) text.now) tally.old tally.new result.status }
+{
+    if asked.legacy {
+        let legacy = asked.with_legacy(limit, cpp);
+        return filter_by(alloc, &legacy, asked.letters, text, buffer, tally);
+    }
+    let languages = asked.languages(limit, cpp);
+    filter_by(alloc, &languages, asked.letters, text, buffer, tally)
+}
+
 /// Writes a text to the front of the buffer with each word that is a symbol replaced by the symbol's text, where that costs at
 /// most the limit, and tells how many words name symbols. Else the outcome tells why not, and buffer and tally stay as they are.
 #[tactic(auto, unfolding(crate::specs::Calls::filter_told, crate::specs::Calls::IsTallied))]
@@ -69,47 +91,8 @@ pub fn filter_of(
     let Some(asked) = asked_of(flags) else {
         return alone(FLAGS);
     };
-    let letters = asked.letters;
-    match (asked.legacy, asked.wide) {
-        (false, false) => {
-            filter_by(
-                alloc,
-                &asked.languages(limit, Abi),
-                letters,
-                text,
-                buffer,
-                tally,
-            )
-        }
-        (false, true) => {
-            filter_by(
-                alloc,
-                &asked.languages(limit, Wide),
-                letters,
-                text,
-                buffer,
-                tally,
-            )
-        }
-        (true, false) => {
-            filter_by(
-                alloc,
-                &asked.with_legacy(limit, Abi),
-                letters,
-                text,
-                buffer,
-                tally,
-            )
-        }
-        (true, true) => {
-            filter_by(
-                alloc,
-                &asked.with_legacy(limit, Wide),
-                letters,
-                text,
-                buffer,
-                tally,
-            )
-        }
+    if asked.wide {
+        return filter_in(alloc, Wide, asked, limit, text, buffer, tally);
     }
+    filter_in(alloc, Abi, asked, limit, text, buffer, tally)
 }

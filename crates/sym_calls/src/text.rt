@@ -5,7 +5,7 @@ ghost use Rattle.sym_core.specs.Number.{FitsSymbol};
 ghost use Rattle.sym_print.specs.declared.detail.Detail.TheVariants.{Full, NoParameters};
 ghost use Rattle.sym_demangle.specs.Mangled.{answer};
 ghost use Rattle.sym_languages.specs.Languages.{language_answer_by};
-ghost use Rattle.sym_calls.specs.Calls.{EndsAs, IsTextWritten, answered, asked_of, ending_of, name_told, press_told, text_told};
+ghost use Rattle.sym_calls.specs.Calls.{EndsAs, IsTextWritten, answered, answers_by, asked_of, ending_of, name_told, press_told, text_told};
 
 use crate::flags::{Asked, asked_of};
 use crate::outcome::{FLAGS, Outcome, alone, no_memory, of_refusal, write};
@@ -14,7 +14,7 @@ use std::alloc::Global;
 use sym_core::Refusal;
 use sym_demangle::Mangling;
 use sym_filter::{Demangled, Demangler, Kind, Lang};
-use sym_languages::languages::{Cpp, Lists};
+use sym_languages::languages::Cpp;
 use sym_languages::{Abi, Languages, Pressing, Wide};
 use sym_print::Detail;
 
@@ -146,19 +146,22 @@ fn short_once<C: Cpp>(
 }
 
 /// Writes the text of a symbol, which is read into rows and nodes, to the front of the buffer.
-fn symbol_by_rows<C: Cpp>(
+fn symbol_by_rows<D: Demangler>(
     alloc: Global,
-    languages: &Languages<C>,
+    demangler: &D,
     kind: Kind,
     symbol: &[u8],
     buffer: &mut [u8],
 ) -> Outcome
     requires { FitsSymbol symbol.now }
-    ensures { EndsAs (answered (language_answer_by C.mangled languages.now.limit languages.now.detail kind.lang symbol.now) kind.skip buffer.old) buffer.old (ending_of result buffer.new) }
+    ensures { EndsAs (answered (D.answer demangler.now kind symbol.now) kind.skip buffer.old) buffer.old (ending_of result buffer.new) }
 {
-    let mut lists = Lists::new(alloc);
+    let mut lists = match demangler.lists(alloc) {
+        Ok(lists) => lists,
+        Err(_) => return no_memory(),
+    };
     let mut text = Vec::new(alloc);
-    match languages.demangle(&mut lists, kind, symbol, &mut text) {
+    match demangler.demangle(&mut lists, kind, symbol, &mut text) {
         Demangled::Text(_) => write(&text, buffer),
         Demangled::TooLong(_) => of_refusal(Refusal::TooLong, kind.skip, buffer),
         Demangled::Refused(refusal) => of_refusal(refusal, kind.skip, buffer),
@@ -186,6 +189,23 @@ fn name_once<C: Cpp>(
     }
 }
 
+/// Writes the text of a name's symbol as is asked for, with a grammar of C++, to the front of the buffer.
+fn text_in<C: Cpp>(
+    alloc: Global,
+    cpp: C,
+    asked: Asked,
+    limit: u32,
+    name: &[u8],
+    buffer: &mut [u8],
+) -> Outcome
+    ensures { EndsAs (name_told (answers_by C.mangled asked limit) asked name.now buffer.old) buffer.old (ending_of result buffer.new) }
+{
+    if asked.legacy {
+        return name_by(alloc, &asked.with_legacy(limit, cpp), asked, name, buffer);
+    }
+    name_once(alloc, &asked.languages(limit, cpp), asked, name, buffer)
+}
+
 /// Writes the text of a name's symbol to the front of the buffer, if it costs at most the limit. Else the outcome tells why not,
 /// and the buffer stays as it is.
 #[tactic(auto, unfolding(crate::specs::Calls::text_told))]
@@ -195,12 +215,10 @@ pub fn text_of(alloc: Global, name: &[u8], limit: u32, flags: u32, buffer: &mut 
     let Some(asked) = asked_of(flags) else {
         return alone(FLAGS);
     };
-    match (asked.legacy, asked.wide) {
-        (false, false) => name_once(alloc, &asked.languages(limit, Abi), asked, name, buffer),
-        (false, true) => name_once(alloc, &asked.languages(limit, Wide), asked, name, buffer),
-        (true, false) => name_by(alloc, &asked.with_legacy(limit, Abi), asked, name, buffer),
-        (true, true) => name_by(alloc, &asked.with_legacy(limit, Wide), asked, name, buffer),
+    if asked.wide {
+        return text_in(alloc, Wide, asked, limit, name, buffer);
     }
+    text_in(alloc, Abi, asked, limit, name, buffer)
 }
 
 /// Writes the pressed spelling of a name's symbol to the front of the buffer, in which each repeated part is a reference. Else the

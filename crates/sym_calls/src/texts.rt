@@ -1,6 +1,6 @@
 // The texts of many names, with one set of lists for all of them.
 ghost use Rattle.std.specs.Prelude.{◌≡◌, ◌≤◌, length, true};
-ghost use Rattle.sym_calls.specs.Calls.{asked_of};
+ghost use Rattle.sym_calls.specs.Calls.{answers_by, asked_of};
 ghost use Rattle.sym_calls.specs.Texts.{AreTold, IsTold, TextsEndAs, are_ends, placed};
 
 use crate::flags::{Asked, asked_of};
@@ -8,7 +8,7 @@ use crate::outcome::{ENDS, FLAGS, OK, Outcome};
 use crate::text::name_with;
 use std::alloc::Global;
 use sym_filter::Demangler;
-use sym_languages::languages::Lists;
+use sym_languages::languages::{Cpp, Lists};
 use sym_languages::{Abi, Wide};
 
 /// Whether ends go up, from 0 to at most the length of a text.
@@ -87,6 +87,46 @@ fn tell_each<D: Demangler>(
     OK
 }
 
+/// The same as is asked for, with a grammar of C++.
+fn tell_in<C: Cpp>(
+    alloc: Global,
+    cpp: C,
+    asked: Asked,
+    limit: u32,
+    names: &[u8],
+    ends: &[usize],
+    buffer: &mut [u8],
+    outcomes: &mut [Outcome],
+) -> u32
+    requires ends { are_ends 0 (length names.now) ends.now ≡ true }
+    requires outcomes { length outcomes.old ≡ length ends.now }
+    ensures told { AreTold (answers_by C.mangled asked limit) asked names.now 0 ends.now buffer.old buffer.new outcomes.new }
+    ensures status { result ≡ 0 }
+{
+    if asked.legacy {
+        return tell_each(
+            alloc,
+            &asked.with_legacy(limit, cpp),
+            Lists::new(alloc),
+            asked,
+            names,
+            ends,
+            buffer,
+            outcomes,
+        );
+    }
+    tell_each(
+        alloc,
+        &asked.languages(limit, cpp),
+        Lists::new(alloc),
+        asked,
+        names,
+        ends,
+        buffer,
+        outcomes,
+    )
+}
+
 /// Writes the texts of many names to the buffer, one after the other, and tells of each name what `text_of` would. Name i is in
 /// `names` from the end before it, 0 for the first, to `ends[i]`. A name whose text finds too little of the buffer left is told
 /// how much it needs, and those after it may still find some.
@@ -114,46 +154,8 @@ pub fn texts_of(
     if !are_ends(ends, names.len()) {
         return ENDS;
     }
-    match (asked.legacy, asked.wide) {
-        (false, false) => tell_each(
-            alloc,
-            &asked.languages(limit, Abi),
-            Lists::new(alloc),
-            asked,
-            names,
-            ends,
-            buffer,
-            outcomes,
-        ),
-        (false, true) => tell_each(
-            alloc,
-            &asked.languages(limit, Wide),
-            Lists::new(alloc),
-            asked,
-            names,
-            ends,
-            buffer,
-            outcomes,
-        ),
-        (true, false) => tell_each(
-            alloc,
-            &asked.with_legacy(limit, Abi),
-            Lists::new(alloc),
-            asked,
-            names,
-            ends,
-            buffer,
-            outcomes,
-        ),
-        (true, true) => tell_each(
-            alloc,
-            &asked.with_legacy(limit, Wide),
-            Lists::new(alloc),
-            asked,
-            names,
-            ends,
-            buffer,
-            outcomes,
-        ),
+    if asked.wide {
+        return tell_in(alloc, Wide, asked, limit, names, ends, buffer, outcomes);
     }
+    tell_in(alloc, Abi, asked, limit, names, ends, buffer, outcomes)
 }

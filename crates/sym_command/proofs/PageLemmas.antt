@@ -1,9 +1,10 @@
 -- The lines of the words so far: those that were written, and those that wait.
 use Rattle.std.proofs.Common.{◌≡◌, ℕ, Bool, ◌&&◌, List, [], ◌∷◌, ◌++◌, Option, Result, Ok, Err, Bor, map, take, drop, refl, sym, ap, subst, ◌∙◌, append_assoc}
-use Rattle.std.specs.Prelude.{OnErr}
+use Rattle.std.specs.Prelude.{◌≢◌, OnErr, IfOk}
 use Rattle.std.specs.List.{flat_map}
 use Rattle.std.proofs.lemmas.Grind.{flat_map-append}
 use Rattle.std.proofs.lemmas.List.{append-nil, map-append, take-append-drop}
+use Rattle.sym_filter.specs.declared.streams.FilterFault.{FilterFault}
 use Rattle.sym_filter.specs.Runs.{Answering}
 use Rattle.sym_filter.specs.Streams.{BeginsWith, Puts, PutsFront}
 use Rattle.sym_filter.proofs.StreamLemmas.{Appends-none, Puts-push, Puts-join, Puts-same, Puts-all, PutsFront-of, PutsFront-join}
@@ -110,6 +111,15 @@ PutsFront-from a b wait wait' same p = subst (λ (t : List ℕ). PutsFront a b t
 pub OnErr-anyway : {A E : Type 0} (r : Result A E) (P : Type 0) → P → OnErr r P
 OnErr-anyway (Ok x) P p = tt
 OnErr-anyway (Err e) P p = p
+
+-- what is said of success alone
+pub IfOk-not : {A E : Type 0} (r : Result A E) (P : A → Type 0) (y : E) → r ≡ Err y → IfOk r P
+IfOk-not (Ok x) P y is = absurd cc
+IfOk-not (Err e) P y is = tt
+
+-- want of memory isn't a failure to read
+pub never_read : FilterFault.Memory ≢ FilterFault.Read
+never_read is = absurd (let no : FilterFault.Memory ≡ FilterFault.Read = is in cc)
 
 -- the first words and the others
 pub words-split : (words : List (Bor (List ℕ))) (i : ℕ) → map (λ word. word.now) words ≡ map (λ word. word.now) (take i words) ++ map (λ word. word.now) (drop i words)

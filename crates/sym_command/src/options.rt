@@ -84,14 +84,30 @@ fn command_line<'a>(alloc: Global) -> Result<Command<'a>, AllocError>
     let command = Command::new(alloc, "symfilt")
         .version(VERSION)
         .about("Prints C++ (Itanium ABI) and Rust (v0) symbols")
-        .after_help(EXAMPLES)
-        .arg(limit(alloc))?;
-    let command = with_flag(alloc, command, "stats", STATS)?;
-    let command = with_flag(alloc, command, "press", PRESS)?;
-    let command = with_flag(alloc, command, "wide", WIDE)?;
-    let command = with_flag(alloc, command, "legacy", LEGACY)?;
+        .after_help(EXAMPLES);
+    let command = with_answers(alloc, command)?;
+    let command = with_grammars(alloc, command)?;
     let command = with_details(alloc, command)?;
     command.arg(symbols(alloc))
+}
+
+/// A command line with the options on what is answered for a symbol.
+fn with_answers<'a>(alloc: Global, command: Command<'a>) -> Result<Command<'a>, AllocError>
+    ensures { IfOk result (λ with_them. app_of with_them
+        ≡ with_rule (with_rule (with_rule (app_of command.entry) limit) (flag (codes "stats"))) (flag (codes "press"))) }
+{
+    let limited = command.arg(limit(alloc))?;
+    let counted = with_flag(alloc, limited, "stats", STATS)?;
+    with_flag(alloc, counted, "press", PRESS)
+}
+
+/// A command line with the options on how symbols are read.
+fn with_grammars<'a>(alloc: Global, command: Command<'a>) -> Result<Command<'a>, AllocError>
+    ensures { IfOk result (λ with_them. app_of with_them
+        ≡ with_rule (with_rule (app_of command.entry) (flag (codes "wide"))) (flag (codes "legacy"))) }
+{
+    let wide = with_flag(alloc, command, "wide", WIDE)?;
+    with_flag(alloc, wide, "legacy", LEGACY)
 }
 
 /// A command line with the options on what of a text is shown, and on the letters of words.

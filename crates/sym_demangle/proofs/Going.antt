@@ -1,16 +1,20 @@
 -- How a linker goes on by a driver's steps.
-use Rattle.std.proofs.Common.{◌≡◌, ◌∙◌, ap, subst, ℕ, ◌+◌, ◌*◌, ◌≤◌, List, length, Bool, true, false, Option, Some, Result, Ok, Err, arith}
+use Rattle.std.proofs.Common.{◌≡◌, ◌∙◌, ap, subst, ℕ, ◌+◌, ◌*◌, ◌≤◌, List, [], length, Bool, true, false, Option, Some, Result, Ok, Err, arith}
 use Rattle.std.specs.Prelude.{None}
 use Rattle.sym_core.specs.declared.refusal.Refusal.{Refusal}
 use Rattle.sym_shape.specs.declared.rule.Row.{Row}
+use Rattle.sym_core.specs.Number.{FitsSymbol}
+use Rattle.sym_shape.specs.Grown.{GrowsInto}
+use Rattle.sym_shape.specs.Reader.{AreFew}
 use Rattle.sym_shape.specs.Table.{Table}
-use Rattle.sym_shape.specs.Tree.{Tree}
+use Rattle.sym_shape.specs.Tree.{Tree, AreRowsOf}
 use Rattle.sym_link.specs.declared.language.Frame.{Frame}
 use Rattle.sym_link.specs.Linking.{View}
 use Rattle.sym_link.specs.Stepping.{link_steps}
 use Rattle.sym_link.specs.Following.{IsDriving, IsStepTo, IsDone, meaning_of}
 use Rattle.sym_link.proofs.Starting.{driving_few}
-use Rattle.sym_demangle.specs.Standing.{IsLinker}
+use Rattle.sym_demangle.specs.Standing.{Begins, IsLinker}
+use Rattle.sym_demangle.proofs.Standing.{begun}
 use Rattle.sym_shape.proofs.Keeping.{never_done}
 
 -- the steps and rows of a linker are few
@@ -127,3 +131,10 @@ counts_refusal view s rows shape nodes steps new_steps refused new_refused parts
     let refuses = subst (λ r. IsStepTo view s rows shape nodes steps new_steps refused new_refused parts r) is to in
     let first = subst (λ o. IsStepTo view s rows shape nodes steps new_steps o new_refused parts (Err e)) none refuses in
     (first.1, first.2)
+
+-- one whose driver was reset has done nothing yet
+pub reset_of : {N P K V S C : Type 0} (view : View N P K V S C) (g : Table) (s : List ℕ) (rows : List Row) (read : ℕ) (nodes : N) (steps : ℕ) (refused : Option Refusal) (next : ℕ)
+    (frames : List (Frame K)) (parts : List P) → steps ≡ 0 → refused ≡ None → next ≡ 0 → frames ≡ [] → parts ≡ [] → GrowsInto g view.table → FitsSymbol s → AreRowsOf g s rows
+    → AreFew read (length rows) (length s) → Begins view nodes → IsLinker g view s rows read nodes steps refused next frames parts false
+reset_of view g s rows read nodes steps refused next frames parts no_step none first no_frame no_part grows fits are few begins =
+    rw (no_step, none, first, no_frame, no_part) (begun view g s rows read nodes grows fits are few begins)

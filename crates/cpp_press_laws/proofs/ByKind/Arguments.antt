@@ -1,12 +1,12 @@
 -- Arguments of templates that were read, of each kind: lists of them, packs, literals and addresses.
-use Rattle.std.proofs.Common.{◌≡◌, ℕ, inl, inr, [], ◌∷◌, true, refl, sym, subst, ◌∙◌}
+use Rattle.std.proofs.Common.{◌≡◌, ℕ, inl, inr, [], ◌∷◌, true, refl, ap, sym, subst, ◌∙◌}
 use Rattle.cpp_grammar.specs.declared.kind.Kind.{Kind}
 use Rattle.cpp_grammar.specs.declared.production.Production.{Production}
 use Rattle.cpp_grammar.specs.Grammar.{alternatives, is_chain, number_of_kind, parts_of}
-use Rattle.cpp_grammar.specs.Term.{Term, pack}
-use Rattle.cpp_grammar.specs.Values.{State, outermost, Around, Value, tree, tree_of, part}
+use Rattle.cpp_grammar.specs.Term.{Term, pack, absent}
+use Rattle.cpp_grammar.specs.Values.{State, outermost, Around, Value, tree, pair, tree_of, part}
 use Rattle.cpp_grammar.specs.Between.{between, no_items}
-use Rattle.cpp_grammar.specs.Meaning.{meaning}
+use Rattle.cpp_grammar.specs.Meaning.{operation_by, operation_or_address, is_code, meaning}
 use Rattle.cpp_grammar.specs.Unfolding as unfolding_
 use Rattle.cpp_grammar.specs.Unfolding.{byte_of}
 use Rattle.cpp_press_laws.specs.Fits.{literal_type, IsBuiltin}
@@ -15,7 +15,7 @@ use Rattle.cpp_press_laws.proofs.Fits.Sorts.{KindFits, Meant}
 use Rattle.cpp_press_laws.proofs.Fits.Typed as step
 use Rattle.cpp_press_laws.proofs.Fits.Places.{behind-bytes}
 use Rattle.cpp_press_laws.proofs.ByKind.Rules.{OneOf}
-use Rattle.cpp_press_laws.proofs.ByKind.LeafKinds.{own-byte}
+use Rattle.cpp_press_laws.proofs.ByKind.LeafKinds.{own-byte, only-at}
 use Rattle.cpp_press_laws.proofs.ByKind.Known.{OpenedRead, opened-read, comes-as, BranchRead}
 
 -- ## Literals
@@ -121,53 +121,94 @@ literal-branch rule taken parts all around at old v new front is e =
 
 -- ## Addresses
 
-address : (around : Around) (at : ℕ) (old : State) (v : Value) (new : State)
-    → OpenedRead Kind.Address around at old v new Production.Address → KindFits Kind.Address around v old new
-unfolding parts_of between unfolding_.behind number_of_kind
-address around at old v new o =
+addressed-literal : (around : Around) (at : ℕ) (old : State) (v : Value) (new : State)
+    → OpenedRead Kind.AddressedLiteral around at old v new Production.EncodingLiteral → KindFits Kind.AddressedLiteral around v old new
+unfolding parts_of between number_of_kind
+addressed-literal around at old v new o =
     let a = o.goes tt in
     let b = a.onward in
-    let c = b.onward in
-    let d = c.onward in
-    let end = d.onward in
     let byte : ℕ = byte_of o.taken in
-    let vs = a.value ∷ b.value ∷ c.value ∷ d.value ∷ end.value ∷ [] in
-    let e : Term = tree_of c.value in
-    let one : WholeFits around e old c.after =
-    subst (λ s. WholeFits around e s c.after) (b.read.0 ∙ a.read.0) (c.read Kind.Encoding refl).fits in
-    comes-as (λ w s. KindFits Kind.Address around w old s) Production.Address tt byte around at old vs end.after v new end.onward
-    (subst (KindFits Kind.Address around (Meant Production.Address byte around vs) old) (sym (end.read.0 ∙ d.read.0))
-    (step.address-literal around byte old a.value b.value c.value d.value end.value old c.after (behind-bytes around e old c.after one)))
+    let e : Term = tree_of b.value in
+    let one : WholeFits around e old b.after = subst (λ s. WholeFits around e s b.after) a.read.0 (b.read Kind.Encoding refl).fits in
+    comes-as (λ w s. KindFits Kind.AddressedLiteral around w old s) Production.EncodingLiteral tt byte around at old (a.value ∷ b.value ∷ []) b.after v
+    new b.onward
+    (step.addressed-literal around byte old a.value b.value old b.after (behind-bytes around e old b.after one))
 
-pub address-branch : BranchRead Kind.Address
+pub addressed-literal-branch : BranchRead Kind.AddressedLiteral
 unfolding alternatives
-address-branch rule taken parts all around at old v new front is e =
-    λ outer. go (opened-read Kind.Address rule taken parts all around at old v new front is e)
+addressed-literal-branch rule taken parts all around at old v new front is e outer =
+    go (opened-read Kind.AddressedLiteral rule taken parts all around at old v new front is e)
   where
-    go : OneOf (alternatives Kind.Address) (OpenedRead Kind.Address around at old v new) → KindFits Kind.Address around v old new
-    go (inl o) = address around at old v new o
+    go : OneOf (alternatives Kind.AddressedLiteral) (OpenedRead Kind.AddressedLiteral around at old v new)
+        → KindFits Kind.AddressedLiteral around v old new
+    go (inl o) = addressed-literal around at old v new o
     go (inr none) = absurd none
 
--- as an argument, after the X
-address-expression : (around : Around) (at : ℕ) (old : State) (v : Value) (new : State) → around.prefix ≡ outermost
-    → OpenedRead Kind.ExpressionRest around at old v new Production.AddressExpression → KindFits Kind.ExpressionRest around v old new
+-- between L and E
+addressed : (around : Around) (at : ℕ) (old : State) (v : Value) (new : State) → around.prefix ≡ outermost
+    → OpenedRead Kind.AddressedExpression around at old v new Production.AddressedLiteral → KindFits Kind.AddressedExpression around v old new
 unfolding parts_of between meaning part unfolding_.behind number_of_kind
-address-expression around at old v new outer o =
+addressed around at old v new outer o =
     let a = o.goes tt in
     let b = a.onward in
-    comes-as (λ w s. KindFits Kind.ExpressionRest around w old s) Production.AddressExpression tt (byte_of o.taken) around at old
+    comes-as (λ w s. KindFits Kind.AddressedExpression around w old s) Production.AddressedLiteral tt (byte_of o.taken) around at old
     (a.value ∷ b.value ∷ []) b.after v new b.onward
-    (subst (λ s. KindFits Kind.Address around b.value s b.after) a.read.0 (b.read Kind.Address refl outer))
+    (subst (λ s. KindFits Kind.AddressedLiteral around a.value old s) (sym b.read.0) (a.read Kind.AddressedLiteral refl outer))
 
-pub expression-rest-branch : BranchRead Kind.ExpressionRest
+pub addressed-branch : BranchRead Kind.AddressedExpression
 unfolding alternatives
-expression-rest-branch rule taken parts all around at old v new front is e =
-    λ outer. go outer (opened-read Kind.ExpressionRest rule taken parts all around at old v new front is e)
+addressed-branch rule taken parts all around at old v new front is e outer =
+    go (opened-read Kind.AddressedExpression rule taken parts all around at old v new front is e)
   where
-    go : around.prefix ≡ outermost → OneOf (alternatives Kind.ExpressionRest) (OpenedRead Kind.ExpressionRest around at old v new)
-        → KindFits Kind.ExpressionRest around v old new
-    go outer (inl o) = address-expression around at old v new outer o
-    go outer (inr none) = absurd none
+    go : OneOf (alternatives Kind.AddressedExpression) (OpenedRead Kind.AddressedExpression around at old v new)
+        → KindFits Kind.AddressedExpression around v old new
+    go (inl o) = addressed around at old v new outer o
+    go (inr none) = absurd none
+
+-- after the a, the operator's second letter and its operand
+address-letter : (around : Around) (at : ℕ) (old : State) (v : Value) (new : State) → around.prefix ≡ outermost
+    → OpenedRead Kind.ExpressionAfterA around at old v new Production.AddressExpression → KindFits Kind.ExpressionAfterA around v old new
+unfolding alternatives parts_of between meaning part tree_of unfolding_.behind is_chain number_of_kind
+address-letter around at old v new outer o =
+    let a = o.goes tt in
+    let byte : ℕ = byte_of o.taken in
+    let letter : byte ≡ 100 = own-byte Production.AddressExpression o.taken o.byte o.takes refl
+    ∙ only-at Kind.ExpressionAfterA Production.AddressExpression 100 refl o.byte o.chosen in
+    let operand = a.read Kind.AddressedExpression refl outer in
+    comes-as (λ w s. KindFits Kind.ExpressionAfterA around w old s) Production.AddressExpression tt byte around at old (a.value ∷ []) a.after v new
+    a.onward (operand.0, ap (λ b. pair b (tree_of a.value) absent) letter ∙ ap (λ w. pair 100 (tree_of w) absent) operand.1, operand.2)
+
+pub expression-after-a-branch : BranchRead Kind.ExpressionAfterA
+unfolding alternatives
+expression-after-a-branch rule taken parts all around at old v new front is e outer =
+    go (opened-read Kind.ExpressionAfterA rule taken parts all around at old v new front is e)
+  where
+    go : OneOf (alternatives Kind.ExpressionAfterA) (OpenedRead Kind.ExpressionAfterA around at old v new)
+        → KindFits Kind.ExpressionAfterA around v old new
+    go (inl o) = address-letter around at old v new outer o
+    go (inr none) = absurd none
+
+-- after the X
+address : (around : Around) (at : ℕ) (old : State) (v : Value) (new : State) → around.prefix ≡ outermost
+    → OpenedRead Kind.Expression around at old v new Production.ExpressionA → KindFits Kind.Expression around v old new
+unfolding alternatives parts_of between meaning operation_by operation_or_address is_code part unfolding_.behind is_chain number_of_kind
+address around at old v new outer o =
+    let a = o.goes tt in
+    let byte : ℕ = byte_of o.taken in
+    let letter : byte ≡ 97 = own-byte Production.ExpressionA o.taken o.byte o.takes refl
+    ∙ only-at Kind.Expression Production.ExpressionA 97 refl o.byte o.chosen in
+    let operands = a.read Kind.ExpressionAfterA refl outer in
+    comes-as (λ w s. KindFits Kind.Expression around w old s) Production.ExpressionA tt byte around at old (a.value ∷ []) a.after v new
+    a.onward (operands.0, ap (λ b. operation_by b a.value) letter ∙ ap (λ w. operation_by 97 w) operands.1, operands.2)
+
+pub expression-branch : BranchRead Kind.Expression
+unfolding alternatives
+expression-branch rule taken parts all around at old v new front is e outer =
+    go (opened-read Kind.Expression rule taken parts all around at old v new front is e)
+  where
+    go : OneOf (alternatives Kind.Expression) (OpenedRead Kind.Expression around at old v new) → KindFits Kind.Expression around v old new
+    go (inl o) = address around at old v new outer o
+    go (inr none) = absurd none
 
 -- ## Lists
 

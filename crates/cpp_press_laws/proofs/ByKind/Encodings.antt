@@ -1,6 +1,6 @@
 -- Encodings that were read fit: their names and types are read in surroundings of their own.
-use Rattle.std.proofs.Common.{◌≡◌, ℕ, ◌+◌, ◌<◌, ◌≤◌, inl, inr, length, List, [], ◌∷◌, ◌++◌, Bool, true, false, cond, ◌||◌, nat_eq, Some, None, Ok, refl, ap, sym, subst, ◌∙◌, arith, lit≤}
-use Rattle.std.proofs.lemmas.Bool.{false≢true, eqb-true}
+use Rattle.std.proofs.Common.{◌≡◌, ℕ, ◌+◌, ◌<◌, ◌≤◌, inl, inr, length, List, [], ◌∷◌, ◌++◌, Bool, true, false, Some, Ok, refl, ap, sym, subst, ◌∙◌, arith, lit≤}
+use Rattle.std.proofs.lemmas.Bool.{false≢true}
 use Rattle.std.proofs.lemmas.List.{append_assoc}
 use Rattle.sym_shape.specs.declared.rule.Sym.{Sym}
 use Rattle.sym_shape.specs.declared.rule.Sym.TheVariants.{Kind as OfKind}
@@ -10,7 +10,7 @@ use Rattle.sym_link.specs.Unfold.{found, unfold_tree}
 use Rattle.cpp_grammar.specs.declared.kind.Kind.{Kind}
 use Rattle.cpp_grammar.specs.declared.production.Production.{Production}
 use Rattle.cpp_grammar.specs.KindNumbers.{ENCODING, SPECIAL, SPECIAL_MARK, SPECIAL_AFTER_G, COMPLETE_NAME, ITEMS}
-use Rattle.cpp_grammar.specs.Grammar.{alternatives, choose, pick, is_in, in_ranges, among, is_chain, number_of_kind, parts_of}
+use Rattle.cpp_grammar.specs.Grammar.{alternatives, choose, is_chain, number_of_kind, parts_of}
 use Rattle.cpp_grammar.specs.Table.{abi}
 use Rattle.cpp_grammar.specs.Term.{Thunk, Term, adjusting, covariant, non_virtual, by_table, symbol, function, of_name, thunk, nil, list, absent}
 use Rattle.cpp_grammar.specs.Scope.{has_return_type}
@@ -33,7 +33,7 @@ use Rattle.cpp_press_laws.proofs.Fits.Encodings.{AllAfter, AllShut}
 use Rattle.cpp_press_laws.proofs.Fits.Symbols.{StaysBehind, WholeFits, guard-fits, special-fits, thunk-fits, returning-fits, plain-function-fits, object-fits}
 use Rattle.cpp_press_laws.proofs.Fits.Sorts.{Meant, Later}
 use Rattle.cpp_press_laws.proofs.Fits.Places.{Ended, ended-as}
-use Rattle.cpp_press_laws.proofs.ByKind.LeafKinds.{own-byte}
+use Rattle.cpp_press_laws.proofs.ByKind.LeafKinds.{own-byte, only-at}
 use Rattle.cpp_press_laws.proofs.ByKind.Known.{EncodingRead, SpecialRead, KindRead, BranchRead, InFront, ShapeRead, OpenedRead, opened-read, kind-comes}
 
 -- ## Candidates around an encoding and in it
@@ -184,7 +184,7 @@ function-read around at old v new front o =
       prefix = tt;
     } in
     let items = h.holds Kind.Items (in_types at name) later g.after h.value h.after s h.is h.unfolds refl in
-    let d = part-came (OfKind ITEMS) (in_types at name) later g.after h.shape h.value h.after (known 41 (lit≤ tt)) s h.is h.unfolds in
+    let d = part-came (OfKind ITEMS) (in_types at name) later g.after h.shape h.value h.after (known ITEMS (lit≤ tt)) s h.is h.unfolds in
     let stays = stays-further around (in_types at name) at (later + length (spell h.shape)) old g.after h.after less refl
     (stays-behind around (in_name at) at later old g.after less refl front.placed.old c.grows) d.grows in
     ended-read (λ w t. EncodingRead around w old t) Production.Encoding byte around old (g.value ∷ h.value ∷ []) h.after v new
@@ -263,21 +263,13 @@ encoding-branch rule taken parts all around at old v new front is e =
 
 -- ## What comes after a G
 
-only-v : (byte : ℕ) → choose Kind.SpecialAfterG byte ≡ Some Production.SpecialName → byte ≡ 86
-unfolding choose alternatives pick is_in in_ranges among
-only-v byte chosen = go (nat_eq byte 86) refl chosen
-  where
-    go : (b : Bool) → nat_eq byte 86 ≡ b → cond (b || false) (Some Production.SpecialName) None ≡ Some Production.SpecialName → byte ≡ 86
-    go true is chosen = eqb-true byte 86 is
-    go false is chosen = absurd cc
-
 special-name-read : (around : Around) (at : ℕ) (old : State) (v : Value) (new : State)
     → OpenedRead Kind.SpecialAfterG around at old v new Production.SpecialName → KindRead Kind.SpecialAfterG around v old new
-unfolding parts_of between number_of_kind meaning part unfolding_.behind is_chain
+unfolding alternatives parts_of between number_of_kind meaning part unfolding_.behind is_chain
 special-name-read around at old v new o outer =
     let g = o.goes tt in
     let byte : ℕ = byte_of o.taken in
-    let letter : byte ≡ 86 = own-byte Production.SpecialName o.taken o.byte o.takes refl ∙ only-v o.byte o.chosen in
+    let letter : byte ≡ 86 = own-byte Production.SpecialName o.taken o.byte o.takes refl ∙ only-at Kind.SpecialAfterG Production.SpecialName 86 refl o.byte o.chosen in
     kind-comes Kind.SpecialAfterG Production.SpecialName tt byte around at old (g.value ∷ []) g.after v new g.onward
     (λ out. (
       g.value,

@@ -1,12 +1,11 @@
 -- What is known of what was read as each kind, and how a production's parts come to what is known of the whole.
-use Rattle.std.proofs.Common.{◌≡◌, ℕ, ◌+◌, ◌-◌, ◌<◌, ◌≤◌, ◌⊎◌, inl, inr, length, List, [], ◌∷◌, ◌++◌, Bool, true, false, cond, Some, None, Ok, Err, refl, ap, sym, subst, ◌∙◌, arith}
+use Rattle.std.proofs.Common.{◌≡◌, ℕ, ◌+◌, ◌<◌, ◌≤◌, ◌⊎◌, inl, inr, length, List, [], ◌∷◌, ◌++◌, Bool, true, false, cond, Some, Ok, Err, refl, ap, sym, subst, ◌∙◌, arith}
 use Rattle.std.specs.Prelude.{◌&&◌, ◌||◌, nat_lt}
-use Rattle.std.proofs.lemmas.Bool.{true≢false, false≢true, and_parts}
+use Rattle.std.proofs.lemmas.Bool.{true≢false, and_parts}
 use Rattle.std.proofs.lemmas.Bool.Decides.{nat_tests}
 use Rattle.sym_core.specs.Number.{AreDigitsOf}
 use Rattle.sym_shape.specs.declared.rule.Rule.{Rule}
 use Rattle.sym_shape.specs.declared.rule.Sym.{Sym}
-use Rattle.sym_core.specs.declared.refusal.Refusal.TheVariants.{BadReference}
 use Rattle.sym_shape.specs.declared.rule.Sym.TheVariants.{Kind as OfKind, Name, Number, Byte}
 use Rattle.sym_shape.specs.Law.{IsSymbol, AreSymbols}
 use Rattle.sym_shape.specs.Tree.{Tree as Shape, Forest, branch, grown, spell, IsTree, AreTrees}
@@ -17,14 +16,14 @@ use Rattle.cpp_grammar.specs.declared.production.Production.{Production}
 use Rattle.cpp_grammar.specs.KindNumbers.{KIND_COUNT}
 use Rattle.cpp_grammar.specs.Grammar.{Alternative, alternatives, choose, number_of_kind, parts_of, is_chain}
 use Rattle.cpp_grammar.specs.Table.{abi}
-use Rattle.cpp_grammar.specs.Term.{Term, Thunk, special, thunk, of_name, parameter, literal_operator}
+use Rattle.cpp_grammar.specs.Term.{Term, Thunk, special, thunk, of_name, literal_operator}
 use Rattle.cpp_grammar.specs.Values.{State, outermost, behind, Around, Value, nothing_there, letter, text, tree, piece, tree_of, piece_of, qualifiers_of, ref_of, letter_of, text_of, signed_of, adjustment_of}
-use Rattle.cpp_grammar.specs.References.{with_prefix, parameter_named}
-use Rattle.cpp_grammar.specs.Between.{in_name, in_types, in_signature, under_expansion, after, inside, Going, named_so_far, listed_so_far, parameter_so_far, argument_so_far, index_of, between}
+use Rattle.cpp_grammar.specs.References.{with_prefix}
+use Rattle.cpp_grammar.specs.Between.{after, Going, between}
 use Rattle.cpp_grammar.specs.Meaning.{discriminator_of}
 use Rattle.cpp_grammar.specs.Unfolding.{cpp, opening, close, byte_of}
 use Rattle.cpp_grammar.proofs.ClosedValues.{AllGood, GoodPrefix, held, good_where}
-use Rattle.cpp_grammar.proofs.ClosedStates.{Bare, Within, AllOld, old_later, old_grows, ok_same, behind_bind}
+use Rattle.cpp_grammar.proofs.ClosedStates.{Bare, Within, AllOld, old_later, old_grows, ok_same}
 use Rattle.cpp_grammar.proofs.ClosedParts.{StaysInside, Goes, goes_within}
 use Rattle.cpp_grammar.proofs.ClosedTrees.{is_encoding as holds_encoding, has_encoding, all_append, old_fits, grows_fits, one_good, or_true}
 use Rattle.cpp_grammar.proofs.Growing.{same_choice, each_below, below as below_, kept}
@@ -34,6 +33,7 @@ use Rattle.cpp_press_laws.specs.Fits.{in_type, in_name_with, any_type, names_typ
 use Rattle.cpp_press_laws.specs.Spellable.{IsSpellableName, IsSpellableNumber}
 use Rattle.cpp_press_laws.proofs.ByKind.Leaves.{name-read}
 use Rattle.cpp_press_laws.proofs.ByKind.LeafKinds.{byte-read, number-read}
+use Rattle.cpp_press_laws.proofs.ByKind.Steps.{lambdas-go}
 use Rattle.cpp_press_laws.proofs.ByKind.Rules.{AllOf, OneOf, Opened, opened, OnGoing, PartGoes, PartsGo}
 use Rattle.cpp_press_laws.proofs.Fits.Read.{Wherever}
 use Rattle.cpp_press_laws.proofs.Fits.Types.{TypeFits}
@@ -121,6 +121,9 @@ KindRead Kind.Component around v old new =
     (outer : Around) (t : Term) (start : State) → around ≡ after t true outer → Wherever outer start (is_encoding t ≡ false)
     → PrefixFits outer t start old → NestRead outer v start new
 KindRead Kind.ComponentAfterC around v old new =
+    (outer : Around) (t : Term) (start : State) → around ≡ after t true outer → Wherever outer start (is_encoding t ≡ false)
+    → PrefixFits outer t start old → NestRead outer v start new
+KindRead Kind.ConstructorAfterC around v old new =
     (outer : Around) (t : Term) (start : State) → around ≡ after t true outer → Wherever outer start (is_encoding t ≡ false)
     → PrefixFits outer t start old → NestRead outer v start new
 KindRead Kind.ConstructorDigit around v old new = MarkRead Kind.ConstructorDigit v old new
@@ -254,90 +257,6 @@ behind-a-byte : (p : Production) → is_chain p && has_encoding (parts_of p) ≡
 unfolding is_chain parts_of has_encoding holds_encoding number_of_kind
 behind-a-byte Production.Mark = refl
 behind-a-byte _ = refl
-
--- ## Surroundings of parts
-
-bare-next : (inner : Around) (vs : List Value) (s : State) (n : Next Value State Around) → LambdasAreBare inner
-    → ◌≡◌ {A = Going} (Ok (record { context = inner; values = vs; state = s })) (Ok n) → LambdasAreBare n.context
-bare-next inner vs s n bare e =
-    subst (λ m. LambdasAreBare m.context) (ok_same (record { context = inner; values = vs; state = s }) n e) bare
-
-bare-parameter : (around : Around) (place k : ℕ) (state : State) (n : Next Value State Around) → LambdasAreBare around
-    → parameter_so_far around place k [] state ≡ Ok n → LambdasAreBare n.context
-unfolding parameter_so_far listed_so_far after
-bare-parameter around place k state n bare e =
-    let b = behind_bind (parameter_named around place k state) (λ s. listed_so_far around (parameter k) [] s) n e in
-    bare-next (after (parameter k) true around) (tree (parameter k) true ∷ []) b.value n bare b.next
-
-abbrev argument-next : (around : Around) (k : ℕ) (old new : State) → Going
-argument-next around k old new = Ok (record { context = around; values = tree (parameter k) true ∷ []; state = record new { candidates = old.candidates } })
-
-bare-argument : (around : Around) (place k : ℕ) (state : State) (n : Next Value State Around) → LambdasAreBare around
-    → argument_so_far around place k state ≡ Ok n → LambdasAreBare n.context
-unfolding argument_so_far
-bare-argument around place k state n bare e =
-    let b = behind_bind (parameter_named around place k state) (argument-next around k state) n e in
-    bare-next around (tree (parameter k) true ∷ []) (record b.value { candidates = state.candidates }) n bare b.next
-
--- a lambda's signature has no scope, nor has what is in one
-lambdas-go : (p : Production) (around : Around) (place : ℕ) (vs : List Value) (state : State) (n : Next Value State Around)
-    → LambdasAreBare around → between p around place vs state ≡ Ok n → LambdasAreBare n.context
-unfolding between named_so_far listed_so_far after inside in_signature in_name in_types under_expansion parameter_so_far parameter_named argument_so_far
-lambdas-go Production.Encoding around place [] state n bare e = bare-next (in_name place) [] state n (λ is. absurd (false≢true is)) e
-lambdas-go Production.Encoding around place (v ∷ vs) state n bare e =
-    bare-next (in_types place (tree_of v)) (v ∷ vs) state n (λ is. absurd (false≢true is)) e
-lambdas-go Production.Special around place vs state n bare e = bare-next (in_name place) vs state n (λ is. absurd (false≢true is)) e
-lambdas-go Production.OtherSpecial around place vs state n bare e = bare-next (in_name place) vs state n (λ is. absurd (false≢true is)) e
-lambdas-go Production.LocalName around place [] state n bare e = bare-next around [] state n bare e
-lambdas-go Production.LocalName around place (v ∷ vs) state n bare e = bare-next (after (tree_of v) true around) (v ∷ vs) state n bare e
-lambdas-go Production.LocalType around place [] state n bare e = bare-next around [] state n bare e
-lambdas-go Production.LocalType around place (v ∷ vs) state n bare e = bare-next (after (tree_of v) true around) (v ∷ vs) state n bare e
-lambdas-go Production.InternalName around place (v ∷ []) state n bare e = bare-next _ _ state n bare e
-lambdas-go Production.SourceName around place (v ∷ []) state n bare e = bare-next _ _ state n bare e
-lambdas-go Production.LocalTypeName around place (v ∷ []) state n bare e = bare-next _ _ state n bare e
-lambdas-go Production.OperatorName around place (v ∷ []) state n bare e = bare-next _ _ state n bare e
-lambdas-go Production.OtherOperatorName around place (v ∷ []) state n bare e = bare-next _ _ state n bare e
-lambdas-go Production.OperatorNameWithC around place (v ∷ []) state n bare e = bare-next _ _ state n bare e
-lambdas-go Production.Conversion around place [] state n bare e = bare-next (inside around) [] state n bare e
-lambdas-go Production.Constructor around place (v ∷ []) state n bare e = bare-next _ _ state n bare e
-lambdas-go Production.Destructor around place (v ∷ []) state n bare e = bare-next _ _ state n bare e
-lambdas-go Production.StdName around place (v ∷ []) state n bare e = bare-next _ _ state n bare e
-lambdas-go Production.AbbreviatedName around place (v ∷ []) state n bare e = bare-next _ _ state n bare e
-lambdas-go Production.NestStd around place (v ∷ []) state n bare e = bare-next _ _ state n bare e
-lambdas-go Production.NestStd around place (v ∷ w ∷ []) state n bare e = bare-next _ _ state n bare e
-lambdas-go Production.NestTemplate around place (v ∷ []) state n bare e = bare-next _ _ state n bare e
-lambdas-go Production.NestParameter around place (v ∷ []) state n bare e = bare-parameter around place (index_of v) state n bare e
-lambdas-go Production.NestInternal around place (v ∷ []) state n bare e = bare-next _ _ state n bare e
-lambdas-go Production.NestSource around place (v ∷ []) state n bare e = bare-next _ _ state n bare e
-lambdas-go Production.NestLocalType around place (v ∷ []) state n bare e = bare-next _ _ state n bare e
-lambdas-go Production.NestArguments around place [] state n bare e = bare-next (inside around) [] (with_prefix around state) n bare e
-lambdas-go Production.NestArguments around place (v ∷ w ∷ []) state n bare e = bare-next _ _ _ n bare e
-lambdas-go Production.NestArguments around place (v ∷ w ∷ x ∷ []) state n bare e = bare-next _ _ state n bare e
-lambdas-go Production.NestInstance around place [] state n bare e = bare-next (inside around) [] (with_prefix around state) n bare e
-lambdas-go Production.NestInstance around place (v ∷ w ∷ []) state n bare e = bare-next _ _ state n bare e
-lambdas-go Production.Holder around place (v ∷ []) state n bare e = let clash : ◌≡◌ {A = Going} (Err (BadReference place)) (Ok n) = e in absurd cc
-lambdas-go Production.NestTag around place (v ∷ []) state n bare e = bare-next _ _ state n bare e
-lambdas-go Production.Tag around place (v ∷ []) state n bare e = bare-next _ _ state n bare e
-lambdas-go Production.TypeTag around place (v ∷ []) state n bare e = bare-next _ _ state n bare e
-lambdas-go Production.TaggedStdType around place (v ∷ []) state n bare e = bare-next _ _ state n bare e
-lambdas-go Production.NestNext around place [] state n bare e = bare-next _ _ _ n bare e
-lambdas-go Production.NestNext around place (v ∷ []) state n bare e = bare-next _ _ state n bare e
-lambdas-go Production.Arguments around place [] state n bare e = bare-next (inside around) [] (with_prefix around state) n bare e
-lambdas-go Production.PackArgument around place (v ∷ []) state n bare e = bare-next _ _ state n bare e
-lambdas-go Production.Lambda around place vs state n bare e = bare-next (in_signature around) vs state n (λ is. refl) e
-lambdas-go Production.Expansion around place vs state n bare e =
-    bare-next (under_expansion around) vs (record state { packs = None }) n bare e
-lambdas-go Production.Parameter around place (v ∷ []) state n bare e = bare-parameter around place (index_of v) state n bare e
-lambdas-go Production.ParameterExpression around place (v ∷ []) state n bare e = bare-argument around place (index_of v) state n bare e
-lambdas-go Production.BoundedArray around place (v ∷ []) state n bare e = bare-argument around place (index_of v) state n bare e
-lambdas-go Production.ParameterArgument around place (v ∷ []) state n bare e = bare-parameter around (place - 1) (index_of v) state n bare e
-lambdas-go Production.ValueOf around place vs state n bare e = bare-next (in_signature around) vs state n (λ is. refl) e
-lambdas-go Production.OfConcept around place vs state n bare e = bare-next (in_signature around) vs state n (λ is. refl) e
-lambdas-go Production.TypeWithS around place (v ∷ []) state n bare e = bare-next _ _ state n bare e
-lambdas-go Production.LvalueItem around place (v ∷ []) state n bare e = bare-next _ _ _ n bare e
-lambdas-go Production.RvalueItem around place (v ∷ []) state n bare e = bare-next _ _ _ n bare e
-lambdas-go Production.IntegerLiteral around place (v ∷ []) state n bare e = bare-next _ _ _ n bare e
-lambdas-go _ around place vs state n bare e = bare-next around vs state n bare e
 
 -- ## Parts
 
@@ -509,12 +428,14 @@ taken-as j k all around at old v new p o = record {
 
 abbrev IsPlain : Production → Type 0
 IsPlain Production.Substitution = ⊥
+IsPlain Production.Inheriting = ⊥
 IsPlain _ = Unit {0}
 
 closes-plain : (p : Production) → IsPlain p → (byte : ℕ) (around : Around) (at : ℕ) (old : State) (vs : List Value) (mid : State)
     → close p byte around at old vs mid ≡ Ok (found (Meant p byte around vs) (Later p byte around old vs mid))
 unfolding close
 closes-plain Production.Substitution plain byte around at old vs mid = absurd plain
+closes-plain Production.Inheriting plain byte around at old vs mid = absurd plain
 closes-plain _ plain byte around at old vs mid = refl
 
 -- what holds of a production's meaning, and the state after it, holds of what it came to

@@ -1,6 +1,6 @@
 -- Leaves that were read: marks, letters, numbers, offsets and discriminators can be spelled, and nothing else changes.
-use Rattle.std.proofs.Common.{◌≡◌, ℕ, ◌<◌, ◌⊎◌, inl, inr, length, List, [], ◌∷◌, Bool, true, false, cond, not, ◌&&◌, nat_eq, Some, Ok, refl, ap, arith, sym, subst, ◌∙◌}
-use Rattle.std.proofs.lemmas.Bool.{false≢true}
+use Rattle.std.proofs.Common.{◌≡◌, ℕ, ◌<◌, ◌⊎◌, inl, inr, length, List, [], ◌∷◌, Bool, true, false, cond, not, ◌&&◌, ◌||◌, nat_eq, None, Some, Ok, refl, ap, arith, sym, subst, ◌∙◌}
+use Rattle.std.proofs.lemmas.Bool.{false≢true, eqb-true}
 use Rattle.std.proofs.lemmas.Bool.Decides.{nat_tests}
 use Rattle.sym_core.specs.declared.NumberKind.{NumberKind}
 use Rattle.sym_core.specs.declared.NumberKind.TheVariants.{Decimal, Digits}
@@ -46,6 +46,16 @@ pub own-byte : (p : Production) (taken : List ℕ) (byte : ℕ) → taken ≡ co
     → byte_of taken ≡ byte
 unfolding byte_of
 own-byte p taken byte takes is = ap byte_of (takes ∙ ap (λ b. cond b [] (byte ∷ [])) is)
+
+-- the one byte at which a kind is
+pub only-at : (kind : Kind) (p : Production) (c : ℕ) → alternatives kind ≡ record { ranges = []; singles = c ∷ []; production = p } ∷ []
+    → (byte : ℕ) → choose kind byte ≡ Some p → byte ≡ c
+unfolding choose pick is_in in_ranges among
+only-at kind p c are byte chosen = go (nat_eq byte c) refl (ap (λ all. pick all byte) (sym are) ∙ chosen)
+  where
+    go : (b : Bool) → nat_eq byte c ≡ b → cond (b || false) (Some p) None ≡ Some p → byte ≡ c
+    go true is h = eqb-true byte c is
+    go false is h = absurd cc
 
 -- ## Marks
 

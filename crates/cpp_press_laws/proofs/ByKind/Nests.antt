@@ -173,6 +173,28 @@ component-after-c-branch rule taken parts all around at old v new front is e out
         (renamed names_function names_member inner v old new function-member (operator-with-c-comes Kind.ComponentAfterC inner at old v new o))
     go (inr none) = absurd none
 
+any-constructor : (outer : Around) (t : Term) (start : State) (at : ℕ) (old : State) (v : Value) (new : State)
+    → Wherever outer start (is_encoding t ≡ false) → PrefixFits outer t start old
+    → OpenedRead Kind.Component (after t true outer) at old v new Production.AnyConstructor → NestRead outer v start new
+unfolding parts_of number_of_kind between meaning part unfolding_.behind
+any-constructor outer t start at old v new apart prefix o =
+    let a = o.goes tt in
+    comes-as (λ w s. NestRead outer w start s) Production.AnyConstructor tt (byte_of o.taken) (after t true outer) at old (a.value ∷ []) a.after v new
+    a.onward (a.read Kind.ConstructorAfterC refl outer t start refl apart prefix)
+
+pub constructor-after-c-branch : BranchRead Kind.ConstructorAfterC
+unfolding alternatives
+constructor-after-c-branch rule taken parts all around at old v new front is e outer t start same apart prefix =
+    go (subst (λ r. OneOf (alternatives Kind.ConstructorAfterC) (OpenedRead Kind.ConstructorAfterC r at old v new)) same
+    (opened-read Kind.ConstructorAfterC rule taken parts all around at old v new front is e))
+  where
+    inner : Around
+    inner = after t true outer
+
+    go : OneOf (alternatives Kind.ConstructorAfterC) (OpenedRead Kind.ConstructorAfterC inner at old v new) → NestRead outer v start new
+    go (inl o) = component-piece outer t start old v new apart prefix (constructor-comes Kind.ConstructorAfterC inner at old v new o)
+    go (inr none) = absurd none
+
 pub component-branch : BranchRead Kind.Component
 unfolding alternatives
 component-branch rule taken parts all around at old v new front is e outer t start same apart prefix =
@@ -192,7 +214,7 @@ component-branch rule taken parts all around at old v new front is e outer t sta
     typed o = piece (renamed names_type names_member inner v old new (λ p names. begun p (type-begins p names)) o)
 
     go : OneOf (alternatives Kind.Component) (OpenedRead Kind.Component inner at old v new) → NestRead outer v start new
-    go (inl o) = piece (constructor-comes Kind.Component inner at old v new o)
+    go (inl o) = any-constructor outer t start at old v new apart prefix o
     go (inr (inl o)) = piece (destructor-comes Kind.Component inner at old v new o)
     go (inr (inr (inl o))) =
         piece (renamed begins_name names_member inner v old new begun (internal-comes Kind.Component inner at old v new o))

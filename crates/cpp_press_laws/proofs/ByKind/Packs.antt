@@ -1,5 +1,6 @@
 -- Outside of expansions nothing that was read has named packs.
-use Rattle.std.proofs.Common.{◌≡◌, ℕ, ◌+◌, ◌-◌, length, List, [], ◌∷◌, ◌++◌, Bool, true, false, not, ◌||◌, ◌&&◌, nat_eq, nat_lt, slice_get, Option, Some, None, Result, Ok, Err, refl, ap, sym, subst, ◌∙◌}
+use Rattle.std.proofs.Common.{◌≡◌, ℕ, ◌+◌, ◌-◌, length, List, [], ◌∷◌, ◌++◌, Bool, true, false, cond, not, ◌||◌, ◌&&◌, nat_eq, nat_lt, slice_get, Option, Some, None, Result, Ok, Err, refl, ap, sym, subst, ◌∙◌}
+use Rattle.std.proofs.lemmas.Bool.{false≢true}
 use Rattle.sym_core.specs.declared.refusal.Refusal.{Refusal}
 use Rattle.sym_core.specs.declared.refusal.Refusal.TheVariants.{BadReference}
 use Rattle.sym_core.specs.declared.NumberKind.TheVariants.{Seq36}
@@ -11,13 +12,19 @@ use Rattle.sym_link.specs.Unfold.{found, alone, standing, unfold_tree, unfold_fo
 use Rattle.cpp_grammar.specs.declared.production.Production.{Production}
 use Rattle.cpp_grammar.specs.Term.{Term, parameter}
 use Rattle.cpp_grammar.specs.Scope.{count, element, length_if_pack, is_open}
-use Rattle.cpp_grammar.specs.Values.{Candidate, State, Around, Value, tree, prefix_tree, prefix_listed, is_listed, text_of, tree_of, part}
+use Rattle.cpp_grammar.specs.Values.{Candidate, State, Around, Value, nothing_there, tree, prefix_tree, prefix_listed, is_listed, text_of, tree_of, part}
 use Rattle.cpp_grammar.specs.References.{appended, is_function_type, with_type, with_unqualified, with_prefix, with_packs, packs_in, substituted, parameter_named}
-use Rattle.cpp_grammar.specs.Between.{in_name, in_types, in_signature, after, inside, Going, named_so_far, listed_so_far, parameter_so_far, argument_so_far, index_of, between}
+use Rattle.cpp_grammar.specs.Between.{in_name, in_types, in_signature, after, inside, Going, index_of, between}
+use Rattle.cpp_grammar.specs.Meaning.{meaning}
+use Rattle.cpp_grammar.specs.Row as row
+use Rattle.cpp_grammar.specs.Row.{Where, in_its_name, in_its_types, under_it, Gain, the_prefix, type_of, unqualified_of, itself, Before, quiet, goes, becomes, tests, holds, unread, Row, before_part}
+use Rattle.cpp_grammar.specs.Meant.{around_part, packs_within, gained, made, tested, done, state_after}
+use Rattle.cpp_grammar.specs.Rows.{row_of}
 use Rattle.cpp_grammar.specs.Unfolding as unfolding_
 use Rattle.cpp_grammar.specs.Unfolding.{opening, close, production_at, byte_of, cpp}
 use Rattle.cpp_grammar.proofs.ClosedStates.{ok_same, behind_bind}
 use Rattle.cpp_grammar.proofs.ClosedTrees.{opening_keeps}
+use Rattle.cpp_grammar.proofs.Steps.{all_pass, step_passes}
 use Rattle.cpp_press_laws.proofs.ByKind.Rules.{AllOf, every-shape}
 
 -- ## States
@@ -106,122 +113,121 @@ record Outside (state : State) (next : Next Value State Around) : Type 0 where
   expands : next.context.in_expansion ≡ false
   packs : next.state.packs ≡ state.packs
 
+-- a production that names no packs anew
 abbrev NoExpansion : Production → Type 0
-NoExpansion Production.Expansion = ⊥
-NoExpansion _ = Unit {0}
+NoExpansion p = (row_of p).restores_packs ≡ false
 
-goes : (state : State) (inner : Around) (vs : List Value) (new : State) (next : Next Value State Around) → inner.in_expansion ≡ false
+outside-next : (state : State) (inner : Around) (vs : List Value) (new : State) (next : Next Value State Around) → inner.in_expansion ≡ false
     → new.packs ≡ state.packs → ◌≡◌ {A = Going} (Ok (record { context = inner; values = vs; state = new })) (Ok next) → Outside state next
-goes state inner vs new next outside packs e =
+outside-next state inner vs new next outside packs e =
     let whole : Next Value State Around = record { context = inner; values = vs; state = new } in
     subst (Outside state) (ok_same whole next e) (record { expands = outside; packs = packs })
 
-parameter-goes : (around : Around) (place k : ℕ) (state : State) (next : Next Value State Around) → around.in_expansion ≡ false
-    → parameter_so_far around place k [] state ≡ Ok next → Outside state next
-unfolding parameter_so_far listed_so_far after
-parameter-goes around place k state next outside e =
-    let b = behind_bind (parameter_named around place k state) (λ s. listed_so_far around (parameter k) [] s) next e in
-    goes state (after (parameter k) true around) _ b.value next outside (parameter-kept around place k state b.value outside b.is) b.next
+unfoldable stays_outside : Before → Bool
+stays_outside (goes gain under_it) = false
+stays_outside _ = true
 
-abbrev argument-next : (around : Around) (k : ℕ) (old new : State) → Going
-argument-next around k old new = Ok (record { context = around; values = tree (parameter k) true ∷ []; state = record new { candidates = old.candidates } })
+-- an expansion's packs are those around it again
+expansions-restore : (p : Production) → (row_of p).restores_packs || all_pass stays_outside (row_of p).before (row_of p).onward ≡ true
+unfolding row_of all_pass stays_outside
+expansions-restore Production.Mark = refl
+expansions-restore _ = refl
 
-argument-goes : (around : Around) (place k : ℕ) (state : State) (next : Next Value State Around) → around.in_expansion ≡ false
-    → argument_so_far around place k state ≡ Ok next → Outside state next
-unfolding argument_so_far
-argument-goes around place k state next outside e =
-    let b = behind_bind (parameter_named around place k state) (argument-next around k state) next e in
-    goes state around _ (record b.value { candidates = state.candidates }) next outside (parameter-kept around place k state b.value outside b.is) b.next
+or-second : (a b : Bool) → a ≡ false → a || b ≡ true → b ≡ true
+or-second true b no_ h = cc
+or-second false b no_ h = h
+
+gained-kept : (gain : Gain) (around : Around) (vs : List Value) (v : Value) (state : State) → (gained gain around vs v state).packs ≡ state.packs
+unfolding gained appended
+gained-kept row.nothing around vs v state = refl
+gained-kept the_prefix around vs v state = prefix-kept around state
+gained-kept (type_of k) around vs v state = type-kept around (part vs k) state
+gained-kept (unqualified_of k) around vs v state = unqualified-kept around (part vs k) state
+gained-kept itself around vs v state = refl
+
+named-outside : (is_in is_name : Bool) (around : Around) (t : Term) (vs : List Value) (state new : State) (next : Next Value State Around)
+    → around.in_expansion ≡ false → new.packs ≡ state.packs
+    → ◌≡◌ {A = Going} (Ok (record { context = cond is_name (after t is_in around) around; values = vs; state = new })) (Ok next)
+    → Outside state next
+unfolding after
+named-outside is_in true around t vs state new next outside packs e = outside-next state (after t is_in around) vs new next outside packs e
+named-outside is_in false around t vs state new next outside packs e = outside-next state around vs new next outside packs e
+
+candidate-kept : (around : Around) (t : Term) (state : State) (is_candidate : Bool) → (cond is_candidate (appended around t state) state).packs ≡ state.packs
+unfolding appended
+candidate-kept around t state true = refl
+candidate-kept around t state false = refl
+
+tested-kept : (is_name : Bool) (now before : State) → now.packs ≡ before.packs
+    → (cond is_name now (record now { candidates = before.candidates })).packs ≡ before.packs
+tested-kept true now before same = same
+tested-kept false now before same = same
+
+goes-outside : (gain : Gain) (w : Where) (around : Around) (place : ℕ) (vs : List Value) (state : State) (next : Next Value State Around)
+    → stays_outside (goes gain w) ≡ true → around.in_expansion ≡ false → done (goes gain w) around place vs state ≡ Ok next → Outside state next
+unfolding stays_outside done around_part packs_within in_name in_types in_signature after inside
+goes-outside gain under_it around place vs state next stays outside e = absurd (false≢true stays)
+goes-outside gain in_its_name around place vs state next stays outside e =
+    outside-next state _ vs _ next refl (gained-kept gain around vs nothing_there state) e
+goes-outside gain in_its_types around place vs state next stays outside e =
+    outside-next state _ vs _ next refl (gained-kept gain around vs nothing_there state) e
+goes-outside gain w around place vs state next stays outside e =
+    outside-next state (around_part around place vs w) vs (packs_within w (gained gain around vs nothing_there state)) next outside
+    (gained-kept gain around vs nothing_there state) e
+
+done-outside : (b : Before) (around : Around) (place : ℕ) (vs : List Value) (state : State) (next : Next Value State Around)
+    → stays_outside b ≡ true → around.in_expansion ≡ false → done b around place vs state ≡ Ok next → Outside state next
+unfolding done tested
+done-outside quiet around place vs state next stays outside e = outside-next state around vs state next outside refl e
+done-outside (goes gain w) around place vs state next stays outside e = goes-outside gain w around place vs state next stays outside e
+done-outside (becomes m is_in is_name is_candidate) around place vs state next stays outside e =
+    let t = made 0 around vs m in
+    named-outside is_in is_name around t _ state (cond is_candidate (appended around t state) state) next outside
+    (candidate-kept around t state is_candidate) e
+done-outside (tests after_t is_name) around place vs state next stays outside e =
+    let k : ℕ = index_of (part vs 0) in
+    let at : ℕ = cond after_t (place - 1) place in
+    let b = behind_bind (parameter_named around at k state) (λ s. tested is_name around (parameter k) vs s state) next e in
+    named-outside true is_name around (parameter k) _ state (cond is_name b.value (record b.value { candidates = state.candidates })) next outside
+    (tested-kept is_name b.value state (parameter-kept around at k state b.value outside b.is)) b.next
+done-outside holds around place vs state next stays outside e = let clash : ◌≡◌ {A = Going} (Err (BadReference place)) (Ok next) = e in absurd cc
+done-outside unread around place vs state next stays outside e = let clash : ◌≡◌ {A = Going} (Err (BadReference place)) (Ok next) = e in absurd cc
 
 between-outside : (p : Production) (around : Around) (place : ℕ) (vs : List Value) (state : State) (next : Next Value State Around)
     → NoExpansion p → around.in_expansion ≡ false → between p around place vs state ≡ Ok next → Outside state next
-unfolding between named_so_far listed_so_far after inside in_name in_types in_signature appended parameter_so_far parameter_named argument_so_far
-between-outside Production.Encoding around place [] state next no_ outside e = goes state _ _ state next refl refl e
-between-outside Production.Encoding around place (v ∷ vs) state next no_ outside e = goes state _ _ state next refl refl e
-between-outside Production.Special around place vs state next no_ outside e = goes state _ _ state next refl refl e
-between-outside Production.OtherSpecial around place vs state next no_ outside e = goes state _ _ state next refl refl e
-between-outside Production.LocalName around place (v ∷ vs) state next no_ outside e = goes state _ _ state next outside refl e
-between-outside Production.LocalType around place (v ∷ vs) state next no_ outside e = goes state _ _ state next outside refl e
-between-outside Production.InternalName around place (v ∷ []) state next no_ outside e = goes state _ _ state next outside refl e
-between-outside Production.SourceName around place (v ∷ []) state next no_ outside e = goes state _ _ state next outside refl e
-between-outside Production.LocalTypeName around place (v ∷ []) state next no_ outside e = goes state _ _ state next outside refl e
-between-outside Production.OperatorName around place (v ∷ []) state next no_ outside e = goes state _ _ state next outside refl e
-between-outside Production.OtherOperatorName around place (v ∷ []) state next no_ outside e = goes state _ _ state next outside refl e
-between-outside Production.OperatorNameWithC around place (v ∷ []) state next no_ outside e = goes state _ _ state next outside refl e
-between-outside Production.Conversion around place [] state next no_ outside e = goes state _ _ state next outside refl e
-between-outside Production.Constructor around place (v ∷ []) state next no_ outside e = goes state _ _ state next outside refl e
-between-outside Production.Destructor around place (v ∷ []) state next no_ outside e = goes state _ _ state next outside refl e
-between-outside Production.StdName around place (v ∷ []) state next no_ outside e = goes state _ _ state next outside refl e
-between-outside Production.AbbreviatedName around place (v ∷ []) state next no_ outside e = goes state _ _ state next outside refl e
-between-outside Production.NestStd around place (v ∷ []) state next no_ outside e = goes state _ _ state next outside refl e
-between-outside Production.NestStd around place (v ∷ w ∷ []) state next no_ outside e = goes state _ _ state next outside refl e
-between-outside Production.NestTemplate around place (v ∷ []) state next no_ outside e = goes state _ _ state next outside refl e
-between-outside Production.NestParameter around place (v ∷ []) state next no_ outside e =
-    parameter-goes around place (index_of v) state next outside e
-between-outside Production.NestInternal around place (v ∷ []) state next no_ outside e = goes state _ _ state next outside refl e
-between-outside Production.NestSource around place (v ∷ []) state next no_ outside e = goes state _ _ state next outside refl e
-between-outside Production.NestLocalType around place (v ∷ []) state next no_ outside e = goes state _ _ state next outside refl e
-between-outside Production.NestArguments around place [] state next no_ outside e =
-    goes state _ _ (with_prefix around state) next outside (prefix-kept around state) e
-between-outside Production.NestArguments around place (v ∷ w ∷ []) state next no_ outside e = goes state _ _ _ next outside refl e
-between-outside Production.NestArguments around place (v ∷ w ∷ x ∷ []) state next no_ outside e = goes state _ _ state next outside refl e
-between-outside Production.NestInstance around place [] state next no_ outside e =
-    goes state _ _ (with_prefix around state) next outside (prefix-kept around state) e
-between-outside Production.NestInstance around place (v ∷ w ∷ []) state next no_ outside e = goes state _ _ state next outside refl e
-between-outside Production.Holder around place (v ∷ []) state next no_ outside e = let clash : ◌≡◌ {A = Going} (Err (BadReference place)) (Ok next) = e in absurd cc
-between-outside Production.NestTag around place (v ∷ []) state next no_ outside e = goes state _ _ state next outside refl e
-between-outside Production.Tag around place (v ∷ []) state next no_ outside e = goes state _ _ state next outside refl e
-between-outside Production.TypeTag around place (v ∷ []) state next no_ outside e = goes state _ _ state next outside refl e
-between-outside Production.TaggedStdType around place (v ∷ []) state next no_ outside e = goes state _ _ state next outside refl e
-between-outside Production.NestNext around place [] state next no_ outside e =
-    goes state _ _ (with_prefix around state) next outside (prefix-kept around state) e
-between-outside Production.NestNext around place (v ∷ []) state next no_ outside e = goes state _ _ state next outside refl e
-between-outside Production.Arguments around place [] state next no_ outside e =
-    goes state _ _ (with_prefix around state) next outside (prefix-kept around state) e
-between-outside Production.PackArgument around place (v ∷ []) state next no_ outside e = goes state _ _ state next outside refl e
-between-outside Production.Lambda around place vs state next no_ outside e = goes state _ _ state next outside refl e
-between-outside Production.Parameter around place (v ∷ []) state next no_ outside e =
-    parameter-goes around place (index_of v) state next outside e
-between-outside Production.ParameterExpression around place (v ∷ []) state next no_ outside e =
-    argument-goes around place (index_of v) state next outside e
-between-outside Production.BoundedArray around place (v ∷ []) state next no_ outside e =
-    argument-goes around place (index_of v) state next outside e
-between-outside Production.ParameterArgument around place (v ∷ []) state next no_ outside e =
-    parameter-goes around (place - 1) (index_of v) state next outside e
-between-outside Production.ValueOf around place vs state next no_ outside e = goes state _ _ state next outside refl e
-between-outside Production.OfConcept around place vs state next no_ outside e = goes state _ _ state next outside refl e
-between-outside Production.TypeWithS around place (v ∷ []) state next no_ outside e = goes state _ _ state next outside refl e
-between-outside Production.LvalueItem around place (v ∷ []) state next no_ outside e = goes state _ _ _ next outside refl e
-between-outside Production.RvalueItem around place (v ∷ []) state next no_ outside e = goes state _ _ _ next outside refl e
-between-outside Production.IntegerLiteral around place (v ∷ []) state next no_ outside e =
-    goes state _ _ (with_type around v state) next outside (type-kept around v state) e
-between-outside Production.Expansion around place vs state next no_ outside e = absurd no_
-between-outside _ around place vs state next no_ outside e = goes state around vs state next outside refl e
+unfolding between
+between-outside p around place vs state next no_ outside e =
+    done-outside (before_part (row_of p) (length vs)) around place vs state next
+    (step_passes stays_outside (row_of p)
+    (or-second (row_of p).restores_packs (all_pass stays_outside (row_of p).before (row_of p).onward) no_ (expansions-restore p)) (length vs))
+    outside e
 
 -- ## Shapes
+
+substitution-plain : NoExpansion Production.Substitution
+unfolding row_of
+substitution-plain = refl
+
+after-kept : (does : Row) (around : Around) (began : State) (v : Value) (vs : List Value) (state : State)
+    → (does.restores_packs ≡ false → state.packs ≡ began.packs) → (state_after does around began v vs state).packs ≡ began.packs
+unfolding state_after
+after-kept does around began v vs state same = go does.restores_packs same
+  where
+    go : (b : Bool) → (b ≡ false → state.packs ≡ began.packs)
+        → (cond b (record (gained does.gain around vs v state) { packs = began.packs }) (gained does.gain around vs v state)).packs ≡ began.packs
+    go true h = refl
+    go false h = gained-kept does.gain around vs v state ∙ h refl
 
 close-kept : (p : Production) (byte : ℕ) (around : Around) (place : ℕ) (began : State) (vs : List Value) (state : State) (r : Found Value State)
     → around.in_expansion ≡ false → (NoExpansion p → state.packs ≡ began.packs) → close p byte around place began vs state ≡ Ok r
     → r.state.packs ≡ began.packs
-unfolding close unfolding_.behind appended
+unfolding close unfolding_.behind
 close-kept Production.Substitution byte around place began vs state r outside same e =
-    substituted-kept around (place - 1) (slice_get state.candidates (counted_value Seq36 (text_of (part vs 0)))) state r outside e ∙ same tt
-close-kept Production.PlainType byte around place began vs state r outside same e =
-    ap (λ x. x.state.packs) (sym (ok_same _ r e)) ∙ type-kept around (part vs 0) state ∙ same tt
-close-kept Production.PlainArgument byte around place began vs state r outside same e =
-    ap (λ x. x.state.packs) (sym (ok_same _ r e)) ∙ type-kept around (part vs 0) state ∙ same tt
-close-kept Production.ArgumentWithT byte around place began vs state r outside same e =
-    ap (λ x. x.state.packs) (sym (ok_same _ r e)) ∙ type-kept around (part vs 0) state ∙ same tt
-close-kept Production.TypeWithD byte around place began vs state r outside same e =
-    ap (λ x. x.state.packs) (sym (ok_same _ r e)) ∙ type-kept around (part vs 0) state ∙ same tt
-close-kept Production.ItemWithD byte around place began vs state r outside same e =
-    ap (λ x. x.state.packs) (sym (ok_same _ r e)) ∙ type-kept around (part vs 0) state ∙ same tt
-close-kept Production.QualifiedPlain byte around place began vs state r outside same e =
-    ap (λ x. x.state.packs) (sym (ok_same _ r e)) ∙ unqualified-kept around (part vs 0) state ∙ same tt
-close-kept Production.PlainWithD byte around place began vs state r outside same e =
-    ap (λ x. x.state.packs) (sym (ok_same _ r e)) ∙ unqualified-kept around (part vs 0) state ∙ same tt
-close-kept Production.Expansion byte around place began vs state r outside same e = ap (λ x. x.state.packs) (sym (ok_same _ r e))
-close-kept _ byte around place began vs state r outside same e = ap (λ x. x.state.packs) (sym (ok_same _ r e)) ∙ same tt
+    substituted-kept around (place - 1) (slice_get state.candidates (counted_value Seq36 (text_of (part vs 0)))) state r outside e ∙ same substitution-plain
+close-kept Production.Inheriting byte around place began vs state r outside same e =
+    let clash : ◌≡◌ {A = Result (Found Value State) Refusal} (Err (BadReference place)) (Ok r) = e in absurd cc
+close-kept p byte around place began vs state r outside same e =
+    ap (λ x. x.state.packs) (sym (ok_same _ r e)) ∙ after-kept (row_of p) around began (meaning p byte around vs) vs state same
 
 -- outside of expansions a shape leaves the packs as they are
 abbrev pub PacksKept : Shape → Type 0

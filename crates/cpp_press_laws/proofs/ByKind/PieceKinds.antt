@@ -389,10 +389,10 @@ lambda-type around at old v new o =
     (last-digits j.shape j.others inner _ i.after j.value j.after j.is trees4 j.unfolds))))))) in
     let good : IsLocalNumber k =
     subst (λ ds. IsLocalNumber (local_number ds)) (told []) (tested-number (at - 1) (last_token o.parts []) old o.opens) in
-    let first = tree_good g.shape (OfKind ITEM) inner _ old (found (g.value ∷ []) g.after) (known 30 (lit≤ tt)) g.is g.front.placed.encoding
+    let first = tree_good g.shape (OfKind ITEM) inner _ old (found (g.value ∷ []) g.after) (known ITEM (lit≤ tt)) g.is g.front.placed.encoding
     g.front.opening g.front.prefix g.front.placed.old g.unfolds in
     let rest =
-    tree_good h.shape (OfKind ITEMS) inner _ g.after (found (h.value ∷ []) h.after) (known 41 (lit≤ tt)) h.is h.front.placed.encoding
+    tree_good h.shape (OfKind ITEMS) inner _ g.after (found (h.value ∷ []) h.after) (known ITEMS (lit≤ tt)) h.is h.front.placed.encoding
     h.front.opening h.front.prefix h.front.placed.old h.unfolds in
     let grows = grows_then false inner _ _ old g.after h.after (omega arith) first.grows rest.grows in
     let items = h.read Kind.Items refl refl in

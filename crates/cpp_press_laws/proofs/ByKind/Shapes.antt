@@ -23,8 +23,8 @@ use Rattle.cpp_press_laws.proofs.ByKind.References.{abbreviation-branch}
 use Rattle.cpp_press_laws.proofs.ByKind.Empty.{empty-read}
 use Rattle.cpp_press_laws.proofs.ByKind.Root.{read-fits}
 use Rattle.cpp_press_laws.proofs.ByKind.PieceKinds.{source-or-local-branch, unqualified-branch, operator-branch, other-operator-branch, special-mark-branch, anonymous-branch, integer-branch, call-offset-branch, discriminator-branch, discriminator-rest-branch, restrict-branch, volatile-branch, const-branch, ref-branch, c-linkage-branch, zero-branch, bit-branch, constructor-digit-branch, destructor-digit-branch, operator-after-n-branch, operator-after-d-branch, operator-after-a-branch, operator-after-p-branch, operator-after-c-branch, operator-after-m-branch, operator-after-r-branch, operator-after-o-branch, operator-after-e-branch, operator-after-s-branch, operator-after-i-branch, operator-after-g-branch, operator-after-l-branch}
-use Rattle.cpp_press_laws.proofs.ByKind.Arguments.{argument-list-branch, arguments-first-branch, pack-list-branch, literal-branch, literal-after-d-branch, address-branch, expression-rest-branch}
-use Rattle.cpp_press_laws.proofs.ByKind.Nests.{nest-branch, nest-after-s-branch, nest-rest-branch, nest-rest-alone-branch, nest-rest-or-end-branch, nest-more-or-end-branch, nest-tail-branch, component-branch, component-after-c-branch}
+use Rattle.cpp_press_laws.proofs.ByKind.Arguments.{argument-list-branch, arguments-first-branch, pack-list-branch, literal-branch, literal-after-d-branch, addressed-literal-branch, addressed-branch, expression-after-a-branch, expression-branch}
+use Rattle.cpp_press_laws.proofs.ByKind.Nests.{nest-branch, nest-after-s-branch, nest-rest-branch, nest-rest-alone-branch, nest-rest-or-end-branch, nest-more-or-end-branch, nest-tail-branch, component-branch, component-after-c-branch, constructor-after-c-branch}
 use Rattle.cpp_press_laws.proofs.ByKind.Names.{arguments-branch, maybe-arguments-branch, arguments-alone-branch, argument-after-t-branch, type-after-s-branch, type-in-std-branch, maybe-tags-branch, name-after-s-branch, with-s-solid, parameter-solid, nested-solid, source-solid, local-type-name-solid, source-own, internal-own, local-type-own, operator-own, with-s-own}
 use Rattle.cpp_press_laws.proofs.ByKind.Encodings.{encoding-branch, special-branch, special-after-g-branch}
 use Rattle.cpp_press_laws.proofs.ByKind.Entities.{entity-branch, type-entity-branch, local-type-solid, local-name-read, nested-name-read}
@@ -153,6 +153,7 @@ kind-branch Kind.NestRest = nest-rest-branch
 kind-branch Kind.NestRestAlone = nest-rest-alone-branch
 kind-branch Kind.NestTail = nest-tail-branch
 kind-branch Kind.Component = component-branch
+kind-branch Kind.ConstructorAfterC = constructor-after-c-branch
 kind-branch Kind.ConstructorDigit = constructor-digit-branch
 kind-branch Kind.DestructorDigit = destructor-digit-branch
 kind-branch Kind.Abbreviation = abbreviation-branch
@@ -181,7 +182,6 @@ kind-branch Kind.Arguments = arguments-branch
 kind-branch Kind.ArgumentsFirst = arguments-first-branch
 kind-branch Kind.ArgumentList = argument-list-branch
 kind-branch Kind.PackList = pack-list-branch
-kind-branch Kind.Address = address-branch
 kind-branch Kind.Literal = literal-branch
 kind-branch Kind.Bit = bit-branch
 kind-branch Kind.LiteralAfterD = literal-after-d-branch
@@ -211,21 +211,15 @@ kind-branch Kind.MaybeTags = maybe-tags-branch
 kind-branch Kind.Argument = argument-branch
 kind-branch Kind.ArgumentAfterT = argument-after-t-branch
 kind-branch Kind.SolidButT = solid-but-t-branch
-kind-branch Kind.ExpressionRest = expression-rest-branch
+kind-branch Kind.Expression = expression-branch
+kind-branch Kind.AddressedExpression = addressed-branch
+kind-branch Kind.AddressedLiteral = addressed-literal-branch
+kind-branch Kind.ExpressionAfterA = expression-after-a-branch
 kind-branch Kind.AnyArray = any-array-branch
 kind-branch Kind.ArrayRest = array-rest-branch
 kind-branch Kind.NestMoreOrEnd = nest-more-or-end-branch
--- no tree of a symbol has a part of these kinds
-kind-branch Kind.HolderMark = λ rule taken parts all around at old v new front is e outer. tt
-kind-branch Kind.HeldComponent = λ rule taken parts all around at old v new front is e outer. tt
-kind-branch Kind.FloatEnd = λ rule taken parts all around at old v new front is e outer. tt
-kind-branch Kind.CloneLetter = λ rule taken parts all around at old v new front is e outer. tt
-kind-branch Kind.PlainEntity = λ rule taken parts all around at old v new front is e outer. tt
-kind-branch Kind.PlainTypeEntity = λ rule taken parts all around at old v new front is e outer. tt
-kind-branch Kind.OneArgument = λ rule taken parts all around at old v new front is e outer. tt
-kind-branch Kind.DeclarationAfterT = λ rule taken parts all around at old v new front is e outer. tt
-kind-branch Kind.Declarations = λ rule taken parts all around at old v new front is e outer. tt
-kind-branch Kind.Concept = λ rule taken parts all around at old v new front is e outer. tt
+-- no tree of a symbol has a part of another kind
+kind-branch _ = λ rule taken parts all around at old v new front is e outer. tt
 
 branch-read : (rule : Rule) (taken : List ℕ) (parts : Forest) → AllOf ShapeRead parts → ShapeRead (branch rule taken parts)
 branch-read rule taken parts all kind around at old v new front is e = kind-branch kind rule taken parts all around at old v new front is e

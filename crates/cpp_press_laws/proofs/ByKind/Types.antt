@@ -2,11 +2,11 @@
 use Rattle.std.proofs.Common.{◌≡◌, ℕ, inl, inr, [], ◌∷◌, true, refl, sym, subst, ◌∙◌}
 use Rattle.cpp_grammar.specs.declared.kind.Kind.{Kind}
 use Rattle.cpp_grammar.specs.declared.production.Production.{Production}
-use Rattle.cpp_grammar.specs.Grammar.{alternatives, parts_of, is_chain}
+use Rattle.cpp_grammar.specs.Grammar.{alternatives, number_of_kind, parts_of, is_chain}
 use Rattle.cpp_grammar.specs.Term.{builtin}
 use Rattle.cpp_grammar.specs.Values.{State, outermost, Around, Value, tree, tree_of, text_of, part}
 use Rattle.cpp_grammar.specs.Between.{under_expansion, between}
-use Rattle.cpp_grammar.specs.Meaning.{meaning}
+use Rattle.cpp_grammar.specs.Meaning.{enclosed_argument, ends_arguments, meaning}
 use Rattle.cpp_grammar.specs.Unfolding as unfolding_
 use Rattle.cpp_grammar.specs.Unfolding.{byte_of}
 use Rattle.cpp_press_laws.proofs.ByKind.Rules.{OneOf}
@@ -149,13 +149,18 @@ with-t-arm take around at old v new outer o =
     comes-as (In around item_type old) Production.ArgumentWithT tt byte around at old (a.value ∷ []) a.after v new a.onward
     (argument-with-t around byte old item_type tt take a.value old a.after (a.read Kind.ArgumentAfterT refl outer))
 
+-- an address is in no parentheses
 expression-arm : (around : Around) (at : ℕ) (old : State) (v : Value) (new : State) → around.prefix ≡ outermost
     → OpenedRead Kind.Argument around at old v new Production.Expression → KindFits Kind.Argument around v old new
-unfolding parts_of between meaning part unfolding_.behind
+unfolding parts_of between meaning part unfolding_.behind number_of_kind enclosed_argument ends_arguments tree_of
 expression-arm around at old v new outer o =
     let a = o.goes tt in
-    comes-as (λ w s. KindFits Kind.Argument around w old s) Production.Expression tt (byte_of o.taken) around at old (a.value ∷ []) a.after v new
-    a.onward (a.read Kind.ExpressionRest refl outer)
+    let b = a.onward in
+    let address = a.read Kind.Expression refl outer in
+    comes-as (λ w s. KindFits Kind.Argument around w old s) Production.Expression tt (byte_of o.taken) around at old (a.value ∷ b.value ∷ []) b.after v new
+    b.onward
+    (subst (λ s. KindFits Kind.Argument around (enclosed_argument a.value) old s) (sym b.read.0)
+    (subst (λ w. KindFits Kind.Argument around (enclosed_argument w) old a.after) (sym address.1) address.2))
 
 pub argument-branch : BranchRead Kind.Argument
 unfolding alternatives takes_qualified takes_all takes_expansions

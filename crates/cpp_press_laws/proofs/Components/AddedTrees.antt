@@ -2,7 +2,7 @@
 use Rattle.std.proofs.Common.{◌≡◌, ℕ, ◌+◌, inl, inr, length, List, [], ◌∷◌, ◌++◌, Option, Bool, true, false, sym, subst}
 use Rattle.std.specs.Prelude.{codes, cond}
 use Rattle.sym_spell.specs.Pressing.{◌and◌, text}
-use Rattle.cpp_grammar.specs.Term.{Qualifiers, RefQualifier, Term, symbol, function, object, special, thunk, of_name, construction, clone, alone, in_std, within, instance, local, holder, tagged, of_default, abbreviation, parameter, source, operator, literal_operator, constructor, destructor, lambda, generic_lambda, unnamed, string_literal, conversion, builtin, sized_float, constrained, vendor, pointer, lvalue, rvalue, array, bounded, member_pointer, function_type, qualified, vector, complex, expansion, integer, boolean, null_pointer, encoding_literal, address_of, pack, nil, list, absent}
+use Rattle.cpp_grammar.specs.Term.{Qualifiers, RefQualifier, Term, symbol, function, object, special, thunk, of_name, construction, clone, alone, in_std, within, instance, local, holder, tagged, of_default, abbreviation, parameter, source, operator, literal_operator, constructor, destructor, inheriting, lambda, generic_lambda, unnamed, string_literal, conversion, builtin, sized_float, constrained, vendor, pointer, lvalue, rvalue, array, bounded, member_pointer, function_type, qualified, vector, complex, decltype, expansion, integer, boolean, null_pointer, encoding_literal, address_of, operation, function_parameter, pack, nil, list, absent}
 use Rattle.cpp_grammar.specs.Scope.{has_return_type}
 use Rattle.cpp_grammar.specs.Values.{Around}
 use Rattle.cpp_grammar.specs.Between.{in_name, in_types, in_signature, under_expansion}
@@ -305,6 +305,10 @@ adds (sized_float digits end) = nowhere-ways-add (sized_float digits end) _
 adds (generic_lambda parameters number) = nowhere-ways-add (generic_lambda parameters number) _
 adds (bounded bound type) = nowhere-ways-add (bounded bound type) _
 adds (constrained letter concept) = nowhere-ways-add (constrained letter concept) _
+adds (inheriting digit class) = nowhere-ways-add (inheriting digit class) _
+adds (decltype operand) = nowhere-ways-add (decltype operand) _
+adds (operation one two u w) = nowhere-ways-add (operation one two u w) _
+adds (function_parameter digits) = nowhere-ways-add (function_parameter digits) _
 adds (alone p) = alone-add p (adds p)
 adds (in_std p) = in-std-add p (adds p)
 adds (within prefix p) = within-add prefix p (adds prefix) (adds p)

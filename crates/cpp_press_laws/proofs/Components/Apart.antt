@@ -2,7 +2,7 @@
 use Rattle.std.proofs.Common.{◌≡◌, ℕ, suc, ◌+◌, ◌-◌, ◌<◌, inl, inr, List, [], ◌∷◌, ◌++◌, Option, Bool, true, false, refl, arith}
 use Rattle.std.specs.Prelude.{cond, ◌&&◌, codes}
 use Rattle.sym_spell.specs.Pressing.{◌and◌, text}
-use Rattle.cpp_grammar.specs.Term.{RefQualifier, Term, symbol, function, object, special, thunk, of_name, construction, clone, alone, in_std, within, instance, local, holder, tagged, of_default, abbreviation, parameter, source, operator, literal_operator, constructor, destructor, lambda, generic_lambda, unnamed, string_literal, conversion, builtin, sized_float, constrained, vendor, pointer, lvalue, rvalue, array, bounded, member_pointer, function_type, qualified, vector, complex, expansion, integer, boolean, null_pointer, encoding_literal, address_of, pack, nil, list, absent}
+use Rattle.cpp_grammar.specs.Term.{RefQualifier, Term, symbol, function, object, special, thunk, of_name, construction, clone, alone, in_std, within, instance, local, holder, tagged, of_default, abbreviation, parameter, source, operator, literal_operator, constructor, destructor, inheriting, lambda, generic_lambda, unnamed, string_literal, conversion, builtin, sized_float, constrained, vendor, pointer, lvalue, rvalue, array, bounded, member_pointer, function_type, qualified, vector, complex, decltype, expansion, integer, boolean, null_pointer, encoding_literal, address_of, operation, function_parameter, pack, nil, list, absent}
 use Rattle.cpp_press_laws.specs.Texts.{counted, ordinal, signed_text, qualifier_letters, mark_letter, name_letters, special_code, thunk_text, discriminator_text}
 use Rattle.cpp_press_laws.specs.Components.{Spelling, component}
 use Rattle.cpp_press_laws.specs.Pressing.{Ways, no_ways, type_ways, function_text, in_N_and_E, with_letters, name_ways, template_before, is_operator, is_one_piece, entity_text, local_text, begun, encoding_ways, piece_ways, argument_ways, ways_of, pressed}
@@ -445,6 +445,10 @@ ways-grow whole (of_default digits entity) in_whole n = no-ways-grow whole (of_d
 ways-grow whole (generic_lambda parameters number) in_whole n = no-ways-grow whole (generic_lambda parameters number)
 ways-grow whole (bounded bound type) in_whole n = no-ways-grow whole (bounded bound type)
 ways-grow whole (constrained letter concept) in_whole n = no-ways-grow whole (constrained letter concept)
+ways-grow whole (inheriting digit class) in_whole n = no-ways-grow whole (inheriting digit class)
+ways-grow whole (decltype operand) in_whole n = no-ways-grow whole (decltype operand)
+ways-grow whole (operation one two u w) in_whole n = no-ways-grow whole (operation one two u w)
+ways-grow whole (function_parameter digits) in_whole n = no-ways-grow whole (function_parameter digits)
 ways-grow whole absent in_whole n = no-ways-grow whole absent
 
 -- no two components of a tree that are compared and equal are both spelled out

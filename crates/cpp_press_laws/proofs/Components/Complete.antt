@@ -2,7 +2,7 @@
 use Rattle.std.proofs.Common.{◌≡◌, ℕ, ◌+◌, ◌<◌, ◌≤◌, ◌⊎◌, inl, inr, length, List, [], ◌∷◌, ◌++◌, Bool, true, false, refl, ap, arith, sym, subst, ◌∙◌, length-append}
 use Rattle.std.specs.Prelude.{cond, ◌&&◌, ◌||◌}
 use Rattle.std.proofs.lemmas.Bool.{true≢false}
-use Rattle.cpp_grammar.specs.Term.{Term, symbol, alone, in_std, within, instance, local, holder, tagged, of_default, lambda, conversion, pointer, lvalue, rvalue, array, constrained, bounded, member_pointer, function_type, qualified, vector, complex, expansion, integer, pack, list}
+use Rattle.cpp_grammar.specs.Term.{Term, symbol, alone, in_std, within, instance, local, holder, tagged, of_default, inheriting, lambda, conversion, pointer, lvalue, rvalue, array, constrained, bounded, member_pointer, function_type, qualified, vector, complex, decltype, expansion, integer, operation, pack, list}
 use Rattle.cpp_grammar.specs.Scope.{is_open}
 use Rattle.cpp_grammar.specs.Values.{Candidate}
 use Rattle.cpp_grammar.specs.References.{is_function_type}
@@ -54,6 +54,7 @@ inside-shut (local e entity discriminator) x closed (inr i) = inside-shut entity
 inside-shut (holder name) x closed i = prefix-shut name x (Inside name x) closed (inside-shut name x closed) i
 inside-shut (tagged of_structor name tag) x closed i = itself-shut name x (Inside name x) closed (inside-shut name x closed) i
 inside-shut (of_default digits entity) x closed i = inside-shut entity x closed i
+inside-shut (inheriting digit class) x closed i = itself-shut class x (Inside class x) closed (inside-shut class x closed) i
 inside-shut (lambda parameters k) x closed i = inside-shut parameters x closed i
 inside-shut (conversion type) x closed i = itself-shut type x (Inside type x) closed (inside-shut type x closed) i
 inside-shut (constrained letter concept) x closed i = itself-shut concept x (Inside concept x) closed (inside-shut concept x closed) i
@@ -76,8 +77,13 @@ inside-shut (function_type c_linkage noexcept ref returned parameters) x closed 
 inside-shut (qualified q type) x closed i = unqualified-shut type x (Inside type x) closed (inside-shut type x closed) i
 inside-shut (vector digits type) x closed i = itself-shut type x (Inside type x) closed (inside-shut type x closed) i
 inside-shut (complex type) x closed i = itself-shut type x (Inside type x) closed (inside-shut type x closed) i
+inside-shut (decltype operand) x closed i = itself-shut operand x (Inside operand x) closed (inside-shut operand x closed) i
 inside-shut (expansion pattern) x closed i = itself-shut pattern x (Inside pattern x) closed (inside-shut pattern x closed) i
 inside-shut (integer type value) x closed i = itself-shut type x (Inside type x) closed (inside-shut type x closed) i
+inside-shut (operation one two u w) x closed (inl i) =
+    itself-shut u x (Inside u x) (left-shut (is_open u) (is_open w) closed) (inside-shut u x (left-shut (is_open u) (is_open w) closed)) i
+inside-shut (operation one two u w) x closed (inr i) =
+    itself-shut w x (Inside w x) (right-shut (is_open u) (is_open w) closed) (inside-shut w x (right-shut (is_open u) (is_open w) closed)) i
 inside-shut (pack elements) x closed i = inside-shut elements x closed i
 inside-shut (list first rest) x closed (inl i) =
     itself-shut first x (Inside first x) (left-shut (is_open first) (is_open rest) closed) (inside-shut first x (left-shut (is_open first) (is_open rest) closed)) i

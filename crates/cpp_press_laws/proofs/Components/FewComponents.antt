@@ -2,7 +2,7 @@
 use Rattle.std.proofs.Common.{◌≡◌, ℕ, ◌+◌, ◌≤◌, ◌⊎◌, inl, inr, length, List, [], ◌∷◌, ◌++◌, Option, None, Bool, true, false, refl, arith, sym, subst, ◌∙◌, length-append}
 use Rattle.std.specs.Prelude.{cond, codes, ◌&&◌}
 use Rattle.sym_spell.specs.Pressing.{◌and◌, text, nothing}
-use Rattle.cpp_grammar.specs.Term.{Thunk, Qualifiers, RefQualifier, Term, symbol, function, object, special, thunk, of_name, construction, clone, alone, in_std, within, instance, local, holder, tagged, of_default, abbreviation, parameter, source, operator, literal_operator, constructor, destructor, lambda, generic_lambda, unnamed, string_literal, conversion, builtin, sized_float, constrained, vendor, pointer, lvalue, rvalue, array, bounded, member_pointer, function_type, qualified, vector, complex, expansion, integer, boolean, null_pointer, encoding_literal, address_of, pack, nil, list, absent}
+use Rattle.cpp_grammar.specs.Term.{Thunk, Qualifiers, RefQualifier, Term, symbol, function, object, special, thunk, of_name, construction, clone, alone, in_std, within, instance, local, holder, tagged, of_default, abbreviation, parameter, source, operator, literal_operator, constructor, destructor, inheriting, lambda, generic_lambda, unnamed, string_literal, conversion, builtin, sized_float, constrained, vendor, pointer, lvalue, rvalue, array, bounded, member_pointer, function_type, qualified, vector, complex, decltype, expansion, integer, boolean, null_pointer, encoding_literal, address_of, operation, function_parameter, pack, nil, list, absent}
 use Rattle.cpp_grammar.specs.Scope.{has_return_type}
 use Rattle.cpp_grammar.specs.Values.{outermost, Around}
 use Rattle.cpp_grammar.specs.Between.{in_name, in_types, after, inside}
@@ -695,6 +695,7 @@ counts (operator a b) = few-operator a b
 counts (literal_operator name) = few-literal-operator name
 counts (constructor digit) = few-constructor digit
 counts (destructor digit) = few-destructor digit
+counts (inheriting digit class) = few-nowhere (inheriting digit class) _
 counts (lambda parameters k) = few-lambda parameters k (counts parameters)
 counts (generic_lambda parameters number) = few-nowhere (generic_lambda parameters number) _
 counts (unnamed k) = few-unnamed k
@@ -714,12 +715,15 @@ counts (function_type c_linkage noexcept ref returned parameters) = few-function
 counts (qualified q type) = few-qualified q type (counts type)
 counts (vector digits type) = few-vector digits type (counts type)
 counts (complex type) = few-complex type (counts type)
+counts (decltype operand) = few-nowhere (decltype operand) _
 counts (expansion pattern) = few-expansion pattern (counts pattern)
 counts (integer type value) = few-integer type value (counts type)
 counts (boolean truth) = few-boolean truth
 counts null_pointer = few-null-pointer
 counts (encoding_literal e) = few-encoding-literal e (counts e)
 counts (address_of e) = few-address e (counts e)
+counts (operation one two u w) = few-nowhere (operation one two u w) _
+counts (function_parameter digits) = few-nowhere (function_parameter digits) _
 counts (pack elements) = few-pack elements (counts elements)
 counts nil = few-nil
 counts (list first rest) = few-list first rest (counts first) (counts rest)

@@ -3,7 +3,7 @@ use Rattle.std.proofs.Common.{◌≡◌, ℕ, suc, ◌+◌, ◌<◌, ◌≤◌, 
 use Rattle.std.specs.Prelude.{not, ◌&&◌, ◌||◌, nat_eq, codes}
 use Rattle.sym_spell.specs.Pressing as spell
 use Rattle.sym_spell.specs.Pressing.{◌and◌, text, nothing}
-use Rattle.cpp_grammar.specs.Term.{Term, symbol, function, object, special, thunk, of_name, construction, clone, alone, in_std, within, instance, local, holder, tagged, of_default, lambda, generic_lambda, conversion, pointer, lvalue, rvalue, array, constrained, bounded, member_pointer, function_type, qualified, vector, complex, expansion, integer, encoding_literal, address_of, pack, list}
+use Rattle.cpp_grammar.specs.Term.{Term, symbol, function, object, special, thunk, of_name, construction, clone, alone, in_std, within, instance, local, holder, tagged, of_default, inheriting, lambda, generic_lambda, conversion, pointer, lvalue, rvalue, array, constrained, bounded, member_pointer, function_type, qualified, vector, complex, decltype, expansion, integer, encoding_literal, address_of, operation, pack, list}
 use Rattle.cpp_grammar.specs.Scope.{is_open}
 use Rattle.cpp_press_laws.specs.Same.{same_tree}
 use Rattle.cpp_press_laws.specs.Components.{Component, Spelling, is_same, first_equal, seq_id, reference, ended, spelled_out, referred, component}
@@ -34,6 +34,7 @@ size (local e entity discriminator) = suc (size e + size entity)
 size (holder name) = suc (size name)
 size (tagged of_structor name tag) = suc (size name)
 size (of_default digits entity) = suc (size entity)
+size (inheriting digit class) = suc (size class)
 size (lambda parameters k) = suc (size parameters)
 size (generic_lambda parameters number) = suc (size parameters)
 size (conversion type) = suc (size type)
@@ -48,10 +49,12 @@ size (function_type c_linkage noexcept ref returned parameters) = suc (size retu
 size (qualified q type) = suc (size type)
 size (vector digits type) = suc (size type)
 size (complex type) = suc (size type)
+size (decltype operand) = suc (size operand)
 size (expansion pattern) = suc (size pattern)
 size (integer type value) = suc (size type)
 size (encoding_literal e) = suc (size e)
 size (address_of e) = suc (size e)
+size (operation one two u w) = suc (size u + size w)
 size (pack elements) = suc (size elements)
 size (list first rest) = suc (size first + size rest)
 size _ = 1

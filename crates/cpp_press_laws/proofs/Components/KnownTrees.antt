@@ -3,7 +3,7 @@
 use Rattle.std.proofs.Common.{◌≡◌, ℕ, ◌-◌, ◌<◌, ◌⊎◌, inl, inr, length, List, [], ◌∷◌, ◌++◌, Option, Bool, true, false, refl, arith}
 use Rattle.std.specs.Prelude.{◌&&◌, codes, cond}
 use Rattle.sym_spell.specs.Pressing.{◌and◌, text, nothing}
-use Rattle.cpp_grammar.specs.Term.{Term, symbol, function, object, special, thunk, of_name, construction, clone, alone, in_std, within, instance, local, holder, tagged, of_default, abbreviation, parameter, source, operator, literal_operator, constructor, destructor, lambda, generic_lambda, unnamed, string_literal, conversion, builtin, sized_float, constrained, vendor, pointer, lvalue, rvalue, array, bounded, member_pointer, function_type, qualified, vector, complex, expansion, integer, boolean, null_pointer, encoding_literal, address_of, pack, nil, list, absent, adjusting, covariant, Thunk}
+use Rattle.cpp_grammar.specs.Term.{Term, symbol, function, object, special, thunk, of_name, construction, clone, alone, in_std, within, instance, local, holder, tagged, of_default, abbreviation, parameter, source, operator, literal_operator, constructor, destructor, inheriting, lambda, generic_lambda, unnamed, string_literal, conversion, builtin, sized_float, constrained, vendor, pointer, lvalue, rvalue, array, bounded, member_pointer, function_type, qualified, vector, complex, decltype, expansion, integer, boolean, null_pointer, encoding_literal, address_of, operation, function_parameter, pack, nil, list, absent, adjusting, covariant, Thunk}
 use Rattle.cpp_grammar.specs.Scope.{is_open}
 use Rattle.cpp_press_laws.specs.Texts.{counted, ordinal, signed_text, qualifier_letters, mark_letter, name_letters, special_code, thunk_text, discriminator_text}
 use Rattle.cpp_press_laws.specs.Components.{Spelling, ended, component}
@@ -533,4 +533,8 @@ keeps (of_default digits entity) open_ n R = no-ways-keep open_ n R (of_default 
 keeps (generic_lambda parameters number) open_ n R = no-ways-keep open_ n R (generic_lambda parameters number)
 keeps (bounded bound type) open_ n R = no-ways-keep open_ n R (bounded bound type)
 keeps (constrained letter concept) open_ n R = no-ways-keep open_ n R (constrained letter concept)
+keeps (inheriting digit class) open_ n R = no-ways-keep open_ n R (inheriting digit class)
+keeps (decltype operand) open_ n R = no-ways-keep open_ n R (decltype operand)
+keeps (operation one two u w) open_ n R = no-ways-keep open_ n R (operation one two u w)
+keeps (function_parameter digits) open_ n R = no-ways-keep open_ n R (function_parameter digits)
 keeps absent open_ n R = no-ways-keep open_ n R absent

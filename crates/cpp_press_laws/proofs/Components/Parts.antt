@@ -2,7 +2,7 @@
 use Rattle.std.proofs.Common.{◌≡◌, ℕ, ◌+◌, ◌⊎◌, inl, inr, List, [], ◌∷◌, ◌++◌, Option, Some, None, Bool, true, false, refl, sym, ◌∙◌}
 use Rattle.std.specs.Prelude.{not, ◌&&◌, ◌||◌, nat_eq}
 use Rattle.std.proofs.lemmas.Bool.{eq-eqb, eqb-true, and_parts, false≢true}
-use Rattle.cpp_grammar.specs.Term.{Term, symbol, function, object, special, thunk, of_name, construction, clone, alone, in_std, within, instance, local, holder, tagged, of_default, parameter, lambda, generic_lambda, conversion, vendor, pointer, lvalue, rvalue, array, constrained, bounded, member_pointer, function_type, qualified, vector, complex, expansion, integer, encoding_literal, address_of, pack, list}
+use Rattle.cpp_grammar.specs.Term.{Term, symbol, function, object, special, thunk, of_name, construction, clone, alone, in_std, within, instance, local, holder, tagged, of_default, parameter, inheriting, lambda, generic_lambda, conversion, vendor, pointer, lvalue, rvalue, array, constrained, bounded, member_pointer, function_type, qualified, vector, complex, decltype, expansion, integer, encoding_literal, address_of, operation, pack, list}
 use Rattle.cpp_grammar.specs.Scope.{is_open}
 use Rattle.cpp_press_laws.specs.Same.{same_tree}
 use Rattle.cpp_press_laws.specs.Components.{Component, is_same, first_equal}
@@ -75,6 +75,7 @@ Inside (local e entity discriminator) x = Shut (Inside e x) x ⊎ Inside entity 
 Inside (holder name) x = PrefixOr name (Inside name x) x
 Inside (tagged of_structor name tag) x = ItselfOr name (Inside name x) x
 Inside (of_default digits entity) x = Inside entity x
+Inside (inheriting digit class) x = ItselfOr class (Inside class x) x
 Inside (lambda parameters k) x = Inside parameters x
 Inside (generic_lambda parameters number) x = Shut (Inside parameters x) x
 Inside (conversion type) x = ItselfOr type (Inside type x) x
@@ -89,10 +90,12 @@ Inside (function_type c_linkage noexcept ref returned parameters) x = ItselfOr r
 Inside (qualified q type) x = UnqualifiedOr type (Inside type x) x
 Inside (vector digits type) x = ItselfOr type (Inside type x) x
 Inside (complex type) x = ItselfOr type (Inside type x) x
+Inside (decltype operand) x = ItselfOr operand (Inside operand x) x
 Inside (expansion pattern) x = ItselfOr pattern (Inside pattern x) x
 Inside (integer type value) x = ItselfOr type (Inside type x) x
 Inside (encoding_literal e) x = Shut (Inside e x) x
 Inside (address_of e) x = Shut (Inside e x) x
+Inside (operation one two u w) x = ItselfOr u (Inside u x) x ⊎ ItselfOr w (Inside w x) x
 Inside (pack elements) x = Inside elements x
 Inside (list first rest) x = ItselfOr first (Inside first x) x ⊎ Inside rest x
 Inside _ x = ⊥

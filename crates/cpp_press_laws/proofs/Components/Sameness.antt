@@ -4,7 +4,7 @@ use Rattle.std.proofs.Common.{ap, sym}
 use Rattle.std.proofs.lemmas.Bool.{eqb-true, eq-eqb}
 use Rattle.sym_spell.proofs.Tests.{both, all}
 use Rattle.cpp_grammar.specs.Texts.{same_bytes}
-use Rattle.cpp_grammar.specs.Term.{Qualifiers, RefQualifier, any_value, lvalue_only, rvalue_only, Signed, Adjustment, non_virtual, by_table, Thunk, adjusting, covariant, Term, symbol, function, object, special, thunk, of_name, construction, clone, alone, in_std, within, instance, local, holder, tagged, of_default, abbreviation, parameter, source, operator, literal_operator, constructor, destructor, lambda, generic_lambda, unnamed, string_literal, conversion, builtin, sized_float, constrained, vendor, pointer, lvalue, rvalue, array, bounded, member_pointer, function_type, qualified, vector, complex, expansion, integer, boolean, null_pointer, encoding_literal, address_of, pack, nil, list, absent}
+use Rattle.cpp_grammar.specs.Term.{Qualifiers, RefQualifier, any_value, lvalue_only, rvalue_only, Signed, Adjustment, non_virtual, by_table, Thunk, adjusting, covariant, Term, symbol, function, object, special, thunk, of_name, construction, clone, alone, in_std, within, instance, local, holder, tagged, of_default, abbreviation, parameter, source, operator, literal_operator, constructor, destructor, inheriting, lambda, generic_lambda, unnamed, string_literal, conversion, builtin, sized_float, constrained, vendor, pointer, lvalue, rvalue, array, bounded, member_pointer, function_type, qualified, vector, complex, decltype, expansion, integer, boolean, null_pointer, encoding_literal, address_of, operation, function_parameter, pack, nil, list, absent}
 use Rattle.cpp_press_laws.specs.Same.{same_truth, same_qualifiers, same_mark, same_signed, same_adjustment, same_thunk, same_discriminator, same_tree}
 
 never : false ≡ true → ⊥
@@ -198,6 +198,9 @@ equal-tree (constructor a0) (constructor b0) h =
     let e0 : a0 ≡ b0 = eqb-true a0 b0 h in cc
 equal-tree (destructor a0) (destructor b0) h =
     let e0 : a0 ≡ b0 = eqb-true a0 b0 h in cc
+equal-tree (inheriting a0 a1) (inheriting b0 b1) h =
+    let e0 : a0 ≡ b0 = eqb-true a0 b0 (both h).0 in
+    let e1 : a1 ≡ b1 = equal-tree a1 b1 (both h).1 in cc
 equal-tree (lambda a0 a1) (lambda b0 b1) h =
     let e0 : a0 ≡ b0 = equal-tree a0 b0 (both h).0 in
     let e1 : a1 ≡ b1 = eqb-true a1 b1 (both h).1 in cc
@@ -249,6 +252,8 @@ equal-tree (vector a0 a1) (vector b0 b1) h =
     let e1 : a1 ≡ b1 = equal-tree a1 b1 (both h).1 in cc
 equal-tree (complex a0) (complex b0) h =
     let e0 : a0 ≡ b0 = equal-tree a0 b0 h in cc
+equal-tree (decltype a0) (decltype b0) h =
+    let e0 : a0 ≡ b0 = equal-tree a0 b0 h in cc
 equal-tree (expansion a0) (expansion b0) h =
     let e0 : a0 ≡ b0 = equal-tree a0 b0 h in cc
 equal-tree (integer a0 a1) (integer b0 b1) h =
@@ -261,6 +266,14 @@ equal-tree (encoding_literal a0) (encoding_literal b0) h =
     let e0 : a0 ≡ b0 = equal-tree a0 b0 h in cc
 equal-tree (address_of a0) (address_of b0) h =
     let e0 : a0 ≡ b0 = equal-tree a0 b0 h in cc
+equal-tree (operation a0 a1 a2 a3) (operation b0 b1 b2 b3) h =
+    let p = both_4 h in
+    let e0 : a0 ≡ b0 = eqb-true a0 b0 p.0 in
+    let e1 : a1 ≡ b1 = eqb-true a1 b1 p.1 in
+    let e2 : a2 ≡ b2 = equal-tree a2 b2 p.2 in
+    let e3 : a3 ≡ b3 = equal-tree a3 b3 p.3 in cc
+equal-tree (function_parameter a0) (function_parameter b0) h =
+    let e0 : a0 ≡ b0 = equal-bytes a0 b0 h in cc
 equal-tree (pack a0) (pack b0) h =
     let e0 : a0 ≡ b0 = equal-tree a0 b0 h in cc
 equal-tree nil nil h = refl
@@ -296,6 +309,7 @@ tree-itself (operator a b) = all (eq-eqb a a refl) (eq-eqb b b refl)
 tree-itself (literal_operator bytes) = bytes-itself bytes
 tree-itself (constructor digit) = eq-eqb digit digit refl
 tree-itself (destructor digit) = eq-eqb digit digit refl
+tree-itself (inheriting digit class) = all (eq-eqb digit digit refl) (tree-itself class)
 tree-itself (lambda parameters number) = all (tree-itself parameters) (eq-eqb number number refl)
 tree-itself (generic_lambda parameters number) = all (tree-itself parameters) (eq-eqb number number refl)
 tree-itself (unnamed number) = eq-eqb number number refl
@@ -315,12 +329,15 @@ tree-itself (function_type c_linkage noexcept ref returned parameters) = all (al
 tree-itself (qualified q t) = all (qualifiers-itself q) (tree-itself t)
 tree-itself (vector digits t) = all (bytes-itself digits) (tree-itself t)
 tree-itself (complex t) = tree-itself t
+tree-itself (decltype operand) = tree-itself operand
 tree-itself (expansion pattern) = tree-itself pattern
 tree-itself (integer t n) = all (tree-itself t) (signed-itself n)
 tree-itself (boolean b) = truth-itself b
 tree-itself null_pointer = refl
 tree-itself (encoding_literal e) = tree-itself e
 tree-itself (address_of e) = tree-itself e
+tree-itself (operation one two u w) = all (all (all (eq-eqb one one refl) (eq-eqb two two refl)) (tree-itself u)) (tree-itself w)
+tree-itself (function_parameter digits) = bytes-itself digits
 tree-itself (pack elements) = tree-itself elements
 tree-itself nil = refl
 tree-itself (list e rest) = all (tree-itself e) (tree-itself rest)

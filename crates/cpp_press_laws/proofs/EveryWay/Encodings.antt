@@ -125,7 +125,7 @@ local-as-name : (e entity : Term) (d : Option (List ℕ)) → Reading e → Read
     (allowed : Option ℕ) (place : ℕ) (cs : List Component) → IsSmall around
     → HasRoom (local_spelling around.encoding e entity d (name_letters q ref) place cs)
     → local_fits e entity d (in_name_with q ref) around allowed place cs
-    → NameReads around allowed 8 (local e entity d) q ref place cs (local_spelling around.encoding e entity d (name_letters q ref) place cs)
+    → NameReads around allowed COMPLETE_NAME (local e entity d) q ref place cs (local_spelling around.encoding e entity d (name_letters q ref) place cs)
 unfolding local_text letters_of tree_of qualifiers_of ref_of
 local-as-name e entity d re rn q ref around allowed place cs small room h =
     let n : ℕ = around.encoding in

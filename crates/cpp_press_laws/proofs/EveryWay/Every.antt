@@ -3,7 +3,7 @@ use Rattle.std.proofs.Common.{◌≡◌, ℕ, ◌+◌, ◌≤◌, length, List, 
 use Rattle.std.specs.Prelude.{codes, ◌&&◌}
 use Rattle.sym_shape.specs.declared.rule.Sym.TheVariants.{Kind as OfKind}
 use Rattle.sym_spell.specs.Pressing.{◌and◌, text}
-use Rattle.cpp_grammar.specs.KindNumbers.{ENCODING, TYPE_ENTITY, ITEM, ARGUMENT_LIST, PACK_LIST}
+use Rattle.cpp_grammar.specs.KindNumbers.{ENCODING, TYPE_ENTITY, ITEM, ARGUMENT_LIST, PACK_LIST, COMPLETE_NAME, ENTITY, ITEMS}
 use Rattle.cpp_grammar.specs.Term.{Qualifiers, RefQualifier, any_value, Term, instance, list}
 use Rattle.cpp_grammar.specs.Values.{Around, Value, tree, tree_of, qualifiers_of, ref_of, unqualified}
 use Rattle.cpp_grammar.specs.References.{is_function_type}
@@ -51,12 +51,12 @@ template-value false around allowed k t place cs w one =
 -- as the entity of a local name
 abbrev pub EntityReads : Role → Around → Option ℕ → Term → (place : ℕ) → List Component → Written → Type 0
 EntityReads in_type around allowed t place cs w = ReadsAt around allowed (OfKind TYPE_ENTITY) (Is (tree t false)) place cs w
-EntityReads (in_name_with q ref) around allowed t place cs w = NameReads around allowed 23 t q ref place cs w
+EntityReads (in_name_with q ref) around allowed t place cs w = NameReads around allowed ENTITY t q ref place cs w
 
 -- elements of a pack, or arguments
 abbrev pub list_kind : (in_pack : Bool) → ℕ
-list_kind true = 45
-list_kind false = 44
+list_kind true = PACK_LIST
+list_kind false = ARGUMENT_LIST
 
 -- as one more element before others
 abbrev pub ArgumentReads : Bool → Around → Option ℕ → Term → (place : ℕ) → List Component → Written → Type 0
@@ -82,8 +82,8 @@ ParametersRead ref around allowed t place cs w =
 -- an entity that is one piece
 pub record OnePiece (around : Around) (allowed : Option ℕ) (t : Term) (place : ℕ) (cs : List Component) (w : Written) : Type 0 where
   pub is : (arguments : Term) → is_one_piece (instance t arguments) ≡ true
-  pub in_name : Named around allowed 23 t place cs w
-  pub in_a_type : Named around allowed 24 t place cs w
+  pub in_name : Named around allowed ENTITY t place cs w
+  pub in_a_type : Named around allowed TYPE_ENTITY t place cs w
 
 -- ## The ways of a tree
 
@@ -114,7 +114,7 @@ pub record ReadsAll (t : Term) (ways : ℕ → Ways) (fits : Fits) : Type 1 wher
   pub as_encoding : Leads (λ n. (ways n).as_encoding) (λ around. fits.as_encoding)
       (λ around allowed. ReadsAt around allowed (OfKind ENCODING) (Is (tree t true)))
   pub as_name : (q : Qualifiers) (ref : RefQualifier) → Leads (λ n. (ways n).as_name (name_letters q ref)) (fits.as_name q ref)
-      (λ around allowed. NameReads around allowed 8 t q ref)
+      (λ around allowed. NameReads around allowed COMPLETE_NAME t q ref)
   pub before : (typed : Bool) (k : ℕ) → TemplateKind typed k → (around : Around) (allowed : Option ℕ) (place : ℕ) (cs : List Component)
       (arguments : Fitting) (elements : Spelling) (items : Term) (last : Value) → no_items last ≡ items
       → ReadElements around allowed last arguments elements → Keeps (of_elements elements) → IsSmall around
@@ -124,7 +124,7 @@ pub record ReadsAll (t : Term) (ways : ℕ → Ways) (fits : Fits) : Type 1 wher
       (λ around allowed. ArgumentReads in_pack around allowed t)
   pub as_items : Leads (λ n. (ways n).as_parameters) (fits.as_parameters item_type) (λ around allowed. ItemsRead around allowed t)
   pub as_more_items : Leads (λ n. (ways n).as_more_parameters) (fits.as_more_parameters item_type)
-      (λ around allowed. ListReads 41 around allowed t)
+      (λ around allowed. ListReads ITEMS around allowed t)
   pub as_parameters : (ref : RefQualifier) → Leads (λ n. (ways n).as_parameters) (fits.as_parameters parameter_type)
       (λ around allowed. ParametersRead ref around allowed t)
   pub as_more_parameters : (ref : RefQualifier) → Leads (λ n. (ways n).as_more_parameters) (fits.as_more_parameters parameter_type)

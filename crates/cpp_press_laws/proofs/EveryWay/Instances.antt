@@ -2,6 +2,7 @@
 use Rattle.std.proofs.Common.{◌≡◌, ℕ, ◌+◌, length, List, [], ◌++◌, Option, Bool, true, false, refl, arith, inl, inr, ◌⊎◌, sym, ◌∙◌, length-append}
 use Rattle.std.specs.Prelude.{codes}
 use Rattle.sym_spell.specs.Pressing.{◌and◌, text, nothing}
+use Rattle.cpp_grammar.specs.KindNumbers.{ENTITY}
 use Rattle.cpp_grammar.specs.Term.{nil, within, Term, instance}
 use Rattle.cpp_grammar.specs.Values.{Around, tree_of}
 use Rattle.cpp_grammar.specs.References.{is_function_type}
@@ -112,7 +113,7 @@ piece-entity t a rt ra in_type around allowed place cs small room none one fits 
     (behind-name t a ra around allowed place cs small room fits)
 piece-entity t a rt ra (in_name_with q ref) around allowed place cs small room none one fits =
     let w : Written = (ways_of around.encoding t).between_N_and_E place cs in
-    plain-name 23 around allowed (instance t a) q ref place cs _ (no-letters (name_letters q ref) none)
+    plain-name ENTITY around allowed (instance t a) q ref place cs _ (no-letters (name_letters q ref) none)
     (one.in_name.instanced a (items_value a)
     ((ways_of around.encoding a).as_elements (place + length w.bytes + 0 + 1) (more around w.components t)) (items-kept a)
     (behind-name t a ra around allowed place cs small room fits))

@@ -5,7 +5,7 @@ use Rattle.sym_link.specs.Reading.{◌>>=◌}
 use Rattle.sym_spell.specs.Pressing.{◌and◌, text}
 use Rattle.cpp_grammar.specs.KindNumbers.{SYMBOL}
 use Rattle.std.specs.Prelude.{codes}
-use Rattle.cpp_grammar.specs.Term.{Term, symbol, function, object, special, thunk, of_name, construction, clone, alone, in_std, within, instance, local, holder, tagged, of_default, abbreviation, parameter, source, operator, literal_operator, constructor, destructor, lambda, generic_lambda, unnamed, string_literal, conversion, builtin, sized_float, constrained, vendor, pointer, lvalue, rvalue, array, bounded, member_pointer, function_type, qualified, vector, complex, expansion, integer, boolean, null_pointer, encoding_literal, address_of, pack, nil, list, absent}
+use Rattle.cpp_grammar.specs.Term.{Term, symbol, function, object, special, thunk, of_name, construction, clone, alone, in_std, within, instance, local, holder, tagged, of_default, abbreviation, parameter, source, operator, literal_operator, constructor, destructor, inheriting, lambda, generic_lambda, unnamed, string_literal, conversion, builtin, sized_float, constrained, vendor, pointer, lvalue, rvalue, array, bounded, member_pointer, function_type, qualified, vector, complex, decltype, expansion, integer, boolean, null_pointer, encoding_literal, address_of, operation, function_parameter, pack, nil, list, absent}
 use Rattle.cpp_grammar.specs.Values as value
 use Rattle.cpp_grammar.specs.Values.{Around, nothing_there, tree, tree_of, text_of}
 use Rattle.cpp_grammar.specs.Unfolding.{first_around, first_state, first_tree, unfold_cpp}
@@ -66,6 +66,7 @@ reads c (operator a b) = reads-operator a b
 reads c (literal_operator name) = reads-literal-operator name
 reads c (constructor digit) = reads-constructor digit
 reads c (destructor digit) = reads-destructor digit
+reads c (inheriting digit class) = reads-nowhere (inheriting digit class) _
 reads c (lambda parameters k) = reads-lambda parameters k (reads c parameters)
 reads c (generic_lambda parameters number) = reads-nowhere (generic_lambda parameters number) _
 reads c (unnamed k) = reads-unnamed k
@@ -85,12 +86,15 @@ reads c (function_type c_linkage noexcept ref returned parameters) = reads-funct
 reads c (qualified q type) = reads-qualified q type (reads c type)
 reads c (vector digits type) = reads-vector digits type (reads c type)
 reads c (complex type) = reads-complex type (reads c type)
+reads c (decltype operand) = reads-nowhere (decltype operand) _
 reads c (expansion pattern) = reads-expansion pattern (reads c pattern)
 reads c (integer type value) = reads-integer type value (reads c type)
 reads c (boolean truth) = reads-boolean truth
 reads c null_pointer = reads-null-pointer
 reads c (encoding_literal e) = reads-encoding-literal e (reads c e)
 reads c (address_of e) = reads-address e (reads c e)
+reads c (operation one two u w) = reads-nowhere (operation one two u w) _
+reads c (function_parameter digits) = reads-nowhere (function_parameter digits) _
 reads c (pack elements) = reads-pack elements (reads c elements)
 reads c nil = reads-nil
 reads c (list first rest) = reads-list first rest (reads c first) (reads c rest)

@@ -152,20 +152,20 @@ pub name-by-letters : (around : Around) (allowed : Option ℕ) (t : Term) (q : Q
     (cs : List Component)
     (own between : Spelling) (fit_own fit_between : Fitting) → HasRoom (with_letters (name_letters q ref) own between place cs)
     → by_letters (name_letters q ref) fit_own fit_between around allowed place cs
-    → (fit_own around allowed place cs → HasRoom (own place cs) → NameReads around allowed 8 t unqualified any_value place cs (own place cs))
+    → (fit_own around allowed place cs → HasRoom (own place cs) → NameReads around allowed COMPLETE_NAME t unqualified any_value place cs (own place cs))
     → ((at : ℕ) → fit_between around allowed at cs → HasRoom (between at cs) → SoFar around allowed t false 18 at cs (between at cs))
-    → NameReads around allowed 8 t q ref place cs (with_letters (name_letters q ref) own between place cs)
+    → NameReads around allowed COMPLETE_NAME t q ref place cs (with_letters (name_letters q ref) own between place cs)
 unfolding with_letters by_letters in_N_and_E
 name-by-letters around allowed t q ref place cs own between fit_own fit_between room fits bare nested = go (name_letters q ref) refl room fits
   where
     go : (ls : List ℕ) → name_letters q ref ≡ ls → HasRoom (with_letters ls own between place cs)
         → by_letters ls fit_own fit_between around allowed place cs
-        → NameReads around allowed 8 t q ref place cs (with_letters ls own between place cs)
+        → NameReads around allowed COMPLETE_NAME t q ref place cs (with_letters ls own between place cs)
     go [] none enough h = no-qualifiers 8 around allowed t q ref place cs (own place cs) none (bare h enough)
     go (l ∷ ls) are enough h =
         let at : ℕ = place + length (78 ∷ l ∷ ls) in
         let w : Written = between at cs in
-        subst (λ x. NameReads around allowed 8 t q ref place cs (written ((78 ∷ x) ++ (w.bytes ++ (69 ∷ []))) w.components)) are
+        subst (λ x. NameReads around allowed COMPLETE_NAME t q ref place cs (written ((78 ∷ x) ++ (w.bytes ++ (69 ∷ []))) w.components)) are
         (letters-nested 8 around allowed t q ref place cs w takes-nested-name
         (subst (λ x. SoFar around allowed t false 18 (place + length (78 ∷ x)) cs w) (sym are)
         (nested at h (nested-room (l ∷ ls) between place cs enough))))
@@ -223,7 +223,7 @@ reads-alone p r = record {
   as_name = λ q ref around allowed place cs small room h.
       let own : Spelling = (ways_of around.encoding p).as_piece in
       let none : name_letters q ref ≡ [] = no-letters (name_letters q ref) h.0 in
-      subst (λ ls. NameReads around allowed 8 (alone p) q ref place cs (with_letters ls own own place cs)) (sym none)
+      subst (λ ls. NameReads around allowed COMPLETE_NAME (alone p) q ref place cs (with_letters ls own own place cs)) (sym none)
       (plain-name 8 around allowed (alone p) q ref place cs (own place cs) none
       (named-piece around allowed 8 p (alone p) place cs (own place cs)
       (r.as_piece around allowed place cs small (subst (λ ls. HasRoom (with_letters ls own own place cs)) none room) h.1.2)

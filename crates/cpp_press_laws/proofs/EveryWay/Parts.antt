@@ -6,7 +6,7 @@ use Rattle.sym_shape.specs.declared.rule.Sym.TheVariants.{Kind as OfKind}
 use Rattle.sym_spell.specs.Pressing.{◌and◌, text}
 use Rattle.cpp_grammar.specs.declared.kind.Kind.{Kind}
 use Rattle.cpp_grammar.specs.declared.production.Production.{Production}
-use Rattle.cpp_grammar.specs.KindNumbers.{ENCODING, SOLID, ARGUMENT_LIST, PACK_LIST, ADDRESS, LITERAL, LITERAL_TYPE}
+use Rattle.cpp_grammar.specs.KindNumbers.{ENCODING, SOLID, ARGUMENT_LIST, PACK_LIST, LITERAL, LITERAL_TYPE, ARGUMENT}
 use Rattle.cpp_grammar.specs.Grammar.{choose, kinds, is_chain}
 use Rattle.cpp_grammar.specs.Term.{Signed, Term, abbreviation, parameter, source, operator, literal_operator, constructor, destructor, lambda, unnamed, builtin, integer, boolean, null_pointer, encoding_literal, address_of, pack, list, instance}
 use Rattle.cpp_grammar.specs.Scope.{count}
@@ -21,8 +21,8 @@ use Rattle.cpp_press_laws.proofs.ReadBack.Reading.{takes-byte}
 use Rattle.cpp_press_laws.proofs.ReadBack.Types.{same-written, more}
 use Rattle.cpp_press_laws.proofs.ReadBack.Solids.{builtin-solid, builtin-behind-d}
 use Rattle.cpp_press_laws.proofs.ReadBack.Functions.{IsInScope, parameter-solid}
-use Rattle.cpp_press_laws.proofs.ReadBack.Arguments.{items_value, integer-reads}
-use Rattle.cpp_press_laws.proofs.ReadBack.Literals.{boolean-literal, null-literal, char-literal, encoding-literal, literal-argument, literal-element, pack-argument, address-reads, address-argument, address-element}
+use Rattle.cpp_press_laws.proofs.ReadBack.Arguments.{items_value, any-argument, any-element, integer-reads}
+use Rattle.cpp_press_laws.proofs.ReadBack.Literals.{boolean-literal, null-literal, char-literal, encoding-literal, literal-argument, literal-element, pack-argument, address-reads}
 use Rattle.cpp_press_laws.proofs.ReadBack.Names.{Extends}
 use Rattle.cpp_press_laws.proofs.ReadBack.Solids.{abbreviation-behind-s}
 use Rattle.cpp_press_laws.proofs.Components.Keeping.{keeps-text}
@@ -355,15 +355,14 @@ reads-encoding-literal e r =
     (room-rest (text (codes "L_Z")) ((ways_of m e).as_encoding and text (codes "E")) place cs room)) h))))
 
 address-in : (in_pack : Bool) (around : Around) (allowed : Option ℕ) (t : Term) (place : ℕ) (cs : List Component) (w : Written)
-    → ReadsAt around allowed (OfKind ADDRESS) (Is (tree t true)) (place + 3) cs w
-    → ArgumentReads in_pack around allowed t place cs (written (88 ∷ 97 ∷ 100 ∷ w.bytes) w.components)
+    → ReadsAt around allowed (OfKind ARGUMENT) (Is (tree t true)) place cs w → ArgumentReads in_pack around allowed t place cs w
 address-in true around allowed t place cs w one items last rest are two =
-    address-element around allowed t items last place cs w rest are
-    (subst (λ q. ReadsAt around allowed (OfKind ADDRESS) (Is (tree t true)) q cs w) (omega arith) one)
+    any-element around allowed t items last place cs w rest are
+    (subst (λ q. ReadsAt around allowed (OfKind ARGUMENT) (Is (tree t true)) q cs w) (omega arith) one)
     (subst (λ q. ReadsAt around allowed (OfKind PACK_LIST) (Is last) q w.components rest) (omega arith) two)
 address-in false around allowed t place cs w one items last rest are two =
-    address-argument around allowed t items last place cs w rest are
-    (subst (λ q. ReadsAt around allowed (OfKind ADDRESS) (Is (tree t true)) q cs w) (omega arith) one)
+    any-argument around allowed t items last place cs w rest are
+    (subst (λ q. ReadsAt around allowed (OfKind ARGUMENT) (Is (tree t true)) q cs w) (omega arith) one)
     (subst (λ q. ReadsAt around allowed (OfKind ARGUMENT_LIST) (Is last) q w.components rest) (omega arith) two)
 
 pub reads-address : (e : Term) → Reading e → Reading (address_of e)
@@ -372,8 +371,9 @@ reads-address e r =
     reads-argument (address_of e) _ _ (λ in_pack around allowed place cs small room h.
     let m : ℕ = around.encoding in
     let w : Written = (ways_of m e).as_encoding (place + 6) cs in
-    address-in in_pack around allowed (address_of e) place cs (written (76 ∷ 95 ∷ 90 ∷ (w.bytes ++ (69 ∷ 69 ∷ []))) w.components)
-    (address-reads around allowed e (place + 3) cs w
+    address-in in_pack around allowed (address_of e) place cs
+    (written (88 ∷ 97 ∷ 100 ∷ 76 ∷ 95 ∷ 90 ∷ (w.bytes ++ (69 ∷ 69 ∷ []))) w.components)
+    (address-reads around allowed e place cs w
     (subst (λ q. ReadsAt around allowed (OfKind ENCODING) (Is (tree e true)) q cs w) (omega arith)
     (r.as_encoding around allowed (place + 6) cs small
     (room-first (ways_of m e).as_encoding (text (codes "EE")) (place + 6) cs (keeps-text (codes "EE"))

@@ -5,7 +5,7 @@ use Rattle.sym_shape.specs.declared.rule.Sym.TheVariants.{Kind as OfKind}
 use Rattle.sym_spell.specs.Pressing.{◌and◌, text}
 use Rattle.cpp_grammar.specs.declared.kind.Kind.{Kind}
 use Rattle.cpp_grammar.specs.declared.production.Production.{Production}
-use Rattle.cpp_grammar.specs.KindNumbers.{COMPLETE_NAME, ENTITY, TYPE_ENTITY}
+use Rattle.cpp_grammar.specs.KindNumbers.{COMPLETE_NAME, ENTITY, TYPE_ENTITY, SOURCE_OR_LOCAL}
 use Rattle.cpp_grammar.specs.Grammar.{in_ranges, among, is_in, pick, alternatives, choose, kinds, is_chain}
 use Rattle.cpp_grammar.specs.Term.{any_value, Term, in_std, instance, operator, literal_operator, source, lambda, unnamed}
 use Rattle.cpp_grammar.specs.Values.{Around, Value, tree, unqualified}
@@ -40,7 +40,7 @@ entity-nested in_type around allowed t place cs between so_far =
     whole-nested TYPE_ENTITY around allowed t place cs (between (place + 1) cs)
     (takes-byte TYPE_ENTITY Kind.TypeEntity Production.NestedType 78 refl refl (omega arith) refl) so_far
 entity-nested (in_name_with q ref) around allowed t place cs between so_far =
-    letters-nested 23 around allowed t q ref place cs (between (place + length (codes "N" ++ name_letters q ref)) cs)
+    letters-nested ENTITY around allowed t q ref place cs (between (place + length (codes "N" ++ name_letters q ref)) cs)
     (takes-byte ENTITY Kind.Entity Production.NestedName 78 refl refl (omega arith) refl) so_far
 
 no-letters-at-all : name_letters unqualified any_value ≡ []
@@ -55,7 +55,7 @@ unfolding choose alternatives pick is_in in_ranges among kinds is_chain
 template-nested true k around allowed t rules place cs w so_far = whole-nested k around allowed t place cs w rules.nested so_far
 template-nested false k around allowed t eight place cs w so_far =
     subst (λ j. NameReads around allowed j t unqualified any_value place cs (written (78 ∷ (w.bytes ++ (69 ∷ []))) w.components)) (sym eight)
-    (subst (λ ls. NameReads around allowed 8 t unqualified any_value place cs (written ((78 ∷ ls) ++ (w.bytes ++ (69 ∷ []))) w.components))
+    (subst (λ ls. NameReads around allowed COMPLETE_NAME t unqualified any_value place cs (written ((78 ∷ ls) ++ (w.bytes ++ (69 ∷ []))) w.components))
     no-letters-at-all
     (letters-nested 8 around allowed t unqualified any_value place cs w
     (takes-byte COMPLETE_NAME Kind.CompleteName Production.NestedName 78 refl refl (omega arith) refl)
@@ -100,7 +100,7 @@ std-nested p r around allowed place cs small room h =
 
 std-named : (p : Term) → Reading p → (around : Around) (allowed : Option ℕ) (place : ℕ) (cs : List Component) → IsSmall around
     → HasRoom (std_spelling around.encoding p place cs) → std_fits p around allowed place cs
-    → Named around allowed 8 (in_std p) place cs (std_spelling around.encoding p place cs)
+    → Named around allowed COMPLETE_NAME (in_std p) place cs (std_spelling around.encoding p place cs)
 std-named p r around allowed place cs small room h =
     named-std around allowed p place cs ((ways_of around.encoding p).as_piece (place + 2) cs)
     ((std-piece p r around allowed place cs small room h).pieces 14 (std-rule p h.0))
@@ -111,7 +111,7 @@ std-typed : (p : Term) → Reading p → (k : ℕ) → TypeRules k → (around :
     → Named around allowed k (in_std p) place cs (std_spelling around.encoding p place cs)
 std-typed p r k rules around allowed place cs none small room h =
     named-std-type k around allowed p place cs ((ways_of around.encoding p).as_piece (place + 2) cs) rules.with_s
-    ((std-piece p r around allowed place cs small room h).pieces 37 (std-type-rule p (begins-unless p h.0 none)))
+    ((std-piece p r around allowed place cs small room h).pieces SOURCE_OR_LOCAL (std-type-rule p (begins-unless p h.0 none)))
 
 -- as a type
 std-type-reads : (p : Term) → Reading p → (b : Bool) → is_operator p ≡ b → (k : ℕ) → TypeRules k → (around : Around) (allowed : Option ℕ)

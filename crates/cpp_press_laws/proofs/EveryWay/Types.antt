@@ -21,7 +21,7 @@ use Rattle.cpp_press_laws.specs.Texts.{counted, qualifier_letters}
 use Rattle.cpp_press_laws.specs.Pressing.{ways_of}
 use Rattle.cpp_press_laws.specs.Subtrees.{Written, written, ReadsAt, Is, HasRoom}
 use Rattle.cpp_press_laws.proofs.ReadBack.Reading.{takes-byte}
-use Rattle.cpp_press_laws.proofs.ReadBack.Types.{more, wraps, types-28, types-29, types-30, types-31}
+use Rattle.cpp_press_laws.proofs.ReadBack.Types.{more, wraps, types-any, types-bare, types-item, types-parameter}
 use Rattle.cpp_press_laws.proofs.ReadBack.Solids.{vendor-solid, pointer-solid, complex-solid, member-pointer-solid, array-solid, lvalue-reads, rvalue-reads}
 use Rattle.cpp_press_laws.proofs.ReadBack.Functions.{qualified_with, const-reads, volatile-reads, restrict-reads, vector-behind-d, rest-lvalue, rest-rvalue}
 use Rattle.cpp_press_laws.proofs.ReadBack.Arguments.{expansion-reads}
@@ -55,17 +55,17 @@ pub with-d-in-all : (slot : Slot) (around : Around) (allowed : Option ℕ) (t : 
     → ReadsAt around allowed (OfKind AFTER_D) (Is (tree t false)) (place + 1) cs w
     → ReadsAs slot around allowed t place cs (written (68 ∷ w.bytes) (more around w.components t))
 unfolding takes_all is_bare
-with-d-in-all any_type around allowed t place cs w all bare one = (types-28 around allowed t).with_d.adds place cs w one
-with-d-in-all bare_type around allowed t place cs w all bare one = (types-29 around allowed t (go
+with-d-in-all any_type around allowed t place cs w all bare one = (types-any around allowed t).with_d.adds place cs w one
+with-d-in-all bare_type around allowed t place cs w all bare one = (types-bare around allowed t (go
     (is_function_type t) bare)).with_d.adds place cs w one
   where
     go : (b : Bool) → b && true ≡ false → b ≡ false
     go true k = k
     go false k = refl
-with-d-in-all item_type around allowed t place cs w all bare one = (types-30 around allowed t).with_d.adds place cs w one
+with-d-in-all item_type around allowed t place cs w all bare one = (types-item around allowed t).with_d.adds place cs w one
 with-d-in-all parameter_type around allowed t place cs w all bare one =
     in-rest around allowed t place cs (written (68 ∷ w.bytes) (more around w.components t))
-    ((types-31 around allowed t).with_d.adds place cs w one)
+    ((types-parameter around allowed t).with_d.adds place cs w one)
 with-d-in-all literal_type around allowed t place cs w all bare one = absurd (no-slot all)
 
 -- and builtin types after a D
@@ -74,11 +74,11 @@ pub with-d-kept : (slot : Slot) (around : Around) (allowed : Option ℕ) (t : Te
     → ReadsAt around allowed (OfKind AFTER_D) (Is (tree t true)) (place + 1) cs w
     → ReadsAs slot around allowed t place cs (written (68 ∷ w.bytes) w.components)
 unfolding takes_all
-with-d-kept any_type around allowed t place cs w all other one = (types-28 around allowed t).with_d.keeps place cs w one
-with-d-kept bare_type around allowed t place cs w all other one = (types-29 around allowed t other).with_d.keeps place cs w one
-with-d-kept item_type around allowed t place cs w all other one = (types-30 around allowed t).with_d.keeps place cs w one
+with-d-kept any_type around allowed t place cs w all other one = (types-any around allowed t).with_d.keeps place cs w one
+with-d-kept bare_type around allowed t place cs w all other one = (types-bare around allowed t other).with_d.keeps place cs w one
+with-d-kept item_type around allowed t place cs w all other one = (types-item around allowed t).with_d.keeps place cs w one
 with-d-kept parameter_type around allowed t place cs w all other one =
-    in-rest around allowed t place cs (written (68 ∷ w.bytes) w.components) ((types-31 around allowed t).with_d.keeps place cs w one)
+    in-rest around allowed t place cs (written (68 ∷ w.bytes) w.components) ((types-parameter around allowed t).with_d.keeps place cs w one)
 with-d-kept literal_type around allowed t place cs w all other one = absurd (no-slot all)
 
 -- an expansion
@@ -144,25 +144,25 @@ record QualifiedRules (k : ℕ) : Type 0 where
   volatile : TakesRule abi k (rule_of Production.VolatileType) (86 ∷ [])
   const : TakesRule abi k (rule_of Production.ConstType) (75 ∷ [])
 
-rules-28 : QualifiedRules 28
+type-rules : QualifiedRules TYPE
 unfolding choose alternatives pick is_in in_ranges among kinds is_chain
-rules-28 = record {
+type-rules = record {
   restrict = takes-byte TYPE Kind.Type Production.RestrictType 114 refl refl (omega arith) refl;
   volatile = takes-byte TYPE Kind.Type Production.VolatileType 86 refl refl (omega arith) refl;
   const = takes-byte TYPE Kind.Type Production.ConstType 75 refl refl (omega arith) refl;
 }
 
-rules-30 : QualifiedRules 30
+item-rules : QualifiedRules ITEM
 unfolding choose alternatives pick is_in in_ranges among kinds is_chain
-rules-30 = record {
+item-rules = record {
   restrict = takes-byte ITEM Kind.Item Production.RestrictType 114 refl refl (omega arith) refl;
   volatile = takes-byte ITEM Kind.Item Production.VolatileType 86 refl refl (omega arith) refl;
   const = takes-byte ITEM Kind.Item Production.ConstType 75 refl refl (omega arith) refl;
 }
 
-rules-31 : QualifiedRules 31
+parameter-rules : QualifiedRules ITEM_BUT_REF
 unfolding choose alternatives pick is_in in_ranges among kinds is_chain
-rules-31 = record {
+parameter-rules = record {
   restrict = takes-byte ITEM_BUT_REF Kind.ItemButRef Production.RestrictType 114 refl refl (omega arith) refl;
   volatile = takes-byte ITEM_BUT_REF Kind.ItemButRef Production.VolatileType 86 refl refl (omega arith) refl;
   const = takes-byte ITEM_BUT_REF Kind.ItemButRef Production.ConstType 75 refl refl (omega arith) refl;
@@ -208,12 +208,12 @@ qualified-in : (slot : Slot) (around : Around) (allowed : Option ℕ) (restrict 
     → ReadsAs slot around allowed (qualified_with restrict volatile const t) place cs
     (written (letters_for restrict volatile const ++ w.bytes) (more around w.components (qualified_with restrict volatile const t)))
 unfolding takes_qualified
-qualified-in any_type around allowed r v c t place cs w all some one = qualified-at 28 around allowed r v c t place cs w rules-28 some one
-qualified-in item_type around allowed r v c t place cs w all some one = qualified-at 30 around allowed r v c t place cs w rules-30 some one
+qualified-in any_type around allowed r v c t place cs w all some one = qualified-at TYPE around allowed r v c t place cs w type-rules some one
+qualified-in item_type around allowed r v c t place cs w all some one = qualified-at ITEM around allowed r v c t place cs w item-rules some one
 qualified-in parameter_type around allowed r v c t place cs w all some one =
     in-rest around allowed (qualified_with r v c t) place cs
     (written (letters_for r v c ++ w.bytes) (more around w.components (qualified_with r v c t)))
-    (qualified-at 31 around allowed r v c t place cs w rules-31 some one)
+    (qualified-at ITEM_BUT_REF around allowed r v c t place cs w parameter-rules some one)
 qualified-in bare_type around allowed r v c t place cs w all some one = absurd (no-slot all)
 qualified-in literal_type around allowed r v c t place cs w all some one = absurd (no-slot all)
 

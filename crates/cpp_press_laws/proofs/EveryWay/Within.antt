@@ -4,7 +4,7 @@ use Rattle.std.specs.Prelude.{codes}
 use Rattle.sym_spell.specs.Pressing.{◌and◌, text}
 use Rattle.cpp_grammar.specs.declared.kind.Kind.{Kind}
 use Rattle.cpp_grammar.specs.declared.production.Production.{Production}
-use Rattle.cpp_grammar.specs.KindNumbers.{COMPLETE_NAME, ENTITY}
+use Rattle.cpp_grammar.specs.KindNumbers.{COMPLETE_NAME, ENTITY, TYPE_ENTITY}
 use Rattle.cpp_grammar.specs.Grammar.{in_ranges, among, is_in, pick, alternatives, choose, kinds, is_chain}
 use Rattle.cpp_grammar.specs.Term.{Qualifiers, within, string_literal, RefQualifier, any_value, Term, instance}
 use Rattle.cpp_grammar.specs.Values.{behind, Around, tree, tree_of, qualifiers_of, ref_of, unqualified}
@@ -101,11 +101,11 @@ entity-piece _ h = inl h
 
 string-named : (x : Term) (around : Around) (allowed : Option ℕ) (place : ℕ) (cs : List Component) → is_encoding x ≡ true
     → around.prefix ≡ behind x true
-    → NameReads around allowed 23 (within x string_literal) unqualified any_value place cs
+    → NameReads around allowed ENTITY (within x string_literal) unqualified any_value place cs
     (joined_spelling around.encoding x string_literal place cs)
 unfolding tree_of qualifiers_of ref_of ways_of piece_ways no_ways
 string-named x around allowed place cs is scoped =
-    subst (NameReads around allowed 23 (within x string_literal) unqualified any_value place cs)
+    subst (NameReads around allowed ENTITY (within x string_literal) unqualified any_value place cs)
     (sym (scope-first x around.encoding (text (codes "s")) place cs is)) (record {
       value = tree (extended around.prefix string_literal) true;
       tree_is = within-scope around x string_literal scoped;
@@ -116,16 +116,16 @@ string-named x around allowed place cs is scoped =
 
 local-in-name : (x p : Term) → Reading p → (around : Around) (allowed : Option ℕ) (place : ℕ) (cs : List Component) → IsSmall around
     → HasRoom (joined_spelling around.encoding x p place cs) → local_fits x p (names_entity p) around allowed place cs
-    → NameReads around allowed 23 (within x p) unqualified any_value place cs (joined_spelling around.encoding x p place cs)
+    → NameReads around allowed ENTITY (within x p) unqualified any_value place cs (joined_spelling around.encoding x p place cs)
 local-in-name x p rp around allowed place cs small room h = go (entity-piece p h.1.1)
   where
     go : (begins_name p ≡ true) ⊎ (p ≡ string_literal)
-        → NameReads around allowed 23 (within x p) unqualified any_value place cs (joined_spelling around.encoding x p place cs)
+        → NameReads around allowed ENTITY (within x p) unqualified any_value place cs (joined_spelling around.encoding x p place cs)
     go (inl begins) =
         template-value false around allowed ENTITY (within x p) place cs _
-        (local-named x p (names_entity p) rp 23 (entity-rule p begins) around allowed place cs small room h).bare
+        (local-named x p (names_entity p) rp ENTITY (entity-rule p begins) around allowed place cs small room h).bare
     go (inr is) =
-        subst (λ y. NameReads around allowed 23 (within x y) unqualified any_value place cs
+        subst (λ y. NameReads around allowed ENTITY (within x y) unqualified any_value place cs
         (joined_spelling around.encoding x y place cs)) (sym is)
         (string-named x around allowed place cs h.0 h.1.0)
 
@@ -165,9 +165,9 @@ within-entity : (x p : Term) → Reading x → Reading p → (role : Role) (arou
     (choice b (joined_spelling around.encoding x p) (in_N_and_E (letters_of role) (joined_spelling around.encoding x p)) place cs)
 unfolding letters_of names_in
 within-entity x p rx rp in_type around allowed place cs small true is room (inl h) =
-    (local-named x p (begins_name p) rp 24 (type-entity-rule p h.1.1.1) around allowed place cs small room h.1).bare
+    (local-named x p (begins_name p) rp TYPE_ENTITY (type-entity-rule p h.1.1.1) around allowed place cs small room h.1).bare
 within-entity x p rx rp (in_name_with q ref) around allowed place cs small true is room (inl h) =
-    no-qualifiers 23 around allowed (within x p) q ref place cs (joined_spelling around.encoding x p place cs) (no-letters
+    no-qualifiers ENTITY around allowed (within x p) q ref place cs (joined_spelling around.encoding x p place cs) (no-letters
     (name_letters q ref) h.0)
     (local-in-name x p rp around allowed place cs small room h.1)
 within-entity x p rx rp role around allowed place cs small false is room (inl h) = absurd (let e : false ≡ true = sym is ∙ h.1.0 in cc)
@@ -187,23 +187,23 @@ name-nested : (around : Around) (allowed : Option ℕ) (t : Term) (q : Qualifier
     → ((at : ℕ) → at ≡ place + length (78 ∷ name_letters q ref) → HasRoom (between at cs)
     → SoFar around allowed t false 18 at cs (between at cs))
     → HasRoom (with_letters (name_letters q ref) (in_N_and_E [] between) between place cs)
-    → NameReads around allowed 8 t q ref place cs (with_letters (name_letters q ref) (in_N_and_E [] between) between place cs)
+    → NameReads around allowed COMPLETE_NAME t q ref place cs (with_letters (name_letters q ref) (in_N_and_E [] between) between place cs)
 unfolding with_letters in_N_and_E choose alternatives pick is_in in_ranges among kinds is_chain
 name-nested around allowed t q ref place cs between so_far room = go (name_letters q ref) refl room
   where
     nested : (ls : List ℕ) → name_letters q ref ≡ ls → HasRoom (between (place + length (78 ∷ ls)) cs)
         → (let w = between (place + length (78 ∷ ls)) cs in
-        NameReads around allowed 8 t q ref place cs (written ((78 ∷ ls) ++ (w.bytes ++ (69 ∷ []))) w.components))
+        NameReads around allowed COMPLETE_NAME t q ref place cs (written ((78 ∷ ls) ++ (w.bytes ++ (69 ∷ []))) w.components))
     nested ls are enough =
         let w : Written = between (place + length (78 ∷ ls)) cs in
-        subst (λ x. NameReads around allowed 8 t q ref place cs (written ((78 ∷ x) ++ (w.bytes ++ (69 ∷ []))) w.components)) are
+        subst (λ x. NameReads around allowed COMPLETE_NAME t q ref place cs (written ((78 ∷ x) ++ (w.bytes ++ (69 ∷ []))) w.components)) are
         (letters-nested 8 around allowed t q ref place cs w
         (takes-byte COMPLETE_NAME Kind.CompleteName Production.NestedName 78 refl refl (omega arith) refl)
         (subst (λ x. SoFar around allowed t false 18 (place + length (78 ∷ x)) cs w) (sym are)
         (so_far (place + length (78 ∷ ls)) (ap (λ x. place + length (78 ∷ x)) (sym are)) enough)))
 
     go : (ls : List ℕ) → name_letters q ref ≡ ls → HasRoom (with_letters ls (in_N_and_E [] between) between place cs)
-        → NameReads around allowed 8 t q ref place cs (with_letters ls (in_N_and_E [] between) between place cs)
+        → NameReads around allowed COMPLETE_NAME t q ref place cs (with_letters ls (in_N_and_E [] between) between place cs)
     go [] are enough = nested [] are (nested-room [] between place cs enough)
     go (l ∷ ls) are enough = nested (l ∷ ls) are (nested-room (l ∷ ls) between place cs enough)
 
@@ -227,8 +227,8 @@ reads-within x p rx rp = record {
       within-entity x p rx rp role around allowed place cs small (is_encoding x) refl room h;
   as_entity_template = λ around allowed place cs small room h. record {
     is = λ arguments. h.0;
-    in_name = local-named x p (begins_name p) rp 23 (entity-rule p h.1.1) around allowed place cs small room h;
-    in_a_type = local-named x p (begins_name p) rp 24 (type-entity-rule p h.1.1) around allowed place cs small room h;
+    in_name = local-named x p (begins_name p) rp ENTITY (entity-rule p h.1.1) around allowed place cs small room h;
+    in_a_type = local-named x p (begins_name p) rp TYPE_ENTITY (type-entity-rule p h.1.1) around allowed place cs small room h;
   };
   as_piece = λ around allowed place cs small room h. absurd h;
   as_encoding = λ around allowed place cs small room h. absurd h;

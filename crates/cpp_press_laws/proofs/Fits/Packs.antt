@@ -4,7 +4,7 @@ use Rattle.std.specs.Prelude.{◌||◌, nat_eq}
 use Rattle.std.proofs.lemmas.Bool.{eqb-true, true≢false}
 use Rattle.sym_core.specs.declared.refusal.Refusal.{Refusal}
 use Rattle.sym_core.specs.declared.refusal.Refusal.TheVariants.{BadReference}
-use Rattle.cpp_grammar.specs.Term.{Term, symbol, alone, in_std, within, instance, local, holder, tagged, of_default, parameter, lambda, conversion, pointer, lvalue, rvalue, array, constrained, bounded, member_pointer, function_type, qualified, vector, complex, integer, pack, list}
+use Rattle.cpp_grammar.specs.Term.{Term, symbol, alone, in_std, within, instance, local, holder, tagged, of_default, parameter, inheriting, lambda, conversion, pointer, lvalue, rvalue, array, constrained, bounded, member_pointer, function_type, qualified, vector, complex, decltype, integer, operation, pack, list}
 use Rattle.cpp_grammar.specs.Scope.{is_open, first_of, pack_length}
 use Rattle.cpp_grammar.specs.Values.{State}
 use Rattle.cpp_grammar.specs.References.{with_packs}
@@ -42,6 +42,7 @@ closed-packs scope (holder name) closed = closed-packs scope name closed
 closed-packs scope (tagged of_structor name tag) closed = closed-packs scope name closed
 closed-packs scope (of_default digits entity) closed = closed-packs scope entity closed
 closed-packs scope (parameter k) closed = absurd (true≢false closed)
+closed-packs scope (inheriting digit class) closed = closed-packs scope class closed
 closed-packs scope (lambda parameters k) closed = closed-packs scope parameters closed
 closed-packs scope (conversion type) closed = closed-packs scope type closed
 closed-packs scope (constrained letter concept) closed = closed-packs scope concept closed
@@ -61,7 +62,11 @@ closed-packs scope (function_type c_linkage noexcept ref returned parameters) cl
 closed-packs scope (qualified q type) closed = closed-packs scope type closed
 closed-packs scope (vector digits type) closed = closed-packs scope type closed
 closed-packs scope (complex type) closed = closed-packs scope type closed
+closed-packs scope (decltype operand) closed = closed-packs scope operand closed
 closed-packs scope (integer type value) closed = closed-packs scope type closed
+closed-packs scope (operation one two u w) closed =
+    first-none (pack_length scope u) (pack_length scope w) (closed-packs scope u (left-shut (is_open u) (is_open w) closed))
+    (closed-packs scope w (right-shut (is_open u) (is_open w) closed))
 closed-packs scope (pack elements) closed = closed-packs scope elements closed
 closed-packs scope (list first rest) closed =
     first-none (pack_length scope first) (pack_length scope rest) (closed-packs scope first (left-shut (is_open first) (is_open rest) closed))

@@ -4,8 +4,8 @@ use Rattle.std.specs.Prelude.{cond, nat_eq}
 use Rattle.sym_core.specs.declared.NumberKind.TheVariants.{Decimal, Digits}
 use Rattle.cpp_grammar.specs.declared.kind.Kind.{Kind}
 use Rattle.cpp_grammar.specs.declared.production.Production.{Production}
-use Rattle.cpp_grammar.specs.Term.{lvalue_only, rvalue_only, Term, abbreviation, lvalue, rvalue}
-use Rattle.cpp_grammar.specs.Values.{Candidate, State, Around, Value, nothing_there, tree, tree_of, is_listed, is_there, text_of, ref_of, normal, part}
+use Rattle.cpp_grammar.specs.Term.{lvalue_only, rvalue_only, Term, abbreviation, lvalue, rvalue, encoding_literal, address_of, absent}
+use Rattle.cpp_grammar.specs.Values.{Candidate, State, Around, Value, nothing_there, tree, pair, tree_of, is_listed, is_there, text_of, ref_of, normal, part}
 use Rattle.cpp_grammar.specs.References.{with_type, with_prefix, appended, is_function_type, with_unqualified}
 use Rattle.cpp_grammar.specs.Between.{after, no_items, under_expansion}
 use Rattle.cpp_grammar.specs.Meaning.{signature_or, meaning, listed_value, reference_to, with_item, parameters}
@@ -42,6 +42,10 @@ pub record NameRead (around : Around) (v : Value) (old new : State) : Type 0 whe
   pub before : (a : Term) (now : State) → ElementsFit around a (with_prefix (after (tree_of v) (is_listed v) around) new) now
       → BeforeFits around (tree_of v) a old now
 
+-- the address of an encoding, as it is read so far
+abbrev pub AddressRead : (value_of : Term → Value) → Around → Value → (old new : State) → Type 0
+AddressRead value_of around v old new = (e : Term) × (v ≡ value_of e) × ((in_pack : Bool) → ArgumentFits around in_pack (address_of e) old new)
+
 -- what was read of types, their lists and the arguments of templates
 abbrev pub KindFits : Kind → Around → Value → (old new : State) → Type 0
 KindFits Kind.Type around v old new = TypeFits around any_type (tree_of v) old new
@@ -72,8 +76,10 @@ KindFits Kind.MaybeArguments around v old new =
     ((v ≡ nothing_there) × (new ≡ old)) ⊎ ((v ≡ tree (tree_of v) true) × ArgumentsRead around v old new)
 KindFits Kind.Literal around v old new = (in_pack : Bool) → ArgumentFits around in_pack (tree_of v) old new
 KindFits Kind.LiteralAfterD around v old new = (in_pack : Bool) → ArgumentFits around in_pack (tree_of v) old new
-KindFits Kind.Address around v old new = (in_pack : Bool) → ArgumentFits around in_pack (tree_of v) old new
-KindFits Kind.ExpressionRest around v old new = (in_pack : Bool) → ArgumentFits around in_pack (tree_of v) old new
+KindFits Kind.AddressedLiteral around v old new = AddressRead (λ e. tree (encoding_literal e) true) around v old new
+KindFits Kind.AddressedExpression around v old new = AddressRead (λ e. tree (encoding_literal e) true) around v old new
+KindFits Kind.ExpressionAfterA around v old new = AddressRead (λ e. pair 100 (encoding_literal e) absent) around v old new
+KindFits Kind.Expression around v old new = AddressRead (λ e. tree (address_of e) true) around v old new
 KindFits Kind.Argument around v old new = (in_pack : Bool) → ArgumentFits around in_pack (tree_of v) old new
 KindFits _ around v old new = Unit {0}
 

@@ -221,12 +221,12 @@ pub encoding-literal : (around : Around) (byte : ℕ) (began : State) (z e : Val
 unfolding meaning tree_of part unfolding_.behind
 encoding-literal around byte began z e old new one in_pack = encoding-literal-fits around in_pack (tree_of e) old new one
 
-pub address-literal : (around : Around) (byte : ℕ) (began : State) (line z e one_ two : Value) (old new : State)
-    → EncodingFits around (tree_of e) old new
-    → KindFits Kind.Address around (Meant Production.Address byte around (line ∷ z ∷ e ∷ one_ ∷ two ∷ [])) old
-    (Later Production.Address byte around began (line ∷ z ∷ e ∷ one_ ∷ two ∷ []) new)
+-- as an operand, whose address is taken
+pub addressed-literal : (around : Around) (byte : ℕ) (began : State) (z e : Value) (old new : State) → EncodingFits around (tree_of e) old new
+    → KindFits Kind.AddressedLiteral around (Meant Production.EncodingLiteral byte around (z ∷ e ∷ [])) old
+    (Later Production.EncodingLiteral byte around began (z ∷ e ∷ []) new)
 unfolding meaning tree_of part unfolding_.behind
-address-literal around byte began line z e one_ two old new one in_pack = address-fits around in_pack (tree_of e) old new one
+addressed-literal around byte began z e old new one = (tree_of e, refl, λ in_pack. address-fits around in_pack (tree_of e) old new one)
 
 pub literal-with-d : (around : Around) (byte : ℕ) (began : State) (v : Value) (old new : State) → KindFits Kind.LiteralAfterD around v old new
     → KindFits Kind.Literal around (Meant Production.LiteralWithD byte around (v ∷ [])) old

@@ -67,7 +67,7 @@ list-reads p k inner around allowed t items last place cs first rest takes parts
     two-parts p k [] around allowed place (OfKind inner) (OfKind k) (tree t true) last (tree (list t items) true) cs first rest takes parts
     (goes []) (goes (tree t true ∷ [])) opens means one two
 
--- items of an encoding's parameters and of a lambda's, arguments that are types, elements of a pack that are types
+-- items of an encoding's parameters and of a lambda's, arguments and elements of a pack, and those that are types
 pub items-more : (around : Around) (allowed : Option ℕ) (t items : Term) (last : Value) (place : ℕ) (cs : List Component) (first rest : Written)
     → no_items last ≡ items
     → ReadsAt around allowed (OfKind ITEM) (Is (tree t true)) (place + 0) cs first
@@ -75,8 +75,30 @@ pub items-more : (around : Around) (allowed : Option ℕ) (t items : Term) (last
     → ReadsAt around allowed (OfKind ITEMS) (Is (tree (list t items) true)) place cs (written (first.bytes ++ rest.bytes) rest.components)
 unfolding choose alternatives pick is_in in_ranges among kinds is_chain parts_of number_of_kind between opening close unfolding_.behind meaning tree_of part
 items-more around allowed t items last place cs first rest are one two =
-    list-reads Production.Items 41 30 around allowed t items last place cs first rest
+    list-reads Production.Items ITEMS ITEM around allowed t items last place cs first rest
     (takes-none ITEMS Kind.Items Production.Items 80 refl refl (omega arith) refl) refl (λ known s. refl) (λ f s. refl)
+    (λ began s. ap (λ l. Ok (found (tree (list t l) true) s)) are) one two
+
+pub any-argument : (around : Around) (allowed : Option ℕ) (t items : Term) (last : Value) (place : ℕ) (cs : List Component)
+    (first rest : Written) → no_items last ≡ items
+    → ReadsAt around allowed (OfKind ARGUMENT) (Is (tree t true)) (place + 0) cs first
+    → ReadsAt around allowed (OfKind ARGUMENT_LIST) (Is last) (place + 0 + length first.bytes) first.components rest
+    → ReadsAt around allowed (OfKind ARGUMENT_LIST) (Is (tree (list t items) true)) place cs (written (first.bytes ++ rest.bytes) rest.components)
+unfolding choose alternatives pick is_in in_ranges among kinds is_chain parts_of number_of_kind between opening close unfolding_.behind meaning tree_of part
+any-argument around allowed t items last place cs first rest are one two =
+    list-reads Production.AnyArgument ARGUMENT_LIST ARGUMENT around allowed t items last place cs first rest
+    (takes-none ARGUMENT_LIST Kind.ArgumentList Production.AnyArgument 80 refl refl (omega arith) refl) refl (λ known s. refl) (λ f s. refl)
+    (λ began s. ap (λ l. Ok (found (tree (list t l) true) s)) are) one two
+
+pub any-element : (around : Around) (allowed : Option ℕ) (t items : Term) (last : Value) (place : ℕ) (cs : List Component)
+    (first rest : Written) → no_items last ≡ items
+    → ReadsAt around allowed (OfKind ARGUMENT) (Is (tree t true)) (place + 0) cs first
+    → ReadsAt around allowed (OfKind PACK_LIST) (Is last) (place + 0 + length first.bytes) first.components rest
+    → ReadsAt around allowed (OfKind PACK_LIST) (Is (tree (list t items) true)) place cs (written (first.bytes ++ rest.bytes) rest.components)
+unfolding choose alternatives pick is_in in_ranges among kinds is_chain parts_of number_of_kind between opening close unfolding_.behind meaning tree_of part
+any-element around allowed t items last place cs first rest are one two =
+    list-reads Production.AnyElement PACK_LIST ARGUMENT around allowed t items last place cs first rest
+    (takes-none PACK_LIST Kind.PackList Production.AnyElement 80 refl refl (omega arith) refl) refl (λ known s. refl) (λ f s. refl)
     (λ began s. ap (λ l. Ok (found (tree (list t l) true) s)) are) one two
 
 pub type-argument : (around : Around) (allowed : Option ℕ) (t items : Term) (last : Value) (place : ℕ) (cs : List Component)
@@ -84,22 +106,16 @@ pub type-argument : (around : Around) (allowed : Option ℕ) (t items : Term) (l
     → ReadsAt around allowed (OfKind ITEM) (Is (tree t true)) (place + 0) cs first
     → ReadsAt around allowed (OfKind ARGUMENT_LIST) (Is last) (place + 0 + length first.bytes) first.components rest
     → ReadsAt around allowed (OfKind ARGUMENT_LIST) (Is (tree (list t items) true)) place cs (written (first.bytes ++ rest.bytes) rest.components)
-unfolding choose alternatives pick is_in in_ranges among kinds is_chain parts_of number_of_kind between opening close unfolding_.behind meaning tree_of part
 type-argument around allowed t items last place cs first rest are one two =
-    list-reads Production.AnyArgument ARGUMENT_LIST ARGUMENT around allowed t items last place cs first rest
-    (takes-none ARGUMENT_LIST Kind.ArgumentList Production.AnyArgument 80 refl refl (omega arith) refl) refl (λ known s. refl) (λ f s. refl)
-    (λ began s. ap (λ l. Ok (found (tree (list t l) true) s)) are) (item-as-argument around allowed (Is (tree t true)) (place + 0) cs first one) two
+    any-argument around allowed t items last place cs first rest are (item-as-argument around allowed (Is (tree t true)) (place + 0) cs first one) two
 
 pub type-element : (around : Around) (allowed : Option ℕ) (t items : Term) (last : Value) (place : ℕ) (cs : List Component)
     (first rest : Written) → no_items last ≡ items
     → ReadsAt around allowed (OfKind ITEM) (Is (tree t true)) (place + 0) cs first
     → ReadsAt around allowed (OfKind PACK_LIST) (Is last) (place + 0 + length first.bytes) first.components rest
     → ReadsAt around allowed (OfKind PACK_LIST) (Is (tree (list t items) true)) place cs (written (first.bytes ++ rest.bytes) rest.components)
-unfolding choose alternatives pick is_in in_ranges among kinds is_chain parts_of number_of_kind between opening close unfolding_.behind meaning tree_of part
 type-element around allowed t items last place cs first rest are one two =
-    list-reads Production.AnyElement PACK_LIST ARGUMENT around allowed t items last place cs first rest
-    (takes-none PACK_LIST Kind.PackList Production.AnyElement 80 refl refl (omega arith) refl) refl (λ known s. refl) (λ f s. refl)
-    (λ began s. ap (λ l. Ok (found (tree (list t l) true) s)) are) (item-as-argument around allowed (Is (tree t true)) (place + 0) cs first one) two
+    any-element around allowed t items last place cs first rest are (item-as-argument around allowed (Is (tree t true)) (place + 0) cs first one) two
 
 -- ## Arguments in I and E
 
@@ -132,7 +148,7 @@ pub expansion-reads : (around : Around) (allowed inner : Option ℕ) (t : Term) 
     → ReadsAt around allowed (OfKind ITEM_AFTER_D) (Is (tree (expansion t) false)) place cs (written (112 ∷ w.bytes) w.components)
 unfolding choose alternatives pick is_in in_ranges among kinds is_chain parts_of number_of_kind between opening close unfolding_.behind meaning tree_of part
 expansion-reads around allowed inner t place cs w one =
-    production-reads Production.Expansion 32 (112 ∷ []) around allowed inner place (AreOnly (tree t true ∷ [])) (Is (tree (expansion t) false))
+    production-reads Production.Expansion ITEM_AFTER_D (112 ∷ []) around allowed inner place (AreOnly (tree t true ∷ [])) (Is (tree (expansion t) false))
     cs w.components (OfKind TYPE ∷ []) w
     (takes-byte ITEM_AFTER_D Kind.ItemAfterD Production.Expansion 112 refl refl (omega arith) refl) refl
     (row-last Production.Expansion (112 ∷ []) around (under_expansion around) allowed inner place (OfKind TYPE) [] [] (Is (tree t true))
@@ -167,7 +183,7 @@ integer-reads around allowed n place cs good = go n.negative n.digits good.digit
     go true digits are minus =
         same-written around allowed (OfKind INTEGER) (Is (signed (record { negative = true; digits = digits }))) place cs cs (110 ∷ (digits ++ []))
         (110 ∷ digits) (ap (λ l. 110 ∷ l) (append-nil digits))
-        (one-part Production.Negative 7 (110 ∷ []) around allowed place (Number Digits) (value.text digits)
+        (one-part Production.Negative INTEGER (110 ∷ []) around allowed place (Number Digits) (value.text digits)
         (signed (record { negative = true; digits = digits })) cs (written (digits ++ []) cs)
         (takes-byte INTEGER Kind.Integer Production.Negative 110 refl refl (omega arith) refl) refl (λ s. refl) (λ f s. refl)
         (λ began s. ap (λ v. Ok (found (signed v) s)) (signed-kept true digits are.normal_are minus))
@@ -175,7 +191,7 @@ integer-reads around allowed n place cs good = go n.negative n.digits good.digit
     go false digits are minus =
         same-written around allowed (OfKind INTEGER) (Is (signed (record { negative = false; digits = digits }))) place cs cs (digits ++ []) digits
         (append-nil digits)
-        (one-part Production.Positive 7 [] around allowed place (Number Digits) (value.text digits)
+        (one-part Production.Positive INTEGER [] around allowed place (Number Digits) (value.text digits)
         (signed (record { negative = false; digits = digits })) cs (written (digits ++ []) cs)
         (takes-none INTEGER Kind.Integer Production.Positive 48 refl refl (omega arith) refl) refl (λ s. refl) (λ f s. refl)
         (λ began s. ap (λ v. Ok (found (signed v) s)) (signed-kept false digits are.normal_are minus))

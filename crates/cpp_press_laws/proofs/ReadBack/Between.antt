@@ -58,7 +58,7 @@ named-piece around allowed k p t place cs w one rule is = record {
 -- a piece after St, as an encoding's own name
 pub named-std : (around : Around) (allowed : Option ℕ) (p : Term) (place : ℕ) (cs : List Component) (w : Written)
     → ReadsAt around allowed (OfKind UNQUALIFIED) (Is (piece p)) (place + 2) cs w
-    → Named around allowed 8 (in_std p) place cs (written (83 ∷ 116 ∷ w.bytes) w.components)
+    → Named around allowed COMPLETE_NAME (in_std p) place cs (written (83 ∷ 116 ∷ w.bytes) w.components)
 unfolding applied is_there tree_of
 named-std around allowed p place cs w one =
     let first : ReadsAt around allowed (OfKind UNQUALIFIED) (Is (piece p)) (place + 1 + 1) cs w =

@@ -34,10 +34,10 @@ pub std-name : (around : Around) (allowed : Option ℕ) (p : Term) (last : Value
     (written (83 ∷ 116 ∷ (first.bytes ++ args.bytes)) args.components)
 unfolding choose alternatives pick is_in in_ranges among kinds is_chain parts_of number_of_kind between opening close unfolding_.behind meaning named_so_far tree_of piece_of part
 std-name around allowed p last place cs first args one two =
-    one-part Production.NameWithS 8 (83 ∷ []) around allowed place (OfKind NAME_AFTER_S) (tree (applied (in_std p) last) false)
+    one-part Production.NameWithS COMPLETE_NAME (83 ∷ []) around allowed place (OfKind NAME_AFTER_S) (tree (applied (in_std p) last) false)
     (tree (applied (in_std p) last) false) cs (written (116 ∷ (first.bytes ++ args.bytes)) args.components)
     (takes-byte COMPLETE_NAME Kind.CompleteName Production.NameWithS 83 refl refl (omega arith) refl) refl (λ s. refl) (λ f s. refl) (λ began s. refl)
-    (name-with Production.StdName 13 (116 ∷ []) around allowed (place + 1) (OfKind UNQUALIFIED) (piece p) (in_std p) last cs first args
+    (name-with Production.StdName NAME_AFTER_S (116 ∷ []) around allowed (place + 1) (OfKind UNQUALIFIED) (piece p) (in_std p) last cs first args
     (takes-byte NAME_AFTER_S Kind.NameAfterS Production.StdName 116 refl refl (omega arith) refl) refl (λ s. refl) (λ s. refl) (λ f s. refl)
     (λ began s. refl) one two)
 
@@ -58,10 +58,10 @@ pub abbreviated-name : (around : Around) (allowed : Option ℕ) (t items : Term)
     → ReadsAt around allowed (OfKind COMPLETE_NAME) (Is (tree (instance t items) false)) place cs (written (83 ∷ (first.bytes ++ args.bytes)) args.components)
 unfolding choose alternatives pick is_in in_ranges among kinds is_chain parts_of number_of_kind between opening close unfolding_.behind meaning listed_so_far applied is_there tree_of part
 abbreviated-name around allowed t items place cs first args one two =
-    one-part Production.NameWithS 8 (83 ∷ []) around allowed place (OfKind NAME_AFTER_S) (tree (instance t items) false) (tree (instance t items) false) cs
+    one-part Production.NameWithS COMPLETE_NAME (83 ∷ []) around allowed place (OfKind NAME_AFTER_S) (tree (instance t items) false) (tree (instance t items) false) cs
     (written (first.bytes ++ args.bytes) args.components)
     (takes-byte COMPLETE_NAME Kind.CompleteName Production.NameWithS 83 refl refl (omega arith) refl) refl (λ s. refl) (λ f s. refl) (λ began s. refl)
-    (whole-same Production.AbbreviatedName 13 [] around allowed (place + 1) (tree t true ∷ tree items true ∷ []) (tree (instance t items) false)
+    (whole-same Production.AbbreviatedName NAME_AFTER_S [] around allowed (place + 1) (tree t true ∷ tree items true ∷ []) (tree (instance t items) false)
     cs (OfKind ABBREVIATION ∷ OfKind ARGUMENTS ∷ []) (written (first.bytes ++ args.bytes) args.components)
     (takes-none NAME_AFTER_S Kind.NameAfterS Production.AbbreviatedName 95 refl refl (omega arith) refl) refl (λ f s. refl) (λ began s. refl)
     (then-part Production.AbbreviatedName [] around allowed (place + 1) (OfKind ABBREVIATION) (OfKind ARGUMENTS ∷ []) [] (tree t true)

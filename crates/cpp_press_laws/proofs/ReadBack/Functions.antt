@@ -209,7 +209,7 @@ pub vector-behind-d : (around : Around) (allowed : Option ℕ) (digits : List �
 unfolding choose alternatives pick is_in in_ranges among kinds is_chain parts_of number_of_kind between opening close unfolding_.behind meaning tree_of text_of part
 vector-behind-d around allowed digits t place cs w good one =
     let number : Written = written ((digits_token digits).before ++ digits ++ []) cs in
-    whole-same Production.Vector 33 (118 ∷ []) around allowed place (value.text digits ∷ nothing_there ∷ tree t true ∷ [])
+    whole-same Production.Vector AFTER_D (118 ∷ []) around allowed place (value.text digits ∷ nothing_there ∷ tree t true ∷ [])
     (tree (vector digits t) false) cs (Number Digits ∷ Byte 95 ∷ OfKind TYPE ∷ []) (written (number.bytes ++ (95 ∷ w.bytes)) w.components)
     (takes-byte AFTER_D Kind.AfterD Production.Vector 118 refl refl (omega arith) refl) refl (λ f s. refl) (λ began s. rw good.normal_are refl)
     (then-part Production.Vector (118 ∷ []) around allowed place (Number Digits) (Byte 95 ∷ OfKind TYPE ∷ []) [] (value.text digits)
@@ -235,7 +235,7 @@ pub rest-ends-lvalue : (around : Around) (allowed : Option ℕ) (place : ℕ) (c
     → ReadsAt around allowed (OfKind FUNCTION_REST) (Is (signature nil lvalue_only)) place cs (written (82 ∷ 69 ∷ []) cs)
 unfolding choose alternatives pick is_in in_ranges among kinds is_chain parts_of number_of_kind between opening close unfolding_.behind meaning signature_or part
 rest-ends-lvalue around allowed place cs =
-    one-part Production.RestLvalue 38 (82 ∷ []) around allowed place (OfKind AFTER_R) nothing_there (signature nil lvalue_only) cs (written (69 ∷ []) cs)
+    one-part Production.RestLvalue FUNCTION_REST (82 ∷ []) around allowed place (OfKind AFTER_R) nothing_there (signature nil lvalue_only) cs (written (69 ∷ []) cs)
     (takes-byte FUNCTION_REST Kind.FunctionRest Production.RestLvalue 82 refl refl (omega arith) refl) refl (λ s. refl) (λ f s. refl) (λ began s. refl)
     (no-part Production.RefEnd AFTER_R (69 ∷ []) around allowed (place + 1) nothing_there cs
     (takes-byte AFTER_R Kind.AfterR Production.RefEnd 69 refl refl (omega arith) refl) refl (λ f s. refl) (λ began s. refl))
@@ -244,7 +244,7 @@ pub rest-ends-rvalue : (around : Around) (allowed : Option ℕ) (place : ℕ) (c
     → ReadsAt around allowed (OfKind FUNCTION_REST) (Is (signature nil rvalue_only)) place cs (written (79 ∷ 69 ∷ []) cs)
 unfolding choose alternatives pick is_in in_ranges among kinds is_chain parts_of number_of_kind between opening close unfolding_.behind meaning signature_or part
 rest-ends-rvalue around allowed place cs =
-    one-part Production.RestRvalue 38 (79 ∷ []) around allowed place (OfKind AFTER_O) nothing_there (signature nil rvalue_only) cs (written (69 ∷ []) cs)
+    one-part Production.RestRvalue FUNCTION_REST (79 ∷ []) around allowed place (OfKind AFTER_O) nothing_there (signature nil rvalue_only) cs (written (69 ∷ []) cs)
     (takes-byte FUNCTION_REST Kind.FunctionRest Production.RestRvalue 79 refl refl (omega arith) refl) refl (λ s. refl) (λ f s. refl) (λ began s. refl)
     (no-part Production.RefEnd AFTER_O (69 ∷ []) around allowed (place + 1) nothing_there cs
     (takes-byte AFTER_O Kind.AfterO Production.RefEnd 69 refl refl (omega arith) refl) refl (λ f s. refl) (λ began s. refl))
@@ -256,7 +256,7 @@ pub rest-item : (around : Around) (allowed : Option ℕ) (t items : Term) (ref :
     → ReadsAt around allowed (OfKind FUNCTION_REST) (Is (signature (list t items) ref)) place cs (written (first.bytes ++ rest.bytes) rest.components)
 unfolding choose alternatives pick is_in in_ranges among kinds is_chain parts_of number_of_kind between opening close unfolding_.behind meaning with_item tree_of ref_of part
 rest-item around allowed t items ref place cs first rest one two =
-    two-parts Production.RestItem 38 [] around allowed place (OfKind ITEM_BUT_REF) (OfKind FUNCTION_REST) (tree t true) (signature items ref)
+    two-parts Production.RestItem FUNCTION_REST [] around allowed place (OfKind ITEM_BUT_REF) (OfKind FUNCTION_REST) (tree t true) (signature items ref)
     (signature (list t items) ref) cs first rest
     (takes-none FUNCTION_REST Kind.FunctionRest Production.RestItem 80 refl refl (omega arith) refl) refl (λ s. refl) (λ s. refl) (λ f s. refl)
     (λ began s. refl) one two
@@ -271,10 +271,10 @@ pub rest-lvalue : (around : Around) (allowed : Option ℕ) (t items : Term) (ref
     (written (82 ∷ (first.bytes ++ rest.bytes)) rest.components)
 unfolding choose alternatives pick is_in in_ranges among kinds is_chain parts_of number_of_kind between opening close unfolding_.behind meaning signature_or with_item tree_of ref_of part appended
 rest-lvalue around allowed t items ref place cs first rest one two =
-    one-part Production.RestLvalue 38 (82 ∷ []) around allowed place (OfKind AFTER_R) (signature (list (lvalue t) items) ref)
+    one-part Production.RestLvalue FUNCTION_REST (82 ∷ []) around allowed place (OfKind AFTER_R) (signature (list (lvalue t) items) ref)
     (signature (list (lvalue t) items) ref) cs (written (first.bytes ++ rest.bytes) rest.components)
     (takes-byte FUNCTION_REST Kind.FunctionRest Production.RestLvalue 82 refl refl (omega arith) refl) refl (λ s. refl) (λ f s. refl) (λ began s. refl)
-    (whole-same Production.LvalueItem 39 [] around allowed (place + 1) (tree (lvalue t) true ∷ signature items ref ∷ [])
+    (whole-same Production.LvalueItem AFTER_R [] around allowed (place + 1) (tree (lvalue t) true ∷ signature items ref ∷ [])
     (signature (list (lvalue t) items) ref) cs (OfKind TYPE ∷ OfKind FUNCTION_REST ∷ []) (written (first.bytes ++ rest.bytes) rest.components)
     (takes-none AFTER_R Kind.AfterR Production.LvalueItem 80 refl refl (omega arith) refl) refl (λ f s. refl) (λ began s. refl)
     (then-part Production.LvalueItem [] around allowed (place + 1) (OfKind TYPE) (OfKind FUNCTION_REST ∷ []) [] (tree t true)
@@ -300,10 +300,10 @@ pub rest-rvalue : (around : Around) (allowed : Option ℕ) (t items : Term) (ref
     (written (79 ∷ (first.bytes ++ rest.bytes)) rest.components)
 unfolding choose alternatives pick is_in in_ranges among kinds is_chain parts_of number_of_kind between opening close unfolding_.behind meaning signature_or with_item tree_of ref_of part appended
 rest-rvalue around allowed t items ref place cs first rest one two =
-    one-part Production.RestRvalue 38 (79 ∷ []) around allowed place (OfKind AFTER_O) (signature (list (rvalue t) items) ref)
+    one-part Production.RestRvalue FUNCTION_REST (79 ∷ []) around allowed place (OfKind AFTER_O) (signature (list (rvalue t) items) ref)
     (signature (list (rvalue t) items) ref) cs (written (first.bytes ++ rest.bytes) rest.components)
     (takes-byte FUNCTION_REST Kind.FunctionRest Production.RestRvalue 79 refl refl (omega arith) refl) refl (λ s. refl) (λ f s. refl) (λ began s. refl)
-    (whole-same Production.RvalueItem 40 [] around allowed (place + 1) (tree (rvalue t) true ∷ signature items ref ∷ [])
+    (whole-same Production.RvalueItem AFTER_O [] around allowed (place + 1) (tree (rvalue t) true ∷ signature items ref ∷ [])
     (signature (list (rvalue t) items) ref) cs (OfKind TYPE ∷ OfKind FUNCTION_REST ∷ []) (written (first.bytes ++ rest.bytes) rest.components)
     (takes-none AFTER_O Kind.AfterO Production.RvalueItem 80 refl refl (omega arith) refl) refl (λ f s. refl) (λ began s. refl)
     (then-part Production.RvalueItem [] around allowed (place + 1) (OfKind TYPE) (OfKind FUNCTION_REST ∷ []) [] (tree t true)
@@ -331,7 +331,7 @@ pub function-solid : (around : Around) (allowed : Option ℕ) (c_linkage : Bool)
 unfolding choose alternatives pick is_in in_ranges among kinds is_chain parts_of number_of_kind may_be_empty between opening close unfolding_.behind meaning tree_of ref_of is_there part
 function-solid around allowed c_linkage returned items ref place cs first rest one two =
     let mark : List ℕ = mark_bytes c_linkage 89 in
-    whole-same Production.Function 34 (70 ∷ []) around allowed place (mark_value c_linkage 89 ∷ tree returned true ∷ signature items ref ∷ [])
+    whole-same Production.Function SOLID (70 ∷ []) around allowed place (mark_value c_linkage 89 ∷ tree returned true ∷ signature items ref ∷ [])
     (tree (function_type c_linkage false ref returned (parameters items)) false) cs (OfKind MAYBE_C_LINKAGE ∷ OfKind TYPE ∷ OfKind FUNCTION_REST ∷ [])
     (written (mark ++ (first.bytes ++ rest.bytes)) rest.components)
     (takes-byte SOLID Kind.Solid Production.Function 70 refl refl (omega arith) refl) refl (λ f s. refl) (means c_linkage)
@@ -362,7 +362,7 @@ pub noexcept-behind-d : (around : Around) (allowed : Option ℕ) (c_linkage : Bo
 unfolding choose alternatives pick is_in in_ranges among kinds is_chain parts_of number_of_kind may_be_empty between opening close unfolding_.behind meaning tree_of ref_of is_there part
 noexcept-behind-d around allowed c_linkage returned items ref place cs first rest one two =
     let mark : List ℕ = mark_bytes c_linkage 89 in
-    whole-same Production.NoexceptFunction 33 (111 ∷ []) around allowed place
+    whole-same Production.NoexceptFunction AFTER_D (111 ∷ []) around allowed place
     (nothing_there ∷ mark_value c_linkage 89 ∷ tree returned true ∷ signature items ref ∷ [])
     (tree (function_type c_linkage true ref returned (parameters items)) false) cs (Byte 70 ∷ OfKind MAYBE_C_LINKAGE ∷ OfKind TYPE ∷ OfKind FUNCTION_REST ∷ [])
     (written (70 ∷ (mark ++ (first.bytes ++ rest.bytes))) rest.components)

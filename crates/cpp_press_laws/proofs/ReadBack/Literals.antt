@@ -1,26 +1,28 @@
 -- Literals, addresses and packs are read as what was pressed, from their parts.
 use Rattle.std.proofs.Common.{◌≡◌, ℕ, ◌+◌, ◌<◌, length, List, [], ◌∷◌, ◌++◌, Option, Some, Bool, true, false, Ok, refl, ap, arith, sym, subst, ◌∙◌}
 use Rattle.std.specs.Prelude.{cond}
+use Rattle.std.proofs.lemmas.List.{append_assoc}
 use Rattle.sym_shape.specs.declared.rule.Sym.TheVariants.{Kind as OfKind, Byte}
+use Rattle.sym_shape.specs.Tree.{TakesRule}
 use Rattle.sym_link.specs.Unfold.{found}
 use Rattle.cpp_grammar.specs.declared.kind.Kind.{Kind}
 use Rattle.cpp_grammar.specs.declared.production.Production.{Production}
-use Rattle.cpp_grammar.specs.KindNumbers.{ENCODING, INTEGER, ARGUMENT, EXPRESSION_REST, ARGUMENT_LIST, PACK_LIST, ADDRESS, LITERAL, BIT, LITERAL_AFTER_D, MAYBE_ZERO, LITERAL_TYPE}
+use Rattle.cpp_grammar.specs.KindNumbers.{ENCODING, INTEGER, ARGUMENT, ARGUMENT_LIST, PACK_LIST, LITERAL, BIT, LITERAL_AFTER_D, MAYBE_ZERO, LITERAL_TYPE, ADDRESSED_EXPRESSION, ADDRESSED_LITERAL, EXPRESSION, EXPRESSION_AFTER_A}
 use Rattle.cpp_grammar.specs.Grammar.{in_ranges, among, is_in, pick, number_of_kind, alternatives, choose, kinds, parts_of, is_chain, may_be_empty}
-use Rattle.cpp_grammar.specs.Term.{Signed, Term, builtin, integer, boolean, null_pointer, encoding_literal, address_of, pack, list}
-use Rattle.cpp_grammar.specs.Values.{Around, Value, nothing_there, letter, signed, tree, tree_of, letter_of, signed_of, is_listed, part}
+use Rattle.cpp_grammar.specs.Table.{abi, rule_of}
+use Rattle.cpp_grammar.specs.Term.{Signed, Term, builtin, integer, boolean, null_pointer, encoding_literal, address_of, pack, list, absent}
+use Rattle.cpp_grammar.specs.Values.{Around, Value, nothing_there, letter, signed, tree, pair, tree_of, letter_of, signed_of, is_listed, part}
 use Rattle.cpp_grammar.specs.References.{appended, with_type}
 use Rattle.cpp_grammar.specs.Between.{between, no_items}
-use Rattle.cpp_grammar.specs.Meaning.{meaning}
+use Rattle.cpp_grammar.specs.Meaning.{operation_by, operation_or_address, is_code, enclosed_argument, ends_arguments, meaning}
 use Rattle.cpp_grammar.specs.Unfolding as unfolding_
 use Rattle.cpp_grammar.specs.Unfolding.{opening, close, byte_of}
 use Rattle.cpp_press_laws.specs.Components.{Component}
 use Rattle.cpp_press_laws.specs.Spellable.{IsSpellableNumber}
 use Rattle.cpp_press_laws.specs.Subtrees.{Written, written, ReadsAt, Is}
 use Rattle.cpp_press_laws.proofs.ReadBack.Reading.{appended-same, RowAt, passes-by, row-part, row-last, takes-byte, takes-none, fixed-reads, empty-reads}
-use Rattle.cpp_press_laws.proofs.ReadBack.Types.{AreOnly, one-part, more, then-part, then-last, whole-same}
+use Rattle.cpp_press_laws.proofs.ReadBack.Types.{AreOnly, same-written, one-part, more, then-part, then-last, whole-same}
 use Rattle.cpp_press_laws.proofs.ReadBack.Solids.{two-parts}
-use Rattle.cpp_press_laws.proofs.ReadBack.Arguments.{list-reads}
 use Rattle.cpp_press_laws.proofs.ReadBack.Functions.{mark-reads}
 
 -- ## Literals
@@ -29,11 +31,11 @@ pub boolean-literal : (around : Around) (allowed : Option ℕ) (truth : Bool) (p
     → ReadsAt around allowed (OfKind LITERAL) (Is (tree (boolean truth) true)) place cs (written (98 ∷ cond truth 49 48 ∷ []) cs)
 unfolding choose alternatives pick is_in in_ranges among kinds is_chain parts_of number_of_kind between opening close unfolding_.behind meaning letter_of part
 boolean-literal around allowed true place cs =
-    one-part Production.BoolLiteral 47 (98 ∷ []) around allowed place (OfKind BIT) (letter 49) (tree (boolean true) true) cs (written (49 ∷ []) cs)
+    one-part Production.BoolLiteral LITERAL (98 ∷ []) around allowed place (OfKind BIT) (letter 49) (tree (boolean true) true) cs (written (49 ∷ []) cs)
     (takes-byte LITERAL Kind.Literal Production.BoolLiteral 98 refl refl (omega arith) refl) refl (λ s. refl) (λ f s. refl) (λ began s. refl)
     (mark-reads around allowed BIT Kind.Bit 49 (place + 1) cs refl refl (omega arith))
 boolean-literal around allowed false place cs =
-    one-part Production.BoolLiteral 47 (98 ∷ []) around allowed place (OfKind BIT) (letter 48) (tree (boolean false) true) cs (written (48 ∷ []) cs)
+    one-part Production.BoolLiteral LITERAL (98 ∷ []) around allowed place (OfKind BIT) (letter 48) (tree (boolean false) true) cs (written (48 ∷ []) cs)
     (takes-byte LITERAL Kind.Literal Production.BoolLiteral 98 refl refl (omega arith) refl) refl (λ s. refl) (λ f s. refl) (λ began s. refl)
     (mark-reads around allowed BIT Kind.Bit 48 (place + 1) cs refl refl (omega arith))
 
@@ -41,10 +43,10 @@ pub null-literal : (around : Around) (allowed : Option ℕ) (place : ℕ) (cs : 
     → ReadsAt around allowed (OfKind LITERAL) (Is (tree null_pointer true)) place cs (written (68 ∷ 110 ∷ []) cs)
 unfolding choose alternatives pick is_in in_ranges among kinds is_chain parts_of number_of_kind may_be_empty between opening close unfolding_.behind meaning part
 null-literal around allowed place cs =
-    one-part Production.LiteralWithD 47 (68 ∷ []) around allowed place (OfKind LITERAL_AFTER_D) (tree null_pointer true) (tree null_pointer true) cs
+    one-part Production.LiteralWithD LITERAL (68 ∷ []) around allowed place (OfKind LITERAL_AFTER_D) (tree null_pointer true) (tree null_pointer true) cs
     (written (110 ∷ []) cs)
     (takes-byte LITERAL Kind.Literal Production.LiteralWithD 68 refl refl (omega arith) refl) refl (λ s. refl) (λ f s. refl) (λ began s. refl)
-    (one-part Production.NullLiteral 49 (110 ∷ []) around allowed (place + 1) (OfKind MAYBE_ZERO) nothing_there (tree null_pointer true) cs (written [] cs)
+    (one-part Production.NullLiteral LITERAL_AFTER_D (110 ∷ []) around allowed (place + 1) (OfKind MAYBE_ZERO) nothing_there (tree null_pointer true) cs (written [] cs)
     (takes-byte LITERAL_AFTER_D Kind.LiteralAfterD Production.NullLiteral 110 refl refl (omega arith) refl) refl (λ s. refl) (λ f s. refl) (λ began s. refl)
     (empty-reads around allowed MAYBE_ZERO Kind.MaybeZero (place + 1 + 1) cs refl refl))
 
@@ -55,10 +57,10 @@ pub char-literal : (around : Around) (allowed : Option ℕ) (byte : ℕ) (n : Si
     → ReadsAt around allowed (OfKind LITERAL) (Is (tree (integer (builtin (68 ∷ byte ∷ [])) n) true)) place cs (written (68 ∷ byte ∷ w.bytes) w.components)
 unfolding choose alternatives pick is_in in_ranges among kinds is_chain parts_of number_of_kind between opening close unfolding_.behind meaning signed_of part byte_of
 char-literal around allowed byte n place cs small chosen good w one =
-    one-part Production.LiteralWithD 47 (68 ∷ []) around allowed place (OfKind LITERAL_AFTER_D) (tree (integer (builtin (68 ∷ byte ∷ [])) n) true)
+    one-part Production.LiteralWithD LITERAL (68 ∷ []) around allowed place (OfKind LITERAL_AFTER_D) (tree (integer (builtin (68 ∷ byte ∷ [])) n) true)
     (tree (integer (builtin (68 ∷ byte ∷ [])) n) true) cs (written (byte ∷ w.bytes) w.components)
     (takes-byte LITERAL Kind.Literal Production.LiteralWithD 68 refl refl (omega arith) refl) refl (λ s. refl) (λ f s. refl) (λ began s. refl)
-    (one-part Production.CharLiteral 49 (byte ∷ []) around allowed (place + 1) (OfKind INTEGER) (signed n)
+    (one-part Production.CharLiteral LITERAL_AFTER_D (byte ∷ []) around allowed (place + 1) (OfKind INTEGER) (signed n)
     (tree (integer (builtin (68 ∷ byte ∷ [])) n) true) cs w
     (takes-byte LITERAL_AFTER_D Kind.LiteralAfterD Production.CharLiteral byte refl chosen small refl) refl (λ s. refl) (λ f s. refl) (λ began s. refl) one)
 
@@ -69,7 +71,7 @@ pub integer-literal : (around : Around) (allowed : Option ℕ) (t : Term) (n : S
     → ReadsAt around allowed (OfKind LITERAL) (Is (tree (integer t n) true)) place cs (written (first.bytes ++ rest.bytes) rest.components)
 unfolding choose alternatives pick is_in in_ranges among kinds is_chain parts_of number_of_kind between opening close unfolding_.behind meaning with_type tree_of is_listed signed_of part appended
 integer-literal around allowed t n place cs first rest one two =
-    whole-same Production.IntegerLiteral 47 [] around allowed place (tree t false ∷ signed n ∷ []) (tree (integer t n) true) cs
+    whole-same Production.IntegerLiteral LITERAL [] around allowed place (tree t false ∷ signed n ∷ []) (tree (integer t n) true) cs
     (OfKind LITERAL_TYPE ∷ OfKind INTEGER ∷ []) (written (first.bytes ++ rest.bytes) rest.components)
     (takes-none LITERAL Kind.Literal Production.IntegerLiteral 80 refl refl (omega arith) refl) refl (λ f s. refl) (λ began s. refl)
     (then-part Production.IntegerLiteral [] around allowed place (OfKind LITERAL_TYPE) (OfKind INTEGER ∷ []) [] (tree t false)
@@ -86,21 +88,28 @@ pub integer-literal-same : (around : Around) (allowed : Option ℕ) (t : Term) (
     → ReadsAt around allowed (OfKind LITERAL) (Is (tree (integer t n) true)) place cs (written (first.bytes ++ rest.bytes) rest.components)
 unfolding choose alternatives pick is_in in_ranges among kinds is_chain parts_of number_of_kind between opening close unfolding_.behind meaning with_type tree_of is_listed signed_of part
 integer-literal-same around allowed t n place cs first rest one two =
-    two-parts Production.IntegerLiteral 47 [] around allowed place (OfKind LITERAL_TYPE) (OfKind INTEGER) (tree t true) (signed n) (tree (integer t n) true) cs
+    two-parts Production.IntegerLiteral LITERAL [] around allowed place (OfKind LITERAL_TYPE) (OfKind INTEGER) (tree t true) (signed n) (tree (integer t n) true) cs
     first rest
     (takes-none LITERAL Kind.Literal Production.IntegerLiteral 80 refl refl (omega arith) refl) refl (λ s. refl) (λ s. refl) (λ f s. refl)
     (λ began s. refl) one two
 
+encoding-as : (k : ℕ) (around : Around) (allowed : Option ℕ) (e : Term) (place : ℕ) (cs : List Component) (w : Written)
+    → TakesRule abi k (rule_of Production.EncodingLiteral) (95 ∷ [])
+    → ReadsAt around allowed (OfKind ENCODING) (Is (tree e true)) (place + 1 + 1) cs w
+    → ReadsAt around allowed (OfKind k) (Is (tree (encoding_literal e) true)) place cs (written (95 ∷ 90 ∷ w.bytes) w.components)
+unfolding parts_of number_of_kind between opening close unfolding_.behind meaning tree_of part
+encoding-as k around allowed e place cs w takes one =
+    two-parts Production.EncodingLiteral k (95 ∷ []) around allowed place (Byte 90) (OfKind ENCODING) nothing_there (tree e true)
+    (tree (encoding_literal e) true) cs (written (90 ∷ []) cs) w takes refl (λ s. refl) (λ s. refl) (λ f s. refl)
+    (λ began s. refl)
+    (fixed-reads around allowed 90 (place + 1) cs) one
+
 pub encoding-literal : (around : Around) (allowed : Option ℕ) (e : Term) (place : ℕ) (cs : List Component) (w : Written)
     → ReadsAt around allowed (OfKind ENCODING) (Is (tree e true)) (place + 1 + 1) cs w
     → ReadsAt around allowed (OfKind LITERAL) (Is (tree (encoding_literal e) true)) place cs (written (95 ∷ 90 ∷ w.bytes) w.components)
-unfolding choose alternatives pick is_in in_ranges among kinds is_chain parts_of number_of_kind between opening close unfolding_.behind meaning tree_of part
+unfolding choose alternatives pick is_in in_ranges among kinds is_chain
 encoding-literal around allowed e place cs w one =
-    two-parts Production.EncodingLiteral 47 (95 ∷ []) around allowed place (Byte 90) (OfKind ENCODING) nothing_there (tree e true)
-    (tree (encoding_literal e) true) cs (written (90 ∷ []) cs) w
-    (takes-byte LITERAL Kind.Literal Production.EncodingLiteral 95 refl refl (omega arith) refl) refl (λ s. refl) (λ s. refl) (λ f s. refl)
-    (λ began s. refl)
-    (fixed-reads around allowed 90 (place + 1) cs) one
+    encoding-as LITERAL around allowed e place cs w (takes-byte LITERAL Kind.Literal Production.EncodingLiteral 95 refl refl (omega arith) refl) one
 
 -- ## Literals in a list
 
@@ -112,7 +121,7 @@ pub literal-argument : (around : Around) (allowed : Option ℕ) (t items : Term)
     → ReadsAt around allowed (OfKind ARGUMENT_LIST) (Is (tree (list t items) true)) place cs (written (76 ∷ (first.bytes ++ (69 ∷ rest.bytes))) rest.components)
 unfolding choose alternatives pick is_in in_ranges among kinds is_chain parts_of number_of_kind between opening close unfolding_.behind meaning tree_of part
 literal-argument around allowed t items last place cs first rest are one two =
-    whole-same Production.LiteralArgument 44 (76 ∷ []) around allowed place (tree t true ∷ nothing_there ∷ last ∷ []) (tree (list t items) true)
+    whole-same Production.LiteralArgument ARGUMENT_LIST (76 ∷ []) around allowed place (tree t true ∷ nothing_there ∷ last ∷ []) (tree (list t items) true)
     cs (OfKind LITERAL ∷ Byte 69 ∷ OfKind ARGUMENT_LIST ∷ []) (written (first.bytes ++ (69 ∷ rest.bytes)) rest.components)
     (takes-byte ARGUMENT_LIST Kind.ArgumentList Production.LiteralArgument 76 refl refl (omega arith) refl) refl (λ f s. refl)
     (λ began s. ap (λ l. Ok (found (tree (list t l) true) s)) are)
@@ -132,7 +141,7 @@ pub literal-element : (around : Around) (allowed : Option ℕ) (t items : Term) 
     → ReadsAt around allowed (OfKind PACK_LIST) (Is (tree (list t items) true)) place cs (written (76 ∷ (first.bytes ++ (69 ∷ rest.bytes))) rest.components)
 unfolding choose alternatives pick is_in in_ranges among kinds is_chain parts_of number_of_kind between opening close unfolding_.behind meaning tree_of part
 literal-element around allowed t items last place cs first rest are one two =
-    whole-same Production.LiteralElement 45 (76 ∷ []) around allowed place (tree t true ∷ nothing_there ∷ last ∷ []) (tree (list t items) true)
+    whole-same Production.LiteralElement PACK_LIST (76 ∷ []) around allowed place (tree t true ∷ nothing_there ∷ last ∷ []) (tree (list t items) true)
     cs (OfKind LITERAL ∷ Byte 69 ∷ OfKind PACK_LIST ∷ []) (written (first.bytes ++ (69 ∷ rest.bytes)) rest.components)
     (takes-byte PACK_LIST Kind.PackList Production.LiteralElement 76 refl refl (omega arith) refl) refl (λ f s. refl)
     (λ began s. ap (λ l. Ok (found (tree (list t l) true) s)) are)
@@ -154,7 +163,7 @@ pub pack-argument : (around : Around) (allowed : Option ℕ) (elements items : T
     (written (74 ∷ (first.bytes ++ (69 ∷ rest.bytes))) rest.components)
 unfolding choose alternatives pick is_in in_ranges among kinds is_chain parts_of number_of_kind between opening close unfolding_.behind meaning tree_of part
 pack-argument around allowed elements items inside_ last place cs first rest are_in are one two =
-    whole-same Production.PackArgument 44 (74 ∷ []) around allowed place (tree (pack (no_items inside_)) true ∷ nothing_there ∷ last ∷ [])
+    whole-same Production.PackArgument ARGUMENT_LIST (74 ∷ []) around allowed place (tree (pack (no_items inside_)) true ∷ nothing_there ∷ last ∷ [])
     (tree (list (pack elements) items) true) cs (OfKind PACK_LIST ∷ Byte 69 ∷ OfKind ARGUMENT_LIST ∷ [])
     (written (first.bytes ++ (69 ∷ rest.bytes)) rest.components)
     (takes-byte ARGUMENT_LIST Kind.ArgumentList Production.PackArgument 74 refl refl (omega arith) refl) refl (λ f s. refl)
@@ -177,70 +186,58 @@ pack-argument around allowed elements items inside_ last place cs first rest are
 
 -- ## Addresses
 
+-- an encoding between L and E, whose address is taken
+addressed-reads : (around : Around) (allowed : Option ℕ) (e : Term) (place : ℕ) (cs : List Component) (w : Written)
+    → ReadsAt around allowed (OfKind ENCODING) (Is (tree e true)) (place + 1 + 1 + 1) cs w
+    → ReadsAt around allowed (OfKind ADDRESSED_EXPRESSION) (Is (tree (encoding_literal e) true)) place cs
+    (written (76 ∷ 95 ∷ 90 ∷ (w.bytes ++ (69 ∷ []))) w.components)
+unfolding choose alternatives pick is_in in_ranges among kinds is_chain parts_of number_of_kind between opening close unfolding_.behind meaning part
+addressed-reads around allowed e place cs w one =
+    two-parts Production.AddressedLiteral ADDRESSED_EXPRESSION (76 ∷ []) around allowed place (OfKind ADDRESSED_LITERAL) (Byte 69)
+    (tree (encoding_literal e) true) nothing_there (tree (encoding_literal e) true) cs (written (95 ∷ 90 ∷ w.bytes) w.components)
+    (written (69 ∷ []) w.components)
+    (takes-byte ADDRESSED_EXPRESSION Kind.AddressedExpression Production.AddressedLiteral 76 refl refl (omega arith) refl) refl
+    (λ s. refl) (λ s. refl) (λ f s. refl) (λ began s. refl)
+    (encoding-as ADDRESSED_LITERAL around allowed e (place + 1) cs w
+    (takes-byte ADDRESSED_LITERAL Kind.AddressedLiteral Production.EncodingLiteral 95 refl refl (omega arith) refl) one)
+    (fixed-reads around allowed 69 (place + 1 + length (95 ∷ 90 ∷ w.bytes)) w.components)
+
+-- its address, after an X
+operation-reads : (around : Around) (allowed : Option ℕ) (e : Term) (place : ℕ) (cs : List Component) (first : Written)
+    → ReadsAt around allowed (OfKind ADDRESSED_EXPRESSION) (Is (tree (encoding_literal e) true)) (place + 1 + 1) cs first
+    → ReadsAt around allowed (OfKind EXPRESSION) (Is (tree (address_of e) true)) place cs (written (97 ∷ 100 ∷ first.bytes) first.components)
+unfolding choose alternatives pick is_in in_ranges among kinds is_chain parts_of number_of_kind between opening close unfolding_.behind meaning tree_of part byte_of operation_by operation_or_address is_code
+operation-reads around allowed e place cs first one =
+    one-part Production.ExpressionA EXPRESSION (97 ∷ []) around allowed place (OfKind EXPRESSION_AFTER_A) (pair 100 (encoding_literal e) absent)
+    (tree (address_of e) true) cs (written (100 ∷ first.bytes) first.components)
+    (takes-byte EXPRESSION Kind.Expression Production.ExpressionA 97 refl refl (omega arith) refl) refl (λ s. refl) (λ f s. refl) (λ began s. refl)
+    (one-part Production.AddressExpression EXPRESSION_AFTER_A (100 ∷ []) around allowed (place + 1) (OfKind ADDRESSED_EXPRESSION)
+    (tree (encoding_literal e) true) (pair 100 (encoding_literal e) absent) cs first
+    (takes-byte EXPRESSION_AFTER_A Kind.ExpressionAfterA Production.AddressExpression 100 refl refl (omega arith) refl) refl (λ s. refl) (λ f s. refl)
+    (λ began s. refl) one)
+
+-- as an argument, between X and E
+enclosed-reads : (around : Around) (allowed : Option ℕ) (e : Term) (place : ℕ) (cs : List Component) (first : Written)
+    → ReadsAt around allowed (OfKind EXPRESSION) (Is (tree (address_of e) true)) (place + 1) cs first
+    → ReadsAt around allowed (OfKind ARGUMENT) (Is (tree (address_of e) true)) place cs (written (88 ∷ (first.bytes ++ (69 ∷ []))) first.components)
+unfolding choose alternatives pick is_in in_ranges among kinds is_chain parts_of number_of_kind between opening close unfolding_.behind meaning tree_of part enclosed_argument ends_arguments
+enclosed-reads around allowed e place cs first one =
+    two-parts Production.Expression ARGUMENT (88 ∷ []) around allowed place (OfKind EXPRESSION) (Byte 69) (tree (address_of e) true) nothing_there
+    (tree (address_of e) true) cs first (written (69 ∷ []) first.components)
+    (takes-byte ARGUMENT Kind.Argument Production.Expression 88 refl refl (omega arith) refl) refl (λ s. refl) (λ s. refl) (λ f s. refl)
+    (λ began s. refl) one
+    (fixed-reads around allowed 69 (place + 1 + length first.bytes) first.components)
+
 -- an encoding's address
 pub address-reads : (around : Around) (allowed : Option ℕ) (e : Term) (place : ℕ) (cs : List Component) (w : Written)
-    → ReadsAt around allowed (OfKind ENCODING) (Is (tree e true)) (place + 1 + 1 + 1) cs w
-    → ReadsAt around allowed (OfKind ADDRESS) (Is (tree (address_of e) true)) place cs (written (76 ∷ 95 ∷ 90 ∷ (w.bytes ++ (69 ∷ 69 ∷ []))) w.components)
-unfolding choose alternatives pick is_in in_ranges among kinds is_chain parts_of number_of_kind between opening close unfolding_.behind meaning tree_of part
+    → ReadsAt around allowed (OfKind ENCODING) (Is (tree e true)) (place + 1 + 1 + 1 + 1 + 1 + 1) cs w
+    → ReadsAt around allowed (OfKind ARGUMENT) (Is (tree (address_of e) true)) place cs
+    (written (88 ∷ 97 ∷ 100 ∷ 76 ∷ 95 ∷ 90 ∷ (w.bytes ++ (69 ∷ 69 ∷ []))) w.components)
 address-reads around allowed e place cs w one =
-    let all : List Value = nothing_there ∷ nothing_there ∷ tree e true ∷ nothing_there ∷ nothing_there ∷ [] in
-    let end : ℕ = place + 1 + 1 + 1 + length w.bytes in
-    whole-same Production.Address 46 (76 ∷ []) around allowed place all (tree (address_of e) true) cs
-    (Byte 95 ∷ Byte 90 ∷ OfKind ENCODING ∷ Byte 69 ∷ Byte 69 ∷ []) (written (95 ∷ 90 ∷ (w.bytes ++ (69 ∷ 69 ∷ []))) w.components)
-    (takes-byte ADDRESS Kind.Address Production.Address 76 refl refl (omega arith) refl) refl (λ f s. refl) (λ began s. refl)
-    (then-part Production.Address (76 ∷ []) around allowed place (Byte 95) (Byte 90 ∷ OfKind ENCODING ∷ Byte 69 ∷ Byte 69 ∷ []) [] nothing_there
-    (AreOnly all) (place + 1) cs (written (95 ∷ []) cs) (written (90 ∷ (w.bytes ++ (69 ∷ 69 ∷ []))) w.components) (λ s. refl)
-    (fixed-reads around allowed 95 (place + 1) cs)
-    (then-part Production.Address (76 ∷ []) around allowed place (Byte 90) (OfKind ENCODING ∷ Byte 69 ∷ Byte 69 ∷ []) (nothing_there ∷ []) nothing_there
-    (AreOnly all) (place + 1 + 1) cs (written (90 ∷ []) cs) (written (w.bytes ++ (69 ∷ 69 ∷ [])) w.components) (λ s. refl)
-    (fixed-reads around allowed 90 (place + 1 + 1) cs)
-    (then-part Production.Address (76 ∷ []) around allowed place (OfKind ENCODING) (Byte 69 ∷ Byte 69 ∷ []) (nothing_there ∷ nothing_there ∷ [])
-    (tree e true) (AreOnly all) (place + 1 + 1 + 1) cs w (written (69 ∷ 69 ∷ []) w.components) (λ s. refl) one
-    (then-part Production.Address (76 ∷ []) around allowed place (Byte 69) (Byte 69 ∷ []) (nothing_there ∷ nothing_there ∷ tree e true ∷ [])
-    nothing_there (AreOnly all) end w.components (written (69 ∷ []) w.components) (written (69 ∷ []) w.components) (λ s. refl)
-    (fixed-reads around allowed 69 end w.components)
-    (then-last Production.Address (76 ∷ []) around allowed place (Byte 69) (nothing_there ∷ nothing_there ∷ tree e true ∷ nothing_there ∷ [])
-    nothing_there (end + 1) w.components (written (69 ∷ []) w.components) (λ s. refl)
-    (fixed-reads around allowed 69 (end + 1) w.components))))))
-
--- as an argument, after an X
-address-expression : (around : Around) (allowed : Option ℕ) (t : Term) (place : ℕ) (cs : List Component) (first : Written)
-    → ReadsAt around allowed (OfKind ADDRESS) (Is (tree t true)) (place + 1 + 1 + 1) cs first
-    → ReadsAt around allowed (OfKind ARGUMENT) (Is (tree t true)) place cs (written (88 ∷ 97 ∷ 100 ∷ first.bytes) first.components)
-unfolding choose alternatives pick is_in in_ranges among kinds is_chain parts_of number_of_kind between opening close unfolding_.behind meaning part
-address-expression around allowed t place cs first one =
-    one-part Production.Expression ARGUMENT (88 ∷ []) around allowed place (OfKind EXPRESSION_REST) (tree t true) (tree t true) cs
-    (written (97 ∷ 100 ∷ first.bytes) first.components)
-    (takes-byte ARGUMENT Kind.Argument Production.Expression 88 refl refl (omega arith) refl) refl (λ s. refl) (λ f s. refl) (λ began s. refl)
-    (two-parts Production.AddressExpression EXPRESSION_REST (97 ∷ []) around allowed (place + 1) (Byte 100) (OfKind ADDRESS) nothing_there (tree t true)
-    (tree t true) cs (written (100 ∷ []) cs) first
-    (takes-byte EXPRESSION_REST Kind.ExpressionRest Production.AddressExpression 97 refl refl (omega arith) refl) refl (λ s. refl) (λ s. refl) (λ f s. refl)
-    (λ began s. refl) (fixed-reads around allowed 100 (place + 1 + 1) cs) one)
-
-pub address-argument : (around : Around) (allowed : Option ℕ) (t items : Term) (last : Value) (place : ℕ) (cs : List Component)
-    (first rest : Written) → no_items last ≡ items
-    → ReadsAt around allowed (OfKind ADDRESS) (Is (tree t true)) (place + 1 + 1 + 1) cs first
-    → ReadsAt around allowed (OfKind ARGUMENT_LIST) (Is last) (place + 1 + 1 + 1 + length first.bytes) first.components rest
-    → ReadsAt around allowed (OfKind ARGUMENT_LIST) (Is (tree (list t items) true)) place cs
-    (written (88 ∷ 97 ∷ 100 ∷ (first.bytes ++ rest.bytes)) rest.components)
-unfolding choose alternatives pick is_in in_ranges among kinds is_chain parts_of number_of_kind between opening close unfolding_.behind meaning tree_of part
-address-argument around allowed t items last place cs first rest are one two =
-    list-reads Production.AnyArgument ARGUMENT_LIST ARGUMENT around allowed t items last place cs (written (88 ∷ 97 ∷ 100 ∷ first.bytes) first.components) rest
-    (takes-none ARGUMENT_LIST Kind.ArgumentList Production.AnyArgument 80 refl refl (omega arith) refl) refl (λ known s. refl) (λ f s. refl)
-    (λ began s. ap (λ l. Ok (found (tree (list t l) true) s)) are)
-    (address-expression around allowed t (place + 0) cs first (subst (λ q. ReadsAt around allowed (OfKind ADDRESS) (Is (tree t true)) q cs first) (omega arith) one))
-    (subst (λ q. ReadsAt around allowed (OfKind ARGUMENT_LIST) (Is last) q first.components rest) (omega arith) two)
-
-pub address-element : (around : Around) (allowed : Option ℕ) (t items : Term) (last : Value) (place : ℕ) (cs : List Component)
-    (first rest : Written) → no_items last ≡ items
-    → ReadsAt around allowed (OfKind ADDRESS) (Is (tree t true)) (place + 1 + 1 + 1) cs first
-    → ReadsAt around allowed (OfKind PACK_LIST) (Is last) (place + 1 + 1 + 1 + length first.bytes) first.components rest
-    → ReadsAt around allowed (OfKind PACK_LIST) (Is (tree (list t items) true)) place cs
-    (written (88 ∷ 97 ∷ 100 ∷ (first.bytes ++ rest.bytes)) rest.components)
-unfolding choose alternatives pick is_in in_ranges among kinds is_chain parts_of number_of_kind between opening close unfolding_.behind meaning tree_of part
-address-element around allowed t items last place cs first rest are one two =
-    list-reads Production.AnyElement PACK_LIST ARGUMENT around allowed t items last place cs (written (88 ∷ 97 ∷ 100 ∷ first.bytes) first.components) rest
-    (takes-none PACK_LIST Kind.PackList Production.AnyElement 80 refl refl (omega arith) refl) refl (λ known s. refl) (λ f s. refl)
-    (λ began s. ap (λ l. Ok (found (tree (list t l) true) s)) are)
-    (address-expression around allowed t (place + 0) cs first (subst (λ q. ReadsAt around allowed (OfKind ADDRESS) (Is (tree t true)) q cs first) (omega arith) one))
-    (subst (λ q. ReadsAt around allowed (OfKind PACK_LIST) (Is last) q first.components rest) (omega arith) two)
+    let operand : List ℕ = 76 ∷ 95 ∷ 90 ∷ (w.bytes ++ (69 ∷ [])) in
+    same-written around allowed (OfKind ARGUMENT) (Is (tree (address_of e) true)) place cs w.components (88 ∷ 97 ∷ 100 ∷ (operand ++ (69 ∷ [])))
+    (88 ∷ 97 ∷ 100 ∷ 76 ∷ 95 ∷ 90 ∷ (w.bytes ++ (69 ∷ 69 ∷ [])))
+    (ap (λ l. 88 ∷ 97 ∷ 100 ∷ 76 ∷ 95 ∷ 90 ∷ l) (append_assoc w.bytes (69 ∷ []) (69 ∷ [])))
+    (enclosed-reads around allowed e place cs (written (97 ∷ 100 ∷ operand) w.components)
+    (operation-reads around allowed e (place + 1) cs (written operand w.components)
+    (addressed-reads around allowed e (place + 1 + 1 + 1) cs w one)))

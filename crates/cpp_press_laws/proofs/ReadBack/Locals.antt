@@ -65,7 +65,7 @@ unfolding choose alternatives pick is_in in_ranges among kinds is_chain parts_of
 unnamed-reads around allowed j place cs small below =
     same-written around allowed (OfKind ANONYMOUS) (Is (piece (unnamed (j + 1)))) place cs cs
     (116 ∷ (((ordinal_token j).before ++ ordinal_digits j) ++ (95 ∷ []))) (116 ∷ ordinal j) (ap (λ l. 116 ∷ l) (ordinal-spelled j))
-    (production-opened Production.Unnamed 27 (116 ∷ []) around allowed allowed place (AreOnly (value.text (ordinal_digits j) ∷ []))
+    (production-opened Production.Unnamed ANONYMOUS (116 ∷ []) around allowed allowed place (AreOnly (value.text (ordinal_digits j) ∷ []))
     (Is (piece (unnamed (j + 1)))) cs cs (Number Decimal ∷ []) (written (((ordinal_token j).before ++ ordinal_digits j) ++ (95 ∷ [])) cs)
     (takes-byte ANONYMOUS Kind.Anonymous Production.Unnamed 116 refl refl (omega arith) refl) refl
     (row-last Production.Unnamed (116 ∷ []) around around allowed allowed place (Number Decimal) [] [] (Is (value.text (ordinal_digits j)))
@@ -92,7 +92,7 @@ lambda-reads around allowed t items last j place cs first rest are small below o
     same-written around allowed (OfKind ANONYMOUS) (Is (piece (lambda (parameters (list t items)) (j + 1)))) place cs rest.components
     (108 ∷ (first.bytes ++ (rest.bytes ++ (69 ∷ number.bytes)))) (108 ∷ (first.bytes ++ (rest.bytes ++ (69 ∷ ordinal j))))
     (ap (λ l. 108 ∷ (first.bytes ++ (rest.bytes ++ (69 ∷ l)))) (ordinal-spelled j))
-    (production-opened Production.Lambda 27 (108 ∷ []) around allowed allowed place (AreOnly all)
+    (production-opened Production.Lambda ANONYMOUS (108 ∷ []) around allowed allowed place (AreOnly all)
     (Is (piece (lambda (parameters (list t items)) (j + 1)))) cs rest.components (OfKind ITEM ∷ OfKind ITEMS ∷ Byte 69 ∷ Number Decimal ∷ [])
     (written (first.bytes ++ (rest.bytes ++ (69 ∷ number.bytes))) rest.components)
     (takes-byte ANONYMOUS Kind.Anonymous Production.Lambda 108 refl refl (omega arith) refl) refl

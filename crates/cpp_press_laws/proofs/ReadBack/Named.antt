@@ -55,7 +55,7 @@ PieceRule k (unnamed j) = TakesRule abi k (rule_of Production.LocalTypePiece) (8
 PieceRule k _ = ⊥
 
 -- solid types, types of literals
-pub type-rule : (p : Term) → names_type p ≡ true → NameRule 34 p
+pub type-rule : (p : Term) → names_type p ≡ true → NameRule SOLID p
 unfolding names_type begins_name choose alternatives pick is_in in_ranges among kinds is_chain
 type-rule (source false name) h = takes-none SOLID Kind.Solid Production.SourceName 48 refl refl (omega arith) refl
 type-rule (lambda parameters j) h = takes-byte SOLID Kind.Solid Production.LocalTypeName 85 refl refl (omega arith) refl
@@ -63,7 +63,7 @@ type-rule (unnamed j) h = takes-byte SOLID Kind.Solid Production.LocalTypeName 8
 type-rule (source true name) h = absurd (let e : false ≡ true = h in cc)
 type-rule _ h = absurd (let e : false ≡ true = h in cc)
 
-pub literal-type-rule : (p : Term) → names_type p ≡ true → NameRule 51 p
+pub literal-type-rule : (p : Term) → names_type p ≡ true → NameRule LITERAL_TYPE p
 unfolding names_type begins_name choose alternatives pick is_in in_ranges among kinds is_chain
 literal-type-rule (source false name) h = takes-none LITERAL_TYPE Kind.LiteralType Production.SourceName 48 refl refl (omega arith) refl
 literal-type-rule (lambda parameters j) h = takes-byte LITERAL_TYPE Kind.LiteralType Production.LocalTypeName 85 refl refl (omega arith) refl
@@ -72,7 +72,7 @@ literal-type-rule (source true name) h = absurd (let e : false ≡ true = h in c
 literal-type-rule _ h = absurd (let e : false ≡ true = h in cc)
 
 -- an encoding's own name
-pub own-rule : (p : Term) → names_function p ≡ true → NameRule 8 p
+pub own-rule : (p : Term) → names_function p ≡ true → NameRule COMPLETE_NAME p
 unfolding names_function begins_name choose alternatives pick is_in in_ranges among kinds is_chain
 own-rule (source true name) h = takes-byte COMPLETE_NAME Kind.CompleteName Production.InternalName 76 refl refl (omega arith) refl
 own-rule (source false name) h = takes-none COMPLETE_NAME Kind.CompleteName Production.SourceName 48 refl refl (omega arith) refl
@@ -83,7 +83,7 @@ own-rule (unnamed j) h = takes-byte COMPLETE_NAME Kind.CompleteName Production.L
 own-rule _ h = absurd (let e : false ≡ true = h in cc)
 
 -- after a prefix
-pub member-rule : (p : Term) → names_member p ≡ true → NameRule 19 p
+pub member-rule : (p : Term) → names_member p ≡ true → NameRule COMPONENT p
 unfolding names_member names_function begins_name choose alternatives pick is_in in_ranges among kinds is_chain
 member-rule (source true name) h = takes-byte COMPONENT Kind.Component Production.InternalName 76 refl refl (omega arith) refl
 member-rule (source false name) h = takes-none COMPONENT Kind.Component Production.SourceName 48 refl refl (omega arith) refl
@@ -96,7 +96,7 @@ member-rule (unnamed j) h = takes-byte COMPONENT Kind.Component Production.Local
 member-rule _ h = absurd (let e : false ≡ true = h in cc)
 
 -- a local entity, in a name and in a type
-pub entity-rule : (p : Term) → begins_name p ≡ true → NameRule 23 p
+pub entity-rule : (p : Term) → begins_name p ≡ true → NameRule ENTITY p
 unfolding begins_name choose alternatives pick is_in in_ranges among kinds is_chain
 entity-rule (source true name) h = takes-byte ENTITY Kind.Entity Production.InternalName 76 refl refl (omega arith) refl
 entity-rule (source false name) h = takes-none ENTITY Kind.Entity Production.SourceName 48 refl refl (omega arith) refl
@@ -104,7 +104,7 @@ entity-rule (lambda parameters j) h = takes-byte ENTITY Kind.Entity Production.L
 entity-rule (unnamed j) h = takes-byte ENTITY Kind.Entity Production.LocalTypeName 85 refl refl (omega arith) refl
 entity-rule _ h = absurd (let e : false ≡ true = h in cc)
 
-pub type-entity-rule : (p : Term) → begins_name p ≡ true → NameRule 24 p
+pub type-entity-rule : (p : Term) → begins_name p ≡ true → NameRule TYPE_ENTITY p
 unfolding begins_name choose alternatives pick is_in in_ranges among kinds is_chain
 type-entity-rule (source true name) h = takes-byte TYPE_ENTITY Kind.TypeEntity Production.InternalName 76 refl refl (omega arith) refl
 type-entity-rule (source false name) h = takes-none TYPE_ENTITY Kind.TypeEntity Production.SourceName 48 refl refl (omega arith) refl
@@ -113,7 +113,7 @@ type-entity-rule (unnamed j) h = takes-byte TYPE_ENTITY Kind.TypeEntity Producti
 type-entity-rule _ h = absurd (let e : false ≡ true = h in cc)
 
 -- after St in a name, and in a type
-pub std-rule : (p : Term) → names_function p ≡ true → PieceRule 14 p
+pub std-rule : (p : Term) → names_function p ≡ true → PieceRule UNQUALIFIED p
 unfolding names_function begins_name choose alternatives pick is_in in_ranges among kinds is_chain
 std-rule (source true name) h = takes-byte UNQUALIFIED Kind.Unqualified Production.InternalPiece 76 refl refl (omega arith) refl
 std-rule (source false name) h = takes-none UNQUALIFIED Kind.Unqualified Production.SourcePiece 48 refl refl (omega arith) refl
@@ -123,7 +123,7 @@ std-rule (lambda parameters j) h = takes-byte UNQUALIFIED Kind.Unqualified Produ
 std-rule (unnamed j) h = takes-byte UNQUALIFIED Kind.Unqualified Production.LocalTypePiece 85 refl refl (omega arith) refl
 std-rule _ h = absurd (let e : false ≡ true = h in cc)
 
-pub std-type-rule : (p : Term) → begins_name p ≡ true → PieceRule 37 p
+pub std-type-rule : (p : Term) → begins_name p ≡ true → PieceRule SOURCE_OR_LOCAL p
 unfolding begins_name choose alternatives pick is_in in_ranges among kinds is_chain
 std-type-rule (source true name) h = takes-byte SOURCE_OR_LOCAL Kind.SourceOrLocal Production.InternalPiece 76 refl refl (omega arith) refl
 std-type-rule (source false name) h = takes-none SOURCE_OR_LOCAL Kind.SourceOrLocal Production.SourcePiece 48 refl refl (omega arith) refl
@@ -167,7 +167,7 @@ source-reads around allowed false name place cs good = record {
 -- an operator, from its reading as one
 operators-read : (around : Around) (allowed : Option ℕ) (p : Term) (place : ℕ) (cs : List Component) (w : Written)
     → ((k : ℕ) → NameRule k p → OperatorRule k) → ((k : ℕ) → PieceRule k p → k ≡ 14)
-    → begins_name p ≡ false → NamesAt around allowed 19 p place cs w
+    → begins_name p ≡ false → NamesAt around allowed COMPONENT p place cs w
     → ReadsAt around allowed (OfKind OPERATOR) (Is (piece p)) (place + 0) cs w → PieceReads around allowed p place cs w
 operators-read around allowed p place cs w rule fourteen none component one = record {
   names = λ k takes. elim (rule k takes) [
@@ -183,10 +183,10 @@ operators-read around allowed p place cs w rule fourteen none component one = re
 
 -- one within a nested name
 operator-component : (around : Around) (allowed : Option ℕ) (a b place : ℕ) (cs : List Component) → a < 256 → b < 256 → IsOperator a b
-    → NamesAt around allowed 19 (operator a b) place cs (written (a ∷ b ∷ []) cs)
+    → NamesAt around allowed COMPONENT (operator a b) place cs (written (a ∷ b ∷ []) cs)
 unfolding kinds
 operator-component around allowed a b place cs small also is last rest two = elim (operator-stands a b small is) [
-  | inl c ↦ subst (λ f. ReadsAt around allowed (OfKind 19) (Is (tree (applied (extended around.prefix (operator f b)) last) false)) place cs
+  | inl c ↦ subst (λ f. ReadsAt around allowed (OfKind COMPONENT) (Is (tree (applied (extended around.prefix (operator f b)) last) false)) place cs
       (written (f ∷ b ∷ rest.bytes) rest.components)) (sym c.0)
       (operator-name-with-c around allowed b last place cs rest
       (mark-reads around allowed OPERATOR_AFTER_C Kind.OperatorAfterC b (place + 1 + 0) cs refl c.1 also)
@@ -225,7 +225,7 @@ constructor-piece-reads around allowed digit place cs small chosen = record {
       subst (λ j. ReadsAt around allowed (OfKind j) (Is (tree (applied (extended around.prefix (constructor digit)) last) false)) place cs
       (written (67 ∷ digit ∷ rest.bytes) rest.components)) (sym is)
       (constructor-name around allowed digit last place cs (written (digit ∷ []) cs) rest
-      (mark-reads around allowed CONSTRUCTOR_DIGIT Kind.ConstructorDigit digit (place + 1) cs refl chosen small)
+      (mark-reads around allowed CONSTRUCTOR_DIGIT Kind.ConstructorDigit digit (place + 1 + 0) cs refl chosen small)
       (subst (λ q. ReadsAt (after (extended around.prefix (constructor digit)) false around) allowed (OfKind MAYBE_ARGUMENTS) (Is last) q cs rest)
       (omega arith) one));
   pieces = λ k is. absurd is;

@@ -6,7 +6,7 @@ use Rattle.sym_shape.specs.Tree.{Tree as Shape, Forest, TakesRule, IsTree}
 use Rattle.sym_link.specs.Unfold.{found}
 use Rattle.cpp_grammar.specs.declared.kind.Kind.{Kind}
 use Rattle.cpp_grammar.specs.declared.production.Production.{Production}
-use Rattle.cpp_grammar.specs.KindNumbers.{NEST, NEST_TAIL, COMPONENT, COMPONENT_AFTER_C, CONSTRUCTOR_DIGIT, DESTRUCTOR_DIGIT, ANONYMOUS, MAYBE_ARGUMENTS, ARGUMENTS_ALONE, NEST_REST, NEST_REST_ALONE, NEST_REST_OR_END, ARGUMENT_LIST, OPERATOR, OPERATOR_AFTER_C, OTHER_OPERATOR}
+use Rattle.cpp_grammar.specs.KindNumbers.{NEST, NEST_TAIL, COMPONENT, COMPONENT_AFTER_C, CONSTRUCTOR_DIGIT, DESTRUCTOR_DIGIT, ANONYMOUS, MAYBE_ARGUMENTS, ARGUMENTS_ALONE, NEST_REST, NEST_REST_ALONE, NEST_REST_OR_END, ARGUMENT_LIST, OPERATOR, OPERATOR_AFTER_C, OTHER_OPERATOR, CONSTRUCTOR_AFTER_C}
 use Rattle.cpp_grammar.specs.Grammar.{in_ranges, among, is_in, pick, number_of_kind, alternatives, choose, kinds, parts_of, is_chain, may_be_empty}
 use Rattle.cpp_grammar.specs.Table.{abi, rule_of}
 use Rattle.cpp_grammar.specs.Term.{Term, source, operator, constructor, destructor}
@@ -127,7 +127,7 @@ pub some-arguments : (around : Around) (allowed : Option ℕ) (t items : Term) (
     → ReadsAt (after t false around) allowed (OfKind MAYBE_ARGUMENTS) (Is (tree items true)) place cs (written (73 ∷ (w.bytes ++ (69 ∷ []))) w.components)
 unfolding choose alternatives pick is_in in_ranges among kinds is_chain between with_prefix appended after inside prefix_listed prefix_tree
 some-arguments around allowed t items last place cs w are one =
-    arguments-read (after t false around) allowed 42 items last place cs (more around cs t) w
+    arguments-read (after t false around) allowed MAYBE_ARGUMENTS items last place cs (more around cs t) w
     (takes-byte MAYBE_ARGUMENTS Kind.MaybeArguments Production.Arguments 73 refl refl (omega arith) refl) are
     (λ s same packs. record { state = appended around t s; goes = refl; candidates = appended-same around t s same; packs = packs }) one
 
@@ -213,17 +213,21 @@ local-type-name k around allowed p last place cs first rest takes one two =
     refl (λ s. refl) (λ s. refl) (λ f s. refl) (λ began s. refl) one two
 
 pub constructor-name : (around : Around) (allowed : Option ℕ) (digit : ℕ) (last : Value) (place : ℕ) (cs : List Component) (first rest : Written)
-    → ReadsAt around allowed (OfKind CONSTRUCTOR_DIGIT) (Is (letter digit)) (place + 1) cs first
-    → ReadsAt (after (extended around.prefix (constructor digit)) false around) allowed (OfKind MAYBE_ARGUMENTS) (Is last) (place + 1 + length first.bytes)
+    → ReadsAt around allowed (OfKind CONSTRUCTOR_DIGIT) (Is (letter digit)) (place + 1 + 0) cs first
+    → ReadsAt (after (extended around.prefix (constructor digit)) false around) allowed (OfKind MAYBE_ARGUMENTS) (Is last) (place + 1 + 0 + length first.bytes)
     first.components rest
     → ReadsAt around allowed (OfKind COMPONENT) (Is (tree (applied (extended around.prefix (constructor digit)) last) false)) place cs
     (written (67 ∷ (first.bytes ++ rest.bytes)) rest.components)
 unfolding choose alternatives pick is_in in_ranges among kinds is_chain parts_of number_of_kind between opening close unfolding_.behind meaning named_so_far tree_of letter_of part
 constructor-name around allowed digit last place cs first rest one two =
-    name-with Production.Constructor 19 (67 ∷ []) around allowed place (OfKind CONSTRUCTOR_DIGIT) (letter digit) (extended around.prefix (constructor digit))
-    last cs first rest
-    (takes-byte COMPONENT Kind.Component Production.Constructor 67 refl refl (omega arith) refl) refl (λ s. refl) (λ s. refl) (λ f s. refl)
-    (λ began s. refl) one two
+    let v : Value = tree (applied (extended around.prefix (constructor digit)) last) false in
+    one-part Production.AnyConstructor COMPONENT (67 ∷ []) around allowed place (OfKind CONSTRUCTOR_AFTER_C) v v cs
+    (written (first.bytes ++ rest.bytes) rest.components)
+    (takes-byte COMPONENT Kind.Component Production.AnyConstructor 67 refl refl (omega arith) refl) refl (λ s. refl) (λ f s. refl) (λ began s. refl)
+    (name-with Production.Constructor CONSTRUCTOR_AFTER_C [] around allowed (place + 1) (OfKind CONSTRUCTOR_DIGIT) (letter digit)
+    (extended around.prefix (constructor digit)) last cs first rest
+    (takes-none CONSTRUCTOR_AFTER_C Kind.ConstructorAfterC Production.Constructor 49 refl refl (omega arith) refl) refl
+    (λ s. refl) (λ s. refl) (λ f s. refl) (λ began s. refl) one two)
 
 pub destructor-name : (around : Around) (allowed : Option ℕ) (digit : ℕ) (last : Value) (place : ℕ) (cs : List Component) (first rest : Written)
     → ReadsAt around allowed (OfKind DESTRUCTOR_DIGIT) (Is (letter digit)) (place + 1) cs first
@@ -233,7 +237,7 @@ pub destructor-name : (around : Around) (allowed : Option ℕ) (digit : ℕ) (la
     (written (68 ∷ (first.bytes ++ rest.bytes)) rest.components)
 unfolding choose alternatives pick is_in in_ranges among kinds is_chain parts_of number_of_kind between opening close unfolding_.behind meaning named_so_far tree_of letter_of part
 destructor-name around allowed digit last place cs first rest one two =
-    name-with Production.Destructor 19 (68 ∷ []) around allowed place (OfKind DESTRUCTOR_DIGIT) (letter digit) (extended around.prefix (destructor digit)) last
+    name-with Production.Destructor COMPONENT (68 ∷ []) around allowed place (OfKind DESTRUCTOR_DIGIT) (letter digit) (extended around.prefix (destructor digit)) last
     cs first rest
     (takes-byte COMPONENT Kind.Component Production.Destructor 68 refl refl (omega arith) refl) refl (λ s. refl) (λ s. refl) (λ f s. refl)
     (λ began s. refl) one two

@@ -7,7 +7,7 @@ use Rattle.sym_shape.specs.Tree.{Forest, TakesRule}
 use Rattle.sym_link.specs.Unfold.{found}
 use Rattle.cpp_grammar.specs.declared.kind.Kind.{Kind}
 use Rattle.cpp_grammar.specs.declared.production.Production.{Production}
-use Rattle.cpp_grammar.specs.KindNumbers.{UNQUALIFIED, NEST, NEST_AFTER_S, NEST_REST, NEST_TAIL, COMPONENT, ABBREVIATION, ANONYMOUS, MAYBE_ARGUMENTS, ARGUMENT_LIST, ARGUMENTS_FIRST}
+use Rattle.cpp_grammar.specs.KindNumbers.{UNQUALIFIED, NEST, NEST_AFTER_S, NEST_REST, NEST_TAIL, COMPONENT, ABBREVIATION, ANONYMOUS, MAYBE_ARGUMENTS, ARGUMENT_LIST, ARGUMENTS_FIRST, NEST_REST_ALONE, NEST_REST_OR_END}
 use Rattle.cpp_grammar.specs.Grammar.{in_ranges, among, is_in, pick, number_of_kind, alternatives, choose, kinds, parts_of, is_chain}
 use Rattle.cpp_grammar.specs.Table.{abi, rule_of}
 use Rattle.cpp_grammar.specs.Term.{Term, source, in_std, instance, parameter}
@@ -53,7 +53,7 @@ pub nest-source : (around : Around) (allowed : Option ℕ) (name : List ℕ) (pl
     → SoFar around allowed (extended around.prefix (source false name)) false 17 place cs (written (counted name) cs)
 unfolding choose alternatives pick is_in in_ranges among kinds is_chain parts_of number_of_kind between opening close unfolding_.behind meaning named_so_far text_of part
 nest-source around allowed name place cs good v rest second =
-    first-with Production.NestSource 15 17 [] around allowed place Name (value.text name) (extended around.prefix (source false name)) false v cs
+    first-with Production.NestSource NEST NEST_REST [] around allowed place Name (value.text name) (extended around.prefix (source false name)) false v cs
     cs (written (counted name) cs) rest
     (takes-none NEST Kind.Nest Production.NestSource 48 refl refl (omega arith) refl) refl (λ s. refl)
     (passes-by Production.NestSource around allowed place (value.text name ∷ []) cs
@@ -68,7 +68,7 @@ pub nest-internal : (around : Around) (allowed : Option ℕ) (name : List ℕ) (
     → SoFar around allowed (extended around.prefix (source true name)) false 17 place cs (written (76 ∷ counted name) cs)
 unfolding choose alternatives pick is_in in_ranges among kinds is_chain parts_of number_of_kind between opening close unfolding_.behind meaning named_so_far text_of part
 nest-internal around allowed name place cs good v rest second =
-    first-with Production.NestInternal 15 17 (76 ∷ []) around allowed place Name (value.text name) (extended around.prefix (source true name))
+    first-with Production.NestInternal NEST NEST_REST (76 ∷ []) around allowed place Name (value.text name) (extended around.prefix (source true name))
     false v cs cs (written (counted name) cs) rest
     (takes-byte NEST Kind.Nest Production.NestInternal 76 refl refl (omega arith) refl) refl (λ s. refl)
     (passes-by Production.NestInternal around allowed place (value.text name ∷ []) cs
@@ -84,7 +84,7 @@ pub nest-local-type : (around : Around) (allowed : Option ℕ) (p : Term) (place
     → SoFar around allowed (extended around.prefix p) false 17 place cs (written (85 ∷ first.bytes) first.components)
 unfolding choose alternatives pick is_in in_ranges among kinds is_chain parts_of number_of_kind between opening close unfolding_.behind meaning named_so_far piece_of part
 nest-local-type around allowed p place cs first one v rest second =
-    first-with Production.NestLocalType 15 17 (85 ∷ []) around allowed place (OfKind ANONYMOUS) (piece p) (extended around.prefix p) false v cs
+    first-with Production.NestLocalType NEST NEST_REST (85 ∷ []) around allowed place (OfKind ANONYMOUS) (piece p) (extended around.prefix p) false v cs
     first.components first rest
     (takes-byte NEST Kind.Nest Production.NestLocalType 85 refl refl (omega arith) refl) refl (λ s. refl)
     (passes-by Production.NestLocalType around allowed place (piece p ∷ []) first.components (after (extended around.prefix p) false around)
@@ -96,7 +96,7 @@ pub nest-parameter : (around : Around) (allowed : Option ℕ) (k place : ℕ) (c
     → SoFar around allowed (parameter k) true 17 place cs (written (84 ∷ ordinal k) (more around cs (parameter k)))
 unfolding choose alternatives pick is_in in_ranges among kinds is_chain parts_of number_of_kind between opening close unfolding_.behind meaning part parameter_so_far parameter_named listed_so_far
 nest-parameter around allowed k place cs is v rest second =
-    first-with Production.NestParameter 15 68 (84 ∷ []) around allowed place (Number Decimal) (value.text (ordinal_digits k)) (parameter k) true
+    first-with Production.NestParameter NEST NEST_REST_ALONE (84 ∷ []) around allowed place (Number Decimal) (value.text (ordinal_digits k)) (parameter k) true
     v cs (more around cs (parameter k)) (written (ordinal k) cs) rest
     (takes-byte NEST Kind.Nest Production.NestParameter 84 refl refl (omega arith) refl) refl (λ s. refl)
     (parameter-passes Production.NestParameter around allowed place k cs is (λ s. refl))
@@ -113,9 +113,9 @@ pub nest-behind-s : (around : Around) (allowed : Option ℕ) (t : Term) (place :
     → SoFar around allowed t true 17 place cs (written (83 ∷ first.bytes) first.components)
 unfolding choose alternatives pick is_in in_ranges among kinds is_chain parts_of number_of_kind between opening close unfolding_.behind meaning listed_so_far tree_of part
 nest-behind-s around allowed t place cs first one v rest second =
-    one-part Production.NestWithS 15 (83 ∷ []) around allowed place (OfKind NEST_AFTER_S) v v cs (written (first.bytes ++ rest.bytes) rest.components)
+    one-part Production.NestWithS NEST (83 ∷ []) around allowed place (OfKind NEST_AFTER_S) v v cs (written (first.bytes ++ rest.bytes) rest.components)
     (takes-byte NEST Kind.Nest Production.NestWithS 83 refl refl (omega arith) refl) refl (λ s. refl) (λ f s. refl) (λ began s. refl)
-    (first-with Production.NestTemplate 16 66 [] around allowed (place + 1) (OfKind ABBREVIATION) (tree t true) t true v cs first.components first rest
+    (first-with Production.NestTemplate NEST_AFTER_S NEST_REST_OR_END [] around allowed (place + 1) (OfKind ABBREVIATION) (tree t true) t true v cs first.components first rest
     (takes-none NEST_AFTER_S Kind.NestAfterS Production.NestTemplate 95 refl refl (omega arith) refl) refl (λ s. refl)
     (passes-by Production.NestTemplate around allowed (place + 1) (tree t true ∷ []) first.components (after t true around) (tree t true ∷ [])
     (λ s. refl))
@@ -134,10 +134,10 @@ nest-std around allowed p last place cs first args one two v rest third =
     same-written around allowed (OfKind NEST) (Is v) place cs rest.components (83 ∷ 116 ∷ (first.bytes ++ (args.bytes ++ rest.bytes)))
     (83 ∷ 116 ∷ ((first.bytes ++ args.bytes) ++ rest.bytes))
     (ap (λ l. 83 ∷ 116 ∷ l) (sym (append_assoc first.bytes args.bytes rest.bytes)))
-    (one-part Production.NestWithS 15 (83 ∷ []) around allowed place (OfKind NEST_AFTER_S) v v cs
+    (one-part Production.NestWithS NEST (83 ∷ []) around allowed place (OfKind NEST_AFTER_S) v v cs
     (written (116 ∷ (first.bytes ++ (args.bytes ++ rest.bytes))) rest.components)
     (takes-byte NEST Kind.Nest Production.NestWithS 83 refl refl (omega arith) refl) refl (λ s. refl) (λ f s. refl) (λ began s. refl)
-    (whole-same Production.NestStd 16 (116 ∷ []) around allowed (place + 1) (tree whole false ∷ last ∷ v ∷ []) v cs
+    (whole-same Production.NestStd NEST_AFTER_S (116 ∷ []) around allowed (place + 1) (tree whole false ∷ last ∷ v ∷ []) v cs
     (OfKind UNQUALIFIED ∷ OfKind MAYBE_ARGUMENTS ∷ OfKind NEST_TAIL ∷ []) (written (first.bytes ++ (args.bytes ++ rest.bytes)) rest.components)
     (takes-byte NEST_AFTER_S Kind.NestAfterS Production.NestStd 116 refl refl (omega arith) refl) refl (λ f s. refl) (λ began s. refl)
     (then-part Production.NestStd (116 ∷ []) around allowed (place + 1) (OfKind UNQUALIFIED) (OfKind MAYBE_ARGUMENTS ∷ OfKind NEST_TAIL ∷ []) [] (piece p)
@@ -183,7 +183,7 @@ nest-arguments around allowed t items listed last place cs w args are so_far one
     ((w.bytes ++ (73 ∷ (args.bytes ++ (69 ∷ [])))) ++ (comp.bytes ++ rest.bytes))
     (joined w.bytes args.bytes (comp.bytes ++ rest.bytes))
     (so_far v (written (73 ∷ (args.bytes ++ (69 ∷ (comp.bytes ++ rest.bytes)))) rest.components)
-    (whole-same Production.NestArguments 17 (73 ∷ []) here allowed at (tree whole true ∷ nothing_there ∷ tree u false ∷ v ∷ []) v w.components
+    (whole-same Production.NestArguments NEST_REST (73 ∷ []) here allowed at (tree whole true ∷ nothing_there ∷ tree u false ∷ v ∷ []) v w.components
     (OfKind ARGUMENTS_FIRST ∷ Byte 69 ∷ OfKind COMPONENT ∷ OfKind NEST_TAIL ∷ []) (written (args.bytes ++ (69 ∷ (comp.bytes ++ rest.bytes))) rest.components)
     (takes-byte NEST_REST Kind.NestRest Production.NestArguments 73 refl refl (omega arith) refl) refl (λ f s. refl) (λ began s. refl)
     (row-part Production.NestArguments (73 ∷ []) here (inside around) allowed allowed at (OfKind ARGUMENTS_FIRST) (Byte 69 ∷ OfKind COMPONENT ∷ OfKind NEST_TAIL ∷ []) [] []

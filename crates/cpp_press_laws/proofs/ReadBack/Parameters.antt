@@ -13,7 +13,7 @@ use Rattle.cpp_press_laws.specs.Texts.{mark_letter}
 use Rattle.cpp_press_laws.specs.Pressing.{ways_of, type_ways}
 use Rattle.cpp_press_laws.specs.Subtrees.{Written, written, ReadsAt, Is}
 use Rattle.cpp_press_laws.proofs.ReadBack.Reading.{takes-byte}
-use Rattle.cpp_press_laws.proofs.ReadBack.Types.{types-31}
+use Rattle.cpp_press_laws.proofs.ReadBack.Types.{types-parameter}
 use Rattle.cpp_press_laws.proofs.ReadBack.Functions.{rest-ends, rest-ends-lvalue, rest-ends-rvalue, rest-item}
 use Rattle.cpp_press_laws.proofs.ReadBack.Solids.{builtin-solid}
 
@@ -35,6 +35,6 @@ pub none-read : (around : Around) (allowed : Option ℕ) (ref : RefQualifier) (p
 unfolding choose alternatives pick is_in in_ranges among kinds is_chain ways_of type_ways
 none-read around allowed ref place cs =
     rest-item around allowed (builtin (118 ∷ [])) nil ref place cs (written (118 ∷ []) cs) (written (mark_letter ref ++ codes "E") cs)
-    ((types-31 around allowed (builtin (118 ∷ []))).solid.keeps (place + 0) cs (written (118 ∷ []) cs)
+    ((types-parameter around allowed (builtin (118 ∷ []))).solid.keeps (place + 0) cs (written (118 ∷ []) cs)
     (builtin-solid SOLID around allowed 118 (place + 0 + 0) cs (takes-byte SOLID Kind.Solid Production.Builtin 118 refl refl (omega arith) refl)))
     (end-reads around allowed ref (place + 0 + 1) cs)

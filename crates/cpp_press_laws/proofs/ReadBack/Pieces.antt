@@ -64,7 +64,7 @@ pub operator-piece : (around : Around) (allowed : Option ℕ) (p : Term) (place 
     → ReadsAt around allowed (OfKind OPERATOR) (Is (piece p)) (place + 0) cs w → ReadsAt around allowed (OfKind UNQUALIFIED) (Is (piece p)) place cs w
 unfolding choose alternatives pick is_in in_ranges among kinds is_chain parts_of number_of_kind between opening close unfolding_.behind meaning part
 operator-piece around allowed p place cs w one =
-    one-part Production.OperatorPiece 14 [] around allowed place (OfKind OPERATOR) (piece p) (piece p) cs w
+    one-part Production.OperatorPiece UNQUALIFIED [] around allowed place (OfKind OPERATOR) (piece p) (piece p) cs w
     (takes-none UNQUALIFIED Kind.Unqualified Production.OperatorPiece 110 refl refl (omega arith) refl) refl (λ s. refl) (λ f s. refl) (λ began s. refl) one
 
 -- ## Operators
@@ -74,7 +74,7 @@ pub operator-reads : (around : Around) (allowed : Option ℕ) (first second plac
     → ReadsAt around allowed (OfKind OPERATOR) (Is (piece (operator first second))) place cs (written (first ∷ second ∷ []) cs)
 unfolding kinds byte_of
 operator-reads around allowed first second place cs small also is =
-    one-part is.production 52 (first ∷ []) around allowed place (OfKind is.number) (letter second) (piece (operator first second)) cs
+    one-part is.production OPERATOR (first ∷ []) around allowed place (OfKind is.number) (letter second) (piece (operator first second)) cs
     (written (second ∷ []) cs)
     (takes-byte OPERATOR Kind.Operator is.production first refl is.chosen small is.own) is.parts (is.goes around place) (is.opens place)
     (is.means around place)
@@ -84,10 +84,10 @@ pub literal-operator-reads : (around : Around) (allowed : Option ℕ) (name : Li
     → ReadsAt around allowed (OfKind OPERATOR) (Is (piece (literal_operator name))) place cs (written (108 ∷ 105 ∷ counted name) cs)
 unfolding choose alternatives pick is_in in_ranges among kinds is_chain parts_of number_of_kind between opening close unfolding_.behind meaning operator_or_literal text_of part
 literal-operator-reads around allowed name place cs good =
-    one-part Production.OperatorL 52 (108 ∷ []) around allowed place (OfKind OPERATOR_AFTER_L) (piece (literal_operator name)) (piece (literal_operator name))
+    one-part Production.OperatorL OPERATOR (108 ∷ []) around allowed place (OfKind OPERATOR_AFTER_L) (piece (literal_operator name)) (piece (literal_operator name))
     cs (written (105 ∷ counted name) cs)
     (takes-byte OPERATOR Kind.Operator Production.OperatorL 108 refl refl (omega arith) refl) refl (λ s. refl) (λ f s. refl) (λ began s. refl)
-    (one-part Production.LiteralOperator 62 (105 ∷ []) around allowed (place + 1) Name (value.text name) (piece (literal_operator name)) cs
+    (one-part Production.LiteralOperator OPERATOR_AFTER_L (105 ∷ []) around allowed (place + 1) Name (value.text name) (piece (literal_operator name)) cs
     (written (counted name) cs)
     (takes-byte OPERATOR_AFTER_L Kind.OperatorAfterL Production.LiteralOperator 105 refl refl (omega arith) refl) refl (λ s. refl) (λ f s. refl) (λ began s. refl)
     (name-token-reads around allowed name (place + 1 + 1) cs good))
@@ -142,7 +142,7 @@ other-literal-operator-reads around allowed name place cs good =
     one-part Production.OperatorL OTHER_OPERATOR (108 ∷ []) around allowed place (OfKind OPERATOR_AFTER_L) (piece (literal_operator name)) (piece (literal_operator name))
     cs (written (105 ∷ counted name) cs)
     (takes-byte OTHER_OPERATOR Kind.OtherOperator Production.OperatorL 108 refl refl (omega arith) refl) refl (λ s. refl) (λ f s. refl) (λ began s. refl)
-    (one-part Production.LiteralOperator 62 (105 ∷ []) around allowed (place + 1) Name (value.text name) (piece (literal_operator name)) cs
+    (one-part Production.LiteralOperator OPERATOR_AFTER_L (105 ∷ []) around allowed (place + 1) Name (value.text name) (piece (literal_operator name)) cs
     (written (counted name) cs)
     (takes-byte OPERATOR_AFTER_L Kind.OperatorAfterL Production.LiteralOperator 105 refl refl (omega arith) refl) refl (λ s. refl) (λ f s. refl) (λ began s. refl)
     (name-token-reads around allowed name (place + 1 + 1) cs good))

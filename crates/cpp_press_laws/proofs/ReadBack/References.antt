@@ -170,7 +170,7 @@ pub number-refers : (around : Around) (allowed : Option ℕ) (own : Term) (numbe
     → ReadsAt around allowed (OfKind ABBREVIATION) (λ v. v ≡ tree own true) place cs (written (seq_id number ++ 95 ∷ []) cs)
 unfolding choose alternatives pick is_in in_ranges among kinds is_chain parts_of opening close between text_of part
 number-refers around allowed own number place cs few may first =
-    production-reads Production.Substitution 22 [] around allowed allowed place (λ values. values ≡ text (seq_id number) ∷ [])
+    production-reads Production.Substitution ABBREVIATION [] around allowed allowed place (λ values. values ≡ text (seq_id number) ∷ [])
     (λ v. v ≡ tree own true) cs cs (Number Seq36 ∷ []) (written (seq_id number ++ 95 ∷ []) cs)
     (takes-none ABBREVIATION Kind.Abbreviation Production.Substitution 95 refl refl (omega arith) refl) refl
     (row-last Production.Substitution [] around around allowed allowed place (Number Seq36) [] [] (λ v. v ≡ text (seq_id number))

@@ -22,7 +22,7 @@ use Rattle.cpp_press_laws.specs.Spellable.{IsSpellableNumber}
 use Rattle.cpp_press_laws.specs.Subtrees.{greatest, Written, written, ReadsAt, Is, HasRoom}
 use Rattle.cpp_press_laws.proofs.ReadBack.Reading.{takes-none, takes-byte}
 use Rattle.cpp_press_laws.proofs.ReadBack.References.{found-first, number-refers}
-use Rattle.cpp_press_laws.proofs.ReadBack.Types.{one-part, more, HasTypes, types-28, types-29, types-30, types-31, solid-with-s, type-behind-s}
+use Rattle.cpp_press_laws.proofs.ReadBack.Types.{one-part, more, HasTypes, types-any, types-bare, types-item, types-parameter, solid-with-s, type-behind-s}
 use Rattle.cpp_press_laws.proofs.ReadBack.Functions.{rest-item}
 use Rattle.cpp_press_laws.proofs.ReadBack.Arguments.{integer-reads}
 use Rattle.cpp_press_laws.proofs.ReadBack.Literals.{integer-literal, integer-literal-same}
@@ -89,8 +89,8 @@ ReadsAs literal_type around allowed t place cs w =
 
 -- the kind of types there that have a letter of their own, or a name
 abbrev pub solid_kind : Slot → ℕ
-solid_kind literal_type = 51
-solid_kind _ = 34
+solid_kind literal_type = LITERAL_TYPE
+solid_kind _ = SOLID
 
 -- how types become what is read: a component or an abbreviation after an S, and what is spelled out
 pub record InSlot (around : Around) (allowed : Option ℕ) (t : Term) (solid : ℕ) (reads : ℕ → List Component → Written → Type 0) : Type 0 where
@@ -102,7 +102,7 @@ pub record InSlot (around : Around) (allowed : Option ℕ) (t : Term) (solid : �
       → reads place cs w
 
 in-kind : (k : ℕ) (around : Around) (allowed : Option ℕ) (t : Term) → HasTypes around allowed k t
-    → InSlot around allowed t 34 (λ place cs w. ReadsAt around allowed (OfKind k) (Is (tree t true)) place cs w)
+    → InSlot around allowed t SOLID (λ place cs w. ReadsAt around allowed (OfKind k) (Is (tree t true)) place cs w)
 in-kind k around allowed t has = record {
   behind_s = λ place cs w one. type-behind-s k around allowed place t cs w has
       (subst (λ q. ReadsAt around allowed (OfKind ABBREVIATION) (Is (tree t true)) q cs w) (omega arith) one);
@@ -120,9 +120,9 @@ in-rest around allowed t place cs w one items ref rest two =
     (subst (λ q. ReadsAt around allowed (OfKind ITEM_BUT_REF) (Is (tree t true)) q cs w) (omega arith) one)
     (subst (λ q. RestReads around allowed items ref q w.components rest) (omega arith) two)
 
-in-parameter : (around : Around) (allowed : Option ℕ) (t : Term) → InSlot around allowed t 34 (ReadsAs parameter_type around allowed t)
+in-parameter : (around : Around) (allowed : Option ℕ) (t : Term) → InSlot around allowed t SOLID (ReadsAs parameter_type around allowed t)
 in-parameter around allowed t =
-    let i = in-kind ITEM_BUT_REF around allowed t (types-31 around allowed t) in
+    let i = in-kind ITEM_BUT_REF around allowed t (types-parameter around allowed t) in
     record {
       behind_s = λ place cs w one. in-rest around allowed t place cs _ (i.behind_s place cs w one);
       adds = λ place cs w one. in-rest around allowed t place cs _ (i.adds place cs w one);
@@ -142,7 +142,7 @@ pub behind-s : (around : Around) (allowed : Option ℕ) (t : Term) (place : ℕ)
     → ReadsAt around allowed (OfKind ABBREVIATION) (Is (tree t true)) place cs w → ReadsAt around allowed (OfKind TYPE_AFTER_S) (Is (tree t true)) place cs w
 unfolding choose alternatives pick is_in in_ranges among kinds is_chain parts_of number_of_kind between opening close unfolding_.behind meaning part
 behind-s around allowed t place cs w one =
-    one-part Production.AbbreviatedType 36 [] around allowed place (OfKind ABBREVIATION) (tree t true) (tree t true) cs w
+    one-part Production.AbbreviatedType TYPE_AFTER_S [] around allowed place (OfKind ABBREVIATION) (tree t true) (tree t true) cs w
     (takes-none TYPE_AFTER_S Kind.TypeAfterS Production.AbbreviatedType 95 refl refl (omega arith) refl) refl (λ s. refl) (λ f s. refl)
     (λ began s. refl)
     (subst (λ q. ReadsAt around allowed (OfKind ABBREVIATION) (Is (tree t true)) q cs w) (omega arith) one)
@@ -152,7 +152,7 @@ unfolding choose alternatives pick is_in in_ranges among kinds is_chain
 takes-S literal_type = takes-byte LITERAL_TYPE Kind.LiteralType Production.TypeWithS 83 refl refl (omega arith) refl
 takes-S _ = takes-byte SOLID Kind.Solid Production.TypeWithS 83 refl refl (omega arith) refl
 
-in-literal : (around : Around) (allowed : Option ℕ) (t : Term) → InSlot around allowed t 51 (ReadsAs literal_type around allowed t)
+in-literal : (around : Around) (allowed : Option ℕ) (t : Term) → InSlot around allowed t LITERAL_TYPE (ReadsAs literal_type around allowed t)
 in-literal around allowed t = record {
   behind_s = λ place cs w one. literal-keeps around allowed t place cs (written (83 ∷ w.bytes) w.components)
       (solid-with-s LITERAL_TYPE around allowed place t true cs w (takes-S literal_type) (behind-s around allowed t (place + 1) cs w one));
@@ -171,13 +171,13 @@ is_bare _ = false
 pub in-slot : (slot : Slot) (around : Around) (allowed : Option ℕ) (t : Term) → is_function_type t && is_bare slot ≡ false
     → InSlot around allowed t (solid_kind slot) (ReadsAs slot around allowed t)
 unfolding is_bare
-in-slot any_type around allowed t h = in-kind TYPE around allowed t (types-28 around allowed t)
-in-slot bare_type around allowed t h = in-kind PLAIN around allowed t (types-29 around allowed t (go (is_function_type t) h))
+in-slot any_type around allowed t h = in-kind TYPE around allowed t (types-any around allowed t)
+in-slot bare_type around allowed t h = in-kind PLAIN around allowed t (types-bare around allowed t (go (is_function_type t) h))
   where
     go : (b : Bool) → b && true ≡ false → b ≡ false
     go true k = k
     go false k = refl
-in-slot item_type around allowed t h = in-kind ITEM around allowed t (types-30 around allowed t)
+in-slot item_type around allowed t h = in-kind ITEM around allowed t (types-item around allowed t)
 in-slot parameter_type around allowed t h = in-parameter around allowed t
 in-slot literal_type around allowed t h = in-literal around allowed t
 

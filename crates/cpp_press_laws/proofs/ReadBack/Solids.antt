@@ -61,7 +61,7 @@ unfolding choose alternatives pick is_in in_ranges among kinds is_chain parts_of
 vendor-solid around allowed name place cs good =
     same-written around allowed (OfKind SOLID) (Is (tree (vendor name) false)) place cs cs (117 ∷ ((name_token name).before ++ name ++ []))
     (117 ∷ counted name) (ap (λ l. 117 ∷ l) (name-spelled name))
-    (one-part Production.Vendor 34 (117 ∷ []) around allowed place Name (value.text name) (tree (vendor name) false) cs
+    (one-part Production.Vendor SOLID (117 ∷ []) around allowed place Name (value.text name) (tree (vendor name) false) cs
     (written ((name_token name).before ++ name ++ []) cs)
     (takes-byte SOLID Kind.Solid Production.Vendor 117 refl refl (omega arith) refl) refl (λ s. refl) (λ f s. refl) (λ began s. refl)
     (name-reads around allowed (name_token name) (place + 1) cs (name-is-token name good)))
@@ -83,7 +83,7 @@ pub complex-solid : (around : Around) (allowed : Option ℕ) (t : Term) (place :
     → ReadsAt around allowed (OfKind SOLID) (Is (tree (complex t) false)) place cs (written (67 ∷ w.bytes) w.components)
 unfolding choose alternatives pick is_in in_ranges among kinds is_chain parts_of number_of_kind between opening close unfolding_.behind meaning tree_of part
 complex-solid around allowed t place cs w one =
-    one-part Production.Complex 34 (67 ∷ []) around allowed place (OfKind TYPE) (tree t true) (tree (complex t) false) cs w
+    one-part Production.Complex SOLID (67 ∷ []) around allowed place (OfKind TYPE) (tree t true) (tree (complex t) false) cs w
     (takes-byte SOLID Kind.Solid Production.Complex 67 refl refl (omega arith) refl) refl (λ s. refl) (λ f s. refl) (λ began s. refl) one
 
 -- ## Two parts

@@ -53,7 +53,7 @@ pub one-digit : (around : Around) (allowed : Option ℕ) (byte place : ℕ) (cs 
     → ReadsAt around allowed (OfKind MAYBE_DISCRIMINATOR) (Is (value.text (byte ∷ []))) place cs (written (95 ∷ byte ∷ []) cs)
 unfolding choose alternatives pick is_in in_ranges among kinds is_chain parts_of number_of_kind between opening close unfolding_.behind meaning part byte_of
 one-digit around allowed byte place cs small chosen =
-    one-part Production.Discriminator 25 (95 ∷ []) around allowed place (OfKind DISCRIMINATOR_REST) (value.text (byte ∷ [])) (value.text (byte ∷ [])) cs
+    one-part Production.Discriminator MAYBE_DISCRIMINATOR (95 ∷ []) around allowed place (OfKind DISCRIMINATOR_REST) (value.text (byte ∷ [])) (value.text (byte ∷ [])) cs
     (written (byte ∷ []) cs)
     (takes-byte MAYBE_DISCRIMINATOR Kind.MaybeDiscriminator Production.Discriminator 95 refl refl (omega arith) refl) refl (λ s. refl) (λ f s. refl) (λ began s. refl)
     (no-part Production.OneDigit DISCRIMINATOR_REST (byte ∷ []) around allowed (place + 1) (value.text (byte ∷ [])) cs
@@ -65,10 +65,10 @@ pub many-digits : (around : Around) (allowed : Option ℕ) (digits : List ℕ) (
 unfolding choose alternatives pick is_in in_ranges among kinds is_chain parts_of number_of_kind between opening close unfolding_.behind meaning text_of part
 many-digits around allowed digits place cs good =
     let number : Written = written ((digits_token digits).before ++ digits ++ []) cs in
-    one-part Production.Discriminator 25 (95 ∷ []) around allowed place (OfKind DISCRIMINATOR_REST) (value.text digits) (value.text digits) cs
+    one-part Production.Discriminator MAYBE_DISCRIMINATOR (95 ∷ []) around allowed place (OfKind DISCRIMINATOR_REST) (value.text digits) (value.text digits) cs
     (written (95 ∷ (number.bytes ++ (95 ∷ []))) cs)
     (takes-byte MAYBE_DISCRIMINATOR Kind.MaybeDiscriminator Production.Discriminator 95 refl refl (omega arith) refl) refl (λ s. refl) (λ f s. refl) (λ began s. refl)
-    (whole-same Production.ManyDigits 26 (95 ∷ []) around allowed (place + 1) (value.text digits ∷ nothing_there ∷ []) (value.text digits) cs
+    (whole-same Production.ManyDigits DISCRIMINATOR_REST (95 ∷ []) around allowed (place + 1) (value.text digits ∷ nothing_there ∷ []) (value.text digits) cs
     (Number Digits ∷ Byte 95 ∷ []) (written (number.bytes ++ (95 ∷ [])) cs)
     (takes-byte DISCRIMINATOR_REST Kind.DiscriminatorRest Production.ManyDigits 95 refl refl (omega arith) refl) refl (λ f s. refl)
     (λ began s. ap (λ l. Ok (found (value.text l) s)) good.normal_are)
@@ -121,7 +121,7 @@ local-name around allowed e entity d place cs first second third one two three =
     let inner : Around = after e true around in
     let all : List Value = tree e true ∷ nothing_there ∷ entity ∷ discriminator_value d ∷ [] in
     let at_e : ℕ = place + 1 + length first.bytes in
-    whole-same Production.LocalName 8 (90 ∷ []) around allowed place all (named (local e (tree_of entity) d) (qualifiers_of entity)
+    whole-same Production.LocalName COMPLETE_NAME (90 ∷ []) around allowed place all (named (local e (tree_of entity) d) (qualifiers_of entity)
     (ref_of entity)) cs (OfKind ENCODING ∷ Byte 69 ∷ OfKind ENTITY ∷ OfKind MAYBE_DISCRIMINATOR ∷ [])
     (written (first.bytes ++ (69 ∷ (second.bytes ++ third.bytes))) third.components)
     (takes-byte COMPLETE_NAME Kind.CompleteName Production.LocalName 90 refl refl (omega arith) refl) refl
@@ -147,7 +147,7 @@ pub encoding-reads : (around : Around) (allowed : Option ℕ) (name last : Value
     (written (first.bytes ++ rest.bytes) rest.components)
 unfolding choose alternatives pick is_in in_ranges among kinds is_chain parts_of number_of_kind between opening close unfolding_.behind meaning part
 encoding-reads around allowed name last place cs first rest one two =
-    whole-same Production.Encoding 4 [] around allowed place (name ∷ last ∷ []) (tree (encoding_of name (no_items last)) true) cs
+    whole-same Production.Encoding ENCODING [] around allowed place (name ∷ last ∷ []) (tree (encoding_of name (no_items last)) true) cs
     (OfKind COMPLETE_NAME ∷ OfKind ITEMS ∷ []) (written (first.bytes ++ rest.bytes) rest.components)
     (takes-none ENCODING Kind.Encoding Production.Encoding 78 refl refl (omega arith) refl) refl (λ f s. refl) (λ began s. refl)
     (then-in Production.Encoding [] around (in_name place) allowed place (OfKind COMPLETE_NAME) (OfKind ITEMS ∷ []) [] name (AreOnly (name ∷ last ∷ []))
@@ -181,7 +181,7 @@ pub special-reads : (around : Around) (allowed : Option ℕ) (v : Value) (place 
     → ReadsAt around allowed (OfKind ENCODING) (Is v) place cs (written (84 ∷ w.bytes) w.components)
 unfolding choose alternatives pick is_in in_ranges among kinds is_chain parts_of number_of_kind between opening close unfolding_.behind meaning part
 special-reads around allowed v place cs w one =
-    whole-same Production.Special 4 (84 ∷ []) around allowed place (v ∷ []) v cs (OfKind SPECIAL ∷ []) w
+    whole-same Production.Special ENCODING (84 ∷ []) around allowed place (v ∷ []) v cs (OfKind SPECIAL ∷ []) w
     (takes-byte ENCODING Kind.Encoding Production.Special 84 refl refl (omega arith) refl) refl (λ f s. refl) (λ began s. refl)
     (last-in Production.Special (84 ∷ []) around (in_name place) allowed place (OfKind SPECIAL) [] v (place + 1) cs w (λ s. refl) one)
 
@@ -191,7 +191,7 @@ pub special-type : (around : Around) (allowed : Option ℕ) (byte : ℕ) (t : Te
     → ReadsAt around allowed (OfKind SPECIAL) (Is (tree (special byte t) true)) place cs (written (byte ∷ w.bytes) w.components)
 unfolding choose kinds is_chain parts_of number_of_kind between opening close unfolding_.behind meaning tree_of part byte_of
 special-type around allowed byte t place cs w small chosen one =
-    one-part Production.SpecialType 5 (byte ∷ []) around allowed place (OfKind TYPE) (tree t true) (tree (special byte t) true) cs w
+    one-part Production.SpecialType SPECIAL (byte ∷ []) around allowed place (OfKind TYPE) (tree t true) (tree (special byte t) true) cs w
     (takes-byte SPECIAL Kind.Special Production.SpecialType byte refl chosen small refl) refl (λ s. refl) (λ f s. refl) (λ began s. refl) one
 
 -- ## Thunks
@@ -203,7 +203,7 @@ pub non-virtual-thunk : (around : Around) (allowed : Option ℕ) (n : Signed) (e
     (written (104 ∷ (number.bytes ++ (95 ∷ w.bytes))) w.components)
 unfolding choose alternatives pick is_in in_ranges among kinds is_chain parts_of number_of_kind between opening close unfolding_.behind meaning signed_of tree_of part
 non-virtual-thunk around allowed n e place cs number w one two =
-    whole-same Production.NonVirtualThunk 5 (104 ∷ []) around allowed place (signed n ∷ nothing_there ∷ tree e true ∷ [])
+    whole-same Production.NonVirtualThunk SPECIAL (104 ∷ []) around allowed place (signed n ∷ nothing_there ∷ tree e true ∷ [])
     (tree (thunk (adjusting (non_virtual n)) e) true) cs (OfKind INTEGER ∷ Byte 95 ∷ OfKind ENCODING ∷ [])
     (written (number.bytes ++ (95 ∷ w.bytes)) w.components)
     (takes-byte SPECIAL Kind.Special Production.NonVirtualThunk 104 refl refl (omega arith) refl) refl (λ f s. refl) (λ began s. refl)
@@ -227,7 +227,7 @@ virtual-thunk around allowed n m e place cs first second w one two three =
     let all : List Value = signed n ∷ nothing_there ∷ signed m ∷ nothing_there ∷ tree e true ∷ [] in
     let a : ℕ = place + 1 + length first.bytes in
     let b : ℕ = a + 1 + length second.bytes in
-    whole-same Production.VirtualThunk 5 (118 ∷ []) around allowed place all (tree (thunk (adjusting (by_table n m)) e) true) cs
+    whole-same Production.VirtualThunk SPECIAL (118 ∷ []) around allowed place all (tree (thunk (adjusting (by_table n m)) e) true) cs
     (OfKind INTEGER ∷ Byte 95 ∷ OfKind INTEGER ∷ Byte 95 ∷ OfKind ENCODING ∷ []) (written (first.bytes ++ (95 ∷ (second.bytes ++ (95 ∷ w.bytes)))) w.components)
     (takes-byte SPECIAL Kind.Special Production.VirtualThunk 118 refl refl (omega arith) refl) refl (λ f s. refl) (λ began s. refl)
     (then-part Production.VirtualThunk (118 ∷ []) around allowed place (OfKind INTEGER) (Byte 95 ∷ OfKind INTEGER ∷ Byte 95 ∷ OfKind ENCODING ∷ []) [] (signed n)
@@ -253,7 +253,7 @@ pub symbol-reads : (e : Term) (suffix : Value) (place : ℕ) (around : Around) (
     (written (95 ∷ 90 ∷ (w.bytes ++ rest.bytes)) rest.components)
 unfolding choose alternatives pick is_in in_ranges among kinds is_chain parts_of number_of_kind between opening close unfolding_.behind meaning tree_of part
 symbol-reads e suffix place around allowed cs w rest one two =
-    whole-same Production.Symbol 0 (95 ∷ []) around allowed place (nothing_there ∷ tree e true ∷ suffix ∷ [])
+    whole-same Production.Symbol SYMBOL (95 ∷ []) around allowed place (nothing_there ∷ tree e true ∷ suffix ∷ [])
     (tree (symbol e (text_of suffix)) true) cs (Byte 90 ∷ OfKind ENCODING ∷ OfKind MAYBE_SUFFIX ∷ []) (written (90 ∷ (w.bytes ++ rest.bytes)) rest.components)
     (takes-byte SYMBOL Kind.Symbol Production.Symbol 95 refl refl (omega arith) refl) refl (λ f s. refl) (λ began s. refl)
     (then-part Production.Symbol (95 ∷ []) around allowed place (Byte 90) (OfKind ENCODING ∷ OfKind MAYBE_SUFFIX ∷ []) [] nothing_there
@@ -272,7 +272,7 @@ pub non-virtual-offset : (around : Around) (allowed : Option ℕ) (n : Signed) (
     → ReadsAt around allowed (OfKind CALL_OFFSET) (Is (adjusted (non_virtual n))) place cs (written (104 ∷ (number.bytes ++ (95 ∷ []))) number.components)
 unfolding choose alternatives pick is_in in_ranges among kinds is_chain parts_of number_of_kind between opening close unfolding_.behind meaning signed_of part
 non-virtual-offset around allowed n place cs number one =
-    whole-same Production.NonVirtualOffset 6 (104 ∷ []) around allowed place (signed n ∷ nothing_there ∷ []) (adjusted (non_virtual n)) cs
+    whole-same Production.NonVirtualOffset CALL_OFFSET (104 ∷ []) around allowed place (signed n ∷ nothing_there ∷ []) (adjusted (non_virtual n)) cs
     (OfKind INTEGER ∷ Byte 95 ∷ []) (written (number.bytes ++ (95 ∷ [])) number.components)
     (takes-byte CALL_OFFSET Kind.CallOffset Production.NonVirtualOffset 104 refl refl (omega arith) refl) refl (λ f s. refl) (λ began s. refl)
     (then-part Production.NonVirtualOffset (104 ∷ []) around allowed place (OfKind INTEGER) (Byte 95 ∷ []) [] (signed n)
@@ -291,7 +291,7 @@ virtual-offset around allowed n m place cs first second one two =
     let all : List Value = signed n ∷ nothing_there ∷ signed m ∷ nothing_there ∷ [] in
     let a : ℕ = place + 1 + length first.bytes in
     let b : ℕ = a + 1 + length second.bytes in
-    whole-same Production.VirtualOffset 6 (118 ∷ []) around allowed place all (adjusted (by_table n m)) cs
+    whole-same Production.VirtualOffset CALL_OFFSET (118 ∷ []) around allowed place all (adjusted (by_table n m)) cs
     (OfKind INTEGER ∷ Byte 95 ∷ OfKind INTEGER ∷ Byte 95 ∷ []) (written (first.bytes ++ (95 ∷ (second.bytes ++ (95 ∷ [])))) second.components)
     (takes-byte CALL_OFFSET Kind.CallOffset Production.VirtualOffset 118 refl refl (omega arith) refl) refl (λ f s. refl) (λ began s. refl)
     (then-part Production.VirtualOffset (118 ∷ []) around allowed place (OfKind INTEGER) (Byte 95 ∷ OfKind INTEGER ∷ Byte 95 ∷ []) [] (signed n)
@@ -315,7 +315,7 @@ pub covariant-thunk : (around : Around) (allowed : Option ℕ) (this result : Ad
 unfolding choose alternatives pick is_in in_ranges among kinds is_chain parts_of number_of_kind between opening close unfolding_.behind meaning adjustment_of tree_of part
 covariant-thunk around allowed this result e place cs first second w one two three =
     let all : List Value = adjusted this ∷ adjusted result ∷ tree e true ∷ [] in
-    whole-same Production.CovariantThunk 5 (99 ∷ []) around allowed place all (tree (thunk (covariant this result) e) true) cs
+    whole-same Production.CovariantThunk SPECIAL (99 ∷ []) around allowed place all (tree (thunk (covariant this result) e) true) cs
     (OfKind CALL_OFFSET ∷ OfKind CALL_OFFSET ∷ OfKind ENCODING ∷ []) (written (first.bytes ++ (second.bytes ++ w.bytes)) w.components)
     (takes-byte SPECIAL Kind.Special Production.CovariantThunk 99 refl refl (omega arith) refl) refl (λ f s. refl) (λ began s. refl)
     (then-part Production.CovariantThunk (99 ∷ []) around allowed place (OfKind CALL_OFFSET) (OfKind CALL_OFFSET ∷ OfKind ENCODING ∷ []) [] (adjusted this) (AreOnly all)
@@ -341,7 +341,7 @@ suffix-more : (around : Around) (allowed : Option ℕ) (bs : List ℕ) (place : 
 unfolding kinds may_be_empty is_chain parts_of number_of_kind between opening close unfolding_.behind meaning part byte_of
 suffix-more around allowed [] place cs good = empty-reads around allowed SUFFIX_MORE Kind.SuffixMore place cs refl refl
 suffix-more around allowed (b ∷ bs) place cs good =
-    one-part Production.SuffixByte 3 (b ∷ []) around allowed place (OfKind SUFFIX_MORE) (suffix_value bs) (value.text (b ∷ bs)) cs (written bs cs)
+    one-part Production.SuffixByte SUFFIX_MORE (b ∷ []) around allowed place (OfKind SUFFIX_MORE) (suffix_value bs) (value.text (b ∷ bs)) cs (written bs cs)
     (takes-byte SUFFIX_MORE Kind.SuffixMore Production.SuffixByte b refl good.1 good.0 refl) refl (λ s. refl) (λ f s. refl)
     (λ began s. ap (λ l. Ok (found (value.text (b ∷ l)) s)) (suffix-kept bs))
     (suffix-more around allowed bs (place + 1) cs good.2)
@@ -356,9 +356,9 @@ pub suffix-reads : (around : Around) (allowed : Option ℕ) (b : ℕ) (bs : List
     → ReadsAt around allowed (OfKind MAYBE_SUFFIX) (Is (value.text (46 ∷ b ∷ bs))) place cs (written (46 ∷ b ∷ bs) cs)
 unfolding choose alternatives pick is_in in_ranges among kinds is_chain parts_of number_of_kind between opening close unfolding_.behind meaning text_of part byte_of
 suffix-reads around allowed b bs place cs small chosen good =
-    one-part Production.Suffix 1 (46 ∷ []) around allowed place (OfKind SUFFIX_FIRST) (value.text (b ∷ bs)) (value.text (46 ∷ b ∷ bs)) cs (written (b ∷ bs) cs)
+    one-part Production.Suffix MAYBE_SUFFIX (46 ∷ []) around allowed place (OfKind SUFFIX_FIRST) (value.text (b ∷ bs)) (value.text (46 ∷ b ∷ bs)) cs (written (b ∷ bs) cs)
     (takes-byte MAYBE_SUFFIX Kind.MaybeSuffix Production.Suffix 46 refl refl (omega arith) refl) refl (λ s. refl) (λ f s. refl) (λ began s. refl)
-    (one-part Production.SuffixByte 2 (b ∷ []) around allowed (place + 1) (OfKind SUFFIX_MORE) (suffix_value bs) (value.text (b ∷ bs)) cs (written bs cs)
+    (one-part Production.SuffixByte SUFFIX_FIRST (b ∷ []) around allowed (place + 1) (OfKind SUFFIX_MORE) (suffix_value bs) (value.text (b ∷ bs)) cs (written bs cs)
     (takes-byte SUFFIX_FIRST Kind.SuffixFirst Production.SuffixByte b refl chosen small refl) refl (λ s. refl) (λ f s. refl)
     (λ began s. ap (λ l. Ok (found (value.text (b ∷ l)) s)) (suffix-kept bs))
     (suffix-more around allowed bs (place + 1 + 1) cs good))

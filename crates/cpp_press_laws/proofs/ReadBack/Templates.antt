@@ -46,7 +46,7 @@ pub record TypeRules (k : ℕ) : Type 0 where
   pub members : TakesRule abi k (rule_of Production.MemberPointer) (77 ∷ [])
   pub names : (p : Term) → names_type p ≡ true → NameRule k p
 
-solid-rules : TypeRules 34
+solid-rules : TypeRules SOLID
 unfolding choose alternatives pick is_in in_ranges among kinds is_chain
 solid-rules = record {
   with_s = takes-byte SOLID Kind.Solid Production.TypeWithS 83 refl refl (omega arith) refl;
@@ -58,7 +58,7 @@ solid-rules = record {
   names = type-rule;
 }
 
-literal-rules : TypeRules 51
+literal-rules : TypeRules LITERAL_TYPE
 unfolding choose alternatives pick is_in in_ranges among kinds is_chain
 literal-rules = record {
   with_s = takes-byte LITERAL_TYPE Kind.LiteralType Production.TypeWithS 83 refl refl (omega arith) refl;
@@ -92,17 +92,17 @@ InstancedAt around allowed k t place cs w =
     → ReadsAt around allowed (OfKind k) (Is (tree (instance t items) false)) place cs (written
     (w.bytes ++ in_I_and_E args.bytes) args.components)
 
-takes-42 : TakesRule abi 42 (rule_of Production.Arguments) (73 ∷ [])
+takes-maybe-arguments : TakesRule abi MAYBE_ARGUMENTS (rule_of Production.Arguments) (73 ∷ [])
 unfolding choose alternatives pick is_in in_ranges among kinds is_chain
-takes-42 = takes-byte MAYBE_ARGUMENTS Kind.MaybeArguments Production.Arguments 73 refl refl (omega arith) refl
+takes-maybe-arguments = takes-byte MAYBE_ARGUMENTS Kind.MaybeArguments Production.Arguments 73 refl refl (omega arith) refl
 
-takes-67 : TakesRule abi 67 (rule_of Production.Arguments) (73 ∷ [])
+takes-arguments-alone : TakesRule abi ARGUMENTS_ALONE (rule_of Production.Arguments) (73 ∷ [])
 unfolding choose alternatives pick is_in in_ranges among kinds is_chain
-takes-67 = takes-byte ARGUMENTS_ALONE Kind.ArgumentsAlone Production.Arguments 73 refl refl (omega arith) refl
+takes-arguments-alone = takes-byte ARGUMENTS_ALONE Kind.ArgumentsAlone Production.Arguments 73 refl refl (omega arith) refl
 
-takes-43 : TakesRule abi 43 (rule_of Production.Arguments) (73 ∷ [])
+takes-arguments : TakesRule abi ARGUMENTS (rule_of Production.Arguments) (73 ∷ [])
 unfolding choose alternatives pick is_in in_ranges among kinds is_chain
-takes-43 = takes-byte ARGUMENTS Kind.Arguments Production.Arguments 73 refl refl (omega arith) refl
+takes-arguments = takes-byte ARGUMENTS Kind.Arguments Production.Arguments 73 refl refl (omega arith) refl
 
 pub instanced-behind-s : (typed : Bool) (k : ℕ) (around : Around) (allowed : Option ℕ) (t : Term) → TemplateKind typed k → (place : ℕ)
     (cs : List Component) (w : Written) → ReadsAt around allowed (OfKind ABBREVIATION) (Is (tree t true)) (place + 1) cs w
@@ -110,14 +110,14 @@ pub instanced-behind-s : (typed : Bool) (k : ℕ) (around : Around) (allowed : O
 instanced-behind-s true k around allowed t rules place cs w one items last args are two =
     type-with-arguments k around allowed t items true place cs w (written (in_I_and_E args.bytes) args.components) rules.with_s
     (behind-s around allowed t (place + 1) cs w one)
-    (listed-arguments 42 around allowed t items last (place + 1 + length w.bytes) w.components args takes-42 are
+    (listed-arguments MAYBE_ARGUMENTS around allowed t items last (place + 1 + length w.bytes) w.components args takes-maybe-arguments are
     (subst (λ q. ReadsAt (inside around) allowed (OfKind ARGUMENT_LIST) (Is last) q w.components args) (omega arith) two))
 instanced-behind-s false k around allowed t eight place cs w one items last args are two =
     subst (λ j. ReadsAt around allowed (OfKind j) (Is (tree (instance t items) false)) place cs
     (written ((83 ∷ w.bytes) ++ in_I_and_E args.bytes) args.components)) (sym eight)
     (abbreviated-name around allowed t items place cs w (written (in_I_and_E args.bytes) args.components)
     (subst (λ q. ReadsAt around allowed (OfKind ABBREVIATION) (Is (tree t true)) q cs w) (omega arith) one)
-    (listed-arguments 43 around allowed t items last (place + 1 + 0 + length w.bytes) w.components args takes-43 are
+    (listed-arguments ARGUMENTS around allowed t items last (place + 1 + 0 + length w.bytes) w.components args takes-arguments are
     (subst (λ q. ReadsAt (inside around) allowed (OfKind ARGUMENT_LIST) (Is last) q w.components args) (omega arith) two)))
 
 -- a parameter with arguments
@@ -141,7 +141,7 @@ parameter-instanced kind around allowed k place cs is takes items last args are 
     (row-last Production.Parameter (84 ∷ []) around inner allowed allowed place (OfKind ARGUMENTS_ALONE) (value.text (ordinal_digits k) ∷ [])
     (tree (parameter k) true ∷ []) (Is (tree items true)) (AreOnly all) (place + 1 + length digits.bytes) cs after_it behind
     (parameter-passes Production.Parameter around allowed place k cs is (λ s. refl))
-    (listed-arguments 67 around allowed (parameter k) items last (place + 1 + length digits.bytes) after_it args takes-67 are
+    (listed-arguments ARGUMENTS_ALONE around allowed (parameter k) items last (place + 1 + length digits.bytes) after_it args takes-arguments-alone are
     (subst (λ q. ReadsAt (inside around) allowed (OfKind ARGUMENT_LIST) (Is last) q after_it args) (omega (arith, ap length (ordinal-spelled k))) one))
     (λ v h. ap (λ x. tree (parameter k) true ∷ x ∷ []) h))))
 

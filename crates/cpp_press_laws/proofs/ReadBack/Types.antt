@@ -142,8 +142,8 @@ pub record Wraps (around : Around) (allowed : Option ℕ) (k inner : ℕ) (taken
 
 -- The kinds of types: they have a solid type after no byte of its own, and what begins with a D.
 pub record HasTypes (around : Around) (allowed : Option ℕ) (k : ℕ) (t : Term) : Type 0 where
-  pub solid : Wraps around allowed k 34 [] t
-  pub with_d : Wraps around allowed k 33 (68 ∷ []) t
+  pub solid : Wraps around allowed k SOLID [] t
+  pub with_d : Wraps around allowed k AFTER_D (68 ∷ []) t
 
 -- by a production with one part, which makes a component
 pub wraps : (p : Production) (around : Around) (allowed : Option ℕ) (k inner : ℕ) (taken : List ℕ) (t : Term)
@@ -187,17 +187,17 @@ item-is-type : (around : Around) (allowed : Option ℕ) (t : Term) (listed : Boo
     → ReadsAt around allowed (OfKind ITEM_AFTER_D) (Is (tree t listed)) place cs w
 unfolding choose alternatives pick is_in in_ranges among kinds is_chain parts_of number_of_kind between opening close unfolding_.behind meaning part
 item-is-type around allowed t listed place cs w one =
-    one-part Production.ItemIsType 32 [] around allowed place (OfKind AFTER_D) (tree t listed) (tree t listed) cs w
+    one-part Production.ItemIsType ITEM_AFTER_D [] around allowed place (OfKind AFTER_D) (tree t listed) (tree t listed) cs w
     (takes-none ITEM_AFTER_D Kind.ItemAfterD Production.ItemIsType 118 refl refl (omega arith) refl) refl (λ s. refl) (λ f s. refl) (λ began s. refl) one
 
 plain-wraps : (around : Around) (allowed : Option ℕ) (k : ℕ) (t : Term) → TakesRule abi k (rule_of Production.PlainType) []
-    → Wraps around allowed k 34 [] t
+    → Wraps around allowed k SOLID [] t
 unfolding parts_of number_of_kind between opening close unfolding_.behind meaning listed_value with_type tree_of is_listed part
 plain-wraps around allowed k t takes = wraps Production.PlainType around allowed k SOLID [] t takes refl (λ place s. refl) (λ place f s. refl)
     (λ place began s. refl) (λ place began s. refl)
 
 item-wraps : (around : Around) (allowed : Option ℕ) (k : ℕ) (t : Term) → TakesRule abi k (rule_of Production.ItemWithD) (68 ∷ [])
-    → Wraps around allowed k 33 (68 ∷ []) t
+    → Wraps around allowed k AFTER_D (68 ∷ []) t
 unfolding parts_of number_of_kind between opening close unfolding_.behind meaning listed_value with_type tree_of is_listed part
 item-wraps around allowed k t takes =
     wraps-both around allowed k ITEM_AFTER_D AFTER_D (68 ∷ []) t
@@ -205,33 +205,33 @@ item-wraps around allowed k t takes =
     (λ place began s. refl))
     (item-is-type around allowed t)
 
-pub types-28 : (around : Around) (allowed : Option ℕ) (t : Term) → HasTypes around allowed 28 t
+pub types-any : (around : Around) (allowed : Option ℕ) (t : Term) → HasTypes around allowed TYPE t
 unfolding choose alternatives pick is_in in_ranges among kinds is_chain parts_of number_of_kind between opening close unfolding_.behind meaning listed_value with_type tree_of is_listed part
-types-28 around allowed t = record {
+types-any around allowed t = record {
   solid = plain-wraps around allowed TYPE t (takes-none TYPE Kind.Type Production.PlainType 80 refl refl (omega arith) refl);
   with_d = wraps Production.TypeWithD around allowed TYPE AFTER_D (68 ∷ []) t (takes-byte TYPE Kind.Type Production.TypeWithD 68 refl refl (omega arith)
       refl) refl
       (λ place s. refl) (λ place f s. refl) (λ place began s. refl) (λ place began s. refl);
 }
 
-pub types-30 : (around : Around) (allowed : Option ℕ) (t : Term) → HasTypes around allowed 30 t
+pub types-item : (around : Around) (allowed : Option ℕ) (t : Term) → HasTypes around allowed ITEM t
 unfolding choose alternatives pick is_in in_ranges among kinds is_chain
-types-30 around allowed t = record {
+types-item around allowed t = record {
   solid = plain-wraps around allowed ITEM t (takes-none ITEM Kind.Item Production.PlainType 80 refl refl (omega arith) refl);
   with_d = item-wraps around allowed ITEM t (takes-byte ITEM Kind.Item Production.ItemWithD 68 refl refl (omega arith) refl);
 }
 
-pub types-31 : (around : Around) (allowed : Option ℕ) (t : Term) → HasTypes around allowed 31 t
+pub types-parameter : (around : Around) (allowed : Option ℕ) (t : Term) → HasTypes around allowed ITEM_BUT_REF t
 unfolding choose alternatives pick is_in in_ranges among kinds is_chain
-types-31 around allowed t = record {
+types-parameter around allowed t = record {
   solid = plain-wraps around allowed ITEM_BUT_REF t (takes-none ITEM_BUT_REF Kind.ItemButRef Production.PlainType 80 refl refl (omega arith) refl);
   with_d = item-wraps around allowed ITEM_BUT_REF t (takes-byte ITEM_BUT_REF Kind.ItemButRef Production.ItemWithD 68 refl refl (omega arith) refl);
 }
 
 -- under qualifiers a function type is no component
-pub types-29 : (around : Around) (allowed : Option ℕ) (t : Term) → is_function_type t ≡ false → HasTypes around allowed 29 t
+pub types-bare : (around : Around) (allowed : Option ℕ) (t : Term) → is_function_type t ≡ false → HasTypes around allowed PLAIN t
 unfolding choose alternatives pick is_in in_ranges among kinds is_chain parts_of number_of_kind between opening close unfolding_.behind meaning listed_value with_unqualified with_type tree_of is_listed part is_function_type appended
-types-29 around allowed t other = record {
+types-bare around allowed t other = record {
   solid = wraps Production.QualifiedPlain around allowed PLAIN SOLID [] t (takes-none PLAIN Kind.Plain Production.QualifiedPlain 80 refl refl
       (omega arith) refl) refl
       (λ place s. refl) (λ place f s. refl) (λ place began s. rw other refl) (λ place began s. rw other refl);
@@ -246,7 +246,7 @@ pub function-under-qualifiers : (around : Around) (allowed : Option ℕ) (t : Te
     → ReadsAt around allowed (OfKind SOLID) (Is (tree t false)) (place + 0) cs w → ReadsAt around allowed (OfKind PLAIN) (Is (tree t true)) place cs w
 unfolding choose alternatives pick is_in in_ranges among kinds is_chain parts_of number_of_kind between opening close unfolding_.behind meaning listed_value with_unqualified tree_of part is_function_type
 function-under-qualifiers around allowed t place cs w is one =
-    one-part Production.QualifiedPlain 29 [] around allowed place (OfKind SOLID) (tree t false) (tree t true) cs w
+    one-part Production.QualifiedPlain PLAIN [] around allowed place (OfKind SOLID) (tree t false) (tree t true) cs w
     (takes-none PLAIN Kind.Plain Production.QualifiedPlain 80 refl refl (omega arith) refl) refl (λ s. refl) (λ f s. refl) (λ began s. rw is refl) one
 
 pub noexcept-under-qualifiers : (around : Around) (allowed : Option ℕ) (t : Term) (place : ℕ) (cs : List Component) (w : Written)
@@ -255,7 +255,7 @@ pub noexcept-under-qualifiers : (around : Around) (allowed : Option ℕ) (t : Te
     → ReadsAt around allowed (OfKind PLAIN) (Is (tree t true)) place cs (written (68 ∷ w.bytes) w.components)
 unfolding choose alternatives pick is_in in_ranges among kinds is_chain parts_of number_of_kind between opening close unfolding_.behind meaning listed_value with_unqualified tree_of part is_function_type
 noexcept-under-qualifiers around allowed t place cs w is one =
-    one-part Production.PlainWithD 29 (68 ∷ []) around allowed place (OfKind AFTER_D) (tree t false) (tree t true) cs w
+    one-part Production.PlainWithD PLAIN (68 ∷ []) around allowed place (OfKind AFTER_D) (tree t false) (tree t true) cs w
     (takes-byte PLAIN Kind.Plain Production.PlainWithD 68 refl refl (omega arith) refl) refl (λ s. refl) (λ f s. refl) (λ began s. rw is refl) one
 
 -- ## What begins with an S
@@ -300,5 +300,5 @@ unfolding choose alternatives pick is_in in_ranges among kinds is_chain parts_of
 type-behind-s k around allowed place t cs w has one =
     has.solid.keeps place cs (written (83 ∷ w.bytes) w.components)
     (solid-with-s SOLID around allowed (place + 0) t true cs w (takes-byte SOLID Kind.Solid Production.TypeWithS 83 refl refl (omega arith) refl)
-    (one-part Production.AbbreviatedType 36 [] around allowed (place + 0 + 1) (OfKind ABBREVIATION) (tree t true) (tree t true) cs w
+    (one-part Production.AbbreviatedType TYPE_AFTER_S [] around allowed (place + 0 + 1) (OfKind ABBREVIATION) (tree t true) (tree t true) cs w
     (takes-none TYPE_AFTER_S Kind.TypeAfterS Production.AbbreviatedType 95 refl refl (omega arith) refl) refl (λ s. refl) (λ f s. refl) (λ began s. refl) one))

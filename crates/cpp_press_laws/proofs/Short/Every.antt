@@ -19,9 +19,9 @@ use Rattle.cpp_press_laws.specs.Texts.{discriminator_text}
 use Rattle.cpp_press_laws.proofs.Short.Size.{size}
 use Rattle.cpp_press_laws.proofs.Short.Gains.{AllSmall, class_of, grant, SmallPrefix, ready_for, Ready, need, loan, returned, held, IsKnown, IsKept, Gained, KindGains, ShapeGains}
 use Rattle.cpp_press_laws.proofs.Short.Paid.{Ended, ended-of}
-use Rattle.cpp_press_laws.proofs.Short.Types.{abbreviated-type-gains, abbreviation-gains, address-expression-gains, address-gains, any-array-gains, argument-with-t-gains, array-gains, array-type-gains, boolean-gains, builtin-gains, builtin-with-d-gains, character-gains, complex-gains, encoding-literal-gains, expansion-gains, expression-gains, function-gains, item-is-type-gains, item-with-d-gains, literal-with-d-gains, member-gains, noexcept-gains, null-gains, plain-argument-gains, plain-type-gains, pointer-gains, reference-gains, type-in-std-gains, type-with-d-gains, vector-gains, vendor-gains}
+use Rattle.cpp_press_laws.proofs.Short.Types.{abbreviated-type-gains, abbreviation-gains, address-expression-gains, addressed-gains, any-array-gains, argument-with-t-gains, array-gains, array-type-gains, boolean-gains, builtin-gains, builtin-with-d-gains, character-gains, complex-gains, encoding-literal-gains, expansion-gains, expression-gains, function-gains, item-is-type-gains, item-with-d-gains, literal-with-d-gains, member-gains, noexcept-gains, null-gains, operation-gains, plain-argument-gains, plain-type-gains, pointer-gains, reference-gains, type-in-std-gains, type-with-d-gains, vector-gains, vendor-gains}
 use Rattle.cpp_press_laws.proofs.Short.Lists.{any-argument-gains, any-element-gains, arguments-gains, covariant-thunk-gains, discriminator-gains, encoding-gains, given-gains, internal-piece-gains, items-gains, lambda-gains, leaf-mark-gains, literal-argument-gains, literal-element-gains, literal-operator-gains, local-type-piece-gains, lvalue-item-gains, many-digits-gains, mark-mark-gains, negative-gains, offset-gains, one-digit-gains, operator-a-gains, operator-c-gains, operator-d-gains, operator-e-gains, operator-g-gains, operator-i-gains, operator-l-gains, operator-m-gains, operator-n-gains, operator-o-gains, operator-p-gains, operator-piece-gains, operator-r-gains, operator-s-gains, other-special-gains, pack-argument-gains, positive-gains, ref-end-gains, rest-end-gains, rest-item-gains, rest-lvalue-gains, rest-rvalue-gains, rvalue-item-gains, second-mark-gains, source-piece-gains, special-gains, special-name-gains, special-type-gains, suffix-byte-gains, suffix-gains, table-offset-gains, thunk-gains, unnamed-gains, virtual-thunk-gains}
-use Rattle.cpp_press_laws.proofs.Short.Names.{abbreviated-name, component-with-c, constructor-name, destructor-name, internal-name, local-name, local-type, local-type-name, may-end-behind, name-with-s, nest-arguments, nest-end, nest-instance, nest-internal, nest-local-type, nest-next, nest-parameter, nest-source, nest-std, nest-template, nest-with-s, nested-name, nested-type, operator-name, operator-name-with-c, other-operator-name, source-name, std-name, string-literal, tagged-std-type}
+use Rattle.cpp_press_laws.proofs.Short.Names.{abbreviated-name, any-constructor, component-with-c, constructor-name, destructor-name, internal-name, local-name, local-type, local-type-name, may-end-behind, name-with-s, nest-arguments, nest-end, nest-instance, nest-internal, nest-local-type, nest-next, nest-parameter, nest-source, nest-std, nest-template, nest-with-s, nested-name, nested-type, operator-name, operator-name-with-c, other-operator-name, source-name, std-name, string-literal, tagged-std-type}
 use Rattle.cpp_press_laws.proofs.Short.Qualified.{as-type, bare-reference-gains, const-gains, granted, integer-gains, parameter-argument-gains, parameter-gains, plain-with-d-gains, qualified-plain-gains, restrict-gains, substitution-gains, type-with-s-gains, volatile-gains}
 
 -- a production of a kind
@@ -92,7 +92,7 @@ gains-by Kind.NestRest around at old v new b ready small all (inr (inr none)) = 
 gains-by Kind.NestTail around at old v new b ready small all (inl o) = nest-end around at old v new b ready small all o
 gains-by Kind.NestTail around at old v new b ready small all (inr (inl o)) = nest-next around at old v new b (may-end-behind around.prefix ready small) small all o
 gains-by Kind.NestTail around at old v new b ready small all (inr (inr none)) = absurd none
-gains-by Kind.Component around at old v new b ready small all (inl o) = constructor-name around at old v new b small all o
+gains-by Kind.Component around at old v new b ready small all (inl o) = any-constructor around at old v new b small all o
 gains-by Kind.Component around at old v new b ready small all (inr (inl o)) = destructor-name around at old v new b small all o
 gains-by Kind.Component around at old v new b ready small all (inr (inr (inl o))) = internal-name around at old v new b small all o
 gains-by Kind.Component around at old v new b ready small all (inr (inr (inr (inl o)))) = local-type-name around at old v new b small all o
@@ -100,6 +100,8 @@ gains-by Kind.Component around at old v new b ready small all (inr (inr (inr (in
 gains-by Kind.Component around at old v new b ready small all (inr (inr (inr (inr (inr (inl o)))))) = component-with-c around at old v new b small all o
 gains-by Kind.Component around at old v new b ready small all (inr (inr (inr (inr (inr (inr (inl o))))))) = other-operator-name around at old v new b small all o
 gains-by Kind.Component around at old v new b ready small all (inr (inr (inr (inr (inr (inr (inr none))))))) = absurd none
+gains-by Kind.ConstructorAfterC around at old v new b ready small all (inl o) = constructor-name around at old v new b small all o
+gains-by Kind.ConstructorAfterC around at old v new b ready small all (inr none) = absurd none
 gains-by Kind.ConstructorDigit around at old v new b ready small all (inl o) = mark-mark-gains around at old v new b small all o
 gains-by Kind.ConstructorDigit around at old v new b ready small all (inr none) = absurd none
 gains-by Kind.DestructorDigit around at old v new b ready small all (inl o) = mark-mark-gains around at old v new b small all o
@@ -204,8 +206,6 @@ gains-by Kind.ArgumentList around at old v new b ready small all (inr (inr (inr 
 gains-by Kind.PackList around at old v new b ready small all (inl o) = literal-element-gains around at old v new b ready small all o
 gains-by Kind.PackList around at old v new b ready small all (inr (inl o)) = any-element-gains around at old v new b ready small all o
 gains-by Kind.PackList around at old v new b ready small all (inr (inr none)) = absurd none
-gains-by Kind.Address around at old v new b ready small all (inl o) = address-gains around at old v new b ready small all o
-gains-by Kind.Address around at old v new b ready small all (inr none) = absurd none
 gains-by Kind.Literal around at old v new b ready small all (inl o) = granted 8 (encoding-literal-gains around at old v new b ready small all o)
 gains-by Kind.Literal around at old v new b ready small all (inr (inl o)) = granted 8 (boolean-gains around at old v new b ready small all o)
 gains-by Kind.Literal around at old v new b ready small all (inr (inr (inl o))) = granted 8 (literal-with-d-gains around at old v new b ready small all o)
@@ -277,10 +277,6 @@ gains-by Kind.ArgumentsAlone around at old v new b ready small all (inr none) = 
 gains-by Kind.NestRestAlone around at old v new b ready small all (inl o) = nest-arguments around at old v new b ready small all o
 gains-by Kind.NestRestAlone around at old v new b ready small all (inr (inl o)) = nest-next around at old v new b ready small all o
 gains-by Kind.NestRestAlone around at old v new b ready small all (inr (inr none)) = absurd none
-gains-by Kind.HolderMark around at old v new b ready small all (inl o) = leaf-mark-gains around at old v new b small all o
-gains-by Kind.HolderMark around at old v new b ready small all (inr none) = absurd none
-gains-by Kind.FloatEnd around at old v new b ready small all (inl o) = leaf-mark-gains around at old v new b small all o
-gains-by Kind.FloatEnd around at old v new b ready small all (inr none) = absurd none
 gains-by Kind.ComponentAfterC around at old v new b ready small all (inl o) = operator-name-with-c around at old v new b small all o
 gains-by Kind.ComponentAfterC around at old v new b ready small all (inr none) = absurd none
 gains-by Kind.OtherOperator around at old v new b ready small all (inl o) = operator-n-gains around at old v new b small all o
@@ -304,8 +300,6 @@ gains-by Kind.SpecialMark around at old v new b ready small all (inl o) = leaf-m
 gains-by Kind.SpecialMark around at old v new b ready small all (inr none) = absurd none
 gains-by Kind.SpecialAfterG around at old v new b ready small all (inl o) = special-name-gains around at old v new b ready small all o
 gains-by Kind.SpecialAfterG around at old v new b ready small all (inr none) = absurd none
-gains-by Kind.CloneLetter around at old v new b ready small all (inl o) = leaf-mark-gains around at old v new b small all o
-gains-by Kind.CloneLetter around at old v new b ready small all (inr none) = absurd none
 gains-by Kind.TypeInStd around at old v new b ready small all (inl o) = as-type ready (tagged-std-type around at old v new b small all o)
 gains-by Kind.TypeInStd around at old v new b ready small all (inr none) = absurd none
 gains-by Kind.MaybeTags around at old v new b ready small all none = absurd none
@@ -333,22 +327,22 @@ gains-by Kind.SolidButT around at old v new b ready small all (inr (inr (inr (in
 gains-by Kind.SolidButT around at old v new b ready small all (inr (inr (inr (inr (inr (inr (inr (inr (inr (inr (inl o))))))))))) = as-type ready (local-type-name around at old v new b small all o)
 gains-by Kind.SolidButT around at old v new b ready small all (inr (inr (inr (inr (inr (inr (inr (inr (inr (inr (inr (inl o)))))))))))) = as-type ready (source-name around at old v new b small all o)
 gains-by Kind.SolidButT around at old v new b ready small all (inr (inr (inr (inr (inr (inr (inr (inr (inr (inr (inr (inr none)))))))))))) = absurd none
-gains-by Kind.ExpressionRest around at old v new b ready small all (inl o) = address-expression-gains around at old v new b ready small all o
-gains-by Kind.ExpressionRest around at old v new b ready small all (inr none) = absurd none
+gains-by Kind.Expression around at old v new b ready small all (inl o) = operation-gains around at old v new b ready small all o
+gains-by Kind.Expression around at old v new b ready small all (inr none) = absurd none
+gains-by Kind.AddressedExpression around at old v new b ready small all (inl o) = addressed-gains around at old v new b ready small all o
+gains-by Kind.AddressedExpression around at old v new b ready small all (inr none) = absurd none
+gains-by Kind.AddressedLiteral around at old v new b ready small all (inl o) = encoding-literal-gains around at old v new b ready small all o
+gains-by Kind.AddressedLiteral around at old v new b ready small all (inr none) = absurd none
+gains-by Kind.ExpressionAfterA around at old v new b ready small all (inl o) = address-expression-gains around at old v new b ready small all o
+gains-by Kind.ExpressionAfterA around at old v new b ready small all (inr none) = absurd none
 gains-by Kind.AnyArray around at old v new b ready small all (inl o) = any-array-gains around at old v new b ready small all o
 gains-by Kind.AnyArray around at old v new b ready small all (inr none) = absurd none
 gains-by Kind.ArrayRest around at old v new b ready small all (inl o) = array-gains around at old v new b ready small all o
 gains-by Kind.ArrayRest around at old v new b ready small all (inr none) = absurd none
 gains-by Kind.NestMoreOrEnd around at old v new b ready small all (inl o) = nest-next around at old v new b ready small all o
 gains-by Kind.NestMoreOrEnd around at old v new b ready small all (inr none) = absurd none
-gains-by Kind.Symbol around at old v new b ready small all one = tt
-gains-by Kind.HeldComponent around at old v new b ready small all one = tt
-gains-by Kind.PlainEntity around at old v new b ready small all one = tt
-gains-by Kind.PlainTypeEntity around at old v new b ready small all one = tt
-gains-by Kind.OneArgument around at old v new b ready small all one = tt
-gains-by Kind.DeclarationAfterT around at old v new b ready small all one = tt
-gains-by Kind.Declarations around at old v new b ready small all one = tt
-gains-by Kind.Concept around at old v new b ready small all one = tt
+-- what no tree of a symbol has a part of
+gains-by _ around at old v new b ready small all one = tt
 
 -- a kind that is empty
 gains-empty : (kind : Kind) (around : Around) (old : State) → may_be_empty kind ≡ true → AllSmall old.candidates
@@ -371,7 +365,10 @@ gains-empty Kind.ArgumentsAlone around old is all = record { few = omega arith; 
 gains-empty Kind.ArgumentsFirst around old is all = record { few = omega arith; known = tt; kept = tt; small = all }
 gains-empty Kind.MaybeTags around old is all = record { few = omega arith; known = inl refl; kept = λ h. refl; small = all }
 gains-empty Kind.Declarations around old is all = tt
-gains-empty Kind.Symbol around old is all = tt
+gains-empty Kind.BaseArguments around old is all = tt
+gains-empty Kind.OwnArguments around old is all = tt
+gains-empty Kind.Expressions around old is all = tt
+gains-empty Kind.MaybeBefore around old is all = tt
 gains-empty _ around old is all = absurd (false≢true is)
 
 branch-gains : (rule : Rule) (taken : List ℕ) (parts : Forest) → AllOf ShapeGains parts → ShapeGains (branch rule taken parts)

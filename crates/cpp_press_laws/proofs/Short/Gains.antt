@@ -8,7 +8,7 @@ use Rattle.cpp_grammar.specs.declared.kind.Kind.{Kind}
 use Rattle.cpp_grammar.specs.Grammar.{number_of_kind}
 use Rattle.cpp_grammar.specs.Table.{abi}
 use Rattle.cpp_grammar.specs.Term.{Term, lvalue_only}
-use Rattle.cpp_grammar.specs.Values.{Candidate, State, Prefix, outermost, behind, Around, prefix_tree, prefix_listed, Value, nothing_there, letter, text, signed, tree, tree_of, piece_of, is_listed, qualifiers_of, ref_of, is_there, adjustment_of}
+use Rattle.cpp_grammar.specs.Values.{Candidate, State, Prefix, outermost, behind, Around, prefix_tree, prefix_listed, Value, nothing_there, letter, text, signed, tree, pair, tree_of, piece_of, is_listed, qualifiers_of, ref_of, is_there, adjustment_of}
 use Rattle.cpp_grammar.specs.References.{is_function_type, appended, with_type, with_prefix}
 use Rattle.cpp_grammar.specs.Between.{no_items}
 use Rattle.cpp_grammar.specs.Meaning.{discriminator_of, signature_or}
@@ -50,6 +50,8 @@ pub data Class : Type 0 where
   items : Class
   arguments : Class
   given : Class
+  -- the second letter of an operator and its operands
+  operands : Class
   -- what may be a mark, or digits; a letter; an offset; a discriminator; the rest of a function type; the same after a mark; the second
   -- letter of an operator that begins with an l
   leaf : Class
@@ -63,7 +65,6 @@ pub data Class : Type 0 where
   unread : Class
 
 unfoldable pub class_of : Kind → Class
-class_of Kind.Symbol = unread
 class_of Kind.MaybeSuffix = leaf
 class_of Kind.SuffixFirst = leaf
 class_of Kind.SuffixMore = leaf
@@ -82,6 +83,7 @@ class_of Kind.NestRestAlone = name
 class_of Kind.NestMoreOrEnd = name
 class_of Kind.Component = name
 class_of Kind.ComponentAfterC = name
+class_of Kind.ConstructorAfterC = name
 class_of Kind.Entity = name
 class_of Kind.TypeEntity = name
 class_of Kind.Unqualified = unit
@@ -109,8 +111,10 @@ class_of Kind.Argument = type
 class_of Kind.ArgumentAfterT = type
 class_of Kind.Literal = type
 class_of Kind.LiteralAfterD = type
-class_of Kind.Address = type
-class_of Kind.ExpressionRest = type
+class_of Kind.Expression = type
+class_of Kind.AddressedExpression = type
+class_of Kind.AddressedLiteral = type
+class_of Kind.ExpressionAfterA = operands
 class_of Kind.OperatorAfterN = mark
 class_of Kind.OperatorAfterD = mark
 class_of Kind.OperatorAfterA = mark
@@ -137,14 +141,16 @@ class_of Kind.MaybeArguments = arguments
 class_of Kind.Arguments = given
 class_of Kind.ArgumentsAlone = arguments
 class_of Kind.MaybeTags = arguments
-class_of Kind.HeldComponent = unread
-class_of Kind.PlainEntity = unread
-class_of Kind.PlainTypeEntity = unread
-class_of Kind.OneArgument = unread
-class_of Kind.DeclarationAfterT = unread
-class_of Kind.Declarations = unread
-class_of Kind.Concept = unread
-class_of _ = leaf
+class_of Kind.MaybeRestrict = leaf
+class_of Kind.MaybeVolatile = leaf
+class_of Kind.MaybeConst = leaf
+class_of Kind.MaybeRef = leaf
+class_of Kind.Integer = leaf
+class_of Kind.MaybeCLinkage = leaf
+class_of Kind.Bit = leaf
+class_of Kind.MaybeZero = leaf
+class_of Kind.SpecialMark = leaf
+class_of _ = unread
 
 unfoldable pub typed : Value → ℕ
 typed v = cond (is_listed v) 0 (full (tree_of v)) + part (tree_of v)
@@ -171,6 +177,7 @@ need whole around v s = size (tree_of v) + front (tree_of v)
 need items around v s = size (no_items v) - 1
 need arguments around v s = cond (is_there v) (size (tree_of v) + 13) 0
 need given around v s = size (tree_of v) + 13
+need operands around v s = part (tree_of v)
 need leaf around v s = held v
 need mark around v s = 8
 need offset around v s = length (offset_text (adjustment_of v))
@@ -205,6 +212,7 @@ returned _ around v = 0
 -- what a letter before it paid
 unfoldable pub grant : Kind → ℕ
 grant Kind.ComponentAfterC = 8
+grant Kind.ConstructorAfterC = 8
 grant Kind.AfterR = 8
 grant Kind.AfterO = 8
 grant Kind.Entity = 4
@@ -236,6 +244,7 @@ ready_for whole prefix = lent prefix ≡ 0
 ready_for items prefix = lent prefix ≡ 0
 ready_for rest prefix = lent prefix ≡ 0
 ready_for after_mark prefix = lent prefix ≡ 0
+ready_for operands prefix = lent prefix ≡ 0
 ready_for _ prefix = Unit {0}
 
 unfoldable pub Ready : Kind → Prefix → Type 0
@@ -257,6 +266,7 @@ IsKnown type around v s =
     × (is_listed v ≡ true → is_function_type (tree_of v) ≡ true → is_among around.encoding (tree_of v) (components_of s.candidates) ≡ true))
 IsKnown arguments around v s = (v ≡ nothing_there) ⊎ (v ≡ tree (tree_of v) true)
 IsKnown given around v s = v ≡ tree (tree_of v) true
+IsKnown operands around v s = (second : ℕ) × (left : Term) × (right : Term) × (v ≡ pair second left right)
 IsKnown _ around v s = Unit {0}
 
 -- what nothing comes of changes nothing

@@ -157,7 +157,7 @@ operator-name-with-c around at old v new b small all o =
     comes-to (λ w s. Gains name 8 around w old s b) o (tree t false ∷ p1.value ∷ []) p1.after (tree (applied t p1.value) false) p1.after p1.onward.0 refl
     (applied-named around t p1.value p1.after p0.after old p1.own b 8 (extended-part around.prefix (operator 99 (letter_of p0.value))) (extended-scope around.prefix (operator 99 (letter_of p0.value))) (extended-other around.prefix (operator 99 (letter_of p0.value))) g1 (omega (arith, o.sum, g0.few, p0.sum, p1.sum, p1.onward.1, extended-size around.prefix (operator 99 (letter_of p0.value)) small)))
 
-pub constructor-name : Free Production.Constructor name 0
+pub constructor-name : Free Production.Constructor name 8
 unfolding parts_of between is_chain close unfolding_.behind meaning values.part class_of grant Gained Ready ready_for need typed loan returned IsKnown IsKept tree_of named_so_far listed_so_far after SmallPrefix size part_of is_component is_encoding is_function_type
 constructor-name around at old v new b small all o =
     let p0 = o.paid in
@@ -165,8 +165,8 @@ constructor-name around at old v new b small all o =
     let t : Term = extended around.prefix (constructor (letter_of p0.value)) in
     let p1 = p0.onward in
     let g1 = p1.gains Kind.MaybeArguments refl tt (omega (arith, extended-part around.prefix (constructor (letter_of p0.value))), extended-scope around.prefix (constructor (letter_of p0.value))) g0.small in
-    comes-to (λ w s. Gains name 0 around w old s b) o (tree t false ∷ p1.value ∷ []) p1.after (tree (applied t p1.value) false) p1.after p1.onward.0 refl
-    (applied-named around t p1.value p1.after p0.after old p1.own b 0 (extended-part around.prefix (constructor (letter_of p0.value))) (extended-scope around.prefix (constructor (letter_of p0.value))) (extended-other around.prefix (constructor (letter_of p0.value))) g1 (omega (arith, o.sum, g0.few, p0.sum, p1.sum, p1.onward.1, extended-size around.prefix (constructor (letter_of p0.value)) small)))
+    comes-to (λ w s. Gains name 8 around w old s b) o (tree t false ∷ p1.value ∷ []) p1.after (tree (applied t p1.value) false) p1.after p1.onward.0 refl
+    (applied-named around t p1.value p1.after p0.after old p1.own b 8 (extended-part around.prefix (constructor (letter_of p0.value))) (extended-scope around.prefix (constructor (letter_of p0.value))) (extended-other around.prefix (constructor (letter_of p0.value))) g1 (omega (arith, o.sum, g0.few, p0.sum, p1.sum, p1.onward.1, extended-size around.prefix (constructor (letter_of p0.value)) small)))
 
 pub destructor-name : Free Production.Destructor name 0
 unfolding parts_of between is_chain close unfolding_.behind meaning values.part class_of grant Gained Ready ready_for need typed loan returned IsKnown IsKept tree_of named_so_far listed_so_far after SmallPrefix size part_of is_component is_encoding is_function_type
@@ -280,6 +280,14 @@ unfolding parts_of between is_chain close unfolding_.behind meaning values.part 
 component-with-c around at old v new b small all o =
     let p0 = o.paid in
     let g0 = p0.gains Kind.ComponentAfterC refl tt small all in
+    comes-to (λ w s. Gains name 0 around w old s b) o (p0.value ∷ []) (p0.after) (p0.value) (p0.after) p0.onward.0 refl
+    (record { few = omega (arith, o.sum, g0.few, p0.sum, p0.onward.1); known = g0.known; kept = tt; small = g0.small })
+
+pub any-constructor : Free Production.AnyConstructor name 0
+unfolding parts_of between is_chain close unfolding_.behind meaning values.part class_of grant Gained Ready ready_for need typed loan returned IsKnown IsKept
+any-constructor around at old v new b small all o =
+    let p0 = o.paid in
+    let g0 = p0.gains Kind.ConstructorAfterC refl tt small all in
     comes-to (λ w s. Gains name 0 around w old s b) o (p0.value ∷ []) (p0.after) (p0.value) (p0.after) p0.onward.0 refl
     (record { few = omega (arith, o.sum, g0.few, p0.sum, p0.onward.1); known = g0.known; kept = tt; small = g0.small })
 

@@ -5,7 +5,7 @@ use Rattle.sym_spell.specs.Pressing as spell
 use Rattle.sym_spell.specs.Pressing.{◌and◌, text, nothing}
 use Rattle.sym_spell.specs.Digits.{digit36}
 use Rattle.sym_spell.proofs.DigitValues.{Divides, digits-count}
-use Rattle.cpp_grammar.specs.Term.{RefQualifier, any_value, lvalue_only, rvalue_only, Term, symbol, function, object, special, thunk, of_name, construction, clone, alone, in_std, within, instance, local, holder, tagged, of_default, abbreviation, parameter, source, operator, literal_operator, constructor, destructor, lambda, generic_lambda, unnamed, string_literal, conversion, builtin, sized_float, constrained, vendor, pointer, lvalue, rvalue, array, bounded, member_pointer, function_type, qualified, vector, complex, expansion, integer, boolean, null_pointer, encoding_literal, address_of, pack, nil, list, absent}
+use Rattle.cpp_grammar.specs.Term.{RefQualifier, any_value, lvalue_only, rvalue_only, Term, symbol, function, object, special, thunk, of_name, construction, clone, alone, in_std, within, instance, local, holder, tagged, of_default, abbreviation, parameter, source, operator, literal_operator, constructor, destructor, inheriting, lambda, generic_lambda, unnamed, string_literal, conversion, builtin, sized_float, constrained, vendor, pointer, lvalue, rvalue, array, bounded, member_pointer, function_type, qualified, vector, complex, decltype, expansion, integer, boolean, null_pointer, encoding_literal, address_of, operation, function_parameter, pack, nil, list, absent}
 use Rattle.cpp_grammar.specs.References.{is_function_type}
 use Rattle.cpp_grammar.specs.Meaning.{is_nil}
 use Rattle.cpp_press_laws.specs.Texts.{counted, ordinal, signed_text, qualifier_letters, mark_letter, name_letters, special_code, thunk_text, discriminator_text}
@@ -640,5 +640,9 @@ all-short (list first rest) n =
 all-short (of_default digits entity) n = none-all (of_default digits entity)
 all-short (generic_lambda parameters number) n = none-all (generic_lambda parameters number)
 all-short (constrained letter concept) n = none-all (constrained letter concept)
+all-short (inheriting digit class) n = none-all (inheriting digit class)
+all-short (decltype operand) n = none-all (decltype operand)
+all-short (operation one two u w) n = none-all (operation one two u w)
+all-short (function_parameter digits) n = none-all (function_parameter digits)
 all-short (bounded bound type) n = none-all (bounded bound type)
 all-short absent n = none-all absent

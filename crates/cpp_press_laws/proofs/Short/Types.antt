@@ -5,12 +5,12 @@ use Rattle.std.proofs.lemmas.Bool.{false≢true, true≢false}
 use Rattle.cpp_grammar.specs.declared.kind.Kind.{Kind}
 use Rattle.cpp_grammar.specs.declared.production.Production.{Production}
 use Rattle.cpp_grammar.specs.Grammar.{parts_of, is_chain}
-use Rattle.cpp_grammar.specs.Term.{Term, symbol, abbreviation, builtin, vendor, pointer, lvalue, rvalue, array, member_pointer, function_type, vector, complex, expansion, integer, boolean, null_pointer, encoding_literal, address_of, nil, list}
+use Rattle.cpp_grammar.specs.Term.{Term, symbol, abbreviation, builtin, vendor, pointer, lvalue, rvalue, array, member_pointer, function_type, vector, complex, expansion, integer, boolean, null_pointer, encoding_literal, nil, list, absent}
 use Rattle.cpp_grammar.specs.Values as values
-use Rattle.cpp_grammar.specs.Values.{State, Prefix, outermost, Around, prefix_tree, prefix_listed, Value, nothing_there, letter, text, signed, adjusted, tree, piece, named, signature, unqualified, tree_of, piece_of, is_listed, qualifiers_of, ref_of, letter_of, is_there, mark_of, text_of, signed_of, adjustment_of, normal, is_zero, signed_digits, local_number}
+use Rattle.cpp_grammar.specs.Values.{State, Prefix, outermost, Around, prefix_tree, prefix_listed, Value, nothing_there, letter, text, signed, adjusted, tree, pair, piece, named, signature, unqualified, tree_of, piece_of, is_listed, qualifiers_of, ref_of, letter_of, is_there, mark_of, text_of, signed_of, adjustment_of, normal, is_zero, signed_digits, local_number}
 use Rattle.cpp_grammar.specs.References.{is_function_type, appended, with_type}
 use Rattle.cpp_grammar.specs.Between.{under_expansion, between}
-use Rattle.cpp_grammar.specs.Meaning.{is_void, is_nil, parameters, listed_value, reference_to, meaning}
+use Rattle.cpp_grammar.specs.Meaning.{is_void, is_nil, parameters, listed_value, reference_to, is_code, operation_or_address, operation_by, ends_arguments, in_parentheses, enclosed_argument, meaning}
 use Rattle.cpp_grammar.specs.Unfolding as unfolding_
 use Rattle.cpp_grammar.specs.Unfolding.{close}
 use Rattle.cpp_press_laws.specs.Texts.{signed_text}
@@ -18,7 +18,7 @@ use Rattle.cpp_press_laws.specs.Components.{components_of}
 use Rattle.cpp_press_laws.specs.Pressing.{is_encoding}
 use Rattle.cpp_press_laws.proofs.Short.Size.{is_component, part_of, with_void, size, over, part, size-some, part-some}
 use Rattle.cpp_press_laws.proofs.Short.Worth.{is_among, full}
-use Rattle.cpp_press_laws.proofs.Short.Gains.{wealth, AllSmall, type, Class, class_of, typed, held, need, lent, loan, returned, grant, SmallPrefix, ready_for, Ready, IsKnown, IsKept, Gains, Gained, appended-grown, typed-grown, appended-among}
+use Rattle.cpp_press_laws.proofs.Short.Gains.{wealth, AllSmall, type, operands, Class, class_of, typed, held, need, lent, loan, returned, grant, SmallPrefix, ready_for, Ready, IsKnown, IsKept, Gains, Gained, appended-grown, typed-grown, appended-among}
 use Rattle.cpp_press_laws.proofs.Short.Paid.{Ended, comes-to}
 
 -- where no name comes before
@@ -234,23 +234,78 @@ literal-with-d-gains around at old v new b idle small all o =
     comes-to (λ w s. Gains type 0 around w old s b) o (p0.value ∷ []) (p0.after) (p0.value) (p0.after) p0.onward.0 refl
     (record { few = omega (arith, o.sum, g0.few, p0.sum, p0.onward.1); known = g0.known; kept = tt; small = g0.small })
 
+-- ## Expressions
+
+pub addressed-gains : Idle Production.AddressedLiteral type
+unfolding parts_of between is_chain close unfolding_.behind meaning values.part class_of grant Gained Ready ready_for need typed loan returned IsKnown IsKept
+addressed-gains around at old v new b idle small all o =
+    let p0 = o.paid in
+    let g0 = p0.gains Kind.AddressedLiteral refl idle small all in
+    let p1 = p0.onward in
+    let g1 = p1.gains in
+    comes-to (λ w s. Gains type 0 around w old s b) o (p0.value ∷ p1.value ∷ []) (p1.after) (p0.value) (p1.after) p1.onward.0 refl
+    (subst (λ s. Gains type 0 around p0.value old s b) (sym g1.0)
+    (record { few = omega (arith, o.sum, g0.few, p0.sum); known = g0.known; kept = tt; small = g0.small }))
+
+pub address-expression-gains : Idle Production.AddressExpression operands
+unfolding parts_of between is_chain close unfolding_.behind meaning values.part class_of grant Gained Ready ready_for need typed loan returned IsKnown IsKept tree_of
+address-expression-gains around at old v new b idle small all o =
+    let p0 = o.paid in
+    let g0 = p0.gains Kind.AddressedExpression refl idle small all in
+    comes-to (λ w s. Gains operands 0 around w old s b) o (p0.value ∷ []) (p0.after) (pair o.byte (tree_of p0.value) absent) (p0.after) p0.onward.0 refl
+    (record {
+      few = omega (arith, o.sum, g0.few, p0.sum, p0.onward.1);
+      known = (o.byte, tree_of p0.value, absent, refl);
+      kept = tt;
+      small = g0.small;
+    })
+
+-- the address of an encoding is four bytes longer than the encoding between L and E, and each other operation takes one
+operation-short : (is_address : Bool) (first second : ℕ) (left right : Term)
+    → (part (operation_or_address is_address first second left right) ≤ 4 + part left)
+    × (is_encoding (operation_or_address is_address first second left right) ≡ false)
+    × (is_function_type (operation_or_address is_address first second left right) ≡ false)
+unfolding operation_or_address size part_of is_component is_encoding is_function_type
+operation-short true first second (encoding_literal e) right = (omega arith, refl, refl)
+operation-short true first second left right = (omega arith, refl, refl)
+operation-short false first second left right = (omega arith, refl, refl)
+
+pub operation-gains : Idle Production.ExpressionA type
+unfolding parts_of between is_chain close unfolding_.behind meaning values.part class_of grant Gained Ready ready_for need typed loan returned IsKnown IsKept tree_of operation_by
+operation-gains around at old v new b idle small all o =
+    let p0 = o.paid in
+    let g0 = p0.gains Kind.ExpressionAfterA refl idle small all in
+    let second : ℕ = g0.known.0 in
+    let is_address : Bool = is_code 97 100 o.byte second in
+    let short = operation-short is_address o.byte second g0.known.1 g0.known.2 in
+    comes-to (λ w s. Gains type 0 around w old s b) o (p0.value ∷ []) (p0.after) (operation_by o.byte p0.value) (p0.after) p0.onward.0 refl
+    (subst (λ w. Gains type 0 around (operation_by o.byte w) old p0.after b) (sym g0.known.3)
+    (listed around (operation_or_address is_address o.byte second g0.known.1 g0.known.2) (p0.after) old b short.2 short.1 g0.small
+    (omega (arith, o.sum, g0.few, p0.sum, p0.onward.1, short.0, ap (λ w. part (tree_of w)) g0.known.3))))
+
+-- in parentheses or not
+enclosed-listed : (around : Around) (v : Value) (s old : State) (b : ℕ) → AllSmall s.candidates → IsKnown type around v s
+    → wealth s + typed v ≤ wealth old + 8 * b → Gains type 0 around (enclosed_argument v) old s b
+unfolding enclosed_argument in_parentheses need typed loan returned IsKept size part_of is_component is_function_type is_encoding
+enclosed-listed around v s old b all known few = go (ends_arguments (tree_of v))
+  where
+    go : (ends : Bool)
+        → Gains type 0 around (elim ends as (λ _. Value) [ true ↦ tree (in_parentheses (tree_of v)) true | false ↦ v ]) old s b
+    go true = listed around (in_parentheses (tree_of v)) s old b refl refl all (omega (arith, few, part-some (tree_of v)))
+    go false = record { few = omega (arith, few); known = known; kept = tt; small = all }
+
 pub expression-gains : Idle Production.Expression type
 unfolding parts_of between is_chain close unfolding_.behind meaning values.part class_of grant Gained Ready ready_for need typed loan returned IsKnown IsKept
 expression-gains around at old v new b idle small all o =
     let p0 = o.paid in
-    let g0 = p0.gains Kind.ExpressionRest refl idle small all in
-    comes-to (λ w s. Gains type 0 around w old s b) o (p0.value ∷ []) (p0.after) (p0.value) (p0.after) p0.onward.0 refl
-    (record { few = omega (arith, o.sum, g0.few, p0.sum, p0.onward.1); known = g0.known; kept = tt; small = g0.small })
-
-pub address-expression-gains : Idle Production.AddressExpression type
-unfolding parts_of between is_chain close unfolding_.behind meaning values.part class_of grant Gained Ready ready_for need typed loan returned IsKnown IsKept
-address-expression-gains around at old v new b idle small all o =
-    let p0 = o.paid in
-    let g0 = p0.gains in
+    let g0 = p0.gains Kind.Expression refl idle small all in
     let p1 = p0.onward in
-    let g1 = p1.gains Kind.Address refl idle small (subst (λ s. AllSmall s.candidates) (sym g0.0) all) in
-    comes-to (λ w s. Gains type 0 around w old s b) o (p0.value ∷ p1.value ∷ []) (p1.after) (p1.value) (p1.after) p1.onward.0 refl
-    (record { few = omega (arith, o.sum, ap (λ s. wealth s) g0.0, g0.1, p0.sum, g1.few, p1.sum, p1.onward.1); known = g1.known; kept = tt; small = g1.small })
+    let g1 = p1.gains in
+    comes-to (λ w s. Gains type 0 around w old s b) o (p0.value ∷ p1.value ∷ []) (p1.after) (enclosed_argument p0.value) (p1.after) p1.onward.0 refl
+    (subst (λ s. Gains type 0 around (enclosed_argument p0.value) old s b) (sym g1.0)
+    (enclosed-listed around p0.value p0.after old b g0.small g0.known (omega (arith, o.sum, g0.few, p0.sum))))
+
+-- ## Types that become candidates
 
 listed-among : (around : Around) (v : Value) (s : State) (l : Bool) → is_listed v ≡ l
     → (is_listed v ≡ true → is_function_type (tree_of v) ≡ true → is_among around.encoding (tree_of v) (components_of s.candidates) ≡ true)
@@ -382,19 +437,3 @@ character-gains around at old v new b idle small all o =
     let g0 = p0.gains Kind.Integer refl tt small all in
     comes-to (λ w s. Gains type 0 around w old s b) o (p0.value ∷ []) (p0.after) (tree (integer (builtin (68 ∷ o.byte ∷ [])) (signed_of p0.value)) true) (p0.after) p0.onward.0 refl
     (listed around (integer (builtin (68 ∷ o.byte ∷ [])) (signed_of p0.value)) (p0.after) old b refl refl g0.small (omega (arith, o.sum, g0.few, p0.sum, p0.onward.1, held-signed p0.value)))
-
-pub address-gains : Idle Production.Address type
-unfolding parts_of between is_chain close unfolding_.behind meaning values.part class_of grant Gained Ready ready_for need typed loan returned IsKnown IsKept full over size part_of is_component is_function_type is_encoding
-address-gains around at old v new b idle small all o =
-    let p0 = o.paid in
-    let g0 = p0.gains in
-    let p1 = p0.onward in
-    let g1 = p1.gains in
-    let p2 = p1.onward in
-    let g2 = p2.gains Kind.Encoding refl tt small (subst (λ s. AllSmall s.candidates) (sym g1.0) (subst (λ s. AllSmall s.candidates) (sym g0.0) all)) in
-    let p3 = p2.onward in
-    let g3 = p3.gains in
-    let p4 = p3.onward in
-    let g4 = p4.gains in
-    comes-to (λ w s. Gains type 0 around w old s b) o (p0.value ∷ p1.value ∷ p2.value ∷ p3.value ∷ p4.value ∷ []) (p4.after) (tree (address_of (tree_of p2.value)) true) (p4.after) p4.onward.0 refl
-    (listed around (address_of (tree_of p2.value)) (p4.after) old b refl refl (subst (λ s. AllSmall s.candidates) (sym g4.0) (subst (λ s. AllSmall s.candidates) (sym g3.0) g2.small)) (omega (arith, o.sum, ap (λ s. wealth s) g0.0, g0.1, p0.sum, ap (λ s. wealth s) g1.0, g1.1, p1.sum, g2.few, p2.sum, ap (λ s. wealth s) g3.0, g3.1, p3.sum, ap (λ s. wealth s) g4.0, g4.1, p4.sum, p4.onward.1)))

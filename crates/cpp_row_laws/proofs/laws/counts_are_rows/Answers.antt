@@ -1,4 +1,5 @@
-use Rattle.cpp_row_laws.proofs.Same.{same_quiet, same_end, same_before_nodes, same_end_nodes}
+use Rattle.cpp_link.proofs.RowNodes.{same_quiet, same_before_nodes, same_end_nodes}
+use Rattle.cpp_row_laws.proofs.Same.{same_end}
 use Rattle.cpp_row_laws.proofs.laws.counts_are_rows.Goals as goal
 
 pub returns-clause-quiet : goal.returns-clause-quiet

@@ -1,7 +1,9 @@
-use Rattle.std.proofs.Common.{◌≡◌, ◌+◌, cond, sym, ◌∙◌, List, [], ℕ, get_or, map, take, drop, Bor, refl, arith}
+use Rattle.std.proofs.Common.{◌≡◌, ◌+◌, cond, sym, ◌∙◌, List, [], ℕ, ap, get_or, map, take, drop, Bor, refl, arith}
 use Rattle.std.proofs.lemmas.Bool.{cond-true, cond-false}
+use Rattle.std.proofs.lemmas.List.{take_all}
+use Rattle.std.proofs.lemmas.Result.{err_from_is_err_and}
 use Rattle.sym_command.proofs.LineLemmas.{words-more, status-more}
-use Rattle.sym_command.proofs.PageLemmas.{SoFar-begin, SoFar-word, SoFar-written, SoFar-stopped, PutsFront-none, PutsFront-all, PutsFront-from, OnErr-anyway, words-split}
+use Rattle.sym_command.proofs.PageLemmas.{SoFar-begin, SoFar-word, SoFar-written, SoFar-stopped, SoFar-all, IfOk-not, never_read, PutsFront-none, PutsFront-all, PutsFront-from, OnErr-anyway, words-split}
 use Rattle.sym_command.proofs.command.answer_words.Goals as goal
 use Rattle.sym_command.proofs.command.answer_words.Goals.{then-not-has_text, else-not-has_text}
 
@@ -121,3 +123,93 @@ returns-in_err-write-clause-err g c =
     let so_far = c.words.invariant.so_far in
     let wrote = c.in_err-write.ensures in
     OnErr-anyway c.from_residual-in_err-write.result _ (SoFar-stopped answers counting c.args.stats (map now (take i words)) (map now words) (map now (drop i words)) out mid (g.W.Sink.taken c.write-2.new.out) err mid' (g.E.Sink.taken c.write-2.new.err) lines said so_far (words-split words i) wrote.out_front wrote.err_front)
+
+pub returns-in_err-lists-clause-ok : goal.returns-in_err-lists-clause-ok
+returns-in_err-lists-clause-ok g c =
+    let p = err_from_is_err_and c.from_residual.result c.from_residual.ensures.1 in
+    IfOk-not c.from_residual.result _ p.0 p.1
+
+pub returns-in_err-lists-clause-fault : goal.returns-in_err-lists-clause-fault
+returns-in_err-lists-clause-fault g c =
+    let p = err_from_is_err_and c.from_residual.result c.from_residual.ensures.1 in
+    rw (p.1, p.2) never_read
+
+pub returns-in_err-lists-clause-failures : goal.returns-in_err-lists-clause-failures
+returns-in_err-lists-clause-failures g c =
+    let p = err_from_is_err_and c.from_residual.result c.from_residual.ensures.1 in
+    rw (p.1, p.2) (omega arith)
+
+pub returns-in_err-write-in-Err-clause-ok : goal.returns-in_err-write-in-Err-clause-ok
+returns-in_err-write-in-Err-clause-ok g c =
+    let p = err_from_is_err_and c.from_residual-in_err-write-in-Err.result c.from_residual-in_err-write-in-Err.ensures.1 in
+    IfOk-not c.from_residual-in_err-write-in-Err.result _ p.0 p.1
+
+pub returns-in_err-write-in-Err-clause-fault : goal.returns-in_err-write-in-Err-clause-fault
+returns-in_err-write-in-Err-clause-fault g c =
+    let p = err_from_is_err_and c.from_residual-in_err-write-in-Err.result c.from_residual-in_err-write-in-Err.ensures.1 in
+    rw (p.1, p.2) c.in_err-write-in-Err.ensures.fault
+
+pub returns-in_err-write-in-Err-clause-failures : goal.returns-in_err-write-in-Err-clause-failures
+returns-in_err-write-in-Err-clause-failures g c =
+    let p = err_from_is_err_and c.from_residual-in_err-write-in-Err.result c.from_residual-in_err-write-in-Err.ensures.1 in
+    rw (p.1, p.2) (omega (arith, c.in_err-write-in-Err.ensures.failures, c.words.invariant.out_fails, c.words.invariant.err_fails))
+
+pub returns-in_err-write_when_full-clause-ok : goal.returns-in_err-write_when_full-clause-ok
+returns-in_err-write_when_full-clause-ok g c =
+    let p = err_from_is_err_and c.from_residual-in_err-write_when_full.result c.from_residual-in_err-write_when_full.ensures.1 in
+    IfOk-not c.from_residual-in_err-write_when_full.result _ p.0 p.1
+
+pub returns-in_err-write_when_full-clause-fault : goal.returns-in_err-write_when_full-clause-fault
+returns-in_err-write_when_full-clause-fault g c =
+    let p = err_from_is_err_and c.from_residual-in_err-write_when_full.result c.from_residual-in_err-write_when_full.ensures.1 in
+    rw (p.1, p.2) c.in_err-write_when_full.ensures.fault
+
+pub returns-in_err-write_when_full-clause-failures : goal.returns-in_err-write_when_full-clause-failures
+returns-in_err-write_when_full-clause-failures g c =
+    let p = err_from_is_err_and c.from_residual-in_err-write_when_full.result c.from_residual-in_err-write_when_full.ensures.1 in
+    rw (p.1, p.2) (omega (arith, c.in_err-write_when_full.ensures.failures, c.words.invariant.out_fails, c.words.invariant.err_fails))
+
+pub returns-in_err-write-clause-ok : goal.returns-in_err-write-clause-ok
+returns-in_err-write-clause-ok g c =
+    let p = err_from_is_err_and c.from_residual-in_err-write.result c.from_residual-in_err-write.ensures.1 in
+    IfOk-not c.from_residual-in_err-write.result _ p.0 p.1
+
+pub returns-in_err-write-clause-fault : goal.returns-in_err-write-clause-fault
+returns-in_err-write-clause-fault g c =
+    let p = err_from_is_err_and c.from_residual-in_err-write.result c.from_residual-in_err-write.ensures.1 in
+    rw (p.1, p.2) c.in_err-write.ensures.fault
+
+pub returns-in_err-write-clause-failures : goal.returns-in_err-write-clause-failures
+returns-in_err-write-clause-failures g c =
+    let p = err_from_is_err_and c.from_residual-in_err-write.result c.from_residual-in_err-write.ensures.1 in
+    rw (p.1, p.2) (omega (arith, c.in_err-write.ensures.failures, c.words.invariant.out_fails, c.words.invariant.err_fails))
+
+pub returns-in-Err-clause-ok : goal.returns-in-Err-clause-ok
+returns-in-Err-clause-ok g c = tt
+
+pub returns-in-Err-clause-fault : goal.returns-in-Err-clause-fault
+returns-in-Err-clause-fault g c = never_read
+
+pub returns-in-Err-clause-failures : goal.returns-in-Err-clause-failures
+returns-in-Err-clause-failures g c = omega (arith, c.in_ok-write-in-Err.ensures.failures, c.words.invariant.out_fails, c.words.invariant.err_fails)
+
+pub returns-clause-ok : goal.returns-clause-ok
+returns-clause-ok g c =
+    let answers = g.D.Demangler.answer c.args.demangler.now in
+    let counting = g.D.Demangler.are_counts c.args.demangler.now in
+    let now : Bor (List ℕ) → List ℕ = λ word. word.now in
+    let words = c.args.words.now in
+    let i = c.words.word-index in
+    let wrote = c.in_ok-write.ensures in
+    let before = c.words.invariant in
+    SoFar-all answers counting c.args.stats (map now (take i words)) (map now words) c.words.status (g.W.Sink.taken c.args.out.now) (g.W.Sink.taken c.words.out) (g.W.Sink.taken c.write-2.new.out) (g.E.Sink.taken c.args.err.now) (g.E.Sink.taken c.words.err) (g.E.Sink.taken c.write-2.new.err) c.words.page.out.items c.words.page.err.items before.so_far
+    (ap (map now) (sym (take_all i words (omega (arith, c.words-test.false))))) before.status wrote.out wrote.err
+
+pub returns-clause-err : goal.returns-clause-err
+returns-clause-err g c = tt
+
+pub returns-clause-fault : goal.returns-clause-fault
+returns-clause-fault g c = tt
+
+pub returns-clause-failures : goal.returns-clause-failures
+returns-clause-failures g c = omega (arith, c.in_ok-write.ensures.failures, c.words.invariant.out_fails, c.words.invariant.err_fails)

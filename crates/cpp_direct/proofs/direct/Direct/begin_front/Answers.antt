@@ -1,6 +1,5 @@
-use Rattle.std.proofs.Common.{refl, true}
+use Rattle.std.proofs.Common.{refl}
 use Rattle.cpp_direct.specs.Symbol.{symbol_by}
-use Rattle.cpp_direct.proofs.Ending.{name-free}
 use Rattle.cpp_direct.proofs.FrontsRead.{front-begins}
 use Rattle.cpp_direct.proofs.direct.Direct.begin_front.Goals as goal
 
@@ -8,6 +7,5 @@ pub returns : goal.returns
 returns g c =
     let s = symbol_by g.G.Grammar.IS_WIDE g.G.Grammar.IS_BARE c.args.s.now in
     front-begins s c.args.self.now _ c.args.mark c.args.argument c.args.from c.end-start.result c.encoding_place.result c.requires.ended
-    (λ bare. name-free s c.args.self.now c.args.mark true c.args.argument c.args.from c.requires.ended (c.requires.shown bare))
     (c.has_front.ensures c.if-not-has_front.false) c.encoding_place.ensures.first c.encoding_place.ensures.is
     c.end-start.ensures refl refl refl c.in_ok-push.ensures.items

@@ -1,5 +1,5 @@
 use Rattle.std.proofs.Common.{◌∷◌, ◌++◌, [], ◌∙◌, ap, arith, refl}
-use Rattle.cpp_direct.specs.Symbol.{symbol_by}
+use Rattle.cpp_direct.specs.Symbol.{detail_by, symbol_by}
 use Rattle.cpp_direct.specs.Written.{hidden}
 use Rattle.cpp_direct.proofs.Ending.{parameter-expected}
 use Rattle.cpp_direct.proofs.ExpansionsRead.{expansion-read, none-forwarded, pack-of}
@@ -14,7 +14,7 @@ forward-requires-clause-before g c =
     let f = c.requires.awaits.is_function in
     let begun = record old { at = c.in-Some.end } in
     let ts = (f.names 0 c.if-first.false).elements in
-    (begun, ts, pack-of old.text.list.items c.args.argument f.own f.names c.requires.is_pack c.if-first.false, none-forwarded begun ts)
+    (detail_by g.G.Grammar.IS_BARE, begun, ts, pack-of old.text.list.items c.args.argument f.own f.names c.requires.is_pack c.if-first.false, none-forwarded begun ts)
 
 pub forward-requires-2-clause-before : goal.forward-requires-2-clause-before
 forward-requires-2-clause-before g c =
@@ -23,7 +23,7 @@ forward-requires-2-clause-before g c =
     let begun = record old { at = c.in-Some.end } in
     let ts = (f.names 0 c.if-first.false).elements in
     let pack = pack-of old.text.list.items c.args.argument f.own f.names c.requires.is_pack c.if-first.false in
-    (begun, ts, pack, c.in_ok-forward.ensures begun ts pack (none-forwarded begun ts))
+    (detail_by g.G.Grammar.IS_BARE, begun, ts, pack, c.in_ok-forward.ensures (detail_by g.G.Grammar.IS_BARE) begun ts pack (none-forwarded begun ts))
 
 pub forward-requires-3-clause-before : goal.forward-requires-3-clause-before
 forward-requires-3-clause-before g c =
@@ -32,7 +32,7 @@ forward-requires-3-clause-before g c =
     let begun = record old { at = c.in-Some.end } in
     let ts = (f.names 0 c.if-first.false).elements in
     let pack = pack-of old.text.list.items c.args.argument f.own f.names c.requires.is_pack c.if-first.false in
-    (begun, ts, pack, c.in_ok-forward-2.ensures begun ts pack (c.in_ok-forward.ensures begun ts pack (none-forwarded begun ts)))
+    (detail_by g.G.Grammar.IS_BARE, begun, ts, pack, c.in_ok-forward-2.ensures (detail_by g.G.Grammar.IS_BARE) begun ts pack (c.in_ok-forward.ensures (detail_by g.G.Grammar.IS_BARE) begun ts pack (none-forwarded begun ts)))
 
 pub forward-requires-4-clause-before : goal.forward-requires-4-clause-before
 forward-requires-4-clause-before g c =
@@ -41,8 +41,8 @@ forward-requires-4-clause-before g c =
     let begun = record old { at = c.in-Some.end } in
     let ts = (f.names 0 c.if-first.false).elements in
     let pack = pack-of old.text.list.items c.args.argument f.own f.names c.requires.is_pack c.if-first.false in
-    let one = c.in_ok-forward.ensures begun ts pack (none-forwarded begun ts) in
-    (begun, ts, pack, c.in_ok-forward-3.ensures begun ts pack (c.in_ok-forward-2.ensures begun ts pack one))
+    let one = c.in_ok-forward.ensures (detail_by g.G.Grammar.IS_BARE) begun ts pack (none-forwarded begun ts) in
+    (detail_by g.G.Grammar.IS_BARE, begun, ts, pack, c.in_ok-forward-3.ensures (detail_by g.G.Grammar.IS_BARE) begun ts pack (c.in_ok-forward-2.ensures (detail_by g.G.Grammar.IS_BARE) begun ts pack one))
 
 pub close_parameters-requires-clause-ended : goal.close_parameters-requires-clause-ended
 close_parameters-requires-clause-ended g c =
@@ -52,11 +52,11 @@ close_parameters-requires-clause-ended g c =
     let begun = record old { at = c.in-Some.end } in
     let ts = (f.names 0 c.if-first.false).elements in
     let pack = pack-of old.text.list.items c.args.argument f.own f.names c.requires.is_pack c.if-first.false in
-    let one = c.in_ok-forward.ensures begun ts pack (none-forwarded begun ts) in
-    let three = c.in_ok-forward-3.ensures begun ts pack (c.in_ok-forward-2.ensures begun ts pack one) in
+    let one = c.in_ok-forward.ensures (detail_by g.G.Grammar.IS_BARE) begun ts pack (none-forwarded begun ts) in
+    let three = c.in_ok-forward-3.ensures (detail_by g.G.Grammar.IS_BARE) begun ts pack (c.in_ok-forward-2.ensures (detail_by g.G.Grammar.IS_BARE) begun ts pack one) in
     expansion-read (symbol_by g.G.Grammar.IS_WIDE g.G.Grammar.IS_BARE c.args.s.now) old begun c.forward-4.new.self c.add_hidden-3.new.self c.args.mark c.args.start c.args.argument a
     c.requires.is_pack c.if-first.false (omega (arith, c.if-argument-gt4.false)) c.in-Some.ensures.stands refl refl refl c.in-Some.ensures.end
-    (c.in_ok-forward-4.ensures begun ts pack three)
+    (c.in_ok-forward-4.ensures (detail_by g.G.Grammar.IS_BARE) begun ts pack three)
     (c.add_hidden-3.ensures.text ∙ c.add_hidden-2.ensures.text ∙ c.add_hidden.ensures.text)
     (c.in_ok-add_hidden-3.ensures.candidates
     ∙ ap (λ l. l ++ hidden ∷ []) (c.in_ok-add_hidden-2.ensures.candidates ∙ ap (λ l. l ++ hidden ∷ []) c.in_ok-add_hidden.ensures.candidates))

@@ -11,7 +11,7 @@ repeat-requires-clause-to c =
     let q = c.requires.before in
     let is = c.in_ok-place.ensures.is in
     let known = c.in_ok-place.ensures.ordered in
-    forwarded-inside q.0 c.args.self.now c.comma.new.self q.1 c.args.argument c.args.number c.in_ok-place.place q.2 q.3
+    forwarded-inside q.1 c.args.self.now c.comma.new.self q.2 c.args.argument c.args.number c.in_ok-place.place q.3 q.4
     (is ∙ c.at.ensures (subst IsKnown is known)) known c.if-not-place.false c.in_ok-comma.ensures
 
 pub returns : goal.returns
@@ -23,7 +23,7 @@ returns c =
       | then-place b ↦ ap (λ t. t.now) b.push-is ∙ ap (λ k. forwarded k) (sym b.if-place.true)
       | else-place b ↦ ap (λ t. t.now) b.push-is ∙ ap (λ k. forwarded k) (sym b.if-place.false)
     ] in
-    some-by c.push.result c.push.ensures (λ w. λ before ts pack fw.
+    some-by c.push.result c.push.ensures (λ w. λ detail before ts pack fw.
     forwarded-more before c.args.self.now c.comma.new.self c.repeat.new.self c.push.new.self ts c.args.argument c.args.number place c.if-place.push.now
     pack fw (omega (arith, c.if-number-argument.false)) (is ∙ c.at.ensures (subst IsKnown is known)) known c.if-not-place.false c.in_ok-comma.ensures
     c.in_ok-repeat.ensures marks w)

@@ -42,8 +42,8 @@ lambda_parameter-requires-clause-read g c =
     (value-element (symbol_by g.G.Grammar.IS_WIDE g.G.Grammar.IS_BARE c.args.s.now) c.args.self.now c.args.is_reference (opens.Lambda c.in-Lambda.from) c.requires.writing
     (waits-last _ _ _ _ c.as_slice.ensures c.in_ok-entry.ensures.value c.in-Lambda.is))
 
-pub special_ended-requires : goal.special_ended-requires
-special_ended-requires g c =
+pub finish-requires : goal.finish-requires
+finish-requires g c =
     special-read (symbol_by g.G.Grammar.IS_WIDE g.G.Grammar.IS_BARE c.args.s.now) c.args.self.now
     (value-element (symbol_by g.G.Grammar.IS_WIDE g.G.Grammar.IS_BARE c.args.s.now) c.args.self.now c.args.is_reference opens.Special c.requires.writing
     (waits-last _ _ _ _ c.as_slice.ensures c.in_ok-entry.ensures.value c.in-Special.is))

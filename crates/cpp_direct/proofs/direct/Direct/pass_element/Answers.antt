@@ -20,8 +20,8 @@ enclosing_parameter-requires-clause-read g c =
     (passed-on (symbol_by g.G.Grammar.IS_WIDE g.G.Grammar.IS_BARE c.args.s.now) c.args.self.now (opens.Enclosing c.in-Enclosing.mark c.in-Enclosing.from c.in-Enclosing.argument) c.requires.passed
     (waits-last _ _ _ _ c.as_slice.ensures c.in_ok-mark.ensures.value c.in-Enclosing.is))
 
-pub special_ended-requires : goal.special_ended-requires
-special_ended-requires g c =
+pub finish-requires : goal.finish-requires
+finish-requires g c =
     special-read (symbol_by g.G.Grammar.IS_WIDE g.G.Grammar.IS_BARE c.args.s.now) c.args.self.now
     (passed-on (symbol_by g.G.Grammar.IS_WIDE g.G.Grammar.IS_BARE c.args.s.now) c.args.self.now opens.Special c.requires.passed
     (waits-last _ _ _ _ c.as_slice.ensures c.in_ok-mark.ensures.value c.in-Special.is))

@@ -1,5 +1,6 @@
+use Rattle.std.proofs.Common.{subst}
 use Rattle.std.specs.Prelude.{slice_index}
-use Rattle.cpp_link.specs.Making.{state_of}
+use Rattle.cpp_link.specs.Making.{IsCommon, state_of}
 use Rattle.cpp_link.specs.Parts.{trees_in, value_in, values_in, packs_of, around_of}
 use Rattle.cpp_link.proofs.NodeCount.{none_substituted}
 use Rattle.cpp_link.proofs.Rooms.{same_room}
@@ -22,7 +23,7 @@ pub returns-in_default-clause-is : goal.returns-in_default-clause-is
 returns-in_default-clause-is c =
     let s = c.args.symbol.now in
     other_closes s c.args.production (slice_index s c.args.place) (around_of (trees_in s c.args.self.now.nodes) c.args.kept) c.args.place (values_in s c.args.self.now.nodes c.args.parts.now)
-    (state_of s c.args.self.now) (state_of s c.make.new.self) (packs_of c.args.kept) (value_in s c.make.new.self.nodes) c.make.result c.in_default.not-Substitution c.make.ensures.value c.make.ensures.state
+    (state_of s c.args.self.now) (state_of s c.make.new.self) (packs_of c.args.kept) (value_in s c.make.new.self.nodes) c.make.result c.in_default.not-Substitution (λ is. subst (λ p. IsCommon p) is c.requires.common tt) c.make.ensures.value c.make.ensures.state
 
 pub returns-in-Substitution-clause-makes : goal.returns-in-Substitution-clause-makes
 returns-in-Substitution-clause-makes c =

@@ -9,5 +9,5 @@ pub returns-clause-is : goal.returns-clause-is
 returns-clause-is c =
     let s = c.args.symbol.now in
     other_closes s c.args.production (slice_index s c.args.place) (around_of (trees_in s c.args.self.now.nodes) c.args.kept) c.args.place (values_in s c.args.self.now.nodes c.args.parts.now)
-    (state_of s c.args.self.now) (state_of s c.add_node_and_candidate.new.self) (packs_of c.args.kept) (value_in s c.add_node_and_candidate.new.self.nodes) c.add_node_and_candidate.result
-    (λ is. subst (λ p. IsRare p) is c.requires.rare) c.add_node_and_candidate.ensures.value c.add_node_and_candidate.ensures.state
+    (state_of s c.args.self.now) (state_of s c.make_rare.new.self) (packs_of c.args.kept) (value_in s c.make_rare.new.self.nodes) c.make_rare.result
+    (λ is. subst (λ p. IsRare p) is c.requires.rare) c.requires.read c.make_rare.ensures.value c.make_rare.ensures.state

@@ -17,7 +17,6 @@ made Production.Parameter node listed is_name is_candidate packs is = (omega ari
 made Production.NestParameter node listed is_name is_candidate packs is = (omega arith, refl)
 made Production.ParameterArgument node listed is_name is_candidate packs is = (omega arith, refl)
 made Production.ParameterExpression node listed is_name is_candidate packs is = (omega arith, refl)
-made Production.BoundedArray node listed is_name is_candidate packs is = (omega arith, refl)
 made _ node listed is_name is_candidate packs is = absurd (false≢true is)
 
 one : (p : Production) (known : List Value) → is_parameter p ≡ true → length known ≡ 1 → 1 ≡ makes_before p known
@@ -26,7 +25,6 @@ one Production.Parameter (v ∷ []) is e = refl
 one Production.NestParameter (v ∷ []) is e = refl
 one Production.ParameterArgument (v ∷ []) is e = refl
 one Production.ParameterExpression (v ∷ []) is e = refl
-one Production.BoundedArray (v ∷ []) is e = refl
 one p [] is e = absurd (omega (arith, e))
 one p (v ∷ w ∷ vs) is e = absurd (omega (arith, e))
 one _ known is e = absurd (false≢true is)

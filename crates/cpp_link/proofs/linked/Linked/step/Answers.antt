@@ -29,7 +29,13 @@ pub returns-then-is_empty-clause-is : goal.returns-then-is_empty-clause-is
 returns-then-is_empty-clause-is c =
     let vs = values_in c.args.symbol.now c.args.self.now.nodes c.args.parts.now in
     let none : vs ≡ [] = none_are vs (values_length _ _ c.args.parts.now ∙ empty_length c.args.parts.now (sym c.is_empty.ensures ∙ c.if-is_empty.true)) in
-    subst (λ xs. Goes c.args.symbol.now c.args.self.now c.args.production c.args.place c.args.kept xs c.step_first.result) (sym none) c.step_first.ensures.is
+    subst (λ xs. IfOk c.step_begin.result (λ step. Goes c.args.symbol.now c.args.self.now c.args.production c.args.place c.args.kept xs step)) (sym none) c.step_begin.ensures.is
+
+pub returns-then-is_empty-clause-refused : goal.returns-then-is_empty-clause-refused
+returns-then-is_empty-clause-refused c =
+    let vs = values_in c.args.symbol.now c.args.self.now.nodes c.args.parts.now in
+    let none : vs ≡ [] = none_are vs (values_length _ _ c.args.parts.now ∙ empty_length c.args.parts.now (sym c.is_empty.ensures ∙ c.if-is_empty.true)) in
+    subst (λ xs. IfErr c.step_begin.result (λ e. Refuses c.args.symbol.now c.args.self.now c.args.production c.args.place c.args.kept xs e)) (sym none) c.step_begin.ensures.refused
 
 pub returns-then-parts-eq1-clause-is : goal.returns-then-parts-eq1-clause-is
 returns-then-parts-eq1-clause-is c =
@@ -74,7 +80,7 @@ returns-clause-is c =
     (c.step_later.ensures.is later.second later.third later.fourth later.rest)
 
 pub returns-then-is_empty-clause-of : goal.returns-then-is_empty-clause-of
-returns-then-is_empty-clause-of c = c.step_first.ensures.of (length c.args.parts.now)
+returns-then-is_empty-clause-of c = c.step_begin.ensures.of (length c.args.parts.now)
 
 pub returns-then-parts-eq1-clause-of : goal.returns-then-parts-eq1-clause-of
 returns-then-parts-eq1-clause-of c = subst (λ held. IfOk c.step_behind_first.result (λ step. IsStepOf c.args.production held step)) (sym c.if-parts-eq1.true) c.step_behind_first.ensures.of
@@ -108,7 +114,7 @@ pub returns-then-is_empty-clause-makes : goal.returns-then-is_empty-clause-makes
 returns-then-is_empty-clause-makes c =
     let vs = values_in c.args.symbol.now c.args.self.now.nodes c.args.parts.now in
     let none : vs ≡ [] = none_are vs (values_length _ _ c.args.parts.now ∙ empty_length c.args.parts.now (sym c.is_empty.ensures ∙ c.if-is_empty.true)) in
-    subst (λ xs. nodes_of_step c.step_first.result ≡ makes_before c.args.production xs) (sym none) c.step_first.ensures.makes
+    subst (λ xs. IfOk c.step_begin.result (λ step. nodes_of_step step ≡ makes_before c.args.production xs)) (sym none) c.step_begin.ensures.makes
 
 pub returns-then-parts-eq1-clause-makes : goal.returns-then-parts-eq1-clause-makes
 returns-then-parts-eq1-clause-makes c =

@@ -6,7 +6,7 @@ use Rattle.cpp_link.specs.Parts.{value_in}
 use Rattle.cpp_link.specs.Owed.{made_before}
 use Rattle.cpp_link.specs.NodeCount.{makes_before}
 use Rattle.cpp_link.specs.Stepping.{IsStepOf, nodes_of_step}
-use Rattle.cpp_link.proofs.Stepping.{parameter_steps, nest_parameter_steps, argument_steps, expression_steps, length_steps}
+use Rattle.cpp_link.proofs.Stepping.{parameter_steps, nest_parameter_steps, argument_steps, expression_steps}
 use Rattle.cpp_link.proofs.linked.Linked.step_behind_first.Goals as goal
 
 pub returns-in-Parameter-clause-of : goal.returns-in-Parameter-clause-of
@@ -21,9 +21,6 @@ returns-in-ParameterArgument-clause-of c = subst (λ p. IfOk c.parameter-in-Para
 pub returns-in-ParameterExpression-clause-of : goal.returns-in-ParameterExpression-clause-of
 returns-in-ParameterExpression-clause-of c = subst (λ p. IfOk c.parameter_argument.result (λ step. IsStepOf p 1 step)) (sym c.in-ParameterExpression.is) (expression_steps c.parameter_argument.result)
 
-pub returns-in-BoundedArray-clause-of : goal.returns-in-BoundedArray-clause-of
-returns-in-BoundedArray-clause-of c = subst (λ p. IfOk c.parameter_argument-in-BoundedArray.result (λ step. IsStepOf p 1 step)) (sym c.in-BoundedArray.is) (length_steps c.parameter_argument-in-BoundedArray.result)
-
 parameter_is_no_pack : Production.Parameter ≡ Production.PackArgument → ⊥
 parameter_is_no_pack h = cc
 
@@ -35,9 +32,6 @@ argument_is_no_pack h = cc
 
 expression_is_no_pack : Production.ParameterExpression ≡ Production.PackArgument → ⊥
 expression_is_no_pack h = cc
-
-array_is_no_pack : Production.BoundedArray ≡ Production.PackArgument → ⊥
-array_is_no_pack h = cc
 
 pub returns-in-PackArgument-clause-is : goal.returns-in-PackArgument-clause-is
 unfolding between
@@ -57,9 +51,6 @@ returns-in-ParameterArgument-clause-pack c is = absurd (argument_is_no_pack (sym
 
 pub returns-in-ParameterExpression-clause-pack : goal.returns-in-ParameterExpression-clause-pack
 returns-in-ParameterExpression-clause-pack c is = absurd (expression_is_no_pack (sym c.in-ParameterExpression.is ∙ is))
-
-pub returns-in-BoundedArray-clause-pack : goal.returns-in-BoundedArray-clause-pack
-returns-in-BoundedArray-clause-pack c is = absurd (array_is_no_pack (sym c.in-BoundedArray.is ∙ is))
 
 pub returns-in-PackArgument-clause-pack : goal.returns-in-PackArgument-clause-pack
 returns-in-PackArgument-clause-pack c is = c.pack.ensures.made
@@ -89,9 +80,3 @@ unfolding makes_before made_before
 returns-in-ParameterExpression-clause-makes c =
     subst (λ p. IfOk c.parameter_argument.result (λ step. nodes_of_step step ≡ makes_before p (value_in c.args.symbol.now c.args.self.now.nodes c.args.first ∷ []))) (sym c.in-ParameterExpression.is)
     c.parameter_argument.ensures.one
-
-pub returns-in-BoundedArray-clause-makes : goal.returns-in-BoundedArray-clause-makes
-unfolding makes_before made_before
-returns-in-BoundedArray-clause-makes c =
-    subst (λ p. IfOk c.parameter_argument-in-BoundedArray.result (λ step. nodes_of_step step ≡ makes_before p (value_in c.args.symbol.now c.args.self.now.nodes c.args.first ∷ []))) (sym c.in-BoundedArray.is)
-    c.parameter_argument-in-BoundedArray.ensures.one

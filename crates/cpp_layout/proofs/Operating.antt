@@ -1,0 +1,179 @@
+-- The operations of code are those of the table.
+use Rattle.std.specs.Prelude.{nat_le}
+use Rattle.std.proofs.Common.{◌≡◌, refl, sym, ap, ◌∙◌, subst, arith, append-nil, append_assoc, ℕ, ◌+◌, ◌*◌, ◌<◌, ◌≤◌, List, [], ◌∷◌, ◌++◌, length, Bool, true, false, nat_eq, ◌||◌, ◌&&◌, Option, Some, None, inl, inr}
+use Rattle.std.proofs.lemmas.Bool.{true≢false, and_parts, leb-true, le-leb, lt-leb}
+use Rattle.std.proofs.lemmas.Bool.Decides.{eqb_tells}
+use Rattle.cpp_grammar.specs.Texts.{same_bytes}
+use Rattle.cpp_grammar.specs.Operations as table
+use Rattle.cpp_grammar.specs.Operations.{operations, operation_of_code, from_precedence}
+use Rattle.cpp_grammar.specs.Items as heads
+use Rattle.cpp_grammar.specs.Parts.{printed, no_operation}
+use Rattle.cpp_layout.specs.declared.operation_rows.Operation.{Operation}
+use Rattle.cpp_layout.specs.declared.operation_rows.Operand.{Operand}
+use Rattle.cpp_layout.specs.Operations.{IsOperation, operand_of, most_parts, most_of, text_parts}
+use Rattle.cpp_layout.proofs.Coding.{same_bytes_sound}
+use Rattle.cpp_layout.proofs.Functions.{part-none}
+use Rattle.sym_print.specs.Unfold.{PartOf, text}
+use Rattle.cpp_term.specs.Items as items
+use Rattle.cpp_term.specs.Term.{Term, operation}
+use Rattle.cpp_term.specs.Reargued.{reargued}
+use Rattle.cpp_term.specs.Parts.{text_part, as_item, says, precedence_of, operand_parts, operation_parts}
+use Rattle.cpp_tree.specs.declared.node.Node.{Node}
+use Rattle.cpp_tree.specs.declared.node.Thunk.{Thunk}
+use Rattle.cpp_tree.specs.Nodes.{trees, tree_if_there, tree_of, is_again}
+use Rattle.sym_print.specs.Held.{Held}
+use Rattle.sym_print.specs.declared.detail.Detail.{Detail}
+use Rattle.cpp_layout.specs.declared.context.Context.{Context}
+use Rattle.cpp_layout.specs.Texts.{fixed_text}
+use Rattle.cpp_layout.specs.Layout.{ReadSymbol, Shows, table_of, tree_shown, node_shown}
+
+-- of the same two letters
+pub printed-by : (a b c d : ℕ) (r : Operation) → b < 256 → d < 256 → a * 256 + b ≡ c * 256 + d → IsOperation r (printed c d) → IsOperation r (printed a b)
+printed-by a b c d r less more same is =
+    let e : c ≡ a = omega (arith, less, more, same) in
+    let f : d ≡ b = omega (arith, less, more, same) in
+    subst (λ x. IsOperation r (printed a x)) f (subst (λ x. IsOperation r (printed x d)) e is)
+
+-- a code as one number
+abbrev number_of : List ℕ → ℕ
+number_of (a ∷ b ∷ []) = a * 256 + b
+number_of _ = 65536
+
+abbrev pub any_number : List table.Operation → ℕ → Bool
+any_number [] n = false
+any_number (o ∷ os) n = nat_eq n (number_of o.code) || any_number os n
+
+or-left : (a b : Bool) → a || b ≡ false → a ≡ false
+or-left false b e = refl
+or-left true b e = cc e
+
+or-right : (a b : Bool) → a || b ≡ false → b ≡ false
+or-right false b e = e
+or-right true b e = cc e
+
+same-number : (n : ℕ) → nat_eq n n ≡ true
+same-number n = elim (eqb_tells n n) [ inl x ↦ x.0 | inr x ↦ absurd (x.1 refl) ]
+
+apart : (a b : ℕ) (o : table.Operation) → nat_eq (a * 256 + b) (number_of o.code) ≡ false → same_bytes (a ∷ b ∷ []) o.code ≡ true → ⊥
+apart a b o off is =
+    let here : nat_eq (a * 256 + b) (a * 256 + b) ≡ false = subst (λ x. nat_eq (a * 256 + b) (number_of x) ≡ false) (sym (same_bytes_sound (a ∷ b ∷ []) o.code is)) off in
+    true≢false (sym (same-number (a * 256 + b)) ∙ here)
+
+none-of : (a b : ℕ) (os : List table.Operation) → any_number os (a * 256 + b) ≡ false → operation_of_code (a ∷ b ∷ []) os ≡ None
+unfolding operation_of_code
+none-of a b [] e = refl
+none-of a b (o ∷ os) e = go (none-of a b os (or-right (nat_eq (a * 256 + b) (number_of o.code)) (any_number os (a * 256 + b)) e)) (same_bytes (a ∷ b ∷ []) o.code) (λ is. apart a b o (or-left (nat_eq (a * 256 + b) (number_of o.code)) (any_number os (a * 256 + b)) e) is)
+  where
+    go : operation_of_code (a ∷ b ∷ []) os ≡ None → (s : Bool) → (s ≡ true → ⊥) → elim s as (λ _. Option table.Operation) [ true ↦ Some o | false ↦ operation_of_code (a ∷ b ∷ []) os ] ≡ None
+    go rest false not = rest
+    go rest true not = absurd (not refl)
+
+-- what has none of the codes
+pub none-printed : (a b : ℕ) (r : Operation) → any_number operations (a * 256 + b) ≡ false → IsOperation r no_operation → IsOperation r (printed a b)
+unfolding printed
+none-printed a b r e is = subst (λ o. IsOperation r (elim o [ Some p ↦ p | None ↦ no_operation ])) (sym (none-of a b operations e)) is
+
+-- ## Parts
+
+pub one-part : (b : List ℕ) → 0 < length b → length (text_part b) ≡ 1
+unfolding text_part
+one-part [] some = absurd (omega (arith, some))
+one-part (x ∷ xs) some = refl
+
+pub precedence-none : (s : List ℕ) (us : List Thunk) (ts : List Term) (n : Node) → is_again n ≡ false → ((a b x y : ℕ) → n ≡ Node.Operation a b x y → ⊥) → ((e : ℕ) → n ≡ Node.AddressOf e → ⊥) → 0 ≡ precedence_of (tree_of s us ts n)
+unfolding tree_of precedence_of is_again
+precedence-none s us ts (Node.Operation a b x y) flat h1 h2 = absurd (h1 a b x y refl)
+precedence-none s us ts (Node.AddressOf e) flat h1 h2 = absurd (h2 e refl)
+precedence-none s us ts (Node.Reargued x z) flat h1 h2 = absurd (true≢false flat)
+precedence-none s us ts _ flat h1 h2 = refl
+
+pub as-none : (y : ReadSymbol) (d : Detail) (below held : Held Context) (b : List ℕ) (others : List (PartOf items.Item)) → b ≡ [] → Shows y d below held others → Shows y d below held (text_part b ++ others)
+as-none y d below held b others is shows = subst (λ ps. Shows y d below held ps) (part-none b others is) shows
+
+-- ## Operands
+
+-- what is asked of an operand is read from its own tree, not through a parameter's argument
+pub own-precedence : (given : Option Term) (t : Term) → precedence_of (reargued given t) ≡ precedence_of t
+unfolding precedence_of reargued
+own-precedence given (operation a b x y) = refl
+own-precedence given _ = refl
+
+pub asked-of : (y : ReadSymbol) (place ctx : Context) (at node : ℕ) (n : Node) (p : ℕ) → tree_shown y place at ≡ tree_shown y ctx node → tree_shown y place at ≡ node_shown y place n → is_again n ≡ false
+    → ((s : List ℕ) (us : List Thunk) (ts : List Term) → is_again n ≡ false → p ≡ precedence_of (tree_of s us ts n)) → precedence_of (tree_shown y ctx node) ≡ p
+asked-of y place ctx at node n p moved stored flat own =
+    ap precedence_of (sym moved ∙ stored) ∙ own-precedence (tree_if_there (trees (table_of y)) place.argument) (tree_of y.bytes y.table.thunks (trees (table_of y)) n)
+    ∙ sym (own y.bytes y.table.thunks (trees (table_of y)) flat)
+
+-- an operand as it is, or in parentheses
+from_parts : items.Context → Term → Bool → List (PartOf items.Item)
+from_parts c t enclosed = elim enclosed [ true ↦ says "(" ∷ as_item heads.left c t ∷ says ")" ∷ [] | false ↦ as_item heads.left c t ∷ [] ]
+
+pub closed-from : (c : items.Context) (least : ℕ) (t : Term) → least ≤ precedence_of t → operand_parts c (from_precedence least) t ≡ says "(" ∷ as_item heads.left c t ∷ says ")" ∷ []
+unfolding operand_parts from_parts
+closed-from c least t asked = ap (from_parts c t) (le-leb least (precedence_of t) asked)
+
+pub open-from : (c : items.Context) (least : ℕ) (t : Term) → precedence_of t < least → operand_parts c (from_precedence least) t ≡ as_item heads.left c t ∷ []
+unfolding operand_parts from_parts
+open-from c least t free = ap (from_parts c t) (lt-leb least (precedence_of t) free)
+
+-- ## How many parts an operation has
+
+most_operand : table.Operand → ℕ
+most_operand table.not_printed = 0
+most_operand table.as_it_is = 1
+most_operand table.as_type = 2
+most_operand table.as_list = 1
+most_operand (table.from_precedence least) = 3
+
+most_printed : table.Operation → ℕ
+most_printed o = length (text_part o.front) + most_operand o.left + length (text_part o.between) + most_operand o.right + length (text_part o.back)
+
+all_few : List table.Operation → Bool
+all_few [] = true
+all_few (o ∷ os) = nat_le (most_printed o) 7 && all_few os
+
+rows_few : all_few operations ≡ true
+unfolding operations text_part all_few most_printed most_operand
+rows_few = refl
+
+row_few : (code : List ℕ) (os : List table.Operation) → all_few os ≡ true → most_printed (elim (operation_of_code code os) [ Some o ↦ o | None ↦ no_operation ]) ≤ 7
+unfolding operation_of_code text_part all_few most_printed most_operand
+row_few code [] h = omega arith
+row_few code (o ∷ os) h = go (row_few code os (and_parts (nat_le (most_printed o) 7) (all_few os) h).1) (same_bytes code o.code)
+  where
+    go : most_printed (elim (operation_of_code code os) [ Some p ↦ p | None ↦ no_operation ]) ≤ 7 → (b : Bool) → most_printed (elim (elim b as (λ _. Option table.Operation) [ true ↦ Some o | false ↦ operation_of_code code os ]) [ Some p ↦ p | None ↦ no_operation ]) ≤ 7
+    go rest true = leb-true (most_printed o) 7 (and_parts (nat_le (most_printed o) 7) (all_few os) h).0
+    go rest false = rest
+
+same-most : (operand : Operand) → most_parts operand ≡ most_operand (operand_of operand)
+unfolding most_operand
+same-most Operand.NotPrinted = refl
+same-most Operand.AsItIs = refl
+same-most Operand.AsType = refl
+same-most Operand.AsList = refl
+same-most (Operand.From least) = refl
+
+pub few-printed : (a b : ℕ) (o : Operation) → IsOperation o (printed a b) → most_of o ≤ 7
+unfolding printed most_printed
+few-printed a b o is =
+    let few : most_printed (printed a b) ≤ 7 = row_few (a ∷ b ∷ []) operations rows_few in
+    let front : text_parts o.front ≡ length (text_part (printed a b).front) = ap (λ t. length (text_part t)) is.front in
+    let between : text_parts o.between ≡ length (text_part (printed a b).between) = ap (λ t. length (text_part t)) is.between in
+    let back : text_parts o.back ≡ length (text_part (printed a b).back) = ap (λ t. length (text_part t)) is.back in
+    let one : most_parts o.left ≡ most_operand (printed a b).left = same-most o.left ∙ ap most_operand is.left in
+    let other : most_parts o.right ≡ most_operand (printed a b).right = same-most o.right ∙ ap most_operand is.right in
+    omega (arith, few, front, one, between, other, back)
+
+-- ## An operation's parts one after the other
+
+pub joined : (a b c d e : List (PartOf items.Item)) → a ++ (b ++ (c ++ (d ++ (e ++ [])))) ≡ a ++ b ++ c ++ d ++ e
+joined a b c d e =
+    ap (λ x. a ++ (b ++ (c ++ (d ++ x)))) (append-nil e)
+    ∙ sym (append_assoc a b (c ++ (d ++ e))) ∙ sym (append_assoc (a ++ b) c (d ++ e)) ∙ sym (append_assoc (a ++ b ++ c) d e)
+
+pub same-operation : (c : items.Context) (o : Operation) (p : table.Operation) (t u : Term) → IsOperation o p
+    → text_part (fixed_text o.front) ++ (operand_parts c (operand_of o.left) t ++ (text_part (fixed_text o.between) ++ (operand_parts c (operand_of o.right) u ++ (text_part (fixed_text o.back) ++ [])))) ≡ operation_parts c p t u
+unfolding operation_parts
+same-operation c o p t u is =
+    joined (text_part (fixed_text o.front)) (operand_parts c (operand_of o.left) t) (text_part (fixed_text o.between)) (operand_parts c (operand_of o.right) u) (text_part (fixed_text o.back))
+    ∙ rw (is.front, is.left, is.between, is.right, is.back) refl
