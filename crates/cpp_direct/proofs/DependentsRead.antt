@@ -167,7 +167,7 @@ argument-placed s (opens.Front mark start a ∷ rest) os text p k stands found k
     placed-at text a p k stands.3.own (same-place a p found) stands.3.names known
 argument-placed s (opens.Parameters mark start a ∷ rest) os text p k stands found known =
     placed-at text a p k stands.6.own (same-place a p found) stands.6.names known
-argument-placed s (opens.Enclosing mark from a ∷ rest) os text p k stands found known =
+argument-placed s (opens.Enclosing mark from to a ∷ rest) os text p k stands found known =
     placed-at text a p k stands.5.own (same-place a p found) stands.5.names known
 argument-placed s _ os text p k stands found known = cc found
 
@@ -423,18 +423,18 @@ dependent-parameter s w is_reference mark begins number place start argument_ p 
     (b.6 ∙ append_assoc b.2 b.3 b.4) b.12 (type-element-in (types_of waits.6.own) b.1 (b.3 ++ b.4) is_reference prints)
 
 -- of a function in which a type is
-pub dependent-within : (s : Symbol) (w : Direct) (is_reference : Bool) (mark : Mark) (begins number place from : ℕ) (argument_ : Arguments)
+pub dependent-within : (s : Symbol) (w : Direct) (is_reference : Bool) (mark : Mark) (begins number place from to : ℕ) (argument_ : Arguments)
     → IsWriting s w (steps.Dependent is_reference begins number place)
-    → slice_get w.waiting.list.items (length w.waiting.list.items - 1) ≡ Some (opens.Enclosing mark from argument_)
-    → IsEnclosingParameterRead s w mark from argument_
-dependent-within s w is_reference mark begins number place from argument_ p found =
+    → slice_get w.waiting.list.items (length w.waiting.list.items - 1) ≡ Some (opens.Enclosing mark from to argument_)
+    → IsEnclosingParameterRead s w mark from to argument_
+dependent-within s w is_reference mark begins number place from to argument_ p found =
     let b = p.is_before in
-    let last = last-found w.waiting.list.items (opens.Enclosing mark from argument_) found in
-    let waits : Stands s (opens.Enclosing mark from argument_ ∷ last.0) b.0 b.2 = subst (λ ws. Stands s ws b.0 b.2) last.1 b.13 in
+    let last = last-found w.waiting.list.items (opens.Enclosing mark from to argument_) found in
+    let waits : Stands s (opens.Enclosing mark from to argument_ ∷ last.0) b.0 b.2 = subst (λ ws. Stands s ws b.0 b.2) last.1 b.13 in
     let same = same-place argument_ b.5 (ap argument_of (sym last.1) ∙ b.8) in
     let names = named-one b.2 argument_ b.5 number waits.5.own same waits.5.names b.9.0 in
     let prints = behind-argument b.2 b.5.elements (place_of b.5 number) number waits.5.own b.1 b.3 b.4 is_reference names b.9 b.10 b.7.prints in
-    parameter-got-within s w mark from argument_ p.state last.0 b.0 b.1 b.2 (b.3 ++ b.4) waits p.candidates last.1
+    parameter-got-within s w mark from to argument_ p.state last.0 b.0 b.1 b.2 (b.3 ++ b.4) waits p.candidates last.1
     (b.6 ∙ append_assoc b.2 b.3 b.4) b.12 (type-element-in (types_of waits.5.own) b.1 (b.3 ++ b.4) is_reference prints)
 
 -- it is the return type

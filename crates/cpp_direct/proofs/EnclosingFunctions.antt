@@ -1,6 +1,7 @@
 -- Types that are in functions, from their Z to their end.
-use Rattle.std.proofs.Common.{◌≡◌, ◌≢◌, refl, ap, sym, ◌∙◌, subst, inl, inr, ℕ, ◌+◌, List, [], ◌∷◌, ◌++◌, length, reverse, true, false, Option, None, Some, arith, codes, append-nil, append_assoc}
+use Rattle.std.proofs.Common.{◌≡◌, ◌≢◌, refl, ap, sym, ◌∙◌, subst, inl, inr, ℕ, ◌+◌, List, [], ◌∷◌, ◌++◌, length, reverse, take, ◌≤◌, true, false, Option, None, Some, arith, codes, length-append, append-nil, append_assoc}
 use Rattle.std.specs.Prelude.{decimal}
+use Rattle.std.proofs.Math.Seq.{take-append_seam}
 use Rattle.std.proofs.lemmas.Fmt.{decimal_digit}
 use Rattle.cpp_grammar.specs.declared.kind.Kind.{Kind}
 use Rattle.cpp_grammar.specs.Grammar.{may_be_empty}
@@ -32,10 +33,11 @@ use Rattle.cpp_direct.specs.Prints.{IsElementIn, Prints, PrintsName, PrintsPiece
 use Rattle.cpp_direct.specs.WriterInvariant.{AreCandidates, Below, HasArguments, IsEnclosing, IsNesting, IsWriting, ItemsGoOn, LambdaWithin, Serves, Stands, TypeWithin, in_front_of_next, qualifiers, IsScoped, named_in, nowhere}
 use Rattle.cpp_direct.specs.MidStep.{AwaitsNamedType, AwaitsNest, IsElementRead}
 use Rattle.cpp_direct.specs.MidStepOfLocals.{AwaitsEnclosingParameters, AwaitsTypeName, IsEnclosingInstance, IsEnclosingNamed, IsEnclosingParameterRead, IsEnclosingRead, IsLambdaParameterRead}
-use Rattle.cpp_direct.specs.Written.{Writes, Reads, added}
+use Rattle.cpp_direct.specs.Written.{AreKeptTo, Writes, Reads, added}
 use Rattle.cpp_direct.proofs.Ending.{behind-two, behind-three, behind-five, list-ends, next-written, parameter-goes_on, plain-text, qualifiers-text, void-read}
 use Rattle.cpp_direct.proofs.FoundTokens.{reads-of, reads-then}
 use Rattle.cpp_direct.proofs.Kept.{candidates-read, candidates-stay, candidates-with, candidates-written, reverse-last}
+use Rattle.cpp_direct.proofs.LeftOut.{candidates-kept}
 use Rattle.cpp_direct.proofs.Listed.{some-elements}
 use Rattle.cpp_direct.proofs.Moves.{expects-empty, stands-join}
 use Rattle.cpp_direct.proofs.MovesOfEncodings.{encoding-opens, name-nested, name-source}
@@ -278,15 +280,15 @@ returned-awaits s w n mark from letter p has stands at_is =
     }
 
 -- a parameter comes next
-parameter-expected : (s : Symbol) (w : Direct) (st : State) (mark : Mark) (from : ℕ) (argument : Arguments) (rest : List Open) (front : List ℕ)
+parameter-expected : (s : Symbol) (w : Direct) (st : State) (mark : Mark) (from to : ℕ) (argument : Arguments) (rest : List Open) (front : List ℕ)
     (make : Term → Term) (ts : List Term) (name texts : List ℕ)
-    → AreCandidates (detail_of s) w.text.list.items w.candidates.list.items st.candidates → reverse w.waiting.list.items ≡ opens.Enclosing mark from argument ∷ rest
+    → AreCandidates (detail_of s) w.text.list.items w.candidates.list.items st.candidates → reverse w.waiting.list.items ≡ opens.Enclosing mark from to argument ∷ rest
     → IsEnclosing (detail_of s) w.text.list.items argument mark make ts name texts → from ≡ length front
     → w.text.list.items ≡ front ++ name ++ codes "(" ++ in_front_of_next ts texts
-    → ItemsGoOn s argument (TypeWithin s (Stands s rest) front) make ts w.at st → s.is_bare ≡ false → IsWriting s w steps.Type
-parameter-expected s w st mark from argument rest front make ts name texts candidates open_is is_enclosing from_is written p whole =
+    → ItemsGoOn s argument (TypeWithin s (Stands s rest) front) make ts w.at st → to ≡ length (front ++ name) → IsWriting s w steps.Type
+parameter-expected s w st mark from to argument rest front make ts name texts candidates open_is is_enclosing from_is written p to_is =
     let element = element-awaits s Kind.Items p.inner p.around w.at st tt p.awaits in
-    let stands : Stands s (opens.Enclosing mark from argument ∷ rest) element.inner w.text.list.items = (
+    let stands : Stands s (opens.Enclosing mark from to argument ∷ rest) element.inner w.text.list.items = (
       front,
       make,
       ts,
@@ -296,7 +298,7 @@ parameter-expected s w st mark from argument rest front make ts name texts candi
       from_is,
       written,
       λ t here now comes. parameter-goes_on s argument (TypeWithin s (Stands s rest) front) make ts w.at st p t here now (element.onward t here now comes),
-      whole,
+      to_is,
     ) in
     record {
       state = st;
@@ -307,50 +309,51 @@ parameter-expected s w st mark from argument rest front make ts name texts candi
         p.outside,
         inr (inl element.awaits),
         subst (λ os. Stands s os element.inner w.text.list.items) (sym open_is) stands,
-        subst (λ os. IsScoped p.around os) (sym open_is) (enclosing-scoped p.around mark from argument rest p.scoped),
+        subst (λ os. IsScoped p.around os) (sym open_is) (enclosing-scoped p.around mark from to argument rest p.scoped),
       );
     }
 
 -- the first one comes next
-pub first-within : (s : Symbol) (w first last : Direct) (mark : Mark) (from : ℕ) (argument : Arguments) → AwaitsEnclosingParameters s w mark from argument
+pub first-within : (s : Symbol) (w first last : Direct) (mark : Mark) (from to : ℕ) (argument : Arguments) → AwaitsEnclosingParameters s w mark from argument
     → Writes w first (codes "(") → last.text ≡ first.text → last.candidates ≡ first.candidates → last.at ≡ first.at
-    → last.waiting.list.items ≡ first.waiting.list.items ++ opens.Enclosing mark from argument ∷ [] → s.is_bare ≡ false
+    → last.waiting.list.items ≡ first.waiting.list.items ++ opens.Enclosing mark from to argument ∷ [] → to ≡ length w.text.list.items
     → IsWriting s last steps.Type
-first-within s w first last mark from argument p one text candidates at waiting whole =
+first-within s w first last mark from to argument p one text candidates at waiting to_is =
     let known = candidates-written (detail_of s) w first (codes "(") p.state.candidates one p.candidates in
     let moved : AreCandidates (detail_of s) last.text.list.items last.candidates.list.items p.state.candidates =
     subst (λ l. AreCandidates (detail_of s) l.list.items last.candidates.list.items p.state.candidates) (sym text)
     (subst (λ l. AreCandidates (detail_of s) first.text.list.items l.list.items p.state.candidates) (sym candidates) known) in
     let grown : last.text.list.items ≡ w.text.list.items ++ codes "(" = ap (λ l. l.list.items) text ∙ one.text in
-    parameter-expected s last p.state mark from argument (reverse w.waiting.list.items) p.front p.make [] p.name [] moved
-    (ap reverse waiting ∙ reverse-last first.waiting.list.items (opens.Enclosing mark from argument)
-    ∙ ap (λ v. opens.Enclosing mark from argument ∷ reverse v.list.items) one.waiting)
+    parameter-expected s last p.state mark from to argument (reverse w.waiting.list.items) p.front p.make [] p.name [] moved
+    (ap reverse waiting ∙ reverse-last first.waiting.list.items (opens.Enclosing mark from to argument)
+    ∙ ap (λ v. opens.Enclosing mark from to argument ∷ reverse v.list.items) one.waiting)
     (subst (λ l. IsEnclosing (detail_of s) l argument mark p.make [] p.name []) (sym grown)
     (enclosing-stays w.text.list.items (codes "(") argument mark p.make [] p.name [] p.is_enclosing)) p.from_is
     (grown ∙ ap (λ l. l ++ codes "(") p.written ∙ sym (append-nil (p.front ++ p.name ++ codes "(")))
-    (subst (λ n. ItemsGoOn s argument (TypeWithin s (Stands s (reverse w.waiting.list.items)) p.front) p.make [] n p.state) (sym (at ∙ one.at)) p.goes) whole
+    (subst (λ n. ItemsGoOn s argument (TypeWithin s (Stands s (reverse w.waiting.list.items)) p.front) p.make [] n p.state) (sym (at ∙ one.at)) p.goes)
+    (to_is ∙ ap length p.written)
 
 -- another one comes next
-pub next-within : (s : Symbol) (w last : Direct) (mark : Mark) (from : ℕ) (argument : Arguments) → IsEnclosingParameterRead s w mark from argument
+pub next-within : (s : Symbol) (w last : Direct) (mark : Mark) (from to : ℕ) (argument : Arguments) → IsEnclosingParameterRead s w mark from to argument
     → Writes w last (codes ", ") → IsWriting s last steps.Type
-next-within s w last mark from argument p one =
+next-within s w last mark from to argument p one =
     let front = p.front ++ p.name ++ codes "(" in
-    parameter-expected s last p.state mark from argument p.rest p.front p.make p.ts p.name p.texts
+    parameter-expected s last p.state mark from to argument p.rest p.front p.make p.ts p.name p.texts
     (candidates-written (detail_of s) w last (codes ", ") p.state.candidates one p.candidates)
     (ap (λ l. reverse l.list.items) one.waiting ∙ p.open_is)
     (subst (λ l. IsEnclosing (detail_of s) l argument mark p.make p.ts p.name p.texts) (sym one.text)
     (enclosing-stays w.text.list.items (codes ", ") argument mark p.make p.ts p.name p.texts p.is_enclosing)) p.from_is
     (one.text ∙ ap (λ l. l ++ codes ", ") p.written ∙ append_assoc front p.texts (codes ", ")
     ∙ ap (λ l. front ++ l) (sym (next-written p.ts p.texts p.some)))
-    (subst (λ n. ItemsGoOn s argument (TypeWithin s (Stands s p.rest) p.front) p.make p.ts n p.state) (sym one.at) p.goes) p.whole
+    (subst (λ n. ItemsGoOn s argument (TypeWithin s (Stands s p.rest) p.front) p.make p.ts n p.state) (sym one.at) p.goes) p.to_is
 
 -- one is read
-pub parameter-got-within : (s : Symbol) (w : Direct) (mark : Mark) (from : ℕ) (argument : Arguments) (st : State) (rest : List Open) (os : List Opened)
-    (t : Term) (before bytes : List ℕ) (waits : Stands s (opens.Enclosing mark from argument ∷ rest) os before)
-    → AreCandidates (detail_of s) w.text.list.items w.candidates.list.items st.candidates → reverse w.waiting.list.items ≡ opens.Enclosing mark from argument ∷ rest
+pub parameter-got-within : (s : Symbol) (w : Direct) (mark : Mark) (from to : ℕ) (argument : Arguments) (st : State) (rest : List Open) (os : List Opened)
+    (t : Term) (before bytes : List ℕ) (waits : Stands s (opens.Enclosing mark from to argument ∷ rest) os before)
+    → AreCandidates (detail_of s) w.text.list.items w.candidates.list.items st.candidates → reverse w.waiting.list.items ≡ opens.Enclosing mark from to argument ∷ rest
     → w.text.list.items ≡ before ++ bytes → Comes s os (tree t true) w.at st → IsElementIn (detail_of s) (types_of waits.5.own) 6 t bytes
-    → IsEnclosingParameterRead s w mark from argument
-parameter-got-within s w mark from argument st rest os t before bytes waits candidates open_is written comes element =
+    → IsEnclosingParameterRead s w mark from to argument
+parameter-got-within s w mark from to argument st rest os t before bytes waits candidates open_is written comes element =
     let front = waits.0 in
     let ts = waits.2 in
     let name = waits.3 in
@@ -378,14 +381,14 @@ parameter-got-within s w mark from argument st rest os t before bytes waits cand
       };
       from_is = waits.6;
       written = written ∙ ap (λ l. l ++ bytes) waits.7 ∙ append_assoc (front ++ name ++ codes "(") (in_front_of_next ts texts) bytes;
-      whole = waits.9;
+      to_is = waits.9;
       goes = waits.8 t w.at st comes;
     }
 
-pub parameter-read-within : (s : Symbol) (w : Direct) (mark : Mark) (from : ℕ) (argument : Arguments)
-    → IsElementRead s w (opens.Enclosing mark from argument) → IsEnclosingParameterRead s w mark from argument
-parameter-read-within s w mark from argument p =
-    parameter-got-within s w mark from argument p.state p.rest p.os p.own p.front p.bytes p.stands p.candidates p.open_is p.written p.comes
+pub parameter-read-within : (s : Symbol) (w : Direct) (mark : Mark) (from to : ℕ) (argument : Arguments)
+    → IsElementRead s w (opens.Enclosing mark from to argument) → IsEnclosingParameterRead s w mark from to argument
+parameter-read-within s w mark from to argument p =
+    parameter-got-within s w mark from to argument p.state p.rest p.os p.own p.front p.bytes p.stands p.candidates p.open_is p.written p.comes
     (element-in (types_of p.stands.5.own) 6 p.own p.bytes (p.element 6))
 
 -- ## Ends
@@ -485,11 +488,11 @@ void-unwritten s w here mark from argument p stands text candidates waiting at b
     }
 
 -- a function with its parameters is read, unless they are a lone void
-pub function-within : (s : Symbol) (w last new : Direct) (mark : Mark) (from : ℕ) (argument : Arguments) (p : IsEnclosingParameterRead s w mark from argument)
+pub function-within : (s : Symbol) (w last new : Direct) (mark : Mark) (from to : ℕ) (argument : Arguments) (p : IsEnclosingParameterRead s w mark from to argument)
     → p.texts ≢ codes "void" → Writes w last (codes ")") → new.text ≡ last.text → new.candidates ≡ last.candidates → new.at ≡ last.at
-    → reverse new.waiting.list.items ≡ p.rest → IsEnclosingRead s new mark from
+    → reverse new.waiting.list.items ≡ p.rest → s.is_bare ≡ false → IsEnclosingRead s new mark from
 unfolding no_items may_be_empty
-function-within s w last new mark from argument p apart one text candidates at waits =
+function-within s w last new mark from to argument p apart one text candidates at waits whole =
     let f = p.is_enclosing in
     let e = p.make (list_of p.ts) in
     let b = p.name in
@@ -504,7 +507,7 @@ function-within s w last new mark from argument p apart one text candidates at w
     let shows : Shows (detail_of s) (function f.own (qualifiers (has_const mark)) (called_on mark) absent (list_of p.ts)) (b ++ codes "(" ++ l ++ codes ")" ++ q) =
     subst (λ x. Shows (detail_of s) (function f.own (qualifiers (has_const mark)) (called_on mark) absent (list_of p.ts)) (b ++ codes "(" ++ l ++ codes ")" ++ x))
     (plain-text mark)
-    (function-shows (has-parameters s p.whole) f.own b f.prints p.ts l f.elements (qualifiers (has_const mark)) (called_on mark)) in
+    (function-shows (has-parameters s whole) f.own b f.prints p.ts l f.elements (qualifiers (has_const mark)) (called_on mark)) in
     record {
       state = p.state;
       candidates = subst (λ v. AreCandidates (detail_of s) v.list.items new.candidates.list.items p.state.candidates) (sym text)
@@ -521,6 +524,51 @@ function-within s w last new mark from argument p apart one text candidates at w
       within = subst (λ ws. TypeWithin s (Stands s ws) p.front e new.at p.state) (sym waits)
           (subst (λ n. TypeWithin s below p.front e n p.state) (sym (at ∙ one.at)) within_);
     }
+
+-- what was written after its name is taken away, where functions are shown by their names alone
+pub function-unwritten : (s : Symbol) (w shut new : Direct) (mark : Mark) (from to : ℕ) (argument : Arguments) (p : IsEnclosingParameterRead s w mark from to argument)
+    → p.texts ≢ codes "void" → shut.text ≡ w.text → shut.candidates ≡ w.candidates → shut.at ≡ w.at → reverse shut.waiting.list.items ≡ p.rest
+    → new.text.list.items ≡ take to shut.text.list.items → AreKeptTo to shut.candidates.list.items new.candidates.list.items
+    → new.waiting ≡ shut.waiting → new.at ≡ shut.at → s.is_bare ≡ true → IsEnclosingRead s new marks.Plain from
+unfolding no_items may_be_empty
+function-unwritten s w shut new mark from to argument p apart same_text same_candidates same_at waits text kept waiting at bare =
+    let f = p.is_enclosing in
+    let e = p.make (list_of p.ts) in
+    let made = function f.own (qualifiers (has_const mark)) (called_on mark) f.returned (list_of p.ts) in
+    let is : e ≡ made = enclosed-with f.own f.returned mark p.make f.makes p.ts p.some
+    (parameters-kept (detail_of s) (types_of f.own) 6 p.ts p.texts f.elements apart) in
+    let below = Stands s p.rest in
+    let within_ : TypeWithin s below p.front e w.at p.state = subst (λ u. TypeWithin s below p.front (p.make u) w.at p.state) (list-ends p.ts)
+    (p.goes.onward nothing_there w.at p.state (expects-empty s Kind.Items p.goes.around p.goes.inner w.at p.state p.goes.awaits refl)) in
+    let left = p.front ++ p.name in
+    let behind = codes "(" ++ p.texts in
+    let whole_ : shut.text.list.items ≡ left ++ behind = ap (λ v. v.list.items) same_text ∙ p.written ∙ append_assoc left (codes "(") p.texts in
+    let left_is : new.text.list.items ≡ left =
+    text ∙ ap (λ n. take n shut.text.list.items) p.to_is ∙ ap (λ l. take (length left) l) whole_ ∙ take-append_seam left behind in
+    let known : AreCandidates (detail_of s) shut.text.list.items shut.candidates.list.items p.state.candidates =
+    subst (λ v. AreCandidates (detail_of s) v.list.items shut.candidates.list.items p.state.candidates) (sym same_text)
+    (subst (λ v. AreCandidates (detail_of s) w.text.list.items v.list.items p.state.candidates) (sym same_candidates) p.candidates) in
+    record {
+      state = p.state;
+      candidates = subst (λ l. AreCandidates (detail_of s) l new.candidates.list.items p.state.candidates) (sym left_is)
+          (candidates-kept (detail_of s) shut.text.list.items left behind to shut.candidates.list.items new.candidates.list.items p.state.candidates whole_ p.to_is
+          kept known);
+      e = e;
+      front = p.front;
+      bytes = p.name;
+      written = append-nil new.text.list.items ∙ left_is;
+      from_is = p.from_is;
+      encloses = subst (λ t. Encloses (detail_of s) t p.name) (sym is)
+          (name-encloses (has-none s bare) f.own p.name f.prints (qualifiers (has_const mark)) (called_on mark) f.returned (list_of p.ts));
+      within = subst (λ ws. TypeWithin s (Stands s ws) p.front e new.at p.state) (sym (ap (λ v. reverse v.list.items) waiting ∙ waits))
+          (subst (λ n. TypeWithin s below p.front e n p.state) (sym (at ∙ same_at)) within_);
+    }
+
+-- the name is within what is written
+pub name-inside : (s : Symbol) (w : Direct) (mark : Mark) (from to : ℕ) (argument : Arguments) → IsEnclosingParameterRead s w mark from to argument
+    → to ≤ length w.text.list.items
+name-inside s w mark from to argument p =
+    omega (arith, p.to_is, ap length p.written, length-append (p.front ++ p.name ++ codes "(") p.texts, length-append (p.front ++ p.name) (codes "("))
 
 -- its qualifiers are written
 pub marks-written-within : (s : Symbol) (old new : Direct) (mark : Mark) (from : ℕ) → IsEnclosingRead s old mark from → Writes old new (mark_text mark)

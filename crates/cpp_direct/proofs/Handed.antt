@@ -191,7 +191,7 @@ pub takes-elements : (o : Open) → ((x : ℕ) → o ≡ opens.Pointer x → ⊥
     → ((x : ℕ) → o ≡ opens.Rvalue x → ⊥) → ((x : ℕ) → o ≡ opens.Const x → ⊥) → ((x : Mark) (y : ℕ) (z : Arguments) → o ≡ opens.Parameters x y z → ⊥)
     → ((x : Mark) (y : ℕ) (z : Arguments) → o ≡ opens.Front x y z → ⊥)
     → ((x : Bool) → o ≡ opens.Returned x → ⊥) → ((x : Bool) → o ≡ opens.Signature x → ⊥)
-    → (o ≡ opens.Special → ⊥) → (o ≡ opens.Enumerator → ⊥) → ((x : Mark) (y : ℕ) (z : Arguments) → o ≡ opens.Enclosing x y z → ⊥)
+    → (o ≡ opens.Special → ⊥) → (o ≡ opens.Enumerator → ⊥) → ((x : Mark) (y t : ℕ) (z : Arguments) → o ≡ opens.Enclosing x y t z → ⊥)
     → ((x y : ℕ) (z : Arguments) → o ≡ opens.Argument x y z → ⊥) → ((x : ℕ) → o ≡ opens.Lambda x → ⊥) → ((x y : ℕ) (z : Arguments) → o ≡ opens.Element x y z → ⊥)
     → ((x : Access) (y z : ℕ) → o ≡ opens.Array x y z → ⊥) → TakesElements o
 takes-elements (opens.Pointer x) p l r c f k u g z n m a q e j = absurd (p x refl)
@@ -203,7 +203,7 @@ takes-elements (opens.Front x y w) p l r c f k u g z n m a q e j = absurd (k x y
 takes-elements (opens.Argument x y v) p l r c f k u g z n m a q e j = absurd (a x y v refl)
 takes-elements (opens.Returned x) p l r c f k u g z n m a q e j = absurd (u x refl)
 takes-elements (opens.Signature x) p l r c f k u g z n m a q e j = absurd (g x refl)
-takes-elements (opens.Enclosing x y w) p l r c f k u g z n m a q e j = absurd (m x y w refl)
+takes-elements (opens.Enclosing x y t w) p l r c f k u g z n m a q e j = absurd (m x y t w refl)
 takes-elements (opens.Lambda x) p l r c f k u g z n m a q e j = absurd (q x refl)
 takes-elements (opens.Array x y w) p l r c f k u g z n m a q e j = absurd (j x y w refl)
 takes-elements (opens.Element x y w) p l r c f k u g z n m a q e j = absurd (e x y w refl)

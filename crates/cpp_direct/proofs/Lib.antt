@@ -12,6 +12,7 @@ pub mod FrontsRead
 pub mod FunctionsRead
 pub mod Handed
 pub mod Kept
+pub mod LeftOut
 pub mod LettersTested
 pub mod Listed
 pub mod Literals

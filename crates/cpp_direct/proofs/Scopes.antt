@@ -112,9 +112,9 @@ pub front-scoped : (around : Around) (mark : Mark) (start : ℕ) (p : Arguments)
 front-scoped around mark start p rest h q e = scoped-by around p q (cc e) h
 
 -- a parameter of a function in which a type is may name its argument, too
-pub enclosing-scoped : (around : Around) (mark : Mark) (from : ℕ) (p : Arguments) (rest : List Open) → HasScope p around
-    → IsScoped around (opens.Enclosing mark from p ∷ rest)
-enclosing-scoped around mark from p rest h q e = scoped-by around p q (cc e) h
+pub enclosing-scoped : (around : Around) (mark : Mark) (from to : ℕ) (p : Arguments) (rest : List Open) → HasScope p around
+    → IsScoped around (opens.Enclosing mark from to p ∷ rest)
+enclosing-scoped around mark from to p rest h q e = scoped-by around p q (cc e) h
 
 -- where one may be named, the encoding is the arguments'
 pub scoped-encoding : (around : Around) (open_ : List Open) → IsScoped around open_ → IsEncodingOf (argument_of open_) around.encoding

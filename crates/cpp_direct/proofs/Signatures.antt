@@ -381,11 +381,11 @@ function-handed s old new is_pointer p text candidates waits at =
 -- what takes a function type, and isn't parameters or a special object, takes elements
 pub takes-as-element : (o : Open) (rest ws : List Open) → ws ≡ o ∷ rest → TakesFunction ws
     → ((x : Mark) (y : ℕ) (z : Arguments) → o ≡ opens.Parameters x y z → ⊥)
-    → (o ≡ opens.Special → ⊥) → ((x : Mark) (y : ℕ) (z : Arguments) → o ≡ opens.Enclosing x y z → ⊥) → TakesElements o
+    → (o ≡ opens.Special → ⊥) → ((x : Mark) (y t : ℕ) (z : Arguments) → o ≡ opens.Enclosing x y t z → ⊥) → TakesElements o
 takes-as-element o rest ws is takes apart no_special within = go o (subst TakesFunction is takes) apart no_special within
   where
     go : (o : Open) → TakesFunction (o ∷ rest) → ((x : Mark) (y : ℕ) (z : Arguments) → o ≡ opens.Parameters x y z → ⊥) → (o ≡ opens.Special → ⊥)
-        → ((x : Mark) (y : ℕ) (z : Arguments) → o ≡ opens.Enclosing x y z → ⊥) → TakesElements o
+        → ((x : Mark) (y t : ℕ) (z : Arguments) → o ≡ opens.Enclosing x y t z → ⊥) → TakesElements o
     go (opens.TypeArguments from) takes apart z m = tt
     go (opens.NestArguments nest) takes apart z m = tt
     go (opens.FirstArguments nest) takes apart z m = tt
@@ -393,5 +393,5 @@ takes-as-element o rest ws is takes apart no_special within = go o (subst TakesF
     go opens.Pack takes apart z m = tt
     go (opens.Parameters x y w) takes apart z m = absurd (apart x y w refl)
     go opens.Special takes apart z m = absurd (z refl)
-    go (opens.Enclosing x y w) takes apart z m = absurd (m x y w refl)
+    go (opens.Enclosing x y t w) takes apart z m = absurd (m x y t w refl)
     go _ takes apart z m = absurd takes

@@ -80,11 +80,11 @@ pub record AwaitsEnclosingParameters (s : Symbol) (w : Direct) (mark : Mark) (fr
   pub goes : ItemsGoOn s argument (TypeWithin s (Stands s (reverse w.waiting.list.items)) front) make [] w.at state
 
 -- A parameter of such a function was read.
-pub record IsEnclosingParameterRead (s : Symbol) (w : Direct) (mark : Mark) (from : ℕ) (argument : Arguments) : Type 0 where
+pub record IsEnclosingParameterRead (s : Symbol) (w : Direct) (mark : Mark) (from to : ℕ) (argument : Arguments) : Type 0 where
   pub state : State
   pub candidates : AreCandidates (detail_of s) w.text.list.items w.candidates.list.items state.candidates
   pub rest : List Open
-  pub open_is : reverse w.waiting.list.items ≡ opens.Enclosing mark from argument ∷ rest
+  pub open_is : reverse w.waiting.list.items ≡ opens.Enclosing mark from to argument ∷ rest
   pub make : Term → Term
   pub ts : List Term
   pub some : ts ≢ []
@@ -94,7 +94,7 @@ pub record IsEnclosingParameterRead (s : Symbol) (w : Direct) (mark : Mark) (fro
   pub is_enclosing : IsEnclosing (detail_of s) w.text.list.items argument mark make ts name texts
   pub from_is : from ≡ length front
   pub written : w.text.list.items ≡ front ++ name ++ codes "(" ++ texts
-  pub whole : s.is_bare ≡ false
+  pub to_is : to ≡ length (front ++ name)
   pub goes : ItemsGoOn s argument (TypeWithin s (Stands s rest) front) make ts w.at state
 
 -- Such a function was read and written from a place on, but for its qualifier.

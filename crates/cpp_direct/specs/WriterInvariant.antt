@@ -142,7 +142,7 @@ argument_of (opens.Rvalue from ∷ rest) = argument_of rest
 argument_of (opens.Const from ∷ rest) = argument_of rest
 argument_of (opens.Front mark start argument ∷ rest) = Some argument
 argument_of (opens.Parameters mark start argument ∷ rest) = Some argument
-argument_of (opens.Enclosing mark from argument ∷ rest) = Some argument
+argument_of (opens.Enclosing mark from to argument ∷ rest) = Some argument
 argument_of _ = None
 
 -- if there are any, parameters may name them
@@ -476,7 +476,7 @@ TakesFunction (opens.NameArguments from ∷ rest) = Unit {0}
 TakesFunction (opens.Pack ∷ rest) = Unit {0}
 TakesFunction (opens.Parameters mark start argument ∷ rest) = Unit {0}
 TakesFunction (opens.Special ∷ rest) = Unit {0}
-TakesFunction (opens.Enclosing mark from argument ∷ rest) = Unit {0}
+TakesFunction (opens.Enclosing mark from to argument ∷ rest) = Unit {0}
 TakesFunction _ = ⊥
 
 -- A type comes for the last of the open ones, after what is written.
@@ -495,12 +495,12 @@ Stands s (opens.Parameters mark start argument ∷ rest) os text =
     × IsFunction (detail_of s) text argument mark make ts name texts × Fronts s.is_bare front start lead name
     × (text ≡ front ++ codes "(" ++ in_front_of_next ts texts)
     × ((t : Term) (at : ℕ) (st : State) → Comes s os (tree t true) at st → ParametersGoOn s argument lead make (ts ++ t ∷ []) at st)
-Stands s (opens.Enclosing mark from argument ∷ rest) os text =
+Stands s (opens.Enclosing mark from to argument ∷ rest) os text =
     (front : List ℕ) × (make : Term → Term) × (ts : List Term) × (name : List ℕ) × (texts : List ℕ)
     × IsEnclosing (detail_of s) text argument mark make ts name texts × (from ≡ length front) × (text ≡ front ++ name ++ codes "(" ++ in_front_of_next ts texts)
     × ((t : Term) (at : ℕ) (st : State) → Comes s os (tree t true) at st
     → ItemsGoOn s argument (TypeWithin s (Stands s rest) front) make (ts ++ t ∷ []) at st)
-    × (s.is_bare ≡ false)
+    × (to ≡ length (front ++ name))
 Stands s (opens.Lambda from ∷ rest) os text =
     (front : List ℕ) × (e : Term) × (bytes : List ℕ) × (ts : List Term) × (texts : List ℕ)
     × Encloses (detail_of s) e bytes × PrintAll (detail_of s) 0 ts texts × (from ≡ length front)

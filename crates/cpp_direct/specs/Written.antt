@@ -1,5 +1,5 @@
 -- What the small functions of a writer do to its lists.
-use Rattle.std.specs.Prelude.{◌≡◌, ◌⊎◌, ℕ, List, [], ◌∷◌, ◌++◌, length, drop, Bool, true, false}
+use Rattle.std.specs.Prelude.{◌≡◌, ◌⊎◌, ℕ, List, [], ◌∷◌, ◌++◌, length, drop, Bool, true, false, ◌≤◌}
 use Rattle.cpp_direct.specs.declared.open.Candidate.{Candidate}
 use Rattle.cpp_direct.specs.declared.direct.Direct.{Direct}
 
@@ -46,6 +46,16 @@ added_unless w false from = added w from false
 -- a candidate that ends before it begins
 abbrev pub hidden : Candidate
 hidden = record { from = 1; to = 0; is_reference = false; is_dependent = false; number = 0; encoding = 0 }
+
+-- a candidate is what it was, and its text ends by a place, or it is nowhere
+abbrev pub IsKeptTo : (to : ℕ) → (old new : Candidate) → Type 0
+IsKeptTo to old new = ((new ≡ old) × (old.to ≤ to)) ⊎ (new ≡ hidden)
+
+-- each of them is
+abbrev pub AreKeptTo : (to : ℕ) → (old new : List Candidate) → Type 0
+AreKeptTo to [] [] = Unit {0}
+AreKeptTo to (k ∷ ks) (n ∷ ns) = IsKeptTo to k n × AreKeptTo to ks ns
+AreKeptTo to _ _ = ⊥
 
 -- the candidates, and such a one for a function type and for the pointer to it
 abbrev pub with_hidden : Direct → (is_pointer : Bool) → List Candidate

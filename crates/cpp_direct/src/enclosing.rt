@@ -21,8 +21,9 @@ use crate::open::{Arguments, Mark, Open, Purpose, Step};
 use crate::symbols::NOWHERE;
 use crate::tokens::{are_numbers_short, byte_at};
 
-/// The longest symbol in which lambdas with parameters are read, in bytes.
-const LONGEST_WITH_LAMBDAS: usize = 1_024;
+/// The longest symbol that is gone over once more, or its candidates are, at a lambda with parameters or at parameters that aren't
+/// shown, in bytes.
+const LONGEST_GONE_OVER: usize = 1_024;
 
 impl Direct {
     /// Reads the first bytes of a type that is in a function, up to the first type in that one's name.
@@ -89,7 +90,7 @@ impl Direct {
     }
 
     /// Reads the parameters of a function in which a type is, up to the first type in them. Where functions are shown by their names
-    /// alone, a symbol in which it has any is given up.
+    /// alone, a symbol in which it has any is not to be a long one: they are taken away at their end, with all that they made.
     // <bare-function-type> ::= <parameter type>+ | v
     fn enclosing_parameters<G: Grammar>(
         &mut self,
@@ -111,30 +112,33 @@ impl Direct {
             self.push_pair(b'(', b')')?;
             return self.enclosing_ended::<G>(s, mark, from);
         }
-        // parameters that aren't shown would have no texts, but may be named again
-        if G::IS_BARE {
+        if G::IS_BARE && s.len() > LONGEST_GONE_OVER {
             return None;
         }
+        let to = self.text.end();
         self.push_byte(b'(')?;
         self.waiting.push(Open::Enclosing {
             mark,
             from,
+            to,
             argument,
         })?;
         Some(Step::Type)
     }
 
-    /// A parameter of a function is read in which a type is: another one follows, or the type.
+    /// A parameter of a function is read in which a type is: another one follows, or the type. Where functions are shown by their
+    /// names alone, what follows the name is taken away.
     // <bare-function-type> ::= <parameter type>+
     pub(crate) fn enclosing_parameter<G: Grammar>(
         &mut self,
         s: &[u8],
         mark: Mark,
         from: u32,
+        to: u32,
         _argument: Arguments,
     ) -> Option<Step>
         requires fits { IsReadable s.now }
-        requires read { IsEnclosingParameterRead (symbol_by G.IS_WIDE G.IS_BARE s.now) self.old mark from _argument }
+        requires read { IsEnclosingParameterRead (symbol_by G.IS_WIDE G.IS_BARE s.now) self.old mark from to _argument }
         ensures { IfSome result (IsWriting (symbol_by G.IS_WIDE G.IS_BARE s.now) self.new) }
     {
         if byte_at(s, self.at) != b'E' {
@@ -144,6 +148,11 @@ impl Direct {
         // a lone void is no parameter
         if self.text.as_slice().ends_with(b"(void") {
             return None;
+        }
+        if G::IS_BARE {
+            let _named = self.waiting.pop();
+            self.leave_out(to)?;
+            return self.enclosed::<G>(s, from);
         }
         self.push_byte(b')')?;
         let _open = self.waiting.pop();
@@ -260,7 +269,7 @@ impl Direct {
             return None;
         }
         // its number is tested before its parameters, and isn't known yet
-        if s.len() > LONGEST_WITH_LAMBDAS || !are_numbers_short(s) {
+        if s.len() > LONGEST_GONE_OVER || !are_numbers_short(s) {
             return None;
         }
         self.at = self.at.checked_add(1)?;

@@ -152,8 +152,9 @@ impl Direct {
             Open::Enclosing {
                 mark,
                 from,
+                to,
                 argument,
-            } => self.enclosing_parameter::<G>(s, mark, from, argument),
+            } => self.enclosing_parameter::<G>(s, mark, from, to, argument),
             Open::Special => self.finish::<G>(s),
             _ => Some(Step::List { is_first: false }),
         }

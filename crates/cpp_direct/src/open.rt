@@ -125,10 +125,12 @@ pub enum Open {
         start: u32,
         argument: Arguments,
     },
-    /// the parameters of a function in which a type is; the type's text begins at this place, with the function's
+    /// the parameters of a function in which a type is; the type's text begins at the first of these places, with the function's
+    /// name, and the name ends at the other
     Enclosing {
         mark: Mark,
         from: u32,
+        to: u32,
         argument: Arguments,
     },
     /// the parameters of a lambda that is in a function, whose text begins at this place

@@ -511,8 +511,9 @@ impl Direct {
             Open::Enclosing {
                 mark,
                 from,
+                to,
                 argument,
-            } => self.enclosing_parameter::<G>(s, mark, from, argument),
+            } => self.enclosing_parameter::<G>(s, mark, from, to, argument),
             _ => {
                 // a reference to a reference, or a const one, prints otherwise
                 if is_reference {

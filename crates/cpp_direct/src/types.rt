@@ -227,8 +227,9 @@ impl Direct {
             Open::Enclosing {
                 mark,
                 from,
+                to,
                 argument,
-            } => self.enclosing_parameter::<G>(s, mark, from, argument),
+            } => self.enclosing_parameter::<G>(s, mark, from, to, argument),
             Open::Lambda { from } => self.lambda_parameter::<G>(s, from),
             Open::Special => self.finish::<G>(s),
             Open::Enumerator => self.enumerator::<G>(s),

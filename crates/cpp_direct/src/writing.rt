@@ -3,10 +3,11 @@
 ghost use Rattle.std.specs.Prelude.{◌≡◌, ◌+◌, ◌-◌, ◌≤◌, ◌∷◌, ◌++◌, [], length, take, drop, codes, true, if◌then◌else◌};
 ghost use Rattle.std.specs.Option.{OnSome, IfSome};
 ghost use Rattle.cpp_direct.specs.declared.open.Step.TheVariants as steps;
-ghost use Rattle.cpp_direct.specs.Written.{Writes, Cuts, added, added_unless, with_dependent, with_hidden};
+ghost use Rattle.cpp_direct.specs.Written.{Writes, Cuts, added, added_unless, with_dependent, with_hidden, AreKeptTo};
 
 use crate::direct::Direct;
 use crate::open::{Candidate, Open, Step};
+use sym_direct::Bounded;
 
 /// A candidate whose text is nowhere: it ends before it begins.
 const HIDDEN: Candidate = Candidate {
@@ -146,6 +147,21 @@ impl Direct {
         Some(())
     }
 
+    /// Takes away what was written after a place. Candidates that end after it are nowhere then.
+    pub(crate) fn leave_out(&mut self, to: u32) -> Option<()>
+        requires within { to ≤ length self.old.text.list.items }
+        ensures text { OnSome result (self.new.text.list.items ≡ take to self.old.text.list.items) }
+        ensures candidates { OnSome result (AreKeptTo to self.old.candidates.list.items self.new.candidates.list.items) }
+        ensures open { OnSome result (self.new.waiting ≡ self.old.waiting) }
+        ensures at { OnSome result (self.new.at ≡ self.old.at) }
+    {
+        let end = self.text.end();
+        self.repeat(0, to)?;
+        self.text.drop_first(end as usize);
+        hide_after(&mut self.candidates, to);
+        Some(())
+    }
+
     /// Opens what waits for a type.
     #[inline(always)]
     pub(crate) fn open_type(&mut self, entry: Open, step: Step) -> Option<Step>
@@ -174,5 +190,18 @@ impl Direct {
     {
         self.push_byte(b'<')?;
         self.open_type(entry, Step::List { is_first: true })
+    }
+}
+
+/// Candidates that end after a place are nowhere.
+fn hide_after(candidates: &mut Bounded<Candidate>, to: u32)
+    ensures { AreKeptTo to candidates.old.list.items candidates.new.list.items }
+{
+    let mut at = 0;
+    'candidates: while at < candidates.len() {
+        if candidates.as_slice()[at].to > to {
+            candidates.put(at, HIDDEN);
+        }
+        at += 1;
     }
 }

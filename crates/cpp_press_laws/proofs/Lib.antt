@@ -1,4 +1,8 @@
 mod Rows
+pub mod Ways
+pub mod Slots
+pub mod Spots
+pub mod Fitting
 pub mod Components
 pub mod Fits
 pub mod ReadBack

@@ -1,7 +1,7 @@
 -- Pressed bytes are few for those of the symbol. `Size` is how many bytes a tree takes if each component in it is a reference, and
 -- `Spelled` shows that a spelling takes no more, but for the components that it spells out. What these take is at most eight times what
 -- they are `Worth` (`Slots`), and the candidates that they are among are worth as much (`StandAmong` of `Components/Complete`). Each
--- byte of the symbol pays eight for candidates and for what is read (`Gains`), production by production (`Paid`, then `Types`, `Lists`,
+-- byte of the symbol pays eight for candidates and for what is read (`Gains`), production by production (`Paid`; `ByRow`, where rows say what; `Types`, `Lists`,
 -- `Names` and `Qualified`, which `Every` joins by induction over shapes); so `Law` has 64.
 pub mod Size
 pub mod Spelled
@@ -9,6 +9,7 @@ pub mod Worth
 pub mod Slots
 pub mod Gains
 pub mod Paid
+pub mod ByRow
 pub mod Types
 pub mod Lists
 pub mod Names

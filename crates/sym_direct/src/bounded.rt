@@ -1,6 +1,6 @@
 // Lists that grow up to a bound.
 
-ghost use Rattle.std.specs.Prelude.{◌≡◌, ◌+◌, ◌-◌, ◌≤◌, ◌∷◌, ◌++◌, ◌<◌, ◌^◌, [], length, take, drop, vec_capacity};
+ghost use Rattle.std.specs.Prelude.{◌≡◌, ◌+◌, ◌-◌, ◌≤◌, ◌∷◌, ◌++◌, ◌<◌, ◌^◌, [], length, take, drop, slice_set, vec_capacity};
 ghost use Rattle.std.specs.Option.{OnSome, option_to_list};
 
 use std::alloc::Global;
@@ -106,6 +106,16 @@ impl<T: Copy> Bounded<T> {
     {
         self.list.pop()
     }
+
+    /// Puts an entry in the place of another one.
+    #[inline(always)]
+    pub fn put(&mut self, at: usize, entry: T)
+        requires within { at < length self.old.list.items }
+        ensures items { self.new.list.items ≡ slice_set self.old.list.items at entry }
+        ensures room { self.new.room ≡ self.old.room }
+    {
+        self.list[at] = entry;
+    }
 }
 
 impl Bounded<u8> {
@@ -148,7 +158,7 @@ impl Bounded<u8> {
         copy_to_end(&mut self.list, from, to)
     }
 
-    /// Takes its first bytes away.␤    // `rotate_left` would clear kilobytes of the stack for the bytes that go to the end.
+    /// Takes its first bytes away.
     // `rotate_left` would clear kilobytes of the stack for the bytes that go to the end.
     pub fn drop_first(&mut self, count: usize)
         requires within { count ≤ length self.old.list.items }

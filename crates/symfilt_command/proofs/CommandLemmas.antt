@@ -1,8 +1,11 @@
 -- What a command line's parts did, as what the program did.
-use Rattle.std.proofs.Common.{◌≡◌, ◌≢◌, ◌⊎◌, ℕ, List, [], Option, Result, Ok, Err, refl, sym, subst, inl, inr, ◌++◌}
+use Rattle.std.proofs.Common.{◌≡◌, ◌≢◌, ◌⊎◌, ℕ, Bool, false, cond, Bor, List, [], ◌∷◌, length, map, eqb, Option, Result, Ok, Err, refl, sym, subst, inl, inr, ◌++◌}
 use Rattle.std.specs.Prelude.{IfOk, OnOk, OnErr}
 use Rattle.std.specs.Io.KnownBytes.{Appends}
-use Rattle.sym_filter.specs.Runs.{filtered_at}
+use Rattle.std.proofs.lemmas.Bool.{eqb-false}
+use Rattle.sym_print.specs.declared.detail.Detail.{Detail}
+use Rattle.sym_demangle.specs.Mangled.{Mangled}
+use Rattle.sym_filter.specs.Runs.{Answering, filtered_at}
 use Rattle.sym_filter.specs.Streams.{FiltersAllAt, FiltersFrontAt}
 use Rattle.sym_filter.specs.declared.streams.FilterFault.{FilterFault}
 use Rattle.sym_filter.specs.declared.words.Tally.{Tally}
@@ -10,14 +13,32 @@ use Rattle.sym_filter.proofs.StreamLemmas.{Appends-join}
 use Rattle.clap.specs.Words.{Row, Text as Bytes, IsAmong}
 use Rattle.clap.specs.declared.error.kind.ErrorKind.{ErrorKind}
 use Rattle.clap.specs.declared.error.kind.ErrorKind.TheVariants.{OutOfMemory}
-use Rattle.sym_command.specs.CommandLine.{AreRefused, faults_in}
-use Rattle.sym_command.specs.Command.{Took, Says}
+use Rattle.sym_command.specs.CommandLine.{AreGiven, AreRefused, faults_in, symbols_of}
+use Rattle.sym_command.specs.Command.{AnswersFront, AnswersWords, Took, Says}
+use Rattle.sym_command.specs.Lines.{Counting}
+use Rattle.sym_command.specs.declared.options.Asked.{Asked}
+use Rattle.sym_command.specs.declared.options.Asked.TheVariants.{Text, WideText}
+use Rattle.sym_command.specs.declared.options.Options.{Options}
 use Rattle.sym_command.specs.declared.outcome.Filtering.{Filtering}
 use Rattle.sym_command.specs.declared.outcome.Run.{Run}
 use Rattle.sym_command.specs.declared.outcome.Run.TheVariants.{Done, Filter}
 use Rattle.sym_command.proofs.CommandLemmas.{faulty}
 use Rattle.sym_command.proofs.PageLemmas.{Took-said, OnErr-anyway}
-use Rattle.symfilt_command.specs.Command.{filter_answers, AreBegun, IsRunOf, IsRun, IsStopped, Filtered, FilteredFront}
+use Rattle.symfilt_command.specs.Command.{answers_at, answers_by, answers_of, counting_at, counting_of, filter_answers, AreBegun, IsRunOf, IsRun, IsStopped, Filtered, FilteredFront}
+
+-- ## What is answered
+
+-- where it is known whether legacy Rust names are paths
+pub by-legacy : {W : Type 0} → (P : Answering → Type 0) (cpp : Mangled W) (legacy known : Bool) (limit : ℕ) (detail : Detail) → legacy ≡ known → P (answers_by cpp known limit detail) → P (answers_by cpp legacy limit detail)
+by-legacy P cpp legacy known limit detail is given = subst (λ paths. P (answers_by cpp paths limit detail)) (sym is) given
+
+-- where it is known which grammar the filter reads C++ by
+pub by-width : (P : Answering → Type 0) (filtering : Filtering) (wide : Bool) → filtering.wide ≡ wide → P (answers_at (cond wide WideText Text) filtering.legacy filtering.limit filtering.detail) → P (filter_answers filtering)
+by-width P filtering wide is given = subst (λ known. P (answers_at (cond known WideText Text) filtering.legacy filtering.limit filtering.detail)) (sym is) given
+
+-- where it is known what is asked
+pub by-asked : (P : Answering → Counting → Type 0) (options : Options) (asked : Asked) → options.asked ≡ asked → P (answers_at asked options.legacy options.limit options.detail) (counting_at asked) → P (answers_of options) (counting_of options)
+by-asked P options asked is given = subst (λ known. P (answers_at known options.legacy options.limit options.detail) (counting_at known)) (sym is) given
 
 -- ## Words that the parser refuses
 
@@ -31,6 +52,10 @@ unparsed-stopped words out err err' result says = OnErr-anyway result _ (Took-sa
 
 -- ## Words that it takes
 
+pub some-words : (words : List (Bor (List ℕ))) → eqb (length words) 0 ≡ false → map (λ (word : Bor (List ℕ)). word.now) words ≢ []
+some-words [] some = λ none. eqb-false 0 0 some refl
+some-words (word ∷ words) some = λ none. cc
+
 abbrev pub IsStoppedOf : List Row → List ℕ → List ℕ → Type 0
 IsStoppedOf rows lines said = AreBegun rows lines said ⊎ (lines ≡ [])
 
@@ -41,6 +66,36 @@ refused-run rows out err err' (Err fault) refused is says = tt
 
 pub refused-stopped : (rows : List Row) (out err err' : Option (List ℕ)) (result : Result Run FilterFault) → Says err err' → OnErr result (Took out out err err' (IsStoppedOf rows))
 refused-stopped rows out err err' result says = OnErr-anyway result _ (Took-said out err err' (IsStoppedOf rows) says (λ said. inr refl))
+
+-- symbols that are answered, and those of which some are
+pub answered-run : (rows : List Row) (options : Options) (words : List Bytes) (status : ℕ) (out out' err err' : Option (List ℕ)) → AreGiven rows options → words ≡ symbols_of rows → words ≢ []
+    → Took out out' err err' (AnswersWords (answers_of options) (counting_of options) options.stats words status) → Took out out' err err' (IsRunOf rows (Done status))
+answered-run rows options words status out out' err err' given are some took = record {
+  lines = took.lines;
+  said = took.said;
+  to_out = took.to_out;
+  to_err = took.to_err;
+  held = inl (record {
+    options = options;
+    given = given;
+    some = subst (λ (symbols : List Bytes). symbols ≢ []) are some;
+    answered = subst (λ symbols. AnswersWords (answers_of options) (counting_of options) options.stats symbols status took.lines took.said) are took.held;
+  });
+}
+
+pub begun-run : (rows : List Row) (options : Options) (words : List Bytes) (out out' err err' : Option (List ℕ)) → AreGiven rows options → words ≡ symbols_of rows
+    → Took out out' err err' (AnswersFront (answers_of options) (counting_of options) options.stats words) → Took out out' err err' (IsStoppedOf rows)
+begun-run rows options words out out' err err' given are took = record {
+  lines = took.lines;
+  said = took.said;
+  to_out = took.to_out;
+  to_err = took.to_err;
+  held = inl (record {
+    options = options;
+    given = given;
+    front = subst (λ symbols. AnswersFront (answers_of options) (counting_of options) options.stats symbols took.lines took.said) are took.held;
+  });
+}
 
 -- ## Without a symbol
 

@@ -5,7 +5,10 @@ use Rattle.sym_print.specs.declared.detail.Detail.{Detail}
 use Rattle.sym_filter.specs.Runs.{Answering}
 use Rattle.sym_filter.specs.Streams.{FiltersAllAt, FiltersFrontAt}
 use Rattle.sym_filter.specs.declared.words.Tally.{Tally}
-use Rattle.sym_languages.specs.Languages.{answer_of, legacy_answer_of, wide_answer_of, legacy_wide_answer_of, pressed_of, AreCountsOf, AreWideCountsOf}
+use Rattle.sym_demangle.specs.Mangled.{Mangled}
+use Rattle.cpp_grammar.specs.Mangled.{cpp_mangled, wide_mangled}
+use Rattle.rust_legacy.specs.Text.{legacy_answer}
+use Rattle.sym_languages.specs.Languages.{language_answer_by, pressed_of, AreCountsOf, AreWideCountsOf}
 use Rattle.clap.specs.Words.{Row, Text as Bytes}
 use Rattle.sym_command.specs.CommandLine.{AreGiven, AreRefused, AsksFilter, symbols_of, found_in, faults_in}
 use Rattle.sym_command.specs.Lines.{Counting}
@@ -17,13 +20,15 @@ use Rattle.sym_command.specs.declared.outcome.Filtering.{Filtering}
 use Rattle.sym_command.specs.declared.outcome.Run.{Run}
 use Rattle.sym_command.specs.declared.outcome.Run.TheVariants.{Done, Filter}
 
--- what is asked of each symbol: its text at a limit and in a detail, with C++ by either grammar, and legacy Rust names as C++ or as
--- paths, or its pressed spelling
+-- the texts of symbols at a limit and in a detail, with a grammar of C++, and legacy Rust names as C++ or as paths
+abbrev pub answers_by : {W : Type 0} → Mangled W → (legacy : Bool) → ℕ → Detail → Answering
+answers_by cpp false limit detail = λ kind symbol. language_answer_by cpp limit detail kind.lang symbol
+answers_by cpp true limit detail = λ kind symbol. legacy_answer limit symbol (language_answer_by cpp limit detail kind.lang symbol)
+
+-- what is asked of each symbol: its text, with C++ by either grammar, or its pressed spelling
 abbrev pub answers_at : Asked → (legacy : Bool) → ℕ → Detail → Answering
-answers_at Text false limit detail = answer_of limit detail
-answers_at Text true limit detail = legacy_answer_of limit detail
-answers_at WideText false limit detail = wide_answer_of limit detail
-answers_at WideText true limit detail = legacy_wide_answer_of limit detail
+answers_at Text legacy limit detail = answers_by cpp_mangled legacy limit detail
+answers_at WideText legacy limit detail = answers_by wide_mangled legacy limit detail
 answers_at Pressed legacy limit detail = pressed_of
 
 abbrev pub answers_of : Options → Answering

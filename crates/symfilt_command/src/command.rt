@@ -4,9 +4,9 @@ ghost use Rattle.clap.specs.Words.{found_of, kind_of, rows_of};
 ghost use Rattle.clap.specs.declared.error.kind.ErrorKind.{ErrorKind as ErrorKind-type};
 ghost use Rattle.sym_filter.specs.Streams.{reader_faults, writer_faults, FiltersAllAt, FiltersFrontAt};
 ghost use Rattle.sym_command.specs.Command.{Took, Says, AnswersWords, AnswersFront};
-ghost use Rattle.sym_command.specs.declared.options.Asked.TheVariants as asked;
 ghost use Rattle.sym_command.specs.declared.outcome.Run.{Run as Run-type};
-ghost use Rattle.symfilt_command.specs.Command.{answers_of, counting_of, filter_answers, AreBegun, IsRun, IsRunOf, IsStopped, Ends, Stops};
+ghost use Rattle.sym_languages.specs.Languages.{AreCountsBy};
+ghost use Rattle.symfilt_command.specs.Command.{answers_by, answers_of, counting_of, filter_answers, AreBegun, IsRun, IsRunOf, IsStopped, Ends, Stops};
 
 use clap::error::ErrorKind;
 use clap::{ArgMatches, Error};
@@ -17,6 +17,7 @@ use sym_command::{
     options_of, refuse_with, symbols_of,
 };
 use sym_filter::{FilterFault, ListSink, Sink, Source, Tally, filter_words};
+use sym_languages::languages::Cpp;
 use sym_languages::{Abi, Languages, Legacy, Pressing, Wide};
 
 /// Runs the program over an input and two outputs: answers the symbols of a command line, or filters the input where it has none.
@@ -72,24 +73,24 @@ pub fn filter_asked<S: Source, W: Sink>(
     ensures write_failed { W.failure_count out.new ≡ W.failure_count out.old + writer_faults result }
 {
     if filtering.wide {
-        return filter_wide(alloc, filtering, input, out);
+        return filter_in(alloc, Wide, filtering, input, out);
     }
-    filter_abi(alloc, filtering, input, out)
+    filter_in(alloc, Abi, filtering, input, out)
 }
 
-/// Filters an input where C++ is read by the wide grammar.
-fn filter_wide<S: Source, W: Sink>(
+/// Filters an input with a grammar of C++.
+fn filter_in<C: Cpp, S: Source, W: Sink>(
     alloc: Global,
+    cpp: C,
     filtering: Filtering,
     input: &mut S,
     out: &mut W,
 ) -> Result<Tally, FilterFault>
-    requires wide { filtering.wide ≡ true }
     requires in_failures { S.failure_count input.old < 2 ^ 64 - 1 }
     requires out_failures { W.failure_count out.old < 2 ^ 64 - 1 }
-    ensures ok { IfOk result (λ tally. FiltersAllAt filtering.letters (filter_answers filtering)
+    ensures ok { IfOk result (λ tally. FiltersAllAt filtering.letters (answers_by C.mangled filtering.legacy filtering.limit filtering.detail)
         (S.coming input.old) (S.coming input.new) (W.taken out.old) (W.taken out.new) tally) }
-    ensures err { OnErr result (FiltersFrontAt filtering.letters (filter_answers filtering)
+    ensures err { OnErr result (FiltersFrontAt filtering.letters (answers_by C.mangled filtering.legacy filtering.limit filtering.detail)
         (S.coming input.old) (S.coming input.new) (W.taken out.old) (W.taken out.new)) }
     ensures read_failed { S.failure_count input.new ≡ S.failure_count input.old + reader_faults result }
     ensures write_failed { W.failure_count out.new ≡ W.failure_count out.old + writer_faults result }
@@ -101,46 +102,7 @@ fn filter_wide<S: Source, W: Sink>(
         legacy,
         ..
     } = filtering;
-    let languages = Languages {
-        limit,
-        detail,
-        cpp: Wide,
-    };
-    if legacy {
-        return filter_words(alloc, input, out, &Legacy { languages }, letters);
-    }
-    filter_words(alloc, input, out, &languages, letters)
-}
-
-/// Filters an input where C++ is read by the ABI's first grammar.
-fn filter_abi<S: Source, W: Sink>(
-    alloc: Global,
-    filtering: Filtering,
-    input: &mut S,
-    out: &mut W,
-) -> Result<Tally, FilterFault>
-    requires abi { filtering.wide ≡ false }
-    requires in_failures { S.failure_count input.old < 2 ^ 64 - 1 }
-    requires out_failures { W.failure_count out.old < 2 ^ 64 - 1 }
-    ensures ok { IfOk result (λ tally. FiltersAllAt filtering.letters (filter_answers filtering)
-        (S.coming input.old) (S.coming input.new) (W.taken out.old) (W.taken out.new) tally) }
-    ensures err { OnErr result (FiltersFrontAt filtering.letters (filter_answers filtering)
-        (S.coming input.old) (S.coming input.new) (W.taken out.old) (W.taken out.new)) }
-    ensures read_failed { S.failure_count input.new ≡ S.failure_count input.old + reader_faults result }
-    ensures write_failed { W.failure_count out.new ≡ W.failure_count out.old + writer_faults result }
-{
-    let Filtering {
-        limit,
-        detail,
-        letters,
-        legacy,
-        ..
-    } = filtering;
-    let languages = Languages {
-        limit,
-        detail,
-        cpp: Abi,
-    };
+    let languages = Languages { limit, detail, cpp };
     if legacy {
         return filter_words(alloc, input, out, &Legacy { languages }, letters);
     }
@@ -264,27 +226,31 @@ fn answer_symbols<W: Sink, E: Sink>(
         ≡ W.failure_count out.old + E.failure_count err.old + writer_faults result }
 {
     match options.asked {
-        Asked::Text => answer_abi(alloc, options, words, out, err),
-        Asked::WideText => answer_wide(alloc, options, words, out, err),
+        Asked::Text => answer_in(alloc, Abi, options, words, out, err),
+        Asked::WideText => answer_in(alloc, Wide, options, words, out, err),
         Asked::Pressed => answer_words(alloc, &Pressing, options.stats, words, out, err),
     }
 }
 
-/// Writes the lines of words where C++ is read by the ABI's first grammar.
-fn answer_abi<W: Sink, E: Sink>(
+/// Writes the lines of words, which have texts, with a grammar of C++.
+fn answer_in<C: Cpp, W: Sink, E: Sink>(
     alloc: Global,
+    cpp: C,
     options: Options,
     words: &[&str],
     out: &mut W,
     err: &mut E,
 ) -> Result<u8, FilterFault>
-    requires abi { options.asked ≡ asked.Text }
     requires out_failures { W.failure_count out.old < 2 ^ 64 - 1 }
     requires err_failures { E.failure_count err.old < 2 ^ 64 - 1 }
     ensures ok { IfOk result (λ status. Took (W.taken out.old) (W.taken out.new) (E.taken err.old) (E.taken err.new)
-        (AnswersWords (answers_of options) (counting_of options) options.stats (map (λ word. word.now) words.now) status)) }
+        (AnswersWords (answers_by C.mangled options.legacy options.limit options.detail)
+        (AreCountsBy (record { mangled = C.mangled; IsRead = C.is_read; bytes_of = C.bytes_of; whole_of = C.whole_of; are_nodes = C.are_nodes; nodes_a_byte = C.nodes_a_byte }))
+        options.stats (map (λ word. word.now) words.now) status)) }
     ensures err { OnErr result (Took (W.taken out.old) (W.taken out.new) (E.taken err.old) (E.taken err.new)
-        (AnswersFront (answers_of options) (counting_of options) options.stats (map (λ word. word.now) words.now))) }
+        (AnswersFront (answers_by C.mangled options.legacy options.limit options.detail)
+        (AreCountsBy (record { mangled = C.mangled; IsRead = C.is_read; bytes_of = C.bytes_of; whole_of = C.whole_of; are_nodes = C.are_nodes; nodes_a_byte = C.nodes_a_byte }))
+        options.stats (map (λ word. word.now) words.now))) }
     ensures fault { IfErr result (λ fault. fault ≢ FilterFault.Read) }
     ensures failures { W.failure_count out.new + E.failure_count err.new
         ≡ W.failure_count out.old + E.failure_count err.old + writer_faults result }
@@ -296,48 +262,7 @@ fn answer_abi<W: Sink, E: Sink>(
         legacy,
         ..
     } = options;
-    let languages = Languages {
-        limit,
-        detail,
-        cpp: Abi,
-    };
-    if legacy {
-        return answer_words(alloc, &Legacy { languages }, stats, words, out, err);
-    }
-    answer_words(alloc, &languages, stats, words, out, err)
-}
-
-/// Writes the lines of words where C++ is read by the wide grammar.
-fn answer_wide<W: Sink, E: Sink>(
-    alloc: Global,
-    options: Options,
-    words: &[&str],
-    out: &mut W,
-    err: &mut E,
-) -> Result<u8, FilterFault>
-    requires wide { options.asked ≡ asked.WideText }
-    requires out_failures { W.failure_count out.old < 2 ^ 64 - 1 }
-    requires err_failures { E.failure_count err.old < 2 ^ 64 - 1 }
-    ensures ok { IfOk result (λ status. Took (W.taken out.old) (W.taken out.new) (E.taken err.old) (E.taken err.new)
-        (AnswersWords (answers_of options) (counting_of options) options.stats (map (λ word. word.now) words.now) status)) }
-    ensures err { OnErr result (Took (W.taken out.old) (W.taken out.new) (E.taken err.old) (E.taken err.new)
-        (AnswersFront (answers_of options) (counting_of options) options.stats (map (λ word. word.now) words.now))) }
-    ensures fault { IfErr result (λ fault. fault ≢ FilterFault.Read) }
-    ensures failures { W.failure_count out.new + E.failure_count err.new
-        ≡ W.failure_count out.old + E.failure_count err.old + writer_faults result }
-{
-    let Options {
-        limit,
-        detail,
-        stats,
-        legacy,
-        ..
-    } = options;
-    let languages = Languages {
-        limit,
-        detail,
-        cpp: Wide,
-    };
+    let languages = Languages { limit, detail, cpp };
     if legacy {
         return answer_words(alloc, &Legacy { languages }, stats, words, out, err);
     }

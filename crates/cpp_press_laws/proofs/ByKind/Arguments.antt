@@ -14,7 +14,6 @@ use Rattle.cpp_press_laws.proofs.Fits.Symbols.{WholeFits}
 use Rattle.cpp_press_laws.proofs.Fits.Sorts.{KindFits, Meant}
 use Rattle.cpp_press_laws.proofs.Fits.Typed as step
 use Rattle.cpp_press_laws.proofs.Fits.Places.{behind-bytes}
-use Rattle.cpp_press_laws.proofs.ByKind.Rules.{OneOf}
 use Rattle.cpp_press_laws.proofs.ByKind.LeafKinds.{own-byte, only-at}
 use Rattle.cpp_press_laws.proofs.ByKind.Known.{OpenedRead, opened-read, comes-as, BranchRead}
 
@@ -49,13 +48,10 @@ char-literal around at old v new o =
 pub literal-after-d-branch : BranchRead Kind.LiteralAfterD
 unfolding alternatives
 literal-after-d-branch rule taken parts all around at old v new front is e =
-    λ outer. go (opened-read Kind.LiteralAfterD rule taken parts all around at old v new front is e)
-  where
-    go : OneOf (alternatives Kind.LiteralAfterD) (OpenedRead Kind.LiteralAfterD around at old v new)
-        → KindFits Kind.LiteralAfterD around v old new
-    go (inl o) = null-literal around at old v new o
-    go (inr (inl o)) = char-literal around at old v new o
-    go (inr (inr none)) = absurd none
+    λ outer. elim (opened-read Kind.LiteralAfterD rule taken parts all around at old v new front is e) [
+      | inl o ↦ null-literal around at old v new o
+      | inr o ↦ char-literal around at old v new o
+    ]
 
 encoding-literal : (around : Around) (at : ℕ) (old : State) (v : Value) (new : State)
     → OpenedRead Kind.Literal around at old v new Production.EncodingLiteral → KindFits Kind.Literal around v old new
@@ -109,15 +105,12 @@ integer-literal around at old v new outer o =
 pub literal-branch : BranchRead Kind.Literal
 unfolding alternatives
 literal-branch rule taken parts all around at old v new front is e =
-    λ outer. go outer (opened-read Kind.Literal rule taken parts all around at old v new front is e)
-  where
-    go : around.prefix ≡ outermost → OneOf (alternatives Kind.Literal) (OpenedRead Kind.Literal around at old v new)
-        → KindFits Kind.Literal around v old new
-    go outer (inl o) = encoding-literal around at old v new o
-    go outer (inr (inl o)) = bool-literal around at old v new o
-    go outer (inr (inr (inl o))) = literal-with-d around at old v new outer o
-    go outer (inr (inr (inr (inl o)))) = integer-literal around at old v new outer o
-    go outer (inr (inr (inr (inr none)))) = absurd none
+    λ outer. elim (opened-read Kind.Literal rule taken parts all around at old v new front is e) [
+      | inl o ↦ encoding-literal around at old v new o
+      | inr (inl o) ↦ bool-literal around at old v new o
+      | inr (inr (inl o)) ↦ literal-with-d around at old v new outer o
+      | inr (inr (inr o)) ↦ integer-literal around at old v new outer o
+    ]
 
 -- ## Addresses
 
@@ -137,12 +130,8 @@ addressed-literal around at old v new o =
 pub addressed-literal-branch : BranchRead Kind.AddressedLiteral
 unfolding alternatives
 addressed-literal-branch rule taken parts all around at old v new front is e outer =
-    go (opened-read Kind.AddressedLiteral rule taken parts all around at old v new front is e)
-  where
-    go : OneOf (alternatives Kind.AddressedLiteral) (OpenedRead Kind.AddressedLiteral around at old v new)
-        → KindFits Kind.AddressedLiteral around v old new
-    go (inl o) = addressed-literal around at old v new o
-    go (inr none) = absurd none
+    let o = opened-read Kind.AddressedLiteral rule taken parts all around at old v new front is e in
+    addressed-literal around at old v new o
 
 -- between L and E
 addressed : (around : Around) (at : ℕ) (old : State) (v : Value) (new : State) → around.prefix ≡ outermost
@@ -158,12 +147,8 @@ addressed around at old v new outer o =
 pub addressed-branch : BranchRead Kind.AddressedExpression
 unfolding alternatives
 addressed-branch rule taken parts all around at old v new front is e outer =
-    go (opened-read Kind.AddressedExpression rule taken parts all around at old v new front is e)
-  where
-    go : OneOf (alternatives Kind.AddressedExpression) (OpenedRead Kind.AddressedExpression around at old v new)
-        → KindFits Kind.AddressedExpression around v old new
-    go (inl o) = addressed around at old v new outer o
-    go (inr none) = absurd none
+    let o = opened-read Kind.AddressedExpression rule taken parts all around at old v new front is e in
+    addressed around at old v new outer o
 
 -- after the a, the operator's second letter and its operand
 address-letter : (around : Around) (at : ℕ) (old : State) (v : Value) (new : State) → around.prefix ≡ outermost
@@ -181,12 +166,8 @@ address-letter around at old v new outer o =
 pub expression-after-a-branch : BranchRead Kind.ExpressionAfterA
 unfolding alternatives
 expression-after-a-branch rule taken parts all around at old v new front is e outer =
-    go (opened-read Kind.ExpressionAfterA rule taken parts all around at old v new front is e)
-  where
-    go : OneOf (alternatives Kind.ExpressionAfterA) (OpenedRead Kind.ExpressionAfterA around at old v new)
-        → KindFits Kind.ExpressionAfterA around v old new
-    go (inl o) = address-letter around at old v new outer o
-    go (inr none) = absurd none
+    let o = opened-read Kind.ExpressionAfterA rule taken parts all around at old v new front is e in
+    address-letter around at old v new outer o
 
 -- after the X
 address : (around : Around) (at : ℕ) (old : State) (v : Value) (new : State) → around.prefix ≡ outermost
@@ -204,11 +185,8 @@ address around at old v new outer o =
 pub expression-branch : BranchRead Kind.Expression
 unfolding alternatives
 expression-branch rule taken parts all around at old v new front is e outer =
-    go (opened-read Kind.Expression rule taken parts all around at old v new front is e)
-  where
-    go : OneOf (alternatives Kind.Expression) (OpenedRead Kind.Expression around at old v new) → KindFits Kind.Expression around v old new
-    go (inl o) = address around at old v new outer o
-    go (inr none) = absurd none
+    let o = opened-read Kind.Expression rule taken parts all around at old v new front is e in
+    address around at old v new outer o
 
 -- ## Lists
 
@@ -280,34 +258,25 @@ any-element around at old v new outer o =
 pub argument-list-branch : BranchRead Kind.ArgumentList
 unfolding alternatives
 argument-list-branch rule taken parts all around at old v new front is e =
-    λ outer. go outer (opened-read Kind.ArgumentList rule taken parts all around at old v new front is e)
-  where
-    go : around.prefix ≡ outermost → OneOf (alternatives Kind.ArgumentList) (OpenedRead Kind.ArgumentList around at old v new)
-        → KindFits Kind.ArgumentList around v old new
-    go outer (inl o) = pack-argument Kind.ArgumentList around at old v new outer o
-    go outer (inr (inl o)) = literal-argument Kind.ArgumentList around at old v new outer o
-    go outer (inr (inr (inl o))) = any-argument Kind.ArgumentList around at old v new outer o
-    go outer (inr (inr (inr none))) = absurd none
+    λ outer. elim (opened-read Kind.ArgumentList rule taken parts all around at old v new front is e) [
+      | inl o ↦ pack-argument Kind.ArgumentList around at old v new outer o
+      | inr (inl o) ↦ literal-argument Kind.ArgumentList around at old v new outer o
+      | inr (inr o) ↦ any-argument Kind.ArgumentList around at old v new outer o
+    ]
 
 pub arguments-first-branch : BranchRead Kind.ArgumentsFirst
 unfolding alternatives
 arguments-first-branch rule taken parts all around at old v new front is e =
-    λ outer. go outer (opened-read Kind.ArgumentsFirst rule taken parts all around at old v new front is e)
-  where
-    go : around.prefix ≡ outermost → OneOf (alternatives Kind.ArgumentsFirst) (OpenedRead Kind.ArgumentsFirst around at old v new)
-        → KindFits Kind.ArgumentList around v old new
-    go outer (inl o) = pack-argument Kind.ArgumentsFirst around at old v new outer o
-    go outer (inr (inl o)) = literal-argument Kind.ArgumentsFirst around at old v new outer o
-    go outer (inr (inr (inl o))) = any-argument Kind.ArgumentsFirst around at old v new outer o
-    go outer (inr (inr (inr none))) = absurd none
+    λ outer. elim (opened-read Kind.ArgumentsFirst rule taken parts all around at old v new front is e) [
+      | inl o ↦ pack-argument Kind.ArgumentsFirst around at old v new outer o
+      | inr (inl o) ↦ literal-argument Kind.ArgumentsFirst around at old v new outer o
+      | inr (inr o) ↦ any-argument Kind.ArgumentsFirst around at old v new outer o
+    ]
 
 pub pack-list-branch : BranchRead Kind.PackList
 unfolding alternatives
 pack-list-branch rule taken parts all around at old v new front is e =
-    λ outer. go outer (opened-read Kind.PackList rule taken parts all around at old v new front is e)
-  where
-    go : around.prefix ≡ outermost → OneOf (alternatives Kind.PackList) (OpenedRead Kind.PackList around at old v new)
-        → KindFits Kind.PackList around v old new
-    go outer (inl o) = literal-element around at old v new outer o
-    go outer (inr (inl o)) = any-element around at old v new outer o
-    go outer (inr (inr none)) = absurd none
+    λ outer. elim (opened-read Kind.PackList rule taken parts all around at old v new front is e) [
+      | inl o ↦ literal-element around at old v new outer o
+      | inr o ↦ any-element around at old v new outer o
+    ]

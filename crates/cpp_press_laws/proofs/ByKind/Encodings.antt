@@ -26,7 +26,7 @@ use Rattle.cpp_press_laws.proofs.ByKind.AbiTrees.{known, tree_good}
 use Rattle.cpp_press_laws.specs.Pressing.{is_encoding}
 use Rattle.cpp_press_laws.proofs.Components.Complete.{AllBefore}
 use Rattle.cpp_press_laws.specs.Fits.{item_type, IsSpellableThunk}
-use Rattle.cpp_press_laws.proofs.ByKind.Rules.{OneOf, Opened, opened}
+use Rattle.cpp_press_laws.proofs.ByKind.Rules.{Opened, opened}
 use Rattle.cpp_press_laws.proofs.Fits.Lists.{IsList, ListFits}
 use Rattle.cpp_press_laws.proofs.Fits.Nests.{OwnNameFits}
 use Rattle.cpp_press_laws.proofs.Fits.Encodings.{AllAfter, AllShut}
@@ -252,14 +252,11 @@ special-read around at old v new front o =
 pub encoding-branch : BranchRead Kind.Encoding
 unfolding alternatives number_of_kind
 encoding-branch rule taken parts all around at old v new front is e =
-    go (opened ShapeRead Kind.Encoding rule taken parts all around at old (found (v ∷ []) new) is e)
-  where
-    go : OneOf (alternatives Kind.Encoding) (Opened ShapeRead Kind.Encoding around at old (found (v ∷ []) new))
-        → EncodingRead around v old new
-    go (inl o) = special-read around at old v new front o
-    go (inr (inl o)) = guard-read around at old v new front o
-    go (inr (inr (inl o))) = function-read around at old v new front o
-    go (inr (inr (inr none))) = absurd none
+    elim (opened ShapeRead Kind.Encoding rule taken parts all around at old (found (v ∷ []) new) is e) [
+      | inl o ↦ special-read around at old v new front o
+      | inr (inl o) ↦ guard-read around at old v new front o
+      | inr (inr o) ↦ function-read around at old v new front o
+    ]
 
 -- ## What comes after a G
 
@@ -280,11 +277,8 @@ special-name-read around at old v new o outer =
 pub special-after-g-branch : BranchRead Kind.SpecialAfterG
 unfolding alternatives
 special-after-g-branch rule taken parts all around at old v new front is e =
-    go (opened-read Kind.SpecialAfterG rule taken parts all around at old v new front is e)
-  where
-    go : OneOf (alternatives Kind.SpecialAfterG) (OpenedRead Kind.SpecialAfterG around at old v new) → KindRead Kind.SpecialAfterG around v old new
-    go (inl o) = special-name-read around at old v new o
-    go (inr none) = absurd none
+    let o = opened-read Kind.SpecialAfterG rule taken parts all around at old v new front is e in
+    special-name-read around at old v new o
 
 -- ## What comes after a T
 
@@ -359,11 +353,9 @@ covariant-read around at old v new o outer =
 pub special-branch : BranchRead Kind.Special
 unfolding alternatives
 special-branch rule taken parts all around at old v new front is e =
-    go (opened-read Kind.Special rule taken parts all around at old v new front is e)
-  where
-    go : OneOf (alternatives Kind.Special) (OpenedRead Kind.Special around at old v new) → KindRead Kind.Special around v old new
-    go (inl o) = special-type-read around at old v new o
-    go (inr (inl o)) = non-virtual-read around at old v new o
-    go (inr (inr (inl o))) = virtual-read around at old v new o
-    go (inr (inr (inr (inl o)))) = covariant-read around at old v new o
-    go (inr (inr (inr (inr none)))) = absurd none
+    elim (opened-read Kind.Special rule taken parts all around at old v new front is e) [
+      | inl o ↦ special-type-read around at old v new o
+      | inr (inl o) ↦ non-virtual-read around at old v new o
+      | inr (inr (inl o)) ↦ virtual-read around at old v new o
+      | inr (inr (inr o)) ↦ covariant-read around at old v new o
+    ]

@@ -22,7 +22,6 @@ use Rattle.cpp_press_laws.proofs.Fits.Locals.{local-typed, local-own}
 use Rattle.cpp_press_laws.proofs.Fits.Sorts.{KindFits}
 use Rattle.cpp_press_laws.proofs.Fits.Own.{piece-entity}
 use Rattle.cpp_press_laws.proofs.ByKind.Pieces.{string-literal-fits, type-begins, begins-entity}
-use Rattle.cpp_press_laws.proofs.ByKind.Rules.{OneOf}
 use Rattle.cpp_press_laws.proofs.ByKind.Known.{EncodingRead, KindRead, BranchRead, InFront, OpenedRead, opened-read, comes-as, kind-comes}
 use Rattle.cpp_press_laws.proofs.ByKind.Pieced.{PieceRead, renamed, source-comes, internal-comes, local-type-comes}
 
@@ -203,7 +202,13 @@ type-reads around t old new one = one
 pub entity-branch : BranchRead Kind.Entity
 unfolding alternatives
 entity-branch rule taken parts all around at old v new front is e =
-    go (opened-read Kind.Entity rule taken parts all around at old v new front is e)
+    elim (opened-read Kind.Entity rule taken parts all around at old v new front is e) [
+      | inl o ↦ string-read around at old v new o
+      | inr (inl o) ↦ nested-entity-read around at old v new o
+      | inr (inr (inl o)) ↦ piece (internal-comes Kind.Entity around at old v new o)
+      | inr (inr (inr (inl o))) ↦ typed (local-type-comes Kind.Entity around at old v new o)
+      | inr (inr (inr (inr o))) ↦ typed (source-comes Kind.Entity around at old v new o)
+    ]
   where
     piece : PieceRead begins_name around v old new → KindRead Kind.Entity around v old new
     piece o = entity-piece Kind.Entity plain_name name-pieces name-reads around v old new o
@@ -211,29 +216,19 @@ entity-branch rule taken parts all around at old v new front is e =
     typed : PieceRead names_type around v old new → KindRead Kind.Entity around v old new
     typed o = piece (renamed names_type begins_name around v old new type-begins o)
 
-    go : OneOf (alternatives Kind.Entity) (OpenedRead Kind.Entity around at old v new) → KindRead Kind.Entity around v old new
-    go (inl o) = string-read around at old v new o
-    go (inr (inl o)) = nested-entity-read around at old v new o
-    go (inr (inr (inl o))) = piece (internal-comes Kind.Entity around at old v new o)
-    go (inr (inr (inr (inl o)))) = typed (local-type-comes Kind.Entity around at old v new o)
-    go (inr (inr (inr (inr (inl o))))) = typed (source-comes Kind.Entity around at old v new o)
-    go (inr (inr (inr (inr (inr none))))) = absurd none
-
 -- a type in the scope of an encoding, where its parts were read so
 pub type-entity-branch : BranchRead Kind.TypeEntity
 unfolding alternatives
 type-entity-branch rule taken parts all around at old v new front is e =
-    go (opened-read Kind.TypeEntity rule taken parts all around at old v new front is e)
+    elim (opened-read Kind.TypeEntity rule taken parts all around at old v new front is e) [
+      | inl o ↦ nested-type-read around at old v new o
+      | inr (inl o) ↦ piece (internal-comes Kind.TypeEntity around at old v new o)
+      | inr (inr (inl o)) ↦ typed (local-type-comes Kind.TypeEntity around at old v new o)
+      | inr (inr (inr o)) ↦ typed (source-comes Kind.TypeEntity around at old v new o)
+    ]
   where
     piece : PieceRead begins_name around v old new → KindRead Kind.TypeEntity around v old new
     piece o = entity-piece Kind.TypeEntity in_type type-pieces type-reads around v old new o
 
     typed : PieceRead names_type around v old new → KindRead Kind.TypeEntity around v old new
     typed o = piece (renamed names_type begins_name around v old new type-begins o)
-
-    go : OneOf (alternatives Kind.TypeEntity) (OpenedRead Kind.TypeEntity around at old v new) → KindRead Kind.TypeEntity around v old new
-    go (inl o) = nested-type-read around at old v new o
-    go (inr (inl o)) = piece (internal-comes Kind.TypeEntity around at old v new o)
-    go (inr (inr (inl o))) = typed (local-type-comes Kind.TypeEntity around at old v new o)
-    go (inr (inr (inr (inl o)))) = typed (source-comes Kind.TypeEntity around at old v new o)
-    go (inr (inr (inr (inr none)))) = absurd none

@@ -405,8 +405,9 @@ opened-read kind rule taken parts all around at old v new front is e =
     each : (some : List Alternative) → OneOf some (Opened ShapeRead kind around at old (found (v ∷ []) new))
         → OneOf some (OpenedRead kind around at old v new)
     each [] o = o
-    each (a ∷ rest) (inl o) = inl (opened-as kind around at old v new (OfKind (number_of_kind kind)) front a.production o)
-    each (a ∷ rest) (inr o) = inr (each rest o)
+    each (a ∷ []) o = opened-as kind around at old v new (OfKind (number_of_kind kind)) front a.production o
+    each (a ∷ b ∷ rest) (inl o) = inl (opened-as kind around at old v new (OfKind (number_of_kind kind)) front a.production o)
+    each (a ∷ b ∷ rest) (inr o) = inr (each (b ∷ rest) o)
 
 -- what one kind takes at each byte another one does
 pub taken-as : (j k : Kind) → each_below 256 (λ b. same_choice (choose j b) (choose k b)) ≡ true
@@ -456,9 +457,12 @@ kind-comes kind p plain byte around at old vs mid v new e one =
     comes-as (λ w s. KindRead kind around w old s) p plain byte around at old vs mid v new e one
 
 -- what is known of each branch of a kind, where its parts were read
-abbrev pub BranchRead : Kind → Type 0
-BranchRead kind =
+abbrev pub BranchTo : Kind → (Around → Value → (old new : State) → Type 0) → Type 0
+BranchTo kind R =
     (rule : Rule) (taken : List ℕ) (parts : Forest) → AllOf ShapeRead parts → (around : Around) (at : ℕ) (old : State) (v : Value)
     (new : State)
     → InFront (OfKind (number_of_kind kind)) around at old → IsTree abi (OfKind (number_of_kind kind)) (branch rule taken parts)
-    → unfold_tree cpp around at (branch rule taken parts) old ≡ Ok (found (v ∷ []) new) → KindRead kind around v old new
+    → unfold_tree cpp around at (branch rule taken parts) old ≡ Ok (found (v ∷ []) new) → R around v old new
+
+abbrev pub BranchRead : Kind → Type 0
+BranchRead kind = BranchTo kind (KindRead kind)

@@ -69,8 +69,9 @@ OnlyMarks (a ∷ rest) = (a.production ≡ Production.Mark) × OnlyMarks rest
 
 one-mark : (all : List Alternative) (F : Production → Type 0) → OnlyMarks all → OneOf all F → F Production.Mark
 one-mark [] F only one = absurd one
-one-mark (a ∷ rest) F only (inl f) = subst F only.0 f
-one-mark (a ∷ rest) F only (inr more) = one-mark rest F only.1 more
+one-mark (a ∷ []) F only f = subst F only.0 f
+one-mark (a ∷ b ∷ rest) F only (inl f) = subst F only.0 f
+one-mark (a ∷ b ∷ rest) F only (inr more) = one-mark (b ∷ rest) F only.1 more
 
 -- a mark that was taken
 pub mark-taken : (kind : Kind) (Q : Value → Type 0) (around : Around) (at : ℕ) (state after : State) (v : Value)
@@ -198,13 +199,10 @@ positive-read around at state after v o =
 pub integer-read : (t : Shape) → LeafAs (OfKind (number_of_kind Kind.Integer)) IntegerRead t
 unfolding alternatives abi sheet sheet_with may_be_empty kinds number_of_kind
 integer-read (branch rule taken parts) around at state after v is e =
-    go (opened AnyShape Kind.Integer rule taken parts (any-parts parts) around at state (found (v ∷ []) after) is e)
-  where
-    go : OneOf (alternatives Kind.Integer) (Opened AnyShape Kind.Integer around at state (found (v ∷ []) after))
-        → (after ≡ state) × IntegerRead v
-    go (inl o) = negative-read around at state after v o
-    go (inr (inl o)) = positive-read around at state after v o
-    go (inr (inr none)) = absurd none
+    elim (opened AnyShape Kind.Integer rule taken parts (any-parts parts) around at state (found (v ∷ []) after) is e) [
+      | inl o ↦ negative-read around at state after v o
+      | inr o ↦ positive-read around at state after v o
+    ]
 integer-read empty around at state after v is e = absurd (false≢true is)
 integer-read (token t) around at state after v is e = absurd is
 integer-read (fixed b) around at state after v is e = absurd is
@@ -244,13 +242,10 @@ virtual-read around at state after v o =
 pub offset-read : (t : Shape) → LeafAs (OfKind (number_of_kind Kind.CallOffset)) OffsetRead t
 unfolding alternatives abi sheet sheet_with may_be_empty kinds number_of_kind
 offset-read (branch rule taken parts) around at state after v is e =
-    go (opened AnyShape Kind.CallOffset rule taken parts (any-parts parts) around at state (found (v ∷ []) after) is e)
-  where
-    go : OneOf (alternatives Kind.CallOffset) (Opened AnyShape Kind.CallOffset around at state (found (v ∷ []) after))
-        → (after ≡ state) × OffsetRead v
-    go (inl o) = non-virtual-read around at state after v o
-    go (inr (inl o)) = virtual-read around at state after v o
-    go (inr (inr none)) = absurd none
+    elim (opened AnyShape Kind.CallOffset rule taken parts (any-parts parts) around at state (found (v ∷ []) after) is e) [
+      | inl o ↦ non-virtual-read around at state after v o
+      | inr o ↦ virtual-read around at state after v o
+    ]
 offset-read empty around at state after v is e = absurd (false≢true is)
 offset-read (token t) around at state after v is e = absurd is
 offset-read (fixed b) around at state after v is e = absurd is
@@ -296,13 +291,10 @@ many-digits-read around at state after v o =
 pub discriminator-rest-read : (t : Shape) → LeafAs (OfKind (number_of_kind Kind.DiscriminatorRest)) DiscriminatorRead t
 unfolding alternatives abi sheet sheet_with may_be_empty kinds number_of_kind
 discriminator-rest-read (branch rule taken parts) around at state after v is e =
-    go (opened AnyShape Kind.DiscriminatorRest rule taken parts (any-parts parts) around at state (found (v ∷ []) after) is e)
-  where
-    go : OneOf (alternatives Kind.DiscriminatorRest) (Opened AnyShape Kind.DiscriminatorRest around at state (found (v ∷ []) after))
-        → (after ≡ state) × DiscriminatorRead v
-    go (inl o) = one-digit-read around at state after v o
-    go (inr (inl o)) = many-digits-read around at state after v o
-    go (inr (inr none)) = absurd none
+    elim (opened AnyShape Kind.DiscriminatorRest rule taken parts (any-parts parts) around at state (found (v ∷ []) after) is e) [
+      | inl o ↦ one-digit-read around at state after v o
+      | inr o ↦ many-digits-read around at state after v o
+    ]
 discriminator-rest-read empty around at state after v is e = absurd (false≢true is)
 discriminator-rest-read (token t) around at state after v is e = absurd is
 discriminator-rest-read (fixed b) around at state after v is e = absurd is
@@ -320,12 +312,8 @@ discriminator-behind-mark around at state after v o =
 pub discriminator-read : (t : Shape) → LeafAs (OfKind (number_of_kind Kind.MaybeDiscriminator)) DiscriminatorRead t
 unfolding alternatives cpp discriminator_of
 discriminator-read (branch rule taken parts) around at state after v is e =
-    go (opened AnyShape Kind.MaybeDiscriminator rule taken parts (any-parts parts) around at state (found (v ∷ []) after) is e)
-  where
-    go : OneOf (alternatives Kind.MaybeDiscriminator) (Opened AnyShape Kind.MaybeDiscriminator around at state (found (v ∷ []) after))
-        → (after ≡ state) × DiscriminatorRead v
-    go (inl o) = discriminator-behind-mark around at state after v o
-    go (inr none) = absurd none
+    let o = opened AnyShape Kind.MaybeDiscriminator rule taken parts (any-parts parts) around at state (found (v ∷ []) after) is e in
+    discriminator-behind-mark around at state after v o
 discriminator-read empty around at state after v is e =
     leaf-same DiscriminatorRead v nothing_there state after (sym (ok_same _ _ e)) tt
 discriminator-read (token t) around at state after v is e = absurd is
@@ -351,13 +339,10 @@ literal-name-read around at state after v o =
 pub literal-letter-read : (t : Shape) → LeafAs (OfKind (number_of_kind Kind.OperatorAfterL)) LiteralLetterRead t
 unfolding alternatives abi sheet sheet_with may_be_empty kinds number_of_kind letter_of
 literal-letter-read (branch rule taken parts) around at state after v is e =
-    go (opened AnyShape Kind.OperatorAfterL rule taken parts (any-parts parts) around at state (found (v ∷ []) after) is e)
-  where
-    go : OneOf (alternatives Kind.OperatorAfterL) (Opened AnyShape Kind.OperatorAfterL around at state (found (v ∷ []) after))
-        → (after ≡ state) × LiteralLetterRead v
-    go (inl o) = mark-taken Kind.OperatorAfterL LiteralLetterRead around at state after v o (λ byte is. inl (refl, is))
-    go (inr (inl o)) = literal-name-read around at state after v o
-    go (inr (inr none)) = absurd none
+    elim (opened AnyShape Kind.OperatorAfterL rule taken parts (any-parts parts) around at state (found (v ∷ []) after) is e) [
+      | inl o ↦ mark-taken Kind.OperatorAfterL LiteralLetterRead around at state after v o (λ byte is. inl (refl, is))
+      | inr o ↦ literal-name-read around at state after v o
+    ]
 literal-letter-read empty around at state after v is e = absurd (false≢true is)
 literal-letter-read (token t) around at state after v is e = absurd is
 literal-letter-read (fixed b) around at state after v is e = absurd is

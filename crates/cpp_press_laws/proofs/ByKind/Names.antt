@@ -23,7 +23,6 @@ use Rattle.cpp_press_laws.proofs.Fits.Sorts.{NameRead, KindFits}
 use Rattle.cpp_press_laws.proofs.Fits.Typed.{abbreviated-type, name-type, parameter-name, type-with-s, arguments-read}
 use Rattle.cpp_press_laws.proofs.Fits.Own.{piece-solid, piece-own, nest-solid, std-own, named-own}
 use Rattle.cpp_press_laws.proofs.ByKind.Pieces.{type-begins, begins-function}
-use Rattle.cpp_press_laws.proofs.ByKind.Rules.{OneOf}
 use Rattle.cpp_press_laws.proofs.ByKind.Known.{OwnNameRead, InFront, PartRead, PartsRead, OpenedRead, opened-read, comes-as, BranchRead}
 use Rattle.cpp_press_laws.proofs.ByKind.Pieced.{PieceRead, renamed, source-comes, internal-comes, local-type-comes, operator-comes}
 use Rattle.cpp_press_laws.proofs.ByKind.Nests.{parameter-goes}
@@ -48,32 +47,20 @@ arguments-come kind around at old v new o =
 pub arguments-branch : BranchRead Kind.Arguments
 unfolding alternatives
 arguments-branch rule taken parts all around at old v new front is e =
-    go (opened-read Kind.Arguments rule taken parts all around at old v new front is e)
-  where
-    go : OneOf (alternatives Kind.Arguments) (OpenedRead Kind.Arguments around at old v new)
-        → (v ≡ tree (tree_of v) true) × KindFits Kind.Arguments around v old new
-    go (inl o) = arguments-come Kind.Arguments around at old v new o
-    go (inr none) = absurd none
+    let o = opened-read Kind.Arguments rule taken parts all around at old v new front is e in
+    arguments-come Kind.Arguments around at old v new o
 
 pub maybe-arguments-branch : BranchRead Kind.MaybeArguments
 unfolding alternatives
 maybe-arguments-branch rule taken parts all around at old v new front is e =
-    go (opened-read Kind.MaybeArguments rule taken parts all around at old v new front is e)
-  where
-    go : OneOf (alternatives Kind.MaybeArguments) (OpenedRead Kind.MaybeArguments around at old v new)
-        → KindFits Kind.MaybeArguments around v old new
-    go (inl o) = inr (arguments-come Kind.MaybeArguments around at old v new o)
-    go (inr none) = absurd none
+    let o = opened-read Kind.MaybeArguments rule taken parts all around at old v new front is e in
+    inr (arguments-come Kind.MaybeArguments around at old v new o)
 
 pub arguments-alone-branch : BranchRead Kind.ArgumentsAlone
 unfolding alternatives
 arguments-alone-branch rule taken parts all around at old v new front is e =
-    go (opened-read Kind.ArgumentsAlone rule taken parts all around at old v new front is e)
-  where
-    go : OneOf (alternatives Kind.ArgumentsAlone) (OpenedRead Kind.ArgumentsAlone around at old v new)
-        → KindFits Kind.MaybeArguments around v old new
-    go (inl o) = inr (arguments-come Kind.ArgumentsAlone around at old v new o)
-    go (inr none) = absurd none
+    let o = opened-read Kind.ArgumentsAlone rule taken parts all around at old v new front is e in
+    inr (arguments-come Kind.ArgumentsAlone around at old v new o)
 
 -- ## Types after an S
 
@@ -105,11 +92,8 @@ std-type around at old v new o =
 pub type-in-std-branch : BranchRead Kind.TypeInStd
 unfolding alternatives
 type-in-std-branch rule taken parts all around at old v new front is e outer =
-    go (opened-read Kind.TypeInStd rule taken parts all around at old v new front is e)
-  where
-    go : OneOf (alternatives Kind.TypeInStd) (OpenedRead Kind.TypeInStd around at old v new) → NameRead around v old new
-    go (inl o) = std-type around at old v new o
-    go (inr none) = absurd none
+    let o = opened-read Kind.TypeInStd rule taken parts all around at old v new front is e in
+    std-type around at old v new o
 
 pub maybe-tags-branch : BranchRead Kind.MaybeTags
 unfolding alternatives
@@ -136,12 +120,10 @@ abbreviated around at old v new o =
 pub type-after-s-branch : BranchRead Kind.TypeAfterS
 unfolding alternatives
 type-after-s-branch rule taken parts all around at old v new front is e outer =
-    go (opened-read Kind.TypeAfterS rule taken parts all around at old v new front is e)
-  where
-    go : OneOf (alternatives Kind.TypeAfterS) (OpenedRead Kind.TypeAfterS around at old v new) → NameRead around v old new
-    go (inl o) = in-std around at old v new outer o
-    go (inr (inl o)) = abbreviated around at old v new o
-    go (inr (inr none)) = absurd none
+    elim (opened-read Kind.TypeAfterS rule taken parts all around at old v new front is e) [
+      | inl o ↦ in-std around at old v new outer o
+      | inr o ↦ abbreviated around at old v new o
+    ]
 
 -- ## Names as types
 
@@ -194,11 +176,8 @@ parameter-argument around at old v new front o =
 pub argument-after-t-branch : BranchRead Kind.ArgumentAfterT
 unfolding alternatives
 argument-after-t-branch rule taken parts all around at old v new front is e outer =
-    go (opened-read Kind.ArgumentAfterT rule taken parts all around at old v new front is e)
-  where
-    go : OneOf (alternatives Kind.ArgumentAfterT) (OpenedRead Kind.ArgumentAfterT around at old v new) → SolidFits takes_all around v old new
-    go (inl o) = parameter-argument around at old v new front o
-    go (inr none) = absurd none
+    let o = opened-read Kind.ArgumentAfterT rule taken parts all around at old v new front is e in
+    parameter-argument around at old v new front o
 
 pub nested-solid : (takes : Slot → Bool) (kind : Kind) (around : Around) (at : ℕ) (old : State) (v : Value) (new : State)
     → InFront (OfKind (number_of_kind kind)) around at old → around.prefix ≡ outermost
@@ -308,9 +287,7 @@ abbreviated-own around at old v new o =
 pub name-after-s-branch : BranchRead Kind.NameAfterS
 unfolding alternatives
 name-after-s-branch rule taken parts all around at old v new front is e outer =
-    go (opened-read Kind.NameAfterS rule taken parts all around at old v new front is e)
-  where
-    go : OneOf (alternatives Kind.NameAfterS) (OpenedRead Kind.NameAfterS around at old v new) → OwnNameRead around v old new
-    go (inl o) = std-name-own around at old v new o
-    go (inr (inl o)) = abbreviated-own around at old v new o
-    go (inr (inr none)) = absurd none
+    elim (opened-read Kind.NameAfterS rule taken parts all around at old v new front is e) [
+      | inl o ↦ std-name-own around at old v new o
+      | inr o ↦ abbreviated-own around at old v new o
+    ]

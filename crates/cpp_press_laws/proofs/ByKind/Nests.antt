@@ -90,56 +90,45 @@ nest-instance outer t listed start at old v new so_far o =
 pub nest-more-or-end-branch : BranchRead Kind.NestMoreOrEnd
 unfolding alternatives
 nest-more-or-end-branch rule taken parts all around at old v new front is e outer t start same apart prefix =
-    go (subst (λ r. OneOf (alternatives Kind.NestMoreOrEnd) (OpenedRead Kind.NestMoreOrEnd r at old v new)) same
-    (opened-read Kind.NestMoreOrEnd rule taken parts all around at old v new front is e))
-  where
-    go : OneOf (alternatives Kind.NestMoreOrEnd) (OpenedRead Kind.NestMoreOrEnd (after t false outer) at old v new) → NestRead outer v start new
-    go (inl o) = nest-next Kind.NestMoreOrEnd outer t false start at old v new apart prefix o
-    go (inr none) = absurd none
+    let o = subst (λ r. OneOf (alternatives Kind.NestMoreOrEnd) (OpenedRead Kind.NestMoreOrEnd r at old v new)) same
+    (opened-read Kind.NestMoreOrEnd rule taken parts all around at old v new front is e) in
+    nest-next Kind.NestMoreOrEnd outer t false start at old v new apart prefix o
 
 pub nest-rest-or-end-branch : BranchRead Kind.NestRestOrEnd
 unfolding alternatives
 nest-rest-or-end-branch rule taken parts all around at old v new front is e outer t listed start same so_far =
-    go (subst (λ r. OneOf (alternatives Kind.NestRestOrEnd) (OpenedRead Kind.NestRestOrEnd r at old v new)) same
-    (opened-read Kind.NestRestOrEnd rule taken parts all around at old v new front is e))
-  where
-    go : OneOf (alternatives Kind.NestRestOrEnd) (OpenedRead Kind.NestRestOrEnd (after t listed outer) at old v new) → NestRead outer v start new
-    go (inl o) = nest-instance outer t listed start at old v new so_far o
-    go (inr (inl o)) = nest-next Kind.NestRestOrEnd outer t listed start at old v new so_far.apart so_far.prefix o
-    go (inr (inr none)) = absurd none
+    elim (subst (λ r. OneOf (alternatives Kind.NestRestOrEnd) (OpenedRead Kind.NestRestOrEnd r at old v new)) same
+    (opened-read Kind.NestRestOrEnd rule taken parts all around at old v new front is e)) [
+      | inl o ↦ nest-instance outer t listed start at old v new so_far o
+      | inr o ↦ nest-next Kind.NestRestOrEnd outer t listed start at old v new so_far.apart so_far.prefix o
+    ]
 
 pub nest-tail-branch : BranchRead Kind.NestTail
 unfolding alternatives with_prefix after prefix_tree prefix_listed appended
 nest-tail-branch rule taken parts all around at old v new front is e outer t start same nest =
-    go (subst (λ r. OneOf (alternatives Kind.NestTail) (OpenedRead Kind.NestTail r at old v new)) same
-    (opened-read Kind.NestTail rule taken parts all around at old v new front is e))
-  where
-    go : OneOf (alternatives Kind.NestTail) (OpenedRead Kind.NestTail (after t false outer) at old v new) → NestRead outer v start new
-    go (inl o) = nest-end outer t start at old v new nest o
-    go (inr (inl o)) = nest-next Kind.NestTail outer t false start at old v new (λ n place cs front. nest.apart) nest.prefix o
-    go (inr (inr none)) = absurd none
+    elim (subst (λ r. OneOf (alternatives Kind.NestTail) (OpenedRead Kind.NestTail r at old v new)) same
+    (opened-read Kind.NestTail rule taken parts all around at old v new front is e)) [
+      | inl o ↦ nest-end outer t start at old v new nest o
+      | inr o ↦ nest-next Kind.NestTail outer t false start at old v new (λ n place cs front. nest.apart) nest.prefix o
+    ]
 
 pub nest-rest-branch : BranchRead Kind.NestRest
 unfolding alternatives
 nest-rest-branch rule taken parts all around at old v new front is e outer t listed start same so_far =
-    go (subst (λ r. OneOf (alternatives Kind.NestRest) (OpenedRead Kind.NestRest r at old v new)) same
-    (opened-read Kind.NestRest rule taken parts all around at old v new front is e))
-  where
-    go : OneOf (alternatives Kind.NestRest) (OpenedRead Kind.NestRest (after t listed outer) at old v new) → NestRead outer v start new
-    go (inl o) = nest-arguments Kind.NestRest outer t listed start at old v new so_far o
-    go (inr (inl o)) = nest-next Kind.NestRest outer t listed start at old v new so_far.apart so_far.prefix o
-    go (inr (inr none)) = absurd none
+    elim (subst (λ r. OneOf (alternatives Kind.NestRest) (OpenedRead Kind.NestRest r at old v new)) same
+    (opened-read Kind.NestRest rule taken parts all around at old v new front is e)) [
+      | inl o ↦ nest-arguments Kind.NestRest outer t listed start at old v new so_far o
+      | inr o ↦ nest-next Kind.NestRest outer t listed start at old v new so_far.apart so_far.prefix o
+    ]
 
 pub nest-rest-alone-branch : BranchRead Kind.NestRestAlone
 unfolding alternatives
 nest-rest-alone-branch rule taken parts all around at old v new front is e outer t listed start same so_far =
-    go (subst (λ r. OneOf (alternatives Kind.NestRestAlone) (OpenedRead Kind.NestRestAlone r at old v new)) same
-    (opened-read Kind.NestRestAlone rule taken parts all around at old v new front is e))
-  where
-    go : OneOf (alternatives Kind.NestRestAlone) (OpenedRead Kind.NestRestAlone (after t listed outer) at old v new) → NestRead outer v start new
-    go (inl o) = nest-arguments Kind.NestRestAlone outer t listed start at old v new so_far o
-    go (inr (inl o)) = nest-next Kind.NestRestAlone outer t listed start at old v new so_far.apart so_far.prefix o
-    go (inr (inr none)) = absurd none
+    elim (subst (λ r. OneOf (alternatives Kind.NestRestAlone) (OpenedRead Kind.NestRestAlone r at old v new)) same
+    (opened-read Kind.NestRestAlone rule taken parts all around at old v new front is e)) [
+      | inl o ↦ nest-arguments Kind.NestRestAlone outer t listed start at old v new so_far o
+      | inr o ↦ nest-next Kind.NestRestAlone outer t listed start at old v new so_far.apart so_far.prefix o
+    ]
 
 -- ## A piece after a prefix
 
@@ -162,16 +151,13 @@ component-with-c outer t start at old v new apart prefix o =
 pub component-after-c-branch : BranchRead Kind.ComponentAfterC
 unfolding alternatives
 component-after-c-branch rule taken parts all around at old v new front is e outer t start same apart prefix =
-    go (subst (λ r. OneOf (alternatives Kind.ComponentAfterC) (OpenedRead Kind.ComponentAfterC r at old v new)) same
-    (opened-read Kind.ComponentAfterC rule taken parts all around at old v new front is e))
+    let o = subst (λ r. OneOf (alternatives Kind.ComponentAfterC) (OpenedRead Kind.ComponentAfterC r at old v new)) same
+    (opened-read Kind.ComponentAfterC rule taken parts all around at old v new front is e) in
+    component-piece outer t start old v new apart prefix
+    (renamed names_function names_member inner v old new function-member (operator-with-c-comes Kind.ComponentAfterC inner at old v new o))
   where
     inner : Around
     inner = after t true outer
-
-    go : OneOf (alternatives Kind.ComponentAfterC) (OpenedRead Kind.ComponentAfterC inner at old v new) → NestRead outer v start new
-    go (inl o) = component-piece outer t start old v new apart prefix
-        (renamed names_function names_member inner v old new function-member (operator-with-c-comes Kind.ComponentAfterC inner at old v new o))
-    go (inr none) = absurd none
 
 any-constructor : (outer : Around) (t : Term) (start : State) (at : ℕ) (old : State) (v : Value) (new : State)
     → Wherever outer start (is_encoding t ≡ false) → PrefixFits outer t start old
@@ -185,21 +171,26 @@ any-constructor outer t start at old v new apart prefix o =
 pub constructor-after-c-branch : BranchRead Kind.ConstructorAfterC
 unfolding alternatives
 constructor-after-c-branch rule taken parts all around at old v new front is e outer t start same apart prefix =
-    go (subst (λ r. OneOf (alternatives Kind.ConstructorAfterC) (OpenedRead Kind.ConstructorAfterC r at old v new)) same
-    (opened-read Kind.ConstructorAfterC rule taken parts all around at old v new front is e))
+    let o = subst (λ r. OneOf (alternatives Kind.ConstructorAfterC) (OpenedRead Kind.ConstructorAfterC r at old v new)) same
+    (opened-read Kind.ConstructorAfterC rule taken parts all around at old v new front is e) in
+    component-piece outer t start old v new apart prefix (constructor-comes Kind.ConstructorAfterC inner at old v new o)
   where
     inner : Around
     inner = after t true outer
 
-    go : OneOf (alternatives Kind.ConstructorAfterC) (OpenedRead Kind.ConstructorAfterC inner at old v new) → NestRead outer v start new
-    go (inl o) = component-piece outer t start old v new apart prefix (constructor-comes Kind.ConstructorAfterC inner at old v new o)
-    go (inr none) = absurd none
-
 pub component-branch : BranchRead Kind.Component
 unfolding alternatives
 component-branch rule taken parts all around at old v new front is e outer t start same apart prefix =
-    go (subst (λ r. OneOf (alternatives Kind.Component) (OpenedRead Kind.Component r at old v new)) same
-    (opened-read Kind.Component rule taken parts all around at old v new front is e))
+    elim (subst (λ r. OneOf (alternatives Kind.Component) (OpenedRead Kind.Component r at old v new)) same
+    (opened-read Kind.Component rule taken parts all around at old v new front is e)) [
+      | inl o ↦ any-constructor outer t start at old v new apart prefix o
+      | inr (inl o) ↦ piece (destructor-comes Kind.Component inner at old v new o)
+      | inr (inr (inl o)) ↦ piece (renamed begins_name names_member inner v old new begun (internal-comes Kind.Component inner at old v new o))
+      | inr (inr (inr (inl o))) ↦ typed (local-type-comes Kind.Component inner at old v new o)
+      | inr (inr (inr (inr (inl o)))) ↦ typed (source-comes Kind.Component inner at old v new o)
+      | inr (inr (inr (inr (inr (inl o))))) ↦ component-with-c outer t start at old v new apart prefix o
+      | inr (inr (inr (inr (inr (inr o))))) ↦ piece (renamed names_function names_member inner v old new function-member (other-operator-comes Kind.Component inner at old v new o))
+    ]
   where
     inner : Around
     inner = after t true outer
@@ -212,18 +203,6 @@ component-branch rule taken parts all around at old v new front is e outer t sta
 
     typed : PieceRead names_type inner v old new → NestRead outer v start new
     typed o = piece (renamed names_type names_member inner v old new (λ p names. begun p (type-begins p names)) o)
-
-    go : OneOf (alternatives Kind.Component) (OpenedRead Kind.Component inner at old v new) → NestRead outer v start new
-    go (inl o) = any-constructor outer t start at old v new apart prefix o
-    go (inr (inl o)) = piece (destructor-comes Kind.Component inner at old v new o)
-    go (inr (inr (inl o))) =
-        piece (renamed begins_name names_member inner v old new begun (internal-comes Kind.Component inner at old v new o))
-    go (inr (inr (inr (inl o)))) = typed (local-type-comes Kind.Component inner at old v new o)
-    go (inr (inr (inr (inr (inl o))))) = typed (source-comes Kind.Component inner at old v new o)
-    go (inr (inr (inr (inr (inr (inl o)))))) = component-with-c outer t start at old v new apart prefix o
-    go (inr (inr (inr (inr (inr (inr (inl o))))))) =
-        piece (renamed names_function names_member inner v old new function-member (other-operator-comes Kind.Component inner at old v new o))
-    go (inr (inr (inr (inr (inr (inr (inr none))))))) = absurd none
 
 -- ## The first part
 
@@ -309,15 +288,13 @@ nest-parameter around at old v new bare o =
 pub nest-branch : BranchRead Kind.Nest
 unfolding alternatives
 nest-branch rule taken parts all around at old v new front is e begins =
-    go (opened-read Kind.Nest rule taken parts all around at old v new front is e)
-  where
-    go : OneOf (alternatives Kind.Nest) (OpenedRead Kind.Nest around at old v new) → NestRead around v old new
-    go (inl o) = nest-with-s around at old v new begins o
-    go (inr (inl o)) = nest-parameter around at old v new front.placed.lambda o
-    go (inr (inr (inl o))) = nest-internal around at old v new begins o
-    go (inr (inr (inr (inl o)))) = nest-local-type around at old v new begins o
-    go (inr (inr (inr (inr (inl o))))) = nest-source around at old v new begins o
-    go (inr (inr (inr (inr (inr none))))) = absurd none
+    elim (opened-read Kind.Nest rule taken parts all around at old v new front is e) [
+      | inl o ↦ nest-with-s around at old v new begins o
+      | inr (inl o) ↦ nest-parameter around at old v new front.placed.lambda o
+      | inr (inr (inl o)) ↦ nest-internal around at old v new begins o
+      | inr (inr (inr (inl o))) ↦ nest-local-type around at old v new begins o
+      | inr (inr (inr (inr o))) ↦ nest-source around at old v new begins o
+    ]
 
 -- ## After an S
 
@@ -350,9 +327,7 @@ nest-template around at old v new o =
 pub nest-after-s-branch : BranchRead Kind.NestAfterS
 unfolding alternatives
 nest-after-s-branch rule taken parts all around at old v new front is e begins =
-    go (opened-read Kind.NestAfterS rule taken parts all around at old v new front is e)
-  where
-    go : OneOf (alternatives Kind.NestAfterS) (OpenedRead Kind.NestAfterS around at old v new) → NestRead around v old new
-    go (inl o) = nest-std around at old v new o
-    go (inr (inl o)) = nest-template around at old v new o
-    go (inr (inr none)) = absurd none
+    elim (opened-read Kind.NestAfterS rule taken parts all around at old v new front is e) [
+      | inl o ↦ nest-std around at old v new o
+      | inr o ↦ nest-template around at old v new o
+    ]

@@ -12,8 +12,8 @@ use Rattle.sym_link.specs.Unfold.{found, unfold_tree}
 use Rattle.cpp_grammar.specs.declared.kind.Kind.{Kind}
 use Rattle.cpp_grammar.specs.declared.production.Production.{Production}
 use Rattle.cpp_grammar.specs.KindNumbers.{ITEM, ITEMS}
-use Rattle.cpp_grammar.specs.Grammar.{alternatives, choose, pick, is_in, in_ranges, among, kinds, may_be_empty, is_chain, number_of_kind, number_of, parts_of}
-use Rattle.cpp_grammar.specs.Table.{abi, sheet, sheet_with}
+use Rattle.cpp_grammar.specs.Grammar.{alternatives, choose, pick, is_in, in_ranges, among, kinds, is_chain, number_of_kind, number_of, parts_of}
+use Rattle.cpp_grammar.specs.Table.{abi}
 use Rattle.cpp_grammar.specs.Term.{Term, operator, literal_operator, source, lambda, unnamed, list}
 use Rattle.cpp_grammar.specs.Values.{Candidate, State, Around, Value, letter, text, piece, tree_of, piece_of, letter_of, text_of, local_number, part}
 use Rattle.cpp_grammar.specs.Between.{Going, between, in_signature, no_items}
@@ -29,9 +29,9 @@ use Rattle.cpp_press_laws.proofs.Fits.Names.{PieceFits}
 use Rattle.cpp_press_laws.proofs.ByKind.Rules.{OneOf}
 use Rattle.cpp_press_laws.proofs.ByKind.Leaves.{leaf-same}
 use Rattle.cpp_press_laws.proofs.ByKind.Pieces.{source-fits, operator-fits, literal-operator-fits, unnamed-fits, ShutOrInside, lambda-fits, begins-function}
-use Rattle.cpp_press_laws.proofs.ByKind.LeafKinds.{own-byte, LetterRead, mark-read, letter-read, literal-letter-read, integer-read, offset-read, discriminator-read, discriminator-rest-read}
+use Rattle.cpp_press_laws.proofs.ByKind.LeafKinds.{own-byte, LetterRead, mark-read, letter-read, literal-letter-read, integer-read, offset-read, discriminator-read, discriminator-rest-read, OnlyMarks}
 use Rattle.cpp_grammar.proofs.Growing.{same_choice, each_below}
-use Rattle.cpp_press_laws.proofs.ByKind.Known.{MarkRead, OpenedRead, opened-read, taken-as, comes-as, BranchRead}
+use Rattle.cpp_press_laws.proofs.ByKind.Known.{MarkRead, OpenedRead, opened-read, taken-as, comes-as, BranchTo, BranchRead}
 
 -- a piece of a name, of the sort that is there
 abbrev PieceAs : (names : Term → Bool) → Around → Value → (old new : State) → Type 0
@@ -87,29 +87,24 @@ operator-piece kind around at old v new o =
 pub source-or-local-branch : BranchRead Kind.SourceOrLocal
 unfolding alternatives
 source-or-local-branch rule taken parts all around at old v new front is e =
-    go (opened-read Kind.SourceOrLocal rule taken parts all around at old v new front is e)
-  where
-    go : OneOf (alternatives Kind.SourceOrLocal) (OpenedRead Kind.SourceOrLocal around at old v new)
-        → PieceAs begins_name around v old new
-    go (inl o) = internal-piece Kind.SourceOrLocal around at old v new o
-    go (inr (inl o)) = local-type-piece Kind.SourceOrLocal around at old v new o
-    go (inr (inr (inl o))) = source-piece Kind.SourceOrLocal around at old v new o
-    go (inr (inr (inr none))) = absurd none
+    elim (opened-read Kind.SourceOrLocal rule taken parts all around at old v new front is e) [
+      | inl o ↦ internal-piece Kind.SourceOrLocal around at old v new o
+      | inr (inl o) ↦ local-type-piece Kind.SourceOrLocal around at old v new o
+      | inr (inr o) ↦ source-piece Kind.SourceOrLocal around at old v new o
+    ]
 
 pub unqualified-branch : BranchRead Kind.Unqualified
 unfolding alternatives
 unqualified-branch rule taken parts all around at old v new front is e =
-    go (opened-read Kind.Unqualified rule taken parts all around at old v new front is e)
+    elim (opened-read Kind.Unqualified rule taken parts all around at old v new front is e) [
+      | inl o ↦ named (internal-piece Kind.Unqualified around at old v new o)
+      | inr (inl o) ↦ named (local-type-piece Kind.Unqualified around at old v new o)
+      | inr (inr (inl o)) ↦ named (source-piece Kind.Unqualified around at old v new o)
+      | inr (inr (inr o)) ↦ operator-piece Kind.Unqualified around at old v new o
+    ]
   where
     named : PieceAs begins_name around v old new → PieceAs names_function around v old new
     named one = (begins-function (piece_of v) one.0, one.1)
-
-    go : OneOf (alternatives Kind.Unqualified) (OpenedRead Kind.Unqualified around at old v new) → PieceAs names_function around v old new
-    go (inl o) = named (internal-piece Kind.Unqualified around at old v new o)
-    go (inr (inl o)) = named (local-type-piece Kind.Unqualified around at old v new o)
-    go (inr (inr (inl o))) = named (source-piece Kind.Unqualified around at old v new o)
-    go (inr (inr (inr (inl o)))) = operator-piece Kind.Unqualified around at old v new o
-    go (inr (inr (inr (inr none)))) = absurd none
 
 -- ## Operators
 
@@ -236,12 +231,11 @@ operator-read around at old v new (inr (inr (inr (inr (inr (inr (inr (inr (inr (
     letters-come Production.OperatorI Kind.OperatorAfterI
     (record { at = refl; parts = refl; own = refl; goes = λ a p s. refl; opens = λ p f s. refl; means = λ x y a p b s. refl })
     around at old v new o g.value g.after (g.read Kind.OperatorAfterI refl) g.onward
-operator-read around at old v new (inr (inr (inr (inr (inr (inr (inr (inr (inr (inr (inr (inr (inl o))))))))))))) =
+operator-read around at old v new (inr (inr (inr (inr (inr (inr (inr (inr (inr (inr (inr (inr o)))))))))))) =
     let g = o.goes tt in
     letters-come Production.OperatorG Kind.OperatorAfterG
     (record { at = refl; parts = refl; own = refl; goes = λ a p s. refl; opens = λ p f s. refl; means = λ x y a p b s. refl })
     around at old v new o g.value g.after (g.read Kind.OperatorAfterG refl) g.onward
-operator-read around at old v new (inr (inr (inr (inr (inr (inr (inr (inr (inr (inr (inr (inr (inr none))))))))))))) = absurd none
 
 pub operator-branch : BranchRead Kind.Operator
 operator-branch rule taken parts all around at old v new front is e =
@@ -269,8 +263,7 @@ other-operator-branch rule taken parts all around at old v new front is e =
     any (inr (inr (inr (inr (inr (inr (inr (inr (inl o))))))))) = inr (inr (inr (inr (inr (inr (inr (inr (inr (inl (same Production.OperatorL o))))))))))
     any (inr (inr (inr (inr (inr (inr (inr (inr (inr (inl o)))))))))) = inr (inr (inr (inr (inr (inr (inr (inr (inr (inr (inl (same Production.OperatorS o)))))))))))
     any (inr (inr (inr (inr (inr (inr (inr (inr (inr (inr (inl o))))))))))) = inr (inr (inr (inr (inr (inr (inr (inr (inr (inr (inr (inl (same Production.OperatorI o))))))))))))
-    any (inr (inr (inr (inr (inr (inr (inr (inr (inr (inr (inr (inl o)))))))))))) = inr (inr (inr (inr (inr (inr (inr (inr (inr (inr (inr (inr (inl (same Production.OperatorG o)))))))))))))
-    any (inr (inr (inr (inr (inr (inr (inr (inr (inr (inr (inr (inr none)))))))))))) = absurd none
+    any (inr (inr (inr (inr (inr (inr (inr (inr (inr (inr (inr o))))))))))) = inr (inr (inr (inr (inr (inr (inr (inr (inr (inr (inr (inr (same Production.OperatorG o))))))))))))
 
 -- two letters of which the first is a c
 pub c-operator-fits : (around : Around) (second : ℕ) (old : State) → second < 256 → choose Kind.OperatorAfterC second ≡ Some Production.Mark
@@ -408,12 +401,10 @@ lambda-type around at old v new o =
 pub anonymous-branch : BranchRead Kind.Anonymous
 unfolding alternatives
 anonymous-branch rule taken parts all around at old v new front is e =
-    go (opened-read Kind.Anonymous rule taken parts all around at old v new front is e)
-  where
-    go : OneOf (alternatives Kind.Anonymous) (OpenedRead Kind.Anonymous around at old v new) → AnonymousRead around v old new
-    go (inl o) = lambda-type around at old v new o
-    go (inr (inl o)) = unnamed-type around at old v new o
-    go (inr (inr none)) = absurd none
+    elim (opened-read Kind.Anonymous rule taken parts all around at old v new front is e) [
+      | inl o ↦ lambda-type around at old v new o
+      | inr o ↦ unnamed-type around at old v new o
+    ]
 
 -- ## Leaves
 
@@ -431,132 +422,18 @@ pub discriminator-rest-branch : BranchRead Kind.DiscriminatorRest
 discriminator-rest-branch rule taken parts all around at old v new front is e =
     discriminator-rest-read (branch rule taken parts) around at old new v is e
 
-pub restrict-branch : BranchRead Kind.MaybeRestrict
-unfolding alternatives
-restrict-branch rule taken parts all around at old v new front is e =
-    (mark-read Kind.MaybeRestrict (refl, tt) (branch rule taken parts) around at old new v is e).0
-
-pub volatile-branch : BranchRead Kind.MaybeVolatile
-unfolding alternatives
-volatile-branch rule taken parts all around at old v new front is e =
-    (mark-read Kind.MaybeVolatile (refl, tt) (branch rule taken parts) around at old new v is e).0
-
-pub const-branch : BranchRead Kind.MaybeConst
-unfolding alternatives
-const-branch rule taken parts all around at old v new front is e =
-    (mark-read Kind.MaybeConst (refl, tt) (branch rule taken parts) around at old new v is e).0
-
-pub ref-branch : BranchRead Kind.MaybeRef
-unfolding alternatives
-ref-branch rule taken parts all around at old v new front is e =
-    (mark-read Kind.MaybeRef (refl, tt) (branch rule taken parts) around at old new v is e).0
-
-pub c-linkage-branch : BranchRead Kind.MaybeCLinkage
-unfolding alternatives
-c-linkage-branch rule taken parts all around at old v new front is e =
-    (mark-read Kind.MaybeCLinkage (refl, tt) (branch rule taken parts) around at old new v is e).0
-
-pub zero-branch : BranchRead Kind.MaybeZero
-unfolding alternatives
-zero-branch rule taken parts all around at old v new front is e =
-    (mark-read Kind.MaybeZero (refl, tt) (branch rule taken parts) around at old new v is e).0
-
-pub bit-branch : BranchRead Kind.Bit
-unfolding alternatives
-bit-branch rule taken parts all around at old v new front is e =
-    (mark-read Kind.Bit (refl, tt) (branch rule taken parts) around at old new v is e).0
-
-pub special-mark-branch : BranchRead Kind.SpecialMark
-unfolding alternatives
-special-mark-branch rule taken parts all around at old v new front is e =
-    (mark-read Kind.SpecialMark (refl, tt) (branch rule taken parts) around at old new v is e).0
+-- a kind of marks, of which nothing is asked
+pub mark-branch : (kind : Kind) → OnlyMarks (alternatives kind) → BranchTo kind (λ around v old new. new ≡ old)
+mark-branch kind only rule taken parts all around at old v new front is e = (mark-read kind only (branch rule taken parts) around at old new v is e).0
 
 marked : (kind : Kind) (v : Value) (old new : State) → (new ≡ old) × LetterRead kind v → MarkRead kind v old new
 marked kind v old new one = (one.0, one.1.0, one.1.1.0, one.1.1.1)
 
-pub constructor-digit-branch : BranchRead Kind.ConstructorDigit
-unfolding alternatives abi sheet sheet_with may_be_empty kinds number_of_kind
-constructor-digit-branch rule taken parts all around at old v new front is e =
-    marked Kind.ConstructorDigit v old new
-    (letter-read Kind.ConstructorDigit (refl, tt) refl (branch rule taken parts) around at old new v is e)
-
-pub destructor-digit-branch : BranchRead Kind.DestructorDigit
-unfolding alternatives abi sheet sheet_with may_be_empty kinds number_of_kind
-destructor-digit-branch rule taken parts all around at old v new front is e =
-    marked Kind.DestructorDigit v old new
-    (letter-read Kind.DestructorDigit (refl, tt) refl (branch rule taken parts) around at old new v is e)
-
-pub operator-after-n-branch : BranchRead Kind.OperatorAfterN
-unfolding alternatives abi sheet sheet_with may_be_empty kinds number_of_kind
-operator-after-n-branch rule taken parts all around at old v new front is e =
-    marked Kind.OperatorAfterN v old new
-    (letter-read Kind.OperatorAfterN (refl, tt) refl (branch rule taken parts) around at old new v is e)
-
-pub operator-after-d-branch : BranchRead Kind.OperatorAfterD
-unfolding alternatives abi sheet sheet_with may_be_empty kinds number_of_kind
-operator-after-d-branch rule taken parts all around at old v new front is e =
-    marked Kind.OperatorAfterD v old new
-    (letter-read Kind.OperatorAfterD (refl, tt) refl (branch rule taken parts) around at old new v is e)
-
-pub operator-after-a-branch : BranchRead Kind.OperatorAfterA
-unfolding alternatives abi sheet sheet_with may_be_empty kinds number_of_kind
-operator-after-a-branch rule taken parts all around at old v new front is e =
-    marked Kind.OperatorAfterA v old new
-    (letter-read Kind.OperatorAfterA (refl, tt) refl (branch rule taken parts) around at old new v is e)
-
-pub operator-after-p-branch : BranchRead Kind.OperatorAfterP
-unfolding alternatives abi sheet sheet_with may_be_empty kinds number_of_kind
-operator-after-p-branch rule taken parts all around at old v new front is e =
-    marked Kind.OperatorAfterP v old new
-    (letter-read Kind.OperatorAfterP (refl, tt) refl (branch rule taken parts) around at old new v is e)
-
-pub operator-after-c-branch : BranchRead Kind.OperatorAfterC
-unfolding alternatives abi sheet sheet_with may_be_empty kinds number_of_kind
-operator-after-c-branch rule taken parts all around at old v new front is e =
-    marked Kind.OperatorAfterC v old new
-    (letter-read Kind.OperatorAfterC (refl, tt) refl (branch rule taken parts) around at old new v is e)
-
-pub operator-after-m-branch : BranchRead Kind.OperatorAfterM
-unfolding alternatives abi sheet sheet_with may_be_empty kinds number_of_kind
-operator-after-m-branch rule taken parts all around at old v new front is e =
-    marked Kind.OperatorAfterM v old new
-    (letter-read Kind.OperatorAfterM (refl, tt) refl (branch rule taken parts) around at old new v is e)
-
-pub operator-after-r-branch : BranchRead Kind.OperatorAfterR
-unfolding alternatives abi sheet sheet_with may_be_empty kinds number_of_kind
-operator-after-r-branch rule taken parts all around at old v new front is e =
-    marked Kind.OperatorAfterR v old new
-    (letter-read Kind.OperatorAfterR (refl, tt) refl (branch rule taken parts) around at old new v is e)
-
-pub operator-after-o-branch : BranchRead Kind.OperatorAfterO
-unfolding alternatives abi sheet sheet_with may_be_empty kinds number_of_kind
-operator-after-o-branch rule taken parts all around at old v new front is e =
-    marked Kind.OperatorAfterO v old new
-    (letter-read Kind.OperatorAfterO (refl, tt) refl (branch rule taken parts) around at old new v is e)
-
-pub operator-after-e-branch : BranchRead Kind.OperatorAfterE
-unfolding alternatives abi sheet sheet_with may_be_empty kinds number_of_kind
-operator-after-e-branch rule taken parts all around at old v new front is e =
-    marked Kind.OperatorAfterE v old new
-    (letter-read Kind.OperatorAfterE (refl, tt) refl (branch rule taken parts) around at old new v is e)
-
-pub operator-after-s-branch : BranchRead Kind.OperatorAfterS
-unfolding alternatives abi sheet sheet_with may_be_empty kinds number_of_kind
-operator-after-s-branch rule taken parts all around at old v new front is e =
-    marked Kind.OperatorAfterS v old new
-    (letter-read Kind.OperatorAfterS (refl, tt) refl (branch rule taken parts) around at old new v is e)
-
-pub operator-after-i-branch : BranchRead Kind.OperatorAfterI
-unfolding alternatives abi sheet sheet_with may_be_empty kinds number_of_kind
-operator-after-i-branch rule taken parts all around at old v new front is e =
-    marked Kind.OperatorAfterI v old new
-    (letter-read Kind.OperatorAfterI (refl, tt) refl (branch rule taken parts) around at old new v is e)
-
-pub operator-after-g-branch : BranchRead Kind.OperatorAfterG
-unfolding alternatives abi sheet sheet_with may_be_empty kinds number_of_kind
-operator-after-g-branch rule taken parts all around at old v new front is e =
-    marked Kind.OperatorAfterG v old new
-    (letter-read Kind.OperatorAfterG (refl, tt) refl (branch rule taken parts) around at old new v is e)
+-- a kind of letters
+pub letter-branch : (kind : Kind) → OnlyMarks (alternatives kind) → abi.may_be_empty (number_of_kind kind) ≡ false
+    → BranchTo kind (λ around v old new. MarkRead kind v old new)
+letter-branch kind only full rule taken parts all around at old v new front is e =
+    marked kind v old new (letter-read kind only full (branch rule taken parts) around at old new v is e)
 
 pub operator-after-l-branch : BranchRead Kind.OperatorAfterL
 operator-after-l-branch rule taken parts all around at old v new front is e =

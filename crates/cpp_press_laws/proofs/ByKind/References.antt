@@ -9,7 +9,6 @@ use Rattle.cpp_grammar.specs.Grammar.{alternatives, parts_of, is_chain}
 use Rattle.cpp_grammar.specs.Values.{State, Around, Value, text_of, part}
 use Rattle.cpp_grammar.specs.Between.{between}
 use Rattle.cpp_grammar.specs.Unfolding.{close, byte_of}
-use Rattle.cpp_press_laws.proofs.ByKind.Rules.{OneOf}
 use Rattle.cpp_press_laws.proofs.Fits.References.{substitution-refers}
 use Rattle.cpp_press_laws.proofs.Fits.Sorts.{KindFits, Meant, Later}
 use Rattle.cpp_press_laws.proofs.Fits.Typed.{abbreviation-read, substitution-read}
@@ -39,10 +38,7 @@ reference-arm around at old v new o =
 pub abbreviation-branch : BranchRead Kind.Abbreviation
 unfolding alternatives
 abbreviation-branch rule taken parts all around at old v new front is e =
-    go (opened-read Kind.Abbreviation rule taken parts all around at old v new front is e)
-  where
-    go : OneOf (alternatives Kind.Abbreviation) (OpenedRead Kind.Abbreviation around at old v new)
-        → KindFits Kind.Abbreviation around v old new
-    go (inl o) = letter-arm around at old v new o
-    go (inr (inl o)) = reference-arm around at old v new o
-    go (inr (inr none)) = absurd none
+    elim (opened-read Kind.Abbreviation rule taken parts all around at old v new front is e) [
+      | inl o ↦ letter-arm around at old v new o
+      | inr o ↦ reference-arm around at old v new o
+    ]

@@ -1,5 +1,5 @@
 -- A symbol that was read fits from its first byte on, where its parts were read.
-use Rattle.std.proofs.Common.{◌≡◌, inl, inr, [], ◌∷◌, Ok, refl, ap, sym, subst, ◌∙◌, arith}
+use Rattle.std.proofs.Common.{◌≡◌, [], ◌∷◌, Ok, refl, ap, sym, subst, ◌∙◌, arith}
 use Rattle.std.proofs.lemmas.Bool.{false≢true}
 use Rattle.sym_shape.specs.declared.rule.Sym.TheVariants.{Kind as OfKind}
 use Rattle.sym_shape.specs.Tree.{Tree as Shape, branch, empty, token, fixed, IsTree}
@@ -19,7 +19,7 @@ use Rattle.cpp_grammar.proofs.ClosedStates.{ok_same, behind_bind}
 use Rattle.cpp_grammar.proofs.ClosedTrees.{is_encoding as holds_encoding}
 use Rattle.cpp_press_laws.specs.PressLaws.{IsReadFrom}
 use Rattle.cpp_press_laws.specs.Fits.{SymbolFits}
-use Rattle.cpp_press_laws.proofs.ByKind.Rules.{OneOf, all-of, kind-at, one-value}
+use Rattle.cpp_press_laws.proofs.ByKind.Rules.{all-of, kind-at, one-value}
 use Rattle.cpp_press_laws.proofs.ByKind.Packs.{shape-kept}
 use Rattle.cpp_press_laws.proofs.Fits.Rests.{symbol-fits}
 use Rattle.cpp_press_laws.proofs.Fits.Symbols.{WholeFits}
@@ -57,11 +57,8 @@ symbol-read : ((t : Shape) → ShapeRead t) → (shape : Shape) (v : Value) (new
     → unfold_tree cpp first_around 0 shape first_state ≡ Ok (found (v ∷ []) new) → SymbolFits (tree_of v)
 unfolding alternatives may_be_empty
 symbol-read read (branch rule taken parts) v new is e =
-    go (opened-read Kind.Symbol rule taken parts (all-of ShapeRead read parts) first_around 0 first_state v new first-front is e)
-  where
-    go : OneOf (alternatives Kind.Symbol) (OpenedRead Kind.Symbol first_around 0 first_state v new) → SymbolFits (tree_of v)
-    go (inl o) = symbol-arm v new o
-    go (inr none) = absurd none
+    let o = opened-read Kind.Symbol rule taken parts (all-of ShapeRead read parts) first_around 0 first_state v new first-front is e in
+    symbol-arm v new o
 symbol-read read empty v new is e =
     absurd (false≢true (sym (empty_at_kind (number_of_kind Kind.Symbol) Kind.Symbol (kind-at Kind.Symbol)) ∙ is))
 symbol-read read (token t) v new is e = absurd is

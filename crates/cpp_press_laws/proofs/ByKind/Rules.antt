@@ -148,17 +148,25 @@ pub record Opened (P : Shape → Type 0) (kind : Kind) (around : Around) (at : �
 -- one of these productions
 abbrev pub OneOf : List Alternative → (F : Production → Type 0) → Type 0
 OneOf [] F = ⊥
-OneOf (a ∷ rest) F = F a.production ⊎ OneOf rest F
+OneOf (a ∷ []) F = F a.production
+OneOf (a ∷ b ∷ rest) F = F a.production ⊎ OneOf (b ∷ rest) F
 
 pub picked-one : (all : List Alternative) (byte : ℕ) (p : Production) (F : Production → Type 0) → F p → pick all byte ≡ Some p → OneOf all F
 unfolding pick
 picked-one [] byte p F f e = absurd cc
 picked-one (a ∷ rest) byte p F f e = go (is_in a byte) e (picked-one rest byte p F f)
   where
-    go : (b : Bool) → cond b (Some a.production) (pick rest byte) ≡ Some p → (pick rest byte ≡ Some p → OneOf rest F)
-        → F a.production ⊎ OneOf rest F
-    go true h later = let same : p ≡ a.production = cc in inl (subst F same f)
-    go false h later = inr (later h)
+    first : (rest : List Alternative) → F a.production → OneOf (a ∷ rest) F
+    first [] one = one
+    first (c ∷ others) one = inl one
+
+    later : (rest : List Alternative) → OneOf rest F → OneOf (a ∷ rest) F
+    later [] one = absurd one
+    later (c ∷ others) one = inr one
+
+    go : (b : Bool) → cond b (Some a.production) (pick rest byte) ≡ Some p → (pick rest byte ≡ Some p → OneOf rest F) → OneOf (a ∷ rest) F
+    go true h more = let same : p ≡ a.production = cc in first rest (subst F same f)
+    go false h more = later rest (more h)
 
 taken-as : (chains : Bool) (byte : ℕ) (taken : List ℕ) → taken ≡ cond (not chains) (byte ∷ []) [] → taken ≡ cond chains [] (byte ∷ [])
 taken-as true byte taken e = e

@@ -6,23 +6,24 @@ use Rattle.sym_shape.specs.declared.rule.Sym.TheVariants.{Kind as OfKind}
 use Rattle.sym_shape.specs.Tree.{Tree as Shape, Forest, branch}
 use Rattle.cpp_grammar.specs.declared.kind.Kind.{Kind}
 use Rattle.cpp_grammar.specs.declared.production.Production.{Production}
-use Rattle.cpp_grammar.specs.Grammar.{alternatives, choose, pick, is_in, in_ranges, among, number_of_kind, number_of}
+use Rattle.cpp_grammar.specs.Grammar.{alternatives, choose, pick, is_in, in_ranges, among, number_of_kind, number_of, kinds, may_be_empty}
 use Rattle.cpp_grammar.specs.Term.{Term}
 use Rattle.cpp_grammar.specs.Values.{State, outermost, Around, Value}
 use Rattle.cpp_grammar.proofs.ClosedTrees.{is_encoding as holds_encoding}
 use Rattle.cpp_grammar.proofs.Growing.{same_choice, each_below}
+use Rattle.cpp_grammar.specs.Table.{abi, sheet, sheet_with}
 use Rattle.cpp_press_laws.specs.PressLaws.{IsReadFrom}
 use Rattle.cpp_press_laws.specs.Fits.{takes_all, SymbolFits}
 use Rattle.cpp_press_laws.proofs.Fits.Sorts.{KindFits, takes_literals}
 use Rattle.cpp_press_laws.proofs.ByKind.Rules.{AllOf, OneOf, every-shape}
 use Rattle.cpp_press_laws.proofs.ByKind.Suffixes.{suffix-read}
-use Rattle.cpp_press_laws.proofs.ByKind.Known.{OwnNameRead, InFront, ShapeRead, OpenedRead, opened-read, taken-as, BranchRead}
+use Rattle.cpp_press_laws.proofs.ByKind.Known.{InFront, ShapeRead, OpenedRead, opened-read, taken-as, BranchRead}
 use Rattle.cpp_press_laws.proofs.ByKind.Types.{type-branch, plain-branch, item-branch, argument-branch, parameter-branch, item-d-branch, after-d-branch}
 use Rattle.cpp_press_laws.proofs.ByKind.Solids.{builtin-arm, literal-arm, vendor-arm, array-rest-branch, any-array-branch, array-arm, function-arm, complex-arm, pointer-arm, member-arm, function-rest-branch, after-r-branch, after-o-branch, items-branch}
 use Rattle.cpp_press_laws.proofs.ByKind.References.{abbreviation-branch}
 use Rattle.cpp_press_laws.proofs.ByKind.Empty.{empty-read}
 use Rattle.cpp_press_laws.proofs.ByKind.Root.{read-fits}
-use Rattle.cpp_press_laws.proofs.ByKind.PieceKinds.{source-or-local-branch, unqualified-branch, operator-branch, other-operator-branch, special-mark-branch, anonymous-branch, integer-branch, call-offset-branch, discriminator-branch, discriminator-rest-branch, restrict-branch, volatile-branch, const-branch, ref-branch, c-linkage-branch, zero-branch, bit-branch, constructor-digit-branch, destructor-digit-branch, operator-after-n-branch, operator-after-d-branch, operator-after-a-branch, operator-after-p-branch, operator-after-c-branch, operator-after-m-branch, operator-after-r-branch, operator-after-o-branch, operator-after-e-branch, operator-after-s-branch, operator-after-i-branch, operator-after-g-branch, operator-after-l-branch}
+use Rattle.cpp_press_laws.proofs.ByKind.PieceKinds.{mark-branch, letter-branch, source-or-local-branch, unqualified-branch, operator-branch, other-operator-branch, anonymous-branch, integer-branch, call-offset-branch, discriminator-branch, discriminator-rest-branch, operator-after-l-branch}
 use Rattle.cpp_press_laws.proofs.ByKind.Arguments.{argument-list-branch, arguments-first-branch, pack-list-branch, literal-branch, literal-after-d-branch, addressed-literal-branch, addressed-branch, expression-after-a-branch, expression-branch}
 use Rattle.cpp_press_laws.proofs.ByKind.Nests.{nest-branch, nest-after-s-branch, nest-rest-branch, nest-rest-alone-branch, nest-rest-or-end-branch, nest-more-or-end-branch, nest-tail-branch, component-branch, component-after-c-branch, constructor-after-c-branch}
 use Rattle.cpp_press_laws.proofs.ByKind.Names.{arguments-branch, maybe-arguments-branch, arguments-alone-branch, argument-after-t-branch, type-after-s-branch, type-in-std-branch, maybe-tags-branch, name-after-s-branch, with-s-solid, parameter-solid, nested-solid, source-solid, local-type-name-solid, source-own, internal-own, local-type-own, operator-own, with-s-own}
@@ -48,9 +49,8 @@ solid-read around at old v new front outer (inr (inr (inr (inr (inr (inr (inr (i
     local-type-solid takes_all Kind.Solid around at old v new front outer o
 solid-read around at old v new front outer (inr (inr (inr (inr (inr (inr (inr (inr (inr (inr (inr (inl o)))))))))))) =
     local-type-name-solid takes_all Kind.Solid around at old v new front outer o
-solid-read around at old v new front outer (inr (inr (inr (inr (inr (inr (inr (inr (inr (inr (inr (inr (inl o))))))))))))) =
+solid-read around at old v new front outer (inr (inr (inr (inr (inr (inr (inr (inr (inr (inr (inr (inr o)))))))))))) =
     source-solid takes_all Kind.Solid around at old v new front outer o
-solid-read around at old v new front outer (inr (inr (inr (inr (inr (inr (inr (inr (inr (inr (inr (inr (inr none))))))))))))) = absurd none
 
 solid-branch : BranchRead Kind.Solid
 solid-branch rule taken parts all around at old v new front is e outer =
@@ -84,46 +84,38 @@ solid-but-t-branch rule taken parts all around at old v new front is e outer =
     any (inr (inr (inr (inr (inr (inr (inr (inr (inl o))))))))) = inr (inr (inr (inr (inr (inr (inr (inr (inr (inl (same Production.NestedType o))))))))))
     any (inr (inr (inr (inr (inr (inr (inr (inr (inr (inl o)))))))))) = inr (inr (inr (inr (inr (inr (inr (inr (inr (inr (inl (same Production.LocalType o)))))))))))
     any (inr (inr (inr (inr (inr (inr (inr (inr (inr (inr (inl o))))))))))) = inr (inr (inr (inr (inr (inr (inr (inr (inr (inr (inr (inl (same Production.LocalTypeName o))))))))))))
-    any (inr (inr (inr (inr (inr (inr (inr (inr (inr (inr (inr (inl o)))))))))))) = inr (inr (inr (inr (inr (inr (inr (inr (inr (inr (inr (inr (inl (same Production.SourceName o)))))))))))))
-    any (inr (inr (inr (inr (inr (inr (inr (inr (inr (inr (inr (inr none)))))))))))) = absurd none
+    any (inr (inr (inr (inr (inr (inr (inr (inr (inr (inr (inr o))))))))))) = inr (inr (inr (inr (inr (inr (inr (inr (inr (inr (inr (inr (same Production.SourceName o))))))))))))
 
 -- the type of a literal
 literal-type-branch : BranchRead Kind.LiteralType
 unfolding alternatives
 literal-type-branch rule taken parts all around at old v new front is e outer =
-    go (opened-read Kind.LiteralType rule taken parts all around at old v new front is e)
-  where
-    go : OneOf (alternatives Kind.LiteralType) (OpenedRead Kind.LiteralType around at old v new)
-        → KindFits Kind.LiteralType around v old new
-    go (inl o) = literal-arm around at old v new o
-    go (inr (inl o)) = pointer-arm takes_literals Kind.LiteralType around at old v new outer o
-    go (inr (inr (inl o))) = member-arm takes_literals Kind.LiteralType around at old v new outer o
-    go (inr (inr (inr (inl o)))) = parameter-solid takes_literals Kind.LiteralType around at old v new front outer o
-    go (inr (inr (inr (inr (inl o))))) = with-s-solid takes_literals Kind.LiteralType around at old v new front outer o
-    go (inr (inr (inr (inr (inr (inl o)))))) = nested-solid takes_literals Kind.LiteralType around at old v new front outer o
-    go (inr (inr (inr (inr (inr (inr (inl o))))))) = local-type-solid takes_literals Kind.LiteralType around at old v new front outer o
-    go (inr (inr (inr (inr (inr (inr (inr (inl o)))))))) =
-        local-type-name-solid takes_literals Kind.LiteralType around at old v new front outer o
-    go (inr (inr (inr (inr (inr (inr (inr (inr (inl o))))))))) =
-        source-solid takes_literals Kind.LiteralType around at old v new front outer o
-    go (inr (inr (inr (inr (inr (inr (inr (inr (inr none))))))))) = absurd none
+    elim (opened-read Kind.LiteralType rule taken parts all around at old v new front is e) [
+      | inl o ↦ literal-arm around at old v new o
+      | inr (inl o) ↦ pointer-arm takes_literals Kind.LiteralType around at old v new outer o
+      | inr (inr (inl o)) ↦ member-arm takes_literals Kind.LiteralType around at old v new outer o
+      | inr (inr (inr (inl o))) ↦ parameter-solid takes_literals Kind.LiteralType around at old v new front outer o
+      | inr (inr (inr (inr (inl o)))) ↦ with-s-solid takes_literals Kind.LiteralType around at old v new front outer o
+      | inr (inr (inr (inr (inr (inl o))))) ↦ nested-solid takes_literals Kind.LiteralType around at old v new front outer o
+      | inr (inr (inr (inr (inr (inr (inl o)))))) ↦ local-type-solid takes_literals Kind.LiteralType around at old v new front outer o
+      | inr (inr (inr (inr (inr (inr (inr (inl o))))))) ↦ local-type-name-solid takes_literals Kind.LiteralType around at old v new front outer o
+      | inr (inr (inr (inr (inr (inr (inr (inr o))))))) ↦ source-solid takes_literals Kind.LiteralType around at old v new front outer o
+    ]
 
 -- ## Names of encodings, and suffixes
 
 complete-name-branch : BranchRead Kind.CompleteName
 unfolding alternatives
 complete-name-branch rule taken parts all around at old v new front is e outer =
-    go (opened-read Kind.CompleteName rule taken parts all around at old v new front is e)
-  where
-    go : OneOf (alternatives Kind.CompleteName) (OpenedRead Kind.CompleteName around at old v new) → OwnNameRead around v old new
-    go (inl o) = nested-name-read around at old v new o outer
-    go (inr (inl o)) = with-s-own around at old v new outer o
-    go (inr (inr (inl o))) = local-name-read around at old v new o outer
-    go (inr (inr (inr (inl o)))) = internal-own around at old v new outer o
-    go (inr (inr (inr (inr (inl o))))) = local-type-own around at old v new outer o
-    go (inr (inr (inr (inr (inr (inl o)))))) = operator-own around at old v new outer o
-    go (inr (inr (inr (inr (inr (inr (inl o))))))) = source-own around at old v new outer o
-    go (inr (inr (inr (inr (inr (inr (inr none))))))) = absurd none
+    elim (opened-read Kind.CompleteName rule taken parts all around at old v new front is e) [
+      | inl o ↦ nested-name-read around at old v new o outer
+      | inr (inl o) ↦ with-s-own around at old v new outer o
+      | inr (inr (inl o)) ↦ local-name-read around at old v new o outer
+      | inr (inr (inr (inl o))) ↦ internal-own around at old v new outer o
+      | inr (inr (inr (inr (inl o)))) ↦ local-type-own around at old v new outer o
+      | inr (inr (inr (inr (inr (inl o))))) ↦ operator-own around at old v new outer o
+      | inr (inr (inr (inr (inr (inr o))))) ↦ source-own around at old v new outer o
+    ]
 
 suffix-branch : BranchRead Kind.MaybeSuffix
 unfolding number_of_kind
@@ -132,6 +124,7 @@ suffix-branch rule taken parts all around at old v new front is e = suffix-read 
 -- ## All kinds
 
 kind-branch : (kind : Kind) → BranchRead kind
+unfolding alternatives abi sheet sheet_with may_be_empty kinds number_of_kind
 kind-branch Kind.Symbol = λ rule taken parts all around at old v new front is e. tt
 kind-branch Kind.MaybeSuffix = suffix-branch
 kind-branch Kind.SuffixFirst = λ rule taken parts all around at old v new front is e. tt
@@ -141,10 +134,10 @@ kind-branch Kind.Special = special-branch
 kind-branch Kind.CallOffset = call-offset-branch
 kind-branch Kind.Integer = integer-branch
 kind-branch Kind.CompleteName = complete-name-branch
-kind-branch Kind.MaybeRestrict = restrict-branch
-kind-branch Kind.MaybeVolatile = volatile-branch
-kind-branch Kind.MaybeConst = const-branch
-kind-branch Kind.MaybeRef = ref-branch
+kind-branch Kind.MaybeRestrict = mark-branch Kind.MaybeRestrict (refl, tt)
+kind-branch Kind.MaybeVolatile = mark-branch Kind.MaybeVolatile (refl, tt)
+kind-branch Kind.MaybeConst = mark-branch Kind.MaybeConst (refl, tt)
+kind-branch Kind.MaybeRef = mark-branch Kind.MaybeRef (refl, tt)
 kind-branch Kind.NameAfterS = name-after-s-branch
 kind-branch Kind.Unqualified = unqualified-branch
 kind-branch Kind.Nest = nest-branch
@@ -154,8 +147,8 @@ kind-branch Kind.NestRestAlone = nest-rest-alone-branch
 kind-branch Kind.NestTail = nest-tail-branch
 kind-branch Kind.Component = component-branch
 kind-branch Kind.ConstructorAfterC = constructor-after-c-branch
-kind-branch Kind.ConstructorDigit = constructor-digit-branch
-kind-branch Kind.DestructorDigit = destructor-digit-branch
+kind-branch Kind.ConstructorDigit = letter-branch Kind.ConstructorDigit (refl, tt) refl
+kind-branch Kind.DestructorDigit = letter-branch Kind.DestructorDigit (refl, tt) refl
 kind-branch Kind.Abbreviation = abbreviation-branch
 kind-branch Kind.Entity = entity-branch
 kind-branch Kind.TypeEntity = type-entity-branch
@@ -169,7 +162,7 @@ kind-branch Kind.ItemButRef = parameter-branch
 kind-branch Kind.ItemAfterD = item-d-branch
 kind-branch Kind.AfterD = after-d-branch
 kind-branch Kind.Solid = solid-branch
-kind-branch Kind.MaybeCLinkage = c-linkage-branch
+kind-branch Kind.MaybeCLinkage = mark-branch Kind.MaybeCLinkage (refl, tt)
 kind-branch Kind.TypeAfterS = type-after-s-branch
 kind-branch Kind.SourceOrLocal = source-or-local-branch
 kind-branch Kind.FunctionRest = function-rest-branch
@@ -183,28 +176,28 @@ kind-branch Kind.ArgumentsFirst = arguments-first-branch
 kind-branch Kind.ArgumentList = argument-list-branch
 kind-branch Kind.PackList = pack-list-branch
 kind-branch Kind.Literal = literal-branch
-kind-branch Kind.Bit = bit-branch
+kind-branch Kind.Bit = mark-branch Kind.Bit (refl, tt)
 kind-branch Kind.LiteralAfterD = literal-after-d-branch
-kind-branch Kind.MaybeZero = zero-branch
+kind-branch Kind.MaybeZero = mark-branch Kind.MaybeZero (refl, tt)
 kind-branch Kind.LiteralType = literal-type-branch
 kind-branch Kind.Operator = operator-branch
-kind-branch Kind.OperatorAfterN = operator-after-n-branch
-kind-branch Kind.OperatorAfterD = operator-after-d-branch
-kind-branch Kind.OperatorAfterA = operator-after-a-branch
-kind-branch Kind.OperatorAfterP = operator-after-p-branch
-kind-branch Kind.OperatorAfterC = operator-after-c-branch
-kind-branch Kind.OperatorAfterM = operator-after-m-branch
-kind-branch Kind.OperatorAfterR = operator-after-r-branch
-kind-branch Kind.OperatorAfterO = operator-after-o-branch
-kind-branch Kind.OperatorAfterE = operator-after-e-branch
+kind-branch Kind.OperatorAfterN = letter-branch Kind.OperatorAfterN (refl, tt) refl
+kind-branch Kind.OperatorAfterD = letter-branch Kind.OperatorAfterD (refl, tt) refl
+kind-branch Kind.OperatorAfterA = letter-branch Kind.OperatorAfterA (refl, tt) refl
+kind-branch Kind.OperatorAfterP = letter-branch Kind.OperatorAfterP (refl, tt) refl
+kind-branch Kind.OperatorAfterC = letter-branch Kind.OperatorAfterC (refl, tt) refl
+kind-branch Kind.OperatorAfterM = letter-branch Kind.OperatorAfterM (refl, tt) refl
+kind-branch Kind.OperatorAfterR = letter-branch Kind.OperatorAfterR (refl, tt) refl
+kind-branch Kind.OperatorAfterO = letter-branch Kind.OperatorAfterO (refl, tt) refl
+kind-branch Kind.OperatorAfterE = letter-branch Kind.OperatorAfterE (refl, tt) refl
 kind-branch Kind.OperatorAfterL = operator-after-l-branch
-kind-branch Kind.OperatorAfterS = operator-after-s-branch
-kind-branch Kind.OperatorAfterI = operator-after-i-branch
-kind-branch Kind.OperatorAfterG = operator-after-g-branch
+kind-branch Kind.OperatorAfterS = letter-branch Kind.OperatorAfterS (refl, tt) refl
+kind-branch Kind.OperatorAfterI = letter-branch Kind.OperatorAfterI (refl, tt) refl
+kind-branch Kind.OperatorAfterG = letter-branch Kind.OperatorAfterG (refl, tt) refl
 kind-branch Kind.NestRestOrEnd = nest-rest-or-end-branch
 kind-branch Kind.ComponentAfterC = component-after-c-branch
 kind-branch Kind.OtherOperator = other-operator-branch
-kind-branch Kind.SpecialMark = special-mark-branch
+kind-branch Kind.SpecialMark = mark-branch Kind.SpecialMark (refl, tt)
 kind-branch Kind.SpecialAfterG = special-after-g-branch
 kind-branch Kind.TypeInStd = type-in-std-branch
 kind-branch Kind.MaybeTags = maybe-tags-branch

@@ -10,7 +10,6 @@ use Rattle.cpp_grammar.specs.Meaning.{meaning}
 use Rattle.cpp_grammar.specs.Unfolding as unfolding_
 use Rattle.cpp_grammar.specs.Unfolding.{byte_of}
 use Rattle.cpp_press_laws.specs.Fits.{Slot, takes_all}
-use Rattle.cpp_press_laws.proofs.ByKind.Rules.{OneOf}
 use Rattle.cpp_press_laws.proofs.Fits.Types.{SolidFits}
 use Rattle.cpp_press_laws.proofs.Fits.Solids.{builtin-solid}
 use Rattle.cpp_press_laws.proofs.Fits.Sorts.{KindFits, Meant, Later, solid-pointer, solid-complex, solid-member-pointer, solid-array, solid-function, rest-end, rest-item, items, ref-end-lvalue, ref-end-rvalue, rest-lvalue, rest-rvalue}
@@ -67,11 +66,8 @@ length-array around at old v new outer o =
 pub array-rest-branch : BranchRead Kind.ArrayRest
 unfolding alternatives
 array-rest-branch rule taken parts all around at old v new front is e outer =
-    go (opened-read Kind.ArrayRest rule taken parts all around at old v new front is e)
-  where
-    go : OneOf (alternatives Kind.ArrayRest) (OpenedRead Kind.ArrayRest around at old v new) → KindFits Kind.ArrayRest around v old new
-    go (inl o) = length-array around at old v new outer o
-    go (inr none) = absurd none
+    let o = opened-read Kind.ArrayRest rule taken parts all around at old v new front is e in
+    length-array around at old v new outer o
 
 any-array : (around : Around) (at : ℕ) (old : State) (v : Value) (new : State) → around.prefix ≡ outermost
     → OpenedRead Kind.AnyArray around at old v new Production.AnyArray → KindFits Kind.AnyArray around v old new
@@ -84,11 +80,8 @@ any-array around at old v new outer o =
 pub any-array-branch : BranchRead Kind.AnyArray
 unfolding alternatives
 any-array-branch rule taken parts all around at old v new front is e outer =
-    go (opened-read Kind.AnyArray rule taken parts all around at old v new front is e)
-  where
-    go : OneOf (alternatives Kind.AnyArray) (OpenedRead Kind.AnyArray around at old v new) → KindFits Kind.AnyArray around v old new
-    go (inl o) = any-array around at old v new outer o
-    go (inr none) = absurd none
+    let o = opened-read Kind.AnyArray rule taken parts all around at old v new front is e in
+    any-array around at old v new outer o
 
 pub array-arm : (around : Around) (at : ℕ) (old : State) (v : Value) (new : State) → around.prefix ≡ outermost
     → OpenedRead Kind.Solid around at old v new Production.ArrayType → KindFits Kind.Solid around v old new
@@ -190,15 +183,12 @@ rest-item-arm around at old v new outer o =
 pub function-rest-branch : BranchRead Kind.FunctionRest
 unfolding alternatives
 function-rest-branch rule taken parts all around at old v new front is e outer =
-    go (opened-read Kind.FunctionRest rule taken parts all around at old v new front is e)
-  where
-    go : OneOf (alternatives Kind.FunctionRest) (OpenedRead Kind.FunctionRest around at old v new)
-        → KindFits Kind.FunctionRest around v old new
-    go (inl o) = rest-end-arm around at old v new o
-    go (inr (inl o)) = rest-lvalue-arm around at old v new outer o
-    go (inr (inr (inl o))) = rest-rvalue-arm around at old v new outer o
-    go (inr (inr (inr (inl o)))) = rest-item-arm around at old v new outer o
-    go (inr (inr (inr (inr none)))) = absurd none
+    elim (opened-read Kind.FunctionRest rule taken parts all around at old v new front is e) [
+      | inl o ↦ rest-end-arm around at old v new o
+      | inr (inl o) ↦ rest-lvalue-arm around at old v new outer o
+      | inr (inr (inl o)) ↦ rest-rvalue-arm around at old v new outer o
+      | inr (inr (inr o)) ↦ rest-item-arm around at old v new outer o
+    ]
 
 -- after the mark R or O there are no parameters
 lvalue-end-arm : (around : Around) (at : ℕ) (old : State) (v : Value) (new : State)
@@ -241,22 +231,18 @@ rvalue-item-arm around at old v new outer o =
 pub after-r-branch : BranchRead Kind.AfterR
 unfolding alternatives
 after-r-branch rule taken parts all around at old v new front is e outer =
-    go (opened-read Kind.AfterR rule taken parts all around at old v new front is e)
-  where
-    go : OneOf (alternatives Kind.AfterR) (OpenedRead Kind.AfterR around at old v new) → KindFits Kind.AfterR around v old new
-    go (inl o) = lvalue-end-arm around at old v new o
-    go (inr (inl o)) = lvalue-item-arm around at old v new outer o
-    go (inr (inr none)) = absurd none
+    elim (opened-read Kind.AfterR rule taken parts all around at old v new front is e) [
+      | inl o ↦ lvalue-end-arm around at old v new o
+      | inr o ↦ lvalue-item-arm around at old v new outer o
+    ]
 
 pub after-o-branch : BranchRead Kind.AfterO
 unfolding alternatives
 after-o-branch rule taken parts all around at old v new front is e outer =
-    go (opened-read Kind.AfterO rule taken parts all around at old v new front is e)
-  where
-    go : OneOf (alternatives Kind.AfterO) (OpenedRead Kind.AfterO around at old v new) → KindFits Kind.AfterO around v old new
-    go (inl o) = rvalue-end-arm around at old v new o
-    go (inr (inl o)) = rvalue-item-arm around at old v new outer o
-    go (inr (inr none)) = absurd none
+    elim (opened-read Kind.AfterO rule taken parts all around at old v new front is e) [
+      | inl o ↦ rvalue-end-arm around at old v new o
+      | inr o ↦ rvalue-item-arm around at old v new outer o
+    ]
 
 -- ## Items
 
@@ -274,8 +260,5 @@ items-arm around at old v new outer o =
 pub items-branch : BranchRead Kind.Items
 unfolding alternatives
 items-branch rule taken parts all around at old v new front is e outer =
-    go (opened-read Kind.Items rule taken parts all around at old v new front is e)
-  where
-    go : OneOf (alternatives Kind.Items) (OpenedRead Kind.Items around at old v new) → KindFits Kind.Items around v old new
-    go (inl o) = items-arm around at old v new outer o
-    go (inr none) = absurd none
+    let o = opened-read Kind.Items rule taken parts all around at old v new front is e in
+    items-arm around at old v new outer o

@@ -1,5 +1,5 @@
 -- The suffix of a symbol that was read can be spelled.
-use Rattle.std.proofs.Common.{◌≡◌, ℕ, ◌<◌, ◌⊎◌, inl, inr, List, [], ◌∷◌, Bool, true, false, cond, ◌||◌, nat_eq, Some, None, refl, ap, sym, subst, ◌∙◌}
+use Rattle.std.proofs.Common.{◌≡◌, ℕ, ◌<◌, List, [], ◌∷◌, Bool, true, false, cond, ◌||◌, nat_eq, Some, None, refl, ap, sym, subst, ◌∙◌}
 use Rattle.std.proofs.lemmas.Bool.{eqb-true, false≢true}
 use Rattle.sym_shape.specs.declared.rule.Rule.{Rule}
 use Rattle.sym_shape.specs.declared.rule.Sym.TheVariants.{Kind as OfKind}
@@ -30,9 +30,9 @@ unfolding alternatives number_of_kind parts_of is_chain between close unfolding_
 more-branch rule taken parts all around at state after v is e =
     go (opened MoreRead Kind.SuffixMore rule taken parts all around at state (found (v ∷ []) after) is e)
   where
-    go : Opened MoreRead Kind.SuffixMore around at state (found (v ∷ []) after) Production.SuffixByte ⊎ ⊥
+    go : Opened MoreRead Kind.SuffixMore around at state (found (v ∷ []) after) Production.SuffixByte
         → (after ≡ state) × AreSuffixBytes (text_of v)
-    go (inl o) =
+    go o =
         let g = o.goes in
         let more = g.holds around _ state g.after g.value g.is g.unfolds in
         let inner : found (g.value ∷ []) g.after ≡ o.inner = g.onward in
@@ -43,7 +43,6 @@ more-branch rule taken parts all around at state after v is e =
         (subst (λ b. (b < 256) × (choose Kind.SuffixMore b ≡ Some Production.SuffixByte) × AreSuffixBytes (text_of g.value)) (sym eaten)
         (o.small, o.chosen, more.1)) in
         (both.0 ∙ more.0, both.1)
-    go (inr none) = absurd none
 
 -- the bytes of a suffix after the first
 pub more-read : (t : Shape) → MoreRead t
@@ -64,9 +63,9 @@ unfolding cpp alternatives number_of_kind parts_of is_chain between close unfold
 first-read (branch rule taken parts) around at state after v is e =
     go (opened MoreRead Kind.SuffixFirst rule taken parts (all-of MoreRead more-read parts) around at state (found (v ∷ []) after) is e)
   where
-    go : Opened MoreRead Kind.SuffixFirst around at state (found (v ∷ []) after) Production.SuffixByte ⊎ ⊥
+    go : Opened MoreRead Kind.SuffixFirst around at state (found (v ∷ []) after) Production.SuffixByte
         → (after ≡ state) × FirstBytes (text_of v)
-    go (inl o) =
+    go o =
         let g = o.goes in
         let more = g.holds around _ state g.after g.value g.is g.unfolds in
         let eaten : byte_of o.taken ≡ o.byte = ap byte_of o.takes in
@@ -76,7 +75,6 @@ first-read (branch rule taken parts) around at state after v is e =
         (subst (λ b. (b < 256) × (choose Kind.SuffixFirst b ≡ Some Production.SuffixByte) × AreSuffixBytes (text_of g.value)) (sym eaten)
         (o.small, o.chosen, more.1)) in
         (both.0 ∙ more.0, both.1)
-    go (inr none) = absurd none
 first-read empty around at state after v is e = absurd (false≢true is)
 first-read (token t) around at state after v is e = absurd is
 first-read (fixed b) around at state after v is e = absurd is
@@ -99,9 +97,9 @@ unfolding cpp alternatives number_of_kind parts_of is_chain between close unfold
 suffix-read (branch rule taken parts) around at state after v is e =
     go (opened FirstRead Kind.MaybeSuffix rule taken parts (all-of FirstRead first-read parts) around at state (found (v ∷ []) after) is e)
   where
-    go : Opened FirstRead Kind.MaybeSuffix around at state (found (v ∷ []) after) Production.Suffix ⊎ ⊥
+    go : Opened FirstRead Kind.MaybeSuffix around at state (found (v ∷ []) after) Production.Suffix
         → (after ≡ state) × IsSpellableSuffix (text_of v)
-    go (inl o) =
+    go o =
         let g = o.goes in
         let first = g.holds around _ state g.after g.value g.is g.unfolds in
         let eaten : byte_of o.taken ≡ 46 = ap byte_of o.takes ∙ dot-taken o.byte o.chosen in
@@ -110,7 +108,6 @@ suffix-read (branch rule taken parts) around at state after v is e =
         let both = leaf-same (λ w. IsSpellableSuffix (text_of w)) v (text (byte_of o.taken ∷ text_of g.value)) g.after after comes
         (subst (λ b. IsSpellableSuffix (b ∷ text_of g.value)) (sym eaten) (behind-dot (text_of g.value) first.1)) in
         (both.0 ∙ first.0, both.1)
-    go (inr none) = absurd none
 suffix-read empty around at state after v is e =
     leaf-same (λ w. IsSpellableSuffix (text_of w)) v nothing_there state after (sym (ok_same _ _ e)) tt
 suffix-read (token t) around at state after v is e = absurd is

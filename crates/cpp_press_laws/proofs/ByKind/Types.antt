@@ -9,7 +9,6 @@ use Rattle.cpp_grammar.specs.Between.{under_expansion, between}
 use Rattle.cpp_grammar.specs.Meaning.{enclosed_argument, ends_arguments, meaning}
 use Rattle.cpp_grammar.specs.Unfolding as unfolding_
 use Rattle.cpp_grammar.specs.Unfolding.{byte_of}
-use Rattle.cpp_press_laws.proofs.ByKind.Rules.{OneOf}
 use Rattle.cpp_press_laws.specs.Fits.{Slot, any_type, item_type, parameter_type, takes_all, takes_qualified, takes_expansions}
 use Rattle.cpp_press_laws.proofs.Components.AddedWays.{IsNotBare}
 use Rattle.cpp_press_laws.proofs.Fits.Types.{TypeFits, SolidFits}
@@ -104,30 +103,26 @@ type-d-arm around at old v new outer o =
 pub type-branch : BranchRead Kind.Type
 unfolding alternatives takes_qualified takes_all
 type-branch rule taken parts all around at old v new front is e outer =
-    go (opened-read Kind.Type rule taken parts all around at old v new front is e)
-  where
-    go : OneOf (alternatives Kind.Type) (OpenedRead Kind.Type around at old v new) → TypeFits around any_type (tree_of v) old new
-    go (inl o) = restrict-arm Kind.Type any_type refl around at old v new outer o
-    go (inr (inl o)) = volatile-arm Kind.Type any_type refl around at old v new outer o
-    go (inr (inr (inl o))) = const-arm Kind.Type any_type refl around at old v new outer o
-    go (inr (inr (inr (inl o)))) = type-d-arm around at old v new outer o
-    go (inr (inr (inr (inr (inl o))))) = reference-arm Kind.Type any_type tt refl around at old v new outer o
-    go (inr (inr (inr (inr (inr (inl o)))))) = plain-arm Kind.Type any_type tt refl around at old v new outer o
-    go (inr (inr (inr (inr (inr (inr none)))))) = absurd none
+    elim (opened-read Kind.Type rule taken parts all around at old v new front is e) [
+      | inl o ↦ restrict-arm Kind.Type any_type refl around at old v new outer o
+      | inr (inl o) ↦ volatile-arm Kind.Type any_type refl around at old v new outer o
+      | inr (inr (inl o)) ↦ const-arm Kind.Type any_type refl around at old v new outer o
+      | inr (inr (inr (inl o))) ↦ type-d-arm around at old v new outer o
+      | inr (inr (inr (inr (inl o)))) ↦ reference-arm Kind.Type any_type tt refl around at old v new outer o
+      | inr (inr (inr (inr (inr o)))) ↦ plain-arm Kind.Type any_type tt refl around at old v new outer o
+    ]
 
 pub item-branch : BranchRead Kind.Item
 unfolding alternatives takes_qualified takes_all takes_expansions
 item-branch rule taken parts all around at old v new front is e outer =
-    go (opened-read Kind.Item rule taken parts all around at old v new front is e)
-  where
-    go : OneOf (alternatives Kind.Item) (OpenedRead Kind.Item around at old v new) → TypeFits around item_type (tree_of v) old new
-    go (inl o) = restrict-arm Kind.Item item_type refl around at old v new outer o
-    go (inr (inl o)) = volatile-arm Kind.Item item_type refl around at old v new outer o
-    go (inr (inr (inl o))) = const-arm Kind.Item item_type refl around at old v new outer o
-    go (inr (inr (inr (inl o)))) = item-d-arm Kind.Item item_type tt refl around at old v new outer o
-    go (inr (inr (inr (inr (inl o))))) = reference-arm Kind.Item item_type tt refl around at old v new outer o
-    go (inr (inr (inr (inr (inr (inl o)))))) = plain-arm Kind.Item item_type tt refl around at old v new outer o
-    go (inr (inr (inr (inr (inr (inr none)))))) = absurd none
+    elim (opened-read Kind.Item rule taken parts all around at old v new front is e) [
+      | inl o ↦ restrict-arm Kind.Item item_type refl around at old v new outer o
+      | inr (inl o) ↦ volatile-arm Kind.Item item_type refl around at old v new outer o
+      | inr (inr (inl o)) ↦ const-arm Kind.Item item_type refl around at old v new outer o
+      | inr (inr (inr (inl o))) ↦ item-d-arm Kind.Item item_type tt refl around at old v new outer o
+      | inr (inr (inr (inr (inl o)))) ↦ reference-arm Kind.Item item_type tt refl around at old v new outer o
+      | inr (inr (inr (inr (inr o)))) ↦ plain-arm Kind.Item item_type tt refl around at old v new outer o
+    ]
 
 -- ## Arguments of templates
 
@@ -165,36 +160,31 @@ expression-arm around at old v new outer o =
 pub argument-branch : BranchRead Kind.Argument
 unfolding alternatives takes_qualified takes_all takes_expansions
 argument-branch rule taken parts all around at old v new front is e outer =
-    go (opened-read Kind.Argument rule taken parts all around at old v new front is e)
+    elim (opened-read Kind.Argument rule taken parts all around at old v new front is e) [
+      | inl o ↦ typed (restrict-arm Kind.Argument item_type refl around at old v new outer o)
+      | inr (inl o) ↦ typed (volatile-arm Kind.Argument item_type refl around at old v new outer o)
+      | inr (inr (inl o)) ↦ typed (const-arm Kind.Argument item_type refl around at old v new outer o)
+      | inr (inr (inr (inl o))) ↦ typed (item-d-arm Kind.Argument item_type tt refl around at old v new outer o)
+      | inr (inr (inr (inr (inl o)))) ↦ typed (reference-arm Kind.Argument item_type tt refl around at old v new outer o)
+      | inr (inr (inr (inr (inr (inl o))))) ↦ expression-arm around at old v new outer o
+      | inr (inr (inr (inr (inr (inr (inl o)))))) ↦ typed (with-t-arm refl around at old v new outer o)
+      | inr (inr (inr (inr (inr (inr (inr o)))))) ↦ typed (plain-argument-arm refl around at old v new outer o)
+    ]
   where
     typed : TypeFits around item_type (tree_of v) old new → KindFits Kind.Argument around v old new
     typed one = type-as-argument around v old new one
-
-    go : OneOf (alternatives Kind.Argument) (OpenedRead Kind.Argument around at old v new) → KindFits Kind.Argument around v old new
-    go (inl o) = typed (restrict-arm Kind.Argument item_type refl around at old v new outer o)
-    go (inr (inl o)) = typed (volatile-arm Kind.Argument item_type refl around at old v new outer o)
-    go (inr (inr (inl o))) = typed (const-arm Kind.Argument item_type refl around at old v new outer o)
-    go (inr (inr (inr (inl o)))) = typed (item-d-arm Kind.Argument item_type tt refl around at old v new outer o)
-    go (inr (inr (inr (inr (inl o))))) = typed (reference-arm Kind.Argument item_type tt refl around at old v new outer o)
-    go (inr (inr (inr (inr (inr (inl o)))))) = expression-arm around at old v new outer o
-    go (inr (inr (inr (inr (inr (inr (inl o))))))) = typed (with-t-arm refl around at old v new outer o)
-    go (inr (inr (inr (inr (inr (inr (inr (inl o)))))))) = typed (plain-argument-arm refl around at old v new outer o)
-    go (inr (inr (inr (inr (inr (inr (inr (inr none)))))))) = absurd none
 
 -- parameters of function types
 pub parameter-branch : BranchRead Kind.ItemButRef
 unfolding alternatives takes_qualified takes_all takes_expansions
 parameter-branch rule taken parts all around at old v new front is e outer =
-    go (opened-read Kind.ItemButRef rule taken parts all around at old v new front is e)
-  where
-    go : OneOf (alternatives Kind.ItemButRef) (OpenedRead Kind.ItemButRef around at old v new)
-        → TypeFits around parameter_type (tree_of v) old new
-    go (inl o) = restrict-arm Kind.ItemButRef parameter_type refl around at old v new outer o
-    go (inr (inl o)) = volatile-arm Kind.ItemButRef parameter_type refl around at old v new outer o
-    go (inr (inr (inl o))) = const-arm Kind.ItemButRef parameter_type refl around at old v new outer o
-    go (inr (inr (inr (inl o)))) = item-d-arm Kind.ItemButRef parameter_type tt refl around at old v new outer o
-    go (inr (inr (inr (inr (inl o))))) = plain-arm Kind.ItemButRef parameter_type tt refl around at old v new outer o
-    go (inr (inr (inr (inr (inr none))))) = absurd none
+    elim (opened-read Kind.ItemButRef rule taken parts all around at old v new front is e) [
+      | inl o ↦ restrict-arm Kind.ItemButRef parameter_type refl around at old v new outer o
+      | inr (inl o) ↦ volatile-arm Kind.ItemButRef parameter_type refl around at old v new outer o
+      | inr (inr (inl o)) ↦ const-arm Kind.ItemButRef parameter_type refl around at old v new outer o
+      | inr (inr (inr (inl o))) ↦ item-d-arm Kind.ItemButRef parameter_type tt refl around at old v new outer o
+      | inr (inr (inr (inr o))) ↦ plain-arm Kind.ItemButRef parameter_type tt refl around at old v new outer o
+    ]
 
 -- ## Right under qualifiers
 
@@ -230,13 +220,11 @@ bare-reference-arm around at old v new outer o =
 pub plain-branch : BranchRead Kind.Plain
 unfolding alternatives
 plain-branch rule taken parts all around at old v new front is e outer =
-    go (opened-read Kind.Plain rule taken parts all around at old v new front is e)
-  where
-    go : OneOf (alternatives Kind.Plain) (OpenedRead Kind.Plain around at old v new) → KindFits Kind.Plain around v old new
-    go (inl o) = plain-d-arm around at old v new outer o
-    go (inr (inl o)) = bare-reference-arm around at old v new outer o
-    go (inr (inr (inl o))) = qualified-arm around at old v new outer o
-    go (inr (inr (inr none))) = absurd none
+    elim (opened-read Kind.Plain rule taken parts all around at old v new front is e) [
+      | inl o ↦ plain-d-arm around at old v new outer o
+      | inr (inl o) ↦ bare-reference-arm around at old v new outer o
+      | inr (inr o) ↦ qualified-arm around at old v new outer o
+    ]
 
 -- ## After a D
 
@@ -263,12 +251,10 @@ item-type-arm around at old v new outer o =
 pub item-d-branch : BranchRead Kind.ItemAfterD
 unfolding alternatives
 item-d-branch rule taken parts all around at old v new front is e outer =
-    go (opened-read Kind.ItemAfterD rule taken parts all around at old v new front is e)
-  where
-    go : OneOf (alternatives Kind.ItemAfterD) (OpenedRead Kind.ItemAfterD around at old v new) → KindFits Kind.ItemAfterD around v old new
-    go (inl o) = expansion-arm around at old v new outer o
-    go (inr (inl o)) = item-type-arm around at old v new outer o
-    go (inr (inr none)) = absurd none
+    elim (opened-read Kind.ItemAfterD rule taken parts all around at old v new front is e) [
+      | inl o ↦ expansion-arm around at old v new outer o
+      | inr o ↦ item-type-arm around at old v new outer o
+    ]
 
 builtin-d-arm : (around : Around) (at : ℕ) (old : State) (v : Value) (new : State)
     → OpenedRead Kind.AfterD around at old v new Production.BuiltinWithD → KindFits Kind.AfterD around v old new
@@ -315,10 +301,8 @@ noexcept-arm around at old v new outer o =
 pub after-d-branch : BranchRead Kind.AfterD
 unfolding alternatives
 after-d-branch rule taken parts all around at old v new front is e outer =
-    go (opened-read Kind.AfterD rule taken parts all around at old v new front is e)
-  where
-    go : OneOf (alternatives Kind.AfterD) (OpenedRead Kind.AfterD around at old v new) → KindFits Kind.AfterD around v old new
-    go (inl o) = builtin-d-arm around at old v new o
-    go (inr (inl o)) = vector-arm around at old v new outer o
-    go (inr (inr (inl o))) = noexcept-arm around at old v new outer o
-    go (inr (inr (inr none))) = absurd none
+    elim (opened-read Kind.AfterD rule taken parts all around at old v new front is e) [
+      | inl o ↦ builtin-d-arm around at old v new o
+      | inr (inl o) ↦ vector-arm around at old v new outer o
+      | inr (inr o) ↦ noexcept-arm around at old v new outer o
+    ]

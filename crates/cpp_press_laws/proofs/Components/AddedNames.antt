@@ -14,8 +14,9 @@ use Rattle.cpp_press_laws.specs.Pressing.{no_ways, type_ways, in_N_and_E, with_l
 use Rattle.cpp_press_laws.proofs.Components.Parts.{PrefixOr, Inside, Whole, prefix-whole}
 use Rattle.cpp_press_laws.proofs.Components.Complete.{Complete}
 use Rattle.cpp_press_laws.specs.Fits.{Standing, Fitting, Behind, as_component, as_template, behind_bytes, one_piece, Slot, names_type, names_function, begins_name, Role, in_type, in_name_with, letters_of, names_in, fits_nowhere, type_fits, piece_fits, argument_fits, encoding_fits, fits_of, names_member, IsSpellableDiscriminator}
+use Rattle.cpp_press_laws.proofs.Fitting as fit
 use Rattle.cpp_press_laws.proofs.Components.Adding.{AddsParts, Adds, Either, both-added, fewer-added, behind-and, at-once, and-adds, whole-adds, letters-add, no-letters-add}
-use Rattle.cpp_press_laws.proofs.Components.AddedWays.{way_at, AtSlot, WaysAdd, in-component, reference-adds, found-and-adds, in-template, in-nested-template, component-at}
+use Rattle.cpp_press_laws.proofs.Components.AddedWays.{way_at, AtSlot, WaysAdd, AddsAt, nowhere-ways-add, in-component, reference-adds, found-and-adds, in-template, in-nested-template, component-at}
 
 -- ## Names
 
@@ -27,39 +28,34 @@ no-encoding-inside _ x inside is w = first_of (cc, assumption w)
 pub alone-add : (p : Term) → WaysAdd p (fits_of p) (λ n. ways_of n p) → WaysAdd (alone p) (fits_of (alone p)) (λ n. ways_of n (alone p))
 unfolding fits_of fits_nowhere ways_of name_ways no_ways
 alone-add p a = record {
-  as_type = λ slot around allowed. component-at slot around.encoding (alone p)
-      (as_component (alone p) (one_piece outermost (names_type p) (fits_of p).as_piece) around allowed)
-      (ways_of around.encoding (alone p)) (λ x w. w) (whole around allowed (names_type p)) (whole around allowed (names_type p));
-  as_prefix = λ around allowed. whole around allowed (begins_name p);
-  as_prefix_template = λ around allowed. whole around allowed (begins_name p);
-  between = λ around allowed place cs fits complete. absurd fits;
-  between_template = λ around allowed place cs fits complete. absurd fits;
-  as_entity = λ role around allowed place cs fits complete. absurd fits;
-  as_entity_template = λ around allowed place cs fits complete. absurd fits;
-  as_piece = λ around allowed place cs fits complete. absurd fits;
-  as_encoding = λ allowed n m place cs fits complete. absurd fits;
-  as_name = λ q ref around allowed. no-letters-add (name_letters q ref) around.encoding (Inside (alone p))
-      (one_piece outermost (names_function p) (fits_of p).as_piece around allowed) (ways_of around.encoding p).as_piece
-      (ways_of around.encoding p).as_piece (spelled around allowed (names_function p));
+  at = each;
   before = λ typed around allowed G arguments Q more. in-template around allowed (alone p)
       (one_piece outermost (elim typed [ true ↦ names_type p | false ↦ names_function p ]) (fits_of p).as_piece) (λ n.
       (ways_of n p).as_piece) G
       arguments Q (spelled around allowed (elim typed [ true ↦ names_type p | false ↦ names_function p ])) more;
-  as_argument = λ in_pack around allowed. whole around allowed (names_type p);
-  as_parameters = λ slot other around allowed place cs fits complete. absurd fits;
-  as_more_parameters = λ slot other around allowed place cs fits complete. absurd fits;
-  as_elements = λ in_pack around allowed place cs fits complete. absurd fits;
 }
   where
     spelled : (around : Around) (allowed : Option ℕ) (may : Bool)
         → Adds around.encoding (Inside p) (one_piece outermost may (fits_of p).as_piece around allowed) (ways_of around.encoding p).as_piece
-    spelled around allowed may place cs fits complete = a.as_piece around allowed place cs fits.2 complete
+    spelled around allowed may place cs fits complete = (a.at fit.as_piece) around allowed place cs fits.2 complete
 
     whole : (around : Around) (allowed : Option ℕ) (may : Bool)
         → Adds around.encoding (Whole (alone p)) (as_component (alone p) (one_piece outermost may (fits_of p).as_piece) around allowed)
         (component around.encoding (alone p) (ways_of around.encoding p).as_piece)
     whole around allowed may = in-component around allowed (alone p) (one_piece outermost may (fits_of p).as_piece)
         (ways_of around.encoding p).as_piece (spelled around allowed may)
+
+    each : AddsAt (alone p) (fits_of (alone p)) (λ n. ways_of n (alone p))
+    each fit.as_type = λ slot around allowed. component-at slot around.encoding (alone p)
+        (as_component (alone p) (one_piece outermost (names_type p) (fits_of p).as_piece) around allowed)
+        (ways_of around.encoding (alone p)) (λ x w. w) (whole around allowed (names_type p)) (whole around allowed (names_type p))
+    each fit.as_prefix = λ around allowed. whole around allowed (begins_name p)
+    each fit.as_prefix_template = λ around allowed. whole around allowed (begins_name p)
+    each fit.as_name = λ q ref around allowed. no-letters-add (name_letters q ref) around.encoding (Inside (alone p))
+        (one_piece outermost (names_function p) (fits_of p).as_piece around allowed) (ways_of around.encoding p).as_piece
+        (ways_of around.encoding p).as_piece (spelled around allowed (names_function p))
+    each fit.as_argument = λ in_pack around allowed. whole around allowed (names_type p)
+    each w = (nowhere-ways-add (alone p) (λ n. ways_of n (alone p))).at w
 
 pub front-none : (s : Spelling) (n : ℕ) (own : Term) (G : Standing) (place : ℕ) (cs : List Component)
     → Behind ((text [] and s) and ended n own) G place cs → Behind (s and ended n own) G place cs
@@ -71,25 +67,8 @@ front-none s n own G place cs fits =
 pub in-std-add : (p : Term) → WaysAdd p (fits_of p) (λ n. ways_of n p) → WaysAdd (in_std p) (fits_of (in_std p)) (λ n. ways_of n (in_std p))
 unfolding fits_of fits_nowhere ways_of name_ways no_ways entity_text is_one_piece in_N_and_E
 in-std-add p a = record {
-  as_type = λ slot around allowed. component-at slot around.encoding (in_std p) (as_component (in_std p) (behind_bytes (elim (is_operator p)
-      [ true ↦ codes "N" | false ↦ [] ]) std) around allowed) (ways_of around.encoding (in_std p)) (λ x w. w) (whole around allowed)
-      (whole around allowed);
-  as_prefix = λ around allowed. in-component around allowed (in_std p) std (spelling around.encoding) (spelled around allowed);
-  as_prefix_template = λ around allowed. in-component around allowed (in_std p) std (spelling around.encoding) (spelled around allowed);
-  between = spelled;
-  between_template = spelled;
-  as_entity = λ role around allowed place cs fits complete. spelled around allowed (place + length
-      (codes "N" ++ letters_of role)) cs fits complete;
-  as_entity_template = λ around allowed place cs fits complete. absurd fits;
-  as_piece = λ around allowed place cs fits complete. absurd fits;
-  as_encoding = λ allowed n m place cs fits complete. absurd fits;
-  as_name = λ q ref around allowed. letters-add (name_letters q ref) around.encoding (Inside (in_std p)) around allowed std std
-      (spelling around.encoding) (spelling around.encoding) (spelled around allowed) (spelled around allowed);
+  at = each;
   before = λ typed around allowed G arguments Q more. befores typed (is_operator p) around allowed G arguments Q more;
-  as_argument = λ in_pack around allowed. whole around allowed;
-  as_parameters = λ slot other around allowed place cs fits complete. absurd fits;
-  as_more_parameters = λ slot other around allowed place cs fits complete. absurd fits;
-  as_elements = λ in_pack around allowed place cs fits complete. absurd fits;
 }
   where
     std : Fitting
@@ -102,7 +81,7 @@ in-std-add p a = record {
     typed_spelling b n = elim b as (λ _. Spelling) [ true ↦ in_N_and_E [] (spelling n) | false ↦ spelling n ]
 
     spelled : (around : Around) (allowed : Option ℕ) → Adds around.encoding (Inside p) (std around allowed) (spelling around.encoding)
-    spelled around allowed place cs fits complete = a.as_piece around allowed (place + 2) cs fits.1 complete
+    spelled around allowed place cs fits complete = (a.at fit.as_piece) around allowed (place + 2) cs fits.1 complete
 
     typed : (b : Bool) (around : Around) (allowed : Option ℕ)
         → Adds around.encoding (Inside p) (behind_bytes (elim b [ true ↦ codes "N" | false ↦ [] ]) std around allowed)
@@ -145,6 +124,21 @@ in-std-add p a = record {
     befores true true around allowed G arguments Q more =
         in-nested-template around allowed (in_std p) std spelling G arguments Q (spelled around allowed) more
 
+    each : AddsAt (in_std p) (fits_of (in_std p)) (λ n. ways_of n (in_std p))
+    each fit.as_type = λ slot around allowed. component-at slot around.encoding (in_std p) (as_component (in_std p) (behind_bytes (elim (is_operator p)
+        [ true ↦ codes "N" | false ↦ [] ]) std) around allowed) (ways_of around.encoding (in_std p)) (λ x w. w) (whole around allowed)
+        (whole around allowed)
+    each fit.as_prefix = λ around allowed. in-component around allowed (in_std p) std (spelling around.encoding) (spelled around allowed)
+    each fit.as_prefix_template = λ around allowed. in-component around allowed (in_std p) std (spelling around.encoding) (spelled around allowed)
+    each fit.between = spelled
+    each fit.between_template = spelled
+    each fit.as_entity = λ role around allowed place cs fits complete. spelled around allowed (place + length
+        (codes "N" ++ letters_of role)) cs fits complete
+    each fit.as_name = λ q ref around allowed. letters-add (name_letters q ref) around.encoding (Inside (in_std p)) around allowed std std
+        (spelling around.encoding) (spelling around.encoding) (spelled around allowed) (spelled around allowed)
+    each fit.as_argument = λ in_pack around allowed. whole around allowed
+    each w = (nowhere-ways-add (in_std p) (λ n. ways_of n (in_std p))).at w
+
 -- the one form of an entity or the other
 pub entity-adds : (b : Bool) (n : ℕ) (P : Term → Type 0) (letters : List ℕ) (between : Spelling) (place : ℕ) (cs : List Component)
     → ((b ≡ true) × AddsParts n P cs (between place cs).components)
@@ -174,36 +168,9 @@ pub within-add : (prefix p : Term) → WaysAdd prefix (fits_of prefix) (λ n. wa
     → WaysAdd (within prefix p) (fits_of (within prefix p)) (λ n. ways_of n (within prefix p))
 unfolding fits_of fits_nowhere ways_of name_ways no_ways entity_text is_one_piece after in_N_and_E
 within-add prefix p a b = record {
-  as_type = λ slot around allowed. component-at slot around.encoding (within prefix p) (as_component (within prefix p) (behind_bytes
-      (codes "N") joined)
-      around allowed) (ways_of around.encoding (within prefix p)) (λ x w. w) (whole around allowed) (whole around allowed);
-  as_prefix = λ around allowed. in-component around allowed (within prefix p) begun_ (spelling around.encoding) (begins around allowed);
-  as_prefix_template = λ around allowed. in-component around allowed (within prefix p) begun_ (spelling around.encoding)
-      (begins around allowed);
-  between = joins;
-  between_template = joins;
-  as_entity = λ role around allowed place cs fits complete. entity-adds (is_encoding prefix) around.encoding (Inside (within prefix p))
-      (letters_of role)
-      (spelling around.encoding) place cs (elim fits [
-        | inl one ↦ inl (one.1.0, pieces (names_in role p) around allowed place cs one.1 complete)
-        | inr other ↦ inr (
-          is-not (is_encoding prefix) (λ is. no-encoding-fits prefix around allowed (place + length
-              (codes "N" ++ letters_of role)) cs is other.0),
-          joins around allowed (place + length (codes "N" ++ letters_of role)) cs other complete,
-        )
-      ]);
-  as_entity_template = pieces (begins_name p);
-  as_piece = λ around allowed place cs fits complete. absurd fits;
-  as_encoding = λ allowed n m place cs fits complete. absurd fits;
-  as_name = λ q ref around allowed. nested-letters-add (name_letters q ref) around.encoding (Inside (within prefix p))
-      (joined around allowed)
-      (spelling around.encoding) (joins around allowed);
+  at = each;
   before = λ typed around allowed G arguments Q more. in-nested-template around allowed (within prefix p) joined spelling G arguments Q
       (joins around allowed) more;
-  as_argument = λ in_pack around allowed. whole around allowed;
-  as_parameters = λ slot other around allowed place cs fits complete. absurd fits;
-  as_more_parameters = λ slot other around allowed place cs fits complete. absurd fits;
-  as_elements = λ in_pack around allowed place cs fits complete. absurd fits;
 }
   where
     joined : Fitting
@@ -227,19 +194,19 @@ within-add prefix p a b = record {
     joins around allowed place cs fits complete =
         let f : spell.Pressed Component = (ways_of around.encoding prefix).as_prefix place cs in
         let later : ℕ = place + length f.bytes in
-        let one = a.as_prefix around allowed place cs fits.0 complete in
+        let one = (a.at fit.as_prefix) around allowed place cs fits.0 complete in
         fewer-added around.encoding (Either (Whole prefix) (Inside p)) (Inside (within prefix p)) cs
         (spelling around.encoding place cs).components
         (λ x i. elim i [ inl w ↦ inl (prefix-whole prefix x (Inside prefix x) w) | inr j ↦ inr j ])
         (both-added around.encoding (Whole prefix) (Inside p) cs f.components (spelling around.encoding place cs).components one
-        (b.as_piece (after prefix true around) allowed later f.components fits.2 one.complete))
+        (b.at fit.as_piece (after prefix true around) allowed later f.components fits.2 one.complete))
 
     pieces : (may : Bool) (around : Around) (allowed : Option ℕ)
         → Adds around.encoding (Inside (within prefix p)) (local_piece may around allowed) (spelling around.encoding)
     pieces may around allowed place cs fits complete =
         let n : ℕ = around.encoding in
         let piece : Spelling = (ways_of n p).as_piece in
-        let one = b.as_piece around allowed (place + 0) cs (at-none ((fits_of p).as_piece around allowed) place cs fits.1.2) complete in
+        let one = (b.at fit.as_piece) around allowed (place + 0) cs (at-none ((fits_of p).as_piece around allowed) place cs fits.1.2) complete in
         let more = fewer-added n (Inside p) (Inside (within prefix p)) cs (piece (place + 0) cs).components
         (λ x i. elim i [ inl w ↦ absurd (no-encoding-inside prefix x (Inside prefix x) fits.0 w) | inr j ↦ j ]) one in
         subst (λ s. AddsParts n (Inside (within prefix p)) cs ((s and piece) place cs).components) (sym
@@ -256,6 +223,32 @@ within-add prefix p a b = record {
     whole around allowed =
         in-component around allowed (within prefix p) (behind_bytes (codes "N") joined) (in_N_and_E [] (spelling around.encoding))
         (λ place cs fits complete. joins around allowed (place + 1) cs fits complete)
+
+    each : AddsAt (within prefix p) (fits_of (within prefix p)) (λ n. ways_of n (within prefix p))
+    each fit.as_type = λ slot around allowed. component-at slot around.encoding (within prefix p) (as_component (within prefix p) (behind_bytes
+        (codes "N") joined)
+        around allowed) (ways_of around.encoding (within prefix p)) (λ x w. w) (whole around allowed) (whole around allowed)
+    each fit.as_prefix = λ around allowed. in-component around allowed (within prefix p) begun_ (spelling around.encoding) (begins around allowed)
+    each fit.as_prefix_template = λ around allowed. in-component around allowed (within prefix p) begun_ (spelling around.encoding)
+        (begins around allowed)
+    each fit.between = joins
+    each fit.between_template = joins
+    each fit.as_entity = λ role around allowed place cs fits complete. entity-adds (is_encoding prefix) around.encoding (Inside (within prefix p))
+        (letters_of role)
+        (spelling around.encoding) place cs (elim fits [
+          | inl one ↦ inl (one.1.0, pieces (names_in role p) around allowed place cs one.1 complete)
+          | inr other ↦ inr (
+            is-not (is_encoding prefix) (λ is. no-encoding-fits prefix around allowed (place + length
+                (codes "N" ++ letters_of role)) cs is other.0),
+            joins around allowed (place + length (codes "N" ++ letters_of role)) cs other complete,
+          )
+        ])
+    each fit.as_entity_template = pieces (begins_name p)
+    each fit.as_name = λ q ref around allowed. nested-letters-add (name_letters q ref) around.encoding (Inside (within prefix p))
+        (joined around allowed)
+        (spelling around.encoding) (joins around allowed)
+    each fit.as_argument = λ in_pack around allowed. whole around allowed
+    each w = (nowhere-ways-add (within prefix p) (λ n. ways_of n (within prefix p))).at w
 
 pub entity-piece : (template arguments : Term) (around : Around) (allowed : Option ℕ) (place : ℕ) (cs : List Component)
     → (fits_of template).as_entity_template around allowed place cs → is_one_piece (instance template arguments) ≡ true
@@ -277,37 +270,8 @@ pub instance-add : (template arguments : Term) → WaysAdd template (fits_of tem
     → WaysAdd (instance template arguments) (fits_of (instance template arguments)) (λ n. ways_of n (instance template arguments))
 unfolding fits_of fits_nowhere ways_of name_ways no_ways entity_text inside
 instance-add template arguments a b = record {
-  as_type = λ slot around allowed. component-at slot around.encoding own (as_component own
-      ((fits_of template).before true elements) around allowed)
-      (ways_of around.encoding own) (λ x w. w) (whole around allowed) (whole around allowed);
-  as_prefix = λ around allowed. in-component around allowed own prefixed
-      ((ways_of around.encoding template).as_prefix and listed around.encoding) (prefixes around allowed);
-  as_prefix_template = λ around allowed. reference-adds around allowed own
-      ((ways_of around.encoding template).as_prefix and listed around.encoding);
-  between = joins;
-  between_template = λ around allowed place cs fits complete. absurd fits;
-  as_entity = λ role around allowed place cs fits complete. entity-adds (is_one_piece own) around.encoding (Inside own) (letters_of role)
-      (spelling around.encoding) place cs (elim fits [
-        | inl one ↦ inl (
-          entity-piece template arguments around allowed place cs one.1,
-          pieces around allowed place cs one.1 one.2 complete,
-        )
-        | inr other ↦ inr (
-          nest-piece template arguments around allowed (place + length (codes "N" ++ letters_of role)) cs other.0,
-          joins around allowed (place + length (codes "N" ++ letters_of role)) cs other complete,
-        )
-      ]);
-  as_entity_template = λ around allowed place cs fits complete. absurd fits;
-  as_piece = λ around allowed place cs fits complete. absurd fits;
-  as_encoding = λ allowed n m place cs fits complete. absurd fits;
-  as_name = λ q ref around allowed. letters-add (name_letters q ref) around.encoding (Inside own) around allowed
-      ((fits_of template).before false elements) joined ((ways_of around.encoding template).before false (listed around.encoding))
-      (spelling around.encoding) (befores false around allowed) (joins around allowed);
+  at = each;
   before = λ typed around allowed G more_arguments Q more. found-and-adds around allowed own (λ n. text []) G nothing more_arguments Q more;
-  as_argument = λ in_pack around allowed. whole around allowed;
-  as_parameters = λ slot other around allowed place cs fits complete. absurd fits;
-  as_more_parameters = λ slot other around allowed place cs fits complete. absurd fits;
-  as_elements = λ in_pack around allowed place cs fits complete. absurd fits;
 }
   where
     own : Term
@@ -321,7 +285,7 @@ instance-add template arguments a b = record {
 
     elements-add : (around : Around) (allowed : Option ℕ)
         → Adds around.encoding (Inside arguments) (elements around allowed) (listed around.encoding)
-    elements-add around allowed place cs fits complete = b.as_elements false (inside around) allowed (place + 1) cs fits complete
+    elements-add around allowed place cs fits complete = (b.at fit.as_elements) false (inside around) allowed (place + 1) cs fits complete
 
     joined : Fitting
     joined around allowed place cs =
@@ -337,7 +301,7 @@ instance-add template arguments a b = record {
         let between : Spelling = (ways_of n template).between_N_and_E in
         whole-adds n template (Inside arguments) ((fits_of template).between_template around allowed) (elements around allowed) between
         (listed n)
-        (a.between_template around allowed) (elements-add around allowed) place cs fits.0
+        (a.at fit.between_template around allowed) (elements-add around allowed) place cs fits.0
         (behind-and between (ended n template) (elements around allowed) place cs fits.1) complete
 
     pieces : (around : Around) (allowed : Option ℕ) (place : ℕ) (cs : List Component)
@@ -349,7 +313,7 @@ instance-add template arguments a b = record {
         let between : Spelling = (ways_of n template).between_N_and_E in
         whole-adds n template (Inside arguments) ((fits_of template).as_entity_template around allowed)
         (elements around allowed) between (listed n)
-        (a.as_entity_template around allowed) (elements-add around allowed) place cs fits
+        (a.at fit.as_entity_template around allowed) (elements-add around allowed) place cs fits
         (behind-and between (ended n template) (elements around allowed) place cs more) complete
 
     befores : (typed : Bool) (around : Around) (allowed : Option ℕ)
@@ -368,7 +332,7 @@ instance-add template arguments a b = record {
     prefixes around allowed place cs fits complete =
         and-adds around.encoding (Whole template) (Inside arguments) ((fits_of template).as_prefix_template around allowed)
         (elements around allowed) (ways_of around.encoding template).as_prefix (listed around.encoding)
-        (a.as_prefix_template around allowed) (elements-add around allowed) place cs (fits.0, fits.1) complete
+        (a.at fit.as_prefix_template around allowed) (elements-add around allowed) place cs (fits.0, fits.1) complete
 
     whole : (around : Around) (allowed : Option ℕ) → Adds around.encoding (Whole own) (as_component own
         ((fits_of template).before true elements)
@@ -376,28 +340,41 @@ instance-add template arguments a b = record {
     whole around allowed = in-component around allowed own ((fits_of template).before true elements)
         ((ways_of around.encoding template).before true (listed around.encoding)) (befores true around allowed)
 
+    each : AddsAt (instance template arguments) (fits_of (instance template arguments)) (λ n. ways_of n (instance template arguments))
+    each fit.as_type = λ slot around allowed. component-at slot around.encoding own (as_component own
+        ((fits_of template).before true elements) around allowed)
+        (ways_of around.encoding own) (λ x w. w) (whole around allowed) (whole around allowed)
+    each fit.as_prefix = λ around allowed. in-component around allowed own prefixed
+        ((ways_of around.encoding template).as_prefix and listed around.encoding) (prefixes around allowed)
+    each fit.as_prefix_template = λ around allowed. reference-adds around allowed own
+        ((ways_of around.encoding template).as_prefix and listed around.encoding)
+    each fit.between = joins
+    each fit.as_entity = λ role around allowed place cs fits complete. entity-adds (is_one_piece own) around.encoding (Inside own) (letters_of role)
+        (spelling around.encoding) place cs (elim fits [
+          | inl one ↦ inl (
+            entity-piece template arguments around allowed place cs one.1,
+            pieces around allowed place cs one.1 one.2 complete,
+          )
+          | inr other ↦ inr (
+            nest-piece template arguments around allowed (place + length (codes "N" ++ letters_of role)) cs other.0,
+            joins around allowed (place + length (codes "N" ++ letters_of role)) cs other complete,
+          )
+        ])
+    each fit.as_name = λ q ref around allowed. letters-add (name_letters q ref) around.encoding (Inside own) around allowed
+        ((fits_of template).before false elements) joined ((ways_of around.encoding template).before false (listed around.encoding))
+        (spelling around.encoding) (befores false around allowed) (joins around allowed)
+    each fit.as_argument = λ in_pack around allowed. whole around allowed
+    each w = (nowhere-ways-add (instance template arguments) (λ n. ways_of n (instance template arguments))).at w
+
 pub local-add : (e entity : Term) (discriminator : Option (List ℕ)) → WaysAdd e (fits_of e) (λ n. ways_of n e)
     → WaysAdd entity (fits_of entity) (λ n. ways_of n entity)
     → WaysAdd (local e entity discriminator) (fits_of (local e entity discriminator)) (λ n. ways_of n (local e entity discriminator))
 unfolding fits_of fits_nowhere type_fits ways_of type_ways no_ways local_text after letters_of
 local-add e entity discriminator a b = record {
-  as_type = λ slot around allowed. component-slots slot around allowed;
-  as_prefix = λ around allowed. reference-adds around allowed own (spelling in_type around.encoding);
-  as_prefix_template = λ around allowed. reference-adds around allowed own (spelling in_type around.encoding);
-  between = λ around allowed place cs fits complete. absurd fits;
-  between_template = λ around allowed place cs fits complete. absurd fits;
-  as_entity = λ role around allowed place cs fits complete. absurd fits;
-  as_entity_template = λ around allowed place cs fits complete. absurd fits;
-  as_piece = λ around allowed place cs fits complete. absurd fits;
-  as_encoding = λ allowed n m place cs fits complete. absurd fits;
-  as_name = λ q ref around allowed. spelled-adds (in_name_with q ref) around allowed;
+  at = each;
   before = λ typed around allowed G arguments Q more. found-and-adds around allowed own (λ n. text []) G
       (spelling in_type around.encoding) arguments Q
       more;
-  as_argument = λ in_pack around allowed. whole around allowed;
-  as_parameters = λ slot other around allowed place cs fits complete. absurd fits;
-  as_more_parameters = λ slot other around allowed place cs fits complete. absurd fits;
-  as_elements = λ in_pack around allowed place cs fits complete. absurd fits;
 }
   where
     own : Term
@@ -422,13 +399,13 @@ local-add e entity discriminator a b = record {
         let inner : Around = after e true around in
         let G : Standing = (fits_of entity).as_entity role inner allowed in
         let later : ℕ = place + 1 + length f.bytes + 1 in
-        let one = a.as_encoding allowed n n (place + 1) cs fits.0 complete in
+        let one = (a.at fit.as_encoding) allowed n n (place + 1) cs fits.0 complete in
         let behind_ : G later f.components = behind-and scope (text (codes "E")) G (place + 1) cs
         (behind-and (text (codes "Z")) (scope and text (codes "E")) G place cs fits.1) in
         fewer-added n (Either (Inside e) (Inside entity)) (Inside own) cs (spelling role n place cs).components
         (λ x i. elim i [ inl s ↦ inl s.1 | inr j ↦ inr j ])
         (both-added n (Inside e) (Inside entity) cs f.components (spelling role n place cs).components one
-        (b.as_entity role inner allowed later f.components behind_ one.complete))
+        (b.at fit.as_entity role inner allowed later f.components behind_ one.complete))
 
     whole : (around : Around) (allowed : Option ℕ) → Adds around.encoding (Whole own) (as_component own (spelled in_type) around allowed)
         (component around.encoding own (spelling in_type around.encoding))
@@ -439,3 +416,11 @@ local-add e entity discriminator a b = record {
         (as_component own (spelled in_type) around allowed) (way_at slot (ways_of around.encoding own))
     component-slots slot around allowed = component-at slot around.encoding own (as_component own (spelled in_type) around allowed)
         (ways_of around.encoding own) (λ x w. w) (whole around allowed) (whole around allowed)
+
+    each : AddsAt (local e entity discriminator) (fits_of (local e entity discriminator)) (λ n. ways_of n (local e entity discriminator))
+    each fit.as_type = λ slot around allowed. component-slots slot around allowed
+    each fit.as_prefix = λ around allowed. reference-adds around allowed own (spelling in_type around.encoding)
+    each fit.as_prefix_template = λ around allowed. reference-adds around allowed own (spelling in_type around.encoding)
+    each fit.as_name = λ q ref around allowed. spelled-adds (in_name_with q ref) around allowed
+    each fit.as_argument = λ in_pack around allowed. whole around allowed
+    each w = (nowhere-ways-add (local e entity discriminator) (λ n. ways_of n (local e entity discriminator))).at w

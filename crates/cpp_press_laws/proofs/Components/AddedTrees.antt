@@ -12,8 +12,10 @@ use Rattle.cpp_press_laws.specs.Pressing.{no_ways, type_ways, function_text, pie
 use Rattle.cpp_press_laws.proofs.Components.Parts.{IsComponent, Shut, Inside, Whole}
 use Rattle.cpp_press_laws.proofs.Components.KnownTrees.{In}
 use Rattle.cpp_press_laws.specs.Fits.{Standing, Fitting, Behind, as_component, either, Slot, any_type, bare_type, item_type, parameter_type, literal_type, nowhere, fits_nowhere, type_fits, piece_fits, fits_of, takes_all, NamesArgument, IsAbbreviation, IsBuiltin}
+use Rattle.cpp_press_laws.proofs.Slots.{each-slot}
+use Rattle.cpp_press_laws.proofs.Fitting as fit
 use Rattle.cpp_press_laws.proofs.Components.Adding.{AddsParts, Adds, Either, No, none-added, fewer-added, behind-and, and-adds}
-use Rattle.cpp_press_laws.proofs.Components.AddedWays.{way_at, AtSlot, IsNotBare, WaysAdd, in-component, reference-adds, leaf-adds, no-whole, found-and-adds, component-at, type-ways-add, piece-ways-add, argument-ways-add, encoding-ways-add, nowhere-ways-add}
+use Rattle.cpp_press_laws.proofs.Components.AddedWays.{way_at, AtSlot, IsNotBare, WaysAdd, AddsAt, in-component, reference-adds, leaf-adds, no-whole, found-and-adds, component-at, type-ways-add, piece-ways-add, argument-ways-add, encoding-ways-add, nowhere-ways-add}
 use Rattle.cpp_press_laws.proofs.Components.AddedNames.{alone-add, in-std-add, within-add, instance-add, local-add}
 
 -- ## Types
@@ -21,25 +23,11 @@ use Rattle.cpp_press_laws.proofs.Components.AddedNames.{alone-add, in-std-add, w
 parameter-add : (k : ℕ) → WaysAdd (parameter k) (fits_of (parameter k)) (λ n. ways_of n (parameter k))
 unfolding fits_of fits_nowhere type_fits ways_of type_ways no_ways
 parameter-add k = record {
-  as_type = λ slot around allowed. component-at slot around.encoding (parameter k) (as_component (parameter k) named around allowed)
-      (ways_of around.encoding (parameter k)) (λ x w. w) (whole named around allowed) (whole named around allowed);
-  as_prefix = λ around allowed. whole named around allowed;
-  as_prefix_template = λ around allowed. whole named around allowed;
-  between = λ around allowed place cs fits complete. absurd fits;
-  between_template = λ around allowed place cs fits complete. absurd fits;
-  as_entity = λ role around allowed place cs fits complete. absurd fits;
-  as_entity_template = λ around allowed place cs fits complete. absurd fits;
-  as_piece = λ around allowed place cs fits complete. absurd fits;
-  as_encoding = λ allowed n m place cs fits complete. absurd fits;
-  as_name = λ q ref around allowed place cs fits complete. absurd fits;
+  at = each;
   before = λ typed around allowed G arguments Q more. and-adds around.encoding (Whole (parameter k)) Q
       (as_component (parameter k) (elim typed [ true ↦ named | false ↦ nowhere ]) around allowed) (G around allowed)
       (component around.encoding (parameter k) (text (codes "T" ++ ordinal k))) arguments
       (whole (elim typed [ true ↦ named | false ↦ nowhere ]) around allowed) more;
-  as_argument = λ in_pack around allowed. whole named around allowed;
-  as_parameters = λ slot other around allowed place cs fits complete. absurd fits;
-  as_more_parameters = λ slot other around allowed place cs fits complete. absurd fits;
-  as_elements = λ in_pack around allowed place cs fits complete. absurd fits;
 }
   where
     named : Fitting
@@ -50,27 +38,21 @@ parameter-add k = record {
     whole fitting around allowed = in-component around allowed (parameter k) fitting (text (codes "T" ++ ordinal k))
         (leaf-adds around.encoding (Inside (parameter k)) (fitting around allowed) (codes "T" ++ ordinal k) (λ x i. i))
 
+    each : AddsAt (parameter k) (fits_of (parameter k)) (λ n. ways_of n (parameter k))
+    each fit.as_type = λ slot around allowed. component-at slot around.encoding (parameter k) (as_component (parameter k) named around allowed)
+        (ways_of around.encoding (parameter k)) (λ x w. w) (whole named around allowed) (whole named around allowed)
+    each fit.as_prefix = λ around allowed. whole named around allowed
+    each fit.as_prefix_template = λ around allowed. whole named around allowed
+    each fit.as_argument = λ in_pack around allowed. whole named around allowed
+    each w = (nowhere-ways-add (parameter k) (λ n. ways_of n (parameter k))).at w
+
 abbreviation-add : (l : ℕ) → WaysAdd (abbreviation l) (fits_of (abbreviation l)) (λ n. ways_of n (abbreviation l))
 unfolding fits_of fits_nowhere ways_of type_ways no_ways
 abbreviation-add l = record {
-  as_type = λ slot around allowed. component-at slot around.encoding (abbreviation l) lettered (ways_of around.encoding (abbreviation l))
-      (λ x w. w) (whole around.encoding) (whole around.encoding);
-  as_prefix = λ around allowed. whole around.encoding;
-  as_prefix_template = λ around allowed. whole around.encoding;
-  between = λ around allowed place cs fits complete. absurd fits;
-  between_template = λ around allowed place cs fits complete. absurd fits;
-  as_entity = λ role around allowed place cs fits complete. absurd fits;
-  as_entity_template = λ around allowed place cs fits complete. absurd fits;
-  as_piece = λ around allowed place cs fits complete. absurd fits;
-  as_encoding = λ allowed n m place cs fits complete. absurd fits;
-  as_name = λ q ref around allowed place cs fits complete. absurd fits;
+  at = each;
   before = λ typed around allowed G arguments Q more place cs fits complete. fewer-added around.encoding Q (Either (Whole
       (abbreviation l)) Q) cs
       (arguments (place + 2) cs).components (λ x i. elim i [ inl w ↦ absurd (none x w) | inr q ↦ q ]) (more (place + 2) cs fits.1 complete);
-  as_argument = λ in_pack around allowed. whole around.encoding;
-  as_parameters = λ slot other around allowed place cs fits complete. absurd fits;
-  as_more_parameters = λ slot other around allowed place cs fits complete. absurd fits;
-  as_elements = λ in_pack around allowed place cs fits complete. absurd fits;
 }
   where
     lettered : Standing
@@ -82,30 +64,30 @@ abbreviation-add l = record {
     whole : (n : ℕ) → Adds n (Whole (abbreviation l)) lettered (text (codes "S" ++ l ∷ []))
     whole n = leaf-adds n (Whole (abbreviation l)) lettered (codes "S" ++ l ∷ []) none
 
+    each : AddsAt (abbreviation l) (fits_of (abbreviation l)) (λ n. ways_of n (abbreviation l))
+    each fit.as_type = λ slot around allowed. component-at slot around.encoding (abbreviation l) lettered (ways_of around.encoding (abbreviation l))
+        (λ x w. w) (whole around.encoding) (whole around.encoding)
+    each fit.as_prefix = λ around allowed. whole around.encoding
+    each fit.as_prefix_template = λ around allowed. whole around.encoding
+    each fit.as_argument = λ in_pack around allowed. whole around.encoding
+    each w = (nowhere-ways-add (abbreviation l) (λ n. ways_of n (abbreviation l))).at w
+
 builtin-add : (code : List ℕ) → WaysAdd (builtin code) (fits_of (builtin code)) (λ n. ways_of n (builtin code))
 unfolding fits_of fits_nowhere ways_of type_ways no_ways
 builtin-add code = record {
-  as_type = λ slot around allowed. component-at slot around.encoding (builtin code) (λ place cs. IsBuiltin slot code)
-      (ways_of around.encoding (builtin code)) (λ x w. w) (whole around.encoding (λ place cs. IsBuiltin slot code))
-      (whole around.encoding (λ place cs. IsBuiltin slot code));
-  as_prefix = λ around allowed place cs fits complete. absurd fits;
-  as_prefix_template = λ around allowed place cs fits complete. absurd fits;
-  between = λ around allowed place cs fits complete. absurd fits;
-  between_template = λ around allowed place cs fits complete. absurd fits;
-  as_entity = λ role around allowed place cs fits complete. absurd fits;
-  as_entity_template = λ around allowed place cs fits complete. absurd fits;
-  as_piece = λ around allowed place cs fits complete. absurd fits;
-  as_encoding = λ allowed n m place cs fits complete. absurd fits;
-  as_name = λ q ref around allowed place cs fits complete. absurd fits;
-  before = λ typed around allowed G arguments Q more place cs fits complete. absurd fits;
-  as_argument = λ in_pack around allowed. whole around.encoding (λ place cs. IsBuiltin item_type code);
-  as_parameters = λ slot other around allowed place cs fits complete. absurd fits;
-  as_more_parameters = λ slot other around allowed place cs fits complete. absurd fits;
-  as_elements = λ in_pack around allowed place cs fits complete. absurd fits;
+  at = each;
+  before = (nowhere-ways-add (builtin code) (λ n. ways_of n (builtin code))).before;
 }
   where
     whole : (n : ℕ) (F : Standing) → Adds n (Whole (builtin code)) F (text code)
     whole n F = leaf-adds n (Whole (builtin code)) F code (no-whole (builtin code) (λ h. h) (λ x i. i))
+
+    each : AddsAt (builtin code) (fits_of (builtin code)) (λ n. ways_of n (builtin code))
+    each fit.as_type = λ slot around allowed. component-at slot around.encoding (builtin code) (λ place cs. IsBuiltin slot code)
+        (ways_of around.encoding (builtin code)) (λ x w. w) (whole around.encoding (λ place cs. IsBuiltin slot code))
+        (whole around.encoding (λ place cs. IsBuiltin slot code))
+    each fit.as_argument = λ in_pack around allowed. whole around.encoding (λ place cs. IsBuiltin item_type code)
+    each w = (nowhere-ways-add (builtin code) (λ n. ways_of n (builtin code))).at w
 
 function-type-add : (c_linkage noexcept : Bool) (ref : RefQualifier) (returned parameters : Term)
     → WaysAdd returned (fits_of returned) (λ n. ways_of n returned) → WaysAdd parameters (fits_of parameters) (λ n. ways_of n parameters)
@@ -113,23 +95,9 @@ function-type-add : (c_linkage noexcept : Bool) (ref : RefQualifier) (returned p
     (λ n. ways_of n (function_type c_linkage noexcept ref returned parameters))
 unfolding fits_of fits_nowhere type_fits ways_of type_ways no_ways function_text way_at
 function-type-add c_linkage noexcept ref returned parameters a b = record {
-  as_type = types;
-  as_prefix = λ around allowed. reference-adds around allowed own (spelling around.encoding);
-  as_prefix_template = λ around allowed. reference-adds around allowed own (spelling around.encoding);
-  between = λ around allowed place cs fits complete. absurd fits;
-  between_template = λ around allowed place cs fits complete. absurd fits;
-  as_entity = λ role around allowed place cs fits complete. absurd fits;
-  as_entity_template = λ around allowed place cs fits complete. absurd fits;
-  as_piece = λ around allowed place cs fits complete. absurd fits;
-  as_encoding = λ allowed n m place cs fits complete. absurd fits;
-  as_name = λ q ref around allowed place cs fits complete. absurd fits;
+  at = each;
   before = λ typed around allowed G arguments Q more. found-and-adds around allowed own (λ n. text []) G
       (spelling around.encoding) arguments Q more;
-  as_argument = λ in_pack around allowed. in-component around allowed own all_slots (spelling around.encoding)
-      (λ place cs fits complete. spelled-adds around allowed place cs fits.1 complete);
-  as_parameters = λ slot other around allowed place cs fits complete. absurd fits;
-  as_more_parameters = λ slot other around allowed place cs fits complete. absurd fits;
-  as_elements = λ in_pack around allowed place cs fits complete. absurd fits;
 }
   where
     own : Term
@@ -156,7 +124,7 @@ function-type-add c_linkage noexcept ref returned parameters a b = record {
         let n : ℕ = around.encoding in
         let G : Standing = (fits_of parameters).as_parameters parameter_type around allowed in
         and-adds n (Whole returned) (Inside parameters) ((fits_of returned).as_type any_type around allowed) G (ways_of n returned).as_type
-        (ways_of n parameters).as_parameters (a.as_type any_type around allowed) (b.as_parameters parameter_type tt around allowed)
+        (ways_of n parameters).as_parameters (a.at fit.as_type any_type around allowed) (b.at fit.as_parameters parameter_type tt around allowed)
         (place + length marks) cs (fits.0, behind-and (text marks) (ways_of n returned).as_type G place cs fits.1) complete
 
     whole : (around : Around) (allowed : Option ℕ) → Adds around.encoding (Whole own) (as_component own spelled around allowed)
@@ -165,11 +133,16 @@ function-type-add c_linkage noexcept ref returned parameters a b = record {
 
     types : (slot : Slot) (around : Around) (allowed : Option ℕ)
         → Adds around.encoding (AtSlot slot own) ((fits_of own).as_type slot around allowed) (way_at slot (ways_of around.encoding own))
-    types any_type around allowed = whole around allowed
-    types bare_type around allowed = spelled-adds around allowed
-    types item_type around allowed = whole around allowed
-    types parameter_type around allowed = whole around allowed
-    types literal_type around allowed = reference-adds around allowed own (spelling around.encoding)
+    types = each-slot _ (λ around allowed. whole around allowed) (λ around allowed. spelled-adds around allowed) (λ around allowed. whole around allowed) (λ around allowed. whole around allowed) (λ around allowed. reference-adds around allowed own (spelling around.encoding))
+
+    each : AddsAt (function_type c_linkage noexcept ref returned parameters) (fits_of (function_type c_linkage noexcept ref returned parameters))
+        (λ n. ways_of n (function_type c_linkage noexcept ref returned parameters))
+    each fit.as_type = types
+    each fit.as_prefix = λ around allowed. reference-adds around allowed own (spelling around.encoding)
+    each fit.as_prefix_template = λ around allowed. reference-adds around allowed own (spelling around.encoding)
+    each fit.as_argument = λ in_pack around allowed. in-component around allowed own all_slots (spelling around.encoding)
+        (λ place cs fits complete. spelled-adds around allowed place cs fits.1 complete)
+    each w = (nowhere-ways-add (function_type c_linkage noexcept ref returned parameters) (λ n. ways_of n (function_type c_linkage noexcept ref returned parameters))).at w
 
 -- ## Lists
 
@@ -177,32 +150,16 @@ list-add : (first rest : Term) → WaysAdd first (fits_of first) (λ n. ways_of 
     → WaysAdd (list first rest) (fits_of (list first rest)) (λ n. ways_of n (list first rest))
 unfolding fits_of fits_nowhere ways_of no_ways way_at
 list-add first rest a b = record {
-  as_type = λ slot around allowed place cs fits complete. absurd fits;
-  as_prefix = λ around allowed place cs fits complete. absurd fits;
-  as_prefix_template = λ around allowed place cs fits complete. absurd fits;
-  between = λ around allowed place cs fits complete. absurd fits;
-  between_template = λ around allowed place cs fits complete. absurd fits;
-  as_entity = λ role around allowed place cs fits complete. absurd fits;
-  as_entity_template = λ around allowed place cs fits complete. absurd fits;
-  as_piece = λ around allowed place cs fits complete. absurd fits;
-  as_encoding = λ allowed n m place cs fits complete. absurd fits;
-  as_name = λ q ref around allowed place cs fits complete. absurd fits;
-  before = λ typed around allowed G arguments Q more place cs fits complete. absurd fits;
-  as_argument = λ in_pack around allowed place cs fits complete. absurd fits;
-  as_parameters = λ slot other around allowed place cs fits complete. items slot other around allowed place cs fits.1 complete;
-  as_more_parameters = items;
-  as_elements = λ in_pack around allowed place cs fits complete. and-adds around.encoding (Whole first) (Inside rest)
-      ((fits_of first).as_argument in_pack around allowed) ((fits_of rest).as_elements in_pack around allowed)
-      (ways_of around.encoding first).as_argument (ways_of around.encoding rest).as_elements (a.as_argument in_pack around allowed)
-      (b.as_elements in_pack around allowed) place cs (fits.0, fits.1) complete;
+  at = each;
+  before = (nowhere-ways-add (list first rest) (λ n. ways_of n (list first rest))).before;
 }
   where
     whole-item : (slot : Slot) → IsNotBare slot → (around : Around) (allowed : Option ℕ)
         → Adds around.encoding (Whole first) ((fits_of first).as_type slot around allowed) (ways_of around.encoding first).as_type
-    whole-item any_type other around allowed = a.as_type any_type around allowed
-    whole-item item_type other around allowed = a.as_type item_type around allowed
-    whole-item parameter_type other around allowed = a.as_type parameter_type around allowed
-    whole-item literal_type other around allowed = a.as_type literal_type around allowed
+    whole-item any_type other around allowed = (a.at fit.as_type) any_type around allowed
+    whole-item item_type other around allowed = (a.at fit.as_type) item_type around allowed
+    whole-item parameter_type other around allowed = (a.at fit.as_type) parameter_type around allowed
+    whole-item literal_type other around allowed = (a.at fit.as_type) literal_type around allowed
     whole-item bare_type other around allowed = absurd other
 
     items : (slot : Slot) → IsNotBare slot → (around : Around) (allowed : Option ℕ)
@@ -212,27 +169,29 @@ list-add first rest a b = record {
     items slot other around allowed = and-adds around.encoding (Whole first) (Inside rest) ((fits_of first).as_type slot around allowed)
         ((fits_of rest).as_more_parameters slot around allowed) (ways_of around.encoding first).as_type
         (ways_of around.encoding rest).as_more_parameters (whole-item slot other around allowed)
-        (b.as_more_parameters slot other around allowed)
+        (b.at fit.as_more_parameters slot other around allowed)
+
+    each : AddsAt (list first rest) (fits_of (list first rest)) (λ n. ways_of n (list first rest))
+    each fit.as_parameters = λ slot other around allowed place cs fits complete. items slot other around allowed place cs fits.1 complete
+    each fit.as_more_parameters = items
+    each fit.as_elements = λ in_pack around allowed place cs fits complete. and-adds around.encoding (Whole first) (Inside rest)
+        ((fits_of first).as_argument in_pack around allowed) ((fits_of rest).as_elements in_pack around allowed)
+        (ways_of around.encoding first).as_argument (ways_of around.encoding rest).as_elements (a.at fit.as_argument in_pack around allowed)
+        (b.at fit.as_elements in_pack around allowed) place cs (fits.0, fits.1) complete
+    each w = (nowhere-ways-add (list first rest) (λ n. ways_of n (list first rest))).at w
 
 nil-add : WaysAdd nil (fits_of nil) (λ n. ways_of n nil)
 unfolding fits_of fits_nowhere ways_of no_ways
 nil-add = record {
-  as_type = λ slot around allowed place cs fits complete. absurd fits;
-  as_prefix = λ around allowed place cs fits complete. absurd fits;
-  as_prefix_template = λ around allowed place cs fits complete. absurd fits;
-  between = λ around allowed place cs fits complete. absurd fits;
-  between_template = λ around allowed place cs fits complete. absurd fits;
-  as_entity = λ role around allowed place cs fits complete. absurd fits;
-  as_entity_template = λ around allowed place cs fits complete. absurd fits;
-  as_piece = λ around allowed place cs fits complete. absurd fits;
-  as_encoding = λ allowed n m place cs fits complete. absurd fits;
-  as_name = λ q ref around allowed place cs fits complete. absurd fits;
-  before = λ typed around allowed G arguments Q more place cs fits complete. absurd fits;
-  as_argument = λ in_pack around allowed place cs fits complete. absurd fits;
-  as_parameters = λ slot other around allowed place cs fits complete. none-added around.encoding cs complete;
-  as_more_parameters = λ slot other around allowed place cs fits complete. none-added around.encoding cs complete;
-  as_elements = λ in_pack around allowed place cs fits complete. none-added around.encoding cs complete;
+  at = each;
+  before = (nowhere-ways-add nil (λ n. ways_of n nil)).before;
 }
+  where
+    each : AddsAt nil (fits_of nil) (λ n. ways_of n nil)
+    each fit.as_parameters = λ slot other around allowed place cs fits complete. none-added around.encoding cs complete
+    each fit.as_more_parameters = λ slot other around allowed place cs fits complete. none-added around.encoding cs complete
+    each fit.as_elements = λ in_pack around allowed place cs fits complete. none-added around.encoding cs complete
+    each w = (nowhere-ways-add nil (λ n. ways_of n nil)).at w
 
 -- ## Encodings
 
@@ -242,7 +201,7 @@ returned-adds : (b : Bool) (returned : Term) (around : Around) (allowed : Option
     (returned ≡ absent))
     (ways_of around.encoding returned).as_type
 unfolding either ways_of no_ways way_at
-returned-adds true returned around allowed a place cs fits complete = a.as_type item_type around allowed place cs fits complete
+returned-adds true returned around allowed a place cs fits complete = (a.at fit.as_type) item_type around allowed place cs fits complete
 returned-adds false returned around allowed a place cs same complete =
     subst (λ t. AddsParts around.encoding (Whole t) cs ((ways_of around.encoding t).as_type place cs).components) (sym same)
     (fewer-added around.encoding No (Whole absent) cs cs (no-whole absent (λ h. h) (λ x i. i)) (none-added around.encoding cs complete))
@@ -265,9 +224,9 @@ function-add name q ref returned parameters a b c =
     (returned ≡ absent) in
     let H : Standing = (fits_of parameters).as_parameters item_type types allowed in
     and-adds here (Inside name) (Either (Whole returned) (Inside parameters)) ((fits_of name).as_name q ref (in_name here) allowed)
-    (λ place ds. G place ds × Behind two H place ds) one (two and three) (a.as_name q ref (in_name here) allowed)
+    (λ place ds. G place ds × Behind two H place ds) one (two and three) (a.at fit.as_name q ref (in_name here) allowed)
     (and-adds here (Whole returned) (Inside parameters) G H two three (returned-adds (has_return_type name) returned types allowed b)
-    (c.as_parameters item_type tt types allowed))
+    (c.at fit.as_parameters item_type tt types allowed))
     here cs (fits.0, (fits.1, behind-and one two H here cs fits.2)) complete)
 
 -- ## Trees
@@ -287,16 +246,16 @@ adds (symbol e suffix) = nowhere-ways-add (symbol e suffix) _
 adds (function name q ref returned parameters) = function-add name q ref returned parameters (adds name) (adds returned) (adds parameters)
 adds (object name q ref) =
     encoding-ways-add (object name q ref) _ _ (Inside name) (λ x s. s)
-    (λ allowed here cs fits complete. (adds name).as_name q ref (in_name here) allowed here cs fits complete)
+    (λ allowed here cs fits complete. ((adds name).at fit.as_name) q ref (in_name here) allowed here cs fits complete)
 adds (special l type) =
     encoding-ways-add (special l type) _ _ (Whole type) (λ x s. s)
-    (λ allowed here cs fits complete. (adds type).as_type any_type (in_name here) allowed (here + 2) cs fits.2 complete)
+    (λ allowed here cs fits complete. ((adds type).at fit.as_type) any_type (in_name here) allowed (here + 2) cs fits.2 complete)
 adds (thunk kind e) =
     encoding-ways-add (thunk kind e) _ _ (Inside e) (λ x s. s)
-    (λ allowed here cs fits complete. (adds e).as_encoding allowed here here (here + length (thunk_text kind)) cs fits.1 complete)
+    (λ allowed here cs fits complete. ((adds e).at fit.as_encoding) allowed here here (here + length (thunk_text kind)) cs fits.1 complete)
 adds (of_name l name q ref) =
     encoding-ways-add (of_name l name q ref) _ _ (Inside name) (λ x s. s)
-    (λ allowed here cs fits complete. (adds name).as_name q ref (in_name here) allowed (here + 2) cs fits.1 complete)
+    (λ allowed here cs fits complete. ((adds name).at fit.as_name) q ref (in_name here) allowed (here + 2) cs fits.1 complete)
 adds (construction derived digits parent) = nowhere-ways-add (construction derived digits parent) _
 adds (clone letter e) = nowhere-ways-add (clone letter e) _
 adds (holder name) = nowhere-ways-add (holder name) _
@@ -325,40 +284,40 @@ adds (constructor digit) = leaf-piece-add (constructor digit) _ _ (λ x i. i)
 adds (destructor digit) = leaf-piece-add (destructor digit) _ _ (λ x i. i)
 adds (lambda parameters k) =
     piece-ways-add (lambda parameters k) _ _ (λ around allowed place cs fits complete.
-    (adds parameters).as_parameters item_type tt (in_signature around) allowed (place + 2) cs fits.0 complete)
+    ((adds parameters).at fit.as_parameters) item_type tt (in_signature around) allowed (place + 2) cs fits.0 complete)
 adds (unnamed k) = leaf-piece-add (unnamed k) _ _ (λ x i. i)
 adds string_literal = leaf-piece-add string_literal _ _ (λ x i. i)
 adds (builtin code) = builtin-add code
 adds (vendor name) = type-ways-add (vendor name) _ _ (λ x w. w)
     (λ slot around allowed place cs fits complete. none-added around.encoding cs complete)
 adds (pointer type) = type-ways-add (pointer type) _ _ (λ x w. w)
-    (λ slot around allowed place cs fits complete. (adds type).as_type any_type around allowed (place + 1) cs fits complete)
+    (λ slot around allowed place cs fits complete. ((adds type).at fit.as_type) any_type around allowed (place + 1) cs fits complete)
 adds (lvalue type) = type-ways-add (lvalue type) _ _ (λ x w. w)
-    (λ slot around allowed place cs fits complete. (adds type).as_type any_type around allowed (place + 1) cs fits.1 complete)
+    (λ slot around allowed place cs fits complete. ((adds type).at fit.as_type) any_type around allowed (place + 1) cs fits.1 complete)
 adds (rvalue type) = type-ways-add (rvalue type) _ _ (λ x w. w)
-    (λ slot around allowed place cs fits complete. (adds type).as_type any_type around allowed (place + 1) cs fits.1 complete)
+    (λ slot around allowed place cs fits complete. ((adds type).at fit.as_type) any_type around allowed (place + 1) cs fits.1 complete)
 adds (array digits type) = type-ways-add (array digits type) _ _ (λ x w. w) (λ slot around allowed place cs fits complete.
-    (adds type).as_type any_type around allowed (place + length (codes "A" ++ digits ++ codes "_")) cs fits.2 complete)
+    ((adds type).at fit.as_type) any_type around allowed (place + length (codes "A" ++ digits ++ codes "_")) cs fits.2 complete)
 adds (member_pointer class member) = type-ways-add (member_pointer class member) _ _ (λ x w. w)
     (λ slot around allowed place cs fits complete.
     let n : ℕ = around.encoding in
     let G : Standing = (fits_of member).as_type any_type around allowed in
     and-adds n (Whole class) (Whole member) ((fits_of class).as_type any_type around allowed) G (ways_of n class).as_type
     (ways_of n member).as_type
-    ((adds class).as_type any_type around allowed) ((adds member).as_type any_type around allowed) (place + 1) cs
+    ((adds class).at fit.as_type any_type around allowed) ((adds member).at fit.as_type any_type around allowed) (place + 1) cs
     (fits.0, behind-and (text (codes "M")) (ways_of n class).as_type G place cs fits.1) complete)
 adds (function_type c_linkage noexcept ref returned parameters) =
     function-type-add c_linkage noexcept ref returned parameters (adds returned) (adds parameters)
 adds (qualified q type) = type-ways-add (qualified q type) _ _ (λ x w. w) (λ slot around allowed place cs fits complete.
-    (adds type).as_type bare_type around allowed (place + length (qualifier_letters q)) cs fits.2 complete)
+    ((adds type).at fit.as_type) bare_type around allowed (place + length (qualifier_letters q)) cs fits.2 complete)
 adds (vector digits type) = type-ways-add (vector digits type) _ _ (λ x w. w) (λ slot around allowed place cs fits complete.
-    (adds type).as_type any_type around allowed (place + length (codes "Dv" ++ digits ++ codes "_")) cs fits.2 complete)
+    ((adds type).at fit.as_type) any_type around allowed (place + length (codes "Dv" ++ digits ++ codes "_")) cs fits.2 complete)
 adds (complex type) = type-ways-add (complex type) _ _ (λ x w. w)
-    (λ slot around allowed place cs fits complete. (adds type).as_type any_type around allowed (place + 1) cs fits.1 complete)
+    (λ slot around allowed place cs fits complete. ((adds type).at fit.as_type) any_type around allowed (place + 1) cs fits.1 complete)
 adds (expansion pattern) = type-ways-add (expansion pattern) _ _ (λ x w. w) (λ slot around allowed place cs fits complete.
-    (adds pattern).as_type any_type (under_expansion around) fits.1.0 (place + 2) cs fits.1.1 complete)
+    ((adds pattern).at fit.as_type) any_type (under_expansion around) fits.1.0 (place + 2) cs fits.1.1 complete)
 adds (integer type value) = argument-ways-add (integer type value) _ _ (no-pieces (integer type value) (λ h. h))
-    (λ in_pack around allowed place cs fits complete. (adds type).as_type literal_type around allowed (place + 1) cs fits.0 complete)
+    (λ in_pack around allowed place cs fits complete. ((adds type).at fit.as_type) literal_type around allowed (place + 1) cs fits.0 complete)
 adds (boolean truth) = argument-ways-add (boolean truth) _ _ (no-pieces (boolean truth) (λ h. h))
     (λ in_pack around allowed place cs fits complete. none-added around.encoding cs complete)
 adds null_pointer = argument-ways-add null_pointer _ _ (no-pieces null_pointer (λ h. h))
@@ -367,14 +326,14 @@ adds (encoding_literal e) = argument-ways-add (encoding_literal e) _ _ (no-piece
     (λ in_pack around allowed place cs fits complete.
     let n : ℕ = around.encoding in
     fewer-added n (Inside e) (λ x. Shut (Inside e x) x) cs ((ways_of n e).as_encoding (place + 3) cs).components (λ x s. s.1)
-    ((adds e).as_encoding allowed n n (place + 3) cs fits complete))
+    ((adds e).at fit.as_encoding allowed n n (place + 3) cs fits complete))
 adds (address_of e) = argument-ways-add (address_of e) _ _ (no-pieces (address_of e) (λ h. h))
     (λ in_pack around allowed place cs fits complete.
     let n : ℕ = around.encoding in
     fewer-added n (Inside e) (λ x. Shut (Inside e x) x) cs ((ways_of n e).as_encoding (place + 6) cs).components (λ x s. s.1)
-    ((adds e).as_encoding allowed n n (place + 6) cs fits complete))
+    ((adds e).at fit.as_encoding allowed n n (place + 6) cs fits complete))
 adds (pack elements) = argument-ways-add (pack elements) _ _ (no-pieces (pack elements) (λ h. h))
-    (λ in_pack around allowed place cs fits complete. (adds elements).as_elements true around allowed (place + 1) cs fits.1 complete)
+    (λ in_pack around allowed place cs fits complete. ((adds elements).at fit.as_elements) true around allowed (place + 1) cs fits.1 complete)
 adds nil = nil-add
 adds (list first rest) = list-add first rest (adds first) (adds rest)
 adds (of_default digits entity) = nowhere-ways-add (of_default digits entity) _

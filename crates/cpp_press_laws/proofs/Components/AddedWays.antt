@@ -12,6 +12,8 @@ use Rattle.cpp_press_laws.proofs.Components.Parts.{IsComponent, Shut, Inside, Wh
 use Rattle.cpp_press_laws.proofs.Components.KnownTrees.{In}
 use Rattle.cpp_press_laws.proofs.Components.Complete.{Complete}
 use Rattle.cpp_press_laws.specs.Fits.{Standing, Fitting, as_component, as_reference, as_template, behind_bytes, Slot, any_type, bare_type, item_type, parameter_type, literal_type, Role, letters_of, Fits, nowhere, fits_nowhere, type_fits, piece_fits, argument_fits, encoding_fits}
+use Rattle.cpp_press_laws.proofs.Fitting as fit
+use Rattle.cpp_press_laws.proofs.Fitting.{Fit}
 use Rattle.cpp_press_laws.proofs.Components.Adding.{AddsParts, Adds, Either, No, both-added, fewer-added, tree-found, outside-added, text-adds, component-adds, template-adds, nested-template-adds}
 
 -- right under qualifiers a type has a way of its own
@@ -29,38 +31,57 @@ IsNotBare bare_type = ⊥
 IsNotBare _ = Unit {0}
 
 -- what a tree adds or finds in each of its ways, where it fits
+abbrev pub AddAt : Fit → (t : Term) → Fits → (ℕ → Ways) → Type 0
+AddAt fit.as_type t f w =
+    (slot : Slot) (around : Around) (allowed : Option ℕ)
+    → Adds around.encoding (AtSlot slot t) (f.as_type slot around allowed) (way_at slot (w around.encoding))
+AddAt fit.as_prefix t f w =
+    (around : Around) (allowed : Option ℕ)
+    → Adds around.encoding (Whole t) (f.as_prefix around allowed) (w around.encoding).as_prefix
+AddAt fit.as_prefix_template t f w =
+    (around : Around) (allowed : Option ℕ)
+    → Adds around.encoding (Whole t) (f.as_prefix_template around allowed) (w around.encoding).as_prefix
+AddAt fit.between t f w =
+    (around : Around) (allowed : Option ℕ)
+    → Adds around.encoding (Inside t) (f.between around allowed) (w around.encoding).between_N_and_E
+AddAt fit.between_template t f w =
+    (around : Around) (allowed : Option ℕ)
+    → Adds around.encoding (Inside t) (f.between_template around allowed) (w around.encoding).between_N_and_E
+AddAt fit.as_entity t f w =
+    (role : Role) (around : Around) (allowed : Option ℕ)
+    → Adds around.encoding (Inside t) (f.as_entity role around allowed) (entity_text t (letters_of role)
+    (w around.encoding).between_N_and_E)
+AddAt fit.as_entity_template t f w =
+    (around : Around) (allowed : Option ℕ)
+    → Adds around.encoding (Inside t) (f.as_entity_template around allowed) (w around.encoding).between_N_and_E
+AddAt fit.as_piece t f w =
+    (around : Around) (allowed : Option ℕ)
+    → Adds around.encoding (Inside t) (f.as_piece around allowed) (w around.encoding).as_piece
+AddAt fit.as_encoding t f w = (allowed : Option ℕ) (n m : ℕ) → Adds m (Inside t) (f.as_encoding allowed) (w n).as_encoding
+AddAt fit.as_name t f w =
+    (q : Qualifiers) (ref : RefQualifier) (around : Around) (allowed : Option ℕ)
+    → Adds around.encoding (Inside t) (f.as_name q ref around allowed) ((w around.encoding).as_name (name_letters q ref))
+AddAt fit.as_argument t f w =
+    (in_pack : Bool) (around : Around) (allowed : Option ℕ)
+    → Adds around.encoding (Whole t) (f.as_argument in_pack around allowed) (w around.encoding).as_argument
+AddAt fit.as_parameters t f w =
+    (slot : Slot) → IsNotBare slot → (around : Around) (allowed : Option ℕ)
+    → Adds around.encoding (Inside t) (f.as_parameters slot around allowed) (w around.encoding).as_parameters
+AddAt fit.as_more_parameters t f w =
+    (slot : Slot) → IsNotBare slot → (around : Around) (allowed : Option ℕ)
+    → Adds around.encoding (Inside t) (f.as_more_parameters slot around allowed) (w around.encoding).as_more_parameters
+AddAt fit.as_elements t f w =
+    (in_pack : Bool) (around : Around) (allowed : Option ℕ)
+    → Adds around.encoding (Inside t) (f.as_elements in_pack around allowed) (w around.encoding).as_elements
+
+abbrev pub AddsAt : (t : Term) → Fits → (ℕ → Ways) → Type 0
+AddsAt t f w = (each : Fit) → AddAt each t f w
+
 pub record WaysAdd (t : Term) (f : Fits) (w : ℕ → Ways) : Type 1 where
-  pub as_type : (slot : Slot) (around : Around) (allowed : Option ℕ)
-      → Adds around.encoding (AtSlot slot t) (f.as_type slot around allowed) (way_at slot (w around.encoding))
-  pub as_prefix : (around : Around) (allowed : Option ℕ)
-      → Adds around.encoding (Whole t) (f.as_prefix around allowed) (w around.encoding).as_prefix
-  pub as_prefix_template : (around : Around) (allowed : Option ℕ)
-      → Adds around.encoding (Whole t) (f.as_prefix_template around allowed) (w around.encoding).as_prefix
-  pub between : (around : Around) (allowed : Option ℕ)
-      → Adds around.encoding (Inside t) (f.between around allowed) (w around.encoding).between_N_and_E
-  pub between_template : (around : Around) (allowed : Option ℕ)
-      → Adds around.encoding (Inside t) (f.between_template around allowed) (w around.encoding).between_N_and_E
-  pub as_entity : (role : Role) (around : Around) (allowed : Option ℕ)
-      → Adds around.encoding (Inside t) (f.as_entity role around allowed) (entity_text t (letters_of role)
-      (w around.encoding).between_N_and_E)
-  pub as_entity_template : (around : Around) (allowed : Option ℕ)
-      → Adds around.encoding (Inside t) (f.as_entity_template around allowed) (w around.encoding).between_N_and_E
-  pub as_piece : (around : Around) (allowed : Option ℕ)
-      → Adds around.encoding (Inside t) (f.as_piece around allowed) (w around.encoding).as_piece
-  pub as_encoding : (allowed : Option ℕ) (n m : ℕ) → Adds m (Inside t) (f.as_encoding allowed) (w n).as_encoding
-  pub as_name : (q : Qualifiers) (ref : RefQualifier) (around : Around) (allowed : Option ℕ)
-      → Adds around.encoding (Inside t) (f.as_name q ref around allowed) ((w around.encoding).as_name (name_letters q ref))
+  pub at : AddsAt t f w
   pub before : (typed : Bool) (around : Around) (allowed : Option ℕ) (G : Fitting) (arguments : Spelling) (Q : Term → Type 0)
       → Adds around.encoding Q (G around allowed) arguments
       → Adds around.encoding (Either (Whole t) Q) (f.before typed G around allowed) ((w around.encoding).before typed arguments)
-  pub as_argument : (in_pack : Bool) (around : Around) (allowed : Option ℕ)
-      → Adds around.encoding (Whole t) (f.as_argument in_pack around allowed) (w around.encoding).as_argument
-  pub as_parameters : (slot : Slot) → IsNotBare slot → (around : Around) (allowed : Option ℕ)
-      → Adds around.encoding (Inside t) (f.as_parameters slot around allowed) (w around.encoding).as_parameters
-  pub as_more_parameters : (slot : Slot) → IsNotBare slot → (around : Around) (allowed : Option ℕ)
-      → Adds around.encoding (Inside t) (f.as_more_parameters slot around allowed) (w around.encoding).as_more_parameters
-  pub as_elements : (in_pack : Bool) (around : Around) (allowed : Option ℕ)
-      → Adds around.encoding (Inside t) (f.as_elements in_pack around allowed) (w around.encoding).as_elements
 
 -- ## Parts
 
@@ -144,54 +165,63 @@ component-at item_type n t F w same one other = one
 component-at parameter_type n t F w same one other = one
 component-at literal_type n t F w same one other = one
 
+-- what is nowhere
+pub nowhere-ways-add : (t : Term) (w : ℕ → Ways) → WaysAdd t fits_nowhere w
+unfolding fits_nowhere
+nowhere-ways-add t w = record {
+  at = each;
+  before = λ typed around allowed G arguments Q more place cs fits complete. absurd fits;
+}
+  where
+    each : AddsAt t fits_nowhere w
+    each fit.as_type = λ slot around allowed place cs fits complete. absurd fits
+    each fit.as_prefix = λ around allowed place cs fits complete. absurd fits
+    each fit.as_prefix_template = λ around allowed place cs fits complete. absurd fits
+    each fit.between = λ around allowed place cs fits complete. absurd fits
+    each fit.between_template = λ around allowed place cs fits complete. absurd fits
+    each fit.as_entity = λ role around allowed place cs fits complete. absurd fits
+    each fit.as_entity_template = λ around allowed place cs fits complete. absurd fits
+    each fit.as_piece = λ around allowed place cs fits complete. absurd fits
+    each fit.as_encoding = λ allowed n m place cs fits complete. absurd fits
+    each fit.as_name = λ q ref around allowed place cs fits complete. absurd fits
+    each fit.as_argument = λ in_pack around allowed place cs fits complete. absurd fits
+    each fit.as_parameters = λ slot other around allowed place cs fits complete. absurd fits
+    each fit.as_more_parameters = λ slot other around allowed place cs fits complete. absurd fits
+    each fit.as_elements = λ in_pack around allowed place cs fits complete. absurd fits
+
 pub type-ways-add : (t : Term) (spelled : Slot → Fitting) (s : ℕ → Spelling) → In (Unqualified t) (Whole t)
     → ((slot : Slot) (around : Around) (allowed : Option ℕ)
     → Adds around.encoding (Inside t) (spelled slot around allowed) (s around.encoding))
     → WaysAdd t (type_fits t spelled) (λ n. type_ways (component n t (s n)))
 unfolding type_fits fits_nowhere type_ways no_ways
 type-ways-add t spelled s same one = record {
-  as_type = λ slot around allowed. component-at slot around.encoding t (as_component t (spelled slot) around allowed)
-      (type_ways (component around.encoding t (s around.encoding))) same
-      (in-component around allowed t (spelled slot) (s around.encoding) (one slot around allowed))
-      (in-component around allowed t (spelled slot) (s around.encoding) (one slot around allowed));
-  as_prefix = λ around allowed. reference-adds around allowed t (s around.encoding);
-  as_prefix_template = λ around allowed. reference-adds around allowed t (s around.encoding);
-  between = λ around allowed place cs fits complete. absurd fits;
-  between_template = λ around allowed place cs fits complete. absurd fits;
-  as_entity = λ role around allowed place cs fits complete. absurd fits;
-  as_entity_template = λ around allowed place cs fits complete. absurd fits;
-  as_piece = λ around allowed place cs fits complete. absurd fits;
-  as_encoding = λ allowed n m place cs fits complete. absurd fits;
-  as_name = λ q ref around allowed place cs fits complete. absurd fits;
+  at = each;
   before = λ typed around allowed G arguments Q more. found-and-adds around allowed t (λ n. text []) G (s around.encoding) arguments Q more;
-  as_argument = λ in_pack around allowed. in-component around allowed t (spelled item_type) (s around.encoding)
-      (one item_type around allowed);
-  as_parameters = λ slot other around allowed place cs fits complete. absurd fits;
-  as_more_parameters = λ slot other around allowed place cs fits complete. absurd fits;
-  as_elements = λ in_pack around allowed place cs fits complete. absurd fits;
 }
+  where
+    each : AddsAt t (type_fits t spelled) (λ n. type_ways (component n t (s n)))
+    each fit.as_type = λ slot around allowed. component-at slot around.encoding t (as_component t (spelled slot) around allowed)
+        (type_ways (component around.encoding t (s around.encoding))) same
+        (in-component around allowed t (spelled slot) (s around.encoding) (one slot around allowed))
+        (in-component around allowed t (spelled slot) (s around.encoding) (one slot around allowed))
+    each fit.as_prefix = λ around allowed. reference-adds around allowed t (s around.encoding)
+    each fit.as_prefix_template = λ around allowed. reference-adds around allowed t (s around.encoding)
+    each fit.as_argument = λ in_pack around allowed. in-component around allowed t (spelled item_type) (s around.encoding)
+        (one item_type around allowed)
+    each w = (nowhere-ways-add t (λ n. type_ways (component n t (s n)))).at w
 
 pub piece-ways-add : (t : Term) (fitting : Fitting) (s : ℕ → Spelling)
     → ((around : Around) (allowed : Option ℕ) → Adds around.encoding (Inside t) (fitting around allowed) (s around.encoding))
     → WaysAdd t (piece_fits fitting) (λ n. piece_ways (s n))
 unfolding piece_fits fits_nowhere piece_ways no_ways
 piece-ways-add t fitting s one = record {
-  as_type = λ slot around allowed place cs fits complete. absurd fits;
-  as_prefix = λ around allowed place cs fits complete. absurd fits;
-  as_prefix_template = λ around allowed place cs fits complete. absurd fits;
-  between = λ around allowed place cs fits complete. absurd fits;
-  between_template = λ around allowed place cs fits complete. absurd fits;
-  as_entity = λ role around allowed place cs fits complete. absurd fits;
-  as_entity_template = λ around allowed place cs fits complete. absurd fits;
-  as_piece = one;
-  as_encoding = λ allowed n m place cs fits complete. absurd fits;
-  as_name = λ q ref around allowed place cs fits complete. absurd fits;
-  before = λ typed around allowed G arguments Q more place cs fits complete. absurd fits;
-  as_argument = λ in_pack around allowed place cs fits complete. absurd fits;
-  as_parameters = λ slot other around allowed place cs fits complete. absurd fits;
-  as_more_parameters = λ slot other around allowed place cs fits complete. absurd fits;
-  as_elements = λ in_pack around allowed place cs fits complete. absurd fits;
+  at = each;
+  before = (nowhere-ways-add t (λ n. piece_ways (s n))).before;
 }
+  where
+    each : AddsAt t (piece_fits fitting) (λ n. piece_ways (s n))
+    each fit.as_piece = one
+    each w = (nowhere-ways-add t (λ n. piece_ways (s n))).at w
 
 pub argument-ways-add : (t : Term) (fitting : Bool → Fitting) (s : ℕ → Spelling) → In (Whole t) (Inside t)
     → ((in_pack : Bool) (around : Around) (allowed : Option ℕ)
@@ -199,24 +229,15 @@ pub argument-ways-add : (t : Term) (fitting : Bool → Fitting) (s : ℕ → Spe
     → WaysAdd t (argument_fits fitting) (λ n. argument_ways (s n))
 unfolding argument_fits fits_nowhere argument_ways no_ways
 argument-ways-add t fitting s same one = record {
-  as_type = λ slot around allowed place cs fits complete. absurd fits;
-  as_prefix = λ around allowed place cs fits complete. absurd fits;
-  as_prefix_template = λ around allowed place cs fits complete. absurd fits;
-  between = λ around allowed place cs fits complete. absurd fits;
-  between_template = λ around allowed place cs fits complete. absurd fits;
-  as_entity = λ role around allowed place cs fits complete. absurd fits;
-  as_entity_template = λ around allowed place cs fits complete. absurd fits;
-  as_piece = λ around allowed place cs fits complete. absurd fits;
-  as_encoding = λ allowed n m place cs fits complete. absurd fits;
-  as_name = λ q ref around allowed place cs fits complete. absurd fits;
-  before = λ typed around allowed G arguments Q more place cs fits complete. absurd fits;
-  as_argument = λ in_pack around allowed. fewer-adds around.encoding (Inside t) (Whole t) (fitting in_pack around allowed)
-      (s around.encoding) same
-      (one in_pack around allowed);
-  as_parameters = λ slot other around allowed place cs fits complete. absurd fits;
-  as_more_parameters = λ slot other around allowed place cs fits complete. absurd fits;
-  as_elements = λ in_pack around allowed place cs fits complete. absurd fits;
+  at = each;
+  before = (nowhere-ways-add t (λ n. argument_ways (s n))).before;
 }
+  where
+    each : AddsAt t (argument_fits fitting) (λ n. argument_ways (s n))
+    each fit.as_argument = λ in_pack around allowed. fewer-adds around.encoding (Inside t) (Whole t) (fitting in_pack around allowed)
+        (s around.encoding) same
+        (one in_pack around allowed)
+    each w = (nowhere-ways-add t (λ n. argument_ways (s n))).at w
 
 pub encoding-ways-add : (t : Term) (standing : (allowed : Option ℕ) → Standing) (s : (encoding : ℕ) → Spelling) (raw : Term → Type 0)
     → In (Inside t) (λ x. Shut (raw x) x)
@@ -225,41 +246,11 @@ pub encoding-ways-add : (t : Term) (standing : (allowed : Option ℕ) → Standi
     → WaysAdd t (encoding_fits standing) (λ n. encoding_ways s)
 unfolding encoding_fits fits_nowhere encoding_ways no_ways begun
 encoding-ways-add t standing s raw same one = record {
-  as_type = λ slot around allowed place cs fits complete. absurd fits;
-  as_prefix = λ around allowed place cs fits complete. absurd fits;
-  as_prefix_template = λ around allowed place cs fits complete. absurd fits;
-  between = λ around allowed place cs fits complete. absurd fits;
-  between_template = λ around allowed place cs fits complete. absurd fits;
-  as_entity = λ role around allowed place cs fits complete. absurd fits;
-  as_entity_template = λ around allowed place cs fits complete. absurd fits;
-  as_piece = λ around allowed place cs fits complete. absurd fits;
-  as_encoding = λ allowed n m place cs fits complete. fewer-added m (λ x. Shut (raw x) x) (Inside t) cs (s place place cs).components same
-      (outside-added place m raw cs (s place place cs).components (one allowed place cs fits complete));
-  as_name = λ q ref around allowed place cs fits complete. absurd fits;
-  before = λ typed around allowed G arguments Q more place cs fits complete. absurd fits;
-  as_argument = λ in_pack around allowed place cs fits complete. absurd fits;
-  as_parameters = λ slot other around allowed place cs fits complete. absurd fits;
-  as_more_parameters = λ slot other around allowed place cs fits complete. absurd fits;
-  as_elements = λ in_pack around allowed place cs fits complete. absurd fits;
+  at = each;
+  before = (nowhere-ways-add t (λ n. encoding_ways s)).before;
 }
-
--- what is nowhere
-pub nowhere-ways-add : (t : Term) (w : ℕ → Ways) → WaysAdd t fits_nowhere w
-unfolding fits_nowhere
-nowhere-ways-add t w = record {
-  as_type = λ slot around allowed place cs fits complete. absurd fits;
-  as_prefix = λ around allowed place cs fits complete. absurd fits;
-  as_prefix_template = λ around allowed place cs fits complete. absurd fits;
-  between = λ around allowed place cs fits complete. absurd fits;
-  between_template = λ around allowed place cs fits complete. absurd fits;
-  as_entity = λ role around allowed place cs fits complete. absurd fits;
-  as_entity_template = λ around allowed place cs fits complete. absurd fits;
-  as_piece = λ around allowed place cs fits complete. absurd fits;
-  as_encoding = λ allowed n m place cs fits complete. absurd fits;
-  as_name = λ q ref around allowed place cs fits complete. absurd fits;
-  before = λ typed around allowed G arguments Q more place cs fits complete. absurd fits;
-  as_argument = λ in_pack around allowed place cs fits complete. absurd fits;
-  as_parameters = λ slot other around allowed place cs fits complete. absurd fits;
-  as_more_parameters = λ slot other around allowed place cs fits complete. absurd fits;
-  as_elements = λ in_pack around allowed place cs fits complete. absurd fits;
-}
+  where
+    each : AddsAt t (encoding_fits standing) (λ n. encoding_ways s)
+    each fit.as_encoding = λ allowed n m place cs fits complete. fewer-added m (λ x. Shut (raw x) x) (Inside t) cs (s place place cs).components same
+        (outside-added place m raw cs (s place place cs).components (one allowed place cs fits complete))
+    each w = (nowhere-ways-add t (λ n. encoding_ways s)).at w

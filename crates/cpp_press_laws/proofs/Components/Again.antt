@@ -14,7 +14,9 @@ use Rattle.cpp_press_laws.proofs.Components.Parts.{IsComponent, Inside, Whole, H
 use Rattle.cpp_press_laws.specs.Components.{Component, first_equal}
 use Rattle.cpp_press_laws.proofs.Components.KnownTrees.{In}
 use Rattle.cpp_press_laws.proofs.Components.Complete.{Complete, complete-has}
-use Rattle.cpp_press_laws.specs.Fits.{Slot, any_type, bare_type, item_type, parameter_type, literal_type, IsBuiltin, IsAbbreviation, type_fits, piece_fits, argument_fits, encoding_fits, fits_nowhere, fits_of, PacksFit, MayBeReferred}
+use Rattle.cpp_press_laws.specs.Fits.{Slot, any_type, bare_type, parameter_type, IsBuiltin, IsAbbreviation, type_fits, piece_fits, argument_fits, encoding_fits, fits_nowhere, fits_of, PacksFit, MayBeReferred}
+use Rattle.cpp_press_laws.proofs.Slots.{each-slot}
+use Rattle.cpp_press_laws.proofs.Fitting as fit
 use Rattle.cpp_press_laws.proofs.Components.Adding.{AddsParts}
 use Rattle.cpp_press_laws.proofs.Components.AddedWays.{IsNotBare, way_at}
 use Rattle.cpp_press_laws.proofs.Components.AddedTrees.{adds}
@@ -77,11 +79,7 @@ item-again (function_type c_linkage noexcept ref returned parameters) slot other
     may = record { lambda = shut; packs = same-packs around allowed packs (packs_in around.scope own) fits item.1 }
 
     go : (slot : Slot) → IsNotBare slot → (fits_of own).as_type slot around allowed place cs
-    go any_type h = (may, λ first. absurd (stands-found around.encoding own 0 cs (has own (inl (tt, refl))) first))
-    go bare_type h = absurd h
-    go item_type h = (may, λ first. absurd (stands-found around.encoding own 0 cs (has own (inl (tt, refl))) first))
-    go parameter_type h = (may, λ first. absurd (stands-found around.encoding own 0 cs (has own (inl (tt, refl))) first))
-    go literal_type h = (may, λ first. absurd (stands-found around.encoding own 0 cs (has own (inl (tt, refl))) first))
+    go = each-slot _ (λ h. (may, λ first. absurd (stands-found around.encoding own 0 cs (has own (inl (tt, refl))) first))) (λ h. absurd h) (λ h. (may, λ first. absurd (stands-found around.encoding own 0 cs (has own (inl (tt, refl))) first))) (λ h. (may, λ first. absurd (stands-found around.encoding own 0 cs (has own (inl (tt, refl))) first))) (λ h. (may, λ first. absurd (stands-found around.encoding own 0 cs (has own (inl (tt, refl))) first)))
 item-again t slot other around allowed packs item fits shut place cs has =
     first_of (search item.0, search (once, stands-again t around allowed packs fits shut item.1, never-first t around cs has item.0))
 
@@ -106,7 +104,7 @@ items-again (list first rest) around allowed packs items fits shut place cs comp
     (is_open rest) around.in_lambda shut)
     place cs (λ x w. has x (inl w)) in
     let w : spell.Pressed Component = (ways_of n first).as_type place cs in
-    let a : AddsParts n (Whole first) cs w.components = (adds first).as_type parameter_type around allowed place cs one complete in (
+    let a : AddsParts n (Whole first) cs w.components = ((adds first).at fit.as_type) parameter_type around allowed place cs one complete in (
       one,
       items-again rest around allowed packs items.1 fits (right-shut (is_open first) (is_open rest) around.in_lambda shut)
           (place + length w.bytes) w.components a.complete (λ x i. a.keeps n x (has x (inr i))),
@@ -140,7 +138,7 @@ function-again c_linkage noexcept ref returned parameters around allowed stands 
     let one = item-again returned any_type tt around allowed packs stands.0 may.packs
     (left-shut (is_open returned) (is_open parameters) around.in_lambda may.lambda) (place + length marks) cs (λ x w. all x (inr (inl w))) in
     let w : spell.Pressed Component = (ways_of n returned).as_type (place + length marks) cs in
-    let a : AddsParts n (Whole returned) cs w.components = (adds returned).as_type any_type around allowed
+    let a : AddsParts n (Whole returned) cs w.components = ((adds returned).at fit.as_type) any_type around allowed
     (place + length marks) cs one complete in (
       one,
       parameters-again parameters around allowed packs stands.1 stands.2 may.packs

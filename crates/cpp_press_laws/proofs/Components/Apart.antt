@@ -9,134 +9,83 @@ use Rattle.cpp_press_laws.specs.Pressing.{Ways, no_ways, type_ways, function_tex
 use Rattle.cpp_press_laws.specs.MarkedComponents as marks
 use Rattle.cpp_press_laws.specs.MarkedPressing as marked
 use Rattle.cpp_press_laws.specs.Apart.{IsTemplateOf, IsTemplateBehindLetters, IsNeverReferred, ComponentsAreMarked, ComponentsAreApart, spelled_components, marked_components}
+use Rattle.cpp_press_laws.proofs.Ways as way
+use Rattle.cpp_press_laws.proofs.Ways.{Way}
 use Rattle.cpp_press_laws.proofs.Components.Growing.{size, Grows, and-grows, text-grows, nothing-grows, more-grows, front, back, never-referred-grows, component-grows, before-grows}
 
 -- what a tree spelled in its ways adds, with marks and without, in a whole in which it is
-pub record WaysGrow (whole t : Term) (w : marked.Ways) (p : Ways) : Type 0 where
-  pub as_type : Grows whole (suc (size t)) w.as_type p.as_type
-  pub under_qualifiers : Grows whole (suc (size t)) w.under_qualifiers p.under_qualifiers
-  pub as_prefix : Grows whole (suc (size t)) w.as_prefix p.as_prefix
-  pub between_N_and_E : ((x : Term) → IsTemplateOf x t → IsNeverReferred x whole) → Grows whole (size t) w.between_N_and_E p.between_N_and_E
-  pub as_piece : Grows whole (suc (size t)) w.as_piece p.as_piece
-  pub as_encoding : Grows whole (suc (size t)) w.as_encoding p.as_encoding
-  pub as_name : (letters : List ℕ) → ((x : Term) → IsTemplateBehindLetters x t letters → IsNeverReferred x whole)
-      → Grows whole (suc (size t)) (w.as_name letters) (p.as_name letters)
-  pub before : (in_type : Bool) (arguments : marks.Spelling) (behind : Spelling) (m : ℕ) → size t < m → Grows whole m arguments behind
-      → Grows whole m (w.before in_type arguments) (p.before in_type behind)
-  pub as_argument : Grows whole (suc (size t)) w.as_argument p.as_argument
-  pub as_parameters : Grows whole (suc (size t)) w.as_parameters p.as_parameters
-  pub as_more_parameters : Grows whole (suc (size t)) w.as_more_parameters p.as_more_parameters
-  pub as_elements : Grows whole (suc (size t)) w.as_elements p.as_elements
+abbrev pub WayGrows : Way → (whole t : Term) → marked.Ways → Ways → Type 0
+WayGrows way.as_type whole t w p = Grows whole (suc (size t)) w.as_type p.as_type
+WayGrows way.under_qualifiers whole t w p = Grows whole (suc (size t)) w.under_qualifiers p.under_qualifiers
+WayGrows way.as_prefix whole t w p = Grows whole (suc (size t)) w.as_prefix p.as_prefix
+WayGrows way.between_N_and_E whole t w p = ((x : Term) → IsTemplateOf x t → IsNeverReferred x whole) → Grows whole (size t) w.between_N_and_E p.between_N_and_E
+WayGrows way.as_piece whole t w p = Grows whole (suc (size t)) w.as_piece p.as_piece
+WayGrows way.as_encoding whole t w p = Grows whole (suc (size t)) w.as_encoding p.as_encoding
+WayGrows way.as_name whole t w p =
+    (letters : List ℕ) → ((x : Term) → IsTemplateBehindLetters x t letters → IsNeverReferred x whole)
+    → Grows whole (suc (size t)) (w.as_name letters) (p.as_name letters)
+WayGrows way.before whole t w p =
+    (in_type : Bool) (arguments : marks.Spelling) (behind : Spelling) (m : ℕ) → size t < m → Grows whole m arguments behind
+    → Grows whole m (w.before in_type arguments) (p.before in_type behind)
+WayGrows way.as_argument whole t w p = Grows whole (suc (size t)) w.as_argument p.as_argument
+WayGrows way.as_parameters whole t w p = Grows whole (suc (size t)) w.as_parameters p.as_parameters
+WayGrows way.as_more_parameters whole t w p = Grows whole (suc (size t)) w.as_more_parameters p.as_more_parameters
+WayGrows way.as_elements whole t w p = Grows whole (suc (size t)) w.as_elements p.as_elements
+
+abbrev pub WaysGrow : (whole t : Term) → marked.Ways → Ways → Type 0
+WaysGrow whole t w p = (each : Way) → WayGrows each whole t w p
 
 -- ## The ways of each sort
 
 no-ways-grow : (whole t : Term) → WaysGrow whole t marked.no_ways no_ways
 unfolding marked.no_ways no_ways
-no-ways-grow whole t = record {
-  as_type = nothing-grows;
-  under_qualifiers = nothing-grows;
-  as_prefix = nothing-grows;
-  between_N_and_E = λ never. nothing-grows;
-  as_piece = nothing-grows;
-  as_encoding = nothing-grows;
-  as_name = λ letters never. nothing-grows;
-  before = λ in_type arguments behind m low one. one;
-  as_argument = nothing-grows;
-  as_parameters = nothing-grows;
-  as_more_parameters = nothing-grows;
-  as_elements = nothing-grows;
-}
+no-ways-grow whole t way.as_type = nothing-grows
+no-ways-grow whole t way.under_qualifiers = nothing-grows
+no-ways-grow whole t way.as_prefix = nothing-grows
+no-ways-grow whole t way.between_N_and_E = λ never. nothing-grows
+no-ways-grow whole t way.as_piece = nothing-grows
+no-ways-grow whole t way.as_encoding = nothing-grows
+no-ways-grow whole t way.as_name = λ letters never. nothing-grows
+no-ways-grow whole t way.before = λ in_type arguments behind m low one. one
+no-ways-grow whole t way.as_argument = nothing-grows
+no-ways-grow whole t way.as_parameters = nothing-grows
+no-ways-grow whole t way.as_more_parameters = nothing-grows
+no-ways-grow whole t way.as_elements = nothing-grows
 
 type-ways-grow : (whole t : Term) {spelling : marks.Spelling} {plain : Spelling} → Grows whole (suc (size t)) spelling plain
     → WaysGrow whole t (marked.type_ways spelling) (type_ways plain)
 unfolding marked.type_ways type_ways marked.no_ways no_ways
-type-ways-grow whole t one = record {
-  as_type = one;
-  under_qualifiers = one;
-  as_prefix = one;
-  between_N_and_E = λ never. nothing-grows;
-  as_piece = nothing-grows;
-  as_encoding = nothing-grows;
-  as_name = λ letters never. nothing-grows;
-  before = λ in_type arguments behind m low more. and-grows (more-grows one low) more;
-  as_argument = one;
-  as_parameters = nothing-grows;
-  as_more_parameters = nothing-grows;
-  as_elements = nothing-grows;
-}
+type-ways-grow whole t one way.as_type = one
+type-ways-grow whole t one way.under_qualifiers = one
+type-ways-grow whole t one way.as_prefix = one
+type-ways-grow whole t one way.before = λ in_type arguments behind m low more. and-grows (more-grows one low) more
+type-ways-grow whole t one way.as_argument = one
+type-ways-grow whole t one w = no-ways-grow whole t w
 
 piece-ways-grow : (whole t : Term) {spelling : marks.Spelling} {plain : Spelling} → Grows whole (suc (size t)) spelling plain
     → WaysGrow whole t (marked.piece_ways spelling) (piece_ways plain)
 unfolding marked.piece_ways piece_ways marked.no_ways no_ways
-piece-ways-grow whole t one = record {
-  as_type = nothing-grows;
-  under_qualifiers = nothing-grows;
-  as_prefix = nothing-grows;
-  between_N_and_E = λ never. nothing-grows;
-  as_piece = one;
-  as_encoding = nothing-grows;
-  as_name = λ letters never. nothing-grows;
-  before = λ in_type arguments behind m low more. more;
-  as_argument = nothing-grows;
-  as_parameters = nothing-grows;
-  as_more_parameters = nothing-grows;
-  as_elements = nothing-grows;
-}
+piece-ways-grow whole t one way.as_piece = one
+piece-ways-grow whole t one w = no-ways-grow whole t w
 
 prefix-ways-grow : (whole t : Term) {spelling : marks.Spelling} {plain : Spelling} → Grows whole (suc (size t)) spelling plain
     → WaysGrow whole t (record marked.no_ways { as_prefix = spelling }) (record no_ways { as_prefix = plain })
 unfolding marked.no_ways no_ways
-prefix-ways-grow whole t one = record {
-  as_type = nothing-grows;
-  under_qualifiers = nothing-grows;
-  as_prefix = one;
-  between_N_and_E = λ never. nothing-grows;
-  as_piece = nothing-grows;
-  as_encoding = nothing-grows;
-  as_name = λ letters never. nothing-grows;
-  before = λ in_type arguments behind m low more. more;
-  as_argument = nothing-grows;
-  as_parameters = nothing-grows;
-  as_more_parameters = nothing-grows;
-  as_elements = nothing-grows;
-}
+prefix-ways-grow whole t one way.as_prefix = one
+prefix-ways-grow whole t one w = no-ways-grow whole t w
 
 argument-ways-grow : (whole t : Term) {spelling : marks.Spelling} {plain : Spelling} → Grows whole (suc (size t)) spelling plain
     → WaysGrow whole t (marked.argument_ways spelling) (argument_ways plain)
 unfolding marked.argument_ways argument_ways marked.no_ways no_ways
-argument-ways-grow whole t one = record {
-  as_type = nothing-grows;
-  under_qualifiers = nothing-grows;
-  as_prefix = nothing-grows;
-  between_N_and_E = λ never. nothing-grows;
-  as_piece = nothing-grows;
-  as_encoding = nothing-grows;
-  as_name = λ letters never. nothing-grows;
-  before = λ in_type arguments behind m low more. more;
-  as_argument = one;
-  as_parameters = nothing-grows;
-  as_more_parameters = nothing-grows;
-  as_elements = nothing-grows;
-}
+argument-ways-grow whole t one way.as_argument = one
+argument-ways-grow whole t one w = no-ways-grow whole t w
 
 encoding-ways-grow : (whole t : Term) {spelling : (encoding : ℕ) → marks.Spelling} {plain : (encoding : ℕ) → Spelling}
     → ((encoding : ℕ) → Grows whole (suc (size t)) (spelling encoding) (plain encoding))
     → WaysGrow whole t (marked.encoding_ways spelling) (encoding_ways plain)
 unfolding marked.encoding_ways marked.begun encoding_ways begun marked.no_ways no_ways
-encoding-ways-grow whole t one = record {
-  as_type = nothing-grows;
-  under_qualifiers = nothing-grows;
-  as_prefix = nothing-grows;
-  between_N_and_E = λ never. nothing-grows;
-  as_piece = nothing-grows;
-  as_encoding = record { adds = λ place components. (one place).adds place components };
-  as_name = λ letters never. nothing-grows;
-  before = λ in_type arguments behind m low more. more;
-  as_argument = nothing-grows;
-  as_parameters = nothing-grows;
-  as_more_parameters = nothing-grows;
-  as_elements = nothing-grows;
-}
+encoding-ways-grow whole t one way.as_encoding = record { adds = λ place components. (one place).adds place components }
+encoding-ways-grow whole t one w = no-ways-grow whole t w
 
 in-N-and-E-grows : {whole : Term} {m : ℕ} {spelling : marks.Spelling} {plain : Spelling} (letters : List ℕ) → Grows whole m spelling plain
     → Grows whole m (marked.in_N_and_E letters spelling) (in_N_and_E letters plain)
@@ -160,21 +109,14 @@ name-ways-grow : (whole : Term) (n : ℕ) (t : Term) {type own prefix between : 
     → Grows whole m (before in_type arguments) (ahead in_type behind))
     → WaysGrow whole t (marked.name_ways n t type own prefix between before) (name_ways n t plain owner first enclosed ahead)
 unfolding marked.name_ways name_ways marked.no_ways no_ways
-name-ways-grow whole n t {type} {plain = plain} typed owned prefixed betweened befored =
-    let c : Grows whole (suc (size t)) (marks.component n t type) (component n t plain) = component-grows n t (omega arith) typed in record {
-      as_type = c;
-      under_qualifiers = c;
-      as_prefix = component-grows n t (omega arith) prefixed;
-      between_N_and_E = betweened;
-      as_piece = nothing-grows;
-      as_encoding = nothing-grows;
-      as_name = λ letters never. letters-grow whole t letters owned betweened never;
-      before = befored;
-      as_argument = c;
-      as_parameters = nothing-grows;
-      as_more_parameters = nothing-grows;
-      as_elements = nothing-grows;
-    }
+name-ways-grow whole n t {type} {plain = plain} typed owned prefixed betweened befored way.as_type = component-grows n t (omega arith) typed
+name-ways-grow whole n t {type} {plain = plain} typed owned prefixed betweened befored way.under_qualifiers = component-grows n t (omega arith) typed
+name-ways-grow whole n t {type} {plain = plain} typed owned prefixed betweened befored way.as_prefix = component-grows n t (omega arith) prefixed
+name-ways-grow whole n t {type} {plain = plain} typed owned prefixed betweened befored way.between_N_and_E = betweened
+name-ways-grow whole n t {type} {plain = plain} typed owned prefixed betweened befored way.as_name = λ letters never. letters-grow whole t letters owned betweened never
+name-ways-grow whole n t {type} {plain = plain} typed owned prefixed betweened befored way.before = befored
+name-ways-grow whole n t {type} {plain = plain} typed owned prefixed betweened befored way.as_argument = component-grows n t (omega arith) typed
+name-ways-grow whole n t {type} {plain = plain} typed owned prefixed betweened befored w = no-ways-grow whole t w
 
 -- a type that is a component
 typed : (whole : Term) (n : ℕ) (t : Term) {spelling : marks.Spelling} {plain : Spelling} → Grows whole (size t) spelling plain
@@ -186,21 +128,8 @@ function-type-ways-grow : (whole : Term) (n : ℕ) (t : Term) {spelling : marks.
     → WaysGrow whole t (record (marked.type_ways (marks.component n t spelling)) { under_qualifiers = spelling })
     (record (type_ways (component n t plain)) { under_qualifiers = plain })
 unfolding marked.type_ways type_ways marked.no_ways no_ways
-function-type-ways-grow whole n t one =
-    let a = typed whole n t one in record {
-      as_type = a.as_type;
-      under_qualifiers = more-grows one (omega arith);
-      as_prefix = a.as_prefix;
-      between_N_and_E = a.between_N_and_E;
-      as_piece = nothing-grows;
-      as_encoding = nothing-grows;
-      as_name = a.as_name;
-      before = a.before;
-      as_argument = a.as_argument;
-      as_parameters = nothing-grows;
-      as_more_parameters = nothing-grows;
-      as_elements = nothing-grows;
-    }
+function-type-ways-grow whole n t one way.under_qualifiers = more-grows one (omega arith)
+function-type-ways-grow whole n t one w = typed whole n t one w
 
 -- an entity in the scope of an encoding
 local-ways-grow : (whole : Term) (n : ℕ) (t : Term) (spelling : (letters : List ℕ) → marks.Spelling) (plain : (letters : List ℕ) → Spelling)
@@ -208,60 +137,25 @@ local-ways-grow : (whole : Term) (n : ℕ) (t : Term) (spelling : (letters : Lis
     → WaysGrow whole t (record (marked.type_ways (marks.component n t (spelling []))) { as_name = spelling })
     (record (type_ways (component n t (plain []))) { as_name = plain })
 unfolding marked.type_ways type_ways marked.no_ways no_ways
-local-ways-grow whole n t spelling plain one =
-    let a = typed whole n t (one []) in record {
-      as_type = a.as_type;
-      under_qualifiers = a.under_qualifiers;
-      as_prefix = a.as_prefix;
-      between_N_and_E = a.between_N_and_E;
-      as_piece = nothing-grows;
-      as_encoding = nothing-grows;
-      as_name = λ letters never. more-grows (one letters) (omega arith);
-      before = a.before;
-      as_argument = a.as_argument;
-      as_parameters = nothing-grows;
-      as_more_parameters = nothing-grows;
-      as_elements = nothing-grows;
-    }
+local-ways-grow whole n t spelling plain one way.as_name = λ letters never. more-grows (one letters) (omega arith)
+local-ways-grow whole n t spelling plain one w = typed whole n t (one []) w
 
 -- a symbol
 whole-ways-grow : (whole t : Term) {spelling : marks.Spelling} {plain : Spelling} → Grows whole (suc (size t)) spelling plain
     → WaysGrow whole t (record marked.no_ways { as_encoding = spelling }) (record no_ways { as_encoding = plain })
 unfolding marked.no_ways no_ways
-whole-ways-grow whole t one = record {
-  as_type = nothing-grows;
-  under_qualifiers = nothing-grows;
-  as_prefix = nothing-grows;
-  between_N_and_E = λ never. nothing-grows;
-  as_piece = nothing-grows;
-  as_encoding = one;
-  as_name = λ letters never. nothing-grows;
-  before = λ in_type arguments behind m low more. more;
-  as_argument = nothing-grows;
-  as_parameters = nothing-grows;
-  as_more_parameters = nothing-grows;
-  as_elements = nothing-grows;
-}
+whole-ways-grow whole t one way.as_encoding = one
+whole-ways-grow whole t one w = no-ways-grow whole t w
 
 list-ways-grow : (whole t : Term) {parameters rest elements : marks.Spelling} {one others plain : Spelling}
     → Grows whole (suc (size t)) parameters one → Grows whole (suc (size t)) rest others → Grows whole (suc (size t)) elements plain
     → WaysGrow whole t (record marked.no_ways { as_parameters = parameters; as_more_parameters = rest; as_elements = elements })
     (record no_ways { as_parameters = one; as_more_parameters = others; as_elements = plain })
 unfolding marked.no_ways no_ways
-list-ways-grow whole t one two three = record {
-  as_type = nothing-grows;
-  under_qualifiers = nothing-grows;
-  as_prefix = nothing-grows;
-  between_N_and_E = λ never. nothing-grows;
-  as_piece = nothing-grows;
-  as_encoding = nothing-grows;
-  as_name = λ letters never. nothing-grows;
-  before = λ in_type arguments behind m low more. more;
-  as_argument = nothing-grows;
-  as_parameters = one;
-  as_more_parameters = two;
-  as_elements = three;
-}
+list-ways-grow whole t one two three way.as_parameters = one
+list-ways-grow whole t one two three way.as_more_parameters = two
+list-ways-grow whole t one two three way.as_elements = three
+list-ways-grow whole t one two three w = no-ways-grow whole t w
 
 -- ## Spellings of several parts
 
@@ -312,43 +206,43 @@ plain-name-ways-grow whole p t n sized needs_N one grown =
 pub ways-grow : (whole t : Term) → StandsIn t whole → (n : ℕ) → WaysGrow whole t (marked.ways_of n t) (ways_of n t)
 unfolding marked.ways_of ways_of size marked.no_ways no_ways
 ways-grow whole (symbol e suffix) in_whole n =
-    whole-ways-grow whole (symbol e suffix) (front (codes "_Z") (back (more-grows (ways-grow whole e in_whole n).as_encoding (omega arith)) suffix))
+    whole-ways-grow whole (symbol e suffix) (front (codes "_Z") (back (more-grows (ways-grow whole e in_whole n way.as_encoding) (omega arith)) suffix))
 ways-grow whole (function name q ref returned parameters) in_whole n =
     encoding-ways-grow whole (function name q ref returned parameters) (λ here.
     and-grows
-    (more-grows ((ways-grow whole name (λ x is. in_whole x (inr (inl is))) here).as_name (name_letters q ref) (λ x is. in_whole x (inl is))) (omega arith))
-    (and-grows (more-grows (ways-grow whole returned (λ x is. in_whole x (inr (inr (inl is)))) here).as_type (omega arith))
-    (more-grows (ways-grow whole parameters (λ x is. in_whole x (inr (inr (inr is)))) here).as_parameters (omega arith))))
+    (more-grows ((ways-grow whole name (λ x is. in_whole x (inr (inl is))) here way.as_name) (name_letters q ref) (λ x is. in_whole x (inl is))) (omega arith))
+    (and-grows (more-grows (ways-grow whole returned (λ x is. in_whole x (inr (inr (inl is)))) here way.as_type) (omega arith))
+    (more-grows (ways-grow whole parameters (λ x is. in_whole x (inr (inr (inr is)))) here way.as_parameters) (omega arith))))
 ways-grow whole (object name q ref) in_whole n =
     encoding-ways-grow whole (object name q ref) (λ here.
-    more-grows ((ways-grow whole name (λ x is. in_whole x (inr is)) here).as_name (name_letters q ref) (λ x is. in_whole x (inl is))) (omega arith))
+    more-grows ((ways-grow whole name (λ x is. in_whole x (inr is)) here way.as_name) (name_letters q ref) (λ x is. in_whole x (inl is))) (omega arith))
 ways-grow whole (special l type) in_whole n =
     encoding-ways-grow whole (special l type) (λ here.
-    front (codes "T" ++ l ∷ []) (more-grows (ways-grow whole type in_whole here).as_type (omega arith)))
+    front (codes "T" ++ l ∷ []) (more-grows (ways-grow whole type in_whole here way.as_type) (omega arith)))
 ways-grow whole (thunk kind e) in_whole n =
     encoding-ways-grow whole (thunk kind e) (λ here.
-    front (thunk_text kind) (more-grows (ways-grow whole e in_whole here).as_encoding (omega arith)))
+    front (thunk_text kind) (more-grows (ways-grow whole e in_whole here way.as_encoding) (omega arith)))
 ways-grow whole (of_name l name q ref) in_whole n =
     encoding-ways-grow whole (of_name l name q ref) (λ here. front (special_code l)
-    (more-grows ((ways-grow whole name (λ x is. in_whole x (inr is)) here).as_name (name_letters q ref) (λ x is. in_whole x (inl is))) (omega arith)))
+    (more-grows ((ways-grow whole name (λ x is. in_whole x (inr is)) here way.as_name) (name_letters q ref) (λ x is. in_whole x (inl is))) (omega arith)))
 ways-grow whole (clone letter e) in_whole n =
     encoding-ways-grow whole (clone letter e) (λ here.
-    front (codes "GT") (front (letter ∷ []) (more-grows (ways-grow whole e in_whole here).as_encoding (omega arith))))
+    front (codes "GT") (front (letter ∷ []) (more-grows (ways-grow whole e in_whole here way.as_encoding) (omega arith))))
 ways-grow whole (construction derived digits parent) in_whole n =
     encoding-ways-grow whole (construction derived digits parent) (λ here.
-    front (codes "TC") (and-grows (more-grows (ways-grow whole derived (λ x is. in_whole x (inl is)) here).as_type (omega arith))
-    (front (digits ++ codes "_") (more-grows (ways-grow whole parent (λ x is. in_whole x (inr is)) here).as_type (omega arith)))))
+    front (codes "TC") (and-grows (more-grows (ways-grow whole derived (λ x is. in_whole x (inl is)) here way.as_type) (omega arith))
+    (front (digits ++ codes "_") (more-grows (ways-grow whole parent (λ x is. in_whole x (inr is)) here way.as_type) (omega arith)))))
 ways-grow whole (alone p) in_whole n =
-    let a = (ways-grow whole p in_whole n).as_piece in
+    let a = (ways-grow whole p in_whole n way.as_piece) in
     name-ways-grow whole n (alone p) a (more-grows a (omega arith)) a (λ never. a)
     (λ in_type arguments behind m low more. before-grows n (alone p) false low a more)
 ways-grow whole (in_std p) in_whole n =
-    let a = front (codes "St") (ways-grow whole p in_whole n).as_piece in
+    let a = front (codes "St") (ways-grow whole p in_whole n way.as_piece) in
     plain-name-ways-grow whole p (in_std p) n refl (is_operator p) (typed-std (is_operator p) a) a
 ways-grow whole (within prefix p) in_whole n =
     let a = ways-grow whole prefix (λ x is. in_whole x (inl is)) n in
     let b = ways-grow whole p (λ x is. in_whole x (inr is)) n in
-    within-grows (and-grows (more-grows a.as_prefix (omega arith)) (more-grows b.as_piece (omega arith)))
+    within-grows (and-grows (more-grows (a way.as_prefix) (omega arith)) (more-grows (b way.as_piece) (omega arith)))
   where
     within-grows : Grows whole (suc (size prefix + size p)) ((marked.ways_of n prefix).as_prefix and (marked.ways_of n p).as_piece)
         ((ways_of n prefix).as_prefix and (ways_of n p).as_piece) → WaysGrow whole (within prefix p) (marked.ways_of n (within prefix p))
@@ -358,28 +252,28 @@ ways-grow whole (within prefix p) in_whole n =
         (λ in_type arguments behind m low more. before-grows n (within prefix p) true low one more)
 ways-grow whole (instance template arguments) in_whole n =
     let b = ways-grow whole arguments (λ x is. in_whole x (inr is)) n in
-    instance-grows (ways-grow whole template (λ x is. in_whole x (inl is)) n) (front (codes "I") (back (more-grows b.as_elements (omega arith)) (codes "E")))
+    instance-grows (ways-grow whole template (λ x is. in_whole x (inl is)) n) (front (codes "I") (back (more-grows (b way.as_elements) (omega arith)) (codes "E")))
   where
     instance-grows : WaysGrow whole template (marked.ways_of n template) (ways_of n template)
         → Grows whole (suc (size template + size arguments)) (text (codes "I") and (marked.ways_of n arguments).as_elements and text (codes "E"))
         (text (codes "I") and (ways_of n arguments).as_elements and text (codes "E"))
         → WaysGrow whole (instance template arguments) (marked.ways_of n (instance template arguments)) (ways_of n (instance template arguments))
     instance-grows a grown =
-        name-ways-grow whole n (instance template arguments) (a.before true _ _ _ (omega arith) grown)
-        (more-grows (a.before false _ _ (suc (size template + size arguments)) (omega arith) grown) (omega arith))
-        (and-grows (more-grows a.as_prefix (omega arith)) grown)
-        (λ never. and-grows (more-grows (a.between_N_and_E (λ x is. never x (inr is))) (omega arith))
+        name-ways-grow whole n (instance template arguments) (a way.before true _ _ _ (omega arith) grown)
+        (more-grows (a way.before false _ _ (suc (size template + size arguments)) (omega arith) grown) (omega arith))
+        (and-grows (more-grows (a way.as_prefix) (omega arith)) grown)
+        (λ never. and-grows (more-grows (a way.between_N_and_E (λ x is. never x (inr is))) (omega arith))
         (and-grows (never-referred-grows n template (omega arith) (never template (inl refl))) grown))
         (λ in_type ahead behind k low more. and-grows (component-grows n (instance template arguments) low nothing-grows) more)
 ways-grow whole (local e entity discriminator) in_whole n =
     let a = ways-grow whole e (λ x is. in_whole x (inr (inl is))) n in
     let b = ways-grow whole entity (λ x is. in_whole x (inr (inr is))) n in
     local-ways-grow whole n (local e entity discriminator) _ _ (λ letters. local-grows entity discriminator letters
-    (more-grows a.as_encoding (omega arith)) (more-grows (b.between_N_and_E (λ x is. in_whole x (inl is))) (omega arith)))
+    (more-grows (a way.as_encoding) (omega arith)) (more-grows (b way.between_N_and_E (λ x is. in_whole x (inl is))) (omega arith)))
 ways-grow whole (holder name) in_whole n =
-    prefix-ways-grow whole (holder name) (back (more-grows (ways-grow whole name in_whole n).as_prefix (omega arith)) (codes "M"))
+    prefix-ways-grow whole (holder name) (back (more-grows (ways-grow whole name in_whole n way.as_prefix) (omega arith)) (codes "M"))
 ways-grow whole (tagged of_structor name tag) in_whole n =
-    typed whole n (tagged of_structor name tag) (back (ways-grow whole name in_whole n).as_type (codes "B" ++ counted tag))
+    typed whole n (tagged of_structor name tag) (back (ways-grow whole name in_whole n way.as_type) (codes "B" ++ counted tag))
 ways-grow whole (abbreviation l) in_whole n = type-ways-grow whole (abbreviation l) (text-grows (codes "S" ++ l ∷ []))
 ways-grow whole (parameter k) in_whole n = typed whole n (parameter k) (text-grows (codes "T" ++ ordinal k))
 ways-grow whole (source internal name) in_whole n =
@@ -390,57 +284,57 @@ ways-grow whole (constructor digit) in_whole n = piece-ways-grow whole (construc
 ways-grow whole (destructor digit) in_whole n = piece-ways-grow whole (destructor digit) (text-grows (codes "D" ++ digit ∷ []))
 ways-grow whole (lambda parameters k) in_whole n =
     piece-ways-grow whole (lambda parameters k) (front (codes "Ul")
-    (back (more-grows (ways-grow whole parameters in_whole n).as_parameters (omega arith)) (codes "E" ++ ordinal (k - 1))))
+    (back (more-grows (ways-grow whole parameters in_whole n way.as_parameters) (omega arith)) (codes "E" ++ ordinal (k - 1))))
 ways-grow whole (unnamed k) in_whole n = piece-ways-grow whole (unnamed k) (text-grows (codes "Ut" ++ ordinal (k - 1)))
 ways-grow whole (conversion type) in_whole n =
-    piece-ways-grow whole (conversion type) (front (codes "cv") (more-grows (ways-grow whole type in_whole n).as_type (omega arith)))
+    piece-ways-grow whole (conversion type) (front (codes "cv") (more-grows (ways-grow whole type in_whole n way.as_type) (omega arith)))
 ways-grow whole string_literal in_whole n = piece-ways-grow whole string_literal (text-grows (codes "s"))
 ways-grow whole (builtin code) in_whole n = type-ways-grow whole (builtin code) (text-grows code)
 ways-grow whole (sized_float digits end) in_whole n =
     type-ways-grow whole (sized_float digits end) (front (codes "DF") (front digits (text-grows (end ∷ []))))
 ways-grow whole (vendor name) in_whole n = typed whole n (vendor name) (text-grows (codes "u" ++ counted name))
-ways-grow whole (pointer type) in_whole n = typed whole n (pointer type) (front (codes "P") (ways-grow whole type in_whole n).as_type)
-ways-grow whole (lvalue type) in_whole n = typed whole n (lvalue type) (front (codes "R") (ways-grow whole type in_whole n).as_type)
-ways-grow whole (rvalue type) in_whole n = typed whole n (rvalue type) (front (codes "O") (ways-grow whole type in_whole n).as_type)
+ways-grow whole (pointer type) in_whole n = typed whole n (pointer type) (front (codes "P") (ways-grow whole type in_whole n way.as_type))
+ways-grow whole (lvalue type) in_whole n = typed whole n (lvalue type) (front (codes "R") (ways-grow whole type in_whole n way.as_type))
+ways-grow whole (rvalue type) in_whole n = typed whole n (rvalue type) (front (codes "O") (ways-grow whole type in_whole n way.as_type))
 ways-grow whole (array digits type) in_whole n =
-    typed whole n (array digits type) (front (codes "A" ++ digits ++ codes "_") (ways-grow whole type in_whole n).as_type)
+    typed whole n (array digits type) (front (codes "A" ++ digits ++ codes "_") (ways-grow whole type in_whole n way.as_type))
 ways-grow whole (member_pointer class member) in_whole n =
     typed whole n (member_pointer class member) (front (codes "M")
-    (and-grows (more-grows (ways-grow whole class (λ x is. in_whole x (inl is)) n).as_type (omega arith))
-    (more-grows (ways-grow whole member (λ x is. in_whole x (inr is)) n).as_type (omega arith))))
+    (and-grows (more-grows (ways-grow whole class (λ x is. in_whole x (inl is)) n way.as_type) (omega arith))
+    (more-grows (ways-grow whole member (λ x is. in_whole x (inr is)) n way.as_type) (omega arith))))
 ways-grow whole (function_type c_linkage noexcept ref returned parameters) in_whole n =
     function-type-ways-grow whole n (function_type c_linkage noexcept ref returned parameters) (function-text-grows c_linkage noexcept ref
-    (more-grows (ways-grow whole returned (λ x is. in_whole x (inl is)) n).as_type (omega arith))
-    (more-grows (ways-grow whole parameters (λ x is. in_whole x (inr is)) n).as_parameters (omega arith)))
+    (more-grows (ways-grow whole returned (λ x is. in_whole x (inl is)) n way.as_type) (omega arith))
+    (more-grows (ways-grow whole parameters (λ x is. in_whole x (inr is)) n way.as_parameters) (omega arith)))
 ways-grow whole (qualified q type) in_whole n =
-    typed whole n (qualified q type) (front (qualifier_letters q) (ways-grow whole type in_whole n).under_qualifiers)
+    typed whole n (qualified q type) (front (qualifier_letters q) (ways-grow whole type in_whole n way.under_qualifiers))
 ways-grow whole (vector digits type) in_whole n =
-    typed whole n _ (front (codes "Dv" ++ digits ++ codes "_") (ways-grow whole type in_whole n).as_type)
-ways-grow whole (complex type) in_whole n = typed whole n (complex type) (front (codes "C") (ways-grow whole type in_whole n).as_type)
-ways-grow whole (expansion pattern) in_whole n = typed whole n (expansion pattern) (front (codes "Dp") (ways-grow whole pattern in_whole n).as_type)
+    typed whole n _ (front (codes "Dv" ++ digits ++ codes "_") (ways-grow whole type in_whole n way.as_type))
+ways-grow whole (complex type) in_whole n = typed whole n (complex type) (front (codes "C") (ways-grow whole type in_whole n way.as_type))
+ways-grow whole (expansion pattern) in_whole n = typed whole n (expansion pattern) (front (codes "Dp") (ways-grow whole pattern in_whole n way.as_type))
 ways-grow whole (integer type value) in_whole n =
     argument-ways-grow whole (integer type value)
-    (front (codes "L") (back (more-grows (ways-grow whole type in_whole n).as_type (omega arith)) (signed_text value ++ codes "E")))
+    (front (codes "L") (back (more-grows (ways-grow whole type in_whole n way.as_type) (omega arith)) (signed_text value ++ codes "E")))
 ways-grow whole (boolean truth) in_whole n = argument-ways-grow whole (boolean truth) (text-grows (cond truth (codes "Lb1E") (codes "Lb0E")))
 ways-grow whole null_pointer in_whole n = argument-ways-grow whole null_pointer (text-grows (codes "LDnE"))
 ways-grow whole (encoding_literal e) in_whole n =
     argument-ways-grow whole (encoding_literal e)
-    (front (codes "L_Z") (back (more-grows (ways-grow whole e in_whole n).as_encoding (omega arith)) (codes "E")))
+    (front (codes "L_Z") (back (more-grows (ways-grow whole e in_whole n way.as_encoding) (omega arith)) (codes "E")))
 ways-grow whole (address_of e) in_whole n =
     argument-ways-grow whole (address_of e)
-    (front (codes "XadL_Z") (back (more-grows (ways-grow whole e in_whole n).as_encoding (omega arith)) (codes "EE")))
+    (front (codes "XadL_Z") (back (more-grows (ways-grow whole e in_whole n way.as_encoding) (omega arith)) (codes "EE")))
 ways-grow whole (pack elements) in_whole n =
     argument-ways-grow whole (pack elements)
-    (front (codes "J") (back (more-grows (ways-grow whole elements in_whole n).as_elements (omega arith)) (codes "E")))
+    (front (codes "J") (back (more-grows (ways-grow whole elements in_whole n way.as_elements) (omega arith)) (codes "E")))
 ways-grow whole nil in_whole n = list-ways-grow whole nil (text-grows (codes "v")) nothing-grows nothing-grows
 ways-grow whole (list first rest) in_whole n =
     let a = ways-grow whole first (λ x is. in_whole x (inl is)) n in
     let b = ways-grow whole rest (λ x is. in_whole x (inr is)) n in
     let more : Grows whole (suc (suc (size first + size rest))) ((marked.ways_of n first).as_type and (marked.ways_of n rest).as_more_parameters)
     ((ways_of n first).as_type and (ways_of n rest).as_more_parameters) =
-    and-grows (more-grows a.as_type (omega arith)) (more-grows b.as_more_parameters (omega arith)) in
+    and-grows (more-grows (a way.as_type) (omega arith)) (more-grows (b way.as_more_parameters) (omega arith)) in
     list-ways-grow whole (list first rest) more more
-    (and-grows (more-grows a.as_argument (omega arith)) (more-grows b.as_elements (omega arith)))
+    (and-grows (more-grows (a way.as_argument) (omega arith)) (more-grows (b way.as_elements) (omega arith)))
 ways-grow whole (of_default digits entity) in_whole n = no-ways-grow whole (of_default digits entity)
 ways-grow whole (generic_lambda parameters number) in_whole n = no-ways-grow whole (generic_lambda parameters number)
 ways-grow whole (bounded bound type) in_whole n = no-ways-grow whole (bounded bound type)
@@ -454,8 +348,8 @@ ways-grow whole absent in_whole n = no-ways-grow whole absent
 -- no two components of a tree that are compared and equal are both spelled out
 pub components-apart : ComponentsAreApart
 unfolding marked_components
-components-apart t = ((ways-grow t t (λ x is. is) 0).as_encoding.adds 0 []).apart tt
+components-apart t = ((ways-grow t t (λ x is. is) 0 way.as_encoding).adds 0 []).apart tt
 
 pub components-marked : ComponentsAreMarked
 unfolding marked_components spelled_components pressed
-components-marked t = let a = (ways-grow t t (λ x is. is) 0).as_encoding.adds 0 [] in (a.bytes, a.same)
+components-marked t = let a = (ways-grow t t (λ x is. is) 0 way.as_encoding).adds 0 [] in (a.bytes, a.same)

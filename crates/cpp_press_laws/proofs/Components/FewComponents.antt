@@ -22,7 +22,9 @@ use Rattle.cpp_press_laws.proofs.EveryWay.Within.{joined_spelling, joined_fits, 
 use Rattle.cpp_press_laws.proofs.EveryWay.Instances.{instance_joined, not-one-piece, one-piece-is, elements_of, instance_between}
 use Rattle.cpp_press_laws.proofs.Components.Counting.{marks-long}
 use Rattle.cpp_press_laws.specs.Fits.{SymbolFits, names_in, IsWithoutLetters, one_piece, names_type, Slot, any_type, bare_type, item_type, parameter_type, literal_type, Fitting, Role, in_type, in_name_with, letters_of, by_letters, either, Behind, behind_bytes, as_component, fits_nowhere, type_fits, fits_of}
-use Rattle.cpp_press_laws.proofs.Components.FewTrees.{few-and, few-component, few-behind, few-before, few-nested, ArgumentsFew, few-elements, few-made, few-referred, few-reference, LeadsFew, few-nowhere, few-encoding, Counts, few-pointer, few-lvalue, few-rvalue, few-complex, few-vendor, few-tagged, few-array, few-vector, few-expansion, few-qualified, few-member-pointer, few-source, few-operator, few-literal-operator, few-constructor, few-destructor, few-unnamed, few-string-literal, few-lambda, few-builtin, few-integer, few-boolean, few-null-pointer, few-encoding-literal, few-address, few-pack, few-nil, few-list, FewBy}
+use Rattle.cpp_press_laws.proofs.Slots.{each-slot}
+use Rattle.cpp_press_laws.proofs.Spots as spot
+use Rattle.cpp_press_laws.proofs.Components.FewTrees.{few-and, few-component, few-behind, few-before, few-nested, ArgumentsFew, few-elements, few-made, few-referred, few-reference, LeadsFew, few-nowhere, few-encoding, Counts, CountsAt, few-pointer, few-lvalue, few-rvalue, few-complex, few-vendor, few-tagged, few-array, few-vector, few-expansion, few-qualified, few-member-pointer, few-source, few-operator, few-literal-operator, few-constructor, few-destructor, few-unnamed, few-string-literal, few-lambda, few-builtin, few-integer, few-boolean, few-null-pointer, few-encoding-literal, few-address, few-pack, few-nil, few-list, FewBy}
 
 -- ## Names
 
@@ -43,18 +45,7 @@ few-no-letters own place cs one = omega (arith, one)
 few-alone : (p : Term) → Counts p → Counts (alone p)
 unfolding ways_of fits_of fits_nowhere name_ways no_ways template_before ended
 few-alone p r = record {
-  as_type = as_types;
-  as_prefix = λ around allowed place cs h. few-component around.encoding (alone p) (ways_of around.encoding p).as_piece place cs
-      (λ none. r.as_piece around allowed place cs (h.1 none).2);
-  as_prefix_template = λ around allowed place cs h. few-component around.encoding (alone p) (ways_of around.encoding p).as_piece place cs
-      (λ none. r.as_piece around allowed place cs (h.1 none).2);
-  between = λ around allowed place cs h. absurd h;
-  between_template = λ around allowed place cs h. absurd h;
-  as_entity = λ role around allowed place cs h. absurd h;
-  as_entity_template = λ around allowed place cs h. absurd h;
-  as_piece = λ around allowed place cs h. absurd h;
-  as_encoding = λ around allowed place cs h. absurd h;
-  as_name = λ q ref around allowed place cs h. bare (name_letters q ref) around allowed place cs h.0 h.1.2;
+  at = each;
   before = λ typed around allowed place cs arguments elements few h.
       let n : ℕ = around.encoding in
       let own : Spelling = (ways_of n p).as_piece in
@@ -63,16 +54,10 @@ few-alone p r = record {
       few-referred around allowed (alone p) arguments elements (own and rest) place cs few h.1
       (λ none. omega (
         arith,
-        few-and 1 1 own rest place cs (r.as_piece around allowed place cs (h.2 none).0.2)
+        few-and 1 1 own rest place cs (r.at spot.as_piece around allowed place cs (h.2 none).0.2)
             (few-made around allowed (alone p) arguments elements place (place + length (w.bytes ++ [])) w few
             (omega (arith, length-append w.bytes [])) (h.2 none).1),
       ));
-  as_argument = λ in_pack. whole;
-  as_items = λ around allowed place cs h. absurd h;
-  as_more_items = λ around allowed place cs h. absurd h;
-  as_parameters = λ around allowed place cs h. absurd h;
-  as_more_parameters = λ around allowed place cs h. absurd h;
-  as_elements = λ in_pack around allowed place cs h. absurd h;
 }
   where
     bare : (ls : List ℕ) (around : Around) (allowed : Option ℕ) (place : ℕ) (cs : List Component) → IsWithoutLetters ls
@@ -80,68 +65,53 @@ few-alone p r = record {
         → FewBy 0 cs (with_letters ls (ways_of around.encoding p).as_piece (ways_of around.encoding p).as_piece place cs)
     bare ls around allowed place cs none h =
         subst (λ x. FewBy 0 cs (with_letters x (ways_of around.encoding p).as_piece (ways_of around.encoding p).as_piece place cs))
-        (sym (no-letters ls none)) (few-no-letters (ways_of around.encoding p).as_piece place cs (r.as_piece around allowed place cs h))
+        (sym (no-letters ls none)) (few-no-letters (ways_of around.encoding p).as_piece place cs (r.at spot.as_piece around allowed place cs h))
 
     whole : LeadsFew 0 (λ n. component n (alone p) (ways_of n p).as_piece)
         (as_component (alone p) (one_piece outermost (names_type p) (fits_of p).as_piece))
     whole around allowed place cs h =
         few-component around.encoding (alone p) (ways_of around.encoding p).as_piece place cs
-        (λ none. r.as_piece around allowed place cs (h.1 none).2)
+        (λ none. (r.at spot.as_piece) around allowed place cs (h.1 none).2)
 
     as_types : (slot : Slot) → LeadsFew 0 (λ n. slot_way slot (ways_of n (alone p))) ((fits_of (alone p)).as_type slot)
-    as_types any_type = whole
-    as_types bare_type = whole
-    as_types item_type = whole
-    as_types parameter_type = whole
-    as_types literal_type = whole
+    as_types = each-slot _ whole whole whole whole whole
+
+    each : CountsAt (alone p)
+    each spot.as_type = as_types
+    each spot.as_prefix = λ around allowed place cs h. few-component around.encoding (alone p) (ways_of around.encoding p).as_piece place cs
+        (λ none. (r.at spot.as_piece) around allowed place cs (h.1 none).2)
+    each spot.as_prefix_template = λ around allowed place cs h. few-component around.encoding (alone p) (ways_of around.encoding p).as_piece place cs
+        (λ none. (r.at spot.as_piece) around allowed place cs (h.1 none).2)
+    each spot.as_name = λ q ref around allowed place cs h. bare (name_letters q ref) around allowed place cs h.0 h.1.2
+    each spot.as_argument = λ in_pack. whole
+    each w = (few-nowhere (alone p) (λ n. ways_of n (alone p))).at w
 
 few-abbreviation : (l : ℕ) → Counts (abbreviation l)
 unfolding ways_of fits_of fits_nowhere type_ways no_ways
 few-abbreviation l = record {
-  as_type = as_types;
-  as_prefix = λ around allowed place cs h. omega arith;
-  as_prefix_template = λ around allowed place cs h. omega arith;
-  between = λ around allowed place cs h. absurd h;
-  between_template = λ around allowed place cs h. absurd h;
-  as_entity = λ role around allowed place cs h. absurd h;
-  as_entity_template = λ around allowed place cs h. absurd h;
-  as_piece = λ around allowed place cs h. absurd h;
-  as_encoding = λ around allowed place cs h. absurd h;
-  as_name = λ q ref around allowed place cs h. absurd h;
+  at = each;
   before = λ typed around allowed place cs arguments elements few h.
       omega (
         arith,
         few-behind 2 2 (codes "S" ++ l ∷ []) (of_elements elements) place cs (omega arith)
             (few-elements elements (place + 2) cs (few (place + 2) cs h.1)),
       );
-  as_argument = λ in_pack around allowed place cs h. omega arith;
-  as_items = λ around allowed place cs h. absurd h;
-  as_more_items = λ around allowed place cs h. absurd h;
-  as_parameters = λ around allowed place cs h. absurd h;
-  as_more_parameters = λ around allowed place cs h. absurd h;
-  as_elements = λ in_pack around allowed place cs h. absurd h;
 }
   where
     as_types : (slot : Slot) → LeadsFew 0 (λ n. slot_way slot (ways_of n (abbreviation l))) ((fits_of (abbreviation l)).as_type slot)
-    as_types any_type around allowed place cs h = omega arith
-    as_types bare_type around allowed place cs h = omega arith
-    as_types item_type around allowed place cs h = omega arith
-    as_types parameter_type around allowed place cs h = omega arith
-    as_types literal_type around allowed place cs h = omega arith
+    as_types = each-slot _ (λ around allowed place cs h. omega arith) (λ around allowed place cs h. omega arith) (λ around allowed place cs h. omega arith) (λ around allowed place cs h. omega arith) (λ around allowed place cs h. omega arith)
+
+    each : CountsAt (abbreviation l)
+    each spot.as_type = as_types
+    each spot.as_prefix = λ around allowed place cs h. omega arith
+    each spot.as_prefix_template = λ around allowed place cs h. omega arith
+    each spot.as_argument = λ in_pack around allowed place cs h. omega arith
+    each w = (few-nowhere (abbreviation l) (λ n. ways_of n (abbreviation l))).at w
 
 few-parameter : (k : ℕ) → Counts (parameter k)
 unfolding ways_of fits_of fits_nowhere type_fits type_ways no_ways
 few-parameter k = record {
-  as_type = as_types;
-  as_prefix = λ around allowed place cs h. whole around place cs;
-  as_prefix_template = λ around allowed place cs h. whole around place cs;
-  between = λ around allowed place cs h. absurd h;
-  between_template = λ around allowed place cs h. absurd h;
-  as_entity = λ role around allowed place cs h. absurd h;
-  as_entity_template = λ around allowed place cs h. absurd h;
-  as_piece = λ around allowed place cs h. absurd h;
-  as_encoding = λ around allowed place cs h. absurd h;
-  as_name = λ q ref around allowed place cs h. absurd h;
+  at = each;
   before = λ typed around allowed place cs arguments elements few h.
       let own : Spelling = component around.encoding (parameter k) (text (codes "T" ++ ordinal k)) in
       let w : Written = own place cs in
@@ -150,12 +120,6 @@ few-parameter k = record {
         few-and 0 2 own (of_elements elements) place cs (whole around place cs)
             (few-elements elements (place + length w.bytes) w.components (few (place + length w.bytes) w.components h.1)),
       );
-  as_argument = λ in_pack around allowed place cs h. whole around place cs;
-  as_items = λ around allowed place cs h. absurd h;
-  as_more_items = λ around allowed place cs h. absurd h;
-  as_parameters = λ around allowed place cs h. absurd h;
-  as_more_parameters = λ around allowed place cs h. absurd h;
-  as_elements = λ in_pack around allowed place cs h. absurd h;
 }
   where
     whole : (around : Around) (place : ℕ) (cs : List Component)
@@ -163,11 +127,14 @@ few-parameter k = record {
     whole around place cs = few-component around.encoding (parameter k) (text (codes "T" ++ ordinal k)) place cs (λ none. omega arith)
 
     as_types : (slot : Slot) → LeadsFew 0 (λ n. slot_way slot (ways_of n (parameter k))) ((fits_of (parameter k)).as_type slot)
-    as_types any_type around allowed place cs h = whole around place cs
-    as_types bare_type around allowed place cs h = whole around place cs
-    as_types item_type around allowed place cs h = whole around place cs
-    as_types parameter_type around allowed place cs h = whole around place cs
-    as_types literal_type around allowed place cs h = whole around place cs
+    as_types = each-slot _ (λ around allowed place cs h. whole around place cs) (λ around allowed place cs h. whole around place cs) (λ around allowed place cs h. whole around place cs) (λ around allowed place cs h. whole around place cs) (λ around allowed place cs h. whole around place cs)
+
+    each : CountsAt (parameter k)
+    each spot.as_type = as_types
+    each spot.as_prefix = λ around allowed place cs h. whole around place cs
+    each spot.as_prefix_template = λ around allowed place cs h. whole around place cs
+    each spot.as_argument = λ in_pack around allowed place cs h. whole around place cs
+    each w = (few-nowhere (parameter k) (λ n. ways_of n (parameter k))).at w
 
 -- after St
 few-std : (p : Term) → Counts p → (around : Around) (allowed : Option ℕ) (place : ℕ) (cs : List Component)
@@ -175,7 +142,7 @@ few-std : (p : Term) → Counts p → (around : Around) (allowed : Option ℕ) (
 few-std p r around allowed place cs h =
     omega (
       arith,
-      few-behind 1 2 (codes "St") (ways_of around.encoding p).as_piece place cs (omega arith) (r.as_piece around allowed
+      few-behind 1 2 (codes "St") (ways_of around.encoding p).as_piece place cs (omega arith) (r.at spot.as_piece around allowed
           (place + 2) cs h),
     )
 
@@ -233,37 +200,12 @@ std-placed false p around allowed place cs h = subst (λ q. (fits_of p).as_piece
 few-in-std : (p : Term) → Counts p → Counts (in_std p)
 unfolding ways_of fits_of fits_nowhere name_ways no_ways template_before is_one_piece entity_text ended
 few-in-std p r = record {
-  as_type = as_types;
-  as_prefix = λ around allowed place cs h. few-component around.encoding (in_std p) (std_spelling around.encoding p) place cs
-      (λ none. few-std p r around allowed place cs (h.1 none).1);
-  as_prefix_template = λ around allowed place cs h. few-component around.encoding (in_std p) (std_spelling around.encoding p) place cs
-      (λ none. few-std p r around allowed place cs (h.1 none).1);
-  between = λ around allowed place cs h. few-std p r around allowed place cs h.1;
-  between_template = λ around allowed place cs h. few-std p r around allowed place cs h.1;
-  as_entity = λ role around allowed place cs h.
-      omega (
-        arith,
-        few-nested 1 (letters_of role) (std_spelling around.encoding p) place cs
-            (few-std p r around allowed (place + length (codes "N" ++ letters_of role)) cs h.1),
-      );
-  as_entity_template = λ around allowed place cs h. absurd h;
-  as_piece = λ around allowed place cs h. absurd h;
-  as_encoding = λ around allowed place cs h. absurd h;
-  as_name = λ q ref around allowed place cs h.
-      few-letters (name_letters q ref) around allowed place cs (std_spelling around.encoding p) (std_spelling around.encoding p)
-      (std_fits p) (std_fits p)
-      h (λ k. omega (arith, few-std p r around allowed place cs k.1)) (λ at k. omega (arith, few-std p r around allowed at cs k.1));
+  at = each;
   before = λ typed around allowed place cs arguments elements few h.
       let whole : Spelling = std_spelling around.encoding p and ended around.encoding (in_std p) and of_elements elements in
       few-referred around allowed (in_std p) arguments elements (choice (typed && is_operator p) (in_N_and_E [] whole) whole) place cs few h.1
       (λ none. few-std-before (typed && is_operator p) p r around allowed arguments elements place cs few
       (std-placed typed p around allowed place cs (h.2 none).0) (h.2 none).1);
-  as_argument = λ in_pack. whole;
-  as_items = λ around allowed place cs h. absurd h;
-  as_more_items = λ around allowed place cs h. absurd h;
-  as_parameters = λ around allowed place cs h. absurd h;
-  as_more_parameters = λ around allowed place cs h. absurd h;
-  as_elements = λ in_pack around allowed place cs h. absurd h;
 }
   where
     whole : LeadsFew 0 (λ n. component n (in_std p) (choice (is_operator p) (in_N_and_E [] (std_spelling n p)) (std_spelling n p)))
@@ -274,35 +216,35 @@ few-in-std p r = record {
         (λ none. few-std-typed (is_operator p) p r around allowed place cs (h.1 none).1)
 
     as_types : (slot : Slot) → LeadsFew 0 (λ n. slot_way slot (ways_of n (in_std p))) ((fits_of (in_std p)).as_type slot)
-    as_types any_type = whole
-    as_types bare_type = whole
-    as_types item_type = whole
-    as_types parameter_type = whole
-    as_types literal_type = whole
+    as_types = each-slot _ whole whole whole whole whole
+
+    each : CountsAt (in_std p)
+    each spot.as_type = as_types
+    each spot.as_prefix = λ around allowed place cs h. few-component around.encoding (in_std p) (std_spelling around.encoding p) place cs
+        (λ none. few-std p r around allowed place cs (h.1 none).1)
+    each spot.as_prefix_template = λ around allowed place cs h. few-component around.encoding (in_std p) (std_spelling around.encoding p) place cs
+        (λ none. few-std p r around allowed place cs (h.1 none).1)
+    each spot.between = λ around allowed place cs h. few-std p r around allowed place cs h.1
+    each spot.between_template = λ around allowed place cs h. few-std p r around allowed place cs h.1
+    each spot.as_entity = λ role around allowed place cs h.
+        omega (
+          arith,
+          few-nested 1 (letters_of role) (std_spelling around.encoding p) place cs
+              (few-std p r around allowed (place + length (codes "N" ++ letters_of role)) cs h.1),
+        )
+    each spot.as_name = λ q ref around allowed place cs h.
+        few-letters (name_letters q ref) around allowed place cs (std_spelling around.encoding p) (std_spelling around.encoding p)
+        (std_fits p) (std_fits p)
+        h (λ k. omega (arith, few-std p r around allowed place cs k.1)) (λ at k. omega (arith, few-std p r around allowed at cs k.1))
+    each spot.as_argument = λ in_pack. whole
+    each w = (few-nowhere (in_std p) (λ n. ways_of n (in_std p))).at w
 
 few-function-type : (c x : Bool) (ref : RefQualifier) (a ps : Term) → Counts a → Counts ps → Counts (function_type c x ref a ps)
 unfolding ways_of fits_of fits_nowhere type_fits type_ways no_ways function_text
 few-function-type c x ref a ps ra rp = record {
-  as_type = as_types;
-  as_prefix = λ around allowed place cs h. few-component around.encoding (function_type c x ref a ps)
-      (whole_text around.encoding) place cs (λ none. absurd (h.1 none));
-  as_prefix_template = λ around allowed place cs h. few-component around.encoding (function_type c x ref a ps)
-      (whole_text around.encoding) place cs (λ none. absurd (h.1 none));
-  between = λ around allowed place cs h. absurd h;
-  between_template = λ around allowed place cs h. absurd h;
-  as_entity = λ role around allowed place cs h. absurd h;
-  as_entity_template = λ around allowed place cs h. absurd h;
-  as_piece = λ around allowed place cs h. absurd h;
-  as_encoding = λ around allowed place cs h. absurd h;
-  as_name = λ q ref around allowed place cs h. absurd h;
+  at = each;
   before = λ typed around allowed place cs arguments elements few h.
       few-reference around allowed (function_type c x ref a ps) (whole_text around.encoding) arguments elements place cs few h;
-  as_argument = λ in_pack around allowed place cs h. whole around allowed place cs (h.0, λ none. (h.1 none).1);
-  as_items = λ around allowed place cs h. absurd h;
-  as_more_items = λ around allowed place cs h. absurd h;
-  as_parameters = λ around allowed place cs h. absurd h;
-  as_more_parameters = λ around allowed place cs h. absurd h;
-  as_elements = λ in_pack around allowed place cs h. absurd h;
 }
   where
     front : List ℕ
@@ -323,9 +265,9 @@ few-function-type c x ref a ps ra rp = record {
         let w : Written = (ways_of n a).as_type at cs in
         let end : List ℕ = mark_letter ref ++ codes "E" in
         few-behind 0 1 front ((ways_of n a).as_type and (ways_of n ps).as_parameters and text end) place cs (marks-long c x)
-        (few-and 0 0 (ways_of n a).as_type ((ways_of n ps).as_parameters and text end) at cs (ra.as_type any_type around allowed at cs h.0)
+        (few-and 0 0 (ways_of n a).as_type ((ways_of n ps).as_parameters and text end) at cs (ra.at spot.as_type any_type around allowed at cs h.0)
         (few-before 0 (ways_of n ps).as_parameters end (at + length w.bytes) w.components
-        (rp.as_parameters around allowed (at + length w.bytes) w.components
+        (rp.at spot.as_parameters around allowed (at + length w.bytes) w.components
         (subst (λ q. (fits_of ps).as_parameters parameter_type around allowed q w.components) (omega
         (arith, length-append front w.bytes)) h.1))))
 
@@ -343,6 +285,15 @@ few-function-type c x ref a ps ra rp = record {
     as_types literal_type = λ around allowed place cs h.
         few-component around.encoding (function_type c x ref a ps) (whole_text around.encoding) place cs (λ none. absurd (h.1 none))
 
+    each : CountsAt (function_type c x ref a ps)
+    each spot.as_type = as_types
+    each spot.as_prefix = λ around allowed place cs h. few-component around.encoding (function_type c x ref a ps)
+        (whole_text around.encoding) place cs (λ none. absurd (h.1 none))
+    each spot.as_prefix_template = λ around allowed place cs h. few-component around.encoding (function_type c x ref a ps)
+        (whole_text around.encoding) place cs (λ none. absurd (h.1 none))
+    each spot.as_argument = λ in_pack around allowed place cs h. whole around allowed place cs (h.0, λ none. (h.1 none).1)
+    each w = (few-nowhere (function_type c x ref a ps) (λ n. ways_of n (function_type c x ref a ps))).at w
+
 -- ## After a prefix
 
 few-joined : (x p : Term) → Counts x → Counts p → (around : Around) (allowed : Option ℕ) (place : ℕ) (cs : List Component)
@@ -350,14 +301,14 @@ few-joined : (x p : Term) → Counts x → Counts p → (around : Around) (allow
 unfolding after
 few-joined x p rx rp around allowed place cs h =
     let w : Written = (ways_of around.encoding x).as_prefix place cs in
-    few-and 0 1 (ways_of around.encoding x).as_prefix (ways_of around.encoding p).as_piece place cs (rx.as_prefix around allowed place cs h.0)
-    (rp.as_piece (after x true around) allowed (place + length w.bytes) w.components h.2)
+    few-and 0 1 (ways_of around.encoding x).as_prefix (ways_of around.encoding p).as_piece place cs (rx.at spot.as_prefix around allowed place cs h.0)
+    (rp.at spot.as_piece (after x true around) allowed (place + length w.bytes) w.components h.2)
 
 few-local : (x p : Term) (may : Bool) → Counts p → (around : Around) (allowed : Option ℕ) (place : ℕ) (cs : List Component)
     → local_fits x p may around allowed place cs → FewBy 1 cs (joined_spelling around.encoding x p place cs)
 few-local x p may rp around allowed place cs h =
     subst (FewBy 1 cs) (sym (scope-first x around.encoding (ways_of around.encoding p).as_piece place cs h.0))
-    (rp.as_piece around allowed place cs h.1.2)
+    (rp.at spot.as_piece around allowed place cs h.1.2)
 
 few-begun : (x p : Term) → Counts x → Counts p → (around : Around) (allowed : Option ℕ) (place : ℕ) (cs : List Component)
     → begun_fits x p around allowed place cs → FewBy 1 cs (joined_spelling around.encoding x p place cs)
@@ -396,20 +347,7 @@ few-nested-name (l ∷ ls) between place cs one = omega (arith, few-nested 1 (l 
 few-within : (x p : Term) → Counts x → Counts p → Counts (within x p)
 unfolding ways_of fits_of fits_nowhere name_ways no_ways template_before is_one_piece entity_text ended
 few-within x p rx rp = record {
-  as_type = as_types;
-  as_prefix = λ around allowed place cs h. few-component around.encoding (within x p) (joined_spelling around.encoding x p) place cs
-      (λ none. few-begun x p rx rp around allowed place cs (h.1 none));
-  as_prefix_template = λ around allowed place cs h. few-component around.encoding (within x p) (joined_spelling around.encoding x p) place cs
-      (λ none. few-begun x p rx rp around allowed place cs (h.1 none));
-  between = λ around allowed place cs h. few-joined x p rx rp around allowed place cs h;
-  between_template = λ around allowed place cs h. few-joined x p rx rp around allowed place cs h;
-  as_entity = λ role around allowed place cs h. few-within-entity x p rx rp role around allowed place cs (is_encoding x) refl h;
-  as_entity_template = λ around allowed place cs h. few-local x p _ rp around allowed place cs h;
-  as_piece = λ around allowed place cs h. absurd h;
-  as_encoding = λ around allowed place cs h. absurd h;
-  as_name = λ q ref around allowed place cs h.
-      few-nested-name (name_letters q ref) (joined_spelling around.encoding x p) place cs
-      (few-joined x p rx rp around allowed (place + length (codes "N" ++ name_letters q ref)) cs h);
+  at = each;
   before = λ typed around allowed place cs arguments elements few h.
       let n : ℕ = around.encoding in
       let rest : Spelling = ended n (within x p) and of_elements elements in
@@ -422,12 +360,6 @@ few-within x p rx rp = record {
             (few-made around allowed (within x p) arguments elements (place + 1) (place + length ((78 ∷ w.bytes) ++ [])) w few
             (omega (arith, length-append w.bytes [])) (h.2 none).1)),
       ));
-  as_argument = λ in_pack. whole;
-  as_items = λ around allowed place cs h. absurd h;
-  as_more_items = λ around allowed place cs h. absurd h;
-  as_parameters = λ around allowed place cs h. absurd h;
-  as_more_parameters = λ around allowed place cs h. absurd h;
-  as_elements = λ in_pack around allowed place cs h. absurd h;
 }
   where
     whole : LeadsFew 0 (λ n. component n (within x p) (in_N_and_E [] (joined_spelling n x p)))
@@ -438,18 +370,30 @@ few-within x p rx rp = record {
         (h.1 none)))
 
     as_types : (slot : Slot) → LeadsFew 0 (λ n. slot_way slot (ways_of n (within x p))) ((fits_of (within x p)).as_type slot)
-    as_types any_type = whole
-    as_types bare_type = whole
-    as_types item_type = whole
-    as_types parameter_type = whole
-    as_types literal_type = whole
+    as_types = each-slot _ whole whole whole whole whole
+
+    each : CountsAt (within x p)
+    each spot.as_type = as_types
+    each spot.as_prefix = λ around allowed place cs h. few-component around.encoding (within x p) (joined_spelling around.encoding x p) place cs
+        (λ none. few-begun x p rx rp around allowed place cs (h.1 none))
+    each spot.as_prefix_template = λ around allowed place cs h. few-component around.encoding (within x p) (joined_spelling around.encoding x p) place cs
+        (λ none. few-begun x p rx rp around allowed place cs (h.1 none))
+    each spot.between = λ around allowed place cs h. few-joined x p rx rp around allowed place cs h
+    each spot.between_template = λ around allowed place cs h. few-joined x p rx rp around allowed place cs h
+    each spot.as_entity = λ role around allowed place cs h. few-within-entity x p rx rp role around allowed place cs (is_encoding x) refl h
+    each spot.as_entity_template = λ around allowed place cs h. few-local x p _ rp around allowed place cs h
+    each spot.as_name = λ q ref around allowed place cs h.
+        few-nested-name (name_letters q ref) (joined_spelling around.encoding x p) place cs
+        (few-joined x p rx rp around allowed (place + length (codes "N" ++ name_letters q ref)) cs h)
+    each spot.as_argument = λ in_pack. whole
+    each w = (few-nowhere (within x p) (λ n. ways_of n (within x p))).at w
 
 -- ## With arguments
 
 few-arguments : (a : Term) → Counts a → (around : Around) (allowed : Option ℕ)
     → ArgumentsFew around allowed (elements_of a) (ways_of around.encoding a).as_elements
 unfolding inside
-few-arguments a r around allowed place cs h = r.as_elements false (inside around) allowed (place + 1) cs h
+few-arguments a r around allowed place cs h = (r.at spot.as_elements) false (inside around) allowed (place + 1) cs h
 
 few-instance-between : (t a : Term) → Counts a → (around : Around) (allowed : Option ℕ) (place : ℕ) (cs : List Component)
     → FewBy 1 cs ((ways_of around.encoding t).between_N_and_E place cs)
@@ -477,7 +421,7 @@ few-instance-entity : (t a : Term) → Counts t → Counts a → (role : Role) (
     → FewBy 0 cs (choice b (instance_between around.encoding t a) (in_N_and_E (letters_of role)
     (instance_between around.encoding t a)) place cs)
 few-instance-entity t a rt ra role around allowed place cs true is (inl h) =
-    omega (arith, few-instance-between t a ra around allowed place cs (rt.as_entity_template around allowed place cs h.1) h.2)
+    omega (arith, few-instance-between t a ra around allowed place cs (rt.at spot.as_entity_template around allowed place cs h.1) h.2)
 few-instance-entity t a rt ra role around allowed place cs false is (inl h) = absurd (one-piece-is t a around allowed place cs h.1 is)
 few-instance-entity t a rt ra role around allowed place cs true is (inr h) =
     absurd (let e : true ≡ false = sym is ∙ not-one-piece t a around allowed (place + length (codes "N" ++ letters_of role)) cs h.0 in cc)
@@ -486,54 +430,15 @@ few-instance-entity t a rt ra role around allowed place cs false is (inr h) =
     omega (
       arith,
       few-nested 1 (letters_of role) (instance_between around.encoding t a) place cs
-          (few-instance-between t a ra around allowed at cs (rt.between_template around allowed at cs h.0) h.1),
+          (few-instance-between t a ra around allowed at cs (rt.at spot.between_template around allowed at cs h.0) h.1),
     )
 
 few-instance : (t a : Term) → Counts t → Counts a → Counts (instance t a)
 unfolding ways_of fits_of fits_nowhere name_ways no_ways entity_text
 few-instance t a rt ra = record {
-  as_type = as_types;
-  as_prefix = λ around allowed place cs h.
-      let n : ℕ = around.encoding in
-      let prefix : Spelling = (ways_of n t).as_prefix in
-      let w : Written = prefix place cs in
-      let arguments : Spelling = of_elements (ways_of n a).as_elements in
-      few-component n (instance t a) (prefix and arguments) place cs
-      (λ none. omega (
-        arith,
-        few-and 0 2 prefix arguments place cs (rt.as_prefix_template around allowed place cs (h.1 none).0)
-            (few-elements (ways_of n a).as_elements (place + length w.bytes) w.components
-            (few-arguments a ra around allowed (place + length w.bytes) w.components (h.1 none).1)),
-      ));
-  as_prefix_template = λ around allowed place cs h. few-component around.encoding (instance t a)
-      ((ways_of around.encoding t).as_prefix and of_elements (ways_of around.encoding a).as_elements) place cs (λ none. absurd (h.1 none));
-  between = λ around allowed place cs h. few-instance-between t a ra around allowed place cs
-      (rt.between_template around allowed place cs h.0) h.1;
-  between_template = λ around allowed place cs h. absurd h;
-  as_entity = λ role around allowed place cs h. few-instance-entity t a rt ra role around allowed place cs (is_one_piece
-      (instance t a)) refl h;
-  as_entity_template = λ around allowed place cs h. absurd h;
-  as_piece = λ around allowed place cs h. absurd h;
-  as_encoding = λ around allowed place cs h. absurd h;
-  as_name = λ q ref around allowed place cs h.
-      let n : ℕ = around.encoding in
-      few-letters (name_letters q ref) around allowed place cs ((ways_of n t).before false (of_elements (ways_of n a).as_elements))
-      (instance_between n t a)
-      ((fits_of t).before false (elements_of a)) (instance_joined t a) h
-      (λ k. omega (
-        arith,
-        rt.before false around allowed place cs (elements_of a) (ways_of n a).as_elements
-            (few-arguments a ra around allowed) k,
-      ))
-      (λ at k. omega (arith, few-instance-between t a ra around allowed at cs (rt.between_template around allowed at cs k.0) k.1));
+  at = each;
   before = λ typed around allowed place cs arguments elements few h.
       few-reference around allowed (instance t a) nothing arguments elements place cs few h;
-  as_argument = λ in_pack. whole;
-  as_items = λ around allowed place cs h. absurd h;
-  as_more_items = λ around allowed place cs h. absurd h;
-  as_parameters = λ around allowed place cs h. absurd h;
-  as_more_parameters = λ around allowed place cs h. absurd h;
-  as_elements = λ in_pack around allowed place cs h. absurd h;
 }
   where
     whole : LeadsFew 0 (λ n. component n (instance t a) ((ways_of n t).before true (of_elements (ways_of n a).as_elements)))
@@ -545,11 +450,41 @@ few-instance t a rt ra = record {
         (h.1 none))
 
     as_types : (slot : Slot) → LeadsFew 0 (λ n. slot_way slot (ways_of n (instance t a))) ((fits_of (instance t a)).as_type slot)
-    as_types any_type = whole
-    as_types bare_type = whole
-    as_types item_type = whole
-    as_types parameter_type = whole
-    as_types literal_type = whole
+    as_types = each-slot _ whole whole whole whole whole
+
+    each : CountsAt (instance t a)
+    each spot.as_type = as_types
+    each spot.as_prefix = λ around allowed place cs h.
+        let n : ℕ = around.encoding in
+        let prefix : Spelling = (ways_of n t).as_prefix in
+        let w : Written = prefix place cs in
+        let arguments : Spelling = of_elements (ways_of n a).as_elements in
+        few-component n (instance t a) (prefix and arguments) place cs
+        (λ none. omega (
+          arith,
+          few-and 0 2 prefix arguments place cs (rt.at spot.as_prefix_template around allowed place cs (h.1 none).0)
+              (few-elements (ways_of n a).as_elements (place + length w.bytes) w.components
+              (few-arguments a ra around allowed (place + length w.bytes) w.components (h.1 none).1)),
+        ))
+    each spot.as_prefix_template = λ around allowed place cs h. few-component around.encoding (instance t a)
+        ((ways_of around.encoding t).as_prefix and of_elements (ways_of around.encoding a).as_elements) place cs (λ none. absurd (h.1 none))
+    each spot.between = λ around allowed place cs h. few-instance-between t a ra around allowed place cs
+        (rt.at spot.between_template around allowed place cs h.0) h.1
+    each spot.as_entity = λ role around allowed place cs h. few-instance-entity t a rt ra role around allowed place cs (is_one_piece
+        (instance t a)) refl h
+    each spot.as_name = λ q ref around allowed place cs h.
+        let n : ℕ = around.encoding in
+        few-letters (name_letters q ref) around allowed place cs ((ways_of n t).before false (of_elements (ways_of n a).as_elements))
+        (instance_between n t a)
+        ((fits_of t).before false (elements_of a)) (instance_joined t a) h
+        (λ k. omega (
+          arith,
+          rt.before false around allowed place cs (elements_of a) (ways_of n a).as_elements
+              (few-arguments a ra around allowed) k,
+        ))
+        (λ at k. omega (arith, few-instance-between t a ra around allowed at cs (rt.at spot.between_template around allowed at cs k.0) k.1))
+    each spot.as_argument = λ in_pack. whole
+    each w = (few-nowhere (instance t a) (λ n. ways_of n (instance t a))).at w
 
 -- ## Local names and encodings
 
@@ -570,10 +505,10 @@ few-local-text e entity d re rn role around allowed place cs one two =
     omega (
       arith,
       few-behind 1 1 (codes "Z") (spelled and text (codes "E") and name and text end) place cs (omega arith)
-          (few-and 0 1 spelled (text (codes "E") and name and text end) (place + 1) cs (re.as_encoding around allowed (place + 1) cs one)
+          (few-and 0 1 spelled (text (codes "E") and name and text end) (place + 1) cs (re.at spot.as_encoding around allowed (place + 1) cs one)
           (few-behind 0 1 (codes "E") (name and text end) (place + 1 + length first.bytes) first.components (omega arith)
           (few-before 0 name end at first.components
-          (rn.as_entity role (after e true around) allowed at first.components
+          (rn.at spot.as_entity role (after e true around) allowed at first.components
           (subst (λ q. (fits_of entity).as_entity role (after e true around) allowed q first.components)
           (omega (arith, length-append first.bytes (69 ∷ []))) two))))),
     )
@@ -581,30 +516,9 @@ few-local-text e entity d re rn role around allowed place cs one two =
 few-local-name : (e entity : Term) (d : Option (List ℕ)) → Counts e → Counts entity → Counts (local e entity d)
 unfolding ways_of fits_of fits_nowhere type_fits type_ways no_ways letters_of
 few-local-name e entity d re rn = record {
-  as_type = as_types;
-  as_prefix = λ around allowed place cs h. few-component around.encoding (local e entity d) (spelled around.encoding) place cs
-      (λ none. absurd (h.1 none));
-  as_prefix_template = λ around allowed place cs h. few-component around.encoding (local e entity d)
-      (spelled around.encoding) place cs (λ none. absurd (h.1 none));
-  between = λ around allowed place cs h. absurd h;
-  between_template = λ around allowed place cs h. absurd h;
-  as_entity = λ role around allowed place cs h. absurd h;
-  as_entity_template = λ around allowed place cs h. absurd h;
-  as_piece = λ around allowed place cs h. absurd h;
-  as_encoding = λ around allowed place cs h. absurd h;
-  as_name = λ q ref around allowed place cs h. omega (
-    arith,
-    few-local-text e entity d re rn
-        (in_name_with q ref) around allowed place cs h.0 h.1,
-  );
+  at = each;
   before = λ typed around allowed place cs arguments elements few h.
       few-reference around allowed (local e entity d) (spelled around.encoding) arguments elements place cs few h;
-  as_argument = λ in_pack. whole;
-  as_items = λ around allowed place cs h. absurd h;
-  as_more_items = λ around allowed place cs h. absurd h;
-  as_parameters = λ around allowed place cs h. absurd h;
-  as_more_parameters = λ around allowed place cs h. absurd h;
-  as_elements = λ in_pack around allowed place cs h. absurd h;
 }
   where
     spelled : ℕ → Spelling
@@ -616,17 +530,27 @@ few-local-name e entity d re rn = record {
         (λ none. few-local-text e entity d re rn in_type around allowed place cs (h.1 none).0 (h.1 none).1)
 
     as_types : (slot : Slot) → LeadsFew 0 (λ n. slot_way slot (ways_of n (local e entity d))) ((fits_of (local e entity d)).as_type slot)
-    as_types any_type = whole
-    as_types bare_type = whole
-    as_types item_type = whole
-    as_types parameter_type = whole
-    as_types literal_type = whole
+    as_types = each-slot _ whole whole whole whole whole
+
+    each : CountsAt (local e entity d)
+    each spot.as_type = as_types
+    each spot.as_prefix = λ around allowed place cs h. few-component around.encoding (local e entity d) (spelled around.encoding) place cs
+        (λ none. absurd (h.1 none))
+    each spot.as_prefix_template = λ around allowed place cs h. few-component around.encoding (local e entity d)
+        (spelled around.encoding) place cs (λ none. absurd (h.1 none))
+    each spot.as_name = λ q ref around allowed place cs h. omega (
+      arith,
+      few-local-text e entity d re rn
+          (in_name_with q ref) around allowed place cs h.0 h.1,
+    )
+    each spot.as_argument = λ in_pack. whole
+    each w = (few-nowhere (local e entity d) (λ n. ways_of n (local e entity d))).at w
 
 few-returned : (b : Bool) (r : Term) → Counts r → (around : Around) (allowed : Option ℕ) (place : ℕ) (cs : List Component)
     → either b ((fits_of r).as_type item_type around allowed place cs) (r ≡ absent)
     → FewBy 0 cs ((ways_of around.encoding r).as_type place cs)
 unfolding either ways_of no_ways
-few-returned true r c around allowed place cs h = c.as_type item_type around allowed place cs h
+few-returned true r c around allowed place cs h = c.at spot.as_type item_type around allowed place cs h
 few-returned false r c around allowed place cs h = subst (λ x. FewBy 0 cs ((ways_of around.encoding x).as_type place cs)) (sym h)
     (omega arith)
 
@@ -640,34 +564,34 @@ few-function name r ps q ref rn rr rp = few-encoding (function name q ref r ps) 
     let first : Written = a here cs in
     let at : ℕ = here + length first.bytes in
     let second : Written = b at first.components in
-    few-and 0 0 a (b and c) here cs (rn.as_name q ref (in_name here) allowed here cs h.0)
+    few-and 0 0 a (b and c) here cs (rn.at spot.as_name q ref (in_name here) allowed here cs h.0)
     (few-and 0 0 b c at first.components (few-returned (has_return_type name) r rr (in_types here name) allowed at first.components h.1)
-    (rp.as_items (in_types here name) allowed (at + length second.bytes) second.components
+    (rp.at spot.as_items (in_types here name) allowed (at + length second.bytes) second.components
     (subst (λ p. (fits_of ps).as_parameters item_type (in_types here name) allowed p second.components)
     (omega (arith, length-append first.bytes second.bytes)) h.2))))
 
 few-object : (name : Term) (q : Qualifiers) (ref : RefQualifier) → Counts name → Counts (object name q ref)
 unfolding ways_of fits_of encoding_ways begun no_ways in_name
 few-object name q ref rn =
-    few-encoding (object name q ref) _ _ (λ around allowed here cs h. rn.as_name q ref (in_name here) allowed here cs h)
+    few-encoding (object name q ref) _ _ (λ around allowed here cs h. (rn.at spot.as_name) q ref (in_name here) allowed here cs h)
 
 few-of-name : (l : ℕ) (name : Term) (q : Qualifiers) (ref : RefQualifier) → Counts name → Counts (of_name l name q ref)
 unfolding ways_of fits_of encoding_ways begun no_ways in_name
 few-of-name l name q ref rn = few-encoding (of_name l name q ref) _ _ (λ around allowed here cs h.
     few-behind 0 0 (special_code l) ((ways_of here name).as_name (name_letters q ref)) here cs (omega arith)
-    (rn.as_name q ref (in_name here) allowed (here + 2) cs h.1))
+    (rn.at spot.as_name q ref (in_name here) allowed (here + 2) cs h.1))
 
 few-special : (l : ℕ) (t : Term) → Counts t → Counts (special l t)
 unfolding ways_of fits_of encoding_ways begun no_ways in_name
 few-special l t r = few-encoding (special l t) _ _ (λ around allowed here cs h.
     few-behind 0 0 (codes "T" ++ l ∷ []) (ways_of here t).as_type here cs (omega arith)
-    (r.as_type any_type (in_name here) allowed (here + 2) cs h.2))
+    (r.at spot.as_type any_type (in_name here) allowed (here + 2) cs h.2))
 
 few-thunk : (kind : Thunk) (e : Term) → Counts e → Counts (thunk kind e)
 unfolding ways_of fits_of encoding_ways begun no_ways in_name
 few-thunk kind e r = few-encoding (thunk kind e) _ _ (λ around allowed here cs h.
     few-behind 0 0 (thunk_text kind) (ways_of here e).as_encoding here cs (omega arith)
-    (r.as_encoding (in_name here) allowed (here + length (thunk_text kind)) cs h.1))
+    (r.at spot.as_encoding (in_name here) allowed (here + length (thunk_text kind)) cs h.1))
 
 -- Generated by tools/trees.py. Each tree that fits
 counts : (t : Term) → Counts t
@@ -736,6 +660,6 @@ fitting-few (symbol e suffix) fits =
     omega (
       arith,
       few-behind 0 0 (codes "_Z") ((ways_of 0 e).as_encoding and text suffix) 0 [] (omega arith)
-          (few-before 0 (ways_of 0 e).as_encoding suffix 2 [] ((counts e).as_encoding first_around None 2 [] fits.0)),
+          (few-before 0 (ways_of 0 e).as_encoding suffix 2 [] ((counts e).at spot.as_encoding first_around None 2 [] fits.0)),
     )
 fitting-few _ fits = absurd fits

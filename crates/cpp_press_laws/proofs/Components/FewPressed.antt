@@ -1,5 +1,5 @@
 -- Of what a symbol is read as at most as many components are spelled out as the reader has candidates.
-use Rattle.std.proofs.Common.{◌≡◌, ℕ, ◌≤◌, inl, inr, length, List, [], ◌∷◌, None, Ok, refl, ap, sym, subst, ◌∙◌, arith}
+use Rattle.std.proofs.Common.{◌≡◌, ℕ, ◌≤◌, length, List, [], ◌∷◌, None, Ok, refl, ap, sym, subst, ◌∙◌, arith}
 use Rattle.std.proofs.lemmas.Bool.{false≢true}
 use Rattle.sym_shape.specs.declared.rule.Sym.TheVariants.{Kind as OfKind}
 use Rattle.sym_shape.specs.Tree.{Tree as Shape, branch, empty, token, fixed, IsTree}
@@ -22,7 +22,7 @@ use Rattle.cpp_press_laws.specs.Apart.{spelled_components}
 use Rattle.cpp_press_laws.specs.PressLaws.{IsReadFrom}
 use Rattle.cpp_press_laws.proofs.Components.Complete.{worths-none}
 use Rattle.cpp_press_laws.proofs.Short.Worth.{worths}
-use Rattle.cpp_press_laws.proofs.ByKind.Rules.{OneOf, all-of, kind-at, one-value}
+use Rattle.cpp_press_laws.proofs.ByKind.Rules.{all-of, kind-at, one-value}
 use Rattle.cpp_press_laws.proofs.ByKind.Packs.{shape-kept}
 use Rattle.cpp_press_laws.proofs.Fits.Symbols.{WholeFits}
 use Rattle.cpp_press_laws.proofs.ByKind.Root.{first-front}
@@ -67,12 +67,8 @@ symbol-read : (shape : Shape) (v : Value) (new : State) → IsTree abi (OfKind (
     → AreFew (tree_of v) new
 unfolding alternatives may_be_empty
 symbol-read (branch rule taken parts) v new is e =
-    go (opened-read Kind.Symbol rule taken parts (all-of ShapeRead shape-read parts) first_around 0 first_state v new first-front is e)
-  where
-    go : OneOf (alternatives Kind.Symbol) (OpenedRead Kind.Symbol first_around 0 first_state v new)
-        → AreFew (tree_of v) new
-    go (inl o) = symbol-arm v new o
-    go (inr none) = absurd none
+    let o = opened-read Kind.Symbol rule taken parts (all-of ShapeRead shape-read parts) first_around 0 first_state v new first-front is e in
+    symbol-arm v new o
 symbol-read empty v new is e =
     absurd (false≢true (sym (empty_at_kind (number_of_kind Kind.Symbol) Kind.Symbol (kind-at Kind.Symbol)) ∙ is))
 symbol-read (token t) v new is e = absurd is

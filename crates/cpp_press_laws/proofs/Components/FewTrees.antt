@@ -13,6 +13,9 @@ use Rattle.cpp_press_laws.proofs.ReadBack.Templates.{of_elements}
 use Rattle.cpp_press_laws.proofs.EveryWay.Every.{slot_way}
 use Rattle.cpp_press_laws.proofs.Components.Counting.{counted-long, letters-long}
 use Rattle.cpp_press_laws.specs.Fits.{Slot, any_type, bare_type, item_type, parameter_type, literal_type, IsBuiltin, Fits, Fitting, Standing, IsFirst, Role, letters_of, Behind, as_component, as_template, nowhere, fits_nowhere, type_fits, piece_fits, argument_fits, encoding_fits, fits_of}
+use Rattle.cpp_press_laws.proofs.Slots.{each-slot}
+use Rattle.cpp_press_laws.proofs.Spots as spot
+use Rattle.cpp_press_laws.proofs.Spots.{Spot}
 
 -- ## Counts
 
@@ -133,143 +136,103 @@ LeadsFew k spelled fits =
     (around : Around) (allowed : Option ℕ) (place : ℕ) (cs : List Component) → fits around allowed place cs
     → FewBy k cs (spelled around.encoding place cs)
 
+abbrev pub FewAt : Spot → (t : Term) → (ℕ → Ways) → Fits → Type 0
+FewAt spot.as_type t ways fits = (slot : Slot) → LeadsFew 0 (λ n. slot_way slot (ways n)) (fits.as_type slot)
+FewAt spot.as_prefix t ways fits = LeadsFew 0 (λ n. (ways n).as_prefix) fits.as_prefix
+FewAt spot.as_prefix_template t ways fits = LeadsFew 0 (λ n. (ways n).as_prefix) fits.as_prefix_template
+FewAt spot.between t ways fits = LeadsFew 1 (λ n. (ways n).between_N_and_E) fits.between
+FewAt spot.between_template t ways fits = LeadsFew 1 (λ n. (ways n).between_N_and_E) fits.between_template
+FewAt spot.as_entity t ways fits = (role : Role) → LeadsFew 0 (λ n. entity_text t (letters_of role) (ways n).between_N_and_E) (fits.as_entity role)
+FewAt spot.as_entity_template t ways fits = LeadsFew 1 (λ n. (ways n).between_N_and_E) fits.as_entity_template
+FewAt spot.as_piece t ways fits = LeadsFew 1 (λ n. (ways n).as_piece) fits.as_piece
+FewAt spot.as_encoding t ways fits = LeadsFew 0 (λ n. (ways n).as_encoding) (λ around. fits.as_encoding)
+FewAt spot.as_name t ways fits = (q : Qualifiers) (ref : RefQualifier) → LeadsFew 0 (λ n. (ways n).as_name (name_letters q ref)) (fits.as_name q ref)
+FewAt spot.as_argument t ways fits = (in_pack : Bool) → LeadsFew 0 (λ n. (ways n).as_argument) (fits.as_argument in_pack)
+FewAt spot.as_items t ways fits = LeadsFew 0 (λ n. (ways n).as_parameters) (fits.as_parameters item_type)
+FewAt spot.as_more_items t ways fits = LeadsFew 0 (λ n. (ways n).as_more_parameters) (fits.as_more_parameters item_type)
+FewAt spot.as_parameters t ways fits = LeadsFew 0 (λ n. (ways n).as_parameters) (fits.as_parameters parameter_type)
+FewAt spot.as_more_parameters t ways fits = LeadsFew 0 (λ n. (ways n).as_more_parameters) (fits.as_more_parameters parameter_type)
+FewAt spot.as_elements t ways fits = (in_pack : Bool) → LeadsFew 0 (λ n. (ways n).as_elements) (fits.as_elements in_pack)
+
+abbrev pub FewSpots : (t : Term) → (ℕ → Ways) → Fits → Type 0
+FewSpots t ways fits = (each : Spot) → FewAt each t ways fits
+
 pub record FewAll (t : Term) (ways : ℕ → Ways) (fits : Fits) : Type 1 where
-  pub as_type : (slot : Slot) → LeadsFew 0 (λ n. slot_way slot (ways n)) (fits.as_type slot)
-  pub as_prefix : LeadsFew 0 (λ n. (ways n).as_prefix) fits.as_prefix
-  pub as_prefix_template : LeadsFew 0 (λ n. (ways n).as_prefix) fits.as_prefix_template
-  pub between : LeadsFew 1 (λ n. (ways n).between_N_and_E) fits.between
-  pub between_template : LeadsFew 1 (λ n. (ways n).between_N_and_E) fits.between_template
-  pub as_entity : (role : Role) → LeadsFew 0 (λ n. entity_text t (letters_of role) (ways n).between_N_and_E) (fits.as_entity role)
-  pub as_entity_template : LeadsFew 1 (λ n. (ways n).between_N_and_E) fits.as_entity_template
-  pub as_piece : LeadsFew 1 (λ n. (ways n).as_piece) fits.as_piece
-  pub as_encoding : LeadsFew 0 (λ n. (ways n).as_encoding) (λ around. fits.as_encoding)
-  pub as_name : (q : Qualifiers) (ref : RefQualifier) → LeadsFew 0 (λ n. (ways n).as_name (name_letters q ref)) (fits.as_name q ref)
+  pub at : FewSpots t ways fits
   pub before : (typed : Bool) (around : Around) (allowed : Option ℕ) (place : ℕ) (cs : List Component) (arguments : Fitting)
       (elements : Spelling)
       → ArgumentsFew around allowed arguments elements → fits.before typed arguments around allowed place cs
       → FewBy 1 cs ((ways around.encoding).before typed (of_elements elements) place cs)
-  pub as_argument : (in_pack : Bool) → LeadsFew 0 (λ n. (ways n).as_argument) (fits.as_argument in_pack)
-  pub as_items : LeadsFew 0 (λ n. (ways n).as_parameters) (fits.as_parameters item_type)
-  pub as_more_items : LeadsFew 0 (λ n. (ways n).as_more_parameters) (fits.as_more_parameters item_type)
-  pub as_parameters : LeadsFew 0 (λ n. (ways n).as_parameters) (fits.as_parameters parameter_type)
-  pub as_more_parameters : LeadsFew 0 (λ n. (ways n).as_more_parameters) (fits.as_more_parameters parameter_type)
-  pub as_elements : (in_pack : Bool) → LeadsFew 0 (λ n. (ways n).as_elements) (fits.as_elements in_pack)
 
 pub few-nowhere : (t : Term) (ways : ℕ → Ways) → FewAll t ways fits_nowhere
 unfolding fits_nowhere
 few-nowhere t ways = record {
-  as_type = λ slot around allowed place cs h. absurd h;
-  as_prefix = λ around allowed place cs h. absurd h;
-  as_prefix_template = λ around allowed place cs h. absurd h;
-  between = λ around allowed place cs h. absurd h;
-  between_template = λ around allowed place cs h. absurd h;
-  as_entity = λ role around allowed place cs h. absurd h;
-  as_entity_template = λ around allowed place cs h. absurd h;
-  as_piece = λ around allowed place cs h. absurd h;
-  as_encoding = λ around allowed place cs h. absurd h;
-  as_name = λ q ref around allowed place cs h. absurd h;
+  at = each;
   before = λ typed around allowed place cs arguments elements few h. absurd h;
-  as_argument = λ in_pack around allowed place cs h. absurd h;
-  as_items = λ around allowed place cs h. absurd h;
-  as_more_items = λ around allowed place cs h. absurd h;
-  as_parameters = λ around allowed place cs h. absurd h;
-  as_more_parameters = λ around allowed place cs h. absurd h;
-  as_elements = λ in_pack around allowed place cs h. absurd h;
 }
+  where
+    each : FewSpots t ways fits_nowhere
+    each spot.as_type = λ slot around allowed place cs h. absurd h
+    each spot.as_prefix = λ around allowed place cs h. absurd h
+    each spot.as_prefix_template = λ around allowed place cs h. absurd h
+    each spot.between = λ around allowed place cs h. absurd h
+    each spot.between_template = λ around allowed place cs h. absurd h
+    each spot.as_entity = λ role around allowed place cs h. absurd h
+    each spot.as_entity_template = λ around allowed place cs h. absurd h
+    each spot.as_piece = λ around allowed place cs h. absurd h
+    each spot.as_encoding = λ around allowed place cs h. absurd h
+    each spot.as_name = λ q ref around allowed place cs h. absurd h
+    each spot.as_argument = λ in_pack around allowed place cs h. absurd h
+    each spot.as_items = λ around allowed place cs h. absurd h
+    each spot.as_more_items = λ around allowed place cs h. absurd h
+    each spot.as_parameters = λ around allowed place cs h. absurd h
+    each spot.as_more_parameters = λ around allowed place cs h. absurd h
+    each spot.as_elements = λ in_pack around allowed place cs h. absurd h
 
 pub few-piece : (t : Term) (ways : ℕ → Ways) (fitting : Fitting) → LeadsFew 1 (λ n. (ways n).as_piece) fitting
     → FewAll t ways (piece_fits fitting)
 unfolding piece_fits fits_nowhere
 few-piece t ways fitting one = record {
-  as_type = λ slot around allowed place cs h. absurd h;
-  as_prefix = λ around allowed place cs h. absurd h;
-  as_prefix_template = λ around allowed place cs h. absurd h;
-  between = λ around allowed place cs h. absurd h;
-  between_template = λ around allowed place cs h. absurd h;
-  as_entity = λ role around allowed place cs h. absurd h;
-  as_entity_template = λ around allowed place cs h. absurd h;
-  as_piece = one;
-  as_encoding = λ around allowed place cs h. absurd h;
-  as_name = λ q ref around allowed place cs h. absurd h;
-  before = λ typed around allowed place cs arguments elements few h. absurd h;
-  as_argument = λ in_pack around allowed place cs h. absurd h;
-  as_items = λ around allowed place cs h. absurd h;
-  as_more_items = λ around allowed place cs h. absurd h;
-  as_parameters = λ around allowed place cs h. absurd h;
-  as_more_parameters = λ around allowed place cs h. absurd h;
-  as_elements = λ in_pack around allowed place cs h. absurd h;
+  at = each;
+  before = (few-nowhere t ways).before;
 }
+  where
+    each : FewSpots t ways (piece_fits fitting)
+    each spot.as_piece = one
+    each w = (few-nowhere t ways).at w
 
 pub few-argument : (t : Term) (ways : ℕ → Ways) (fitting : (in_pack : Bool) → Fitting)
     → ((in_pack : Bool) → LeadsFew 0 (λ n. (ways n).as_argument) (fitting in_pack)) → FewAll t ways (argument_fits fitting)
 unfolding argument_fits fits_nowhere
 few-argument t ways fitting one = record {
-  as_type = λ slot around allowed place cs h. absurd h;
-  as_prefix = λ around allowed place cs h. absurd h;
-  as_prefix_template = λ around allowed place cs h. absurd h;
-  between = λ around allowed place cs h. absurd h;
-  between_template = λ around allowed place cs h. absurd h;
-  as_entity = λ role around allowed place cs h. absurd h;
-  as_entity_template = λ around allowed place cs h. absurd h;
-  as_piece = λ around allowed place cs h. absurd h;
-  as_encoding = λ around allowed place cs h. absurd h;
-  as_name = λ q ref around allowed place cs h. absurd h;
-  before = λ typed around allowed place cs arguments elements few h. absurd h;
-  as_argument = one;
-  as_items = λ around allowed place cs h. absurd h;
-  as_more_items = λ around allowed place cs h. absurd h;
-  as_parameters = λ around allowed place cs h. absurd h;
-  as_more_parameters = λ around allowed place cs h. absurd h;
-  as_elements = λ in_pack around allowed place cs h. absurd h;
+  at = each;
+  before = (few-nowhere t ways).before;
 }
+  where
+    each : FewSpots t ways (argument_fits fitting)
+    each spot.as_argument = one
+    each w = (few-nowhere t ways).at w
 
 pub few-encoding : (t : Term) (ways : ℕ → Ways) (standing : (allowed : Option ℕ) → Standing)
     → LeadsFew 0 (λ n. (ways n).as_encoding) (λ around. standing) → FewAll t ways (encoding_fits standing)
 unfolding encoding_fits fits_nowhere
 few-encoding t ways standing one = record {
-  as_type = λ slot around allowed place cs h. absurd h;
-  as_prefix = λ around allowed place cs h. absurd h;
-  as_prefix_template = λ around allowed place cs h. absurd h;
-  between = λ around allowed place cs h. absurd h;
-  between_template = λ around allowed place cs h. absurd h;
-  as_entity = λ role around allowed place cs h. absurd h;
-  as_entity_template = λ around allowed place cs h. absurd h;
-  as_piece = λ around allowed place cs h. absurd h;
-  as_encoding = one;
-  as_name = λ q ref around allowed place cs h. absurd h;
-  before = λ typed around allowed place cs arguments elements few h. absurd h;
-  as_argument = λ in_pack around allowed place cs h. absurd h;
-  as_items = λ around allowed place cs h. absurd h;
-  as_more_items = λ around allowed place cs h. absurd h;
-  as_parameters = λ around allowed place cs h. absurd h;
-  as_more_parameters = λ around allowed place cs h. absurd h;
-  as_elements = λ in_pack around allowed place cs h. absurd h;
+  at = each;
+  before = (few-nowhere t ways).before;
 }
+  where
+    each : FewSpots t ways (encoding_fits standing)
+    each spot.as_encoding = one
+    each w = (few-nowhere t ways).at w
 
 -- a type that is a component
 pub few-type : (t : Term) (spelling : ℕ → Spelling) (spelled : Slot → Fitting) → ((slot : Slot) → LeadsFew 1 spelling (spelled slot))
     → FewAll t (λ n. type_ways (component n t (spelling n))) (type_fits t spelled)
 unfolding type_ways no_ways type_fits fits_nowhere
 few-type t spelling spelled one = record {
-  as_type = as_types;
-  as_prefix = λ around allowed place cs h. few-component around.encoding t (spelling around.encoding) place cs (λ none. absurd (h.1 none));
-  as_prefix_template = λ around allowed place cs h. few-component around.encoding t (spelling around.encoding) place cs
-      (λ none. absurd (h.1 none));
-  between = λ around allowed place cs h. absurd h;
-  between_template = λ around allowed place cs h. absurd h;
-  as_entity = λ role around allowed place cs h. absurd h;
-  as_entity_template = λ around allowed place cs h. absurd h;
-  as_piece = λ around allowed place cs h. absurd h;
-  as_encoding = λ around allowed place cs h. absurd h;
-  as_name = λ q ref around allowed place cs h. absurd h;
+  at = each;
   before = λ typed around allowed place cs arguments elements few h.
       few-reference around allowed t (spelling around.encoding) arguments elements place cs few h;
-  as_argument = λ in_pack. whole item_type;
-  as_items = λ around allowed place cs h. absurd h;
-  as_more_items = λ around allowed place cs h. absurd h;
-  as_parameters = λ around allowed place cs h. absurd h;
-  as_more_parameters = λ around allowed place cs h. absurd h;
-  as_elements = λ in_pack around allowed place cs h. absurd h;
 }
   where
     whole : (slot : Slot) → LeadsFew 0 (λ n. component n t (spelling n)) (as_component t (spelled slot))
@@ -277,13 +240,20 @@ few-type t spelling spelled one = record {
         few-component around.encoding t (spelling around.encoding) place cs (λ none. one slot around allowed place cs (h.1 none))
 
     as_types : (slot : Slot) → LeadsFew 0 (λ n. slot_way slot (type_ways (component n t (spelling n)))) (as_component t (spelled slot))
-    as_types any_type = whole any_type
-    as_types bare_type = whole bare_type
-    as_types item_type = whole item_type
-    as_types parameter_type = whole parameter_type
-    as_types literal_type = whole literal_type
+    as_types = each-slot _ (whole any_type) (whole bare_type) (whole item_type) (whole parameter_type) (whole literal_type)
+
+    each : FewSpots t (λ n. type_ways (component n t (spelling n))) (type_fits t spelled)
+    each spot.as_type = as_types
+    each spot.as_prefix = λ around allowed place cs h. few-component around.encoding t (spelling around.encoding) place cs (λ none. absurd (h.1 none))
+    each spot.as_prefix_template = λ around allowed place cs h. few-component around.encoding t (spelling around.encoding) place cs
+        (λ none. absurd (h.1 none))
+    each spot.as_argument = λ in_pack. whole item_type
+    each w = (few-nowhere t (λ n. type_ways (component n t (spelling n)))).at w
 
 -- ## Each tree
+
+abbrev pub CountsAt : Term → Type 0
+CountsAt t = FewSpots t (λ n. ways_of n t) (fits_of t)
 
 abbrev pub Counts : Term → Type 1
 Counts t = FewAll t (λ n. ways_of n t) (fits_of t)
@@ -293,21 +263,21 @@ unfolding ways_of fits_of
 few-pointer t r_t =
     few-type (pointer t) (λ n. text (codes "P") and (ways_of n t).as_type) _ (λ slot around allowed place cs h.
     few-behind 0 1 (codes "P") (ways_of around.encoding t).as_type place cs (omega arith)
-    (r_t.as_type any_type around allowed (place + 1) cs h))
+    (r_t.at spot.as_type any_type around allowed (place + 1) cs h))
 
 pub few-lvalue : (t : Term) → Counts t → Counts (lvalue t)
 unfolding ways_of fits_of
 few-lvalue t r_t =
     few-type (lvalue t) (λ n. text (codes "R") and (ways_of n t).as_type) _ (λ slot around allowed place cs h.
     few-behind 0 1 (codes "R") (ways_of around.encoding t).as_type place cs (omega arith)
-    (r_t.as_type any_type around allowed (place + 1) cs h.1))
+    (r_t.at spot.as_type any_type around allowed (place + 1) cs h.1))
 
 pub few-rvalue : (t : Term) → Counts t → Counts (rvalue t)
 unfolding ways_of fits_of
 few-rvalue t r_t =
     few-type (rvalue t) (λ n. text (codes "O") and (ways_of n t).as_type) _ (λ slot around allowed place cs h.
     few-behind 0 1 (codes "O") (ways_of around.encoding t).as_type place cs (omega arith)
-    (r_t.as_type any_type around allowed (place + 1) cs h.1))
+    (r_t.at spot.as_type any_type around allowed (place + 1) cs h.1))
 
 -- Generated by tools/trees.py.
 pub few-complex : (t : Term) → Counts t → Counts (complex t)
@@ -315,7 +285,7 @@ unfolding ways_of fits_of
 few-complex t r_t =
     few-type (complex t) (λ n. text (codes "C") and (ways_of n t).as_type) _ (λ slot around allowed place cs h.
     few-behind 0 1 (codes "C") (ways_of around.encoding t).as_type place cs (omega arith)
-    (r_t.as_type any_type around allowed (place + 1) cs h.1))
+    (r_t.at spot.as_type any_type around allowed (place + 1) cs h.1))
 
 pub few-vendor : (name : List ℕ) → Counts (vendor name)
 unfolding ways_of fits_of
@@ -334,28 +304,28 @@ unfolding ways_of fits_of
 few-array digits t r_t =
     few-type (array digits t) (λ n. text (codes "A" ++ digits ++ codes "_") and (ways_of n t).as_type) _ (λ slot around allowed place cs h.
     few-behind 0 1 (codes "A" ++ digits ++ codes "_") (ways_of around.encoding t).as_type place cs (omega arith)
-    (r_t.as_type any_type around allowed (place + length (codes "A" ++ digits ++ codes "_")) cs h.2))
+    (r_t.at spot.as_type any_type around allowed (place + length (codes "A" ++ digits ++ codes "_")) cs h.2))
 
 pub few-vector : (digits : List ℕ) (t : Term) → Counts t → Counts (vector digits t)
 unfolding ways_of fits_of
 few-vector digits t r_t =
     few-type _ (λ n. text (codes "Dv" ++ digits ++ codes "_") and (ways_of n t).as_type) _ (λ slot around allowed place cs h.
     few-behind 0 1 (codes "Dv" ++ digits ++ codes "_") (ways_of around.encoding t).as_type place cs (omega arith)
-    (r_t.as_type any_type around allowed (place + length (codes "Dv" ++ digits ++ codes "_")) cs h.2))
+    (r_t.at spot.as_type any_type around allowed (place + length (codes "Dv" ++ digits ++ codes "_")) cs h.2))
 
 pub few-expansion : (t : Term) → Counts t → Counts (expansion t)
 unfolding ways_of fits_of under_expansion
 few-expansion t r_t =
     few-type (expansion t) (λ n. text (codes "Dp") and (ways_of n t).as_type) _ (λ slot around allowed place cs h.
     few-behind 0 1 (codes "Dp") (ways_of around.encoding t).as_type place cs (omega arith)
-    (r_t.as_type any_type (under_expansion around) h.1.0 (place + 2) cs h.1.1))
+    (r_t.at spot.as_type any_type (under_expansion around) h.1.0 (place + 2) cs h.1.1))
 
 pub few-qualified : (q : Qualifiers) (t : Term) → Counts t → Counts (qualified q t)
 unfolding ways_of fits_of
 few-qualified q t r_t =
     few-type (qualified q t) (λ n. text (qualifier_letters q) and (ways_of n t).under_qualifiers) _ (λ slot around allowed place cs h.
     few-behind 0 1 (qualifier_letters q) (ways_of around.encoding t).under_qualifiers place cs (letters-long q h.1)
-    (r_t.as_type bare_type around allowed (place + length (qualifier_letters q)) cs h.2))
+    (r_t.at spot.as_type bare_type around allowed (place + length (qualifier_letters q)) cs h.2))
 
 pub few-member-pointer : (a : Term) (b : Term) → Counts a → Counts b → Counts (member_pointer a b)
 unfolding ways_of fits_of
@@ -365,8 +335,8 @@ few-member-pointer a b r_a r_b =
     let w : Written = (ways_of around.encoding a).as_type (place + 1) cs in
     few-behind 0 1 (codes "M") ((ways_of around.encoding a).as_type and (ways_of around.encoding b).as_type) place cs (omega arith)
     (few-and 0 0 (ways_of around.encoding a).as_type (ways_of around.encoding b).as_type (place + 1) cs
-    (r_a.as_type any_type around allowed (place + 1) cs h.0)
-    (r_b.as_type any_type around allowed (place + 1 + length w.bytes) w.components
+    (r_a.at spot.as_type any_type around allowed (place + 1) cs h.0)
+    (r_b.at spot.as_type any_type around allowed (place + 1 + length w.bytes) w.components
     (subst (λ q. (fits_of b).as_type any_type around allowed q w.components) (omega arith) h.1))))
 
 pub few-source-piece : (internal : Bool) (name : List ℕ) (cs : List Component)
@@ -407,39 +377,25 @@ unfolding ways_of fits_of piece_ways no_ways in_signature
 few-lambda ps k r = few-piece (lambda ps k) _ _ (λ around allowed place cs h.
     few-behind 0 1 (codes "Ul") ((ways_of around.encoding ps).as_parameters and text (codes "E" ++ ordinal (k - 1))) place cs (omega arith)
     (few-before 0 (ways_of around.encoding ps).as_parameters (codes "E" ++ ordinal (k - 1)) (place + 2) cs
-    (r.as_items (in_signature around) allowed (place + 2) cs h.0)))
+    (r.at spot.as_items (in_signature around) allowed (place + 2) cs h.0)))
 
 pub few-builtin : (code : List ℕ) → Counts (builtin code)
 unfolding ways_of fits_of fits_nowhere type_ways no_ways
 few-builtin code = record {
-  as_type = as_types;
-  as_prefix = λ around allowed place cs h. absurd h;
-  as_prefix_template = λ around allowed place cs h. absurd h;
-  between = λ around allowed place cs h. absurd h;
-  between_template = λ around allowed place cs h. absurd h;
-  as_entity = λ role around allowed place cs h. absurd h;
-  as_entity_template = λ around allowed place cs h. absurd h;
-  as_piece = λ around allowed place cs h. absurd h;
-  as_encoding = λ around allowed place cs h. absurd h;
-  as_name = λ q ref around allowed place cs h. absurd h;
-  before = λ typed around allowed place cs arguments elements few h. absurd h;
-  as_argument = λ in_pack around allowed place cs h. omega arith;
-  as_items = λ around allowed place cs h. absurd h;
-  as_more_items = λ around allowed place cs h. absurd h;
-  as_parameters = λ around allowed place cs h. absurd h;
-  as_more_parameters = λ around allowed place cs h. absurd h;
-  as_elements = λ in_pack around allowed place cs h. absurd h;
+  at = each;
+  before = (few-nowhere (builtin code) (λ n. ways_of n (builtin code))).before;
 }
   where
     whole : (slot : Slot) → LeadsFew 0 (λ n. text code) (λ around allowed place cs. IsBuiltin slot code)
     whole slot around allowed place cs h = omega arith
 
     as_types : (slot : Slot) → LeadsFew 0 (λ n. slot_way slot (ways_of n (builtin code))) ((fits_of (builtin code)).as_type slot)
-    as_types any_type = whole any_type
-    as_types bare_type = whole bare_type
-    as_types item_type = whole item_type
-    as_types parameter_type = whole parameter_type
-    as_types literal_type = whole literal_type
+    as_types = each-slot _ (whole any_type) (whole bare_type) (whole item_type) (whole parameter_type) (whole literal_type)
+
+    each : CountsAt (builtin code)
+    each spot.as_type = as_types
+    each spot.as_argument = λ in_pack around allowed place cs h. omega arith
+    each w = (few-nowhere (builtin code) (λ n. ways_of n (builtin code))).at w
 
 -- arguments
 pub few-integer : (t : Term) (v : Signed) → Counts t → Counts (integer t v)
@@ -450,7 +406,7 @@ few-integer t v r = few-argument (integer t v) _ _ (λ in_pack around allowed pl
       few-behind 0 1 (codes "L") ((ways_of around.encoding t).as_type and text (signed_text v ++ codes "E")) place cs
           (omega arith)
           (few-before 0 (ways_of around.encoding t).as_type (signed_text v ++ codes "E") (place + 1) cs
-          (r.as_type literal_type around allowed (place + 1) cs h.0)),
+          (r.at spot.as_type literal_type around allowed (place + 1) cs h.0)),
     ))
 
 pub few-boolean : (truth : Bool) → Counts (boolean truth)
@@ -465,66 +421,41 @@ pub few-encoding-literal : (e : Term) → Counts e → Counts (encoding_literal 
 unfolding ways_of fits_of argument_ways no_ways
 few-encoding-literal e r = few-argument (encoding_literal e) _ _ (λ in_pack around allowed place cs h.
     few-behind 0 0 (codes "L_Z") ((ways_of around.encoding e).as_encoding and text (codes "E")) place cs (omega arith)
-    (few-before 0 (ways_of around.encoding e).as_encoding (codes "E") (place + 3) cs (r.as_encoding around allowed (place + 3) cs h)))
+    (few-before 0 (ways_of around.encoding e).as_encoding (codes "E") (place + 3) cs (r.at spot.as_encoding around allowed (place + 3) cs h)))
 
 pub few-address : (e : Term) → Counts e → Counts (address_of e)
 unfolding ways_of fits_of argument_ways no_ways
 few-address e r = few-argument (address_of e) _ _ (λ in_pack around allowed place cs h.
     few-behind 0 0 (codes "XadL_Z") ((ways_of around.encoding e).as_encoding and text (codes "EE")) place cs (omega arith)
-    (few-before 0 (ways_of around.encoding e).as_encoding (codes "EE") (place + 6) cs (r.as_encoding around allowed (place + 6) cs h)))
+    (few-before 0 (ways_of around.encoding e).as_encoding (codes "EE") (place + 6) cs (r.at spot.as_encoding around allowed (place + 6) cs h)))
 
 pub few-pack : (a : Term) → Counts a → Counts (pack a)
 unfolding ways_of fits_of argument_ways no_ways
 few-pack a r = few-argument (pack a) _ _ (λ in_pack around allowed place cs h.
     few-behind 0 0 (codes "J") ((ways_of around.encoding a).as_elements and text (codes "E")) place cs (omega arith)
-    (few-before 0 (ways_of around.encoding a).as_elements (codes "E") (place + 1) cs (r.as_elements true around allowed (place + 1) cs h.1)))
+    (few-before 0 (ways_of around.encoding a).as_elements (codes "E") (place + 1) cs (r.at spot.as_elements true around allowed (place + 1) cs h.1)))
 
 -- lists
 pub few-nil : Counts nil
 unfolding ways_of fits_of fits_nowhere no_ways
 few-nil = record {
-  as_type = λ slot around allowed place cs h. absurd h;
-  as_prefix = λ around allowed place cs h. absurd h;
-  as_prefix_template = λ around allowed place cs h. absurd h;
-  between = λ around allowed place cs h. absurd h;
-  between_template = λ around allowed place cs h. absurd h;
-  as_entity = λ role around allowed place cs h. absurd h;
-  as_entity_template = λ around allowed place cs h. absurd h;
-  as_piece = λ around allowed place cs h. absurd h;
-  as_encoding = λ around allowed place cs h. absurd h;
-  as_name = λ q ref around allowed place cs h. absurd h;
-  before = λ typed around allowed place cs arguments elements few h. absurd h;
-  as_argument = λ in_pack around allowed place cs h. absurd h;
-  as_items = λ around allowed place cs h. omega arith;
-  as_more_items = λ around allowed place cs h. omega arith;
-  as_parameters = λ around allowed place cs h. omega arith;
-  as_more_parameters = λ around allowed place cs h. omega arith;
-  as_elements = λ in_pack around allowed place cs h. omega arith;
+  at = each;
+  before = (few-nowhere nil (λ n. ways_of n nil)).before;
 }
+  where
+    each : CountsAt nil
+    each spot.as_items = λ around allowed place cs h. omega arith
+    each spot.as_more_items = λ around allowed place cs h. omega arith
+    each spot.as_parameters = λ around allowed place cs h. omega arith
+    each spot.as_more_parameters = λ around allowed place cs h. omega arith
+    each spot.as_elements = λ in_pack around allowed place cs h. omega arith
+    each w = (few-nowhere nil (λ n. ways_of n nil)).at w
 
 pub few-list : (f r : Term) → Counts f → Counts r → Counts (list f r)
 unfolding ways_of fits_of fits_nowhere no_ways
 few-list f r a b = record {
-  as_type = λ slot around allowed place cs h. absurd h;
-  as_prefix = λ around allowed place cs h. absurd h;
-  as_prefix_template = λ around allowed place cs h. absurd h;
-  between = λ around allowed place cs h. absurd h;
-  between_template = λ around allowed place cs h. absurd h;
-  as_entity = λ role around allowed place cs h. absurd h;
-  as_entity_template = λ around allowed place cs h. absurd h;
-  as_piece = λ around allowed place cs h. absurd h;
-  as_encoding = λ around allowed place cs h. absurd h;
-  as_name = λ q ref around allowed place cs h. absurd h;
-  before = λ typed around allowed place cs arguments elements few h. absurd h;
-  as_argument = λ in_pack around allowed place cs h. absurd h;
-  as_items = λ around allowed place cs h. items around allowed place cs h.1;
-  as_more_items = items;
-  as_parameters = λ around allowed place cs h. parameters_ around allowed place cs h.1;
-  as_more_parameters = parameters_;
-  as_elements = λ in_pack around allowed place cs h.
-      let w : Written = (ways_of around.encoding f).as_argument place cs in
-      few-and 0 0 (ways_of around.encoding f).as_argument (ways_of around.encoding r).as_elements place cs
-      (a.as_argument in_pack around allowed place cs h.0) (b.as_elements in_pack around allowed (place + length w.bytes) w.components h.1);
+  at = each;
+  before = (few-nowhere (list f r) (λ n. ways_of n (list f r))).before;
 }
   where
     items : LeadsFew 0 (λ n. (ways_of n f).as_type and (ways_of n r).as_more_parameters) (λ around allowed place cs.
@@ -533,7 +464,7 @@ few-list f r a b = record {
     items around allowed place cs h =
         let w : Written = (ways_of around.encoding f).as_type place cs in
         few-and 0 0 (ways_of around.encoding f).as_type (ways_of around.encoding r).as_more_parameters place cs
-        (a.as_type item_type around allowed place cs h.0) (b.as_more_items around allowed (place + length w.bytes) w.components h.1)
+        (a.at spot.as_type item_type around allowed place cs h.0) (b.at spot.as_more_items around allowed (place + length w.bytes) w.components h.1)
 
     parameters_ : LeadsFew 0 (λ n. (ways_of n f).as_type and (ways_of n r).as_more_parameters) (λ around allowed place cs.
         (fits_of f).as_type parameter_type around allowed place cs
@@ -541,4 +472,15 @@ few-list f r a b = record {
     parameters_ around allowed place cs h =
         let w : Written = (ways_of around.encoding f).as_type place cs in
         few-and 0 0 (ways_of around.encoding f).as_type (ways_of around.encoding r).as_more_parameters place cs
-        (a.as_type parameter_type around allowed place cs h.0) (b.as_more_parameters around allowed (place + length w.bytes) w.components h.1)
+        (a.at spot.as_type parameter_type around allowed place cs h.0) (b.at spot.as_more_parameters around allowed (place + length w.bytes) w.components h.1)
+
+    each : CountsAt (list f r)
+    each spot.as_items = λ around allowed place cs h. items around allowed place cs h.1
+    each spot.as_more_items = items
+    each spot.as_parameters = λ around allowed place cs h. parameters_ around allowed place cs h.1
+    each spot.as_more_parameters = parameters_
+    each spot.as_elements = λ in_pack around allowed place cs h.
+        let w : Written = (ways_of around.encoding f).as_argument place cs in
+        few-and 0 0 (ways_of around.encoding f).as_argument (ways_of around.encoding r).as_elements place cs
+        (a.at spot.as_argument in_pack around allowed place cs h.0) (b.at spot.as_elements in_pack around allowed (place + length w.bytes) w.components h.1)
+    each w = (few-nowhere (list f r) (λ n. ways_of n (list f r))).at w

@@ -10,6 +10,7 @@ use Rattle.cpp_press_laws.specs.MarkedComponents as marks
 use Rattle.cpp_press_laws.specs.MarkedComponents.{Marked, unmarked}
 use Rattle.cpp_press_laws.specs.Apart.{IsTemplateBehindLetters, IsNeverReferred}
 use Rattle.cpp_press_laws.specs.Subtrees.{Written}
+use Rattle.cpp_press_laws.proofs.Ways as way
 use Rattle.cpp_press_laws.proofs.Components.Growing.{size, unmarked-append, Grows, more-grows, front, back}
 use Rattle.cpp_press_laws.proofs.Components.Apart.{ways-grow}
 
@@ -138,17 +139,17 @@ pub record KeepsAll (w : Ways) : Type 0 where
 pub keeps : (t : Term) (n : ℕ) → KeepsAll (ways_of n t)
 keeps t n =
     let w = ways-grow (around_it t) t (λ x is. inr (inr is)) n in record {
-      as_type = grown_keeps w.as_type;
-      under_qualifiers = grown_keeps w.under_qualifiers;
-      as_prefix = grown_keeps w.as_prefix;
-      between_N_and_E = grown_keeps (w.between_N_and_E (λ x is. inl is));
-      as_piece = grown_keeps w.as_piece;
-      as_encoding = grown_keeps w.as_encoding;
-      as_name = λ letters. grown_keeps (w.as_name letters (behind_letters t letters));
-      as_argument = grown_keeps w.as_argument;
-      as_parameters = grown_keeps w.as_parameters;
-      as_more_parameters = grown_keeps w.as_more_parameters;
-      as_elements = grown_keeps w.as_elements;
+      as_type = grown_keeps (w way.as_type);
+      under_qualifiers = grown_keeps (w way.under_qualifiers);
+      as_prefix = grown_keeps (w way.as_prefix);
+      between_N_and_E = grown_keeps (w way.between_N_and_E (λ x is. inl is));
+      as_piece = grown_keeps (w way.as_piece);
+      as_encoding = grown_keeps (w way.as_encoding);
+      as_name = λ letters. grown_keeps (w way.as_name letters (behind_letters t letters));
+      as_argument = grown_keeps (w way.as_argument);
+      as_parameters = grown_keeps (w way.as_parameters);
+      as_more_parameters = grown_keeps (w way.as_more_parameters);
+      as_elements = grown_keeps (w way.as_elements);
     }
 
 -- a template name with the arguments after it
@@ -157,4 +158,4 @@ pub keeps_before : (template arguments : Term) (n : ℕ) (in_type : Bool)
 keeps_before template arguments n in_type =
     let t = ways-grow (list template arguments) template (λ x is. inl is) n in
     let a = ways-grow (list template arguments) arguments (λ x is. inr is) n in
-    grown_keeps (t.before in_type _ _ (suc (size template + size arguments)) (omega arith) (front (codes "I") (back (more-grows a.as_elements (omega arith)) (codes "E"))))
+    grown_keeps (t way.before in_type _ _ (suc (size template + size arguments)) (omega arith) (front (codes "I") (back (more-grows (a way.as_elements) (omega arith)) (codes "E"))))

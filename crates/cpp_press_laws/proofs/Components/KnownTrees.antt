@@ -8,6 +8,8 @@ use Rattle.cpp_grammar.specs.Scope.{is_open}
 use Rattle.cpp_press_laws.specs.Texts.{counted, ordinal, signed_text, qualifier_letters, mark_letter, name_letters, special_code, thunk_text, discriminator_text}
 use Rattle.cpp_press_laws.specs.Components.{Spelling, ended, component}
 use Rattle.cpp_press_laws.specs.Pressing.{Ways, no_ways, type_ways, function_text, in_N_and_E, with_letters, name_ways, template_before, is_operator, is_one_piece, entity_text, local_text, encoding_ways, piece_ways, argument_ways, ways_of}
+use Rattle.cpp_press_laws.proofs.Ways as way
+use Rattle.cpp_press_laws.proofs.Ways.{Way}
 use Rattle.cpp_press_laws.proofs.Components.Parts.{IsComponent, Shut, Inside, Whole, Prefixing, Unqualified, prefix-whole}
 use Rattle.cpp_press_laws.proofs.Components.Known.{KeepsTo, KeepsBehind, OrOpen, text-keeps, and-keeps, behind-and-keeps, behind-bytes-keeps, keeps-behind, ended-keeps, component-keeps, in-N-and-E-keeps, before-keeps, begun-keeps}
 
@@ -15,20 +17,24 @@ abbrev pub In : (P R : Term → Type 0) → Type 0
 In P R = (x : Term) → P x → R x
 
 -- what a tree adds in each of its ways
-pub record WaysKeep (open_ : Type 0) (n : ℕ) (R : Term → Type 0) (t : Term) (w : Ways) : Type 0 where
-  pub as_type : In (Whole t) R → KeepsTo open_ n R w.as_type
-  pub under_qualifiers : In (Unqualified t) R → KeepsTo open_ n R w.under_qualifiers
-  pub as_prefix : In (Prefixing t) R → KeepsTo open_ n R w.as_prefix
-  pub between_N_and_E : In (Inside t) R → KeepsTo open_ n R w.between_N_and_E
-  pub as_piece : In (Inside t) R → KeepsTo open_ n R w.as_piece
-  pub as_encoding : In (λ x. Shut (Inside t x) x) R → KeepsBehind open_ n R w.as_encoding
-  pub as_name : In (Inside t) R → (letters : List ℕ) → KeepsTo open_ n R (w.as_name letters)
-  pub before : In (Whole t) R → (in_type : Bool) (arguments : Spelling) → KeepsTo open_ n R arguments
-      → KeepsTo open_ n R (w.before in_type arguments)
-  pub as_argument : In (Whole t) R → KeepsTo open_ n R w.as_argument
-  pub as_parameters : In (Inside t) R → KeepsTo open_ n R w.as_parameters
-  pub as_more_parameters : In (Inside t) R → KeepsTo open_ n R w.as_more_parameters
-  pub as_elements : In (Inside t) R → KeepsTo open_ n R w.as_elements
+abbrev pub WayKeeps : Way → (open_ : Type 0) (n : ℕ) (R : Term → Type 0) (t : Term) → Ways → Type 0
+WayKeeps way.as_type open_ n R t w = In (Whole t) R → KeepsTo open_ n R w.as_type
+WayKeeps way.under_qualifiers open_ n R t w = In (Unqualified t) R → KeepsTo open_ n R w.under_qualifiers
+WayKeeps way.as_prefix open_ n R t w = In (Prefixing t) R → KeepsTo open_ n R w.as_prefix
+WayKeeps way.between_N_and_E open_ n R t w = In (Inside t) R → KeepsTo open_ n R w.between_N_and_E
+WayKeeps way.as_piece open_ n R t w = In (Inside t) R → KeepsTo open_ n R w.as_piece
+WayKeeps way.as_encoding open_ n R t w = In (λ x. Shut (Inside t x) x) R → KeepsBehind open_ n R w.as_encoding
+WayKeeps way.as_name open_ n R t w = In (Inside t) R → (letters : List ℕ) → KeepsTo open_ n R (w.as_name letters)
+WayKeeps way.before open_ n R t w =
+    In (Whole t) R → (in_type : Bool) (arguments : Spelling) → KeepsTo open_ n R arguments
+    → KeepsTo open_ n R (w.before in_type arguments)
+WayKeeps way.as_argument open_ n R t w = In (Whole t) R → KeepsTo open_ n R w.as_argument
+WayKeeps way.as_parameters open_ n R t w = In (Inside t) R → KeepsTo open_ n R w.as_parameters
+WayKeeps way.as_more_parameters open_ n R t w = In (Inside t) R → KeepsTo open_ n R w.as_more_parameters
+WayKeeps way.as_elements open_ n R t w = In (Inside t) R → KeepsTo open_ n R w.as_elements
+
+abbrev pub WaysKeep : (open_ : Type 0) (n : ℕ) (R : Term → Type 0) (t : Term) → Ways → Type 0
+WaysKeep open_ n R t w = (each : Way) → WayKeeps each open_ n R t w
 
 nothing-keeps : (open_ : Type 0) (n : ℕ) (R : Term → Type 0) → KeepsTo open_ n R nothing
 nothing-keeps open_ n R = text-keeps open_ n R []
@@ -46,22 +52,25 @@ shut-or-open R P h x p = go (is_open x) refl
     go true is = inr is
     go false is = inl (h x (is, p))
 
+-- a component whose spelling adds what is among them
+component-kept : (open_ : Type 0) (n : ℕ) (R : Term → Type 0) (t : Term) (spelling : Spelling) → (In (Inside t) R → KeepsTo open_ n R spelling)
+    → In (Whole t) R → KeepsTo open_ n R (component n t spelling)
+component-kept open_ n R t spelling one h = component-keeps open_ n R t spelling (its open_ n R t h) (one (insides R t h))
+
 no-ways-keep : (open_ : Type 0) (n : ℕ) (R : Term → Type 0) (t : Term) → WaysKeep open_ n R t no_ways
 unfolding no_ways
-no-ways-keep open_ n R t = record {
-  as_type = λ h. nothing-keeps open_ n R;
-  under_qualifiers = λ h. nothing-keeps open_ n R;
-  as_prefix = λ h. nothing-keeps open_ n R;
-  between_N_and_E = λ h. nothing-keeps open_ n R;
-  as_piece = λ h. nothing-keeps open_ n R;
-  as_encoding = λ h. keeps-behind open_ n R nothing (nothing-keeps open_ n R);
-  as_name = λ h letters. nothing-keeps open_ n R;
-  before = λ h in_type arguments more. more;
-  as_argument = λ h. nothing-keeps open_ n R;
-  as_parameters = λ h. nothing-keeps open_ n R;
-  as_more_parameters = λ h. nothing-keeps open_ n R;
-  as_elements = λ h. nothing-keeps open_ n R;
-}
+no-ways-keep open_ n R t way.as_type = λ h. nothing-keeps open_ n R
+no-ways-keep open_ n R t way.under_qualifiers = λ h. nothing-keeps open_ n R
+no-ways-keep open_ n R t way.as_prefix = λ h. nothing-keeps open_ n R
+no-ways-keep open_ n R t way.between_N_and_E = λ h. nothing-keeps open_ n R
+no-ways-keep open_ n R t way.as_piece = λ h. nothing-keeps open_ n R
+no-ways-keep open_ n R t way.as_encoding = λ h. keeps-behind open_ n R nothing (nothing-keeps open_ n R)
+no-ways-keep open_ n R t way.as_name = λ h letters. nothing-keeps open_ n R
+no-ways-keep open_ n R t way.before = λ h in_type arguments more. more
+no-ways-keep open_ n R t way.as_argument = λ h. nothing-keeps open_ n R
+no-ways-keep open_ n R t way.as_parameters = λ h. nothing-keeps open_ n R
+no-ways-keep open_ n R t way.as_more_parameters = λ h. nothing-keeps open_ n R
+no-ways-keep open_ n R t way.as_elements = λ h. nothing-keeps open_ n R
 
 -- ## The ways of each sort
 
@@ -69,20 +78,12 @@ type-ways-keep : (open_ : Type 0) (n : ℕ) (R : Term → Type 0) (t : Term) (sp
     → In (Whole t) (Prefixing t)
     → (In (Whole t) R → KeepsTo open_ n R spelling) → WaysKeep open_ n R t (type_ways spelling)
 unfolding type_ways no_ways
-type-ways-keep open_ n R t spelling same front one = record {
-  as_type = one;
-  under_qualifiers = λ h. one (λ x w. h x (same x w));
-  as_prefix = λ h. one (λ x w. h x (front x w));
-  between_N_and_E = λ h. nothing-keeps open_ n R;
-  as_piece = λ h. nothing-keeps open_ n R;
-  as_encoding = λ h. keeps-behind open_ n R nothing (nothing-keeps open_ n R);
-  as_name = λ h letters. nothing-keeps open_ n R;
-  before = λ h in_type arguments more. and-keeps open_ n R spelling arguments (one h) more;
-  as_argument = one;
-  as_parameters = λ h. nothing-keeps open_ n R;
-  as_more_parameters = λ h. nothing-keeps open_ n R;
-  as_elements = λ h. nothing-keeps open_ n R;
-}
+type-ways-keep open_ n R t spelling same front one way.as_type = one
+type-ways-keep open_ n R t spelling same front one way.under_qualifiers = λ h. one (λ x w. h x (same x w))
+type-ways-keep open_ n R t spelling same front one way.as_prefix = λ h. one (λ x w. h x (front x w))
+type-ways-keep open_ n R t spelling same front one way.before = λ h in_type arguments more. and-keeps open_ n R spelling arguments (one h) more
+type-ways-keep open_ n R t spelling same front one way.as_argument = one
+type-ways-keep open_ n R t spelling same front one w = no-ways-keep open_ n R t w
 
 -- a component that has one spelling
 typed-keep : (open_ : Type 0) (n : ℕ) (R : Term → Type 0) (t : Term) (spelling : Spelling) → In (Whole t) (Unqualified t)
@@ -96,97 +97,37 @@ piece-ways-keep : (open_ : Type 0) (n : ℕ) (R : Term → Type 0) (t : Term) (s
     → KeepsTo open_ n R spelling)
     → WaysKeep open_ n R t (piece_ways spelling)
 unfolding piece_ways no_ways
-piece-ways-keep open_ n R t spelling one = record {
-  as_type = λ h. nothing-keeps open_ n R;
-  under_qualifiers = λ h. nothing-keeps open_ n R;
-  as_prefix = λ h. nothing-keeps open_ n R;
-  between_N_and_E = λ h. nothing-keeps open_ n R;
-  as_piece = one;
-  as_encoding = λ h. keeps-behind open_ n R nothing (nothing-keeps open_ n R);
-  as_name = λ h letters. nothing-keeps open_ n R;
-  before = λ h in_type arguments more. more;
-  as_argument = λ h. nothing-keeps open_ n R;
-  as_parameters = λ h. nothing-keeps open_ n R;
-  as_more_parameters = λ h. nothing-keeps open_ n R;
-  as_elements = λ h. nothing-keeps open_ n R;
-}
+piece-ways-keep open_ n R t spelling one way.as_piece = one
+piece-ways-keep open_ n R t spelling one w = no-ways-keep open_ n R t w
 
 prefix-ways-keep : (open_ : Type 0) (n : ℕ) (R : Term → Type 0) (t : Term) (spelling : Spelling) → (In (Prefixing t) R
     → KeepsTo open_ n R spelling)
     → WaysKeep open_ n R t (record no_ways { as_prefix = spelling })
 unfolding no_ways
-prefix-ways-keep open_ n R t spelling one = record {
-  as_type = λ h. nothing-keeps open_ n R;
-  under_qualifiers = λ h. nothing-keeps open_ n R;
-  as_prefix = one;
-  between_N_and_E = λ h. nothing-keeps open_ n R;
-  as_piece = λ h. nothing-keeps open_ n R;
-  as_encoding = λ h. keeps-behind open_ n R nothing (nothing-keeps open_ n R);
-  as_name = λ h letters. nothing-keeps open_ n R;
-  before = λ h in_type arguments more. more;
-  as_argument = λ h. nothing-keeps open_ n R;
-  as_parameters = λ h. nothing-keeps open_ n R;
-  as_more_parameters = λ h. nothing-keeps open_ n R;
-  as_elements = λ h. nothing-keeps open_ n R;
-}
+prefix-ways-keep open_ n R t spelling one way.as_prefix = one
+prefix-ways-keep open_ n R t spelling one w = no-ways-keep open_ n R t w
 
 argument-ways-keep : (open_ : Type 0) (n : ℕ) (R : Term → Type 0) (t : Term) (spelling : Spelling) → (In (Inside t) R
     → KeepsTo open_ n R spelling)
     → WaysKeep open_ n R t (argument_ways spelling)
 unfolding argument_ways no_ways
-argument-ways-keep open_ n R t spelling one = record {
-  as_type = λ h. nothing-keeps open_ n R;
-  under_qualifiers = λ h. nothing-keeps open_ n R;
-  as_prefix = λ h. nothing-keeps open_ n R;
-  between_N_and_E = λ h. nothing-keeps open_ n R;
-  as_piece = λ h. nothing-keeps open_ n R;
-  as_encoding = λ h. keeps-behind open_ n R nothing (nothing-keeps open_ n R);
-  as_name = λ h letters. nothing-keeps open_ n R;
-  before = λ h in_type arguments more. more;
-  as_argument = λ h. one (insides R t h);
-  as_parameters = λ h. nothing-keeps open_ n R;
-  as_more_parameters = λ h. nothing-keeps open_ n R;
-  as_elements = λ h. nothing-keeps open_ n R;
-}
+argument-ways-keep open_ n R t spelling one way.as_argument = λ h. one (insides R t h)
+argument-ways-keep open_ n R t spelling one w = no-ways-keep open_ n R t w
 
 encoding-ways-keep : (open_ : Type 0) (n : ℕ) (R : Term → Type 0) (t : Term) (spelling : (encoding : ℕ) → Spelling) (raw : Term
     → Type 0) → In (λ x. Shut (raw x) x) (Inside t)
     → ((here : ℕ) → In raw (OrOpen R) → KeepsTo ⊥ here (OrOpen R) (spelling here)) → WaysKeep open_ n R t (encoding_ways spelling)
 unfolding encoding_ways no_ways
-encoding-ways-keep open_ n R t spelling raw shut one = record {
-  as_type = λ h. nothing-keeps open_ n R;
-  under_qualifiers = λ h. nothing-keeps open_ n R;
-  as_prefix = λ h. nothing-keeps open_ n R;
-  between_N_and_E = λ h. nothing-keeps open_ n R;
-  as_piece = λ h. nothing-keeps open_ n R;
-  as_encoding = λ h. begun-keeps open_ n R spelling (λ here. one here (shut-or-open R raw (λ x s. h x (s.0, shut x s))));
-  as_name = λ h letters. nothing-keeps open_ n R;
-  before = λ h in_type arguments more. more;
-  as_argument = λ h. nothing-keeps open_ n R;
-  as_parameters = λ h. nothing-keeps open_ n R;
-  as_more_parameters = λ h. nothing-keeps open_ n R;
-  as_elements = λ h. nothing-keeps open_ n R;
-}
+encoding-ways-keep open_ n R t spelling raw shut one way.as_encoding = λ h. begun-keeps open_ n R spelling (λ here. one here (shut-or-open R raw (λ x s. h x (s.0, shut x s))))
+encoding-ways-keep open_ n R t spelling raw shut one w = no-ways-keep open_ n R t w
 
 -- a symbol
 whole-ways-keep : (open_ : Type 0) (n : ℕ) (R : Term → Type 0) (t : Term) (spelling : Spelling) → (In (λ x. Shut (Inside t x) x) R
     → KeepsTo open_ n R spelling)
     → WaysKeep open_ n R t (record no_ways { as_encoding = spelling })
 unfolding no_ways
-whole-ways-keep open_ n R t spelling one = record {
-  as_type = λ h. nothing-keeps open_ n R;
-  under_qualifiers = λ h. nothing-keeps open_ n R;
-  as_prefix = λ h. nothing-keeps open_ n R;
-  between_N_and_E = λ h. nothing-keeps open_ n R;
-  as_piece = λ h. nothing-keeps open_ n R;
-  as_encoding = λ h. keeps-behind open_ n R spelling (one h);
-  as_name = λ h letters. nothing-keeps open_ n R;
-  before = λ h in_type arguments more. more;
-  as_argument = λ h. nothing-keeps open_ n R;
-  as_parameters = λ h. nothing-keeps open_ n R;
-  as_more_parameters = λ h. nothing-keeps open_ n R;
-  as_elements = λ h. nothing-keeps open_ n R;
-}
+whole-ways-keep open_ n R t spelling one way.as_encoding = λ h. keeps-behind open_ n R spelling (one h)
+whole-ways-keep open_ n R t spelling one w = no-ways-keep open_ n R t w
 
 letters-keep : (open_ : Type 0) (n : ℕ) (R : Term → Type 0) (letters : List ℕ) (own between : Spelling) → KeepsTo open_ n R own
     → KeepsTo open_ n R between → KeepsTo open_ n R (with_letters letters own between)
@@ -202,70 +143,35 @@ name-ways-keep : (open_ : Type 0) (n : ℕ) (R : Term → Type 0) (t : Term) (ty
     → (In (Whole t) R → (in_type : Bool) (arguments : Spelling) → KeepsTo open_ n R arguments → KeepsTo open_ n R (before in_type arguments))
     → WaysKeep open_ n R t (name_ways n t type own prefix between before)
 unfolding name_ways no_ways
-name-ways-keep open_ n R t type own prefix between before same front typed owned prefixed betweened befored =
-    let c : In (Whole t) R → KeepsTo open_ n R (component n t type) =
-    λ h. component-keeps open_ n R t type (its open_ n R t h) (typed (insides R t h)) in
-    record {
-      as_type = c;
-      under_qualifiers = λ h. c (λ x w. h x (same x w));
-      as_prefix = λ h. component-keeps open_ n R t prefix (its open_ n R t (λ x w. h x (front x w))) (prefixed (λ x i. h x (front x
-          (inr i))));
-      between_N_and_E = betweened;
-      as_piece = λ h. nothing-keeps open_ n R;
-      as_encoding = λ h. keeps-behind open_ n R nothing (nothing-keeps open_ n R);
-      as_name = λ h letters. letters-keep open_ n R letters own between (owned h) (betweened h);
-      before = befored;
-      as_argument = c;
-      as_parameters = λ h. nothing-keeps open_ n R;
-      as_more_parameters = λ h. nothing-keeps open_ n R;
-      as_elements = λ h. nothing-keeps open_ n R;
-    }
+name-ways-keep open_ n R t type own prefix between before same front typed owned prefixed betweened befored way.as_type = component-kept open_ n R t type typed
+name-ways-keep open_ n R t type own prefix between before same front typed owned prefixed betweened befored way.under_qualifiers = λ h. component-kept open_ n R t type typed (λ x w. h x (same x w))
+name-ways-keep open_ n R t type own prefix between before same front typed owned prefixed betweened befored way.as_prefix = λ h. component-keeps open_ n R t prefix (its open_ n R t (λ x w. h x (front x w))) (prefixed (λ x i. h x (front x
+    (inr i))))
+name-ways-keep open_ n R t type own prefix between before same front typed owned prefixed betweened befored way.between_N_and_E = betweened
+name-ways-keep open_ n R t type own prefix between before same front typed owned prefixed betweened befored way.as_name = λ h letters. letters-keep open_ n R letters own between (owned h) (betweened h)
+name-ways-keep open_ n R t type own prefix between before same front typed owned prefixed betweened befored way.before = befored
+name-ways-keep open_ n R t type own prefix between before same front typed owned prefixed betweened befored way.as_argument = component-kept open_ n R t type typed
+name-ways-keep open_ n R t type own prefix between before same front typed owned prefixed betweened befored w = no-ways-keep open_ n R t w
 
 function-type-ways-keep : (open_ : Type 0) (n : ℕ) (R : Term → Type 0) (t : Term) (spelling : Spelling) → In (Inside t) (Unqualified t)
     → In (Whole t) (Prefixing t)
     → (In (Inside t) R → KeepsTo open_ n R spelling)
     → WaysKeep open_ n R t (record (type_ways (component n t spelling)) { under_qualifiers = spelling })
 unfolding type_ways no_ways
-function-type-ways-keep open_ n R t spelling same front one =
-    let c : In (Whole t) R → KeepsTo open_ n R (component n t spelling) =
-    λ h. component-keeps open_ n R t spelling (its open_ n R t h) (one (insides R t h)) in
-    record {
-      as_type = c;
-      under_qualifiers = λ h. one (λ x i. h x (same x i));
-      as_prefix = λ h. c (λ x w. h x (front x w));
-      between_N_and_E = λ h. nothing-keeps open_ n R;
-      as_piece = λ h. nothing-keeps open_ n R;
-      as_encoding = λ h. keeps-behind open_ n R nothing (nothing-keeps open_ n R);
-      as_name = λ h letters. nothing-keeps open_ n R;
-      before = λ h in_type arguments more. and-keeps open_ n R (component n t spelling) arguments (c h) more;
-      as_argument = c;
-      as_parameters = λ h. nothing-keeps open_ n R;
-      as_more_parameters = λ h. nothing-keeps open_ n R;
-      as_elements = λ h. nothing-keeps open_ n R;
-    }
+function-type-ways-keep open_ n R t spelling same front one way.as_type = component-kept open_ n R t spelling one
+function-type-ways-keep open_ n R t spelling same front one way.under_qualifiers = λ h. one (λ x i. h x (same x i))
+function-type-ways-keep open_ n R t spelling same front one way.as_prefix = λ h. component-kept open_ n R t spelling one (λ x w. h x (front x w))
+function-type-ways-keep open_ n R t spelling same front one way.before = λ h in_type arguments more. and-keeps open_ n R (component n t spelling) arguments (component-kept open_ n R t spelling one h) more
+function-type-ways-keep open_ n R t spelling same front one way.as_argument = component-kept open_ n R t spelling one
+function-type-ways-keep open_ n R t spelling same front one w = no-ways-keep open_ n R t w
 
 local-ways-keep : (open_ : Type 0) (n : ℕ) (R : Term → Type 0) (t : Term) (spelling : (letters : List ℕ) → Spelling)
     → In (Whole t) (Unqualified t) → In (Whole t) (Prefixing t)
     → (In (Inside t) R → (letters : List ℕ) → KeepsTo open_ n R (spelling letters))
     → WaysKeep open_ n R t (record (type_ways (component n t (spelling []))) { as_name = spelling })
 unfolding type_ways no_ways
-local-ways-keep open_ n R t spelling same front one =
-    let c : In (Whole t) R → KeepsTo open_ n R (component n t (spelling [])) =
-    λ h. component-keeps open_ n R t (spelling []) (its open_ n R t h) (one (insides R t h) []) in
-    record {
-      as_type = c;
-      under_qualifiers = λ h. c (λ x w. h x (same x w));
-      as_prefix = λ h. c (λ x w. h x (front x w));
-      between_N_and_E = λ h. nothing-keeps open_ n R;
-      as_piece = λ h. nothing-keeps open_ n R;
-      as_encoding = λ h. keeps-behind open_ n R nothing (nothing-keeps open_ n R);
-      as_name = one;
-      before = λ h in_type arguments more. and-keeps open_ n R (component n t (spelling [])) arguments (c h) more;
-      as_argument = c;
-      as_parameters = λ h. nothing-keeps open_ n R;
-      as_more_parameters = λ h. nothing-keeps open_ n R;
-      as_elements = λ h. nothing-keeps open_ n R;
-    }
+local-ways-keep open_ n R t spelling same front one way.as_name = one
+local-ways-keep open_ n R t spelling same front one w = typed-keep open_ n R t (spelling []) same front (λ h. one h []) w
 
 list-ways-keep : (open_ : Type 0) (n : ℕ) (R : Term → Type 0) (t : Term) (parameters more_parameters elements : Spelling)
     → (In (Inside t) R → KeepsTo open_ n R parameters) → (In (Inside t) R → KeepsTo open_ n R more_parameters)
@@ -275,20 +181,10 @@ list-ways-keep : (open_ : Type 0) (n : ℕ) (R : Term → Type 0) (t : Term) (pa
       as_elements = elements;
     })
 unfolding no_ways
-list-ways-keep open_ n R t parameters more_parameters elements one two three = record {
-  as_type = λ h. nothing-keeps open_ n R;
-  under_qualifiers = λ h. nothing-keeps open_ n R;
-  as_prefix = λ h. nothing-keeps open_ n R;
-  between_N_and_E = λ h. nothing-keeps open_ n R;
-  as_piece = λ h. nothing-keeps open_ n R;
-  as_encoding = λ h. keeps-behind open_ n R nothing (nothing-keeps open_ n R);
-  as_name = λ h letters. nothing-keeps open_ n R;
-  before = λ h in_type arguments more. more;
-  as_argument = λ h. nothing-keeps open_ n R;
-  as_parameters = one;
-  as_more_parameters = two;
-  as_elements = three;
-}
+list-ways-keep open_ n R t parameters more_parameters elements one two three way.as_parameters = one
+list-ways-keep open_ n R t parameters more_parameters elements one two three way.as_more_parameters = two
+list-ways-keep open_ n R t parameters more_parameters elements one two three way.as_elements = three
+list-ways-keep open_ n R t parameters more_parameters elements one two three w = no-ways-keep open_ n R t w
 
 -- ## Spellings with bytes around them
 
@@ -342,45 +238,45 @@ unfolding ways_of no_ways function_text
 keeps (symbol e suffix) open_ n R =
     whole-ways-keep open_ n R (symbol e suffix) _ (λ h.
     encoding-between-keeps open_ n R (codes "_Z") (ways_of n e).as_encoding suffix (omega arith)
-    ((keeps e open_ n R).as_encoding (λ x s. h x (s.0, s))))
+    ((keeps e open_ n R way.as_encoding) (λ x s. h x (s.0, s))))
 keeps (function name q ref returned parameters) open_ n R =
     encoding-ways-keep open_ n R (function name q ref returned parameters) _ (λ x. Inside name x ⊎
     (Whole returned x ⊎ Inside parameters x)) (λ x s. s) (λ here h.
     and-keeps ⊥ here (OrOpen R) ((ways_of here name).as_name (name_letters q ref))
     ((ways_of here returned).as_type and (ways_of here parameters).as_parameters)
-    ((keeps name ⊥ here (OrOpen R)).as_name (λ x i. h x (inl i)) (name_letters q ref))
+    ((keeps name ⊥ here (OrOpen R) way.as_name) (λ x i. h x (inl i)) (name_letters q ref))
     (and-keeps ⊥ here (OrOpen R) (ways_of here returned).as_type (ways_of here parameters).as_parameters
-    ((keeps returned ⊥ here (OrOpen R)).as_type (λ x w. h x (inr (inl w))))
-    ((keeps parameters ⊥ here (OrOpen R)).as_parameters (λ x i. h x (inr (inr i))))))
+    ((keeps returned ⊥ here (OrOpen R) way.as_type) (λ x w. h x (inr (inl w))))
+    ((keeps parameters ⊥ here (OrOpen R) way.as_parameters) (λ x i. h x (inr (inr i))))))
 keeps (object name q ref) open_ n R =
-    encoding-ways-keep open_ n R (object name q ref) _ (Inside name) (λ x s. s) (λ here h. (keeps name ⊥ here (OrOpen R)).as_name h
+    encoding-ways-keep open_ n R (object name q ref) _ (Inside name) (λ x s. s) (λ here h. (keeps name ⊥ here (OrOpen R) way.as_name) h
     (name_letters q ref))
 keeps (special l type) open_ n R =
     encoding-ways-keep open_ n R (special l type) _ (Whole type) (λ x s. s) (λ here h.
-    behind-text-keeps ⊥ here (OrOpen R) (codes "T" ++ l ∷ []) (ways_of here type).as_type ((keeps type ⊥ here (OrOpen R)).as_type h))
+    behind-text-keeps ⊥ here (OrOpen R) (codes "T" ++ l ∷ []) (ways_of here type).as_type ((keeps type ⊥ here (OrOpen R) way.as_type) h))
 keeps (thunk kind e) open_ n R =
     encoding-ways-keep open_ n R (thunk kind e) _ (λ x. Shut (Inside e x) x) (λ x s. s.1) (λ here h.
     behind-bytes-keeps ⊥ here (OrOpen R) (thunk_text kind) (ways_of here e).as_encoding (thunk-some kind)
-    ((keeps e ⊥ here (OrOpen R)).as_encoding h))
+    ((keeps e ⊥ here (OrOpen R) way.as_encoding) h))
 keeps (of_name l name q ref) open_ n R =
     encoding-ways-keep open_ n R (of_name l name q ref) _ (Inside name) (λ x s. s) (λ here h.
     behind-text-keeps ⊥ here (OrOpen R) (special_code l) ((ways_of here name).as_name (name_letters q ref))
-    ((keeps name ⊥ here (OrOpen R)).as_name h (name_letters q ref)))
+    ((keeps name ⊥ here (OrOpen R) way.as_name) h (name_letters q ref)))
 keeps (clone letter e) open_ n R =
     encoding-ways-keep open_ n R (clone letter e) _ (λ x. Shut (Inside e x) x) (λ x s. s.1) (λ here h.
     behind-text-keeps ⊥ here (OrOpen R) (codes "GT") (text (letter ∷ []) and (ways_of here e).as_encoding)
     (behind-bytes-keeps ⊥ here (OrOpen R) (letter ∷ []) (ways_of here e).as_encoding (omega arith)
-    ((keeps e ⊥ here (OrOpen R)).as_encoding h)))
+    ((keeps e ⊥ here (OrOpen R) way.as_encoding) h)))
 keeps (construction derived digits parent) open_ n R =
     encoding-ways-keep open_ n R (construction derived digits parent) _ (λ x. Whole derived x ⊎ Whole parent x) (λ x s. s) (λ here h.
     behind-text-keeps ⊥ here (OrOpen R) (codes "TC") ((ways_of here derived).as_type and (text (digits ++ codes "_") and (ways_of here parent).as_type))
     (and-keeps ⊥ here (OrOpen R) (ways_of here derived).as_type (text (digits ++ codes "_") and (ways_of here parent).as_type)
-    ((keeps derived ⊥ here (OrOpen R)).as_type (λ x w. h x (inl w)))
+    ((keeps derived ⊥ here (OrOpen R) way.as_type) (λ x w. h x (inl w)))
     (behind-text-keeps ⊥ here (OrOpen R) (digits ++ codes "_") (ways_of here parent).as_type
-    ((keeps parent ⊥ here (OrOpen R)).as_type (λ x w. h x (inr w))))))
+    ((keeps parent ⊥ here (OrOpen R) way.as_type) (λ x w. h x (inr w))))))
 keeps (alone p) open_ n R =
     let spelling : Spelling = (ways_of n p).as_piece in
-    let one : In (Inside p) R → KeepsTo open_ n R spelling = (keeps p open_ n R).as_piece in
+    let one : In (Inside p) R → KeepsTo open_ n R spelling = (keeps p open_ n R way.as_piece) in
     name-ways-keep open_ n R (alone p) spelling spelling spelling spelling
     (λ in_type arguments. template_before n (alone p) false spelling arguments) (λ x w. w) (λ x w. w) one one one one
     (λ h in_type arguments more. before-keeps open_ n R (alone p) false spelling arguments (its open_ n R (alone p) h)
@@ -388,7 +284,7 @@ keeps (alone p) open_ n R =
 keeps (in_std p) open_ n R =
     let spelling : Spelling = text (codes "St") and (ways_of n p).as_piece in
     let one : In (Inside p) R → KeepsTo open_ n R spelling =
-    λ h. behind-text-keeps open_ n R (codes "St") (ways_of n p).as_piece ((keeps p open_ n R).as_piece h) in
+    λ h. behind-text-keeps open_ n R (codes "St") (ways_of n p).as_piece ((keeps p open_ n R way.as_piece) h) in
     name-ways-keep open_ n R (in_std p) (elim (is_operator p) [ true ↦ in_N_and_E [] spelling | false ↦ spelling ]) spelling spelling spelling
     (λ in_type arguments. template_before n (in_std p) (in_type && is_operator p) spelling arguments) (λ x w. w) (λ x w. w)
     (λ h. typed (is_operator p) spelling (one h)) one one one
@@ -403,7 +299,7 @@ keeps (within prefix p) open_ n R =
     let between : Spelling = (ways_of n prefix).as_prefix and (ways_of n p).as_piece in
     let one : In (Inside (within prefix p)) R → KeepsTo open_ n R between =
     λ h. and-keeps open_ n R (ways_of n prefix).as_prefix (ways_of n p).as_piece
-    ((keeps prefix open_ n R).as_prefix (λ x w. h x (inl w))) ((keeps p open_ n R).as_piece (λ x i. h x (inr i))) in
+    ((keeps prefix open_ n R way.as_prefix) (λ x w. h x (inl w))) ((keeps p open_ n R way.as_piece) (λ x i. h x (inr i))) in
     let spelled : In (Inside (within prefix p)) R → KeepsTo open_ n R (in_N_and_E [] between) =
     λ h. in-N-and-E-keeps open_ n R [] between (one h) in
     name-ways-keep open_ n R (within prefix p) (in_N_and_E [] between) (in_N_and_E [] between) between between
@@ -417,13 +313,13 @@ keeps (instance template arguments) open_ n R =
     let behind : Spelling = text (codes "I") and (ways_of n arguments).as_elements and text (codes "E") in
     let two : In (Inside own) R → KeepsTo open_ n R behind =
     λ h. between-texts-keep open_ n R (codes "I") (ways_of n arguments).as_elements (codes "E")
-    ((keeps arguments open_ n R).as_elements (λ x i. h x (inr i))) in
+    ((keeps arguments open_ n R way.as_elements) (λ x i. h x (inr i))) in
     name-ways-keep open_ n R own (t.before true behind) (t.before false behind) (t.as_prefix and behind)
     (t.between_N_and_E and ended n template and behind) (λ in_type more. component n own nothing and more) (λ x w. w) (λ x w. w)
-    (λ h. a.before (λ x w. h x (inl w)) true behind (two h))
-    (λ h. a.before (λ x w. h x (inl w)) false behind (two h))
-    (λ h. and-keeps open_ n R t.as_prefix behind (a.as_prefix (λ x w. h x (inl (prefix-whole template x (Inside template x) w)))) (two h))
-    (λ h. and-keeps open_ n R t.between_N_and_E (ended n template and behind) (a.between_N_and_E (λ x i. h x (inl (inr i))))
+    (λ h. (a way.before) (λ x w. h x (inl w)) true behind (two h))
+    (λ h. (a way.before) (λ x w. h x (inl w)) false behind (two h))
+    (λ h. and-keeps open_ n R t.as_prefix behind (a way.as_prefix (λ x w. h x (inl (prefix-whole template x (Inside template x) w)))) (two h))
+    (λ h. and-keeps open_ n R t.between_N_and_E (ended n template and behind) (a way.between_N_and_E (λ x i. h x (inl (inr i))))
     (and-keeps open_ n R (ended n template) behind (ended-keeps open_ n R template (λ c. h template (inl (inl (c, refl))))) (two h)))
     (λ h in_type more one. and-keeps open_ n R (component n own nothing) more
     (component-keeps open_ n R own nothing (its open_ n R own h) (nothing-keeps open_ n R)) one)
@@ -431,13 +327,13 @@ keeps (local e entity discriminator) open_ n R =
     local-ways-keep open_ n R (local e entity discriminator)
     (local_text (ways_of n e).as_encoding entity (ways_of n entity).between_N_and_E discriminator) (λ x w. w) (λ x w. w)
     (λ h letters. local-keeps open_ n R (ways_of n e).as_encoding entity (ways_of n entity).between_N_and_E discriminator letters
-    ((keeps e open_ n R).as_encoding (λ x s. h x (inl s))) ((keeps entity open_ n R).between_N_and_E (λ x i. h x (inr i))))
+    ((keeps e open_ n R way.as_encoding) (λ x s. h x (inl s))) ((keeps entity open_ n R way.between_N_and_E) (λ x i. h x (inr i))))
 keeps (holder name) open_ n R =
     prefix-ways-keep open_ n R (holder name) _ (λ h.
-    and-keeps open_ n R (ways_of n name).as_prefix (text (codes "M")) ((keeps name open_ n R).as_prefix (λ x w. h x (inr w))) (text-keeps open_ n R (codes "M")))
+    and-keeps open_ n R (ways_of n name).as_prefix (text (codes "M")) ((keeps name open_ n R way.as_prefix) (λ x w. h x (inr w))) (text-keeps open_ n R (codes "M")))
 keeps (tagged of_structor name tag) open_ n R =
     typed-keep open_ n R (tagged of_structor name tag) _ (λ x w. w) (λ x w. w)
-    (λ h. before-text-keeps open_ n R (ways_of n name).as_type (codes "B" ++ counted tag) ((keeps name open_ n R).as_type h))
+    (λ h. before-text-keeps open_ n R (ways_of n name).as_type (codes "B" ++ counted tag) ((keeps name open_ n R way.as_type) h))
 keeps (abbreviation l) open_ n R = type-ways-keep open_ n R (abbreviation l) _ (λ x w. w) (λ x w. w) (λ h. text-keeps open_ n R
     (codes "S" ++ l ∷ []))
 keeps (parameter k) open_ n R = typed-keep open_ n R (parameter k) _ (λ x w. w) (λ x w. w) (λ h. text-keeps open_ n R
@@ -450,10 +346,10 @@ keeps (destructor digit) open_ n R = piece-ways-keep open_ n R (destructor digit
 keeps (lambda parameters k) open_ n R =
     piece-ways-keep open_ n R (lambda parameters k) _ (λ h.
     between-texts-keep open_ n R (codes "Ul") (ways_of n parameters).as_parameters (codes "E" ++ ordinal (k - 1))
-    ((keeps parameters open_ n R).as_parameters h))
+    ((keeps parameters open_ n R way.as_parameters) h))
 keeps (unnamed k) open_ n R = piece-ways-keep open_ n R (unnamed k) _ (λ h. text-keeps open_ n R _)
 keeps (conversion type) open_ n R =
-    piece-ways-keep open_ n R (conversion type) _ (λ h. behind-text-keeps open_ n R (codes "cv") (ways_of n type).as_type ((keeps type open_ n R).as_type h))
+    piece-ways-keep open_ n R (conversion type) _ (λ h. behind-text-keeps open_ n R (codes "cv") (ways_of n type).as_type ((keeps type open_ n R way.as_type) h))
 keeps string_literal open_ n R = piece-ways-keep open_ n R string_literal _ (λ h. text-keeps open_ n R _)
 keeps (builtin code) open_ n R = type-ways-keep open_ n R (builtin code) _ (λ x w. w) (λ x w. w) (λ h. text-keeps open_ n R code)
 keeps (sized_float digits end) open_ n R =
@@ -463,60 +359,60 @@ keeps (sized_float digits end) open_ n R =
 keeps (vendor name) open_ n R = typed-keep open_ n R (vendor name) _ (λ x w. w) (λ x w. w) (λ h. text-keeps open_ n R _)
 keeps (pointer type) open_ n R =
     typed-keep open_ n R (pointer type) _ (λ x w. w) (λ x w. w)
-    (λ h. behind-text-keeps open_ n R (codes "P") (ways_of n type).as_type ((keeps type open_ n R).as_type h))
+    (λ h. behind-text-keeps open_ n R (codes "P") (ways_of n type).as_type ((keeps type open_ n R way.as_type) h))
 keeps (lvalue type) open_ n R =
     typed-keep open_ n R (lvalue type) _ (λ x w. w) (λ x w. w)
-    (λ h. behind-text-keeps open_ n R (codes "R") (ways_of n type).as_type ((keeps type open_ n R).as_type h))
+    (λ h. behind-text-keeps open_ n R (codes "R") (ways_of n type).as_type ((keeps type open_ n R way.as_type) h))
 keeps (rvalue type) open_ n R =
     typed-keep open_ n R (rvalue type) _ (λ x w. w) (λ x w. w)
-    (λ h. behind-text-keeps open_ n R (codes "O") (ways_of n type).as_type ((keeps type open_ n R).as_type h))
+    (λ h. behind-text-keeps open_ n R (codes "O") (ways_of n type).as_type ((keeps type open_ n R way.as_type) h))
 keeps (array digits type) open_ n R =
     typed-keep open_ n R (array digits type) _ (λ x w. w) (λ x w. w)
-    (λ h. behind-text-keeps open_ n R (codes "A" ++ digits ++ codes "_") (ways_of n type).as_type ((keeps type open_ n R).as_type h))
+    (λ h. behind-text-keeps open_ n R (codes "A" ++ digits ++ codes "_") (ways_of n type).as_type ((keeps type open_ n R way.as_type) h))
 keeps (member_pointer class member) open_ n R =
     typed-keep open_ n R (member_pointer class member) _ (λ x w. w) (λ x w. w)
     (λ h. behind-text-keeps open_ n R (codes "M") ((ways_of n class).as_type and (ways_of n member).as_type)
-    (and-keeps open_ n R (ways_of n class).as_type (ways_of n member).as_type ((keeps class open_ n R).as_type (λ x w. h x (inl w)))
-    ((keeps member open_ n R).as_type (λ x w. h x (inr w)))))
+    (and-keeps open_ n R (ways_of n class).as_type (ways_of n member).as_type ((keeps class open_ n R way.as_type) (λ x w. h x (inl w)))
+    ((keeps member open_ n R way.as_type) (λ x w. h x (inr w)))))
 keeps (function_type c_linkage noexcept ref returned parameters) open_ n R =
     function-type-ways-keep open_ n R (function_type c_linkage noexcept ref returned parameters)
     (function_text c_linkage noexcept ref (ways_of n returned).as_type (ways_of n parameters).as_parameters) (λ x i. i) (λ x w. w)
     (λ h. behind-text-keeps open_ n R (cond noexcept (codes "Do") [] ++ codes "F" ++ cond c_linkage (codes "Y") [])
     ((ways_of n returned).as_type and (ways_of n parameters).as_parameters and text (mark_letter ref ++ codes "E"))
     (and-keeps open_ n R (ways_of n returned).as_type ((ways_of n parameters).as_parameters and text (mark_letter ref ++ codes "E"))
-    ((keeps returned open_ n R).as_type (λ x w. h x (inl w)))
+    ((keeps returned open_ n R way.as_type) (λ x w. h x (inl w)))
     (before-text-keeps open_ n R (ways_of n parameters).as_parameters (mark_letter ref ++ codes "E")
-    ((keeps parameters open_ n R).as_parameters (λ x i. h x (inr i))))))
+    ((keeps parameters open_ n R way.as_parameters) (λ x i. h x (inr i))))))
 keeps (qualified q type) open_ n R =
     typed-keep open_ n R (qualified q type) _ (λ x w. w) (λ x w. w)
-    (λ h. behind-text-keeps open_ n R (qualifier_letters q) (ways_of n type).under_qualifiers ((keeps type open_ n R).under_qualifiers h))
+    (λ h. behind-text-keeps open_ n R (qualifier_letters q) (ways_of n type).under_qualifiers ((keeps type open_ n R way.under_qualifiers) h))
 keeps (vector digits type) open_ n R =
     typed-keep open_ n R _ _ (λ x w. w) (λ x w. w)
-    (λ h. behind-text-keeps open_ n R (codes "Dv" ++ digits ++ codes "_") (ways_of n type).as_type ((keeps type open_ n R).as_type h))
+    (λ h. behind-text-keeps open_ n R (codes "Dv" ++ digits ++ codes "_") (ways_of n type).as_type ((keeps type open_ n R way.as_type) h))
 keeps (complex type) open_ n R =
     typed-keep open_ n R (complex type) _ (λ x w. w) (λ x w. w)
-    (λ h. behind-text-keeps open_ n R (codes "C") (ways_of n type).as_type ((keeps type open_ n R).as_type h))
+    (λ h. behind-text-keeps open_ n R (codes "C") (ways_of n type).as_type ((keeps type open_ n R way.as_type) h))
 keeps (expansion pattern) open_ n R =
     typed-keep open_ n R (expansion pattern) _ (λ x w. w) (λ x w. w)
-    (λ h. behind-text-keeps open_ n R (codes "Dp") (ways_of n pattern).as_type ((keeps pattern open_ n R).as_type h))
+    (λ h. behind-text-keeps open_ n R (codes "Dp") (ways_of n pattern).as_type ((keeps pattern open_ n R way.as_type) h))
 keeps (integer type value) open_ n R =
     argument-ways-keep open_ n R (integer type value) _
     (λ h. between-texts-keep open_ n R (codes "L") (ways_of n type).as_type (signed_text value ++ codes "E")
-    ((keeps type open_ n R).as_type h))
+    ((keeps type open_ n R way.as_type) h))
 keeps (boolean truth) open_ n R =
     argument-ways-keep open_ n R (boolean truth) _ (λ h. text-keeps open_ n R (cond truth (codes "Lb1E") (codes "Lb0E")))
 keeps null_pointer open_ n R = argument-ways-keep open_ n R null_pointer _ (λ h. text-keeps open_ n R (codes "LDnE"))
 keeps (encoding_literal e) open_ n R =
     argument-ways-keep open_ n R (encoding_literal e) _
     (λ h. encoding-between-keeps open_ n R (codes "L_Z") (ways_of n e).as_encoding (codes "E") (omega arith)
-    ((keeps e open_ n R).as_encoding h))
+    ((keeps e open_ n R way.as_encoding) h))
 keeps (address_of e) open_ n R =
     argument-ways-keep open_ n R (address_of e) _
     (λ h. encoding-between-keeps open_ n R (codes "XadL_Z") (ways_of n e).as_encoding (codes "EE") (omega arith)
-    ((keeps e open_ n R).as_encoding h))
+    ((keeps e open_ n R way.as_encoding) h))
 keeps (pack elements) open_ n R =
     argument-ways-keep open_ n R (pack elements) _
-    (λ h. between-texts-keep open_ n R (codes "J") (ways_of n elements).as_elements (codes "E") ((keeps elements open_ n R).as_elements h))
+    (λ h. between-texts-keep open_ n R (codes "J") (ways_of n elements).as_elements (codes "E") ((keeps elements open_ n R way.as_elements) h))
 keeps nil open_ n R =
     list-ways-keep open_ n R nil _ nothing nothing (λ h. text-keeps open_ n R (codes "v")) (λ h. nothing-keeps open_ n R)
     (λ h. nothing-keeps open_ n R)
@@ -524,11 +420,11 @@ keeps (list first rest) open_ n R =
     let f = keeps first open_ n R in
     let r = keeps rest open_ n R in
     let more : In (Inside (list first rest)) R → KeepsTo open_ n R ((ways_of n first).as_type and (ways_of n rest).as_more_parameters) =
-    λ h. and-keeps open_ n R (ways_of n first).as_type (ways_of n rest).as_more_parameters (f.as_type (λ x w. h x (inl w)))
-    (r.as_more_parameters (λ x i. h x (inr i))) in
+    λ h. and-keeps open_ n R (ways_of n first).as_type (ways_of n rest).as_more_parameters (f way.as_type (λ x w. h x (inl w)))
+    (r way.as_more_parameters (λ x i. h x (inr i))) in
     list-ways-keep open_ n R (list first rest) _ _ _ more more
-    (λ h. and-keeps open_ n R (ways_of n first).as_argument (ways_of n rest).as_elements (f.as_argument (λ x w. h x (inl w)))
-    (r.as_elements (λ x i. h x (inr i))))
+    (λ h. and-keeps open_ n R (ways_of n first).as_argument (ways_of n rest).as_elements (f way.as_argument (λ x w. h x (inl w)))
+    (r way.as_elements (λ x i. h x (inr i))))
 keeps (of_default digits entity) open_ n R = no-ways-keep open_ n R (of_default digits entity)
 keeps (generic_lambda parameters number) open_ n R = no-ways-keep open_ n R (generic_lambda parameters number)
 keeps (bounded bound type) open_ n R = no-ways-keep open_ n R (bounded bound type)

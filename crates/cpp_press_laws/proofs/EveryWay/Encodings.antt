@@ -26,9 +26,11 @@ use Rattle.cpp_press_laws.proofs.ReadBack.Slots.{room-first, room-rest, ReadsAs,
 use Rattle.cpp_press_laws.proofs.ReadBack.Named.{ItemsRead}
 use Rattle.cpp_press_laws.proofs.ReadBack.Between.{ExtendsWith, extends-with-behind-s, prefix-behind-s}
 use Rattle.cpp_press_laws.proofs.ReadBack.Templates.{TypeRules, slot-rules}
-use Rattle.cpp_press_laws.proofs.EveryWay.Every.{NameReads, EntityReads, template-value, Leads, slot_way, typed-argument, reads-encoding, referred-before}
-use Rattle.cpp_press_laws.proofs.EveryWay.Types.{Reading}
+use Rattle.cpp_press_laws.proofs.EveryWay.Every.{NameReads, EntityReads, template-value, Leads, slot_way, typed-argument, reads-encoding, referred-before, reads-nowhere}
+use Rattle.cpp_press_laws.proofs.EveryWay.Types.{Reading, ReadingAt}
 use Rattle.cpp_press_laws.specs.Fits.{IsSpellableOffset, IsSpellableThunk, either, Role, in_type, in_name_with, letters_of, IsSpellableDiscriminator, Slot, any_type, bare_type, item_type, parameter_type, literal_type, Fitting, as_component, nowhere, Behind, type_fits, fits_nowhere, fits_of}
+use Rattle.cpp_press_laws.proofs.Slots.{each-slot}
+use Rattle.cpp_press_laws.proofs.Spots as spot
 use Rattle.cpp_press_laws.proofs.ReadBack.Symbols.{discriminator_value, no-discriminator, one-digit, many-digits, local-type, local-name, encoding-reads, guard-reads, special-reads, special-type, non-virtual-thunk, virtual-thunk, covariant-thunk, non-virtual-offset, virtual-offset}
 use Rattle.cpp_grammar.specs.Values.{qualifiers_of, ref_of, named, adjusted}
 use Rattle.cpp_press_laws.proofs.Components.Keeping.{keeps-local, keeps-N-and-E, keeps-choice}
@@ -95,11 +97,11 @@ local-parts e entity d re rn role around allowed place cs small room h =
     let behind = room-rest spelled (text (codes "E") and name and end) (place + 1) cs inner in
     let named_room = room-rest (text (codes "E")) (name and end) (place + 1 + length first.bytes) first.components behind in
     record {
-      one = re.as_encoding around allowed (place + 1) cs small
+      one = (re.at spot.as_encoding) around allowed (place + 1) cs small
           (room-first spelled (text (codes "E") and name and end) (place + 1) cs
           (keeps-front (codes "E") (name and end) (keeps-behind name (discriminator_text d) (keeps-entity n entity
           (letters_of role)))) inner) h.0;
-      two = rn.as_entity role (after e true around) allowed at first.components small
+      two = (rn.at spot.as_entity) role (after e true around) allowed at first.components small
           (room-first name end at first.components (keeps-text _) named_room)
           (subst (λ q. (fits_of entity).as_entity role (after e true around) allowed q first.components)
           (omega (arith, length-append first.bytes (69 ∷ []))) h.1);
@@ -150,36 +152,12 @@ keeps-local-spelling n e entity d letters =
 pub reads-local : (e entity : Term) (d : Option (List ℕ)) → Reading e → Reading entity → Reading (local e entity d)
 unfolding ways_of fits_of fits_nowhere type_fits type_ways no_ways is_function_type
 reads-local e entity d re rn = record {
-  as_type = as_types;
-  as_prefix = λ around allowed place cs small room h.
-      fitting-in around allowed (local e entity d) (Extends around allowed (local e entity d)) place cs
-      (local_spelling around.encoding e entity d []) nowhere
-      (prefix-behind-s around allowed (local e entity d)) (keeps-local-spelling around.encoding e entity d []) room h
-      (λ fits enough. absurd fits);
-  as_prefix_template = λ around allowed place cs small room h.
-      fitting-in around allowed (local e entity d) (ExtendsWith around allowed (local e entity d)) place cs
-      (local_spelling around.encoding e entity d []) nowhere
-      (extends-with-behind-s around allowed (local e entity d)) (keeps-local-spelling around.encoding e entity d []) room h
-      (λ fits enough. absurd fits);
-  between = λ around allowed place cs small room h. absurd h;
-  between_template = λ around allowed place cs small room h. absurd h;
-  as_entity = λ role around allowed place cs small room h. absurd h;
-  as_entity_template = λ around allowed place cs small room h. absurd h;
-  as_piece = λ around allowed place cs small room h. absurd h;
-  as_encoding = λ around allowed place cs small room h. absurd h;
-  as_name = λ q ref around allowed place cs small room h. local-as-name e entity d re rn q ref around allowed place cs small room h;
+  at = each;
   before = λ typed k kind around allowed place cs arguments elements items last are read kept small room h.
       template-value typed around allowed k (instance (local e entity d) items) place cs _
       (referred-before typed k around allowed (local e entity d) kind place cs
       (local_spelling around.encoding e entity d []) arguments elements
       items last are read (keeps-local-spelling around.encoding e entity d []) kept room h);
-  as_argument = λ in_pack around allowed place cs small room h.
-      typed-argument in_pack around allowed (local e entity d) place cs _ (whole item_type around allowed place cs small room h);
-  as_items = λ around allowed place cs small room h. absurd h;
-  as_more_items = λ around allowed place cs small room h. absurd h;
-  as_parameters = λ ref around allowed place cs small room h. absurd h;
-  as_more_parameters = λ ref around allowed place cs small room h. absurd h;
-  as_elements = λ in_pack around allowed place cs small room h. absurd h;
 }
   where
     whole : (slot : Slot) → Leads (λ n. component n (local e entity d) (local_spelling n e entity d []))
@@ -194,11 +172,24 @@ reads-local e entity d re rn = record {
 
     as_types : (slot : Slot) → Leads (λ n. slot_way slot (ways_of n (local e entity d))) ((fits_of (local e entity d)).as_type slot)
         (λ around allowed. ReadsAs slot around allowed (local e entity d))
-    as_types any_type = whole any_type
-    as_types bare_type = whole bare_type
-    as_types item_type = whole item_type
-    as_types parameter_type = whole parameter_type
-    as_types literal_type = whole literal_type
+    as_types = each-slot _ (whole any_type) (whole bare_type) (whole item_type) (whole parameter_type) (whole literal_type)
+
+    each : ReadingAt (local e entity d)
+    each spot.as_type = as_types
+    each spot.as_prefix = λ around allowed place cs small room h.
+        fitting-in around allowed (local e entity d) (Extends around allowed (local e entity d)) place cs
+        (local_spelling around.encoding e entity d []) nowhere
+        (prefix-behind-s around allowed (local e entity d)) (keeps-local-spelling around.encoding e entity d []) room h
+        (λ fits enough. absurd fits)
+    each spot.as_prefix_template = λ around allowed place cs small room h.
+        fitting-in around allowed (local e entity d) (ExtendsWith around allowed (local e entity d)) place cs
+        (local_spelling around.encoding e entity d []) nowhere
+        (extends-with-behind-s around allowed (local e entity d)) (keeps-local-spelling around.encoding e entity d []) room h
+        (λ fits enough. absurd fits)
+    each spot.as_name = λ q ref around allowed place cs small room h. local-as-name e entity d re rn q ref around allowed place cs small room h
+    each spot.as_argument = λ in_pack around allowed place cs small room h.
+        typed-argument in_pack around allowed (local e entity d) place cs _ (whole item_type around allowed place cs small room h)
+    each w = (reads-nowhere (local e entity d) (λ n. ways_of n (local e entity d))).at w
 
 -- ## Encodings
 
@@ -282,14 +273,14 @@ returned-items name r ps q ref rr rp around allowed v place cs small room a b c 
     let n : ℕ = around.encoding in
     let w : Written = (ways_of n r).as_type place cs in
     let x : Written = (ways_of n ps).as_parameters (place + length w.bytes) w.components in
-    let i = rp.as_items around allowed (place + length w.bytes) w.components small
+    let i = (rp.at spot.as_items) around allowed (place + length w.bytes) w.components small
     (room-rest (ways_of n r).as_type (ways_of n ps).as_parameters place cs room) two in
     record {
       last = tree (list r (list i.first i.items)) true;
       means = encoding-returned v name r (list i.first i.items) ps q ref a b c has i.means;
       reads = items-more around allowed r (list i.first i.items) (tree (list i.first i.items) true) place cs w x refl
           (subst (λ p. ReadsAt around allowed (OfKind ITEM) (Is (tree r true)) p cs w) (omega arith)
-          (rr.as_type item_type around allowed place cs small
+          (rr.at spot.as_type item_type around allowed place cs small
           (room-first (ways_of n r).as_type (ways_of n ps).as_parameters place cs (keeps ps n).as_parameters room) one))
           (subst (λ p. ReadsAt around allowed (OfKind ITEMS) (Is (tree (list i.first i.items) true)) p w.components x) (omega arith)
           (items-whole around allowed ps (place + length w.bytes) w.components x i));
@@ -308,7 +299,7 @@ unfolding ways_of no_ways no_items tree_of
 plain-items name ps q ref rp around allowed v place cs small room a b c has two =
     let n : ℕ = around.encoding in
     let x : Written = (ways_of n ps).as_parameters (place + 0) cs in
-    let i = rp.as_items around allowed (place + 0) cs small (room-rest nothing (ways_of n ps).as_parameters place cs room) two in
+    let i = (rp.at spot.as_items) around allowed (place + 0) cs small (room-rest nothing (ways_of n ps).as_parameters place cs room) two in
     record {
       last = tree (list i.first i.items) true;
       means = encoding-plain v name i.first i.items ps q ref a b c has i.means;
@@ -353,7 +344,7 @@ reads-function counts name r ps q ref rn rr rp =
     let at : ℕ = here + length first.bytes in
     let named_room : HasRoom first = room-first a (b and c) here cs (keeps-and b c (keeps r here).as_type
     (keeps ps here).as_parameters) room in
-    let v = rn.as_name q ref (in_name here) allowed here cs (name-small here) named_room h.0 in
+    let v = (rn.at spot.as_name) q ref (in_name here) allowed here cs (name-small here) named_room h.0 in
     let i = function-items name r ps q ref rr rp (in_types here name) allowed v.value at first.components
     (types-small counts name q ref allowed here cs h.0 named_room) (room-rest a (b and c) here cs room) v.tree_is v.qualifiers_are v.ref_is
     (has_return_type name) refl h.1
@@ -373,7 +364,7 @@ unfolding ways_of fits_of encoding_ways begun no_ways in_name no_items kinds may
 reads-object name q ref rn =
     reads-encoding (object name q ref) _ _ (λ around allowed here cs small room h.
     let first : Written = (ways_of here name).as_name (name_letters q ref) here cs in
-    let v = rn.as_name q ref (in_name here) allowed here cs (name-small here) room h in
+    let v = (rn.at spot.as_name) q ref (in_name here) allowed here cs (name-small here) room h in
     subst (λ x. ReadsAt around allowed (OfKind ENCODING) (Is (tree x true)) here cs first)
     (encoding-object v.value name q ref v.tree_is v.qualifiers_are v.ref_is)
     (same-written around allowed (OfKind ENCODING) (Is (tree (encoding_of v.value nil) true)) here cs first.components
@@ -393,7 +384,7 @@ reads-of-name l name q ref rn =
     reads-encoding (of_name l name q ref) _ _ (λ around allowed here cs small room h.
     let a : Spelling = (ways_of here name).as_name (name_letters q ref) in
     let w : Written = a (here + 2) cs in
-    let v = rn.as_name q ref (in_name here) allowed (here + 2) cs (name-small here) (room-rest (text (special_code l)) a here cs room) h.1 in
+    let v = (rn.at spot.as_name) q ref (in_name here) allowed (here + 2) cs (name-small here) (room-rest (text (special_code l)) a here cs room) h.1 in
     subst (λ k. ReadsAt around allowed (OfKind ENCODING) (Is (tree (of_name k name q ref) true)) here cs
     (written (special_code k ++ w.bytes) w.components)) (sym h.0)
     (subst (λ x. ReadsAt around allowed (OfKind ENCODING) (Is (tree x true)) here cs (written (71 ∷ 86 ∷ w.bytes) w.components))
@@ -409,7 +400,7 @@ reads-special l t r =
     special-reads around allowed (tree (special l t) true) here cs (written (l ∷ w.bytes) w.components)
     (special-type (in_name here) allowed l t (here + 1) cs w h.0 h.1
     (subst (λ p. ReadsAt (in_name here) allowed (OfKind TYPE) (Is (tree t true)) p cs w) (omega arith)
-    (r.as_type any_type (in_name here) allowed (here + 2) cs (name-small here)
+    (r.at spot.as_type any_type (in_name here) allowed (here + 2) cs (name-small here)
     (room-rest (text (codes "T" ++ l ∷ [])) (ways_of here t).as_type here cs room) h.2))))
 
 -- ## Thunks
@@ -487,5 +478,5 @@ reads-thunk kind e r =
     reads-encoding (thunk kind e) _ _ (λ around allowed here cs small room h.
     let at : ℕ = here + length (thunk_text kind) in
     thunk-reads kind around allowed e here cs ((ways_of here e).as_encoding at cs) h.0
-    (r.as_encoding (in_name here) allowed at cs (name-small here) (room-rest (text (thunk_text kind))
+    (r.at spot.as_encoding (in_name here) allowed at cs (name-small here) (room-rest (text (thunk_text kind))
     (ways_of here e).as_encoding here cs room) h.1))

@@ -24,6 +24,9 @@ use Rattle.cpp_press_laws.proofs.ReadBack.Named.{PieceReads, ItemsRead}
 use Rattle.cpp_press_laws.proofs.ReadBack.Between.{Named, SoFarWith, ExtendsWith, extends-with-behind-s, prefix-behind-s}
 use Rattle.cpp_press_laws.proofs.ReadBack.Templates.{TemplateKind, InstancedAt, instanced-behind-s, of_elements, ReadElements, elements-room}
 use Rattle.cpp_press_laws.specs.Fits.{Slot, any_type, bare_type, item_type, parameter_type, literal_type, Standing, Fitting, as_component, as_template, Role, in_type, in_name_with, letters_of, Fits, nowhere, fits_nowhere, type_fits, piece_fits, argument_fits, encoding_fits}
+use Rattle.cpp_press_laws.proofs.Slots.{each-slot}
+use Rattle.cpp_press_laws.proofs.Spots as spot
+use Rattle.cpp_press_laws.proofs.Spots.{Spot}
 
 -- ## What is read
 
@@ -101,131 +104,115 @@ slot_way item_type w = w.as_type
 slot_way parameter_type w = w.as_type
 slot_way literal_type w = w.as_type
 
+abbrev pub ReadAt : Spot → (t : Term) → (ℕ → Ways) → Fits → Type 0
+ReadAt spot.as_type t ways fits = (slot : Slot) → Leads (λ n. slot_way slot (ways n)) (fits.as_type slot) (λ around allowed. ReadsAs slot around allowed t)
+ReadAt spot.as_prefix t ways fits = Leads (λ n. (ways n).as_prefix) fits.as_prefix (λ around allowed. Extends around allowed t)
+ReadAt spot.as_prefix_template t ways fits = Leads (λ n. (ways n).as_prefix) fits.as_prefix_template (λ around allowed. ExtendsWith around allowed t)
+ReadAt spot.between t ways fits = Leads (λ n. (ways n).between_N_and_E) fits.between (λ around allowed. SoFar around allowed t false 18)
+ReadAt spot.between_template t ways fits = Leads (λ n. (ways n).between_N_and_E) fits.between_template (λ around allowed. SoFarWith around allowed t)
+ReadAt spot.as_entity t ways fits =
+    (role : Role) → Leads (λ n. entity_text t (letters_of role) (ways n).between_N_and_E) (fits.as_entity role)
+    (λ around allowed. EntityReads role around allowed t)
+ReadAt spot.as_entity_template t ways fits = Leads (λ n. (ways n).between_N_and_E) fits.as_entity_template (λ around allowed. OnePiece around allowed t)
+ReadAt spot.as_piece t ways fits = Leads (λ n. (ways n).as_piece) fits.as_piece (λ around allowed. PieceReads around allowed t)
+ReadAt spot.as_encoding t ways fits =
+    Leads (λ n. (ways n).as_encoding) (λ around. fits.as_encoding)
+    (λ around allowed. ReadsAt around allowed (OfKind ENCODING) (Is (tree t true)))
+ReadAt spot.as_name t ways fits =
+    (q : Qualifiers) (ref : RefQualifier) → Leads (λ n. (ways n).as_name (name_letters q ref)) (fits.as_name q ref)
+    (λ around allowed. NameReads around allowed COMPLETE_NAME t q ref)
+ReadAt spot.as_argument t ways fits =
+    (in_pack : Bool) → Leads (λ n. (ways n).as_argument) (fits.as_argument in_pack)
+    (λ around allowed. ArgumentReads in_pack around allowed t)
+ReadAt spot.as_items t ways fits = Leads (λ n. (ways n).as_parameters) (fits.as_parameters item_type) (λ around allowed. ItemsRead around allowed t)
+ReadAt spot.as_more_items t ways fits =
+    Leads (λ n. (ways n).as_more_parameters) (fits.as_more_parameters item_type)
+    (λ around allowed. ListReads ITEMS around allowed t)
+ReadAt spot.as_parameters t ways fits =
+    (ref : RefQualifier) → Leads (λ n. (ways n).as_parameters) (fits.as_parameters parameter_type)
+    (λ around allowed. ParametersRead ref around allowed t)
+ReadAt spot.as_more_parameters t ways fits =
+    (ref : RefQualifier) → Leads (λ n. (ways n).as_more_parameters) (fits.as_more_parameters parameter_type)
+    (λ around allowed place cs w. RestReads around allowed t ref place cs (with_end ref w))
+ReadAt spot.as_elements t ways fits =
+    (in_pack : Bool) → Leads (λ n. (ways n).as_elements) (fits.as_elements in_pack)
+    (λ around allowed. ListReads (list_kind in_pack) around allowed t)
+
+abbrev pub ReadsSpots : (t : Term) → (ℕ → Ways) → Fits → Type 0
+ReadsSpots t ways fits = (each : Spot) → ReadAt each t ways fits
+
 pub record ReadsAll (t : Term) (ways : ℕ → Ways) (fits : Fits) : Type 1 where
-  pub as_type : (slot : Slot) → Leads (λ n. slot_way slot (ways n)) (fits.as_type slot) (λ around allowed. ReadsAs slot around allowed t)
-  pub as_prefix : Leads (λ n. (ways n).as_prefix) fits.as_prefix (λ around allowed. Extends around allowed t)
-  pub as_prefix_template : Leads (λ n. (ways n).as_prefix) fits.as_prefix_template (λ around allowed. ExtendsWith around allowed t)
-  pub between : Leads (λ n. (ways n).between_N_and_E) fits.between (λ around allowed. SoFar around allowed t false 18)
-  pub between_template : Leads (λ n. (ways n).between_N_and_E) fits.between_template (λ around allowed. SoFarWith around allowed t)
-  pub as_entity : (role : Role) → Leads (λ n. entity_text t (letters_of role) (ways n).between_N_and_E) (fits.as_entity role)
-      (λ around allowed. EntityReads role around allowed t)
-  pub as_entity_template : Leads (λ n. (ways n).between_N_and_E) fits.as_entity_template (λ around allowed. OnePiece around allowed t)
-  pub as_piece : Leads (λ n. (ways n).as_piece) fits.as_piece (λ around allowed. PieceReads around allowed t)
-  pub as_encoding : Leads (λ n. (ways n).as_encoding) (λ around. fits.as_encoding)
-      (λ around allowed. ReadsAt around allowed (OfKind ENCODING) (Is (tree t true)))
-  pub as_name : (q : Qualifiers) (ref : RefQualifier) → Leads (λ n. (ways n).as_name (name_letters q ref)) (fits.as_name q ref)
-      (λ around allowed. NameReads around allowed COMPLETE_NAME t q ref)
+  pub at : ReadsSpots t ways fits
   pub before : (typed : Bool) (k : ℕ) → TemplateKind typed k → (around : Around) (allowed : Option ℕ) (place : ℕ) (cs : List Component)
       (arguments : Fitting) (elements : Spelling) (items : Term) (last : Value) → no_items last ≡ items
       → ReadElements around allowed last arguments elements → Keeps (of_elements elements) → IsSmall around
       → HasRoom ((ways around.encoding).before typed (of_elements elements) place cs) → fits.before typed arguments around allowed place cs
       → TemplateReads typed around allowed k (instance t items) place cs ((ways around.encoding).before typed (of_elements elements) place cs)
-  pub as_argument : (in_pack : Bool) → Leads (λ n. (ways n).as_argument) (fits.as_argument in_pack)
-      (λ around allowed. ArgumentReads in_pack around allowed t)
-  pub as_items : Leads (λ n. (ways n).as_parameters) (fits.as_parameters item_type) (λ around allowed. ItemsRead around allowed t)
-  pub as_more_items : Leads (λ n. (ways n).as_more_parameters) (fits.as_more_parameters item_type)
-      (λ around allowed. ListReads ITEMS around allowed t)
-  pub as_parameters : (ref : RefQualifier) → Leads (λ n. (ways n).as_parameters) (fits.as_parameters parameter_type)
-      (λ around allowed. ParametersRead ref around allowed t)
-  pub as_more_parameters : (ref : RefQualifier) → Leads (λ n. (ways n).as_more_parameters) (fits.as_more_parameters parameter_type)
-      (λ around allowed place cs w. RestReads around allowed t ref place cs (with_end ref w))
-  pub as_elements : (in_pack : Bool) → Leads (λ n. (ways n).as_elements) (fits.as_elements in_pack)
-      (λ around allowed. ListReads (list_kind in_pack) around allowed t)
 
 -- ## Trees of one way
 
 pub reads-nowhere : (t : Term) (ways : ℕ → Ways) → ReadsAll t ways fits_nowhere
 unfolding fits_nowhere
 reads-nowhere t ways = record {
-  as_type = λ slot around allowed place cs small room h. absurd h;
-  as_prefix = λ around allowed place cs small room h. absurd h;
-  as_prefix_template = λ around allowed place cs small room h. absurd h;
-  between = λ around allowed place cs small room h. absurd h;
-  between_template = λ around allowed place cs small room h. absurd h;
-  as_entity = λ role around allowed place cs small room h. absurd h;
-  as_entity_template = λ around allowed place cs small room h. absurd h;
-  as_piece = λ around allowed place cs small room h. absurd h;
-  as_encoding = λ around allowed place cs small room h. absurd h;
-  as_name = λ q ref around allowed place cs small room h. absurd h;
+  at = each;
   before = λ typed k kind around allowed place cs arguments elements items last are read keeps small room h. absurd h;
-  as_argument = λ in_pack around allowed place cs small room h. absurd h;
-  as_items = λ around allowed place cs small room h. absurd h;
-  as_more_items = λ around allowed place cs small room h. absurd h;
-  as_parameters = λ ref around allowed place cs small room h. absurd h;
-  as_more_parameters = λ ref around allowed place cs small room h. absurd h;
-  as_elements = λ in_pack around allowed place cs small room h. absurd h;
 }
+  where
+    each : ReadsSpots t ways fits_nowhere
+    each spot.as_type = λ slot around allowed place cs small room h. absurd h
+    each spot.as_prefix = λ around allowed place cs small room h. absurd h
+    each spot.as_prefix_template = λ around allowed place cs small room h. absurd h
+    each spot.between = λ around allowed place cs small room h. absurd h
+    each spot.between_template = λ around allowed place cs small room h. absurd h
+    each spot.as_entity = λ role around allowed place cs small room h. absurd h
+    each spot.as_entity_template = λ around allowed place cs small room h. absurd h
+    each spot.as_piece = λ around allowed place cs small room h. absurd h
+    each spot.as_encoding = λ around allowed place cs small room h. absurd h
+    each spot.as_name = λ q ref around allowed place cs small room h. absurd h
+    each spot.as_argument = λ in_pack around allowed place cs small room h. absurd h
+    each spot.as_items = λ around allowed place cs small room h. absurd h
+    each spot.as_more_items = λ around allowed place cs small room h. absurd h
+    each spot.as_parameters = λ ref around allowed place cs small room h. absurd h
+    each spot.as_more_parameters = λ ref around allowed place cs small room h. absurd h
+    each spot.as_elements = λ in_pack around allowed place cs small room h. absurd h
 
 pub reads-piece : (t : Term) (ways : ℕ → Ways) (fitting : Fitting)
     → Leads (λ n. (ways n).as_piece) fitting (λ around allowed. PieceReads around allowed t) → ReadsAll t ways (piece_fits fitting)
 unfolding piece_fits fits_nowhere
 reads-piece t ways fitting one = record {
-  as_type = λ slot around allowed place cs small room h. absurd h;
-  as_prefix = λ around allowed place cs small room h. absurd h;
-  as_prefix_template = λ around allowed place cs small room h. absurd h;
-  between = λ around allowed place cs small room h. absurd h;
-  between_template = λ around allowed place cs small room h. absurd h;
-  as_entity = λ role around allowed place cs small room h. absurd h;
-  as_entity_template = λ around allowed place cs small room h. absurd h;
-  as_piece = one;
-  as_encoding = λ around allowed place cs small room h. absurd h;
-  as_name = λ q ref around allowed place cs small room h. absurd h;
-  before = λ typed k kind around allowed place cs arguments elements items last are read keeps small room h. absurd h;
-  as_argument = λ in_pack around allowed place cs small room h. absurd h;
-  as_items = λ around allowed place cs small room h. absurd h;
-  as_more_items = λ around allowed place cs small room h. absurd h;
-  as_parameters = λ ref around allowed place cs small room h. absurd h;
-  as_more_parameters = λ ref around allowed place cs small room h. absurd h;
-  as_elements = λ in_pack around allowed place cs small room h. absurd h;
+  at = each;
+  before = (reads-nowhere t ways).before;
 }
+  where
+    each : ReadsSpots t ways (piece_fits fitting)
+    each spot.as_piece = one
+    each w = (reads-nowhere t ways).at w
 
 pub reads-argument : (t : Term) (ways : ℕ → Ways) (fitting : (in_pack : Bool) → Fitting)
     → ((in_pack : Bool) → Leads (λ n. (ways n).as_argument) (fitting in_pack) (λ around allowed. ArgumentReads in_pack around allowed t))
     → ReadsAll t ways (argument_fits fitting)
 unfolding argument_fits fits_nowhere
 reads-argument t ways fitting one = record {
-  as_type = λ slot around allowed place cs small room h. absurd h;
-  as_prefix = λ around allowed place cs small room h. absurd h;
-  as_prefix_template = λ around allowed place cs small room h. absurd h;
-  between = λ around allowed place cs small room h. absurd h;
-  between_template = λ around allowed place cs small room h. absurd h;
-  as_entity = λ role around allowed place cs small room h. absurd h;
-  as_entity_template = λ around allowed place cs small room h. absurd h;
-  as_piece = λ around allowed place cs small room h. absurd h;
-  as_encoding = λ around allowed place cs small room h. absurd h;
-  as_name = λ q ref around allowed place cs small room h. absurd h;
-  before = λ typed k kind around allowed place cs arguments elements items last are read keeps small room h. absurd h;
-  as_argument = one;
-  as_items = λ around allowed place cs small room h. absurd h;
-  as_more_items = λ around allowed place cs small room h. absurd h;
-  as_parameters = λ ref around allowed place cs small room h. absurd h;
-  as_more_parameters = λ ref around allowed place cs small room h. absurd h;
-  as_elements = λ in_pack around allowed place cs small room h. absurd h;
+  at = each;
+  before = (reads-nowhere t ways).before;
 }
+  where
+    each : ReadsSpots t ways (argument_fits fitting)
+    each spot.as_argument = one
+    each w = (reads-nowhere t ways).at w
 
 pub reads-encoding : (t : Term) (ways : ℕ → Ways) (standing : (allowed : Option ℕ) → Standing)
     → Leads (λ n. (ways n).as_encoding) (λ around. standing) (λ around allowed. ReadsAt around allowed (OfKind ENCODING) (Is (tree t true)))
     → ReadsAll t ways (encoding_fits standing)
 unfolding encoding_fits fits_nowhere
 reads-encoding t ways standing one = record {
-  as_type = λ slot around allowed place cs small room h. absurd h;
-  as_prefix = λ around allowed place cs small room h. absurd h;
-  as_prefix_template = λ around allowed place cs small room h. absurd h;
-  between = λ around allowed place cs small room h. absurd h;
-  between_template = λ around allowed place cs small room h. absurd h;
-  as_entity = λ role around allowed place cs small room h. absurd h;
-  as_entity_template = λ around allowed place cs small room h. absurd h;
-  as_piece = λ around allowed place cs small room h. absurd h;
-  as_encoding = one;
-  as_name = λ q ref around allowed place cs small room h. absurd h;
-  before = λ typed k kind around allowed place cs arguments elements items last are read keeps small room h. absurd h;
-  as_argument = λ in_pack around allowed place cs small room h. absurd h;
-  as_items = λ around allowed place cs small room h. absurd h;
-  as_more_items = λ around allowed place cs small room h. absurd h;
-  as_parameters = λ ref around allowed place cs small room h. absurd h;
-  as_more_parameters = λ ref around allowed place cs small room h. absurd h;
-  as_elements = λ in_pack around allowed place cs small room h. absurd h;
+  at = each;
+  before = (reads-nowhere t ways).before;
 }
+  where
+    each : ReadsSpots t ways (encoding_fits standing)
+    each spot.as_encoding = one
+    each w = (reads-nowhere t ways).at w
 
 -- ## Types
 
@@ -285,32 +272,11 @@ pub reads-type : (t : Term) (spelling : ℕ → Spelling) (spelled : Slot → Fi
     → ReadsAll t (λ n. type_ways (component n t (spelling n))) (type_fits t spelled)
 unfolding type_ways no_ways type_fits fits_nowhere
 reads-type t spelling spelled other keeps out = record {
-  as_type = as_types;
-  as_prefix = λ around allowed place cs small room h.
-      fitting-in around allowed t (Extends around allowed t) place cs (spelling around.encoding) nowhere (prefix-behind-s around allowed t)
-      (keeps around.encoding) room h (λ none enough. absurd none);
-  as_prefix_template = λ around allowed place cs small room h.
-      fitting-in around allowed t (ExtendsWith around allowed t) place cs (spelling around.encoding) nowhere
-      (extends-with-behind-s around allowed t) (keeps around.encoding) room h (λ none enough. absurd none);
-  between = λ around allowed place cs small room h. absurd h;
-  between_template = λ around allowed place cs small room h. absurd h;
-  as_entity = λ role around allowed place cs small room h. absurd h;
-  as_entity_template = λ around allowed place cs small room h. absurd h;
-  as_piece = λ around allowed place cs small room h. absurd h;
-  as_encoding = λ around allowed place cs small room h. absurd h;
-  as_name = λ q ref around allowed place cs small room h. absurd h;
+  at = each;
   before = λ typed k kind around allowed place cs arguments elements items last are read kept small room h.
       template-value typed around allowed k (instance t items) place cs _
       (referred-before typed k around allowed t kind place cs (spelling around.encoding) arguments elements items last are read
       (keeps around.encoding) kept room h);
-  as_argument = λ in_pack around allowed place cs small room h.
-      typed-argument in_pack around allowed t place cs (component around.encoding t (spelling around.encoding) place cs)
-      (as_types item_type around allowed place cs small room h);
-  as_items = λ around allowed place cs small room h. absurd h;
-  as_more_items = λ around allowed place cs small room h. absurd h;
-  as_parameters = λ ref around allowed place cs small room h. absurd h;
-  as_more_parameters = λ ref around allowed place cs small room h. absurd h;
-  as_elements = λ in_pack around allowed place cs small room h. absurd h;
 }
   where
     bare : (slot : Slot) → is_function_type t && is_bare slot ≡ false
@@ -325,8 +291,17 @@ reads-type t spelling spelled other keeps out = record {
 
     as_types : (slot : Slot) → Leads (λ n. slot_way slot (type_ways (component n t (spelling n)))) (as_component t (spelled slot))
         (λ around allowed. ReadsAs slot around allowed t)
-    as_types any_type = whole any_type
-    as_types bare_type = whole bare_type
-    as_types item_type = whole item_type
-    as_types parameter_type = whole parameter_type
-    as_types literal_type = whole literal_type
+    as_types = each-slot _ (whole any_type) (whole bare_type) (whole item_type) (whole parameter_type) (whole literal_type)
+
+    each : ReadsSpots t (λ n. type_ways (component n t (spelling n))) (type_fits t spelled)
+    each spot.as_type = as_types
+    each spot.as_prefix = λ around allowed place cs small room h.
+        fitting-in around allowed t (Extends around allowed t) place cs (spelling around.encoding) nowhere (prefix-behind-s around allowed t)
+        (keeps around.encoding) room h (λ none enough. absurd none)
+    each spot.as_prefix_template = λ around allowed place cs small room h.
+        fitting-in around allowed t (ExtendsWith around allowed t) place cs (spelling around.encoding) nowhere
+        (extends-with-behind-s around allowed t) (keeps around.encoding) room h (λ none enough. absurd none)
+    each spot.as_argument = λ in_pack around allowed place cs small room h.
+        typed-argument in_pack around allowed t place cs (component around.encoding t (spelling around.encoding) place cs)
+        (as_types item_type around allowed place cs small room h)
+    each w = (reads-nowhere t (λ n. type_ways (component n t (spelling n)))).at w

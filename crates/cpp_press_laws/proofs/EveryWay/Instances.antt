@@ -17,12 +17,14 @@ use Rattle.cpp_press_laws.proofs.Components.Keeping.{Keeps, keeps-text, keeps-an
 use Rattle.cpp_press_laws.proofs.ReadBack.Slots.{room-first, room-rest, ReadsAs, solid_kind, in-slot, fitting-in}
 use Rattle.cpp_press_laws.proofs.ReadBack.Between.{ElementsRead, ExtendsWith, extends-with-behind-s, prefix-behind-s}
 use Rattle.cpp_press_laws.proofs.ReadBack.Templates.{slot-rules, TemplateKind, of_elements, ReadElements, elements-room}
-use Rattle.cpp_press_laws.proofs.EveryWay.Every.{referred-before, OnePiece, TemplateReads, template-value, EntityReads, Leads, slot_way, typed-argument}
-use Rattle.cpp_press_laws.proofs.EveryWay.Types.{Reading}
+use Rattle.cpp_press_laws.proofs.EveryWay.Every.{referred-before, OnePiece, TemplateReads, template-value, EntityReads, Leads, slot_way, typed-argument, reads-nowhere}
+use Rattle.cpp_press_laws.proofs.EveryWay.Types.{Reading, ReadingAt}
 use Rattle.cpp_press_laws.proofs.Components.Encodings.{no-encoding}
 use Rattle.cpp_press_laws.proofs.EveryWay.Std.{entity-nested}
 use Rattle.cpp_press_laws.proofs.EveryWay.Names.{plain-name, no-letters, nested-room, name-by-letters, elements-behind}
 use Rattle.cpp_press_laws.specs.Fits.{nowhere, Slot, any_type, bare_type, item_type, parameter_type, literal_type, Fitting, as_component, behind_bytes, Behind, Role, in_type, in_name_with, letters_of, IsWithoutLetters, fits_nowhere, encoding_fits, piece_fits, argument_fits, type_fits, fits_of}
+use Rattle.cpp_press_laws.proofs.Slots.{each-slot}
+use Rattle.cpp_press_laws.proofs.Spots as spot
 use Rattle.cpp_press_laws.proofs.ReadBack.Arguments.{items_value}
 
 pub items-kept : (t : Term) → no_items (items_value t) ≡ t
@@ -46,7 +48,7 @@ keeps-arguments n a =
 elements-read : (a : Term) → Reading a → (around : Around) (allowed : Option ℕ) → IsSmall around
     → ReadElements around allowed (items_value a) (elements_of a) (ways_of around.encoding a).as_elements
 unfolding inside
-elements-read a r around allowed small place cs fits room = (r.as_elements false (inside around) allowed (place + 1) cs small room fits).1
+elements-read a r around allowed small place cs fits room = (r.at spot.as_elements false (inside around) allowed (place + 1) cs small room fits).1
 
 -- ## Between N and E
 
@@ -86,7 +88,7 @@ unfolding ended
 instance-nested t a rt ra around allowed place cs small room h =
     let n : ℕ = around.encoding in
     let w : Written = (ways_of n t).between_N_and_E place cs in
-    rt.between_template around allowed place cs small
+    (rt.at spot.between_template) around allowed place cs small
     (room-first (ways_of n t).between_N_and_E (ended n t and spelled_arguments n a) place cs (keeps-rest n t a) room) h.0 a (items_value a)
     ((ways_of n a).as_elements (place + length w.bytes + 0 + 1) (more around w.components t)) (items-kept a)
     (behind-name t a ra around allowed place cs small room h.1)
@@ -137,7 +139,7 @@ instance-entity : (t a : Term) → Reading t → Reading a → (role : Role) (ar
 instance-entity t a rt ra role around allowed place cs small true is room (inl h) =
     let n : ℕ = around.encoding in
     piece-entity t a rt ra role around allowed place cs small room h.0
-    (rt.as_entity_template around allowed place cs small
+    (rt.at spot.as_entity_template around allowed place cs small
     (room-first (ways_of n t).between_N_and_E (ended n t and spelled_arguments n a) place cs (keeps-rest n t a) room) h.1) h.2
 instance-entity t a rt ra role around allowed place cs small false is room (inl h) = absurd (never h.1)
   where
@@ -166,54 +168,11 @@ instance-own t a rt ra typed k kind around allowed place cs small room h =
 pub reads-instance : (t a : Term) → Reading t → Reading a → Reading (instance t a)
 unfolding ways_of fits_of fits_nowhere name_ways no_ways is_function_type entity_text
 reads-instance t a rt ra = record {
-  as_type = as_types;
-  as_prefix = λ around allowed place cs small room h.
-      let n : ℕ = around.encoding in
-      let prefix : Spelling = (ways_of n t).as_prefix in
-      fitting-in around allowed (instance t a) (Extends around allowed (instance t a)) place cs (prefix and spelled_arguments n a)
-      (λ inner others at ds. (fits_of t).as_prefix_template inner others at ds
-      × Behind (ways_of inner.encoding t).as_prefix (elements_of a inner others) at ds)
-      (prefix-behind-s around allowed (instance t a)) (keeps-and prefix (spelled_arguments n a) (keeps t n).as_prefix
-      (keeps-arguments n a)) room h
-      (λ fits enough.
-      let w : Written = prefix place cs in
-      rt.as_prefix_template around allowed place cs small (room-first prefix (spelled_arguments n a) place cs
-      (keeps-arguments n a) enough) fits.0
-      a (items_value a) ((ways_of n a).as_elements (place + length w.bytes + 1) w.components) (items-kept a)
-      (elements-read a ra around allowed small (place + length w.bytes) w.components fits.1
-      (elements-room prefix (ways_of n a).as_elements place cs enough)));
-  as_prefix_template = λ around allowed place cs small room h.
-      let n : ℕ = around.encoding in
-      fitting-in around allowed (instance t a) (ExtendsWith around allowed (instance t a)) place cs
-      ((ways_of n t).as_prefix and spelled_arguments n a)
-      nowhere (extends-with-behind-s around allowed (instance t a))
-      (keeps-and (ways_of n t).as_prefix (spelled_arguments n a) (keeps t n).as_prefix (keeps-arguments n a)) room h
-      (λ fits enough. absurd fits);
-  between = λ around allowed place cs small room h. instance-nested t a rt ra around allowed place cs small room h;
-  between_template = λ around allowed place cs small room h. absurd h;
-  as_entity = λ role around allowed place cs small room h.
-      instance-entity t a rt ra role around allowed place cs small (is_one_piece (instance t a)) refl room h;
-  as_entity_template = λ around allowed place cs small room h. absurd h;
-  as_piece = λ around allowed place cs small room h. absurd h;
-  as_encoding = λ around allowed place cs small room h. absurd h;
-  as_name = λ q ref around allowed place cs small room h.
-      let n : ℕ = around.encoding in
-      name-by-letters around allowed (instance t a) q ref place cs ((ways_of n t).before false (spelled_arguments n a))
-      (instance_between n t a)
-      ((fits_of t).before false (elements_of a)) (instance_joined t a) room h
-      (λ fits enough. instance-own t a rt ra false 8 refl around allowed place cs small enough fits)
-      (λ at fits enough. instance-nested t a rt ra around allowed at cs small enough fits);
+  at = each;
   before = λ typed k kind around allowed place cs arguments elements items last are read kept small room h.
       template-value typed around allowed k (instance (instance t a) items) place cs _
       (referred-before typed k around allowed (instance t a) kind place cs nothing arguments elements items last are read
       (keeps-text []) kept room h);
-  as_argument = λ in_pack around allowed place cs small room h.
-      typed-argument in_pack around allowed (instance t a) place cs _ (whole item_type around allowed place cs small room h);
-  as_items = λ around allowed place cs small room h. absurd h;
-  as_more_items = λ around allowed place cs small room h. absurd h;
-  as_parameters = λ ref around allowed place cs small room h. absurd h;
-  as_more_parameters = λ ref around allowed place cs small room h. absurd h;
-  as_elements = λ in_pack around allowed place cs small room h. absurd h;
 }
   where
     whole : (slot : Slot) → Leads (λ n. component n (instance t a) ((ways_of n t).before true (spelled_arguments n a)))
@@ -229,8 +188,42 @@ reads-instance t a rt ra = record {
 
     as_types : (slot : Slot) → Leads (λ n. slot_way slot (ways_of n (instance t a))) ((fits_of (instance t a)).as_type slot)
         (λ around allowed. ReadsAs slot around allowed (instance t a))
-    as_types any_type = whole any_type
-    as_types bare_type = whole bare_type
-    as_types item_type = whole item_type
-    as_types parameter_type = whole parameter_type
-    as_types literal_type = whole literal_type
+    as_types = each-slot _ (whole any_type) (whole bare_type) (whole item_type) (whole parameter_type) (whole literal_type)
+
+    each : ReadingAt (instance t a)
+    each spot.as_type = as_types
+    each spot.as_prefix = λ around allowed place cs small room h.
+        let n : ℕ = around.encoding in
+        let prefix : Spelling = (ways_of n t).as_prefix in
+        fitting-in around allowed (instance t a) (Extends around allowed (instance t a)) place cs (prefix and spelled_arguments n a)
+        (λ inner others at ds. (fits_of t).as_prefix_template inner others at ds
+        × Behind (ways_of inner.encoding t).as_prefix (elements_of a inner others) at ds)
+        (prefix-behind-s around allowed (instance t a)) (keeps-and prefix (spelled_arguments n a) (keeps t n).as_prefix
+        (keeps-arguments n a)) room h
+        (λ fits enough.
+        let w : Written = prefix place cs in
+        (rt.at spot.as_prefix_template) around allowed place cs small (room-first prefix (spelled_arguments n a) place cs
+        (keeps-arguments n a) enough) fits.0
+        a (items_value a) ((ways_of n a).as_elements (place + length w.bytes + 1) w.components) (items-kept a)
+        (elements-read a ra around allowed small (place + length w.bytes) w.components fits.1
+        (elements-room prefix (ways_of n a).as_elements place cs enough)))
+    each spot.as_prefix_template = λ around allowed place cs small room h.
+        let n : ℕ = around.encoding in
+        fitting-in around allowed (instance t a) (ExtendsWith around allowed (instance t a)) place cs
+        ((ways_of n t).as_prefix and spelled_arguments n a)
+        nowhere (extends-with-behind-s around allowed (instance t a))
+        (keeps-and (ways_of n t).as_prefix (spelled_arguments n a) (keeps t n).as_prefix (keeps-arguments n a)) room h
+        (λ fits enough. absurd fits)
+    each spot.between = λ around allowed place cs small room h. instance-nested t a rt ra around allowed place cs small room h
+    each spot.as_entity = λ role around allowed place cs small room h.
+        instance-entity t a rt ra role around allowed place cs small (is_one_piece (instance t a)) refl room h
+    each spot.as_name = λ q ref around allowed place cs small room h.
+        let n : ℕ = around.encoding in
+        name-by-letters around allowed (instance t a) q ref place cs ((ways_of n t).before false (spelled_arguments n a))
+        (instance_between n t a)
+        ((fits_of t).before false (elements_of a)) (instance_joined t a) room h
+        (λ fits enough. instance-own t a rt ra false 8 refl around allowed place cs small enough fits)
+        (λ at fits enough. instance-nested t a rt ra around allowed at cs small enough fits)
+    each spot.as_argument = λ in_pack around allowed place cs small room h.
+        typed-argument in_pack around allowed (instance t a) place cs _ (whole item_type around allowed place cs small room h)
+    each w = (reads-nowhere (instance t a) (λ n. ways_of n (instance t a))).at w

@@ -26,6 +26,7 @@ use Rattle.cpp_press_laws.proofs.EveryWay.Lists.{reads-nil, reads-list, reads-fu
 use Rattle.cpp_press_laws.proofs.EveryWay.Encodings.{CountsArguments, reads-local, reads-function, reads-object, reads-of-name, reads-special, reads-thunk}
 use Rattle.cpp_press_laws.proofs.PressLaw.{read-by-one}
 use Rattle.cpp_press_laws.specs.Fits.{begins_name, SymbolFits, fits_of}
+use Rattle.cpp_press_laws.proofs.Spots as spot
 
 string-piece : (around : Around) (allowed : Option ℕ) (place : ℕ) (cs : List Component)
     → PieceReads around allowed string_literal place cs (written (codes "s") cs)
@@ -121,7 +122,7 @@ unfolding first_around text_of
 symbol-fits counts e [] fits room =
     let w : Written = (ways_of 0 e).as_encoding 2 [] in
     symbol-reads e nothing_there 0 first_around None [] w (written [] w.components)
-    ((reads counts e).as_encoding first_around None 2 [] first-small (first-room w [] room) fits.0)
+    ((reads counts e).at spot.as_encoding first_around None 2 [] first-small (first-room w [] room) fits.0)
     (no-suffix first_around None (2 + length w.bytes) w.components)
 symbol-fits counts e (d ∷ []) fits room = absurd fits.1
 symbol-fits counts e (d ∷ b ∷ bs) fits room =
@@ -129,7 +130,7 @@ symbol-fits counts e (d ∷ b ∷ bs) fits room =
     subst (λ x. ReadsAt first_around None (OfKind SYMBOL) (Is (tree (symbol e (x ∷ b ∷ bs)) true)) 0 []
     (written (95 ∷ 90 ∷ (w.bytes ++ (x ∷ b ∷ bs))) w.components)) (sym fits.1.0)
     (symbol-reads e (value.text (46 ∷ b ∷ bs)) 0 first_around None [] w (written (46 ∷ b ∷ bs) w.components)
-    ((reads counts e).as_encoding first_around None 2 [] first-small (first-room w (d ∷ b ∷ bs) room) fits.0)
+    ((reads counts e).at spot.as_encoding first_around None 2 [] first-small (first-room w (d ∷ b ∷ bs) room) fits.0)
     (suffix-reads first_around None b bs (2 + length w.bytes) w.components fits.1.1 fits.1.2 fits.1.3))
 
 -- what is pressed of a symbol that fits is read as the symbol

@@ -26,10 +26,11 @@ use Rattle.cpp_press_laws.proofs.ReadBack.Parameters.{RestReads, end-reads, none
 use Rattle.cpp_press_laws.proofs.Components.Keeping.{Keeps, keeps-text, keeps-and, keeps-front, keeps-behind, keeps}
 use Rattle.cpp_press_laws.proofs.ReadBack.Slots.{room-first, room-rest, ReadsAs, is_bare, in-slot, fitting-in}
 use Rattle.cpp_press_laws.proofs.ReadBack.Between.{ExtendsWith, extends-with-behind-s, prefix-behind-s}
-use Rattle.cpp_press_laws.proofs.EveryWay.Every.{template-value, ListReads, list_kind, with_end, Leads, slot_way, typed-argument, referred-before}
-use Rattle.cpp_press_laws.proofs.EveryWay.Types.{Reading, solid-in-all, with-d-in-all}
+use Rattle.cpp_press_laws.proofs.EveryWay.Every.{template-value, ListReads, list_kind, with_end, Leads, slot_way, typed-argument, referred-before, reads-nowhere}
+use Rattle.cpp_press_laws.proofs.EveryWay.Types.{Reading, ReadingAt, solid-in-all, with-d-in-all}
 use Rattle.cpp_press_laws.proofs.EveryWay.Instances.{items-kept}
 use Rattle.cpp_press_laws.specs.Fits.{takes_all, Slot, any_type, bare_type, item_type, parameter_type, literal_type, takes_all, Fitting, as_component, nowhere, Behind, type_fits, fits_nowhere, fits_of}
+use Rattle.cpp_press_laws.proofs.Spots as spot
 
 -- ## Lists
 
@@ -48,42 +49,35 @@ empty-list k kind around allowed place cs at may = (items-kept nil, empty-reads 
 pub reads-nil : Reading nil
 unfolding ways_of fits_of fits_nowhere no_ways parameters is_void is_nil no_items kinds may_be_empty
 reads-nil = record {
-  as_type = λ slot around allowed place cs small room h. absurd h;
-  as_prefix = λ around allowed place cs small room h. absurd h;
-  as_prefix_template = λ around allowed place cs small room h. absurd h;
-  between = λ around allowed place cs small room h. absurd h;
-  between_template = λ around allowed place cs small room h. absurd h;
-  as_entity = λ role around allowed place cs small room h. absurd h;
-  as_entity_template = λ around allowed place cs small room h. absurd h;
-  as_piece = λ around allowed place cs small room h. absurd h;
-  as_encoding = λ around allowed place cs small room h. absurd h;
-  as_name = λ q ref around allowed place cs small room h. absurd h;
-  before = λ typed k kind around allowed place cs arguments elements items last are read kept small room h. absurd h;
-  as_argument = λ in_pack around allowed place cs small room h. absurd h;
-  as_items = λ around allowed place cs small room h. record {
-    first = builtin (118 ∷ []);
-    items = nil;
-    last = nothing_there;
-    one = written (118 ∷ []) cs;
-    rest = written [] cs;
-    are = refl;
-    means = refl;
-    split = refl;
-    components = refl;
-    reads_one = void-item around allowed place cs;
-    reads_rest = empty-reads around allowed ITEMS Kind.Items (place + 1) cs refl refl;
-  };
-  as_more_items = λ around allowed place cs small room h. empty-list ITEMS Kind.Items around allowed place cs refl refl;
-  as_parameters = λ ref around allowed place cs small room h.
-      (list (builtin (118 ∷ [])) nil, refl, none-read around allowed ref place cs);
-  as_more_parameters = λ ref around allowed place cs small room h. end-reads around allowed ref place cs;
-  as_elements = λ in_pack around allowed place cs small room h. none in_pack around allowed place cs;
+  at = each;
+  before = (reads-nowhere nil (λ n. ways_of n nil)).before;
 }
   where
     none : (in_pack : Bool) (around : Around) (allowed : Option ℕ) (place : ℕ) (cs : List Component)
         → ListReads (list_kind in_pack) around allowed nil place cs (written [] cs)
     none true around allowed place cs = empty-list PACK_LIST Kind.PackList around allowed place cs refl refl
     none false around allowed place cs = empty-list ARGUMENT_LIST Kind.ArgumentList around allowed place cs refl refl
+
+    each : ReadingAt nil
+    each spot.as_items = λ around allowed place cs small room h. record {
+      first = builtin (118 ∷ []);
+      items = nil;
+      last = nothing_there;
+      one = written (118 ∷ []) cs;
+      rest = written [] cs;
+      are = refl;
+      means = refl;
+      split = refl;
+      components = refl;
+      reads_one = void-item around allowed place cs;
+      reads_rest = empty-reads around allowed ITEMS Kind.Items (place + 1) cs refl refl;
+    }
+    each spot.as_more_items = λ around allowed place cs small room h. empty-list ITEMS Kind.Items around allowed place cs refl refl
+    each spot.as_parameters = λ ref around allowed place cs small room h.
+        (list (builtin (118 ∷ [])) nil, refl, none-read around allowed ref place cs)
+    each spot.as_more_parameters = λ ref around allowed place cs small room h. end-reads around allowed ref place cs
+    each spot.as_elements = λ in_pack around allowed place cs small room h. none in_pack around allowed place cs
+    each w = (reads-nowhere nil (λ n. ways_of n nil)).at w
 
 -- parameters that aren't a lone void are those
 kept-parameters : (first rest : Term) → is_void first && is_nil rest ≡ false → parameters (list first rest) ≡ list first rest
@@ -101,64 +95,8 @@ more-with-end ref w rest = ap (λ l. written l rest.components) (append_assoc w.
 pub reads-list : (f r : Term) → Reading f → Reading r → Reading (list f r)
 unfolding ways_of fits_of fits_nowhere no_ways
 reads-list f r rf rr = record {
-  as_type = λ slot around allowed place cs small room h. absurd h;
-  as_prefix = λ around allowed place cs small room h. absurd h;
-  as_prefix_template = λ around allowed place cs small room h. absurd h;
-  between = λ around allowed place cs small room h. absurd h;
-  between_template = λ around allowed place cs small room h. absurd h;
-  as_entity = λ role around allowed place cs small room h. absurd h;
-  as_entity_template = λ around allowed place cs small room h. absurd h;
-  as_piece = λ around allowed place cs small room h. absurd h;
-  as_encoding = λ around allowed place cs small room h. absurd h;
-  as_name = λ q ref around allowed place cs small room h. absurd h;
-  before = λ typed k kind around allowed place cs arguments elements items last are read kept small room h. absurd h;
-  as_argument = λ in_pack around allowed place cs small room h. absurd h;
-  as_items = λ around allowed place cs small room h.
-      let n : ℕ = around.encoding in
-      let one : Written = (ways_of n f).as_type place cs in
-      let m = rr.as_more_items around allowed (place + length one.bytes) one.components small
-      (room-rest (ways_of n f).as_type (ways_of n r).as_more_parameters place cs room) h.1.1 in
-      record {
-        first = f;
-        items = r;
-        last = items_value r;
-        one = one;
-        rest = (ways_of n r).as_more_parameters (place + length one.bytes) one.components;
-        are = m.0;
-        means = kept-parameters f r h.0;
-        split = refl;
-        components = refl;
-        reads_one = rf.as_type item_type around allowed place cs small
-            (room-first (ways_of n f).as_type (ways_of n r).as_more_parameters place cs (keeps r n).as_more_parameters room) h.1.0;
-        reads_rest = m.1;
-      };
-  as_more_items = λ around allowed place cs small room h.
-      let n : ℕ = around.encoding in
-      let one : Written = (ways_of n f).as_type place cs in
-      let rest : Written = (ways_of n r).as_more_parameters (place + length one.bytes) one.components in
-      let m = rr.as_more_items around allowed (place + length one.bytes) one.components small
-      (room-rest (ways_of n f).as_type (ways_of n r).as_more_parameters place cs room) h.1 in (
-        items-kept (list f r),
-        items-more around allowed f r (items_value r) place cs one rest m.0
-            (subst (λ q. ReadsAt around allowed (OfKind ITEM) (Is (tree f true)) q cs one) (omega arith)
-            (rf.as_type item_type around allowed place cs small
-            (room-first (ways_of n f).as_type (ways_of n r).as_more_parameters place cs (keeps r n).as_more_parameters room) h.0))
-            (subst (λ q. ReadsAt around allowed (OfKind ITEMS) (Is (items_value r)) q one.components rest) (omega arith) m.1),
-      );
-  as_parameters = λ ref around allowed place cs small room h.
-      (list f r, kept-parameters f r h.0, rest-more ref around allowed place cs small room h.1);
-  as_more_parameters = rest-more;
-  as_elements = λ in_pack around allowed place cs small room h.
-      let n : ℕ = around.encoding in
-      let one : Written = (ways_of n f).as_argument place cs in
-      let rest : Written = (ways_of n r).as_elements (place + length one.bytes) one.components in
-      let m = rr.as_elements in_pack around allowed (place + length one.bytes) one.components small
-      (room-rest (ways_of n f).as_argument (ways_of n r).as_elements place cs room) h.1 in (
-        items-kept (list f r),
-        rf.as_argument in_pack around allowed place cs small
-            (room-first (ways_of n f).as_argument (ways_of n r).as_elements place cs (keeps r n).as_elements room) h.0 r
-            (items_value r) rest m.0 m.1,
-      );
+  at = each;
+  before = (reads-nowhere (list f r) (λ n. ways_of n (list f r))).before;
 }
   where
     rest-more : (ref : RefQualifier) → Leads (λ n. (ways_of n f).as_type and (ways_of n r).as_more_parameters)
@@ -170,11 +108,60 @@ reads-list f r rf rr = record {
         let one : Written = (ways_of n f).as_type place cs in
         let rest : Written = (ways_of n r).as_more_parameters (place + length one.bytes) one.components in
         subst (RestReads around allowed (list f r) ref place cs) (sym (more-with-end ref one rest))
-        (rf.as_type parameter_type around allowed place cs small
+        (rf.at spot.as_type parameter_type around allowed place cs small
         (room-first (ways_of n f).as_type (ways_of n r).as_more_parameters place cs (keeps r n).as_more_parameters room) h.0 r ref
         (with_end ref rest)
-        (rr.as_more_parameters ref around allowed (place + length one.bytes) one.components small
+        (rr.at spot.as_more_parameters ref around allowed (place + length one.bytes) one.components small
         (room-rest (ways_of n f).as_type (ways_of n r).as_more_parameters place cs room) h.1))
+
+    each : ReadingAt (list f r)
+    each spot.as_items = λ around allowed place cs small room h.
+        let n : ℕ = around.encoding in
+        let one : Written = (ways_of n f).as_type place cs in
+        let m = (rr.at spot.as_more_items) around allowed (place + length one.bytes) one.components small
+        (room-rest (ways_of n f).as_type (ways_of n r).as_more_parameters place cs room) h.1.1 in
+        record {
+          first = f;
+          items = r;
+          last = items_value r;
+          one = one;
+          rest = (ways_of n r).as_more_parameters (place + length one.bytes) one.components;
+          are = m.0;
+          means = kept-parameters f r h.0;
+          split = refl;
+          components = refl;
+          reads_one = (rf.at spot.as_type) item_type around allowed place cs small
+              (room-first (ways_of n f).as_type (ways_of n r).as_more_parameters place cs (keeps r n).as_more_parameters room) h.1.0;
+          reads_rest = m.1;
+        }
+    each spot.as_more_items = λ around allowed place cs small room h.
+        let n : ℕ = around.encoding in
+        let one : Written = (ways_of n f).as_type place cs in
+        let rest : Written = (ways_of n r).as_more_parameters (place + length one.bytes) one.components in
+        let m = (rr.at spot.as_more_items) around allowed (place + length one.bytes) one.components small
+        (room-rest (ways_of n f).as_type (ways_of n r).as_more_parameters place cs room) h.1 in (
+          items-kept (list f r),
+          items-more around allowed f r (items_value r) place cs one rest m.0
+              (subst (λ q. ReadsAt around allowed (OfKind ITEM) (Is (tree f true)) q cs one) (omega arith)
+              (rf.at spot.as_type item_type around allowed place cs small
+              (room-first (ways_of n f).as_type (ways_of n r).as_more_parameters place cs (keeps r n).as_more_parameters room) h.0))
+              (subst (λ q. ReadsAt around allowed (OfKind ITEMS) (Is (items_value r)) q one.components rest) (omega arith) m.1),
+        )
+    each spot.as_parameters = λ ref around allowed place cs small room h.
+        (list f r, kept-parameters f r h.0, rest-more ref around allowed place cs small room h.1)
+    each spot.as_more_parameters = rest-more
+    each spot.as_elements = λ in_pack around allowed place cs small room h.
+        let n : ℕ = around.encoding in
+        let one : Written = (ways_of n f).as_argument place cs in
+        let rest : Written = (ways_of n r).as_elements (place + length one.bytes) one.components in
+        let m = (rr.at spot.as_elements) in_pack around allowed (place + length one.bytes) one.components small
+        (room-rest (ways_of n f).as_argument (ways_of n r).as_elements place cs room) h.1 in (
+          items-kept (list f r),
+          (rf.at spot.as_argument) in_pack around allowed place cs small
+              (room-first (ways_of n f).as_argument (ways_of n r).as_elements place cs (keeps r n).as_elements room) h.0 r
+              (items_value r) rest m.0 m.1,
+        )
+    each w = (reads-nowhere (list f r) (λ n. ways_of n (list f r))).at w
 
 -- ## Function types
 
@@ -220,7 +207,7 @@ function-parts c_linkage noexcept ref a ps ra rp around allowed place cs small r
     let at : ℕ = place + length front in
     let one : Written = (ways_of n a).as_type at cs in
     let inner = room-rest (text front) ((ways_of n a).as_type and (ways_of n ps).as_parameters and end) place cs room in
-    let p = rp.as_parameters ref around allowed (at + length one.bytes) one.components small
+    let p = (rp.at spot.as_parameters) ref around allowed (at + length one.bytes) one.components small
     (room-first (ways_of n ps).as_parameters end (at + length one.bytes) one.components (keeps-text _)
     (room-rest (ways_of n a).as_type ((ways_of n ps).as_parameters and end) at cs inner))
     (subst (λ q. (fits_of ps).as_parameters parameter_type around allowed q one.components)
@@ -228,7 +215,7 @@ function-parts c_linkage noexcept ref a ps ra rp around allowed place cs small r
     record {
       items = p.0;
       means = p.1;
-      reads_one = ra.as_type any_type around allowed at cs small
+      reads_one = (ra.at spot.as_type) any_type around allowed at cs small
           (room-first (ways_of n a).as_type ((ways_of n ps).as_parameters and end) at cs
           (keeps-behind (ways_of n ps).as_parameters (mark_letter ref ++ codes "E") (keeps ps n).as_parameters) inner) h.0;
       reads_rest = p.2;
@@ -315,38 +302,13 @@ pub reads-function-type : (c_linkage noexcept : Bool) (ref : RefQualifier) (a ps
     → Reading (function_type c_linkage noexcept ref a ps)
 unfolding ways_of fits_of fits_nowhere type_fits type_ways no_ways function_text is_function_type takes_all is_bare
 reads-function-type c_linkage noexcept ref a ps ra rp = record {
-  as_type = as_types;
-  as_prefix = λ around allowed place cs small room h.
-      let t : Term = function_type c_linkage noexcept ref a ps in
-      fitting-in around allowed t (Extends around allowed t) place cs (function_spelling around.encoding c_linkage noexcept ref a ps) nowhere
-      (prefix-behind-s around allowed t) (keeps-function around.encoding c_linkage noexcept ref a ps) room h (λ fits enough. absurd fits);
-  as_prefix_template = λ around allowed place cs small room h.
-      let t : Term = function_type c_linkage noexcept ref a ps in
-      fitting-in around allowed t (ExtendsWith around allowed t) place cs
-      (function_spelling around.encoding c_linkage noexcept ref a ps) nowhere
-      (extends-with-behind-s around allowed t) (keeps-function around.encoding c_linkage noexcept ref a ps) room h
-      (λ fits enough. absurd fits);
-  between = λ around allowed place cs small room h. absurd h;
-  between_template = λ around allowed place cs small room h. absurd h;
-  as_entity = λ role around allowed place cs small room h. absurd h;
-  as_entity_template = λ around allowed place cs small room h. absurd h;
-  as_piece = λ around allowed place cs small room h. absurd h;
-  as_encoding = λ around allowed place cs small room h. absurd h;
-  as_name = λ q ref around allowed place cs small room h. absurd h;
+  at = each;
   before = λ typed k kind around allowed place cs arguments elements items last are read kept small room h.
       let t : Term = function_type c_linkage noexcept ref a ps in
       template-value typed around allowed k (instance t items) place cs _
       (referred-before typed k around allowed t kind place cs
       (function_spelling around.encoding c_linkage noexcept ref a ps) arguments elements
       items last are read (keeps-function around.encoding c_linkage noexcept ref a ps) kept room h);
-  as_argument = λ in_pack around allowed place cs small room h.
-      typed-argument in_pack around allowed (function_type c_linkage noexcept ref a ps) place cs _
-      (whole item_type refl refl around allowed place cs small room (h.0, λ none. (h.1 none).1));
-  as_items = λ around allowed place cs small room h. absurd h;
-  as_more_items = λ around allowed place cs small room h. absurd h;
-  as_parameters = λ ref around allowed place cs small room h. absurd h;
-  as_more_parameters = λ ref around allowed place cs small room h. absurd h;
-  as_elements = λ in_pack around allowed place cs small room h. absurd h;
 }
   where
     whole : (slot : Slot) → takes_all slot ≡ true → is_bare slot ≡ false
@@ -379,3 +341,20 @@ reads-function-type c_linkage noexcept ref a ps ra rp = record {
         fitting-in around allowed t (ReadsAs literal_type around allowed t) place cs
         (function_spelling around.encoding c_linkage noexcept ref a ps)
         nowhere s.behind_s (keeps-function around.encoding c_linkage noexcept ref a ps) room h (λ fits enough. absurd fits)
+
+    each : ReadingAt (function_type c_linkage noexcept ref a ps)
+    each spot.as_type = as_types
+    each spot.as_prefix = λ around allowed place cs small room h.
+        let t : Term = function_type c_linkage noexcept ref a ps in
+        fitting-in around allowed t (Extends around allowed t) place cs (function_spelling around.encoding c_linkage noexcept ref a ps) nowhere
+        (prefix-behind-s around allowed t) (keeps-function around.encoding c_linkage noexcept ref a ps) room h (λ fits enough. absurd fits)
+    each spot.as_prefix_template = λ around allowed place cs small room h.
+        let t : Term = function_type c_linkage noexcept ref a ps in
+        fitting-in around allowed t (ExtendsWith around allowed t) place cs
+        (function_spelling around.encoding c_linkage noexcept ref a ps) nowhere
+        (extends-with-behind-s around allowed t) (keeps-function around.encoding c_linkage noexcept ref a ps) room h
+        (λ fits enough. absurd fits)
+    each spot.as_argument = λ in_pack around allowed place cs small room h.
+        typed-argument in_pack around allowed (function_type c_linkage noexcept ref a ps) place cs _
+        (whole item_type refl refl around allowed place cs small room (h.0, λ none. (h.1 none).1))
+    each w = (reads-nowhere (function_type c_linkage noexcept ref a ps) (λ n. ways_of n (function_type c_linkage noexcept ref a ps))).at w

@@ -27,9 +27,11 @@ use Rattle.cpp_press_laws.proofs.ReadBack.Slots.{room-first, room-rest, ReadsAs,
 use Rattle.cpp_press_laws.proofs.ReadBack.Named.{NameRule, own-rule}
 use Rattle.cpp_press_laws.proofs.ReadBack.Between.{ElementsRead, named-piece, ExtendsWith, extends-with-behind-s, prefix-behind-s, prefix-piece, prefix-with-piece}
 use Rattle.cpp_press_laws.proofs.ReadBack.Templates.{slot-rules, TemplateKind, of_elements, ReadElements, elements-room, template-reads}
-use Rattle.cpp_press_laws.proofs.EveryWay.Every.{NameReads, TemplateReads, template-value, Leads, slot_way, typed-argument}
-use Rattle.cpp_press_laws.proofs.EveryWay.Types.{Reading}
+use Rattle.cpp_press_laws.proofs.EveryWay.Every.{NameReads, TemplateReads, template-value, Leads, slot_way, typed-argument, reads-nowhere}
+use Rattle.cpp_press_laws.proofs.EveryWay.Types.{Reading, ReadingAt}
 use Rattle.cpp_press_laws.specs.Fits.{Slot, any_type, bare_type, item_type, parameter_type, literal_type, Fitting, as_component, one_piece, names_type, names_function, begins_name, IsWithoutLetters, by_letters, fits_nowhere, fits_of}
+use Rattle.cpp_press_laws.proofs.Slots.{each-slot}
+use Rattle.cpp_press_laws.proofs.Spots as spot
 
 -- ## Letters
 
@@ -201,33 +203,7 @@ elements-behind around allowed last arguments elements own w place at read room 
 pub reads-alone : (p : Term) → Reading p → Reading (alone p)
 unfolding ways_of fits_of fits_nowhere name_ways no_ways with_letters template_before is_function_type ended
 reads-alone p r = record {
-  as_type = as_types;
-  as_prefix = λ around allowed place cs small room h.
-      fitting-in around allowed (alone p) (Extends around allowed (alone p)) place cs (ways_of around.encoding p).as_piece
-      (one_piece outermost (begins_name p) (fits_of p).as_piece)
-      (prefix-behind-s around allowed (alone p)) (keeps p around.encoding).as_piece room h
-      (λ fits enough. prefix-piece around allowed p (alone p) place cs ((ways_of around.encoding p).as_piece place cs)
-      ((r.as_piece around allowed place cs small enough fits.2).begins fits.1) (outermost-alone around p fits.0));
-  as_prefix_template = λ around allowed place cs small room h.
-      fitting-in around allowed (alone p) (ExtendsWith around allowed (alone p)) place cs (ways_of around.encoding p).as_piece
-      (one_piece outermost (begins_name p) (fits_of p).as_piece)
-      (extends-with-behind-s around allowed (alone p)) (keeps p around.encoding).as_piece room h
-      (λ fits enough. prefix-with-piece around allowed p (alone p) place cs ((ways_of around.encoding p).as_piece place cs)
-      ((r.as_piece around allowed place cs small enough fits.2).begins fits.1) (outermost-alone around p fits.0));
-  between = λ around allowed place cs small room h. absurd h;
-  between_template = λ around allowed place cs small room h. absurd h;
-  as_entity = λ role around allowed place cs small room h. absurd h;
-  as_entity_template = λ around allowed place cs small room h. absurd h;
-  as_piece = λ around allowed place cs small room h. absurd h;
-  as_encoding = λ around allowed place cs small room h. absurd h;
-  as_name = λ q ref around allowed place cs small room h.
-      let own : Spelling = (ways_of around.encoding p).as_piece in
-      let none : name_letters q ref ≡ [] = no-letters (name_letters q ref) h.0 in
-      subst (λ ls. NameReads around allowed COMPLETE_NAME (alone p) q ref place cs (with_letters ls own own place cs)) (sym none)
-      (plain-name 8 around allowed (alone p) q ref place cs (own place cs) none
-      (named-piece around allowed 8 p (alone p) place cs (own place cs)
-      (r.as_piece around allowed place cs small (subst (λ ls. HasRoom (with_letters ls own own place cs)) none room) h.1.2)
-      (own-rule p h.1.1) (outermost-alone around p h.1.0)).bare);
+  at = each;
   before = λ typed k kind around allowed place cs arguments elements items last are read kept small room h.
       let n : ℕ = around.encoding in
       let own : Spelling = (ways_of n p).as_piece in
@@ -244,19 +220,12 @@ reads-alone p r = record {
       let f = h.2 none in
       template-value typed around allowed k (instance (alone p) items) place cs _
       ((named-piece around allowed k p (alone p) place cs w
-      (r.as_piece around allowed place cs small (room-first own (ended n (alone p) and of_elements elements) place cs
+      (r.at spot.as_piece around allowed place cs small (room-first own (ended n (alone p) and of_elements elements) place cs
       (keeps-and (ended n (alone p)) (of_elements elements) (keeps-ended n (alone p)) kept) enough) f.0.2)
       (alone-rule typed k p kind f.0.1) (outermost-alone around p f.0.0)).instanced items last
       (elements (place + length w.bytes + 0 + 1) (more around w.components (alone p))) are
       (elements-behind around allowed last arguments elements (alone p) w place (place + length (w.bytes ++ [])) read
       (room-rest own (ended n (alone p) and of_elements elements) place cs enough) (omega (arith, length-append w.bytes [])) f.1)));
-  as_argument = λ in_pack around allowed place cs small room h.
-      typed-argument in_pack around allowed (alone p) place cs _ (whole item_type around allowed place cs small room h);
-  as_items = λ around allowed place cs small room h. absurd h;
-  as_more_items = λ around allowed place cs small room h. absurd h;
-  as_parameters = λ ref around allowed place cs small room h. absurd h;
-  as_more_parameters = λ ref around allowed place cs small room h. absurd h;
-  as_elements = λ in_pack around allowed place cs small room h. absurd h;
 }
   where
     whole : (slot : Slot) → Leads (λ n. component n (alone p) (ways_of n p).as_piece)
@@ -269,12 +238,34 @@ reads-alone p r = record {
         (keeps p around.encoding).as_piece room h
         (λ fits enough. s.adds place cs ((ways_of around.encoding p).as_piece place cs)
         (named-piece around allowed (solid_kind slot) p (alone p) place cs ((ways_of around.encoding p).as_piece place cs)
-        (r.as_piece around allowed place cs small enough fits.2) ((slot-rules slot).names p fits.1) (outermost-alone around p fits.0)).bare)
+        (r.at spot.as_piece around allowed place cs small enough fits.2) ((slot-rules slot).names p fits.1) (outermost-alone around p fits.0)).bare)
 
     as_types : (slot : Slot) → Leads (λ n. slot_way slot (ways_of n (alone p))) ((fits_of (alone p)).as_type slot)
         (λ around allowed. ReadsAs slot around allowed (alone p))
-    as_types any_type = whole any_type
-    as_types bare_type = whole bare_type
-    as_types item_type = whole item_type
-    as_types parameter_type = whole parameter_type
-    as_types literal_type = whole literal_type
+    as_types = each-slot _ (whole any_type) (whole bare_type) (whole item_type) (whole parameter_type) (whole literal_type)
+
+    each : ReadingAt (alone p)
+    each spot.as_type = as_types
+    each spot.as_prefix = λ around allowed place cs small room h.
+        fitting-in around allowed (alone p) (Extends around allowed (alone p)) place cs (ways_of around.encoding p).as_piece
+        (one_piece outermost (begins_name p) (fits_of p).as_piece)
+        (prefix-behind-s around allowed (alone p)) (keeps p around.encoding).as_piece room h
+        (λ fits enough. prefix-piece around allowed p (alone p) place cs ((ways_of around.encoding p).as_piece place cs)
+        ((r.at spot.as_piece around allowed place cs small enough fits.2).begins fits.1) (outermost-alone around p fits.0))
+    each spot.as_prefix_template = λ around allowed place cs small room h.
+        fitting-in around allowed (alone p) (ExtendsWith around allowed (alone p)) place cs (ways_of around.encoding p).as_piece
+        (one_piece outermost (begins_name p) (fits_of p).as_piece)
+        (extends-with-behind-s around allowed (alone p)) (keeps p around.encoding).as_piece room h
+        (λ fits enough. prefix-with-piece around allowed p (alone p) place cs ((ways_of around.encoding p).as_piece place cs)
+        ((r.at spot.as_piece around allowed place cs small enough fits.2).begins fits.1) (outermost-alone around p fits.0))
+    each spot.as_name = λ q ref around allowed place cs small room h.
+        let own : Spelling = (ways_of around.encoding p).as_piece in
+        let none : name_letters q ref ≡ [] = no-letters (name_letters q ref) h.0 in
+        subst (λ ls. NameReads around allowed COMPLETE_NAME (alone p) q ref place cs (with_letters ls own own place cs)) (sym none)
+        (plain-name 8 around allowed (alone p) q ref place cs (own place cs) none
+        (named-piece around allowed 8 p (alone p) place cs (own place cs)
+        (r.at spot.as_piece around allowed place cs small (subst (λ ls. HasRoom (with_letters ls own own place cs)) none room) h.1.2)
+        (own-rule p h.1.1) (outermost-alone around p h.1.0)).bare)
+    each spot.as_argument = λ in_pack around allowed place cs small room h.
+        typed-argument in_pack around allowed (alone p) place cs _ (whole item_type around allowed place cs small room h)
+    each w = (reads-nowhere (alone p) (λ n. ways_of n (alone p))).at w

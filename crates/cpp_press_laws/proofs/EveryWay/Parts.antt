@@ -30,9 +30,11 @@ use Rattle.cpp_press_laws.proofs.ReadBack.Slots.{room-first, room-rest, ReadsAs,
 use Rattle.cpp_press_laws.proofs.ReadBack.Named.{source-reads, operator-piece-reads, literal-operator-piece-reads, constructor-piece-reads, destructor-piece-reads, lambda-piece-reads, unnamed-piece-reads}
 use Rattle.cpp_press_laws.proofs.ReadBack.Between.{ExtendsWith, extends-with-behind-s, prefix-behind-s, prefix-parameter, prefix-with-parameter}
 use Rattle.cpp_press_laws.proofs.ReadBack.Templates.{slot-rules, TemplateKind, InstancedAt, instanced-behind-s, parameter-instanced, of_elements, elements-room}
-use Rattle.cpp_press_laws.proofs.EveryWay.Every.{template-value, ArgumentReads, Leads, slot_way, typed-argument, reads-piece, reads-argument}
-use Rattle.cpp_press_laws.proofs.EveryWay.Types.{Reading, with-d-kept}
+use Rattle.cpp_press_laws.proofs.EveryWay.Every.{template-value, ArgumentReads, Leads, slot_way, typed-argument, reads-piece, reads-argument, reads-nowhere}
+use Rattle.cpp_press_laws.proofs.EveryWay.Types.{Reading, ReadingAt, with-d-kept}
 use Rattle.cpp_press_laws.specs.Fits.{Slot, any_type, bare_type, item_type, parameter_type, literal_type, takes_all, IsBuiltin, IsAbbreviation, NamesArgument, Fitting, as_component, nowhere, type_fits, fits_nowhere, fits_of}
+use Rattle.cpp_press_laws.proofs.Slots.{each-slot}
+use Rattle.cpp_press_laws.proofs.Spots as spot
 
 -- ## Pieces
 
@@ -79,7 +81,7 @@ reads-lambda ps k r =
     let n : ℕ = around.encoding in
     let end : List ℕ = codes "E" ++ ordinal (k - 1) in
     lambda-piece-reads around allowed ps k place cs ((ways_of n ps).as_parameters (place + 2) cs) h.1
-    (r.as_items (in_signature around) allowed (place + 2) cs (signature-small around)
+    (r.at spot.as_items (in_signature around) allowed (place + 2) cs (signature-small around)
     (room-first (ways_of n ps).as_parameters (text end) (place + 2) cs (keeps-text end)
     (room-rest (text (codes "Ul")) ((ways_of n ps).as_parameters and text end) place cs room)) h.0))
 
@@ -136,64 +138,30 @@ builtin-in literal_type around allowed (d ∷ b ∷ x ∷ xs) place cs is = absu
 pub reads-builtin : (code : List ℕ) → Reading (builtin code)
 unfolding ways_of fits_of fits_nowhere type_ways no_ways
 reads-builtin code = record {
-  as_type = as_types;
-  as_prefix = λ around allowed place cs small room h. absurd h;
-  as_prefix_template = λ around allowed place cs small room h. absurd h;
-  between = λ around allowed place cs small room h. absurd h;
-  between_template = λ around allowed place cs small room h. absurd h;
-  as_entity = λ role around allowed place cs small room h. absurd h;
-  as_entity_template = λ around allowed place cs small room h. absurd h;
-  as_piece = λ around allowed place cs small room h. absurd h;
-  as_encoding = λ around allowed place cs small room h. absurd h;
-  as_name = λ q ref around allowed place cs small room h. absurd h;
-  before = λ typed k kind around allowed place cs arguments elements items last are read kept small room h. absurd h;
-  as_argument = λ in_pack around allowed place cs small room h.
-      typed-argument in_pack around allowed (builtin code) place cs (written code cs) (builtin-in item_type around allowed code place cs h);
-  as_items = λ around allowed place cs small room h. absurd h;
-  as_more_items = λ around allowed place cs small room h. absurd h;
-  as_parameters = λ ref around allowed place cs small room h. absurd h;
-  as_more_parameters = λ ref around allowed place cs small room h. absurd h;
-  as_elements = λ in_pack around allowed place cs small room h. absurd h;
+  at = each;
+  before = (reads-nowhere (builtin code) (λ n. ways_of n (builtin code))).before;
 }
   where
     as_types : (slot : Slot) → Leads (λ n. slot_way slot (ways_of n (builtin code))) ((fits_of (builtin code)).as_type slot)
         (λ around allowed. ReadsAs slot around allowed (builtin code))
-    as_types any_type around allowed place cs small room h = builtin-in any_type around allowed code place cs h
-    as_types bare_type around allowed place cs small room h = builtin-in bare_type around allowed code place cs h
-    as_types item_type around allowed place cs small room h = builtin-in item_type around allowed code place cs h
-    as_types parameter_type around allowed place cs small room h = builtin-in parameter_type around allowed code place cs h
-    as_types literal_type around allowed place cs small room h = builtin-in literal_type around allowed code place cs h
+    as_types = each-slot _ (λ around allowed place cs small room h. builtin-in any_type around allowed code place cs h) (λ around allowed place cs small room h. builtin-in bare_type around allowed code place cs h) (λ around allowed place cs small room h. builtin-in item_type around allowed code place cs h) (λ around allowed place cs small room h. builtin-in parameter_type around allowed code place cs h) (λ around allowed place cs small room h. builtin-in literal_type around allowed code place cs h)
+
+    each : ReadingAt (builtin code)
+    each spot.as_type = as_types
+    each spot.as_argument = λ in_pack around allowed place cs small room h.
+        typed-argument in_pack around allowed (builtin code) place cs (written code cs) (builtin-in item_type around allowed code place cs h)
+    each w = (reads-nowhere (builtin code) (λ n. ways_of n (builtin code))).at w
 
 -- an abbreviation, wherever it is
 pub reads-abbreviation : (l : ℕ) → Reading (abbreviation l)
 unfolding ways_of fits_of fits_nowhere type_ways no_ways is_function_type
 reads-abbreviation l = record {
-  as_type = as_types;
-  as_prefix = λ around allowed place cs small room h.
-      prefix-behind-s around allowed (abbreviation l) place cs (written (l ∷ []) cs)
-      (abbreviation-behind-s around allowed l (place + 1) cs h.0 h.1);
-  as_prefix_template = λ around allowed place cs small room h.
-      extends-with-behind-s around allowed (abbreviation l) place cs (written (l ∷ []) cs)
-      (abbreviation-behind-s around allowed l (place + 1) cs h.0 h.1);
-  between = λ around allowed place cs small room h. absurd h;
-  between_template = λ around allowed place cs small room h. absurd h;
-  as_entity = λ role around allowed place cs small room h. absurd h;
-  as_entity_template = λ around allowed place cs small room h. absurd h;
-  as_piece = λ around allowed place cs small room h. absurd h;
-  as_encoding = λ around allowed place cs small room h. absurd h;
-  as_name = λ q ref around allowed place cs small room h. absurd h;
+  at = each;
   before = λ typed k kind around allowed place cs arguments elements items last are read kept small room h.
       template-value typed around allowed k (instance (abbreviation l) items) place cs _
       (instanced-behind-s typed k around allowed (abbreviation l) kind place cs (written (l ∷ []) cs)
       (abbreviation-behind-s around allowed l (place + 1) cs h.0.0 h.0.1) items last (elements (place + 2 + 1) cs) are
       (read (place + 2) cs h.1 (elements-room (text (codes "S" ++ l ∷ [])) elements place cs room)));
-  as_argument = λ in_pack around allowed place cs small room h.
-      typed-argument in_pack around allowed (abbreviation l) place cs (written (83 ∷ l ∷ []) cs) (whole item_type around allowed place cs h);
-  as_items = λ around allowed place cs small room h. absurd h;
-  as_more_items = λ around allowed place cs small room h. absurd h;
-  as_parameters = λ ref around allowed place cs small room h. absurd h;
-  as_more_parameters = λ ref around allowed place cs small room h. absurd h;
-  as_elements = λ in_pack around allowed place cs small room h. absurd h;
 }
   where
     whole : (slot : Slot) (around : Around) (allowed : Option ℕ) (place : ℕ) (cs : List Component) → IsAbbreviation l
@@ -204,11 +172,19 @@ reads-abbreviation l = record {
 
     as_types : (slot : Slot) → Leads (λ n. slot_way slot (ways_of n (abbreviation l))) ((fits_of (abbreviation l)).as_type slot)
         (λ around allowed. ReadsAs slot around allowed (abbreviation l))
-    as_types any_type around allowed place cs small room h = whole any_type around allowed place cs h
-    as_types bare_type around allowed place cs small room h = whole bare_type around allowed place cs h
-    as_types item_type around allowed place cs small room h = whole item_type around allowed place cs h
-    as_types parameter_type around allowed place cs small room h = whole parameter_type around allowed place cs h
-    as_types literal_type around allowed place cs small room h = whole literal_type around allowed place cs h
+    as_types = each-slot _ (λ around allowed place cs small room h. whole any_type around allowed place cs h) (λ around allowed place cs small room h. whole bare_type around allowed place cs h) (λ around allowed place cs small room h. whole item_type around allowed place cs h) (λ around allowed place cs small room h. whole parameter_type around allowed place cs h) (λ around allowed place cs small room h. whole literal_type around allowed place cs h)
+
+    each : ReadingAt (abbreviation l)
+    each spot.as_type = as_types
+    each spot.as_prefix = λ around allowed place cs small room h.
+        prefix-behind-s around allowed (abbreviation l) place cs (written (l ∷ []) cs)
+        (abbreviation-behind-s around allowed l (place + 1) cs h.0 h.1)
+    each spot.as_prefix_template = λ around allowed place cs small room h.
+        extends-with-behind-s around allowed (abbreviation l) place cs (written (l ∷ []) cs)
+        (abbreviation-behind-s around allowed l (place + 1) cs h.0 h.1)
+    each spot.as_argument = λ in_pack around allowed place cs small room h.
+        typed-argument in_pack around allowed (abbreviation l) place cs (written (83 ∷ l ∷ []) cs) (whole item_type around allowed place cs h)
+    each w = (reads-nowhere (abbreviation l) (λ n. ways_of n (abbreviation l))).at w
 
 -- ## Parameters
 
@@ -244,22 +220,7 @@ parameter-before false k around allowed j eight place cs small room h =
 pub reads-parameter : (j : ℕ) → Reading (parameter j)
 unfolding ways_of fits_of fits_nowhere type_fits type_ways no_ways is_function_type
 reads-parameter j = record {
-  as_type = as_types;
-  as_prefix = λ around allowed place cs small room h.
-      fitting-in around allowed (parameter j) (Extends around allowed (parameter j)) place cs (parameter_spelling j) (parameter_fits j)
-      (prefix-behind-s around allowed (parameter j)) (keeps-text _) room h
-      (λ fits enough. prefix-parameter around allowed j place cs (in-scope around allowed j small fits));
-  as_prefix_template = λ around allowed place cs small room h.
-      fitting-in around allowed (parameter j) (ExtendsWith around allowed (parameter j)) place cs (parameter_spelling j) (parameter_fits j)
-      (extends-with-behind-s around allowed (parameter j)) (keeps-text _) room h
-      (λ fits enough. prefix-with-parameter around allowed j place cs (in-scope around allowed j small fits));
-  between = λ around allowed place cs small room h. absurd h;
-  between_template = λ around allowed place cs small room h. absurd h;
-  as_entity = λ role around allowed place cs small room h. absurd h;
-  as_entity_template = λ around allowed place cs small room h. absurd h;
-  as_piece = λ around allowed place cs small room h. absurd h;
-  as_encoding = λ around allowed place cs small room h. absurd h;
-  as_name = λ q ref around allowed place cs small room h. absurd h;
+  at = each;
   before = λ typed k kind around allowed place cs arguments elements items last are read kept small room h.
       let own : Spelling = component around.encoding (parameter j) (parameter_spelling j) in
       let w : Written = own place cs in
@@ -267,13 +228,6 @@ reads-parameter j = record {
       (parameter-before typed k around allowed j kind place cs small (room-first own (of_elements elements) place cs kept room) h.0 items last
       (elements (place + length w.bytes + 1) w.components) are
       (read (place + length w.bytes) w.components h.1 (elements-room own elements place cs room)));
-  as_argument = λ in_pack around allowed place cs small room h.
-      typed-argument in_pack around allowed (parameter j) place cs _ (whole item_type around allowed place cs small room h);
-  as_items = λ around allowed place cs small room h. absurd h;
-  as_more_items = λ around allowed place cs small room h. absurd h;
-  as_parameters = λ ref around allowed place cs small room h. absurd h;
-  as_more_parameters = λ ref around allowed place cs small room h. absurd h;
-  as_elements = λ in_pack around allowed place cs small room h. absurd h;
 }
   where
     whole : (slot : Slot) → Leads (λ n. component n (parameter j) (parameter_spelling j)) (as_component (parameter j) (parameter_fits j))
@@ -287,11 +241,21 @@ reads-parameter j = record {
 
     as_types : (slot : Slot) → Leads (λ n. slot_way slot (ways_of n (parameter j))) ((fits_of (parameter j)).as_type slot)
         (λ around allowed. ReadsAs slot around allowed (parameter j))
-    as_types any_type = whole any_type
-    as_types bare_type = whole bare_type
-    as_types item_type = whole item_type
-    as_types parameter_type = whole parameter_type
-    as_types literal_type = whole literal_type
+    as_types = each-slot _ (whole any_type) (whole bare_type) (whole item_type) (whole parameter_type) (whole literal_type)
+
+    each : ReadingAt (parameter j)
+    each spot.as_type = as_types
+    each spot.as_prefix = λ around allowed place cs small room h.
+        fitting-in around allowed (parameter j) (Extends around allowed (parameter j)) place cs (parameter_spelling j) (parameter_fits j)
+        (prefix-behind-s around allowed (parameter j)) (keeps-text _) room h
+        (λ fits enough. prefix-parameter around allowed j place cs (in-scope around allowed j small fits))
+    each spot.as_prefix_template = λ around allowed place cs small room h.
+        fitting-in around allowed (parameter j) (ExtendsWith around allowed (parameter j)) place cs (parameter_spelling j) (parameter_fits j)
+        (extends-with-behind-s around allowed (parameter j)) (keeps-text _) room h
+        (λ fits enough. prefix-with-parameter around allowed j place cs (in-scope around allowed j small fits))
+    each spot.as_argument = λ in_pack around allowed place cs small room h.
+        typed-argument in_pack around allowed (parameter j) place cs _ (whole item_type around allowed place cs small room h)
+    each w = (reads-nowhere (parameter j) (λ n. ways_of n (parameter j))).at w
 
 -- ## Arguments that are no types
 
@@ -320,7 +284,7 @@ reads-integer t n r =
     subst (λ l. ArgumentReads in_pack around allowed (integer t n) place cs (written (76 ∷ l) w.components))
     (append_assoc w.bytes (signed_text n) (69 ∷ []))
     (literal-in in_pack around allowed (integer t n) place cs (written (w.bytes ++ signed_text n) w.components)
-    (r.as_type literal_type around allowed (place + 1) cs small
+    (r.at spot.as_type literal_type around allowed (place + 1) cs small
     (room-first (ways_of m t).as_type (text end) (place + 1) cs (keeps-text end)
     (room-rest (text (codes "L")) ((ways_of m t).as_type and text end) place cs room)) h.0 n h.1)))
 
@@ -350,7 +314,7 @@ reads-encoding-literal e r =
     literal-in in_pack around allowed (encoding_literal e) place cs (written (95 ∷ 90 ∷ w.bytes) w.components)
     (encoding-literal around allowed e (place + 1) cs w
     (subst (λ q. ReadsAt around allowed (OfKind ENCODING) (Is (tree e true)) q cs w) (omega arith)
-    (r.as_encoding around allowed (place + 3) cs small
+    (r.at spot.as_encoding around allowed (place + 3) cs small
     (room-first (ways_of m e).as_encoding (text (codes "E")) (place + 3) cs (keeps-text (codes "E"))
     (room-rest (text (codes "L_Z")) ((ways_of m e).as_encoding and text (codes "E")) place cs room)) h))))
 
@@ -375,7 +339,7 @@ reads-address e r =
     (written (88 ∷ 97 ∷ 100 ∷ 76 ∷ 95 ∷ 90 ∷ (w.bytes ++ (69 ∷ 69 ∷ []))) w.components)
     (address-reads around allowed e place cs w
     (subst (λ q. ReadsAt around allowed (OfKind ENCODING) (Is (tree e true)) q cs w) (omega arith)
-    (r.as_encoding around allowed (place + 6) cs small
+    (r.at spot.as_encoding around allowed (place + 6) cs small
     (room-first (ways_of m e).as_encoding (text (codes "EE")) (place + 6) cs (keeps-text (codes "EE"))
     (room-rest (text (codes "XadL_Z")) ((ways_of m e).as_encoding and text (codes "EE")) place cs room)) h))))
 
@@ -393,7 +357,7 @@ reads-pack a r = reads-argument (pack a) _ _ go
     go false around allowed place cs small room h = λ items last rest are two.
         let m : ℕ = around.encoding in
         let w : Written = (ways_of m a).as_elements (place + 1) cs in
-        let one = r.as_elements true around allowed (place + 1) cs small
+        let one = (r.at spot.as_elements) true around allowed (place + 1) cs small
         (room-first (ways_of m a).as_elements (text (codes "E")) (place + 1) cs (keeps-text (codes "E"))
         (room-rest (text (codes "J")) ((ways_of m a).as_elements and text (codes "E")) place cs room)) h.1 in
         same-written around allowed (OfKind ARGUMENT_LIST) (Is (tree (list (pack a) items) true)) place cs rest.components

@@ -23,10 +23,12 @@ use Rattle.cpp_press_laws.proofs.ReadBack.Slots.{room-first, room-rest, ReadsAs,
 use Rattle.cpp_press_laws.proofs.ReadBack.Named.{std-rule, std-type-rule, PieceReads}
 use Rattle.cpp_press_laws.proofs.ReadBack.Between.{in_I_and_E, Named, named-std, named-std-type, Nested, nested-std, whole-nested, ExtendsWith, extends-with-behind-s, prefix-behind-s, prefix-nested, prefix-with-nested}
 use Rattle.cpp_press_laws.proofs.ReadBack.Templates.{TypeRules, slot-rules, TemplateKind, of_elements, ReadElements, template-reads}
-use Rattle.cpp_press_laws.proofs.EveryWay.Every.{NameReads, TemplateReads, template-value, EntityReads, Leads, slot_way, typed-argument}
-use Rattle.cpp_press_laws.proofs.EveryWay.Types.{Reading}
+use Rattle.cpp_press_laws.proofs.EveryWay.Every.{NameReads, TemplateReads, template-value, EntityReads, Leads, slot_way, typed-argument, reads-nowhere}
+use Rattle.cpp_press_laws.proofs.EveryWay.Types.{Reading, ReadingAt}
 use Rattle.cpp_press_laws.proofs.EveryWay.Names.{letters-nested, nested-room, name-by-letters, elements-behind}
 use Rattle.cpp_press_laws.specs.Fits.{Slot, any_type, bare_type, item_type, parameter_type, literal_type, Fitting, as_component, behind_bytes, Behind, names_function, begins_name, Role, in_type, in_name_with, letters_of, fits_nowhere, fits_of}
+use Rattle.cpp_press_laws.proofs.Slots.{each-slot}
+use Rattle.cpp_press_laws.proofs.Spots as spot
 
 -- ## Between N and E
 
@@ -89,7 +91,7 @@ std-piece : (p : Term) → Reading p → (around : Around) (allowed : Option ℕ
     → HasRoom (std_spelling around.encoding p place cs) → std_fits p around allowed place cs
     → PieceReads around allowed p (place + 2) cs ((ways_of around.encoding p).as_piece (place + 2) cs)
 std-piece p r around allowed place cs small room h =
-    r.as_piece around allowed (place + 2) cs small (room-rest (text (codes "St")) (ways_of around.encoding p).as_piece place cs room) h.1
+    (r.at spot.as_piece) around allowed (place + 2) cs small (room-rest (text (codes "St")) (ways_of around.encoding p).as_piece place cs room) h.1
 
 std-nested : (p : Term) → Reading p → (around : Around) (allowed : Option ℕ) (place : ℕ) (cs : List Component) → IsSmall around
     → HasRoom (std_spelling around.encoding p place cs) → std_fits p around allowed place cs
@@ -184,33 +186,7 @@ std-before false b p r is k eight around allowed place cs arguments elements ite
 pub reads-in-std : (p : Term) → Reading p → Reading (in_std p)
 unfolding ways_of fits_of fits_nowhere name_ways no_ways template_before is_function_type is_one_piece entity_text
 reads-in-std p r = record {
-  as_type = as_types;
-  as_prefix = λ around allowed place cs small room h.
-      fitting-in around allowed (in_std p) (Extends around allowed (in_std p)) place cs (std_spelling around.encoding p) (std_fits p)
-      (prefix-behind-s around allowed (in_std p)) (keeps-std around.encoding p) room h
-      (λ fits enough. prefix-nested around allowed (in_std p) place cs (std_spelling around.encoding p place cs)
-      (std-nested p r around allowed place cs small enough fits).bare);
-  as_prefix_template = λ around allowed place cs small room h.
-      fitting-in around allowed (in_std p) (ExtendsWith around allowed (in_std p)) place cs (std_spelling around.encoding p) (std_fits p)
-      (extends-with-behind-s around allowed (in_std p)) (keeps-std around.encoding p) room h
-      (λ fits enough. prefix-with-nested around allowed (in_std p) place cs (std_spelling around.encoding p place cs)
-      (std-nested p r around allowed place cs small enough fits).instanced);
-  between = λ around allowed place cs small room h. (std-nested p r around allowed place cs small room h).bare;
-  between_template = λ around allowed place cs small room h. (std-nested p r around allowed place cs small room h).instanced;
-  as_entity = λ role around allowed place cs small room h.
-      let at : ℕ = place + length (codes "N" ++ letters_of role) in
-      entity-nested role around allowed (in_std p) place cs (std_spelling around.encoding p)
-      (std-nested p r around allowed at cs small (nested-room (letters_of role) (std_spelling around.encoding p) place cs room) h).bare;
-  as_entity_template = λ around allowed place cs small room h. absurd h;
-  as_piece = λ around allowed place cs small room h. absurd h;
-  as_encoding = λ around allowed place cs small room h. absurd h;
-  as_name = λ q ref around allowed place cs small room h.
-      name-by-letters around allowed (in_std p) q ref place cs (std_spelling around.encoding p) (std_spelling around.encoding p)
-      (std_fits p) (std_fits p)
-      room h
-      (λ fits enough. template-value false around allowed COMPLETE_NAME (in_std p) place cs _
-      (std-named p r around allowed place cs small enough fits).bare)
-      (λ at fits enough. (std-nested p r around allowed at cs small enough fits).bare);
+  at = each;
   before = λ typed k kind around allowed place cs arguments elements items last are read kept small room h.
       let n : ℕ = around.encoding in
       let whole : Spelling = std_spelling n p and ended n (in_std p) and of_elements elements in
@@ -226,13 +202,6 @@ reads-in-std p r = record {
       (λ none enough. std-before typed (is_operator p) p r refl k kind around allowed place cs arguments elements items last are read
       kept small
       enough (h.2 none).0 (h.2 none).1);
-  as_argument = λ in_pack around allowed place cs small room h.
-      typed-argument in_pack around allowed (in_std p) place cs _ (whole item_type around allowed place cs small room h);
-  as_items = λ around allowed place cs small room h. absurd h;
-  as_more_items = λ around allowed place cs small room h. absurd h;
-  as_parameters = λ ref around allowed place cs small room h. absurd h;
-  as_more_parameters = λ ref around allowed place cs small room h. absurd h;
-  as_elements = λ in_pack around allowed place cs small room h. absurd h;
 }
   where
     whole : (slot : Slot) → Leads (λ n. component n (in_std p) (choice (is_operator p) (in_N_and_E [] (std_spelling n p)) (std_spelling n p)))
@@ -252,8 +221,33 @@ reads-in-std p r = record {
 
     as_types : (slot : Slot) → Leads (λ n. slot_way slot (ways_of n (in_std p))) ((fits_of (in_std p)).as_type slot)
         (λ around allowed. ReadsAs slot around allowed (in_std p))
-    as_types any_type = whole any_type
-    as_types bare_type = whole bare_type
-    as_types item_type = whole item_type
-    as_types parameter_type = whole parameter_type
-    as_types literal_type = whole literal_type
+    as_types = each-slot _ (whole any_type) (whole bare_type) (whole item_type) (whole parameter_type) (whole literal_type)
+
+    each : ReadingAt (in_std p)
+    each spot.as_type = as_types
+    each spot.as_prefix = λ around allowed place cs small room h.
+        fitting-in around allowed (in_std p) (Extends around allowed (in_std p)) place cs (std_spelling around.encoding p) (std_fits p)
+        (prefix-behind-s around allowed (in_std p)) (keeps-std around.encoding p) room h
+        (λ fits enough. prefix-nested around allowed (in_std p) place cs (std_spelling around.encoding p place cs)
+        (std-nested p r around allowed place cs small enough fits).bare)
+    each spot.as_prefix_template = λ around allowed place cs small room h.
+        fitting-in around allowed (in_std p) (ExtendsWith around allowed (in_std p)) place cs (std_spelling around.encoding p) (std_fits p)
+        (extends-with-behind-s around allowed (in_std p)) (keeps-std around.encoding p) room h
+        (λ fits enough. prefix-with-nested around allowed (in_std p) place cs (std_spelling around.encoding p place cs)
+        (std-nested p r around allowed place cs small enough fits).instanced)
+    each spot.between = λ around allowed place cs small room h. (std-nested p r around allowed place cs small room h).bare
+    each spot.between_template = λ around allowed place cs small room h. (std-nested p r around allowed place cs small room h).instanced
+    each spot.as_entity = λ role around allowed place cs small room h.
+        let at : ℕ = place + length (codes "N" ++ letters_of role) in
+        entity-nested role around allowed (in_std p) place cs (std_spelling around.encoding p)
+        (std-nested p r around allowed at cs small (nested-room (letters_of role) (std_spelling around.encoding p) place cs room) h).bare
+    each spot.as_name = λ q ref around allowed place cs small room h.
+        name-by-letters around allowed (in_std p) q ref place cs (std_spelling around.encoding p) (std_spelling around.encoding p)
+        (std_fits p) (std_fits p)
+        room h
+        (λ fits enough. template-value false around allowed COMPLETE_NAME (in_std p) place cs _
+        (std-named p r around allowed place cs small enough fits).bare)
+        (λ at fits enough. (std-nested p r around allowed at cs small enough fits).bare)
+    each spot.as_argument = λ in_pack around allowed place cs small room h.
+        typed-argument in_pack around allowed (in_std p) place cs _ (whole item_type around allowed place cs small room h)
+    each w = (reads-nowhere (in_std p) (λ n. ways_of n (in_std p))).at w

@@ -23,11 +23,13 @@ use Rattle.cpp_press_laws.proofs.ReadBack.Slots.{room-first, room-rest, ReadsAs,
 use Rattle.cpp_press_laws.proofs.ReadBack.Named.{member-rule, entity-rule, type-entity-rule, NameRule, PieceReads}
 use Rattle.cpp_press_laws.proofs.ReadBack.Between.{in_I_and_E, Named, named-piece, Nested, nested-within, whole-nested, ExtendsWith, extends-with-behind-s, prefix-behind-s, prefix-piece, prefix-with-piece, prefix-nested, prefix-with-nested}
 use Rattle.cpp_press_laws.proofs.ReadBack.Templates.{slot-rules, of_elements, template-reads}
-use Rattle.cpp_press_laws.proofs.EveryWay.Every.{NameReads, TemplateReads, template-value, EntityReads, Leads, slot_way, typed-argument}
-use Rattle.cpp_press_laws.proofs.EveryWay.Types.{Reading}
+use Rattle.cpp_press_laws.proofs.EveryWay.Every.{NameReads, TemplateReads, template-value, EntityReads, Leads, slot_way, typed-argument, reads-nowhere}
+use Rattle.cpp_press_laws.proofs.EveryWay.Types.{Reading, ReadingAt}
 use Rattle.cpp_press_laws.proofs.EveryWay.Std.{entity-nested, template-nested}
 use Rattle.cpp_press_laws.proofs.EveryWay.Names.{letters-nested, no-qualifiers, no-letters, nested-room, elements-behind}
 use Rattle.cpp_press_laws.specs.Fits.{names_member, names_entity, names_in, Slot, any_type, bare_type, item_type, parameter_type, literal_type, Fitting, as_component, behind_bytes, one_piece, Behind, begins_name, Role, in_type, in_name_with, letters_of, IsWithoutLetters, fits_nowhere, fits_of}
+use Rattle.cpp_press_laws.proofs.Slots.{each-slot}
+use Rattle.cpp_press_laws.proofs.Spots as spot
 use Rattle.cpp_press_laws.proofs.ReadBack.Symbols.{string-literal-reads}
 
 -- ## Encodings as prefixes
@@ -60,10 +62,10 @@ joined-nested x p rx rp around allowed place cs small room h =
     let w : Written = (ways_of n x).as_prefix place cs in
     let one : Written = (ways_of n p).as_piece (place + length w.bytes) w.components in
     nested-within around allowed x p place cs w one
-    (rx.as_prefix around allowed place cs small (room-first (ways_of n x).as_prefix (ways_of n p).as_piece place cs
+    (rx.at spot.as_prefix around allowed place cs small (room-first (ways_of n x).as_prefix (ways_of n p).as_piece place cs
     (keeps p n).as_piece room) h.0)
     (named-piece (after x true around) allowed 19 p (within x p) (place + length w.bytes) w.components one
-    (rp.as_piece (after x true around) allowed (place + length w.bytes) w.components small
+    (rp.at spot.as_piece (after x true around) allowed (place + length w.bytes) w.components small
     (room-rest (ways_of n x).as_prefix (ways_of n p).as_piece place cs room) h.2)
     (member-rule p h.1) refl)
 
@@ -79,7 +81,7 @@ local-piece : (x p : Term) (may : Bool) → Reading p → (around : Around) (all
     → HasRoom (joined_spelling around.encoding x p place cs) → local_fits x p may around allowed place cs
     → PieceReads around allowed p place cs ((ways_of around.encoding p).as_piece place cs)
 local-piece x p may rp around allowed place cs small room h =
-    rp.as_piece around allowed place cs small
+    (rp.at spot.as_piece) around allowed place cs small
     (subst HasRoom (scope-first x around.encoding (ways_of around.encoding p).as_piece place cs h.0) room) h.1.2
 
 -- the name at a kind of entities
@@ -210,32 +212,7 @@ name-nested around allowed t q ref place cs between so_far room = go (name_lette
 pub reads-within : (x p : Term) → Reading x → Reading p → Reading (within x p)
 unfolding ways_of fits_of fits_nowhere name_ways no_ways template_before is_function_type is_one_piece entity_text in_N_and_E ended
 reads-within x p rx rp = record {
-  as_type = as_types;
-  as_prefix = λ around allowed place cs small room h.
-      fitting-in around allowed (within x p) (Extends around allowed (within x p)) place cs (joined_spelling around.encoding x p)
-      (begun_fits x p)
-      (prefix-behind-s around allowed (within x p)) (keeps-joined around.encoding x p) room h
-      (λ fits enough. (begun-extends x p rx rp around allowed place cs small enough fits).0);
-  as_prefix_template = λ around allowed place cs small room h.
-      fitting-in around allowed (within x p) (ExtendsWith around allowed (within x p)) place cs (joined_spelling around.encoding x p)
-      (begun_fits x p)
-      (extends-with-behind-s around allowed (within x p)) (keeps-joined around.encoding x p) room h
-      (λ fits enough. (begun-extends x p rx rp around allowed place cs small enough fits).1);
-  between = λ around allowed place cs small room h. (joined-nested x p rx rp around allowed place cs small room h).bare;
-  between_template = λ around allowed place cs small room h. (joined-nested x p rx rp around allowed place cs small room h).instanced;
-  as_entity = λ role around allowed place cs small room h.
-      within-entity x p rx rp role around allowed place cs small (is_encoding x) refl room h;
-  as_entity_template = λ around allowed place cs small room h. record {
-    is = λ arguments. h.0;
-    in_name = local-named x p (begins_name p) rp ENTITY (entity-rule p h.1.1) around allowed place cs small room h;
-    in_a_type = local-named x p (begins_name p) rp TYPE_ENTITY (type-entity-rule p h.1.1) around allowed place cs small room h;
-  };
-  as_piece = λ around allowed place cs small room h. absurd h;
-  as_encoding = λ around allowed place cs small room h. absurd h;
-  as_name = λ q ref around allowed place cs small room h.
-      name-nested around allowed (within x p) q ref place cs (joined_spelling around.encoding x p)
-      (λ at there enough. (joined-nested x p rx rp around allowed at cs small enough
-      (subst (λ y. joined_fits x p around allowed y cs) (sym there) h)).bare) room;
+  at = each;
   before = λ typed k kind around allowed place cs arguments elements items last are read kept small room h.
       let n : ℕ = around.encoding in
       let rest : Spelling = ended n (within x p) and of_elements elements in
@@ -256,13 +233,6 @@ reads-within x p rx rp = record {
       (h.2 none).0).instanced items last args are
       (elements-behind around allowed last arguments elements (within x p) w (place + 1) (place + length ((78 ∷ w.bytes) ++ [])) read
       (room-rest (joined_spelling n x p) rest (place + 1) cs inner) (omega (arith, length-append w.bytes [])) (h.2 none).1)));
-  as_argument = λ in_pack around allowed place cs small room h.
-      typed-argument in_pack around allowed (within x p) place cs _ (whole item_type around allowed place cs small room h);
-  as_items = λ around allowed place cs small room h. absurd h;
-  as_more_items = λ around allowed place cs small room h. absurd h;
-  as_parameters = λ ref around allowed place cs small room h. absurd h;
-  as_more_parameters = λ ref around allowed place cs small room h. absurd h;
-  as_elements = λ in_pack around allowed place cs small room h. absurd h;
 }
   where
     whole : (slot : Slot) → Leads (λ n. component n (within x p) (in_N_and_E [] (joined_spelling n x p)))
@@ -278,8 +248,33 @@ reads-within x p rx rp = record {
 
     as_types : (slot : Slot) → Leads (λ n. slot_way slot (ways_of n (within x p))) ((fits_of (within x p)).as_type slot)
         (λ around allowed. ReadsAs slot around allowed (within x p))
-    as_types any_type = whole any_type
-    as_types bare_type = whole bare_type
-    as_types item_type = whole item_type
-    as_types parameter_type = whole parameter_type
-    as_types literal_type = whole literal_type
+    as_types = each-slot _ (whole any_type) (whole bare_type) (whole item_type) (whole parameter_type) (whole literal_type)
+
+    each : ReadingAt (within x p)
+    each spot.as_type = as_types
+    each spot.as_prefix = λ around allowed place cs small room h.
+        fitting-in around allowed (within x p) (Extends around allowed (within x p)) place cs (joined_spelling around.encoding x p)
+        (begun_fits x p)
+        (prefix-behind-s around allowed (within x p)) (keeps-joined around.encoding x p) room h
+        (λ fits enough. (begun-extends x p rx rp around allowed place cs small enough fits).0)
+    each spot.as_prefix_template = λ around allowed place cs small room h.
+        fitting-in around allowed (within x p) (ExtendsWith around allowed (within x p)) place cs (joined_spelling around.encoding x p)
+        (begun_fits x p)
+        (extends-with-behind-s around allowed (within x p)) (keeps-joined around.encoding x p) room h
+        (λ fits enough. (begun-extends x p rx rp around allowed place cs small enough fits).1)
+    each spot.between = λ around allowed place cs small room h. (joined-nested x p rx rp around allowed place cs small room h).bare
+    each spot.between_template = λ around allowed place cs small room h. (joined-nested x p rx rp around allowed place cs small room h).instanced
+    each spot.as_entity = λ role around allowed place cs small room h.
+        within-entity x p rx rp role around allowed place cs small (is_encoding x) refl room h
+    each spot.as_entity_template = λ around allowed place cs small room h. record {
+      is = λ arguments. h.0;
+      in_name = local-named x p (begins_name p) rp ENTITY (entity-rule p h.1.1) around allowed place cs small room h;
+      in_a_type = local-named x p (begins_name p) rp TYPE_ENTITY (type-entity-rule p h.1.1) around allowed place cs small room h;
+    }
+    each spot.as_name = λ q ref around allowed place cs small room h.
+        name-nested around allowed (within x p) q ref place cs (joined_spelling around.encoding x p)
+        (λ at there enough. (joined-nested x p rx rp around allowed at cs small enough
+        (subst (λ y. joined_fits x p around allowed y cs) (sym there) h)).bare) room
+    each spot.as_argument = λ in_pack around allowed place cs small room h.
+        typed-argument in_pack around allowed (within x p) place cs _ (whole item_type around allowed place cs small room h)
+    each w = (reads-nowhere (within x p) (λ n. ways_of n (within x p))).at w

@@ -14,6 +14,7 @@ use Rattle.cpp_press_laws.proofs.Components.Complete.{EachStands, StandAmong, Al
 use Rattle.cpp_press_laws.proofs.Fits.Packs.{closed-packs}
 use Rattle.cpp_press_laws.proofs.Components.Again.{ItemStands, ItemsStand, FunctionStands}
 use Rattle.cpp_press_laws.specs.Fits.{Fitting, Slot, any_type, parameter_type, fits_of}
+use Rattle.cpp_press_laws.proofs.Fitting as fit
 use Rattle.cpp_press_laws.proofs.Components.AddedTrees.{adds}
 use Rattle.cpp_press_laws.proofs.Fits.Read.{pressed_at, FunctionsStand, Front, Fitted}
 use Rattle.cpp_press_laws.proofs.Fits.Types.{may-closed}
@@ -153,7 +154,7 @@ encoding-fitted around at e F s old new more shut grows before later into same i
   fits = λ n place cs allowed front allows. (
       let p = inner.fits place place cs allowed (front-inner around n place at cs old before front) allows in
       let f = into allowed place cs p.fits in
-      let added = (adds e).as_encoding allowed n n place cs f front.complete in
+      let added = ((adds e).at fit.as_encoding) allowed n n place cs f front.complete in
       let ds = ((ways_of n e).as_encoding place cs).components in
       record {
         fits = f;

@@ -11,6 +11,7 @@ use Rattle.cpp_press_laws.proofs.Components.Parts.{IsComponent, Whole, Has, stan
 use Rattle.cpp_press_laws.proofs.Components.Steps.{named-stands}
 use Rattle.cpp_press_laws.proofs.Components.NoneAdded.{prefix-none}
 use Rattle.cpp_press_laws.specs.Fits.{any_type, begins_name, IsAbbreviation, type_fits, fits_nowhere, fits_of, MayBeReferred}
+use Rattle.cpp_press_laws.proofs.Fitting as fit
 use Rattle.cpp_press_laws.proofs.Components.AddedTrees.{adds}
 use Rattle.cpp_press_laws.proofs.Fits.Read.{pressed_at}
 use Rattle.cpp_press_laws.proofs.Fits.References.{Referred, referred-fitted}
@@ -46,11 +47,11 @@ referred-so-far outer old new c r = record {
   apart = λ n place cs front. component-apart c.tree
       (named-stands outer.encoding n r.number c old.candidates cs front.among r.there r.named).0;
   prefix = referred-fitted outer (fits_of c.tree).as_prefix (λ n. (ways_of n c.tree).as_prefix) old new c (Whole c.tree) r
-      (λ n allowed. (adds c.tree).as_prefix (pressed_at n outer) allowed)
+      (λ n allowed. ((adds c.tree).at fit.as_prefix) (pressed_at n outer) allowed)
       (λ n allowed place cs may stands is complete has. (prefix-again c.tree is (pressed_at n outer) allowed may place cs has).0)
       (λ n place cs is complete has. prefix-none c.tree n place cs is has);
   template = referred-fitted outer (fits_of c.tree).as_prefix_template (λ n. (ways_of n c.tree).as_prefix) old new c (Whole c.tree) r
-      (λ n allowed. (adds c.tree).as_prefix_template (pressed_at n outer) allowed)
+      (λ n allowed. ((adds c.tree).at fit.as_prefix_template) (pressed_at n outer) allowed)
       (λ n allowed place cs may stands is complete has. (prefix-again c.tree is (pressed_at n outer) allowed may place cs has).1)
       (λ n place cs is complete has. prefix-none c.tree n place cs is has);
 }

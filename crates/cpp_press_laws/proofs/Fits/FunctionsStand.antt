@@ -7,7 +7,8 @@ use Rattle.cpp_grammar.specs.Values.{Around}
 use Rattle.cpp_grammar.specs.References.{packs_in}
 use Rattle.cpp_press_laws.specs.Components.{Component}
 use Rattle.cpp_press_laws.specs.Pressing.{ways_of}
-use Rattle.cpp_press_laws.specs.Fits.{Slot, any_type, bare_type, item_type, parameter_type, literal_type, type_fits, piece_fits, argument_fits, encoding_fits, fits_nowhere, fits_of, PacksFit}
+use Rattle.cpp_press_laws.specs.Fits.{Slot, any_type, parameter_type, type_fits, piece_fits, argument_fits, encoding_fits, fits_nowhere, fits_of, PacksFit}
+use Rattle.cpp_press_laws.proofs.Slots.{each-slot}
 use Rattle.cpp_press_laws.proofs.Components.AddedWays.{IsNotBare}
 use Rattle.cpp_press_laws.proofs.Components.Again.{ItemStands, ItemsStand, IsNoVoid, FunctionStands}
 
@@ -43,11 +44,7 @@ item-packs (function_type c_linkage noexcept ref returned parameters) slot other
 
     go : (slot : Slot) → IsNotBare slot → (fits_of own).as_type slot around allowed place cs → PacksFit around allowed
         (packs_in around.scope own)
-    go any_type h f = f.0.packs
-    go bare_type h f = absurd h
-    go item_type h f = f.0.packs
-    go parameter_type h f = f.0.packs
-    go literal_type h f = f.0.packs
+    go = each-slot _ (λ h f. f.0.packs) (λ h f. absurd h) (λ h f. f.0.packs) (λ h f. f.0.packs) (λ h f. f.0.packs)
 item-packs _ slot other around allowed place cs fits = search fits
 
 -- ## Lists

@@ -16,7 +16,10 @@ use Rattle.cpp_press_laws.proofs.Components.Known.{KeepsTo, text-keeps, and-keep
 use Rattle.cpp_press_laws.proofs.Components.KnownTrees.{keeps}
 use Rattle.cpp_press_laws.proofs.Components.Complete.{StandAmong}
 use Rattle.cpp_press_laws.proofs.Fits.FunctionsStand.{function-stands}
-use Rattle.cpp_press_laws.specs.Fits.{Fitting, Behind, as_component, Slot, any_type, bare_type, item_type, parameter_type, literal_type, takes_all, type_fits, fits_nowhere, fits_of}
+use Rattle.cpp_press_laws.specs.Fits.{Fitting, Behind, as_component, Slot, any_type, parameter_type, takes_all, type_fits, fits_nowhere, fits_of}
+use Rattle.cpp_press_laws.proofs.Slots.{each-slot}
+use Rattle.cpp_press_laws.proofs.Fitting as fit
+use Rattle.cpp_press_laws.proofs.Ways as way
 use Rattle.cpp_press_laws.proofs.Components.AddedWays.{way_at, IsNotBare}
 use Rattle.cpp_press_laws.proofs.Components.AddedTrees.{adds}
 use Rattle.cpp_press_laws.proofs.Fits.Read.{pressed_at, Fitted, refitted, text-fitted, and-fitted, bytes-fitted, fitted-bytes, component-fitted, behind-both}
@@ -160,20 +163,16 @@ function-fits around c_linkage noexcept ref a b old mid new one other = record {
         and-keeps Unit n (Whole t) (text marks) ((ways_of n a).as_type and (ways_of n b).as_parameters and text (mark_letter ref ++ codes "E"))
         (text-keeps Unit n (Whole t) marks)
         (and-keeps Unit n (Whole t) (ways_of n a).as_type ((ways_of n b).as_parameters and text (mark_letter ref ++ codes "E"))
-        ((keeps a Unit n (Whole t)).as_type (λ x w. inr (inl w)))
+        ((keeps a Unit n (Whole t) way.as_type) (λ x w. inr (inl w)))
         (and-keeps Unit n (Whole t) (ways_of n b).as_parameters (text (mark_letter ref ++ codes "E"))
-        ((keeps b Unit n (Whole t)).as_parameters (λ x i. inr (inr i))) (text-keeps Unit n (Whole t) (mark_letter ref ++ codes "E"))))
+        ((keeps b Unit n (Whole t) way.as_parameters) (λ x i. inr (inr i))) (text-keeps Unit n (Whole t) (mark_letter ref ++ codes "E"))))
 
     whole : Fitted around (as_component t (FunctionSpelled c_linkage noexcept a b)) (λ n. component n t (s n)) t old (appended around t new)
     whole = component-fitted around t (FunctionSpelled c_linkage noexcept a b) s old new tt kept
         (λ n allowed place cs fits. function-stands c_linkage noexcept ref a b (pressed_at n around) allowed _ _ _ _ fits.0 fits.1)
-        (λ n allowed place cs fits complete. ((adds t).as_type any_type (pressed_at n around) allowed place cs fits complete).complete)
+        (λ n allowed place cs fits complete. ((adds t).at fit.as_type any_type (pressed_at n around) allowed place cs fits complete).complete)
         spelled
 
     go : (slot : Slot) → IsNotBare slot → takes_all slot ≡ true
         → Fitted around ((fits_of t).as_type slot) (λ n. (ways_of n t).as_type) t old (appended around t new)
-    go any_type h take = whole
-    go bare_type h take = absurd h
-    go item_type h take = whole
-    go parameter_type h take = whole
-    go literal_type h take = absurd (false≢true take)
+    go = each-slot _ (λ h take. whole) (λ h take. absurd h) (λ h take. whole) (λ h take. whole) (λ h take. absurd (false≢true take))

@@ -14,6 +14,7 @@ use Rattle.cpp_press_laws.specs.Pressing.{no_ways, type_ways, entity_text, local
 use Rattle.cpp_press_laws.proofs.Components.Parts.{Whole}
 use Rattle.cpp_press_laws.proofs.Components.KnownTrees.{keeps}
 use Rattle.cpp_press_laws.specs.Fits.{Fitting, Behind, Slot, Role, in_type, in_name_with, letters_of, IsSpellableDiscriminator, type_fits, fits_nowhere, fits_of}
+use Rattle.cpp_press_laws.proofs.Ways as way
 use Rattle.cpp_press_laws.proofs.Fits.Read.{pressed_at, Fitted, refitted, and-fitted, bytes-fitted, fitted-bytes, component-fitted}
 use Rattle.cpp_press_laws.proofs.Fits.Types.{TypeFits, typed-complete, may-as}
 use Rattle.cpp_press_laws.proofs.Fits.Names.{respelled, moved}
@@ -65,7 +66,7 @@ unfolding fits_of type_fits fits_nowhere ways_of type_ways no_ways letters_of
 local-typed around e entity discriminator slot old mid new good one other =
     let own : Term = local e entity discriminator in
     component-fitted around own (LocalStanding e entity discriminator in_type) (local_spelling e entity discriminator in_type) old new tt
-    (λ n. (keeps own Unit n (Whole own)).as_name (λ x i. inr i) [])
+    (λ n. (keeps own Unit n (Whole own) way.as_name) (λ x i. inr i) [])
     (λ n allowed place cs fits. tt)
     (λ n allowed place cs fits complete. typed-complete own (λ m. refl) slot (pressed_at n around) allowed place cs fits complete)
     (local-fits around e entity discriminator in_type old mid new good one other)

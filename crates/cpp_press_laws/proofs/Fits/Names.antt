@@ -17,6 +17,8 @@ use Rattle.cpp_press_laws.proofs.Components.KnownTrees.{In, keeps}
 use Rattle.cpp_press_laws.proofs.Components.Complete.{Complete, StandAmong, among-ended}
 use Rattle.cpp_press_laws.proofs.Components.Again.{FunctionStands}
 use Rattle.cpp_press_laws.specs.Fits.{Fitting, Behind, as_component, one_piece, begins_name, names_function, names_member, fits_of, MayBeReferred}
+use Rattle.cpp_press_laws.proofs.Fitting as fit
+use Rattle.cpp_press_laws.proofs.Ways as way
 use Rattle.cpp_press_laws.proofs.Components.Adding.{AddsParts, tree-ended}
 use Rattle.cpp_press_laws.proofs.Components.AddedTrees.{adds}
 use Rattle.cpp_press_laws.proofs.Fits.Read.{pressed_at, functions-append, Fitted, refitted, and-fitted, bytes-fitted, fitted-bytes, component-fitted}
@@ -163,7 +165,7 @@ pub prefix-component : (around : Around) (t : Term) (F G : Fitting) (old now : S
     → Fitted around (as_component t G) (λ n. component n t (ways_of n t).between_N_and_E) t old (appended around t now)
 prefix-component around t F G old now is stands more whole one =
     component-fitted around t G (λ n. (ways_of n t).between_N_and_E) old now is
-    (λ n. (keeps t Unit n (Whole t)).between_N_and_E (λ x i. inr i))
+    (λ n. (keeps t Unit n (Whole t) way.between_N_and_E) (λ x i. inr i))
     (λ n allowed place cs fits. stands) whole
     (refitted around F G (λ n. (ways_of n t).between_N_and_E) t t old now more (λ n allowed may. may) one)
 
@@ -173,14 +175,14 @@ pub within-prefix : (around : Around) (t p : Term) (old now : State) → Between
 unfolding fits_of ways_of name_ways no_ways
 within-prefix around t p old now one =
     prefix-component around (within t p) (fits_of (within t p)).between _ old now tt tt (λ n allowed place cs joined. inr joined)
-    (λ n allowed place cs fits complete. ((adds (within t p)).as_prefix (pressed_at n around) allowed place cs fits complete).complete) one
+    (λ n allowed place cs fits complete. (((adds (within t p)).at fit.as_prefix) (pressed_at n around) allowed place cs fits complete).complete) one
 
 pub within-prefix-template : (around : Around) (t p : Term) (old now : State) → BetweenFits around (within t p) old now
     → TemplatePrefixFits around (within t p) old (appended around (within t p) now)
 unfolding fits_of ways_of name_ways no_ways
 within-prefix-template around t p old now one =
     prefix-component around (within t p) (fits_of (within t p)).between _ old now tt tt (λ n allowed place cs joined. inr joined)
-    (λ n allowed place cs fits complete. ((adds (within t p)).as_prefix_template (pressed_at n around) allowed place cs fits complete).complete) one
+    (λ n allowed place cs fits complete. (((adds (within t p)).at fit.as_prefix_template) (pressed_at n around) allowed place cs fits complete).complete) one
 
 -- ## A piece after St
 
@@ -198,7 +200,7 @@ pub std-prefix : (around : Around) (p : Term) (old now : State) → BetweenFits 
 unfolding fits_of ways_of name_ways no_ways
 std-prefix around p old now one =
     prefix-component around (in_std p) (fits_of (in_std p)).between _ old now tt tt (λ n allowed place cs fits. fits)
-    (λ n allowed place cs fits complete. ((adds (in_std p)).as_prefix (pressed_at n around) allowed place cs fits complete).complete) one
+    (λ n allowed place cs fits complete. (((adds (in_std p)).at fit.as_prefix) (pressed_at n around) allowed place cs fits complete).complete) one
 
 -- ## Arguments after a template name
 
@@ -220,14 +222,14 @@ instance-between around t a old mid now is stands one other =
     (and-fitted around (fits_of t).between_template (arguments_standing a) (λ n. s n and ended n t) (arguments_text a) t a (instance t a)
     old (appended around t mid) now (instance-may around t a)
     (ended-fitted around t (fits_of t).between_template s old mid is stands
-    (λ n allowed place cs fits complete. (adds t).between_template (pressed_at n around) allowed place cs fits complete) one)
+    (λ n allowed place cs fits complete. ((adds t).at fit.between_template) (pressed_at n around) allowed place cs fits complete) one)
     (arguments-fitted around a (appended around t mid) now other))
 
 -- arguments add nothing but what is in them
 pub arguments-keep : (n : ℕ) (R : Term → Type 0) (a : Term) → In (Inside a) R → KeepsTo Unit n R (arguments_text a n)
 arguments-keep n R a inside =
     and-keeps Unit n R (text (codes "I")) ((ways_of n a).as_elements and text (codes "E")) (text-keeps Unit n R (codes "I"))
-    (and-keeps Unit n R (ways_of n a).as_elements (text (codes "E")) ((keeps a Unit n R).as_elements inside) (text-keeps Unit n R (codes "E")))
+    (and-keeps Unit n R (ways_of n a).as_elements (text (codes "E")) ((keeps a Unit n R way.as_elements) inside) (text-keeps Unit n R (codes "E")))
 
 -- as a prefix
 pub instance-prefix : (around : Around) (t a : Term) (old mid now : State) → TemplatePrefixFits around t old mid
@@ -239,10 +241,10 @@ instance-prefix around t a old mid now one other =
     component-fitted around own (λ inner allowed place cs. (fits_of t).as_prefix_template inner allowed place cs
     × Behind (s inner.encoding) (arguments_standing a inner allowed) place cs) (λ n. s n and arguments_text a n) old now tt
     (λ n. and-keeps Unit n (Whole own) (s n) (arguments_text a n)
-    ((keeps t Unit n (Whole own)).as_prefix (λ x w. inr (inl (prefix-whole t x (Inside t x) w))))
+    ((keeps t Unit n (Whole own) way.as_prefix) (λ x w. inr (inl (prefix-whole t x (Inside t x) w))))
     (arguments-keep n (Whole own) a (λ x i. inr (inr i))))
     (λ n allowed place cs fits. tt)
-    (λ n allowed place cs fits complete. ((adds own).as_prefix (pressed_at n around) allowed place cs fits complete).complete)
+    (λ n allowed place cs fits complete. ((adds own).at fit.as_prefix (pressed_at n around) allowed place cs fits complete).complete)
     (and-fitted around (fits_of t).as_prefix_template (arguments_standing a) s (arguments_text a) t a own old mid now (instance-may around t a) one
     (arguments-fitted around a mid now other))
 
@@ -255,6 +257,6 @@ unfolding fits_of ways_of name_ways no_ways is_open pack_length
 alone-prefix around p old now outer begins one =
     prefix-component around (alone p) (fits_of p).as_piece (one_piece outermost (begins_name p) (fits_of p).as_piece) old now tt tt
     (λ n allowed place cs fits. (outer, begins, fits))
-    (λ n allowed place cs fits complete. ((adds (alone p)).as_prefix (pressed_at n around) allowed place cs fits complete).complete)
+    (λ n allowed place cs fits complete. (((adds (alone p)).at fit.as_prefix) (pressed_at n around) allowed place cs fits complete).complete)
     (refitted around (fits_of p).as_piece (fits_of p).as_piece (λ n. (ways_of n p).as_piece) p (alone p) old now (λ n allowed place cs fits. fits)
     (λ n allowed may. may-as (pressed_at n around) allowed p (alone p) refl (λ arguments. refl) may) one)

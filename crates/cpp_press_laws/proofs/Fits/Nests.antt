@@ -12,6 +12,7 @@ use Rattle.cpp_press_laws.proofs.Components.Parts.{IsComponent, Whole}
 use Rattle.cpp_press_laws.proofs.Components.Known.{KeepsTo, in-N-and-E-keeps}
 use Rattle.cpp_press_laws.proofs.Components.KnownTrees.{keeps}
 use Rattle.cpp_press_laws.specs.Fits.{Fitting, Slot, Role, letters_of, by_letters, fits_of}
+use Rattle.cpp_press_laws.proofs.Ways as way
 use Rattle.cpp_press_laws.proofs.Fits.Read.{pressed_at, Fitted, Wherever, fitted-wherever, refitted, bytes-fitted, fitted-bytes, component-fitted}
 use Rattle.cpp_press_laws.proofs.Fits.Types.{TypeFits, typed-complete}
 use Rattle.cpp_press_laws.proofs.Fits.Names.{respelled, PrefixFits, BetweenFits, ElementsFit, arguments_text, arguments-keep, within-prefix, std-prefix, instance-between, instance-prefix}
@@ -93,7 +94,7 @@ within-nest around t p old now apart one = record {
   prefix = within-prefix around t p old now one;
   typed = λ slot. component-fitted around own (λ inner allowed place cs. (fits_of own).between inner allowed (place + 1) cs)
       (λ n. in_N_and_E [] (between n)) old now tt
-      (λ n. in-N-and-E-keeps Unit n (Whole own) [] (between n) ((keeps own Unit n (Whole own)).between_N_and_E (λ x i. inr i)))
+      (λ n. in-N-and-E-keeps Unit n (Whole own) [] (between n) ((keeps own Unit n (Whole own) way.between_N_and_E) (λ x i. inr i)))
       (λ n allowed place cs fits. tt)
       (λ n allowed place cs fits complete. typed-complete own (λ m. refl) slot (pressed_at n around) allowed place cs fits complete)
       (nested-fitted around [] (fits_of own).between between own old now one);
@@ -143,8 +144,8 @@ std-nest around p old now one = record {
 
     text-keep : (n : ℕ) (b : Bool)
         → KeepsTo Unit n (Whole own) (elim b as (λ _. Spelling) [ true ↦ in_N_and_E [] (between n) | false ↦ between n ])
-    text-keep n true = in-N-and-E-keeps Unit n (Whole own) [] (between n) ((keeps own Unit n (Whole own)).between_N_and_E (λ x i. inr i))
-    text-keep n false = (keeps own Unit n (Whole own)).between_N_and_E (λ x i. inr i)
+    text-keep n true = in-N-and-E-keeps Unit n (Whole own) [] (between n) ((keeps own Unit n (Whole own) way.between_N_and_E) (λ x i. inr i))
+    text-keep n false = (keeps own Unit n (Whole own) way.between_N_and_E) (λ x i. inr i)
 
     spelled : (b : Bool) → Fitted around (λ inner allowed place cs. std inner allowed
         (place + length (elim b as (λ _. List ℕ) [ true ↦ codes "N" | false ↦ [] ])) cs)
@@ -169,7 +170,7 @@ instance-nest around t a old mid now one other =
       between = between;
       prefix = instance-prefix around t a old (appended around t mid) now one.prefix other;
       typed = λ slot. component-fitted around (instance t a) _ _ old now tt
-          (λ n. (keeps t Unit n (Whole (instance t a))).before (λ x w. inr (inl w)) true (arguments_text a n)
+          (λ n. (keeps t Unit n (Whole (instance t a)) way.before) (λ x w. inr (inl w)) true (arguments_text a n)
           (arguments-keep n (Whole (instance t a)) a (λ x i. inr (inr i))))
           (λ n allowed place cs fits. tt)
           (λ n allowed place cs fits complete.

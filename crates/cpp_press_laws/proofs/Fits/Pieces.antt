@@ -12,6 +12,8 @@ use Rattle.cpp_press_laws.specs.Pressing.{no_ways, name_ways, in_N_and_E, with_l
 use Rattle.cpp_press_laws.proofs.Components.Parts.{Whole}
 use Rattle.cpp_press_laws.proofs.Components.KnownTrees.{keeps}
 use Rattle.cpp_press_laws.specs.Fits.{Fitting, Slot, Role, letters_of, IsWithoutLetters, one_piece, begins_name, names_type, names_function, names_in, by_letters, fits_of}
+use Rattle.cpp_press_laws.proofs.Fitting as fit
+use Rattle.cpp_press_laws.proofs.Ways as way
 use Rattle.cpp_press_laws.proofs.Components.AddedWays.{in-component}
 use Rattle.cpp_press_laws.proofs.Components.AddedTrees.{adds}
 use Rattle.cpp_press_laws.proofs.Fits.Read.{pressed_at, Fitted, refitted, component-fitted}
@@ -36,7 +38,7 @@ pub alone-typed : (around : Around) (p : Term) (slot : Slot) (old now : State) �
 unfolding fits_of ways_of name_ways no_ways
 alone-typed around p slot old now outer names one =
     component-fitted around (alone p) (one_piece outermost (names_type p) (fits_of p).as_piece) (λ n. (ways_of n p).as_piece) old now tt
-    (λ n. (keeps p Unit n (Whole (alone p))).as_piece (λ x i. inr i))
+    (λ n. (keeps p Unit n (Whole (alone p)) way.as_piece) (λ x i. inr i))
     (λ n allowed place cs fits. tt)
     (λ n allowed place cs fits complete. typed-complete (alone p) (λ m. refl) slot (pressed_at n around) allowed place cs fits complete)
     (refitted around (fits_of p).as_piece _ (λ n. (ways_of n p).as_piece) (alone p) (alone p) old now
@@ -60,7 +62,7 @@ unfolding fits_of ways_of name_ways no_ways
 alone-prefix-template around p old now outer begins one =
     prefix-component around (alone p) (fits_of p).as_piece (one_piece outermost (begins_name p) (fits_of p).as_piece) old now tt tt
     (λ n allowed place cs fits. (outer, begins, fits))
-    (λ n allowed place cs fits complete. ((adds (alone p)).as_prefix_template (pressed_at n around) allowed place cs fits complete).complete)
+    (λ n allowed place cs fits complete. (((adds (alone p)).at fit.as_prefix_template) (pressed_at n around) allowed place cs fits complete).complete)
     (alone-piece around p old now one)
 
 -- before arguments, in a type or in an encoding's own name
@@ -78,10 +80,10 @@ alone-before around p a typed old mid now outer names one other =
     let spelled = refitted around (fits_of p).as_piece H s own own old mid (λ n allowed place cs fits. (outer, names, fits))
     (λ n allowed may. may) (alone-piece around p old mid one) in
     template-fitted around own a false H H s s s old mid now
-    (component-fitted around own H s old mid tt (λ n. (keeps p Unit n (Whole own)).as_piece (λ x i. inr i)) (λ n allowed place cs fits. tt)
+    (component-fitted around own H s old mid tt (λ n. (keeps p Unit n (Whole own) way.as_piece) (λ x i. inr i)) (λ n allowed place cs fits. tt)
     (λ n allowed place cs fits complete. (in-component (pressed_at n around) allowed own H (s n)
-    (λ at ds piece all. (adds p).as_piece (pressed_at n around) allowed at ds piece.2 all) place cs fits complete).complete) spelled)
-    (spelled-before around own a H s old mid now tt tt (λ n allowed place cs fits complete. (adds p).as_piece (pressed_at n around) allowed place
+    (λ at ds piece all. ((adds p).at fit.as_piece) (pressed_at n around) allowed at ds piece.2 all) place cs fits complete).complete) spelled)
+    (spelled-before around own a H s old mid now tt tt (λ n allowed place cs fits complete. ((adds p).at fit.as_piece) (pressed_at n around) allowed place
     cs fits.2 complete) spelled other)
     other
 
@@ -124,7 +126,7 @@ unfolding fits_of ways_of name_ways no_ways
 local-prefix around e p old now is scoped begins one =
     prefix-component around (within e p) (fits_of p).as_piece _ old now tt tt
     (λ n allowed place cs fits. inl (is, (scoped, begins, fits)))
-    (λ n allowed place cs fits complete. ((adds (within e p)).as_prefix (pressed_at n around) allowed place cs fits complete).complete)
+    (λ n allowed place cs fits complete. (((adds (within e p)).at fit.as_prefix) (pressed_at n around) allowed place cs fits complete).complete)
     (local-piece around e p old now is one)
 
 pub local-prefix-template : (around : Around) (e p : Term) (old now : State) → is_encoding e ≡ true → around.prefix ≡ behind e true
@@ -133,7 +135,7 @@ unfolding fits_of ways_of name_ways no_ways
 local-prefix-template around e p old now is scoped begins one =
     prefix-component around (within e p) (fits_of p).as_piece _ old now tt tt
     (λ n allowed place cs fits. inl (is, (scoped, begins, fits)))
-    (λ n allowed place cs fits complete. ((adds (within e p)).as_prefix_template (pressed_at n around) allowed place cs fits complete).complete)
+    (λ n allowed place cs fits complete. (((adds (within e p)).at fit.as_prefix_template) (pressed_at n around) allowed place cs fits complete).complete)
     (local-piece around e p old now is one)
 
 -- an entity of one piece
@@ -166,4 +168,4 @@ local-instance-entity around e p a role old mid now is scoped begins none one ot
     (refitted around _ ((fits_of whole).as_entity role) s whole whole old now
     (λ n allowed place cs fits. inl (subst IsWithoutLetters (sym none) tt, fits.0, fits.1)) (λ n allowed may. may)
     (spelled-before around own a H between old mid now tt tt
-    (λ n allowed place cs fits complete. (adds own).as_entity_template (pressed_at n around) allowed place cs fits complete) piece other))
+    (λ n allowed place cs fits complete. ((adds own).at fit.as_entity_template) (pressed_at n around) allowed place cs fits complete) piece other))

@@ -19,6 +19,8 @@ use Rattle.cpp_press_laws.proofs.Components.Steps.{Allows, named-stands}
 use Rattle.cpp_press_laws.proofs.Fits.Packs.{PacksNamed, packs-named}
 use Rattle.cpp_press_laws.proofs.Components.Again.{ItemStands, FunctionStands, item-again, function-again, once}
 use Rattle.cpp_press_laws.specs.Fits.{Fitting, Slot, any_type, bare_type, item_type, parameter_type, literal_type, type_fits, piece_fits, argument_fits, encoding_fits, fits_nowhere, fits_of, PacksFit, MayBeReferred}
+use Rattle.cpp_press_laws.proofs.Slots.{each-slot}
+use Rattle.cpp_press_laws.proofs.Fitting as fit
 use Rattle.cpp_press_laws.proofs.Components.AddedWays.{way_at, IsNotBare}
 use Rattle.cpp_press_laws.proofs.Components.AddedTrees.{adds}
 use Rattle.cpp_press_laws.proofs.Components.Adding.{Adds, AddsParts}
@@ -138,7 +140,7 @@ referred-solid takes around old new c r = record {
       (λ n place cs is complete has. type-none c.tree n place cs (λ _. has));
   bare = λ take. subst (λ s. BareFits around c.tree old s) (sym (unlisted around c.tree new))
       (referred-fitted around ((fits_of c.tree).as_type bare_type) (λ n. (ways_of n c.tree).under_qualifiers) old new c (Unqualified c.tree) r
-      (λ n allowed. (adds c.tree).as_type bare_type (pressed_at n around) allowed)
+      (λ n allowed. ((adds c.tree).at fit.as_type) bare_type (pressed_at n around) allowed)
       (λ n allowed place cs may stands is complete has.
       bare-again c.tree is (pressed_at n around) allowed stands may place cs complete has)
       (λ n place cs is complete has. bare-none c.tree n place cs is complete has));
@@ -146,11 +148,7 @@ referred-solid takes around old new c r = record {
   where
     typed : (slot : Slot) → IsNotBare slot → (n : ℕ) (allowed : Option ℕ)
         → Adds n (Whole c.tree) ((fits_of c.tree).as_type slot (pressed_at n around) allowed) (ways_of n c.tree).as_type
-    typed any_type h n allowed = (adds c.tree).as_type any_type (pressed_at n around) allowed
-    typed bare_type h n allowed = absurd h
-    typed item_type h n allowed = (adds c.tree).as_type item_type (pressed_at n around) allowed
-    typed parameter_type h n allowed = (adds c.tree).as_type parameter_type (pressed_at n around) allowed
-    typed literal_type h n allowed = (adds c.tree).as_type literal_type (pressed_at n around) allowed
+    typed = each-slot _ (λ h n allowed. ((adds c.tree).at fit.as_type) any_type (pressed_at n around) allowed) (λ h n allowed. absurd h) (λ h n allowed. ((adds c.tree).at fit.as_type) item_type (pressed_at n around) allowed) (λ h n allowed. ((adds c.tree).at fit.as_type) parameter_type (pressed_at n around) allowed) (λ h n allowed. ((adds c.tree).at fit.as_type) literal_type (pressed_at n around) allowed)
 
 -- ## Substitutions that aren't refused
 

@@ -22,7 +22,9 @@ use Rattle.cpp_press_laws.proofs.Components.Parts.{Whole}
 use Rattle.cpp_press_laws.proofs.Components.Known.{text-keeps}
 use Rattle.cpp_press_laws.proofs.Components.KnownTrees.{keeps}
 use Rattle.cpp_press_laws.proofs.Fits.Packs.{PacksNamed, packs-named}
-use Rattle.cpp_press_laws.specs.Fits.{Fitting, Slot, any_type, bare_type, takes_all, IsBuiltin, IsAbbreviation, NamesArgument, type_fits, fits_nowhere, fits_of, item_type, parameter_type, literal_type, PacksFit}
+use Rattle.cpp_press_laws.specs.Fits.{Fitting, Slot, any_type, bare_type, takes_all, IsBuiltin, IsAbbreviation, NamesArgument, type_fits, fits_nowhere, fits_of, PacksFit}
+use Rattle.cpp_press_laws.proofs.Slots.{each-slot}
+use Rattle.cpp_press_laws.proofs.Ways as way
 use Rattle.cpp_press_laws.proofs.Components.Complete.{StandAmong}
 use Rattle.cpp_press_laws.proofs.Fits.Read.{pressed_at, FunctionsStand, Fitted, text-fitted, and-fitted}
 use Rattle.cpp_press_laws.proofs.Fits.Types.{may-closed, SolidFits, spelled-solid, typed-complete}
@@ -75,11 +77,7 @@ unfolding takes_all
 builtin-solid around byte state small is = builtin-fits takes_all around (byte ∷ []) state slots
   where
     slots : (slot : Slot) → takes_all slot ≡ true → IsBuiltin slot (byte ∷ [])
-    slots any_type take = (small, is)
-    slots bare_type take = (small, is)
-    slots item_type take = (small, is)
-    slots parameter_type take = (small, is)
-    slots literal_type take = absurd (false≢true take)
+    slots = each-slot _ (λ take. (small, is)) (λ take. (small, is)) (λ take. (small, is)) (λ take. (small, is)) (λ take. absurd (false≢true take))
 
 -- the same after a D
 pub builtin-with-d : (around : Around) (byte : ℕ) (state : State) → byte < 256 → choose Kind.AfterD byte ≡ Some Production.BuiltinWithD
@@ -88,11 +86,7 @@ unfolding takes_all
 builtin-with-d around byte state small is = builtin-fits takes_all around (68 ∷ byte ∷ []) state slots
   where
     slots : (slot : Slot) → takes_all slot ≡ true → IsBuiltin slot (68 ∷ byte ∷ [])
-    slots any_type take = (refl, small, is)
-    slots bare_type take = (refl, small, is)
-    slots item_type take = (refl, small, is)
-    slots parameter_type take = (refl, small, is)
-    slots literal_type take = absurd (false≢true take)
+    slots = each-slot _ (λ take. (refl, small, is)) (λ take. (refl, small, is)) (λ take. (refl, small, is)) (λ take. (refl, small, is)) (λ take. absurd (false≢true take))
 
 -- ## Parameters
 
@@ -199,7 +193,7 @@ instance-fits takes around t a old new one =
     spelled-solid takes around own (λ slot. (fits_of t).before true (arguments_standing a)) s old new
     (record {
       is = tt;
-      keeps = λ n. (keeps t Unit n (Whole own)).before (λ x w. inr (inl w)) true (arguments_text a n)
+      keeps = λ n. (keeps t Unit n (Whole own) way.before) (λ x w. inr (inl w)) true (arguments_text a n)
           (arguments-keep n (Whole own) a (λ x i. inr (inr i)));
       function = tt;
       whole = λ slot n allowed place cs. typed-complete own (λ m. refl) slot (pressed_at n around) allowed place cs;

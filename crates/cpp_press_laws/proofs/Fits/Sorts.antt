@@ -10,8 +10,9 @@ use Rattle.cpp_grammar.specs.References.{with_type, with_prefix, appended, is_fu
 use Rattle.cpp_grammar.specs.Between.{after, no_items, under_expansion}
 use Rattle.cpp_grammar.specs.Meaning.{signature_or, meaning, listed_value, reference_to, with_item, parameters}
 use Rattle.cpp_grammar.specs.Unfolding as unfolding_
-use Rattle.cpp_press_laws.specs.Fits.{Slot, any_type, bare_type, item_type, parameter_type, literal_type, takes_all, takes_qualified, takes_expansions, has_letters, IsAbbreviation}
+use Rattle.cpp_press_laws.specs.Fits.{Slot, any_type, item_type, parameter_type, literal_type, takes_all, takes_qualified, takes_expansions, has_letters, IsAbbreviation}
 use Rattle.cpp_press_laws.specs.Spellable.{AreSpellableDigits}
+use Rattle.cpp_press_laws.proofs.Slots.{each-slot}
 use Rattle.cpp_press_laws.proofs.Components.AddedWays.{IsNotBare}
 use Rattle.cpp_press_laws.proofs.Fits.Types.{TypeFits, BareFits, SolidFits, lvalue-fits, rvalue-fits, qualified-fits, pointer-fits, complex-fits, array-fits, vector-fits, member-pointer-fits}
 use Rattle.cpp_press_laws.proofs.Fits.Lists.{ListFits, IsList, nil-fits, list-fits, parameters-fit, function-fits}
@@ -141,11 +142,7 @@ plain-with-d around byte began v old new one = one.bare refl
 
 item-slots : (slot : Slot) → takes_expansions slot ≡ true → takes_all slot ≡ true
 unfolding takes_all takes_expansions
-item-slots any_type take = refl
-item-slots bare_type take = refl
-item-slots item_type take = refl
-item-slots parameter_type take = refl
-item-slots literal_type take = take
+item-slots = each-slot _ (λ take. refl) (λ take. refl) (λ take. refl) (λ take. refl) (λ take. take)
 
 pub item-is-type : (around : Around) (byte : ℕ) (began : State) (v : Value) (old new : State) → SolidFits takes_all around v old new
     → KindFits Kind.ItemAfterD around (Meant Production.ItemIsType byte around (v ∷ [])) old

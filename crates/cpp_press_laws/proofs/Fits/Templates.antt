@@ -15,6 +15,7 @@ use Rattle.cpp_press_laws.proofs.Components.AddedTrees.{adds}
 use Rattle.cpp_press_laws.proofs.Components.Again.{FunctionStands}
 use Rattle.cpp_press_laws.proofs.Components.Complete.{Complete, StandAmong}
 use Rattle.cpp_press_laws.specs.Fits.{Standing, Fitting, Behind, as_component, as_template, fits_of}
+use Rattle.cpp_press_laws.proofs.Fitting as fit
 use Rattle.cpp_press_laws.proofs.Fits.Read.{pressed_at, Fitted, Wherever, refitted, behind-both, and-fitted, bytes-fitted, fitted-bytes}
 use Rattle.cpp_press_laws.proofs.Fits.Names.{respelled, ended-fitted, BetweenFits, TemplateBetweenFits, TemplatePrefixFits, within-prefix, within-prefix-template, std-prefix, ElementsFit, arguments_standing, arguments_text, arguments-fitted, instance-may}
 
@@ -173,7 +174,7 @@ within-template around t p old mid apart one = record {
       (within-prefix around t p old mid one)
       (nested-before around own a (fits_of own).between between _ old now
       (spelled-before around own a (fits_of own).between between old mid now tt tt
-      (λ n allowed place cs fits complete. (adds own).between (pressed_at n around) allowed place cs fits complete) one other))
+      (λ n allowed place cs fits complete. ((adds own).at fit.between) (pressed_at n around) allowed place cs fits complete) one other))
       other);
 }
 
@@ -222,7 +223,7 @@ std-template around p old mid one = record {
         ))
         (λ n allowed may. may)
         (spelled-before around own a std between old mid now tt tt
-        (λ n allowed place cs fits complete. (adds own).between (pressed_at n around) allowed place cs fits complete) one other))
+        (λ n allowed place cs fits complete. ((adds own).at fit.between) (pressed_at n around) allowed place cs fits complete) one other))
         other
 
     nested : (a : Term) (now : State) → ElementsFit around a (appended around own mid) now
@@ -232,7 +233,7 @@ std-template around p old mid one = record {
         template-fitted around own a true std _ between (front true) between old mid now (std-prefix around p old mid one)
         (nested-before around own a std between _ old now
         (spelled-before around own a std between old mid now tt tt
-        (λ n allowed place cs fits complete. (adds own).between (pressed_at n around) allowed place cs fits complete) one other))
+        (λ n allowed place cs fits complete. ((adds own).at fit.between) (pressed_at n around) allowed place cs fits complete) one other))
         other
 
     at-once : (n : ℕ) (allowed : Option ℕ) (place : ℕ) (cs : List Component) → std (pressed_at n around) allowed place cs

@@ -19,6 +19,8 @@ use Rattle.cpp_press_laws.proofs.Fits.Packs.{closed-packs}
 use Rattle.cpp_press_laws.proofs.Components.Again.{FunctionStands}
 use Rattle.cpp_press_laws.proofs.Fits.FunctionsStand.{first-fits}
 use Rattle.cpp_press_laws.specs.Fits.{Fitting, Behind, as_component, Slot, any_type, bare_type, item_type, parameter_type, literal_type, takes_all, takes_qualified, has_letters, type_fits, fits_nowhere, fits_of, PacksFit, MayBeReferred}
+use Rattle.cpp_press_laws.proofs.Fitting as fit
+use Rattle.cpp_press_laws.proofs.Ways as way
 use Rattle.cpp_press_laws.proofs.Components.AddedWays.{way_at, IsNotBare}
 use Rattle.cpp_press_laws.proofs.Components.AddedTrees.{adds}
 use Rattle.cpp_press_laws.proofs.Fits.Read.{pressed_at, Fitted, refitted, and-fitted, bytes-fitted, component-fitted, behind-both}
@@ -101,16 +103,16 @@ pub typed-complete : (t : Term) → ((n : ℕ) → (ways_of n t).under_qualifier
     → Complete ((ways_of around.encoding t).as_type place cs).components
 unfolding way_at
 typed-complete t alike any_type around allowed place cs fits complete =
-    ((adds t).as_type any_type around allowed place cs fits complete).complete
+    ((adds t).at fit.as_type any_type around allowed place cs fits complete).complete
 typed-complete t alike item_type around allowed place cs fits complete =
-    ((adds t).as_type item_type around allowed place cs fits complete).complete
+    ((adds t).at fit.as_type item_type around allowed place cs fits complete).complete
 typed-complete t alike parameter_type around allowed place cs fits complete =
-    ((adds t).as_type parameter_type around allowed place cs fits complete).complete
+    ((adds t).at fit.as_type parameter_type around allowed place cs fits complete).complete
 typed-complete t alike literal_type around allowed place cs fits complete =
-    ((adds t).as_type literal_type around allowed place cs fits complete).complete
+    ((adds t).at fit.as_type literal_type around allowed place cs fits complete).complete
 typed-complete t alike bare_type around allowed place cs fits complete =
     subst (λ w. Complete (w place cs).components) (alike around.encoding)
-    ((adds t).as_type bare_type around allowed place cs fits complete).complete
+    ((adds t).at fit.as_type bare_type around allowed place cs fits complete).complete
 
 -- what a component of its own is that is no function type
 pub record Spelled (around : Around) (t : Term) (G : Slot → Fitting) (s : ℕ → Spelling) : Type 0 where
@@ -138,7 +140,7 @@ spelled-solid takes around t G s old new spelled one = record {
 -- after bytes, a type that adds nothing else
 pub bytes-keep : (n : ℕ) (t a : Term) (bytes : List ℕ) → In (Whole a) (Whole t) → KeepsTo Unit n (Whole t) (text bytes and (ways_of n a).as_type)
 bytes-keep n t a bytes inside =
-    and-keeps Unit n (Whole t) (text bytes) (ways_of n a).as_type (text-keeps Unit n (Whole t) bytes) ((keeps a Unit n (Whole t)).as_type inside)
+    and-keeps Unit n (Whole t) (text bytes) (ways_of n a).as_type (text-keeps Unit n (Whole t) bytes) ((keeps a Unit n (Whole t) way.as_type) inside)
 
 -- a component of one type after bytes
 pub one-part : (takes : Slot → Bool) (around : Around) (t a : Term) (bytes : List ℕ) (G : Slot → Fitting) (old new : State)
@@ -254,8 +256,8 @@ member-pointer-fits takes around a b old mid new one other =
     (record {
       is = tt;
       keeps = λ n. and-keeps Unit n (Whole t) (text (codes "M")) (s n and r n) (text-keeps Unit n (Whole t) (codes "M"))
-          (and-keeps Unit n (Whole t) (s n) (r n) ((keeps a Unit n (Whole t)).as_type (λ x w. inr (inl w)))
-          ((keeps b Unit n (Whole t)).as_type (λ x w. inr (inr w))));
+          (and-keeps Unit n (Whole t) (s n) (r n) ((keeps a Unit n (Whole t) way.as_type) (λ x w. inr (inl w)))
+          ((keeps b Unit n (Whole t) way.as_type) (λ x w. inr (inr w))));
       function = tt;
       whole = λ slot n allowed place cs. typed-complete t (λ m. refl) slot (pressed_at n around) allowed place cs;
     }) (λ slot take. refitted around (λ inner allowed place cs. both inner allowed (place + 1) cs) (G slot)
@@ -283,7 +285,7 @@ qualified-fits around q a slot old new take letters one =
     (record {
       is = tt;
       keeps = λ n. and-keeps Unit n (Whole t) (text bytes) (ways_of n a).under_qualifiers (text-keeps Unit n (Whole t) bytes)
-          ((keeps a Unit n (Whole t)).under_qualifiers (λ x w. inr w));
+          ((keeps a Unit n (Whole t) way.under_qualifiers) (λ x w. inr w));
       function = tt;
       whole = λ slot n allowed place cs. typed-complete t (λ m. refl) slot (pressed_at n around) allowed place cs;
     }) (refitted around F (G slot) s a t old new (λ n allowed place cs fits. (take, letters, fits))

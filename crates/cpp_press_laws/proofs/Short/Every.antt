@@ -5,7 +5,8 @@ use Rattle.sym_shape.specs.declared.rule.Rule.{Rule}
 use Rattle.sym_shape.specs.Tree.{Tree as Shape, Forest, branch, empty, spell}
 use Rattle.sym_link.specs.Unfold.{found}
 use Rattle.cpp_grammar.specs.declared.kind.Kind.{Kind}
-use Rattle.cpp_grammar.specs.Grammar.{alternatives, number_of_kind, may_be_empty}
+use Rattle.cpp_grammar.specs.declared.production.Production.{Production}
+use Rattle.cpp_grammar.specs.Grammar.{Alternative, alternatives, number_of, number_of_kind, may_be_empty}
 use Rattle.cpp_grammar.specs.Values.{State, Around, Value, nothing_there}
 use Rattle.cpp_grammar.specs.Unfolding.{cpp}
 use Rattle.cpp_grammar.proofs.Choosing.{empty_at_kind}
@@ -17,332 +18,140 @@ use Rattle.cpp_grammar.specs.Values.{is_there}
 use Rattle.cpp_grammar.specs.Meaning.{discriminator_of}
 use Rattle.cpp_press_laws.specs.Texts.{discriminator_text}
 use Rattle.cpp_press_laws.proofs.Short.Size.{size}
-use Rattle.cpp_press_laws.proofs.Short.Gains.{AllSmall, class_of, grant, SmallPrefix, ready_for, Ready, need, loan, returned, held, IsKnown, IsKept, Gained, KindGains, ShapeGains}
+use Rattle.cpp_press_laws.proofs.Short.Gains.{AllSmall, Class, name, type, unread, Gains, lent, class_of, grant, SmallPrefix, ready_for, Ready, need, loan, returned, held, IsKnown, IsKept, Gained, KindGains, ShapeGains, leaf, mark, second, offset, discriminator, unit, rest, items, whole, bare, operands}
 use Rattle.cpp_press_laws.proofs.Short.Paid.{Ended, ended-of}
-use Rattle.cpp_press_laws.proofs.Short.Types.{abbreviated-type-gains, abbreviation-gains, address-expression-gains, addressed-gains, any-array-gains, argument-with-t-gains, array-gains, array-type-gains, boolean-gains, builtin-gains, builtin-with-d-gains, character-gains, complex-gains, encoding-literal-gains, expansion-gains, expression-gains, function-gains, item-is-type-gains, item-with-d-gains, literal-with-d-gains, member-gains, noexcept-gains, null-gains, operation-gains, plain-argument-gains, plain-type-gains, pointer-gains, reference-gains, type-in-std-gains, type-with-d-gains, vector-gains, vendor-gains}
-use Rattle.cpp_press_laws.proofs.Short.Lists.{any-argument-gains, any-element-gains, arguments-gains, covariant-thunk-gains, discriminator-gains, encoding-gains, given-gains, internal-piece-gains, items-gains, lambda-gains, leaf-mark-gains, literal-argument-gains, literal-element-gains, literal-operator-gains, local-type-piece-gains, lvalue-item-gains, many-digits-gains, mark-mark-gains, negative-gains, offset-gains, one-digit-gains, operator-a-gains, operator-c-gains, operator-d-gains, operator-e-gains, operator-g-gains, operator-i-gains, operator-l-gains, operator-m-gains, operator-n-gains, operator-o-gains, operator-p-gains, operator-piece-gains, operator-r-gains, operator-s-gains, other-special-gains, pack-argument-gains, positive-gains, ref-end-gains, rest-end-gains, rest-item-gains, rest-lvalue-gains, rest-rvalue-gains, rvalue-item-gains, second-mark-gains, source-piece-gains, special-gains, special-name-gains, special-type-gains, suffix-byte-gains, suffix-gains, table-offset-gains, thunk-gains, unnamed-gains, virtual-thunk-gains}
-use Rattle.cpp_press_laws.proofs.Short.Names.{abbreviated-name, any-constructor, component-with-c, constructor-name, destructor-name, internal-name, local-name, local-type, local-type-name, may-end-behind, name-with-s, nest-arguments, nest-end, nest-instance, nest-internal, nest-local-type, nest-next, nest-parameter, nest-source, nest-std, nest-template, nest-with-s, nested-name, nested-type, operator-name, operator-name-with-c, other-operator-name, source-name, std-name, string-literal, tagged-std-type}
-use Rattle.cpp_press_laws.proofs.Short.Qualified.{as-type, bare-reference-gains, const-gains, granted, integer-gains, parameter-argument-gains, parameter-gains, plain-with-d-gains, qualified-plain-gains, restrict-gains, substitution-gains, type-with-s-gains, volatile-gains}
+use Rattle.cpp_press_laws.proofs.Short.Types.{Idle, Free, type_rows, abbreviation-gains, addressed-gains, expansion-gains, expression-gains, reference-gains, type-gains}
+use Rattle.cpp_press_laws.proofs.Short.ByRow.{is_read, is_listed_in}
+use Rattle.cpp_press_laws.proofs.Short.Lists.{free_rows, idle_rows, free-gains, idle-gains, arguments-gains, encoding-gains, given-gains, lambda-gains, lvalue-item-gains, other-special-gains, pack-argument-gains, ref-end-gains, rvalue-item-gains, special-gains}
+use Rattle.cpp_press_laws.proofs.Short.Names.{name_rows, name-gains, abbreviated-name, constructor-name, destructor-name, internal-name, local-name, local-type, local-type-name, may-end-behind, nest-arguments, nest-end, nest-instance, nest-internal, nest-local-type, nest-next, nest-parameter, nest-source, nest-std, nest-template, operator-name, operator-name-with-c, other-operator-name, source-name, std-name, string-literal, tagged-std-type}
+use Rattle.cpp_press_laws.proofs.Short.Qualified.{qualified_rows, qualified-gains, as-type, bare-reference-gains, granted, integer-gains, parameter-argument-gains, parameter-gains, substitution-gains, type-with-s-gains}
 
 -- a production of a kind
-abbrev Arms : Kind → Type 0
-Arms kind =
+abbrev Arm : Kind → Production → Type 0
+Arm kind p =
     (around : Around) (at : ℕ) (old : State) (v : Value) (new : State) (b : ℕ) → Ready kind around.prefix → SmallPrefix around.prefix
-    → AllSmall old.candidates → OneOf (alternatives kind) (λ p. Ended p around at old v new b) → KindGains kind around v old new b
+    → AllSmall old.candidates → Ended p around at old v new b → KindGains kind around v old new b
 
-gains-by : (kind : Kind) → Arms kind
-unfolding alternatives class_of grant Gained Ready ready_for
-gains-by Kind.MaybeSuffix around at old v new b ready small all (inl o) = suffix-gains around at old v new b small all o
-gains-by Kind.MaybeSuffix around at old v new b ready small all (inr none) = absurd none
-gains-by Kind.SuffixFirst around at old v new b ready small all (inl o) = suffix-byte-gains around at old v new b small all o
-gains-by Kind.SuffixFirst around at old v new b ready small all (inr none) = absurd none
-gains-by Kind.SuffixMore around at old v new b ready small all (inl o) = suffix-byte-gains around at old v new b small all o
-gains-by Kind.SuffixMore around at old v new b ready small all (inr none) = absurd none
-gains-by Kind.Encoding around at old v new b ready small all (inl o) = special-gains around at old v new b small all o
-gains-by Kind.Encoding around at old v new b ready small all (inr (inl o)) = other-special-gains around at old v new b small all o
-gains-by Kind.Encoding around at old v new b ready small all (inr (inr (inl o))) = encoding-gains around at old v new b small all o
-gains-by Kind.Encoding around at old v new b ready small all (inr (inr (inr none))) = absurd none
-gains-by Kind.Special around at old v new b ready small all (inl o) = special-type-gains around at old v new b ready small all o
-gains-by Kind.Special around at old v new b ready small all (inr (inl o)) = thunk-gains around at old v new b ready small all o
-gains-by Kind.Special around at old v new b ready small all (inr (inr (inl o))) = virtual-thunk-gains around at old v new b ready small all o
-gains-by Kind.Special around at old v new b ready small all (inr (inr (inr (inl o)))) = covariant-thunk-gains around at old v new b ready small all o
-gains-by Kind.Special around at old v new b ready small all (inr (inr (inr (inr none)))) = absurd none
-gains-by Kind.CallOffset around at old v new b ready small all (inl o) = offset-gains around at old v new b small all o
-gains-by Kind.CallOffset around at old v new b ready small all (inr (inl o)) = table-offset-gains around at old v new b small all o
-gains-by Kind.CallOffset around at old v new b ready small all (inr (inr none)) = absurd none
-gains-by Kind.Integer around at old v new b ready small all (inl o) = negative-gains around at old v new b small all o
-gains-by Kind.Integer around at old v new b ready small all (inr (inl o)) = positive-gains around at old v new b small all o
-gains-by Kind.Integer around at old v new b ready small all (inr (inr none)) = absurd none
-gains-by Kind.CompleteName around at old v new b ready small all (inl o) = nested-name around at old v new b small all o
-gains-by Kind.CompleteName around at old v new b ready small all (inr (inl o)) = name-with-s around at old v new b small all o
-gains-by Kind.CompleteName around at old v new b ready small all (inr (inr (inl o))) = local-name around at old v new b small all o
-gains-by Kind.CompleteName around at old v new b ready small all (inr (inr (inr (inl o)))) = internal-name around at old v new b small all o
-gains-by Kind.CompleteName around at old v new b ready small all (inr (inr (inr (inr (inl o))))) = local-type-name around at old v new b small all o
-gains-by Kind.CompleteName around at old v new b ready small all (inr (inr (inr (inr (inr (inl o)))))) = operator-name around at old v new b small all o
-gains-by Kind.CompleteName around at old v new b ready small all (inr (inr (inr (inr (inr (inr (inl o))))))) = source-name around at old v new b small all o
-gains-by Kind.CompleteName around at old v new b ready small all (inr (inr (inr (inr (inr (inr (inr none))))))) = absurd none
-gains-by Kind.MaybeRestrict around at old v new b ready small all (inl o) = leaf-mark-gains around at old v new b small all o
-gains-by Kind.MaybeRestrict around at old v new b ready small all (inr none) = absurd none
-gains-by Kind.MaybeVolatile around at old v new b ready small all (inl o) = leaf-mark-gains around at old v new b small all o
-gains-by Kind.MaybeVolatile around at old v new b ready small all (inr none) = absurd none
-gains-by Kind.MaybeConst around at old v new b ready small all (inl o) = leaf-mark-gains around at old v new b small all o
-gains-by Kind.MaybeConst around at old v new b ready small all (inr none) = absurd none
-gains-by Kind.MaybeRef around at old v new b ready small all (inl o) = leaf-mark-gains around at old v new b small all o
-gains-by Kind.MaybeRef around at old v new b ready small all (inr none) = absurd none
-gains-by Kind.NameAfterS around at old v new b ready small all (inl o) = std-name around at old v new b small all o
-gains-by Kind.NameAfterS around at old v new b ready small all (inr (inl o)) = abbreviated-name around at old v new b small all o
-gains-by Kind.NameAfterS around at old v new b ready small all (inr (inr none)) = absurd none
-gains-by Kind.Unqualified around at old v new b ready small all (inl o) = internal-piece-gains around at old v new b small all o
-gains-by Kind.Unqualified around at old v new b ready small all (inr (inl o)) = local-type-piece-gains around at old v new b small all o
-gains-by Kind.Unqualified around at old v new b ready small all (inr (inr (inl o))) = source-piece-gains around at old v new b small all o
-gains-by Kind.Unqualified around at old v new b ready small all (inr (inr (inr (inl o)))) = operator-piece-gains around at old v new b small all o
-gains-by Kind.Unqualified around at old v new b ready small all (inr (inr (inr (inr none)))) = absurd none
-gains-by Kind.Nest around at old v new b ready small all (inl o) = nest-with-s around at old v new b small all o
-gains-by Kind.Nest around at old v new b ready small all (inr (inl o)) = nest-parameter around at old v new b small all o
-gains-by Kind.Nest around at old v new b ready small all (inr (inr (inl o))) = nest-internal around at old v new b small all o
-gains-by Kind.Nest around at old v new b ready small all (inr (inr (inr (inl o)))) = nest-local-type around at old v new b small all o
-gains-by Kind.Nest around at old v new b ready small all (inr (inr (inr (inr (inl o))))) = nest-source around at old v new b small all o
-gains-by Kind.Nest around at old v new b ready small all (inr (inr (inr (inr (inr none))))) = absurd none
-gains-by Kind.NestAfterS around at old v new b ready small all (inl o) = nest-std around at old v new b small all o
-gains-by Kind.NestAfterS around at old v new b ready small all (inr (inl o)) = nest-template around at old v new b small all o
-gains-by Kind.NestAfterS around at old v new b ready small all (inr (inr none)) = absurd none
-gains-by Kind.NestRest around at old v new b ready small all (inl o) = nest-arguments around at old v new b ready small all o
-gains-by Kind.NestRest around at old v new b ready small all (inr (inl o)) = nest-next around at old v new b ready small all o
-gains-by Kind.NestRest around at old v new b ready small all (inr (inr none)) = absurd none
-gains-by Kind.NestTail around at old v new b ready small all (inl o) = nest-end around at old v new b ready small all o
-gains-by Kind.NestTail around at old v new b ready small all (inr (inl o)) = nest-next around at old v new b (may-end-behind around.prefix ready small) small all o
-gains-by Kind.NestTail around at old v new b ready small all (inr (inr none)) = absurd none
-gains-by Kind.Component around at old v new b ready small all (inl o) = any-constructor around at old v new b small all o
-gains-by Kind.Component around at old v new b ready small all (inr (inl o)) = destructor-name around at old v new b small all o
-gains-by Kind.Component around at old v new b ready small all (inr (inr (inl o))) = internal-name around at old v new b small all o
-gains-by Kind.Component around at old v new b ready small all (inr (inr (inr (inl o)))) = local-type-name around at old v new b small all o
-gains-by Kind.Component around at old v new b ready small all (inr (inr (inr (inr (inl o))))) = source-name around at old v new b small all o
-gains-by Kind.Component around at old v new b ready small all (inr (inr (inr (inr (inr (inl o)))))) = component-with-c around at old v new b small all o
-gains-by Kind.Component around at old v new b ready small all (inr (inr (inr (inr (inr (inr (inl o))))))) = other-operator-name around at old v new b small all o
-gains-by Kind.Component around at old v new b ready small all (inr (inr (inr (inr (inr (inr (inr none))))))) = absurd none
-gains-by Kind.ConstructorAfterC around at old v new b ready small all (inl o) = constructor-name around at old v new b small all o
-gains-by Kind.ConstructorAfterC around at old v new b ready small all (inr none) = absurd none
-gains-by Kind.ConstructorDigit around at old v new b ready small all (inl o) = mark-mark-gains around at old v new b small all o
-gains-by Kind.ConstructorDigit around at old v new b ready small all (inr none) = absurd none
-gains-by Kind.DestructorDigit around at old v new b ready small all (inl o) = mark-mark-gains around at old v new b small all o
-gains-by Kind.DestructorDigit around at old v new b ready small all (inr none) = absurd none
-gains-by Kind.Abbreviation around at old v new b ready small all (inl o) = abbreviation-gains around at old v new b small all o
-gains-by Kind.Abbreviation around at old v new b ready small all (inr (inl o)) = substitution-gains around at old v new b small all o
-gains-by Kind.Abbreviation around at old v new b ready small all (inr (inr none)) = absurd none
-gains-by Kind.Entity around at old v new b ready small all (inl o) = string-literal around at old v new b small all o
-gains-by Kind.Entity around at old v new b ready small all (inr (inl o)) = granted 4 (nested-name around at old v new b small all o)
-gains-by Kind.Entity around at old v new b ready small all (inr (inr (inl o))) = granted 4 (internal-name around at old v new b small all o)
-gains-by Kind.Entity around at old v new b ready small all (inr (inr (inr (inl o)))) = granted 4 (local-type-name around at old v new b small all o)
-gains-by Kind.Entity around at old v new b ready small all (inr (inr (inr (inr (inl o))))) = granted 4 (source-name around at old v new b small all o)
-gains-by Kind.Entity around at old v new b ready small all (inr (inr (inr (inr (inr none))))) = absurd none
-gains-by Kind.TypeEntity around at old v new b ready small all (inl o) = nested-type around at old v new b small all o
-gains-by Kind.TypeEntity around at old v new b ready small all (inr (inl o)) = internal-name around at old v new b small all o
-gains-by Kind.TypeEntity around at old v new b ready small all (inr (inr (inl o))) = local-type-name around at old v new b small all o
-gains-by Kind.TypeEntity around at old v new b ready small all (inr (inr (inr (inl o)))) = source-name around at old v new b small all o
-gains-by Kind.TypeEntity around at old v new b ready small all (inr (inr (inr (inr none)))) = absurd none
-gains-by Kind.MaybeDiscriminator around at old v new b ready small all (inl o) = discriminator-gains around at old v new b small all o
-gains-by Kind.MaybeDiscriminator around at old v new b ready small all (inr none) = absurd none
-gains-by Kind.DiscriminatorRest around at old v new b ready small all (inl o) = one-digit-gains around at old v new b small all o
-gains-by Kind.DiscriminatorRest around at old v new b ready small all (inr (inl o)) = many-digits-gains around at old v new b small all o
-gains-by Kind.DiscriminatorRest around at old v new b ready small all (inr (inr none)) = absurd none
-gains-by Kind.Anonymous around at old v new b ready small all (inl o) = lambda-gains around at old v new b small all o
-gains-by Kind.Anonymous around at old v new b ready small all (inr (inl o)) = unnamed-gains around at old v new b small all o
-gains-by Kind.Anonymous around at old v new b ready small all (inr (inr none)) = absurd none
-gains-by Kind.Type around at old v new b ready small all (inl o) = restrict-gains around at old v new b ready small all o
-gains-by Kind.Type around at old v new b ready small all (inr (inl o)) = volatile-gains around at old v new b ready small all o
-gains-by Kind.Type around at old v new b ready small all (inr (inr (inl o))) = const-gains around at old v new b ready small all o
-gains-by Kind.Type around at old v new b ready small all (inr (inr (inr (inl o)))) = type-with-d-gains around at old v new b ready small all o
-gains-by Kind.Type around at old v new b ready small all (inr (inr (inr (inr (inl o))))) = reference-gains around at old v new b ready small all o
-gains-by Kind.Type around at old v new b ready small all (inr (inr (inr (inr (inr (inl o)))))) = plain-type-gains around at old v new b ready small all o
-gains-by Kind.Type around at old v new b ready small all (inr (inr (inr (inr (inr (inr none)))))) = absurd none
-gains-by Kind.Plain around at old v new b ready small all (inl o) = plain-with-d-gains around at old v new b ready small all o
-gains-by Kind.Plain around at old v new b ready small all (inr (inl o)) = bare-reference-gains around at old v new b ready small all o
-gains-by Kind.Plain around at old v new b ready small all (inr (inr (inl o))) = qualified-plain-gains around at old v new b ready small all o
-gains-by Kind.Plain around at old v new b ready small all (inr (inr (inr none))) = absurd none
-gains-by Kind.Item around at old v new b ready small all (inl o) = restrict-gains around at old v new b ready small all o
-gains-by Kind.Item around at old v new b ready small all (inr (inl o)) = volatile-gains around at old v new b ready small all o
-gains-by Kind.Item around at old v new b ready small all (inr (inr (inl o))) = const-gains around at old v new b ready small all o
-gains-by Kind.Item around at old v new b ready small all (inr (inr (inr (inl o)))) = item-with-d-gains around at old v new b ready small all o
-gains-by Kind.Item around at old v new b ready small all (inr (inr (inr (inr (inl o))))) = reference-gains around at old v new b ready small all o
-gains-by Kind.Item around at old v new b ready small all (inr (inr (inr (inr (inr (inl o)))))) = plain-type-gains around at old v new b ready small all o
-gains-by Kind.Item around at old v new b ready small all (inr (inr (inr (inr (inr (inr none)))))) = absurd none
-gains-by Kind.ItemButRef around at old v new b ready small all (inl o) = restrict-gains around at old v new b ready small all o
-gains-by Kind.ItemButRef around at old v new b ready small all (inr (inl o)) = volatile-gains around at old v new b ready small all o
-gains-by Kind.ItemButRef around at old v new b ready small all (inr (inr (inl o))) = const-gains around at old v new b ready small all o
-gains-by Kind.ItemButRef around at old v new b ready small all (inr (inr (inr (inl o)))) = item-with-d-gains around at old v new b ready small all o
-gains-by Kind.ItemButRef around at old v new b ready small all (inr (inr (inr (inr (inl o))))) = plain-type-gains around at old v new b ready small all o
-gains-by Kind.ItemButRef around at old v new b ready small all (inr (inr (inr (inr (inr none))))) = absurd none
-gains-by Kind.ItemAfterD around at old v new b ready small all (inl o) = expansion-gains around at old v new b ready small all o
-gains-by Kind.ItemAfterD around at old v new b ready small all (inr (inl o)) = item-is-type-gains around at old v new b ready small all o
-gains-by Kind.ItemAfterD around at old v new b ready small all (inr (inr none)) = absurd none
-gains-by Kind.AfterD around at old v new b ready small all (inl o) = builtin-with-d-gains around at old v new b ready small all o
-gains-by Kind.AfterD around at old v new b ready small all (inr (inl o)) = vector-gains around at old v new b ready small all o
-gains-by Kind.AfterD around at old v new b ready small all (inr (inr (inl o))) = noexcept-gains around at old v new b ready small all o
-gains-by Kind.AfterD around at old v new b ready small all (inr (inr (inr none))) = absurd none
-gains-by Kind.Solid around at old v new b ready small all (inl o) = builtin-gains around at old v new b ready small all o
-gains-by Kind.Solid around at old v new b ready small all (inr (inl o)) = vendor-gains around at old v new b ready small all o
-gains-by Kind.Solid around at old v new b ready small all (inr (inr (inl o))) = array-type-gains around at old v new b ready small all o
-gains-by Kind.Solid around at old v new b ready small all (inr (inr (inr (inl o)))) = function-gains around at old v new b ready small all o
-gains-by Kind.Solid around at old v new b ready small all (inr (inr (inr (inr (inl o))))) = complex-gains around at old v new b ready small all o
-gains-by Kind.Solid around at old v new b ready small all (inr (inr (inr (inr (inr (inl o)))))) = pointer-gains around at old v new b ready small all o
-gains-by Kind.Solid around at old v new b ready small all (inr (inr (inr (inr (inr (inr (inl o))))))) = member-gains around at old v new b ready small all o
-gains-by Kind.Solid around at old v new b ready small all (inr (inr (inr (inr (inr (inr (inr (inl o)))))))) = parameter-gains around at old v new b ready small all o
-gains-by Kind.Solid around at old v new b ready small all (inr (inr (inr (inr (inr (inr (inr (inr (inl o))))))))) = type-with-s-gains around at old v new b ready small all o
-gains-by Kind.Solid around at old v new b ready small all (inr (inr (inr (inr (inr (inr (inr (inr (inr (inl o)))))))))) = as-type ready (nested-type around at old v new b small all o)
-gains-by Kind.Solid around at old v new b ready small all (inr (inr (inr (inr (inr (inr (inr (inr (inr (inr (inl o))))))))))) = as-type ready (local-type around at old v new b small all o)
-gains-by Kind.Solid around at old v new b ready small all (inr (inr (inr (inr (inr (inr (inr (inr (inr (inr (inr (inl o)))))))))))) = as-type ready (local-type-name around at old v new b small all o)
-gains-by Kind.Solid around at old v new b ready small all (inr (inr (inr (inr (inr (inr (inr (inr (inr (inr (inr (inr (inl o))))))))))))) = as-type ready (source-name around at old v new b small all o)
-gains-by Kind.Solid around at old v new b ready small all (inr (inr (inr (inr (inr (inr (inr (inr (inr (inr (inr (inr (inr none))))))))))))) = absurd none
-gains-by Kind.MaybeCLinkage around at old v new b ready small all (inl o) = leaf-mark-gains around at old v new b small all o
-gains-by Kind.MaybeCLinkage around at old v new b ready small all (inr none) = absurd none
-gains-by Kind.TypeAfterS around at old v new b ready small all (inl o) = type-in-std-gains around at old v new b ready small all o
-gains-by Kind.TypeAfterS around at old v new b ready small all (inr (inl o)) = abbreviated-type-gains around at old v new b ready small all o
-gains-by Kind.TypeAfterS around at old v new b ready small all (inr (inr none)) = absurd none
-gains-by Kind.SourceOrLocal around at old v new b ready small all (inl o) = internal-piece-gains around at old v new b small all o
-gains-by Kind.SourceOrLocal around at old v new b ready small all (inr (inl o)) = local-type-piece-gains around at old v new b small all o
-gains-by Kind.SourceOrLocal around at old v new b ready small all (inr (inr (inl o))) = source-piece-gains around at old v new b small all o
-gains-by Kind.SourceOrLocal around at old v new b ready small all (inr (inr (inr none))) = absurd none
-gains-by Kind.FunctionRest around at old v new b ready small all (inl o) = rest-end-gains around at old v new b ready small all o
-gains-by Kind.FunctionRest around at old v new b ready small all (inr (inl o)) = rest-lvalue-gains around at old v new b ready small all o
-gains-by Kind.FunctionRest around at old v new b ready small all (inr (inr (inl o))) = rest-rvalue-gains around at old v new b ready small all o
-gains-by Kind.FunctionRest around at old v new b ready small all (inr (inr (inr (inl o)))) = rest-item-gains around at old v new b ready small all o
-gains-by Kind.FunctionRest around at old v new b ready small all (inr (inr (inr (inr none)))) = absurd none
-gains-by Kind.AfterR around at old v new b ready small all (inl o) = ref-end-gains around at old v new b ready small all o
-gains-by Kind.AfterR around at old v new b ready small all (inr (inl o)) = lvalue-item-gains around at old v new b ready small all o
-gains-by Kind.AfterR around at old v new b ready small all (inr (inr none)) = absurd none
-gains-by Kind.AfterO around at old v new b ready small all (inl o) = ref-end-gains around at old v new b ready small all o
-gains-by Kind.AfterO around at old v new b ready small all (inr (inl o)) = rvalue-item-gains around at old v new b ready small all o
-gains-by Kind.AfterO around at old v new b ready small all (inr (inr none)) = absurd none
-gains-by Kind.Items around at old v new b ready small all (inl o) = items-gains around at old v new b ready small all o
-gains-by Kind.Items around at old v new b ready small all (inr none) = absurd none
-gains-by Kind.MaybeArguments around at old v new b ready small all (inl o) = arguments-gains around at old v new b small all o
-gains-by Kind.MaybeArguments around at old v new b ready small all (inr none) = absurd none
-gains-by Kind.Arguments around at old v new b ready small all (inl o) = given-gains around at old v new b small all o
-gains-by Kind.Arguments around at old v new b ready small all (inr none) = absurd none
-gains-by Kind.ArgumentList around at old v new b ready small all (inl o) = pack-argument-gains around at old v new b ready small all o
-gains-by Kind.ArgumentList around at old v new b ready small all (inr (inl o)) = literal-argument-gains around at old v new b ready small all o
-gains-by Kind.ArgumentList around at old v new b ready small all (inr (inr (inl o))) = any-argument-gains around at old v new b ready small all o
-gains-by Kind.ArgumentList around at old v new b ready small all (inr (inr (inr none))) = absurd none
-gains-by Kind.PackList around at old v new b ready small all (inl o) = literal-element-gains around at old v new b ready small all o
-gains-by Kind.PackList around at old v new b ready small all (inr (inl o)) = any-element-gains around at old v new b ready small all o
-gains-by Kind.PackList around at old v new b ready small all (inr (inr none)) = absurd none
-gains-by Kind.Literal around at old v new b ready small all (inl o) = granted 8 (encoding-literal-gains around at old v new b ready small all o)
-gains-by Kind.Literal around at old v new b ready small all (inr (inl o)) = granted 8 (boolean-gains around at old v new b ready small all o)
-gains-by Kind.Literal around at old v new b ready small all (inr (inr (inl o))) = granted 8 (literal-with-d-gains around at old v new b ready small all o)
-gains-by Kind.Literal around at old v new b ready small all (inr (inr (inr (inl o)))) = integer-gains around at old v new b ready small all o
-gains-by Kind.Literal around at old v new b ready small all (inr (inr (inr (inr none)))) = absurd none
-gains-by Kind.Bit around at old v new b ready small all (inl o) = leaf-mark-gains around at old v new b small all o
-gains-by Kind.Bit around at old v new b ready small all (inr none) = absurd none
-gains-by Kind.LiteralAfterD around at old v new b ready small all (inl o) = null-gains around at old v new b ready small all o
-gains-by Kind.LiteralAfterD around at old v new b ready small all (inr (inl o)) = character-gains around at old v new b ready small all o
-gains-by Kind.LiteralAfterD around at old v new b ready small all (inr (inr none)) = absurd none
-gains-by Kind.MaybeZero around at old v new b ready small all (inl o) = leaf-mark-gains around at old v new b small all o
-gains-by Kind.MaybeZero around at old v new b ready small all (inr none) = absurd none
-gains-by Kind.LiteralType around at old v new b ready small all (inl o) = builtin-gains around at old v new b ready small all o
-gains-by Kind.LiteralType around at old v new b ready small all (inr (inl o)) = pointer-gains around at old v new b ready small all o
-gains-by Kind.LiteralType around at old v new b ready small all (inr (inr (inl o))) = member-gains around at old v new b ready small all o
-gains-by Kind.LiteralType around at old v new b ready small all (inr (inr (inr (inl o)))) = parameter-gains around at old v new b ready small all o
-gains-by Kind.LiteralType around at old v new b ready small all (inr (inr (inr (inr (inl o))))) = type-with-s-gains around at old v new b ready small all o
-gains-by Kind.LiteralType around at old v new b ready small all (inr (inr (inr (inr (inr (inl o)))))) = as-type ready (nested-type around at old v new b small all o)
-gains-by Kind.LiteralType around at old v new b ready small all (inr (inr (inr (inr (inr (inr (inl o))))))) = as-type ready (local-type around at old v new b small all o)
-gains-by Kind.LiteralType around at old v new b ready small all (inr (inr (inr (inr (inr (inr (inr (inl o)))))))) = as-type ready (local-type-name around at old v new b small all o)
-gains-by Kind.LiteralType around at old v new b ready small all (inr (inr (inr (inr (inr (inr (inr (inr (inl o))))))))) = as-type ready (source-name around at old v new b small all o)
-gains-by Kind.LiteralType around at old v new b ready small all (inr (inr (inr (inr (inr (inr (inr (inr (inr none))))))))) = absurd none
-gains-by Kind.Operator around at old v new b ready small all (inl o) = operator-n-gains around at old v new b small all o
-gains-by Kind.Operator around at old v new b ready small all (inr (inl o)) = operator-d-gains around at old v new b small all o
-gains-by Kind.Operator around at old v new b ready small all (inr (inr (inl o))) = operator-a-gains around at old v new b small all o
-gains-by Kind.Operator around at old v new b ready small all (inr (inr (inr (inl o)))) = operator-p-gains around at old v new b small all o
-gains-by Kind.Operator around at old v new b ready small all (inr (inr (inr (inr (inl o))))) = operator-c-gains around at old v new b small all o
-gains-by Kind.Operator around at old v new b ready small all (inr (inr (inr (inr (inr (inl o)))))) = operator-m-gains around at old v new b small all o
-gains-by Kind.Operator around at old v new b ready small all (inr (inr (inr (inr (inr (inr (inl o))))))) = operator-r-gains around at old v new b small all o
-gains-by Kind.Operator around at old v new b ready small all (inr (inr (inr (inr (inr (inr (inr (inl o)))))))) = operator-o-gains around at old v new b small all o
-gains-by Kind.Operator around at old v new b ready small all (inr (inr (inr (inr (inr (inr (inr (inr (inl o))))))))) = operator-e-gains around at old v new b small all o
-gains-by Kind.Operator around at old v new b ready small all (inr (inr (inr (inr (inr (inr (inr (inr (inr (inl o)))))))))) = operator-l-gains around at old v new b small all o
-gains-by Kind.Operator around at old v new b ready small all (inr (inr (inr (inr (inr (inr (inr (inr (inr (inr (inl o))))))))))) = operator-s-gains around at old v new b small all o
-gains-by Kind.Operator around at old v new b ready small all (inr (inr (inr (inr (inr (inr (inr (inr (inr (inr (inr (inl o)))))))))))) = operator-i-gains around at old v new b small all o
-gains-by Kind.Operator around at old v new b ready small all (inr (inr (inr (inr (inr (inr (inr (inr (inr (inr (inr (inr (inl o))))))))))))) = operator-g-gains around at old v new b small all o
-gains-by Kind.Operator around at old v new b ready small all (inr (inr (inr (inr (inr (inr (inr (inr (inr (inr (inr (inr (inr none))))))))))))) = absurd none
-gains-by Kind.OperatorAfterN around at old v new b ready small all (inl o) = mark-mark-gains around at old v new b small all o
-gains-by Kind.OperatorAfterN around at old v new b ready small all (inr none) = absurd none
-gains-by Kind.OperatorAfterD around at old v new b ready small all (inl o) = mark-mark-gains around at old v new b small all o
-gains-by Kind.OperatorAfterD around at old v new b ready small all (inr none) = absurd none
-gains-by Kind.OperatorAfterA around at old v new b ready small all (inl o) = mark-mark-gains around at old v new b small all o
-gains-by Kind.OperatorAfterA around at old v new b ready small all (inr none) = absurd none
-gains-by Kind.OperatorAfterP around at old v new b ready small all (inl o) = mark-mark-gains around at old v new b small all o
-gains-by Kind.OperatorAfterP around at old v new b ready small all (inr none) = absurd none
-gains-by Kind.OperatorAfterC around at old v new b ready small all (inl o) = mark-mark-gains around at old v new b small all o
-gains-by Kind.OperatorAfterC around at old v new b ready small all (inr none) = absurd none
-gains-by Kind.OperatorAfterM around at old v new b ready small all (inl o) = mark-mark-gains around at old v new b small all o
-gains-by Kind.OperatorAfterM around at old v new b ready small all (inr none) = absurd none
-gains-by Kind.OperatorAfterR around at old v new b ready small all (inl o) = mark-mark-gains around at old v new b small all o
-gains-by Kind.OperatorAfterR around at old v new b ready small all (inr none) = absurd none
-gains-by Kind.OperatorAfterO around at old v new b ready small all (inl o) = mark-mark-gains around at old v new b small all o
-gains-by Kind.OperatorAfterO around at old v new b ready small all (inr none) = absurd none
-gains-by Kind.OperatorAfterE around at old v new b ready small all (inl o) = mark-mark-gains around at old v new b small all o
-gains-by Kind.OperatorAfterE around at old v new b ready small all (inr none) = absurd none
-gains-by Kind.OperatorAfterL around at old v new b ready small all (inl o) = second-mark-gains around at old v new b small all o
-gains-by Kind.OperatorAfterL around at old v new b ready small all (inr (inl o)) = literal-operator-gains around at old v new b small all o
-gains-by Kind.OperatorAfterL around at old v new b ready small all (inr (inr none)) = absurd none
-gains-by Kind.OperatorAfterS around at old v new b ready small all (inl o) = mark-mark-gains around at old v new b small all o
-gains-by Kind.OperatorAfterS around at old v new b ready small all (inr none) = absurd none
-gains-by Kind.OperatorAfterI around at old v new b ready small all (inl o) = mark-mark-gains around at old v new b small all o
-gains-by Kind.OperatorAfterI around at old v new b ready small all (inr none) = absurd none
-gains-by Kind.OperatorAfterG around at old v new b ready small all (inl o) = mark-mark-gains around at old v new b small all o
-gains-by Kind.OperatorAfterG around at old v new b ready small all (inr none) = absurd none
-gains-by Kind.NestRestOrEnd around at old v new b ready small all (inl o) = nest-instance around at old v new b ready small all o
-gains-by Kind.NestRestOrEnd around at old v new b ready small all (inr (inl o)) = nest-next around at old v new b ready small all o
-gains-by Kind.NestRestOrEnd around at old v new b ready small all (inr (inr none)) = absurd none
-gains-by Kind.ArgumentsAlone around at old v new b ready small all (inl o) = arguments-gains around at old v new b small all o
-gains-by Kind.ArgumentsAlone around at old v new b ready small all (inr none) = absurd none
-gains-by Kind.NestRestAlone around at old v new b ready small all (inl o) = nest-arguments around at old v new b ready small all o
-gains-by Kind.NestRestAlone around at old v new b ready small all (inr (inl o)) = nest-next around at old v new b ready small all o
-gains-by Kind.NestRestAlone around at old v new b ready small all (inr (inr none)) = absurd none
-gains-by Kind.ComponentAfterC around at old v new b ready small all (inl o) = operator-name-with-c around at old v new b small all o
-gains-by Kind.ComponentAfterC around at old v new b ready small all (inr none) = absurd none
-gains-by Kind.OtherOperator around at old v new b ready small all (inl o) = operator-n-gains around at old v new b small all o
-gains-by Kind.OtherOperator around at old v new b ready small all (inr (inl o)) = operator-d-gains around at old v new b small all o
-gains-by Kind.OtherOperator around at old v new b ready small all (inr (inr (inl o))) = operator-a-gains around at old v new b small all o
-gains-by Kind.OtherOperator around at old v new b ready small all (inr (inr (inr (inl o)))) = operator-p-gains around at old v new b small all o
-gains-by Kind.OtherOperator around at old v new b ready small all (inr (inr (inr (inr (inl o))))) = operator-m-gains around at old v new b small all o
-gains-by Kind.OtherOperator around at old v new b ready small all (inr (inr (inr (inr (inr (inl o)))))) = operator-r-gains around at old v new b small all o
-gains-by Kind.OtherOperator around at old v new b ready small all (inr (inr (inr (inr (inr (inr (inl o))))))) = operator-o-gains around at old v new b small all o
-gains-by Kind.OtherOperator around at old v new b ready small all (inr (inr (inr (inr (inr (inr (inr (inl o)))))))) = operator-e-gains around at old v new b small all o
-gains-by Kind.OtherOperator around at old v new b ready small all (inr (inr (inr (inr (inr (inr (inr (inr (inl o))))))))) = operator-l-gains around at old v new b small all o
-gains-by Kind.OtherOperator around at old v new b ready small all (inr (inr (inr (inr (inr (inr (inr (inr (inr (inl o)))))))))) = operator-s-gains around at old v new b small all o
-gains-by Kind.OtherOperator around at old v new b ready small all (inr (inr (inr (inr (inr (inr (inr (inr (inr (inr (inl o))))))))))) = operator-i-gains around at old v new b small all o
-gains-by Kind.OtherOperator around at old v new b ready small all (inr (inr (inr (inr (inr (inr (inr (inr (inr (inr (inr (inl o)))))))))))) = operator-g-gains around at old v new b small all o
-gains-by Kind.OtherOperator around at old v new b ready small all (inr (inr (inr (inr (inr (inr (inr (inr (inr (inr (inr (inr none)))))))))))) = absurd none
-gains-by Kind.ArgumentsFirst around at old v new b ready small all (inl o) = pack-argument-gains around at old v new b ready small all o
-gains-by Kind.ArgumentsFirst around at old v new b ready small all (inr (inl o)) = literal-argument-gains around at old v new b ready small all o
-gains-by Kind.ArgumentsFirst around at old v new b ready small all (inr (inr (inl o))) = any-argument-gains around at old v new b ready small all o
-gains-by Kind.ArgumentsFirst around at old v new b ready small all (inr (inr (inr none))) = absurd none
-gains-by Kind.SpecialMark around at old v new b ready small all (inl o) = leaf-mark-gains around at old v new b small all o
-gains-by Kind.SpecialMark around at old v new b ready small all (inr none) = absurd none
-gains-by Kind.SpecialAfterG around at old v new b ready small all (inl o) = special-name-gains around at old v new b ready small all o
-gains-by Kind.SpecialAfterG around at old v new b ready small all (inr none) = absurd none
-gains-by Kind.TypeInStd around at old v new b ready small all (inl o) = as-type ready (tagged-std-type around at old v new b small all o)
-gains-by Kind.TypeInStd around at old v new b ready small all (inr none) = absurd none
-gains-by Kind.MaybeTags around at old v new b ready small all none = absurd none
-gains-by Kind.Argument around at old v new b ready small all (inl o) = restrict-gains around at old v new b ready small all o
-gains-by Kind.Argument around at old v new b ready small all (inr (inl o)) = volatile-gains around at old v new b ready small all o
-gains-by Kind.Argument around at old v new b ready small all (inr (inr (inl o))) = const-gains around at old v new b ready small all o
-gains-by Kind.Argument around at old v new b ready small all (inr (inr (inr (inl o)))) = item-with-d-gains around at old v new b ready small all o
-gains-by Kind.Argument around at old v new b ready small all (inr (inr (inr (inr (inl o))))) = reference-gains around at old v new b ready small all o
-gains-by Kind.Argument around at old v new b ready small all (inr (inr (inr (inr (inr (inl o)))))) = expression-gains around at old v new b ready small all o
-gains-by Kind.Argument around at old v new b ready small all (inr (inr (inr (inr (inr (inr (inl o))))))) = argument-with-t-gains around at old v new b ready small all o
-gains-by Kind.Argument around at old v new b ready small all (inr (inr (inr (inr (inr (inr (inr (inl o)))))))) = plain-argument-gains around at old v new b ready small all o
-gains-by Kind.Argument around at old v new b ready small all (inr (inr (inr (inr (inr (inr (inr (inr none)))))))) = absurd none
-gains-by Kind.ArgumentAfterT around at old v new b ready small all (inl o) = parameter-argument-gains around at old v new b ready small all o
-gains-by Kind.ArgumentAfterT around at old v new b ready small all (inr none) = absurd none
-gains-by Kind.SolidButT around at old v new b ready small all (inl o) = builtin-gains around at old v new b ready small all o
-gains-by Kind.SolidButT around at old v new b ready small all (inr (inl o)) = vendor-gains around at old v new b ready small all o
-gains-by Kind.SolidButT around at old v new b ready small all (inr (inr (inl o))) = array-type-gains around at old v new b ready small all o
-gains-by Kind.SolidButT around at old v new b ready small all (inr (inr (inr (inl o)))) = function-gains around at old v new b ready small all o
-gains-by Kind.SolidButT around at old v new b ready small all (inr (inr (inr (inr (inl o))))) = complex-gains around at old v new b ready small all o
-gains-by Kind.SolidButT around at old v new b ready small all (inr (inr (inr (inr (inr (inl o)))))) = pointer-gains around at old v new b ready small all o
-gains-by Kind.SolidButT around at old v new b ready small all (inr (inr (inr (inr (inr (inr (inl o))))))) = member-gains around at old v new b ready small all o
-gains-by Kind.SolidButT around at old v new b ready small all (inr (inr (inr (inr (inr (inr (inr (inl o)))))))) = type-with-s-gains around at old v new b ready small all o
-gains-by Kind.SolidButT around at old v new b ready small all (inr (inr (inr (inr (inr (inr (inr (inr (inl o))))))))) = as-type ready (nested-type around at old v new b small all o)
-gains-by Kind.SolidButT around at old v new b ready small all (inr (inr (inr (inr (inr (inr (inr (inr (inr (inl o)))))))))) = as-type ready (local-type around at old v new b small all o)
-gains-by Kind.SolidButT around at old v new b ready small all (inr (inr (inr (inr (inr (inr (inr (inr (inr (inr (inl o))))))))))) = as-type ready (local-type-name around at old v new b small all o)
-gains-by Kind.SolidButT around at old v new b ready small all (inr (inr (inr (inr (inr (inr (inr (inr (inr (inr (inr (inl o)))))))))))) = as-type ready (source-name around at old v new b small all o)
-gains-by Kind.SolidButT around at old v new b ready small all (inr (inr (inr (inr (inr (inr (inr (inr (inr (inr (inr (inr none)))))))))))) = absurd none
-gains-by Kind.Expression around at old v new b ready small all (inl o) = operation-gains around at old v new b ready small all o
-gains-by Kind.Expression around at old v new b ready small all (inr none) = absurd none
-gains-by Kind.AddressedExpression around at old v new b ready small all (inl o) = addressed-gains around at old v new b ready small all o
-gains-by Kind.AddressedExpression around at old v new b ready small all (inr none) = absurd none
-gains-by Kind.AddressedLiteral around at old v new b ready small all (inl o) = encoding-literal-gains around at old v new b ready small all o
-gains-by Kind.AddressedLiteral around at old v new b ready small all (inr none) = absurd none
-gains-by Kind.ExpressionAfterA around at old v new b ready small all (inl o) = address-expression-gains around at old v new b ready small all o
-gains-by Kind.ExpressionAfterA around at old v new b ready small all (inr none) = absurd none
-gains-by Kind.AnyArray around at old v new b ready small all (inl o) = any-array-gains around at old v new b ready small all o
-gains-by Kind.AnyArray around at old v new b ready small all (inr none) = absurd none
-gains-by Kind.ArrayRest around at old v new b ready small all (inl o) = array-gains around at old v new b ready small all o
-gains-by Kind.ArrayRest around at old v new b ready small all (inr none) = absurd none
-gains-by Kind.NestMoreOrEnd around at old v new b ready small all (inl o) = nest-next around at old v new b ready small all o
-gains-by Kind.NestMoreOrEnd around at old v new b ready small all (inr none) = absurd none
--- what no tree of a symbol has a part of
-gains-by _ around at old v new b ready small all one = tt
+-- each of its productions
+abbrev EachArm : Kind → List Alternative → Type 0
+EachArm kind [] = Unit {0}
+EachArm kind (a ∷ []) = Arm kind a.production
+EachArm kind (a ∷ c ∷ others) = Arm kind a.production × EachArm kind (c ∷ others)
+
+one-arm : (kind : Kind) (all : List Alternative) → EachArm kind all → (around : Around) (at : ℕ) (old : State) (v : Value) (new : State) (b : ℕ)
+    → Ready kind around.prefix → SmallPrefix around.prefix → AllSmall old.candidates → OneOf all (λ p. Ended p around at old v new b)
+    → KindGains kind around v old new b
+one-arm kind [] arms around at old v new b ready small cs o = absurd o
+one-arm kind (a ∷ []) arms around at old v new b ready small cs o = arms around at old v new b ready small cs o
+one-arm kind (a ∷ c ∷ others) arms around at old v new b ready small cs (inl o) = arms.0 around at old v new b ready small cs o
+one-arm kind (a ∷ c ∷ others) arms around at old v new b ready small cs (inr o) = one-arm kind (c ∷ others) arms.1 around at old v new b ready small cs o
+
+-- a name that is a type; and after a letter that paid
+named : {p : Production} → Free p name 0 → Idle p type
+named one around at old v new b idle small cs o = as-type idle (one around at old v new b tt small cs o)
+
+granting : {p : Production} {c : Class} (g : ℕ) → Free p c 0 → Free p c g
+granting g one around at old v new b ready small cs o = granted g (one around at old v new b ready small cs o)
+
+granting-type : {p : Production} (g : ℕ) → Idle p type → (around : Around) (at : ℕ) (old : State) (v : Value) (new : State) (b : ℕ)
+    → lent around.prefix ≡ 0 → SmallPrefix around.prefix → AllSmall old.candidates → Ended p around at old v new b → Gains type g around v old new b
+granting-type g one around at old v new b idle small cs o = granted g (one around at old v new b idle small cs o)
+
+arms : (kind : Kind) → is_read (class_of kind) ≡ true → EachArm kind (alternatives kind)
+unfolding alternatives class_of grant Gained Ready ready_for is_read is_listed_in type_rows qualified_rows free_rows idle_rows name_rows number_of
+arms Kind.MaybeSuffix is = free-gains leaf Production.Suffix refl
+arms Kind.SuffixFirst is = free-gains leaf Production.SuffixByte refl
+arms Kind.SuffixMore is = free-gains leaf Production.SuffixByte refl
+arms Kind.Encoding is = (special-gains, (other-special-gains, encoding-gains))
+arms Kind.Special is = (idle-gains whole Production.SpecialType refl, (idle-gains whole Production.NonVirtualThunk refl, (idle-gains whole Production.VirtualThunk refl, idle-gains whole Production.CovariantThunk refl)))
+arms Kind.CallOffset is = (free-gains offset Production.NonVirtualOffset refl, free-gains offset Production.VirtualOffset refl)
+arms Kind.Integer is = (free-gains leaf Production.Negative refl, free-gains leaf Production.Positive refl)
+arms Kind.CompleteName is = (name-gains Production.NestedName refl, (name-gains Production.NameWithS refl, (local-name, (internal-name, (local-type-name, (operator-name, source-name))))))
+arms Kind.MaybeRestrict is = free-gains leaf Production.Mark refl
+arms Kind.MaybeVolatile is = free-gains leaf Production.Mark refl
+arms Kind.MaybeConst is = free-gains leaf Production.Mark refl
+arms Kind.MaybeRef is = free-gains leaf Production.Mark refl
+arms Kind.NameAfterS is = (std-name, abbreviated-name)
+arms Kind.Unqualified is = (free-gains unit Production.InternalPiece refl, (free-gains unit Production.LocalTypePiece refl, (free-gains unit Production.SourcePiece refl, free-gains unit Production.OperatorPiece refl)))
+arms Kind.Nest is = (name-gains Production.NestWithS refl, (nest-parameter, (nest-internal, (nest-local-type, nest-source))))
+arms Kind.NestAfterS is = (nest-std, nest-template)
+arms Kind.NestRest is = (nest-arguments, nest-next)
+arms Kind.NestTail is = (nest-end, λ around at old v new b ready small. nest-next around at old v new b (may-end-behind around.prefix ready small) small)
+arms Kind.Component is = (name-gains Production.AnyConstructor refl, (destructor-name, (internal-name, (local-type-name, (source-name, (name-gains Production.ComponentWithC refl, other-operator-name))))))
+arms Kind.ConstructorAfterC is = constructor-name
+arms Kind.ConstructorDigit is = free-gains mark Production.Mark refl
+arms Kind.DestructorDigit is = free-gains mark Production.Mark refl
+arms Kind.Abbreviation is = (abbreviation-gains, substitution-gains)
+arms Kind.Entity is = (string-literal, (granting 4 (name-gains Production.NestedName refl), (granting 4 internal-name, (granting 4 local-type-name, granting 4 source-name))))
+arms Kind.TypeEntity is = (name-gains Production.NestedType refl, (internal-name, (local-type-name, source-name)))
+arms Kind.MaybeDiscriminator is = free-gains discriminator Production.Discriminator refl
+arms Kind.DiscriminatorRest is = (free-gains discriminator Production.OneDigit refl, free-gains discriminator Production.ManyDigits refl)
+arms Kind.Anonymous is = (lambda-gains, free-gains unit Production.Unnamed refl)
+arms Kind.Type is = (qualified-gains type Production.RestrictType refl, (qualified-gains type Production.VolatileType refl, (qualified-gains type Production.ConstType refl, (type-gains Production.TypeWithD refl, (reference-gains, type-gains Production.PlainType refl)))))
+arms Kind.Plain is = (qualified-gains bare Production.PlainWithD refl, (bare-reference-gains, qualified-gains bare Production.QualifiedPlain refl))
+arms Kind.Item is = (qualified-gains type Production.RestrictType refl, (qualified-gains type Production.VolatileType refl, (qualified-gains type Production.ConstType refl, (type-gains Production.ItemWithD refl, (reference-gains, type-gains Production.PlainType refl)))))
+arms Kind.ItemButRef is = (qualified-gains type Production.RestrictType refl, (qualified-gains type Production.VolatileType refl, (qualified-gains type Production.ConstType refl, (type-gains Production.ItemWithD refl, type-gains Production.PlainType refl))))
+arms Kind.ItemAfterD is = (expansion-gains, type-gains Production.ItemIsType refl)
+arms Kind.AfterD is = (type-gains Production.BuiltinWithD refl, (type-gains Production.Vector refl, type-gains Production.NoexceptFunction refl))
+arms Kind.Solid is = (type-gains Production.Builtin refl, (type-gains Production.Vendor refl, (type-gains Production.ArrayType refl, (type-gains Production.Function refl, (type-gains Production.Complex refl, (type-gains Production.Pointer refl, (type-gains Production.MemberPointer refl, (parameter-gains, (type-with-s-gains, (named (name-gains Production.NestedType refl), (named local-type, (named local-type-name, named source-name))))))))))))
+arms Kind.MaybeCLinkage is = free-gains leaf Production.Mark refl
+arms Kind.TypeAfterS is = (type-gains Production.TypeInStd refl, type-gains Production.AbbreviatedType refl)
+arms Kind.SourceOrLocal is = (free-gains unit Production.InternalPiece refl, (free-gains unit Production.LocalTypePiece refl, free-gains unit Production.SourcePiece refl))
+arms Kind.FunctionRest is = (idle-gains rest Production.RestEnd refl, (idle-gains rest Production.RestLvalue refl, (idle-gains rest Production.RestRvalue refl, idle-gains rest Production.RestItem refl)))
+arms Kind.AfterR is = (ref-end-gains, lvalue-item-gains)
+arms Kind.AfterO is = (ref-end-gains, rvalue-item-gains)
+arms Kind.Items is = idle-gains items Production.Items refl
+arms Kind.MaybeArguments is = arguments-gains
+arms Kind.Arguments is = given-gains
+arms Kind.ArgumentList is = (pack-argument-gains, (idle-gains items Production.LiteralArgument refl, idle-gains items Production.AnyArgument refl))
+arms Kind.PackList is = (idle-gains items Production.LiteralElement refl, idle-gains items Production.AnyElement refl)
+arms Kind.Literal is = (granting-type 8 (type-gains Production.EncodingLiteral refl), (granting-type 8 (type-gains Production.BoolLiteral refl), (granting-type 8 (type-gains Production.LiteralWithD refl), integer-gains)))
+arms Kind.Bit is = free-gains leaf Production.Mark refl
+arms Kind.LiteralAfterD is = (type-gains Production.NullLiteral refl, type-gains Production.CharLiteral refl)
+arms Kind.MaybeZero is = free-gains leaf Production.Mark refl
+arms Kind.LiteralType is = (type-gains Production.Builtin refl, (type-gains Production.Pointer refl, (type-gains Production.MemberPointer refl, (parameter-gains, (type-with-s-gains, (named (name-gains Production.NestedType refl), (named local-type, (named local-type-name, named source-name))))))))
+arms Kind.Operator is = (free-gains unit Production.OperatorN refl, (free-gains unit Production.OperatorD refl, (free-gains unit Production.OperatorA refl, (free-gains unit Production.OperatorP refl, (free-gains unit Production.OperatorC refl, (free-gains unit Production.OperatorM refl, (free-gains unit Production.OperatorR refl, (free-gains unit Production.OperatorO refl, (free-gains unit Production.OperatorE refl, (free-gains unit Production.OperatorL refl, (free-gains unit Production.OperatorS refl, (free-gains unit Production.OperatorI refl, free-gains unit Production.OperatorG refl))))))))))))
+arms Kind.OperatorAfterN is = free-gains mark Production.Mark refl
+arms Kind.OperatorAfterD is = free-gains mark Production.Mark refl
+arms Kind.OperatorAfterA is = free-gains mark Production.Mark refl
+arms Kind.OperatorAfterP is = free-gains mark Production.Mark refl
+arms Kind.OperatorAfterC is = free-gains mark Production.Mark refl
+arms Kind.OperatorAfterM is = free-gains mark Production.Mark refl
+arms Kind.OperatorAfterR is = free-gains mark Production.Mark refl
+arms Kind.OperatorAfterO is = free-gains mark Production.Mark refl
+arms Kind.OperatorAfterE is = free-gains mark Production.Mark refl
+arms Kind.OperatorAfterL is = (free-gains second Production.Mark refl, free-gains second Production.LiteralOperator refl)
+arms Kind.OperatorAfterS is = free-gains mark Production.Mark refl
+arms Kind.OperatorAfterI is = free-gains mark Production.Mark refl
+arms Kind.OperatorAfterG is = free-gains mark Production.Mark refl
+arms Kind.NestRestOrEnd is = (nest-instance, nest-next)
+arms Kind.ArgumentsAlone is = arguments-gains
+arms Kind.NestRestAlone is = (nest-arguments, nest-next)
+arms Kind.ComponentAfterC is = operator-name-with-c
+arms Kind.OtherOperator is = (free-gains unit Production.OperatorN refl, (free-gains unit Production.OperatorD refl, (free-gains unit Production.OperatorA refl, (free-gains unit Production.OperatorP refl, (free-gains unit Production.OperatorM refl, (free-gains unit Production.OperatorR refl, (free-gains unit Production.OperatorO refl, (free-gains unit Production.OperatorE refl, (free-gains unit Production.OperatorL refl, (free-gains unit Production.OperatorS refl, (free-gains unit Production.OperatorI refl, free-gains unit Production.OperatorG refl)))))))))))
+arms Kind.ArgumentsFirst is = (pack-argument-gains, (idle-gains items Production.LiteralArgument refl, idle-gains items Production.AnyArgument refl))
+arms Kind.SpecialMark is = free-gains leaf Production.Mark refl
+arms Kind.SpecialAfterG is = idle-gains whole Production.SpecialName refl
+arms Kind.TypeInStd is = named tagged-std-type
+arms Kind.MaybeTags is = tt
+arms Kind.Argument is = (qualified-gains type Production.RestrictType refl, (qualified-gains type Production.VolatileType refl, (qualified-gains type Production.ConstType refl, (type-gains Production.ItemWithD refl, (reference-gains, (expression-gains, (type-gains Production.ArgumentWithT refl, type-gains Production.PlainArgument refl)))))))
+arms Kind.ArgumentAfterT is = parameter-argument-gains
+arms Kind.SolidButT is = (type-gains Production.Builtin refl, (type-gains Production.Vendor refl, (type-gains Production.ArrayType refl, (type-gains Production.Function refl, (type-gains Production.Complex refl, (type-gains Production.Pointer refl, (type-gains Production.MemberPointer refl, (type-with-s-gains, (named (name-gains Production.NestedType refl), (named local-type, (named local-type-name, named source-name)))))))))))
+arms Kind.Expression is = type-gains Production.ExpressionA refl
+arms Kind.AddressedExpression is = addressed-gains
+arms Kind.AddressedLiteral is = type-gains Production.EncodingLiteral refl
+arms Kind.ExpressionAfterA is = idle-gains operands Production.AddressExpression refl
+arms Kind.AnyArray is = type-gains Production.AnyArray refl
+arms Kind.ArrayRest is = type-gains Production.LengthArray refl
+arms Kind.NestMoreOrEnd is = nest-next
+arms _ is = absurd (false≢true is)
+
+-- what isn't read
+gained-if : (c : Class) (granted : ℕ) (around : Around) (v : Value) (old new : State) (b : ℕ) → (is_read c ≡ true → Gained c granted around v old new b)
+    → Gained c granted around v old new b
+unfolding Gained is_read
+gained-if unread granted around v old new b one = tt
+gained-if _ granted around v old new b one = one refl
 
 -- a kind that is empty
 gains-empty : (kind : Kind) (around : Around) (old : State) → may_be_empty kind ≡ true → AllSmall old.candidates
@@ -373,8 +182,9 @@ gains-empty _ around old is all = absurd (false≢true is)
 
 branch-gains : (rule : Rule) (taken : List ℕ) (parts : Forest) → AllOf ShapeGains parts → ShapeGains (branch rule taken parts)
 branch-gains rule taken parts all kind around at old v new ready small smalls is e =
-    gains-by kind around at old v new (length (spell (branch rule taken parts))) ready small smalls
-    (ended-of kind rule taken parts all around at old v new is e)
+    gained-if (class_of kind) (grant kind) around v old new (length (spell (branch rule taken parts)))
+    (λ read. one-arm kind (alternatives kind) (arms kind read) around at old v new (length (spell (branch rule taken parts))) ready small smalls
+    (ended-of kind rule taken parts all around at old v new is e))
 
 empty-gains : ShapeGains empty
 unfolding cpp

@@ -1,5 +1,5 @@
 -- What a symbol is read as has few pressed bytes for those of the symbol.
-use Rattle.std.proofs.Common.{◌≡◌, ℕ, ◌+◌, ◌*◌, ◌≤◌, inl, inr, length, [], ◌∷◌, true, Result, Ok, Err, refl, ap, sym, subst, ◌∙◌, arith}
+use Rattle.std.proofs.Common.{◌≡◌, ℕ, ◌+◌, ◌*◌, ◌≤◌, length, [], ◌∷◌, true, Result, Ok, Err, refl, ap, sym, subst, ◌∙◌, arith}
 use Rattle.std.proofs.lemmas.Bool.{false≢true}
 use Rattle.sym_core.specs.declared.TheConstants.{MOST_BYTES}
 use Rattle.sym_core.specs.declared.refusal.Refusal.{Refusal}
@@ -26,7 +26,8 @@ use Rattle.cpp_press_laws.specs.Pressing.{pressed}
 use Rattle.cpp_press_laws.specs.Apart.{spelled_components, marked_components}
 use Rattle.cpp_press_laws.specs.MarkedComponents.{unmarked}
 use Rattle.cpp_press_laws.specs.Short.{PressedIsShort}
-use Rattle.cpp_press_laws.proofs.ByKind.Rules.{OneOf, all-of, kind-at, one-value}
+use Rattle.cpp_press_laws.proofs.Ways as way
+use Rattle.cpp_press_laws.proofs.ByKind.Rules.{all-of, kind-at, one-value}
 use Rattle.cpp_press_laws.proofs.Components.Apart.{components-apart, components-marked}
 use Rattle.cpp_press_laws.proofs.Components.FewPressed.{components-worth}
 use Rattle.cpp_press_laws.proofs.Short.Size.{size}
@@ -57,12 +58,8 @@ symbol-paid : (shape : Shape) (v : Value) (new : State) → IsTree abi (OfKind (
     → unfold_tree cpp first_around 0 shape first_state ≡ Ok (found (v ∷ []) new) → wealth new + size (tree_of v) ≤ 8 * length (spell shape)
 unfolding alternatives may_be_empty
 symbol-paid (branch rule taken parts) v new is e =
-    go (ended-of Kind.Symbol rule taken parts (all-of ShapeGains shape-gains parts) first_around 0 first_state v new is e)
-  where
-    go : OneOf (alternatives Kind.Symbol) (λ p. Ended p first_around 0 first_state v new (length (spell (branch rule taken parts))))
-        → wealth new + size (tree_of v) ≤ 8 * length (spell (branch rule taken parts))
-    go (inl o) = symbol-gains v new (length (spell (branch rule taken parts))) o
-    go (inr none) = absurd none
+    let o = ended-of Kind.Symbol rule taken parts (all-of ShapeGains shape-gains parts) first_around 0 first_state v new is e in
+    symbol-gains v new (length (spell (branch rule taken parts))) o
 symbol-paid empty v new is e =
     absurd (false≢true (sym (empty_at_kind (number_of_kind Kind.Symbol) Kind.Symbol (kind-at Kind.Symbol)) ∙ is))
 symbol-paid (token t) v new is e = absurd is
@@ -81,7 +78,7 @@ spelled-short t wealth_ b worth_ paid fits =
     let few : length (unmarked (marked_components t)) ≤ worths [] (unmarked (marked_components t)) =
     worths-count [] (unmarked (marked_components t)) in
     let same : worths [] (unmarked (marked_components t)) ≡ worths [] (spelled_components t) = ap (worths []) marked.1 in
-    let one = (all-short t 0).as_encoding 0 [] in
+    let one = (all-short t 0 way.as_encoding) 0 [] in
     omega (
       arith,
       ap length marked.0,

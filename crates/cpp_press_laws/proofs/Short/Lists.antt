@@ -3,10 +3,12 @@ use Rattle.std.proofs.Common.{◌≡◌, ℕ, ◌+◌, ◌*◌, ◌-◌, ◌≤�
 use Rattle.std.specs.Prelude.{codes, not, ◌&&◌}
 use Rattle.sym_core.specs.declared.NumberKind.TheVariants.{Decimal}
 use Rattle.sym_core.specs.Value.{counted_value}
+use Rattle.std.proofs.lemmas.Bool.{false≢true}
 use Rattle.cpp_grammar.specs.declared.kind.Kind.{Kind}
 use Rattle.cpp_grammar.specs.declared.production.Production.{Production}
-use Rattle.cpp_grammar.specs.Grammar.{parts_of, is_chain}
-use Rattle.cpp_grammar.specs.Term.{RefQualifier, any_value, lvalue_only, rvalue_only, Signed, non_virtual, by_table, adjusting, covariant, Term, symbol, function, special, thunk, of_name, source, operator, literal_operator, lambda, unnamed, lvalue, rvalue, pack, nil, list, absent}
+use Rattle.cpp_grammar.specs.Grammar.{kinds, number_of, number_of_kind, parts_of, is_chain}
+use Rattle.cpp_grammar.specs.Rows.{row_of}
+use Rattle.cpp_grammar.specs.Term.{RefQualifier, lvalue_only, rvalue_only, Signed, non_virtual, by_table, Term, symbol, function, lambda, lvalue, rvalue, pack, nil, list, absent}
 use Rattle.cpp_grammar.specs.Scope.{has_return_type}
 use Rattle.cpp_grammar.specs.Values as values
 use Rattle.cpp_grammar.specs.Values.{State, Prefix, outermost, Around, prefix_tree, prefix_listed, Value, nothing_there, letter, text, signed, adjusted, tree, piece, named, signature, unqualified, tree_of, piece_of, is_listed, qualifiers_of, ref_of, letter_of, is_there, mark_of, text_of, signed_of, adjustment_of, normal, is_zero, signed_digits, local_number}
@@ -19,8 +21,9 @@ use Rattle.cpp_press_laws.specs.Texts.{ordinal, signed_text, name_letters, offse
 use Rattle.cpp_press_laws.specs.Pressing.{is_encoding}
 use Rattle.cpp_press_laws.proofs.Short.Size.{is_component, part_of, front_of, lettered, size, over, size-some, part-some}
 use Rattle.cpp_press_laws.proofs.Short.Worth.{full}
-use Rattle.cpp_press_laws.proofs.Short.Gains.{wealth, AllSmall, front, unit, whole, items, arguments, given, leaf, mark, offset, discriminator, rest, after_mark, second, class_of, typed, letters_in, held, need, lent, loan, returned, grant, SmallPrefix, ready_for, Ready, IsKnown, IsKept, Gains, Gained, appended-grown, prefix-grown}
+use Rattle.cpp_press_laws.proofs.Short.Gains.{wealth, AllSmall, front, unit, whole, items, arguments, given, leaf, mark, offset, discriminator, rest, after_mark, second, operands, class_of, typed, letters_in, held, need, lent, loan, returned, grant, SmallPrefix, ready_for, Ready, IsKnown, IsKept, Gains, Gained, appended-grown, prefix-grown, Class}
 use Rattle.cpp_press_laws.proofs.Short.Paid.{Ended, comes-to}
+use Rattle.cpp_press_laws.proofs.Short.ByRow.{is_read, part_passes, parts_pass, cost_of, credit_of, Knows, all_quiet, refers, Pays, row_goes, by-row, is_listed_in, each_goes, one-goes, may_read, may_be_part, Standing}
 use Rattle.cpp_press_laws.proofs.Short.Types.{Idle, Free, normal-short, parameters-most, held-signed}
 
 pub held-text : (v : Value) → 8 * length (text_of v) ≤ held v
@@ -61,139 +64,9 @@ discriminator-short (d ∷ e ∷ ds) = omega (arith, length-append (codes "__" +
 
 -- ## Marks, numbers and pieces of names
 
-pub leaf-mark-gains : Free Production.Mark leaf 0
-unfolding parts_of between is_chain close unfolding_.behind meaning values.part class_of grant Gained Ready ready_for need typed loan returned IsKnown IsKept held piece_of size
-leaf-mark-gains around at old v new b small all o =
-    comes-to (λ w s. Gains leaf 0 around w old s b) o ([]) (old) (letter o.byte) (old) o.paid.0 refl
-    (record { few = omega (arith, o.sum, o.paid.1); known = tt; kept = tt; small = all })
-
-pub mark-mark-gains : Free Production.Mark mark 0
-unfolding parts_of between is_chain close unfolding_.behind meaning values.part class_of grant Gained Ready ready_for need typed loan returned IsKnown IsKept held piece_of size
-mark-mark-gains around at old v new b small all o =
-    comes-to (λ w s. Gains mark 0 around w old s b) o ([]) (old) (letter o.byte) (old) o.paid.0 refl
-    (record { few = omega (arith, o.sum, o.paid.1); known = tt; kept = tt; small = all })
-
-pub second-mark-gains : Free Production.Mark second 0
-unfolding parts_of between is_chain close unfolding_.behind meaning values.part class_of grant Gained Ready ready_for need typed loan returned IsKnown IsKept held piece_of size
-second-mark-gains around at old v new b small all o =
-    comes-to (λ w s. Gains second 0 around w old s b) o ([]) (old) (letter o.byte) (old) o.paid.0 refl
-    (record { few = omega (arith, o.sum, o.paid.1); known = tt; kept = tt; small = all })
-
-pub suffix-gains : Free Production.Suffix leaf 0
-unfolding parts_of between is_chain close unfolding_.behind meaning values.part class_of grant Gained Ready ready_for need typed loan returned IsKnown IsKept held
-suffix-gains around at old v new b small all o =
-    let p0 = o.paid in
-    let g0 = p0.gains Kind.SuffixFirst refl tt small all in
-    comes-to (λ w s. Gains leaf 0 around w old s b) o (p0.value ∷ []) (p0.after) (text (o.byte ∷ text_of p0.value)) (p0.after) p0.onward.0 refl
-    (record { few = omega (arith, o.sum, g0.few, p0.sum, p0.onward.1, held-text p0.value); known = tt; kept = tt; small = g0.small })
-
-pub suffix-byte-gains : Free Production.SuffixByte leaf 0
-unfolding parts_of between is_chain close unfolding_.behind meaning values.part class_of grant Gained Ready ready_for need typed loan returned IsKnown IsKept held
-suffix-byte-gains around at old v new b small all o =
-    let p0 = o.paid in
-    let g0 = p0.gains Kind.SuffixMore refl tt small all in
-    comes-to (λ w s. Gains leaf 0 around w old s b) o (p0.value ∷ []) (p0.after) (text (o.byte ∷ text_of p0.value)) (p0.after) p0.onward.0 refl
-    (record { few = omega (arith, o.sum, g0.few, p0.sum, p0.onward.1, held-text p0.value); known = tt; kept = tt; small = g0.small })
-
-pub negative-gains : Free Production.Negative leaf 0
-unfolding parts_of between is_chain close unfolding_.behind meaning values.part class_of grant Gained Ready ready_for need typed loan returned IsKnown IsKept held
-negative-gains around at old v new b small all o =
-    let p0 = o.paid in
-    let g0 = p0.gains in
-    comes-to (λ w s. Gains leaf 0 around w old s b) o (p0.value ∷ []) (p0.after) (signed (signed_digits true (text_of p0.value))) (p0.after) p0.onward.0 refl
-    (record { few = omega (arith, o.sum, ap (λ s. wealth s) g0.0, g0.1.0, g0.1.1, p0.sum, p0.onward.1, signed-short true (text_of p0.value)); known = tt; kept = tt; small = (subst (λ s. AllSmall s.candidates) (sym g0.0) all) })
-
-pub positive-gains : Free Production.Positive leaf 0
-unfolding parts_of between is_chain close unfolding_.behind meaning values.part class_of grant Gained Ready ready_for need typed loan returned IsKnown IsKept held
-positive-gains around at old v new b small all o =
-    let p0 = o.paid in
-    let g0 = p0.gains in
-    comes-to (λ w s. Gains leaf 0 around w old s b) o (p0.value ∷ []) (p0.after) (signed (signed_digits false (text_of p0.value))) (p0.after) p0.onward.0 refl
-    (record { few = omega (arith, o.sum, ap (λ s. wealth s) g0.0, g0.1.0, g0.1.1, p0.sum, p0.onward.1, signed-short false (text_of p0.value)); known = tt; kept = tt; small = (subst (λ s. AllSmall s.candidates) (sym g0.0) all) })
-
-pub offset-gains : Free Production.NonVirtualOffset offset 0
-unfolding parts_of between is_chain close unfolding_.behind meaning values.part class_of grant Gained Ready ready_for need typed loan returned IsKnown IsKept adjustment_of
-offset-gains around at old v new b small all o =
-    let p0 = o.paid in
-    let g0 = p0.gains Kind.Integer refl tt small all in
-    let p1 = p0.onward in
-    let g1 = p1.gains in
-    comes-to (λ w s. Gains offset 0 around w old s b) o (p0.value ∷ p1.value ∷ []) (p1.after) (adjusted (non_virtual (signed_of p0.value))) (p1.after) p1.onward.0 refl
-    (record { few = omega (arith, o.sum, g0.few, p0.sum, ap (λ s. wealth s) g1.0, g1.1, p1.sum, p1.onward.1, plain-offset (signed_of p0.value), held-signed p0.value); known = tt; kept = tt; small = (subst (λ s. AllSmall s.candidates) (sym g1.0) g0.small) })
-
-pub table-offset-gains : Free Production.VirtualOffset offset 0
-unfolding parts_of between is_chain close unfolding_.behind meaning values.part class_of grant Gained Ready ready_for need typed loan returned IsKnown IsKept adjustment_of
-table-offset-gains around at old v new b small all o =
-    let p0 = o.paid in
-    let g0 = p0.gains Kind.Integer refl tt small all in
-    let p1 = p0.onward in
-    let g1 = p1.gains in
-    let p2 = p1.onward in
-    let g2 = p2.gains Kind.Integer refl tt small (subst (λ s. AllSmall s.candidates) (sym g1.0) g0.small) in
-    let p3 = p2.onward in
-    let g3 = p3.gains in
-    comes-to (λ w s. Gains offset 0 around w old s b) o (p0.value ∷ p1.value ∷ p2.value ∷ p3.value ∷ []) (p3.after) (adjusted (by_table (signed_of p0.value) (signed_of p2.value))) (p3.after) p3.onward.0 refl
-    (record { few = omega (arith, o.sum, g0.few, p0.sum, ap (λ s. wealth s) g1.0, g1.1, p1.sum, g2.few, p2.sum, ap (λ s. wealth s) g3.0, g3.1, p3.sum, p3.onward.1, table-offset (signed_of p0.value) (signed_of p2.value), held-signed p0.value, held-signed p2.value); known = tt; kept = tt; small = (subst (λ s. AllSmall s.candidates) (sym g3.0) g2.small) })
-
-pub discriminator-gains : Free Production.Discriminator discriminator 0
-unfolding parts_of between is_chain close unfolding_.behind meaning values.part class_of grant Gained Ready ready_for need typed loan returned IsKnown IsKept
-discriminator-gains around at old v new b small all o =
-    let p0 = o.paid in
-    let g0 = p0.gains Kind.DiscriminatorRest refl tt small all in
-    comes-to (λ w s. Gains discriminator 0 around w old s b) o (p0.value ∷ []) (p0.after) (p0.value) (p0.after) p0.onward.0 refl
-    (record { few = omega (arith, o.sum, g0.few, p0.sum, p0.onward.1); known = tt; kept = tt; small = g0.small })
-
-pub one-digit-gains : Free Production.OneDigit discriminator 0
-unfolding parts_of between is_chain close unfolding_.behind meaning values.part class_of grant Gained Ready ready_for need typed loan returned IsKnown IsKept discriminator_of discriminator_text
-one-digit-gains around at old v new b small all o =
-    comes-to (λ w s. Gains discriminator 0 around w old s b) o ([]) (old) (text (o.byte ∷ [])) (old) o.paid.0 refl
-    (record { few = omega (arith, o.sum, o.paid.1); known = tt; kept = tt; small = all })
-
-pub many-digits-gains : Free Production.ManyDigits discriminator 0
-unfolding parts_of between is_chain close unfolding_.behind meaning values.part class_of grant Gained Ready ready_for need typed loan returned IsKnown IsKept discriminator_of
-many-digits-gains around at old v new b small all o =
-    let p0 = o.paid in
-    let g0 = p0.gains in
-    let p1 = p0.onward in
-    let g1 = p1.gains in
-    comes-to (λ w s. Gains discriminator 0 around w old s b) o (p0.value ∷ p1.value ∷ []) (p1.after) (text (normal (text_of p0.value))) (p1.after) p1.onward.0 refl
-    (record { few = omega (arith, o.sum, ap (λ s. wealth s) g0.0, g0.1.0, g0.1.1, p0.sum, ap (λ s. wealth s) g1.0, g1.1, p1.sum, p1.onward.1, discriminator-short (normal (text_of p0.value)), normal-short (text_of p0.value)); known = tt; kept = tt; small = (subst (λ s. AllSmall s.candidates) (sym g1.0) (subst (λ s. AllSmall s.candidates) (sym g0.0) all)) })
-
-pub internal-piece-gains : Free Production.InternalPiece unit 0
-unfolding parts_of between is_chain close unfolding_.behind meaning values.part class_of grant Gained Ready ready_for need typed loan returned IsKnown IsKept piece_of size
-internal-piece-gains around at old v new b small all o =
-    let p0 = o.paid in
-    let g0 = p0.gains in
-    comes-to (λ w s. Gains unit 0 around w old s b) o (p0.value ∷ []) (p0.after) (piece (source true (text_of p0.value))) (p0.after) p0.onward.0 refl
-    (record { few = omega (arith, o.sum, ap (λ s. wealth s) g0.0, g0.1.0, g0.1.1, g0.1.2, p0.sum, p0.onward.1); known = tt; kept = tt; small = (subst (λ s. AllSmall s.candidates) (sym g0.0) all) })
-
-pub source-piece-gains : Free Production.SourcePiece unit 0
-unfolding parts_of between is_chain close unfolding_.behind meaning values.part class_of grant Gained Ready ready_for need typed loan returned IsKnown IsKept piece_of size
-source-piece-gains around at old v new b small all o =
-    let p0 = o.paid in
-    let g0 = p0.gains in
-    comes-to (λ w s. Gains unit 0 around w old s b) o (p0.value ∷ []) (p0.after) (piece (source false (text_of p0.value))) (p0.after) p0.onward.0 refl
-    (record { few = omega (arith, o.sum, ap (λ s. wealth s) g0.0, g0.1.0, g0.1.1, g0.1.2, p0.sum, p0.onward.1); known = tt; kept = tt; small = (subst (λ s. AllSmall s.candidates) (sym g0.0) all) })
-
-pub local-type-piece-gains : Free Production.LocalTypePiece unit 0
-unfolding parts_of between is_chain close unfolding_.behind meaning values.part class_of grant Gained Ready ready_for need typed loan returned IsKnown IsKept
-local-type-piece-gains around at old v new b small all o =
-    let p0 = o.paid in
-    let g0 = p0.gains Kind.Anonymous refl tt small all in
-    comes-to (λ w s. Gains unit 0 around w old s b) o (p0.value ∷ []) (p0.after) (p0.value) (p0.after) p0.onward.0 refl
-    (record { few = omega (arith, o.sum, g0.few, p0.sum, p0.onward.1); known = tt; kept = tt; small = g0.small })
-
-pub operator-piece-gains : Free Production.OperatorPiece unit 0
-unfolding parts_of between is_chain close unfolding_.behind meaning values.part class_of grant Gained Ready ready_for need typed loan returned IsKnown IsKept
-operator-piece-gains around at old v new b small all o =
-    let p0 = o.paid in
-    let g0 = p0.gains Kind.Operator refl tt small all in
-    comes-to (λ w s. Gains unit 0 around w old s b) o (p0.value ∷ []) (p0.after) (p0.value) (p0.after) p0.onward.0 refl
-    (record { few = omega (arith, o.sum, g0.few, p0.sum, p0.onward.1); known = tt; kept = tt; small = g0.small })
-
 pub lambda-gains : Free Production.Lambda unit 0
 unfolding parts_of between is_chain close unfolding_.behind meaning values.part class_of grant Gained Ready ready_for need typed loan returned IsKnown IsKept piece_of in_signature lent SmallPrefix local_number size
-lambda-gains around at old v new b small all o =
+lambda-gains around at old v new b ready small all o =
     let p0 = o.paid in
     let g0 = p0.gains Kind.Item refl refl tt all in
     let p1 = p0.onward in
@@ -205,131 +78,69 @@ lambda-gains around at old v new b small all o =
     comes-to (λ w s. Gains unit 0 around w old s b) o (p0.value ∷ p1.value ∷ p2.value ∷ p3.value ∷ []) (p3.after) (piece (lambda (parameters (list (tree_of p0.value) (no_items p1.value))) (local_number (text_of p3.value)))) (p3.after) p3.onward.0 refl
     (record { few = omega (arith, o.sum, g0.few, p0.sum, g1.few, p1.sum, ap (λ s. wealth s) g2.0, g2.1, p2.sum, ap (λ s. wealth s) g3.0, g3.1.0, g3.1.1, g3.1.2 refl, p3.sum, p3.onward.1, parameters-most (list (tree_of p0.value) (no_items p1.value)), size-some (no_items p1.value), ap (λ n. length (ordinal n)) (back-one (counted_value Decimal (text_of p3.value)))); known = tt; kept = tt; small = (subst (λ s. AllSmall s.candidates) (sym g3.0) (subst (λ s. AllSmall s.candidates) (sym g2.0) g1.small)) })
 
-pub unnamed-gains : Free Production.Unnamed unit 0
-unfolding parts_of between is_chain close unfolding_.behind meaning values.part class_of grant Gained Ready ready_for need typed loan returned IsKnown IsKept piece_of local_number size
-unnamed-gains around at old v new b small all o =
-    let p0 = o.paid in
-    let g0 = p0.gains in
-    comes-to (λ w s. Gains unit 0 around w old s b) o (p0.value ∷ []) (p0.after) (piece (unnamed (local_number (text_of p0.value)))) (p0.after) p0.onward.0 refl
-    (record { few = omega (arith, o.sum, ap (λ s. wealth s) g0.0, g0.1.0, g0.1.1, g0.1.2 refl, p0.sum, p0.onward.1, ap (λ n. length (ordinal n)) (back-one (counted_value Decimal (text_of p0.value)))); known = tt; kept = tt; small = (subst (λ s. AllSmall s.candidates) (sym g0.0) all) })
-
-pub operator-n-gains : Free Production.OperatorN unit 0
-unfolding parts_of between is_chain close unfolding_.behind meaning values.part class_of grant Gained Ready ready_for need typed loan returned IsKnown IsKept piece_of size
-operator-n-gains around at old v new b small all o =
-    let p0 = o.paid in
-    let g0 = p0.gains Kind.OperatorAfterN refl tt small all in
-    comes-to (λ w s. Gains unit 0 around w old s b) o (p0.value ∷ []) (p0.after) (piece (operator o.byte (letter_of p0.value))) (p0.after) p0.onward.0 refl
-    (record { few = omega (arith, o.sum, g0.few, p0.sum, p0.onward.1); known = tt; kept = tt; small = g0.small })
-
-pub operator-d-gains : Free Production.OperatorD unit 0
-unfolding parts_of between is_chain close unfolding_.behind meaning values.part class_of grant Gained Ready ready_for need typed loan returned IsKnown IsKept piece_of size
-operator-d-gains around at old v new b small all o =
-    let p0 = o.paid in
-    let g0 = p0.gains Kind.OperatorAfterD refl tt small all in
-    comes-to (λ w s. Gains unit 0 around w old s b) o (p0.value ∷ []) (p0.after) (piece (operator o.byte (letter_of p0.value))) (p0.after) p0.onward.0 refl
-    (record { few = omega (arith, o.sum, g0.few, p0.sum, p0.onward.1); known = tt; kept = tt; small = g0.small })
-
-pub operator-a-gains : Free Production.OperatorA unit 0
-unfolding parts_of between is_chain close unfolding_.behind meaning values.part class_of grant Gained Ready ready_for need typed loan returned IsKnown IsKept piece_of size
-operator-a-gains around at old v new b small all o =
-    let p0 = o.paid in
-    let g0 = p0.gains Kind.OperatorAfterA refl tt small all in
-    comes-to (λ w s. Gains unit 0 around w old s b) o (p0.value ∷ []) (p0.after) (piece (operator o.byte (letter_of p0.value))) (p0.after) p0.onward.0 refl
-    (record { few = omega (arith, o.sum, g0.few, p0.sum, p0.onward.1); known = tt; kept = tt; small = g0.small })
-
-pub operator-p-gains : Free Production.OperatorP unit 0
-unfolding parts_of between is_chain close unfolding_.behind meaning values.part class_of grant Gained Ready ready_for need typed loan returned IsKnown IsKept piece_of size
-operator-p-gains around at old v new b small all o =
-    let p0 = o.paid in
-    let g0 = p0.gains Kind.OperatorAfterP refl tt small all in
-    comes-to (λ w s. Gains unit 0 around w old s b) o (p0.value ∷ []) (p0.after) (piece (operator o.byte (letter_of p0.value))) (p0.after) p0.onward.0 refl
-    (record { few = omega (arith, o.sum, g0.few, p0.sum, p0.onward.1); known = tt; kept = tt; small = g0.small })
-
-pub operator-c-gains : Free Production.OperatorC unit 0
-unfolding parts_of between is_chain close unfolding_.behind meaning values.part class_of grant Gained Ready ready_for need typed loan returned IsKnown IsKept piece_of size
-operator-c-gains around at old v new b small all o =
-    let p0 = o.paid in
-    let g0 = p0.gains Kind.OperatorAfterC refl tt small all in
-    comes-to (λ w s. Gains unit 0 around w old s b) o (p0.value ∷ []) (p0.after) (piece (operator o.byte (letter_of p0.value))) (p0.after) p0.onward.0 refl
-    (record { few = omega (arith, o.sum, g0.few, p0.sum, p0.onward.1); known = tt; kept = tt; small = g0.small })
-
-pub operator-m-gains : Free Production.OperatorM unit 0
-unfolding parts_of between is_chain close unfolding_.behind meaning values.part class_of grant Gained Ready ready_for need typed loan returned IsKnown IsKept piece_of size
-operator-m-gains around at old v new b small all o =
-    let p0 = o.paid in
-    let g0 = p0.gains Kind.OperatorAfterM refl tt small all in
-    comes-to (λ w s. Gains unit 0 around w old s b) o (p0.value ∷ []) (p0.after) (piece (operator o.byte (letter_of p0.value))) (p0.after) p0.onward.0 refl
-    (record { few = omega (arith, o.sum, g0.few, p0.sum, p0.onward.1); known = tt; kept = tt; small = g0.small })
-
-pub operator-r-gains : Free Production.OperatorR unit 0
-unfolding parts_of between is_chain close unfolding_.behind meaning values.part class_of grant Gained Ready ready_for need typed loan returned IsKnown IsKept piece_of size
-operator-r-gains around at old v new b small all o =
-    let p0 = o.paid in
-    let g0 = p0.gains Kind.OperatorAfterR refl tt small all in
-    comes-to (λ w s. Gains unit 0 around w old s b) o (p0.value ∷ []) (p0.after) (piece (operator o.byte (letter_of p0.value))) (p0.after) p0.onward.0 refl
-    (record { few = omega (arith, o.sum, g0.few, p0.sum, p0.onward.1); known = tt; kept = tt; small = g0.small })
-
-pub operator-o-gains : Free Production.OperatorO unit 0
-unfolding parts_of between is_chain close unfolding_.behind meaning values.part class_of grant Gained Ready ready_for need typed loan returned IsKnown IsKept piece_of size
-operator-o-gains around at old v new b small all o =
-    let p0 = o.paid in
-    let g0 = p0.gains Kind.OperatorAfterO refl tt small all in
-    comes-to (λ w s. Gains unit 0 around w old s b) o (p0.value ∷ []) (p0.after) (piece (operator o.byte (letter_of p0.value))) (p0.after) p0.onward.0 refl
-    (record { few = omega (arith, o.sum, g0.few, p0.sum, p0.onward.1); known = tt; kept = tt; small = g0.small })
-
-pub operator-e-gains : Free Production.OperatorE unit 0
-unfolding parts_of between is_chain close unfolding_.behind meaning values.part class_of grant Gained Ready ready_for need typed loan returned IsKnown IsKept piece_of size
-operator-e-gains around at old v new b small all o =
-    let p0 = o.paid in
-    let g0 = p0.gains Kind.OperatorAfterE refl tt small all in
-    comes-to (λ w s. Gains unit 0 around w old s b) o (p0.value ∷ []) (p0.after) (piece (operator o.byte (letter_of p0.value))) (p0.after) p0.onward.0 refl
-    (record { few = omega (arith, o.sum, g0.few, p0.sum, p0.onward.1); known = tt; kept = tt; small = g0.small })
-
-pub operator-s-gains : Free Production.OperatorS unit 0
-unfolding parts_of between is_chain close unfolding_.behind meaning values.part class_of grant Gained Ready ready_for need typed loan returned IsKnown IsKept piece_of size
-operator-s-gains around at old v new b small all o =
-    let p0 = o.paid in
-    let g0 = p0.gains Kind.OperatorAfterS refl tt small all in
-    comes-to (λ w s. Gains unit 0 around w old s b) o (p0.value ∷ []) (p0.after) (piece (operator o.byte (letter_of p0.value))) (p0.after) p0.onward.0 refl
-    (record { few = omega (arith, o.sum, g0.few, p0.sum, p0.onward.1); known = tt; kept = tt; small = g0.small })
-
-pub operator-i-gains : Free Production.OperatorI unit 0
-unfolding parts_of between is_chain close unfolding_.behind meaning values.part class_of grant Gained Ready ready_for need typed loan returned IsKnown IsKept piece_of size
-operator-i-gains around at old v new b small all o =
-    let p0 = o.paid in
-    let g0 = p0.gains Kind.OperatorAfterI refl tt small all in
-    comes-to (λ w s. Gains unit 0 around w old s b) o (p0.value ∷ []) (p0.after) (piece (operator o.byte (letter_of p0.value))) (p0.after) p0.onward.0 refl
-    (record { few = omega (arith, o.sum, g0.few, p0.sum, p0.onward.1); known = tt; kept = tt; small = g0.small })
-
-pub operator-g-gains : Free Production.OperatorG unit 0
-unfolding parts_of between is_chain close unfolding_.behind meaning values.part class_of grant Gained Ready ready_for need typed loan returned IsKnown IsKept piece_of size
-operator-g-gains around at old v new b small all o =
-    let p0 = o.paid in
-    let g0 = p0.gains Kind.OperatorAfterG refl tt small all in
-    comes-to (λ w s. Gains unit 0 around w old s b) o (p0.value ∷ []) (p0.after) (piece (operator o.byte (letter_of p0.value))) (p0.after) p0.onward.0 refl
-    (record { few = omega (arith, o.sum, g0.few, p0.sum, p0.onward.1); known = tt; kept = tt; small = g0.small })
-
 operator-most : (b : ℕ) (v : Value) → size (piece_of (operator_or_literal b v)) ≤ 1 + size (piece_of v)
 unfolding operator_or_literal piece_of size
 operator-most b (letter c) = omega arith
 operator-most b nothing_there = omega arith
 operator-most b v = omega arith
 
-pub operator-l-gains : Free Production.OperatorL unit 0
-unfolding parts_of between is_chain close unfolding_.behind meaning values.part class_of grant Gained Ready ready_for need typed loan returned IsKnown IsKept
-operator-l-gains around at old v new b small all o =
-    let p0 = o.paid in
-    let g0 = p0.gains Kind.OperatorAfterL refl tt small all in
-    comes-to (λ w s. Gains unit 0 around w old s b) o (p0.value ∷ []) (p0.after) (operator_or_literal o.byte p0.value) (p0.after) p0.onward.0 refl
-    (record { few = omega (arith, o.sum, g0.few, p0.sum, p0.onward.1, operator-most o.byte p0.value); known = tt; kept = tt; small = g0.small })
+-- what is read wherever it is
+unfoldable pub free_rows : Class → List Production
+free_rows leaf = Production.Mark ∷ Production.Suffix ∷ Production.SuffixByte ∷ Production.Negative ∷ Production.Positive ∷ []
+free_rows mark = Production.Mark ∷ []
+free_rows second = Production.Mark ∷ Production.LiteralOperator ∷ []
+free_rows offset = Production.NonVirtualOffset ∷ Production.VirtualOffset ∷ []
+free_rows discriminator = Production.Discriminator ∷ Production.OneDigit ∷ Production.ManyDigits ∷ []
+free_rows unit = Production.InternalPiece ∷ Production.SourcePiece ∷ Production.LocalTypePiece ∷ Production.OperatorPiece ∷ Production.Unnamed ∷ Production.OperatorN ∷ Production.OperatorA ∷ Production.OperatorD ∷ Production.OperatorP ∷ Production.OperatorC ∷ Production.OperatorM ∷ Production.OperatorR ∷ Production.OperatorO ∷ Production.OperatorE ∷ Production.OperatorS ∷ Production.OperatorI ∷ Production.OperatorG ∷ Production.OperatorL ∷ []
+free_rows _ = []
 
-pub literal-operator-gains : Free Production.LiteralOperator second 0
-unfolding parts_of between is_chain close unfolding_.behind meaning values.part class_of grant Gained Ready ready_for need typed loan returned IsKnown IsKept piece_of size
-literal-operator-gains around at old v new b small all o =
-    let p0 = o.paid in
-    let g0 = p0.gains in
-    comes-to (λ w s. Gains second 0 around w old s b) o (p0.value ∷ []) (p0.after) (piece (literal_operator (text_of p0.value))) (p0.after) p0.onward.0 refl
-    (record { few = omega (arith, o.sum, ap (λ s. wealth s) g0.0, g0.1.0, g0.1.1, g0.1.2, p0.sum, p0.onward.1); known = tt; kept = tt; small = (subst (λ s. AllSmall s.candidates) (sym g0.0) all) })
+free-pays : (c : Class) (p : Production) → is_listed_in (free_rows c) p ≡ true → Pays (Standing true) p c 0
+unfolding is_listed_in free_rows kinds number_of number_of_kind parts_of is_chain unfolding_.behind meaning values.part class_of grant cost_of credit_of Knows need typed loan returned IsKnown IsKept held piece_of size tree_of letter_of adjustment_of discriminator_of discriminator_text local_number is_there
+free-pays leaf Production.Mark is = λ byte around old idle small all b few. record { few = omega (arith, few); known = tt; kept = tt; small = all }
+free-pays leaf Production.Suffix is = λ byte around old idle small v s n k all b few. record { few = omega (arith, few, held-text v); known = tt; kept = tt; small = all }
+free-pays leaf Production.SuffixByte is = λ byte around old idle small v s n k all b few. record { few = omega (arith, few, held-text v); known = tt; kept = tt; small = all }
+free-pays leaf Production.Negative is = λ byte around old idle small v s n k all b few. record { few = omega (arith, few, k.1, signed-short true (text_of v)); known = tt; kept = tt; small = all }
+free-pays leaf Production.Positive is = λ byte around old idle small v s n k all b few. record { few = omega (arith, few, k.1, signed-short false (text_of v)); known = tt; kept = tt; small = all }
+free-pays mark Production.Mark is = λ byte around old idle small all b few. record { few = omega (arith, few); known = tt; kept = tt; small = all }
+free-pays second Production.Mark is = λ byte around old idle small all b few. record { few = omega (arith, few); known = tt; kept = tt; small = all }
+free-pays second Production.LiteralOperator is = λ byte around old idle small v s n k all b few. record { few = omega (arith, few, k.0, k.1, k.2); known = tt; kept = tt; small = all }
+free-pays offset Production.NonVirtualOffset is = λ byte around old idle small v s n k t1 s1 n1 k1 all b few. record { few = omega (arith, few, k1, plain-offset (signed_of v), held-signed v); known = tt; kept = tt; small = all }
+free-pays offset Production.VirtualOffset is = λ byte around old idle small v s n k t1 s1 n1 k1 w s2 n2 k2 t3 s3 n3 k3 all b few. record { few = omega (arith, few, k1, k3, table-offset (signed_of v) (signed_of w), held-signed v, held-signed w); known = tt; kept = tt; small = all }
+free-pays discriminator Production.Discriminator is = λ byte around old idle small v s n k all b few. record { few = omega (arith, few); known = tt; kept = tt; small = all }
+free-pays discriminator Production.OneDigit is = λ byte around old idle small all b few. record { few = omega (arith, few); known = tt; kept = tt; small = all }
+free-pays discriminator Production.ManyDigits is = λ byte around old idle small v s n k t1 s1 n1 k1 all b few. record { few = omega (arith, few, k.0, k.1, k1, discriminator-short (normal (text_of v)), normal-short (text_of v)); known = tt; kept = tt; small = all }
+free-pays unit Production.InternalPiece is = λ byte around old idle small v s n k all b few. record { few = omega (arith, few, k.0, k.1, k.2); known = tt; kept = tt; small = all }
+free-pays unit Production.SourcePiece is = λ byte around old idle small v s n k all b few. record { few = omega (arith, few, k.0, k.1, k.2); known = tt; kept = tt; small = all }
+free-pays unit Production.LocalTypePiece is = λ byte around old idle small v s n k all b few. record { few = omega (arith, few); known = tt; kept = tt; small = all }
+free-pays unit Production.OperatorPiece is = λ byte around old idle small v s n k all b few. record { few = omega (arith, few); known = tt; kept = tt; small = all }
+free-pays unit Production.Unnamed is = λ byte around old idle small v s n k all b few. record { few = omega (arith, few, k.0, k.1, k.2 refl, ap (λ n. length (ordinal n)) (back-one (counted_value Decimal (text_of v)))); known = tt; kept = tt; small = all }
+free-pays unit Production.OperatorN is = λ byte around old idle small v s n k all b few. record { few = omega (arith, few); known = tt; kept = tt; small = all }
+free-pays unit Production.OperatorA is = λ byte around old idle small v s n k all b few. record { few = omega (arith, few); known = tt; kept = tt; small = all }
+free-pays unit Production.OperatorD is = λ byte around old idle small v s n k all b few. record { few = omega (arith, few); known = tt; kept = tt; small = all }
+free-pays unit Production.OperatorP is = λ byte around old idle small v s n k all b few. record { few = omega (arith, few); known = tt; kept = tt; small = all }
+free-pays unit Production.OperatorC is = λ byte around old idle small v s n k all b few. record { few = omega (arith, few); known = tt; kept = tt; small = all }
+free-pays unit Production.OperatorM is = λ byte around old idle small v s n k all b few. record { few = omega (arith, few); known = tt; kept = tt; small = all }
+free-pays unit Production.OperatorR is = λ byte around old idle small v s n k all b few. record { few = omega (arith, few); known = tt; kept = tt; small = all }
+free-pays unit Production.OperatorO is = λ byte around old idle small v s n k all b few. record { few = omega (arith, few); known = tt; kept = tt; small = all }
+free-pays unit Production.OperatorE is = λ byte around old idle small v s n k all b few. record { few = omega (arith, few); known = tt; kept = tt; small = all }
+free-pays unit Production.OperatorS is = λ byte around old idle small v s n k all b few. record { few = omega (arith, few); known = tt; kept = tt; small = all }
+free-pays unit Production.OperatorI is = λ byte around old idle small v s n k all b few. record { few = omega (arith, few); known = tt; kept = tt; small = all }
+free-pays unit Production.OperatorG is = λ byte around old idle small v s n k all b few. record { few = omega (arith, few); known = tt; kept = tt; small = all }
+free-pays unit Production.OperatorL is = λ byte around old idle small v s n k all b few. record { few = omega (arith, few, operator-most byte v); known = tt; kept = tt; small = all }
+free-pays _ _ is = absurd (false≢true is)
+
+free-go : (c : Class) → each_goes (may_be_part true) (free_rows c) ≡ true
+unfolding is_listed_in each_goes row_goes all_quiet refers parts_pass part_passes is_read class_of kinds number_of number_of_kind parts_of row_of may_read may_be_part free_rows
+free-go leaf = refl
+free-go mark = refl
+free-go second = refl
+free-go offset = refl
+free-go discriminator = refl
+free-go unit = refl
+free-go _ = refl
+
+pub free-gains : (c : Class) (p : Production) → is_listed_in (free_rows c) p ≡ true → Free p c 0
+free-gains c p is = by-row true p c 0 (one-goes (may_be_part true) (free_rows c) p (free-go c) is) (free-pays c p is)
 
 -- ## The rest of a function type
 
@@ -339,37 +150,43 @@ same-signature a b nothing_there = omega arith
 same-signature a b (letter c) = omega arith
 same-signature a b v = omega arith
 
-pub rest-end-gains : Idle Production.RestEnd rest
-unfolding parts_of between is_chain close unfolding_.behind meaning values.part class_of grant Gained Ready ready_for need typed loan returned IsKnown IsKept tree_of size
-rest-end-gains around at old v new b idle small all o =
-    comes-to (λ w s. Gains rest 0 around w old s b) o ([]) (old) (signature nil any_value) (old) o.paid.0 refl
-    (record { few = omega (arith, o.sum, o.paid.1); known = tt; kept = tt; small = all })
+-- and where no name comes before
+unfoldable pub idle_rows : Class → List Production
+idle_rows rest = Production.RestEnd ∷ Production.RestLvalue ∷ Production.RestRvalue ∷ Production.RestItem ∷ []
+idle_rows items = Production.Items ∷ Production.AnyArgument ∷ Production.AnyElement ∷ Production.LiteralArgument ∷ Production.LiteralElement ∷ []
+idle_rows whole = Production.SpecialType ∷ Production.NonVirtualThunk ∷ Production.VirtualThunk ∷ Production.CovariantThunk ∷ Production.SpecialName ∷ []
+idle_rows operands = Production.AddressExpression ∷ []
+idle_rows _ = []
 
-pub rest-lvalue-gains : Idle Production.RestLvalue rest
-unfolding parts_of between is_chain close unfolding_.behind meaning values.part class_of grant Gained Ready ready_for need typed loan returned IsKnown IsKept
-rest-lvalue-gains around at old v new b idle small all o =
-    let p0 = o.paid in
-    let g0 = p0.gains Kind.AfterR refl idle small all in
-    comes-to (λ w s. Gains rest 0 around w old s b) o (p0.value ∷ []) (p0.after) (signature_or lvalue_only p0.value) (p0.after) p0.onward.0 refl
-    (record { few = omega (arith, o.sum, g0.few, p0.sum, p0.onward.1); known = tt; kept = tt; small = g0.small })
+idle-pays : (c : Class) (p : Production) → is_listed_in (idle_rows c) p ≡ true → Pays (Standing false) p c 0
+unfolding is_listed_in idle_rows kinds number_of number_of_kind parts_of is_chain unfolding_.behind meaning values.part class_of grant cost_of credit_of Knows need typed loan returned IsKnown IsKept with_item no_items tree_of size part_of front_of is_encoding is_component thunk_text letters_in signature_or
+idle-pays rest Production.RestEnd is = λ byte around old idle small all b few. record { few = omega (arith, few); known = tt; kept = tt; small = all }
+idle-pays rest Production.RestLvalue is = λ byte around old idle small v s n k all b few. record { few = omega (arith, few); known = tt; kept = tt; small = all }
+idle-pays rest Production.RestRvalue is = λ byte around old idle small v s n k all b few. record { few = omega (arith, few, same-signature rvalue_only lvalue_only v); known = tt; kept = tt; small = all }
+idle-pays rest Production.RestItem is = λ byte around old idle small v0 s0 n0 k0 v s n k all b few. record { few = omega (arith, few); known = tt; kept = tt; small = all }
+idle-pays items Production.Items is = λ byte around old idle small v0 s0 n0 k0 v s n k all b few. record { few = omega (arith, few, size-some (no_items v)); known = tt; kept = tt; small = all }
+idle-pays items Production.AnyArgument is = λ byte around old idle small v0 s0 n0 k0 v s n k all b few. record { few = omega (arith, few, size-some (no_items v)); known = tt; kept = tt; small = all }
+idle-pays items Production.AnyElement is = λ byte around old idle small v0 s0 n0 k0 v s n k all b few. record { few = omega (arith, few, size-some (no_items v)); known = tt; kept = tt; small = all }
+idle-pays items Production.LiteralArgument is = λ byte around old idle small v0 s0 n0 k0 t1 s1 n1 k1 v s n k all b few. record { few = omega (arith, few, k1, size-some (no_items v)); known = tt; kept = tt; small = all }
+idle-pays items Production.LiteralElement is = λ byte around old idle small v0 s0 n0 k0 t1 s1 n1 k1 v s n k all b few. record { few = omega (arith, few, k1, size-some (no_items v)); known = tt; kept = tt; small = all }
+idle-pays whole Production.SpecialType is = λ byte around old idle small v s n k all b few. record { few = omega (arith, few); known = tt; kept = tt; small = all }
+idle-pays whole Production.NonVirtualThunk is = λ byte around old idle small d s0 n0 k0 t1 s1 n1 k1 v s n k all b few. record { few = omega (arith, few, k1, plain-offset (signed_of d), held-signed d); known = tt; kept = tt; small = all }
+idle-pays whole Production.VirtualThunk is = λ byte around old idle small d s0 n0 k0 t1 s1 n1 k1 e s2 n2 k2 t3 s3 n3 k3 v s n k all b few. record { few = omega (arith, few, k1, k3, table-offset (signed_of d) (signed_of e), held-signed d, held-signed e); known = tt; kept = tt; small = all }
+idle-pays whole Production.CovariantThunk is = λ byte around old idle small d s0 n0 k0 e s1 n1 k1 v s n k all b few. record { few = omega (arith, few, length-append (codes "Tc" ++ offset_text (adjustment_of d)) (offset_text (adjustment_of e))); known = tt; kept = tt; small = all }
+idle-pays whole Production.SpecialName is = λ byte around old idle small v s n k all b few. record { few = omega (arith, few, idle); known = tt; kept = tt; small = all }
+idle-pays operands Production.AddressExpression is = λ byte around old idle small v s n k all b few. record { few = omega (arith, few); known = (byte, tree_of v, absent, refl); kept = tt; small = all }
+idle-pays _ _ is = absurd (false≢true is)
 
-pub rest-rvalue-gains : Idle Production.RestRvalue rest
-unfolding parts_of between is_chain close unfolding_.behind meaning values.part class_of grant Gained Ready ready_for need typed loan returned IsKnown IsKept
-rest-rvalue-gains around at old v new b idle small all o =
-    let p0 = o.paid in
-    let g0 = p0.gains Kind.AfterO refl idle small all in
-    comes-to (λ w s. Gains rest 0 around w old s b) o (p0.value ∷ []) (p0.after) (signature_or rvalue_only p0.value) (p0.after) p0.onward.0 refl
-    (record { few = omega (arith, o.sum, g0.few, p0.sum, p0.onward.1, same-signature rvalue_only lvalue_only p0.value); known = tt; kept = tt; small = g0.small })
+idle-go : (c : Class) → each_goes (may_be_part false) (idle_rows c) ≡ true
+unfolding is_listed_in each_goes row_goes all_quiet refers parts_pass part_passes is_read class_of kinds number_of number_of_kind parts_of row_of may_be_part idle_rows may_read
+idle-go rest = refl
+idle-go items = refl
+idle-go whole = refl
+idle-go operands = refl
+idle-go _ = refl
 
-pub rest-item-gains : Idle Production.RestItem rest
-unfolding parts_of between is_chain close unfolding_.behind meaning values.part class_of grant Gained Ready ready_for need typed loan returned IsKnown IsKept with_item tree_of size
-rest-item-gains around at old v new b idle small all o =
-    let p0 = o.paid in
-    let g0 = p0.gains Kind.ItemButRef refl idle small all in
-    let p1 = p0.onward in
-    let g1 = p1.gains Kind.FunctionRest refl idle small g0.small in
-    comes-to (λ w s. Gains rest 0 around w old s b) o (p0.value ∷ p1.value ∷ []) (p1.after) (with_item (tree_of p0.value) p1.value) (p1.after) p1.onward.0 refl
-    (record { few = omega (arith, o.sum, g0.few, p0.sum, g1.few, p1.sum, p1.onward.1); known = tt; kept = tt; small = g1.small })
+pub idle-gains : (c : Class) (p : Production) → is_listed_in (idle_rows c) p ≡ true → Idle p c
+idle-gains c p is = by-row false p c 0 (one-goes (may_be_part false) (idle_rows c) p (idle-go c) is) (idle-pays c p is)
 
 -- after a mark, whose byte is granted
 abbrev AfterMark : Production → Type 0
@@ -378,10 +195,8 @@ AfterMark p =
     → AllSmall old.candidates → Ended p around at old v new b → Gains after_mark 8 around v old new b
 
 pub ref-end-gains : AfterMark Production.RefEnd
-unfolding parts_of between is_chain close unfolding_.behind meaning values.part class_of grant Gained Ready ready_for need typed loan returned IsKnown IsKept signature_or tree_of size
-ref-end-gains around at old v new b idle small all o =
-    comes-to (λ w s. Gains after_mark 8 around w old s b) o ([]) (old) (nothing_there) (old) o.paid.0 refl
-    (record { few = omega (arith, o.sum, o.paid.1); known = tt; kept = tt; small = all })
+unfolding kinds number_of number_of_kind parts_of is_chain unfolding_.behind meaning class_of row_goes all_quiet refers parts_pass row_of need loan returned IsKnown IsKept signature_or tree_of size
+ref-end-gains = by-row false Production.RefEnd after_mark 8 refl (λ byte around old idle small all b few. record { few = omega (arith, few); known = tt; kept = tt; small = all })
 
 pub lvalue-item-gains : AfterMark Production.LvalueItem
 unfolding parts_of between is_chain close unfolding_.behind meaning values.part class_of grant Gained Ready ready_for need typed loan returned IsKnown IsKept with_item tree_of signature_or full over size part_of is_component is_function_type is_encoding
@@ -417,60 +232,6 @@ rvalue-item-gains around at old v new b idle small all o =
 
 -- ## Lists
 
-pub items-gains : Idle Production.Items items
-unfolding parts_of between is_chain close unfolding_.behind meaning values.part class_of grant Gained Ready ready_for need typed loan returned IsKnown IsKept no_items tree_of size
-items-gains around at old v new b idle small all o =
-    let p0 = o.paid in
-    let g0 = p0.gains Kind.Item refl idle small all in
-    let p1 = p0.onward in
-    let g1 = p1.gains Kind.Items refl idle small g0.small in
-    comes-to (λ w s. Gains items 0 around w old s b) o (p0.value ∷ p1.value ∷ []) (p1.after) (tree (list (tree_of p0.value) (no_items p1.value)) true) (p1.after) p1.onward.0 refl
-    (record { few = omega (arith, o.sum, g0.few, p0.sum, g1.few, p1.sum, p1.onward.1, size-some (no_items p1.value)); known = tt; kept = tt; small = g1.small })
-
-pub any-argument-gains : Idle Production.AnyArgument items
-unfolding parts_of between is_chain close unfolding_.behind meaning values.part class_of grant Gained Ready ready_for need typed loan returned IsKnown IsKept no_items tree_of size
-any-argument-gains around at old v new b idle small all o =
-    let p0 = o.paid in
-    let g0 = p0.gains Kind.Argument refl idle small all in
-    let p1 = p0.onward in
-    let g1 = p1.gains Kind.ArgumentList refl idle small g0.small in
-    comes-to (λ w s. Gains items 0 around w old s b) o (p0.value ∷ p1.value ∷ []) (p1.after) (tree (list (tree_of p0.value) (no_items p1.value)) true) (p1.after) p1.onward.0 refl
-    (record { few = omega (arith, o.sum, g0.few, p0.sum, g1.few, p1.sum, p1.onward.1, size-some (no_items p1.value)); known = tt; kept = tt; small = g1.small })
-
-pub any-element-gains : Idle Production.AnyElement items
-unfolding parts_of between is_chain close unfolding_.behind meaning values.part class_of grant Gained Ready ready_for need typed loan returned IsKnown IsKept no_items tree_of size
-any-element-gains around at old v new b idle small all o =
-    let p0 = o.paid in
-    let g0 = p0.gains Kind.Argument refl idle small all in
-    let p1 = p0.onward in
-    let g1 = p1.gains Kind.PackList refl idle small g0.small in
-    comes-to (λ w s. Gains items 0 around w old s b) o (p0.value ∷ p1.value ∷ []) (p1.after) (tree (list (tree_of p0.value) (no_items p1.value)) true) (p1.after) p1.onward.0 refl
-    (record { few = omega (arith, o.sum, g0.few, p0.sum, g1.few, p1.sum, p1.onward.1, size-some (no_items p1.value)); known = tt; kept = tt; small = g1.small })
-
-pub literal-argument-gains : Idle Production.LiteralArgument items
-unfolding parts_of between is_chain close unfolding_.behind meaning values.part class_of grant Gained Ready ready_for need typed loan returned IsKnown IsKept no_items tree_of size
-literal-argument-gains around at old v new b idle small all o =
-    let p0 = o.paid in
-    let g0 = p0.gains Kind.Literal refl idle small all in
-    let p1 = p0.onward in
-    let g1 = p1.gains in
-    let p2 = p1.onward in
-    let g2 = p2.gains Kind.ArgumentList refl idle small (subst (λ s. AllSmall s.candidates) (sym g1.0) g0.small) in
-    comes-to (λ w s. Gains items 0 around w old s b) o (p0.value ∷ p1.value ∷ p2.value ∷ []) (p2.after) (tree (list (tree_of p0.value) (no_items p2.value)) true) (p2.after) p2.onward.0 refl
-    (record { few = omega (arith, o.sum, g0.few, p0.sum, ap (λ s. wealth s) g1.0, g1.1, p1.sum, g2.few, p2.sum, p2.onward.1, size-some (no_items p2.value)); known = tt; kept = tt; small = g2.small })
-
-pub literal-element-gains : Idle Production.LiteralElement items
-unfolding parts_of between is_chain close unfolding_.behind meaning values.part class_of grant Gained Ready ready_for need typed loan returned IsKnown IsKept no_items tree_of size
-literal-element-gains around at old v new b idle small all o =
-    let p0 = o.paid in
-    let g0 = p0.gains Kind.Literal refl idle small all in
-    let p1 = p0.onward in
-    let g1 = p1.gains in
-    let p2 = p1.onward in
-    let g2 = p2.gains Kind.PackList refl idle small (subst (λ s. AllSmall s.candidates) (sym g1.0) g0.small) in
-    comes-to (λ w s. Gains items 0 around w old s b) o (p0.value ∷ p1.value ∷ p2.value ∷ []) (p2.after) (tree (list (tree_of p0.value) (no_items p2.value)) true) (p2.after) p2.onward.0 refl
-    (record { few = omega (arith, o.sum, g0.few, p0.sum, ap (λ s. wealth s) g1.0, g1.1, p1.sum, g2.few, p2.sum, p2.onward.1, size-some (no_items p2.value)); known = tt; kept = tt; small = g2.small })
-
 pub pack-argument-gains : Idle Production.PackArgument items
 unfolding parts_of between is_chain close unfolding_.behind meaning values.part class_of grant Gained Ready ready_for need typed loan returned IsKnown IsKept no_items tree_of size part_of is_component
 pack-argument-gains around at old v new b idle small all o =
@@ -486,7 +247,7 @@ pack-argument-gains around at old v new b idle small all o =
 -- the arguments of a template, before which its name becomes a candidate
 pub arguments-gains : Free Production.Arguments arguments 0
 unfolding parts_of between is_chain close unfolding_.behind meaning values.part class_of grant Gained Ready ready_for need typed loan returned IsKnown IsKept is_there tree_of inside lent SmallPrefix
-arguments-gains around at old v new b small all o =
+arguments-gains around at old v new b ready small all o =
     let h = prefix-grown around old all small in
     let p0 = o.paid in
     let g0 = p0.gains Kind.ArgumentsFirst refl refl tt h.small in
@@ -502,7 +263,7 @@ arguments-gains around at old v new b small all o =
 
 pub given-gains : Free Production.Arguments given 0
 unfolding parts_of between is_chain close unfolding_.behind meaning values.part class_of grant Gained Ready ready_for need typed loan returned IsKnown IsKept is_there tree_of inside lent SmallPrefix
-given-gains around at old v new b small all o =
+given-gains around at old v new b ready small all o =
     let h = prefix-grown around old all small in
     let p0 = o.paid in
     let g0 = p0.gains Kind.ArgumentsFirst refl refl tt h.small in
@@ -539,7 +300,7 @@ encoding-most v t = omega arith
 
 pub special-gains : Free Production.Special whole 0
 unfolding parts_of between is_chain close unfolding_.behind meaning values.part class_of grant Gained Ready ready_for need typed loan returned IsKnown IsKept in_name lent SmallPrefix
-special-gains around at old v new b small all o =
+special-gains around at old v new b ready small all o =
     let p0 = o.paid in
     let g0 = p0.gains Kind.Special refl refl tt all in
     comes-to (λ w s. Gains whole 0 around w old s b) o (p0.value ∷ []) (p0.after) (p0.value) (p0.after) p0.onward.0 refl
@@ -547,7 +308,7 @@ special-gains around at old v new b small all o =
 
 pub other-special-gains : Free Production.OtherSpecial whole 0
 unfolding parts_of between is_chain close unfolding_.behind meaning values.part class_of grant Gained Ready ready_for need typed loan returned IsKnown IsKept in_name lent SmallPrefix
-other-special-gains around at old v new b small all o =
+other-special-gains around at old v new b ready small all o =
     let p0 = o.paid in
     let g0 = p0.gains Kind.SpecialMark refl tt tt all in
     let p1 = p0.onward in
@@ -557,66 +318,10 @@ other-special-gains around at old v new b small all o =
 
 pub encoding-gains : Free Production.Encoding whole 0
 unfolding parts_of between is_chain close unfolding_.behind meaning values.part class_of grant Gained Ready ready_for need typed loan returned IsKnown IsKept in_name in_types lent SmallPrefix tree_of
-encoding-gains around at old v new b small all o =
+encoding-gains around at old v new b ready small all o =
     let p0 = o.paid in
     let g0 = p0.gains Kind.CompleteName refl tt tt all in
     let p1 = p0.onward in
     let g1 = p1.gains Kind.Items refl refl tt g0.small in
     comes-to (λ w s. Gains whole 0 around w old s b) o (p0.value ∷ p1.value ∷ []) (p1.after) (tree (encoding_of p0.value (no_items p1.value)) true) (p1.after) p1.onward.0 refl
     (record { few = omega (arith, o.sum, g0.few, p0.sum, g1.few, p1.sum, p1.onward.1, encoding-most p0.value (no_items p1.value)); known = tt; kept = tt; small = g1.small })
-
-pub special-type-gains : Idle Production.SpecialType whole
-unfolding parts_of between is_chain close unfolding_.behind meaning values.part class_of grant Gained Ready ready_for need typed loan returned IsKnown IsKept size part_of front_of is_encoding is_component tree_of
-special-type-gains around at old v new b idle small all o =
-    let p0 = o.paid in
-    let g0 = p0.gains Kind.Type refl idle small all in
-    comes-to (λ w s. Gains whole 0 around w old s b) o (p0.value ∷ []) (p0.after) (tree (special o.byte (tree_of p0.value)) true) (p0.after) p0.onward.0 refl
-    (record { few = omega (arith, o.sum, g0.few, p0.sum, p0.onward.1); known = tt; kept = tt; small = g0.small })
-
-pub thunk-gains : Idle Production.NonVirtualThunk whole
-unfolding parts_of between is_chain close unfolding_.behind meaning values.part class_of grant Gained Ready ready_for need typed loan returned IsKnown IsKept size part_of front_of is_encoding is_component tree_of thunk_text
-thunk-gains around at old v new b idle small all o =
-    let p0 = o.paid in
-    let g0 = p0.gains Kind.Integer refl tt small all in
-    let p1 = p0.onward in
-    let g1 = p1.gains in
-    let p2 = p1.onward in
-    let g2 = p2.gains Kind.Encoding refl tt small (subst (λ s. AllSmall s.candidates) (sym g1.0) g0.small) in
-    comes-to (λ w s. Gains whole 0 around w old s b) o (p0.value ∷ p1.value ∷ p2.value ∷ []) (p2.after) (tree (thunk (adjusting (non_virtual (signed_of p0.value))) (tree_of p2.value)) true) (p2.after) p2.onward.0 refl
-    (record { few = omega (arith, o.sum, g0.few, p0.sum, ap (λ s. wealth s) g1.0, g1.1, p1.sum, g2.few, p2.sum, p2.onward.1, plain-offset (signed_of p0.value), held-signed p0.value); known = tt; kept = tt; small = g2.small })
-
-pub virtual-thunk-gains : Idle Production.VirtualThunk whole
-unfolding parts_of between is_chain close unfolding_.behind meaning values.part class_of grant Gained Ready ready_for need typed loan returned IsKnown IsKept size part_of front_of is_encoding is_component tree_of thunk_text
-virtual-thunk-gains around at old v new b idle small all o =
-    let p0 = o.paid in
-    let g0 = p0.gains Kind.Integer refl tt small all in
-    let p1 = p0.onward in
-    let g1 = p1.gains in
-    let p2 = p1.onward in
-    let g2 = p2.gains Kind.Integer refl tt small (subst (λ s. AllSmall s.candidates) (sym g1.0) g0.small) in
-    let p3 = p2.onward in
-    let g3 = p3.gains in
-    let p4 = p3.onward in
-    let g4 = p4.gains Kind.Encoding refl tt small (subst (λ s. AllSmall s.candidates) (sym g3.0) g2.small) in
-    comes-to (λ w s. Gains whole 0 around w old s b) o (p0.value ∷ p1.value ∷ p2.value ∷ p3.value ∷ p4.value ∷ []) (p4.after) (tree (thunk (adjusting (by_table (signed_of p0.value) (signed_of p2.value))) (tree_of p4.value)) true) (p4.after) p4.onward.0 refl
-    (record { few = omega (arith, o.sum, g0.few, p0.sum, ap (λ s. wealth s) g1.0, g1.1, p1.sum, g2.few, p2.sum, ap (λ s. wealth s) g3.0, g3.1, p3.sum, g4.few, p4.sum, p4.onward.1, table-offset (signed_of p0.value) (signed_of p2.value), held-signed p0.value, held-signed p2.value); known = tt; kept = tt; small = g4.small })
-
-pub covariant-thunk-gains : Idle Production.CovariantThunk whole
-unfolding parts_of between is_chain close unfolding_.behind meaning values.part class_of grant Gained Ready ready_for need typed loan returned IsKnown IsKept size part_of front_of is_encoding is_component tree_of thunk_text
-covariant-thunk-gains around at old v new b idle small all o =
-    let p0 = o.paid in
-    let g0 = p0.gains Kind.CallOffset refl tt small all in
-    let p1 = p0.onward in
-    let g1 = p1.gains Kind.CallOffset refl tt small g0.small in
-    let p2 = p1.onward in
-    let g2 = p2.gains Kind.Encoding refl tt small g1.small in
-    comes-to (λ w s. Gains whole 0 around w old s b) o (p0.value ∷ p1.value ∷ p2.value ∷ []) (p2.after) (tree (thunk (covariant (adjustment_of p0.value) (adjustment_of p1.value)) (tree_of p2.value)) true) (p2.after) p2.onward.0 refl
-    (record { few = omega (arith, o.sum, g0.few, p0.sum, g1.few, p1.sum, g2.few, p2.sum, p2.onward.1, length-append (codes "Tc" ++ offset_text (adjustment_of p0.value)) (offset_text (adjustment_of p1.value))); known = tt; kept = tt; small = g2.small })
-
-pub special-name-gains : Idle Production.SpecialName whole
-unfolding parts_of between is_chain close unfolding_.behind meaning values.part class_of grant Gained Ready ready_for need typed loan returned IsKnown IsKept size part_of front_of is_encoding is_component tree_of letters_in
-special-name-gains around at old v new b idle small all o =
-    let p0 = o.paid in
-    let g0 = p0.gains Kind.CompleteName refl tt small all in
-    comes-to (λ w s. Gains whole 0 around w old s b) o (p0.value ∷ []) (p0.after) (tree (of_name o.byte (tree_of p0.value) (qualifiers_of p0.value) (ref_of p0.value)) true) (p0.after) p0.onward.0 refl
-    (record { few = omega (arith, o.sum, g0.few, p0.sum, p0.onward.1); known = tt; kept = tt; small = g0.small })

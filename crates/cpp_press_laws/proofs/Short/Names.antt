@@ -1,10 +1,11 @@
 -- What is paid for names.
 use Rattle.std.proofs.Common.{◌≡◌, ℕ, ◌+◌, ◌*◌, ◌≤◌, ◌⊎◌, inl, inr, length, List, [], ◌∷◌, ◌++◌, true, false, cond, Result, Ok, Err, refl, ap, sym, subst, arith, length-append}
 use Rattle.sym_link.specs.Reading.{Next}
+use Rattle.std.proofs.lemmas.Bool.{false≢true}
 use Rattle.cpp_grammar.specs.declared.kind.Kind.{Kind}
 use Rattle.cpp_grammar.specs.declared.production.Production.{Production}
-use Rattle.cpp_grammar.specs.Grammar.{parts_of, is_chain}
-use Rattle.cpp_grammar.specs.Term.{Qualifiers, RefQualifier, any_value, lvalue_only, rvalue_only, Term, in_std, instance, local, parameter, source, operator, constructor, destructor, string_literal}
+use Rattle.cpp_grammar.specs.Grammar.{kinds, number_of, number_of_kind, parts_of, is_chain}
+use Rattle.cpp_grammar.specs.Term.{Qualifiers, RefQualifier, any_value, lvalue_only, rvalue_only, Term, in_std, instance, local, parameter, string_literal}
 use Rattle.cpp_grammar.specs.Values as values
 use Rattle.cpp_grammar.specs.Values.{State, Prefix, outermost, Around, prefix_tree, prefix_listed, Value, nothing_there, letter, text, signed, adjusted, tree, piece, named, signature, unqualified, tree_of, piece_of, is_listed, qualifiers_of, ref_of, letter_of, is_there, mark_of, text_of, signed_of, adjustment_of, normal, is_zero, signed_digits, local_number}
 use Rattle.cpp_grammar.specs.References.{is_function_type}
@@ -12,13 +13,20 @@ use Rattle.cpp_grammar.specs.Between.{after, inside, extended, applied, no_items
 use Rattle.cpp_grammar.specs.Meaning.{discriminator_of, meaning}
 use Rattle.cpp_grammar.specs.Unfolding as unfolding_
 use Rattle.cpp_grammar.specs.Unfolding.{close}
+use Rattle.sym_shape.specs.declared.rule.Sym.{Sym}
+use Rattle.sym_shape.specs.declared.rule.Sym.TheVariants.{Kind as OfKind}
+use Rattle.cpp_grammar.specs.Row.{Made, unlisted, a_name, handed}
+use Rattle.cpp_grammar.specs.Rows.{row_of}
+use Rattle.cpp_grammar.specs.Meant.{made, meant, is_listing, given, all_given}
+use Rattle.cpp_grammar.specs.Builders.{built, argument, truth_in, bytes_in, number_in, tree_in}
 use Rattle.cpp_press_laws.specs.Texts.{qualifier_letters, mark_letter, name_letters}
 use Rattle.cpp_press_laws.specs.Components.{components_of}
 use Rattle.cpp_press_laws.specs.Pressing.{is_encoding}
 use Rattle.cpp_press_laws.proofs.Short.Size.{is_component, part_of, front_of, lettered, size, over, part, front-part, name-own, size-some}
 use Rattle.cpp_press_laws.proofs.Short.Worth.{full, full-most}
-use Rattle.cpp_press_laws.proofs.Short.Gains.{wealth, IsSmall, AllSmall, front, name, arguments, class_of, typed, letters_in, need, lent, owed, loan, returned, grant, SmallPrefix, IsBehind, MayEnd, ready_for, Ready, IsKnown, IsKept, Gains, Gained, Grown, appended-grown, prefix-grown}
+use Rattle.cpp_press_laws.proofs.Short.Gains.{wealth, IsSmall, AllSmall, front, name, arguments, class_of, typed, letters_in, need, lent, owed, loan, returned, grant, SmallPrefix, IsBehind, MayEnd, ready_for, Ready, IsKnown, IsKept, Gains, Gained, Grown, appended-grown, prefix-grown, KindGains}
 use Rattle.cpp_press_laws.proofs.Short.Paid.{Ended, comes-to}
+use Rattle.cpp_press_laws.proofs.Short.ByRow.{is_read, part_passes, parts_pass, cost_of, credit_of, Knows, all_quiet, refers, Pays, row_goes, is_listed_in, each_goes, one-goes, naming, closes-naming, named-first, by-row, may_read, may_be_part, Standing}
 use Rattle.cpp_press_laws.proofs.Short.Slots.{letters-short}
 use Rattle.cpp_press_laws.proofs.Short.Types.{Free, listed}
 use Rattle.sym_core.specs.declared.refusal.Refusal.{Refusal}
@@ -91,209 +99,126 @@ unfolding extended is_function_type
 extended-other outermost p = refl
 extended-other (values.behind t listed) p = refl
 
+-- what a name that is made of one part needs, and what pays for it
+pub record NamePaid (p : Production) (granted : ℕ) (x : Sym) (around : Around) (v : Value) (s : State) (bytes : ℕ) (t : Term) : Type 0 where
+  pub eight : part t ≡ 8
+  pub scope : is_encoding t ≡ false
+  pub other : is_function_type t ≡ false
+  pub few : size t + 9 + credit_of x around ≤ lent around.prefix + cost_of x around v s bytes + 8 * cond (is_chain p) 0 1 + granted
+
+abbrev NamePays : Production → (granted : ℕ) → Made → Sym → Type 0
+NamePays p granted m x =
+    (around : Around) (v : Value) (s : State) (bytes : ℕ) → SmallPrefix around.prefix → Knows x around v s bytes
+    → NamePaid p granted x around v s bytes (made 0 around (v ∷ []) m)
+
+-- a name, and what may be arguments or tags after it
+named-by-row : (p : Production) (m : Made) (x : Sym) (second : Kind) (granted : ℕ) → row_of p ≡ naming m (a_name unlisted)
+    → parts_of p ≡ x ∷ OfKind (number_of_kind second) ∷ [] → part_passes (may_be_part true) x ≡ true → refers p ≡ false
+    → ((prefix : Prefix) → Ready second prefix)
+    → ((around : Around) (v : Value) (old new : State) (b : ℕ) → KindGains second around v old new b → Gains arguments 0 around v old new b)
+    → NamePays p granted m x → Free p name granted
+unfolding SmallPrefix after meant is_listing values.part tree_of
+named-by-row p m x second granted row parts is closed ready given_ pays around at old v new b here small all o =
+    let n = named-first p m (a_name unlisted) x (OfKind (number_of_kind second)) row parts is around at o.inner old o.others small all o.paid in
+    let t : Term = made 0 around (n.value ∷ []) m in
+    let paid = pays around n.value n.after_it n.own small n.first.known in
+    let w = n.second in
+    let g = given_ (after t false around) w.value n.after_it w.after w.own
+    (w.gains second refl (ready (values.behind t false)) (omega (arith, paid.eight), paid.scope) n.first.small) in
+    comes-to (λ u s. Gains name granted around u old s b) o (tree t false ∷ w.value ∷ []) w.after (tree (applied t w.value) false) w.after w.onward.0
+    (closes-naming p m (a_name unlisted) row closed o.byte around at old (tree t false ∷ w.value ∷ []) w.after)
+    (applied-named around t w.value w.after n.after_it old w.own b granted paid.eight paid.scope paid.other g
+    (omega (arith, o.sum, n.sum, n.first.few, paid.few, w.sum, w.onward.1)))
+
+-- a name that goes on
+going-by-row : (p : Production) (m : Made) (x : Sym) → row_of p ≡ naming m (handed 1)
+    → parts_of p ≡ x ∷ OfKind (number_of_kind Kind.NestRest) ∷ [] → part_passes (may_be_part true) x ≡ true → refers p ≡ false
+    → NamePays p 0 m x → Free p name 0
+unfolding SmallPrefix after meant values.part class_of grant Gained Ready IsBehind need loan returned lent IsKnown IsKept
+going-by-row p m x row parts is closed pays around at old v new b here small all o =
+    let n = named-first p m (handed 1) x (OfKind (number_of_kind Kind.NestRest)) row parts is around at o.inner old o.others small all o.paid in
+    let t : Term = made 0 around (n.value ∷ []) m in
+    let paid = pays around n.value n.after_it n.own small n.first.known in
+    let w = n.second in
+    let g = w.gains Kind.NestRest refl paid.scope (omega (arith, paid.eight), paid.scope) n.first.small in
+    comes-to (λ u s. Gains name 0 around u old s b) o (tree t false ∷ w.value ∷ []) w.after w.value w.after w.onward.0
+    (closes-naming p m (handed 1) row closed o.byte around at old (tree t false ∷ w.value ∷ []) w.after)
+    (record { few = omega (arith, o.sum, n.sum, n.first.few, paid.few, g.few, w.sum, w.onward.1); known = g.known; kept = tt; small = g.small })
+
+-- a piece behind the name so far, or in std
+piece-paid : {p : Production} {granted : ℕ} {x : Sym} {around : Around} {v : Value} {s : State} {bytes : ℕ} (u : Term) → SmallPrefix around.prefix
+    → 2 + size u + 9 + credit_of x around ≤ cost_of x around v s bytes + 8 * cond (is_chain p) 0 1 + granted
+    → NamePaid p granted x around v s bytes (extended around.prefix u)
+piece-paid {around = around} u small few = record {
+  eight = extended-part around.prefix u;
+  scope = extended-scope around.prefix u;
+  other = extended-other around.prefix u;
+  few = omega (arith, few, extended-size around.prefix u small);
+}
+
+in-std-paid : {p : Production} {granted : ℕ} {x : Sym} {around : Around} {v : Value} {s : State} {bytes : ℕ} (u : Term)
+    → 4 + size u + 9 + credit_of x around ≤ lent around.prefix + cost_of x around v s bytes + 8 * cond (is_chain p) 0 1 + granted
+    → NamePaid p granted x around v s bytes (in_std u)
+unfolding size part_of is_component is_encoding is_function_type
+in-std-paid u few = record { eight = refl; scope = refl; other = refl; few = omega (arith, few) }
+
 pub internal-name : Free Production.InternalName name 0
-unfolding parts_of between is_chain close unfolding_.behind meaning values.part class_of grant Gained Ready ready_for need typed loan returned IsKnown IsKept tree_of named_so_far listed_so_far after SmallPrefix size part_of is_component is_encoding is_function_type
-internal-name around at old v new b small all o =
-    let p0 = o.paid in
-    let g0 = p0.gains in
-    let t : Term = extended around.prefix (source true (text_of p0.value)) in
-    let p1 = p0.onward in
-    let g1 = p1.gains Kind.MaybeArguments refl tt (omega (arith, extended-part around.prefix (source true (text_of p0.value))), extended-scope around.prefix (source true (text_of p0.value))) (subst (λ s. AllSmall s.candidates) (sym g0.0) all) in
-    comes-to (λ w s. Gains name 0 around w old s b) o (tree t false ∷ p1.value ∷ []) p1.after (tree (applied t p1.value) false) p1.after p1.onward.0 refl
-    (applied-named around t p1.value p1.after p0.after old p1.own b 0 (extended-part around.prefix (source true (text_of p0.value))) (extended-scope around.prefix (source true (text_of p0.value))) (extended-other around.prefix (source true (text_of p0.value))) g1 (omega (arith, o.sum, ap (λ s. wealth s) g0.0, g0.1.0, g0.1.1, g0.1.2, p0.sum, p1.sum, p1.onward.1, extended-size around.prefix (source true (text_of p0.value)) small)))
+unfolding row_of kinds number_of_kind parts_of is_chain part_passes may_be_part may_read is_read class_of refers Ready ready_for grant Gained made built argument given truth_in bytes_in number_in tree_in all_given values.part cost_of credit_of Knows need loan returned letter_of size
+internal-name = named-by-row Production.InternalName _ _ Kind.MaybeArguments 0 refl refl refl refl (λ prefix. tt) (λ around v old new b g. g) (λ around v s n small k. piece-paid _ small (omega (arith, k.0, k.1, k.2)))
 
 pub source-name : Free Production.SourceName name 0
-unfolding parts_of between is_chain close unfolding_.behind meaning values.part class_of grant Gained Ready ready_for need typed loan returned IsKnown IsKept tree_of named_so_far listed_so_far after SmallPrefix size part_of is_component is_encoding is_function_type
-source-name around at old v new b small all o =
-    let p0 = o.paid in
-    let g0 = p0.gains in
-    let t : Term = extended around.prefix (source false (text_of p0.value)) in
-    let p1 = p0.onward in
-    let g1 = p1.gains Kind.MaybeArguments refl tt (omega (arith, extended-part around.prefix (source false (text_of p0.value))), extended-scope around.prefix (source false (text_of p0.value))) (subst (λ s. AllSmall s.candidates) (sym g0.0) all) in
-    comes-to (λ w s. Gains name 0 around w old s b) o (tree t false ∷ p1.value ∷ []) p1.after (tree (applied t p1.value) false) p1.after p1.onward.0 refl
-    (applied-named around t p1.value p1.after p0.after old p1.own b 0 (extended-part around.prefix (source false (text_of p0.value))) (extended-scope around.prefix (source false (text_of p0.value))) (extended-other around.prefix (source false (text_of p0.value))) g1 (omega (arith, o.sum, ap (λ s. wealth s) g0.0, g0.1.0, g0.1.1, g0.1.2, p0.sum, p1.sum, p1.onward.1, extended-size around.prefix (source false (text_of p0.value)) small)))
+unfolding row_of kinds number_of_kind parts_of is_chain part_passes may_be_part may_read is_read class_of refers Ready ready_for grant Gained made built argument given truth_in bytes_in number_in tree_in all_given values.part cost_of credit_of Knows need loan returned letter_of size
+source-name = named-by-row Production.SourceName _ _ Kind.MaybeArguments 0 refl refl refl refl (λ prefix. tt) (λ around v old new b g. g) (λ around v s n small k. piece-paid _ small (omega (arith, k.0, k.1, k.2)))
 
 pub local-type-name : Free Production.LocalTypeName name 0
-unfolding parts_of between is_chain close unfolding_.behind meaning values.part class_of grant Gained Ready ready_for need typed loan returned IsKnown IsKept tree_of named_so_far listed_so_far after SmallPrefix size part_of is_component is_encoding is_function_type
-local-type-name around at old v new b small all o =
-    let p0 = o.paid in
-    let g0 = p0.gains Kind.Anonymous refl tt small all in
-    let t : Term = extended around.prefix (piece_of p0.value) in
-    let p1 = p0.onward in
-    let g1 = p1.gains Kind.MaybeArguments refl tt (omega (arith, extended-part around.prefix (piece_of p0.value)), extended-scope around.prefix (piece_of p0.value)) g0.small in
-    comes-to (λ w s. Gains name 0 around w old s b) o (tree t false ∷ p1.value ∷ []) p1.after (tree (applied t p1.value) false) p1.after p1.onward.0 refl
-    (applied-named around t p1.value p1.after p0.after old p1.own b 0 (extended-part around.prefix (piece_of p0.value)) (extended-scope around.prefix (piece_of p0.value)) (extended-other around.prefix (piece_of p0.value)) g1 (omega (arith, o.sum, g0.few, p0.sum, p1.sum, p1.onward.1, extended-size around.prefix (piece_of p0.value) small)))
+unfolding row_of kinds number_of_kind parts_of is_chain part_passes may_be_part may_read is_read class_of refers Ready ready_for grant Gained made built argument given truth_in bytes_in number_in tree_in all_given values.part cost_of credit_of Knows need loan returned letter_of size
+local-type-name = named-by-row Production.LocalTypeName _ _ Kind.MaybeArguments 0 refl refl refl refl (λ prefix. tt) (λ around v old new b g. g) (λ around v s n small k. piece-paid _ small (omega (arith)))
 
 pub operator-name : Free Production.OperatorName name 0
-unfolding parts_of between is_chain close unfolding_.behind meaning values.part class_of grant Gained Ready ready_for need typed loan returned IsKnown IsKept tree_of named_so_far listed_so_far after SmallPrefix size part_of is_component is_encoding is_function_type
-operator-name around at old v new b small all o =
-    let p0 = o.paid in
-    let g0 = p0.gains Kind.Operator refl tt small all in
-    let t : Term = extended around.prefix (piece_of p0.value) in
-    let p1 = p0.onward in
-    let g1 = p1.gains Kind.MaybeArguments refl tt (omega (arith, extended-part around.prefix (piece_of p0.value)), extended-scope around.prefix (piece_of p0.value)) g0.small in
-    comes-to (λ w s. Gains name 0 around w old s b) o (tree t false ∷ p1.value ∷ []) p1.after (tree (applied t p1.value) false) p1.after p1.onward.0 refl
-    (applied-named around t p1.value p1.after p0.after old p1.own b 0 (extended-part around.prefix (piece_of p0.value)) (extended-scope around.prefix (piece_of p0.value)) (extended-other around.prefix (piece_of p0.value)) g1 (omega (arith, o.sum, g0.few, p0.sum, p1.sum, p1.onward.1, extended-size around.prefix (piece_of p0.value) small)))
+unfolding row_of kinds number_of_kind parts_of is_chain part_passes may_be_part may_read is_read class_of refers Ready ready_for grant Gained made built argument given truth_in bytes_in number_in tree_in all_given values.part cost_of credit_of Knows need loan returned letter_of size
+operator-name = named-by-row Production.OperatorName _ _ Kind.MaybeArguments 0 refl refl refl refl (λ prefix. tt) (λ around v old new b g. g) (λ around v s n small k. piece-paid _ small (omega (arith)))
 
 pub other-operator-name : Free Production.OtherOperatorName name 0
-unfolding parts_of between is_chain close unfolding_.behind meaning values.part class_of grant Gained Ready ready_for need typed loan returned IsKnown IsKept tree_of named_so_far listed_so_far after SmallPrefix size part_of is_component is_encoding is_function_type
-other-operator-name around at old v new b small all o =
-    let p0 = o.paid in
-    let g0 = p0.gains Kind.OtherOperator refl tt small all in
-    let t : Term = extended around.prefix (piece_of p0.value) in
-    let p1 = p0.onward in
-    let g1 = p1.gains Kind.MaybeArguments refl tt (omega (arith, extended-part around.prefix (piece_of p0.value)), extended-scope around.prefix (piece_of p0.value)) g0.small in
-    comes-to (λ w s. Gains name 0 around w old s b) o (tree t false ∷ p1.value ∷ []) p1.after (tree (applied t p1.value) false) p1.after p1.onward.0 refl
-    (applied-named around t p1.value p1.after p0.after old p1.own b 0 (extended-part around.prefix (piece_of p0.value)) (extended-scope around.prefix (piece_of p0.value)) (extended-other around.prefix (piece_of p0.value)) g1 (omega (arith, o.sum, g0.few, p0.sum, p1.sum, p1.onward.1, extended-size around.prefix (piece_of p0.value) small)))
+unfolding row_of kinds number_of_kind parts_of is_chain part_passes may_be_part may_read is_read class_of refers Ready ready_for grant Gained made built argument given truth_in bytes_in number_in tree_in all_given values.part cost_of credit_of Knows need loan returned letter_of size
+other-operator-name = named-by-row Production.OtherOperatorName _ _ Kind.MaybeArguments 0 refl refl refl refl (λ prefix. tt) (λ around v old new b g. g) (λ around v s n small k. piece-paid _ small (omega (arith)))
 
 pub operator-name-with-c : Free Production.OperatorNameWithC name 8
-unfolding parts_of between is_chain close unfolding_.behind meaning values.part class_of grant Gained Ready ready_for need typed loan returned IsKnown IsKept tree_of named_so_far listed_so_far after SmallPrefix size part_of is_component is_encoding is_function_type
-operator-name-with-c around at old v new b small all o =
-    let p0 = o.paid in
-    let g0 = p0.gains Kind.OperatorAfterC refl tt small all in
-    let t : Term = extended around.prefix (operator 99 (letter_of p0.value)) in
-    let p1 = p0.onward in
-    let g1 = p1.gains Kind.MaybeArguments refl tt (omega (arith, extended-part around.prefix (operator 99 (letter_of p0.value))), extended-scope around.prefix (operator 99 (letter_of p0.value))) g0.small in
-    comes-to (λ w s. Gains name 8 around w old s b) o (tree t false ∷ p1.value ∷ []) p1.after (tree (applied t p1.value) false) p1.after p1.onward.0 refl
-    (applied-named around t p1.value p1.after p0.after old p1.own b 8 (extended-part around.prefix (operator 99 (letter_of p0.value))) (extended-scope around.prefix (operator 99 (letter_of p0.value))) (extended-other around.prefix (operator 99 (letter_of p0.value))) g1 (omega (arith, o.sum, g0.few, p0.sum, p1.sum, p1.onward.1, extended-size around.prefix (operator 99 (letter_of p0.value)) small)))
+unfolding row_of kinds number_of_kind parts_of is_chain part_passes may_be_part may_read is_read class_of refers Ready ready_for grant Gained made built argument given truth_in bytes_in number_in tree_in all_given values.part cost_of credit_of Knows need loan returned letter_of size
+operator-name-with-c = named-by-row Production.OperatorNameWithC _ _ Kind.MaybeArguments 8 refl refl refl refl (λ prefix. tt) (λ around v old new b g. g) (λ around v s n small k. piece-paid _ small (omega (arith)))
 
 pub constructor-name : Free Production.Constructor name 8
-unfolding parts_of between is_chain close unfolding_.behind meaning values.part class_of grant Gained Ready ready_for need typed loan returned IsKnown IsKept tree_of named_so_far listed_so_far after SmallPrefix size part_of is_component is_encoding is_function_type
-constructor-name around at old v new b small all o =
-    let p0 = o.paid in
-    let g0 = p0.gains Kind.ConstructorDigit refl tt small all in
-    let t : Term = extended around.prefix (constructor (letter_of p0.value)) in
-    let p1 = p0.onward in
-    let g1 = p1.gains Kind.MaybeArguments refl tt (omega (arith, extended-part around.prefix (constructor (letter_of p0.value))), extended-scope around.prefix (constructor (letter_of p0.value))) g0.small in
-    comes-to (λ w s. Gains name 8 around w old s b) o (tree t false ∷ p1.value ∷ []) p1.after (tree (applied t p1.value) false) p1.after p1.onward.0 refl
-    (applied-named around t p1.value p1.after p0.after old p1.own b 8 (extended-part around.prefix (constructor (letter_of p0.value))) (extended-scope around.prefix (constructor (letter_of p0.value))) (extended-other around.prefix (constructor (letter_of p0.value))) g1 (omega (arith, o.sum, g0.few, p0.sum, p1.sum, p1.onward.1, extended-size around.prefix (constructor (letter_of p0.value)) small)))
+unfolding row_of kinds number_of_kind parts_of is_chain part_passes may_be_part may_read is_read class_of refers Ready ready_for grant Gained made built argument given truth_in bytes_in number_in tree_in all_given values.part cost_of credit_of Knows need loan returned letter_of size
+constructor-name = named-by-row Production.Constructor _ _ Kind.MaybeArguments 8 refl refl refl refl (λ prefix. tt) (λ around v old new b g. g) (λ around v s n small k. piece-paid _ small (omega (arith)))
 
 pub destructor-name : Free Production.Destructor name 0
-unfolding parts_of between is_chain close unfolding_.behind meaning values.part class_of grant Gained Ready ready_for need typed loan returned IsKnown IsKept tree_of named_so_far listed_so_far after SmallPrefix size part_of is_component is_encoding is_function_type
-destructor-name around at old v new b small all o =
-    let p0 = o.paid in
-    let g0 = p0.gains Kind.DestructorDigit refl tt small all in
-    let t : Term = extended around.prefix (destructor (letter_of p0.value)) in
-    let p1 = p0.onward in
-    let g1 = p1.gains Kind.MaybeArguments refl tt (omega (arith, extended-part around.prefix (destructor (letter_of p0.value))), extended-scope around.prefix (destructor (letter_of p0.value))) g0.small in
-    comes-to (λ w s. Gains name 0 around w old s b) o (tree t false ∷ p1.value ∷ []) p1.after (tree (applied t p1.value) false) p1.after p1.onward.0 refl
-    (applied-named around t p1.value p1.after p0.after old p1.own b 0 (extended-part around.prefix (destructor (letter_of p0.value))) (extended-scope around.prefix (destructor (letter_of p0.value))) (extended-other around.prefix (destructor (letter_of p0.value))) g1 (omega (arith, o.sum, g0.few, p0.sum, p1.sum, p1.onward.1, extended-size around.prefix (destructor (letter_of p0.value)) small)))
+unfolding row_of kinds number_of_kind parts_of is_chain part_passes may_be_part may_read is_read class_of refers Ready ready_for grant Gained made built argument given truth_in bytes_in number_in tree_in all_given values.part cost_of credit_of Knows need loan returned letter_of size
+destructor-name = named-by-row Production.Destructor _ _ Kind.MaybeArguments 0 refl refl refl refl (λ prefix. tt) (λ around v old new b g. g) (λ around v s n small k. piece-paid _ small (omega (arith)))
 
 pub std-name : Free Production.StdName name 0
-unfolding parts_of between is_chain close unfolding_.behind meaning values.part class_of grant Gained Ready ready_for need typed loan returned IsKnown IsKept tree_of named_so_far listed_so_far after SmallPrefix size part_of is_component is_encoding is_function_type
-std-name around at old v new b small all o =
-    let p0 = o.paid in
-    let g0 = p0.gains Kind.Unqualified refl tt small all in
-    let t : Term = in_std (piece_of p0.value) in
-    let p1 = p0.onward in
-    let g1 = p1.gains Kind.MaybeArguments refl tt (omega arith, refl) g0.small in
-    comes-to (λ w s. Gains name 0 around w old s b) o (tree t false ∷ p1.value ∷ []) p1.after (tree (applied t p1.value) false) p1.after p1.onward.0 refl
-    (applied-named around t p1.value p1.after p0.after old p1.own b 0 refl refl refl g1 (omega (arith, o.sum, g0.few, p0.sum, p1.sum, p1.onward.1)))
+unfolding row_of kinds number_of_kind parts_of is_chain part_passes may_be_part may_read is_read class_of refers Ready ready_for grant Gained made built argument given truth_in bytes_in number_in tree_in all_given values.part cost_of credit_of Knows need loan returned letter_of size
+std-name = named-by-row Production.StdName _ _ Kind.MaybeArguments 0 refl refl refl refl (λ prefix. tt) (λ around v old new b g. g) (λ around v s n small k. in-std-paid _ (omega (arith)))
 
 pub tagged-std-type : Free Production.TaggedStdType name 0
-unfolding parts_of between is_chain close unfolding_.behind meaning values.part class_of grant Gained Ready ready_for need typed loan returned IsKnown IsKept tree_of named_so_far listed_so_far after SmallPrefix size part_of is_component is_encoding is_function_type
-tagged-std-type around at old v new b small all o =
-    let p0 = o.paid in
-    let g0 = p0.gains Kind.SourceOrLocal refl tt small all in
-    let t : Term = in_std (piece_of p0.value) in
-    let p1 = p0.onward in
-    let g1 = p1.gains Kind.MaybeTags refl tt (omega arith, refl) g0.small in
-    comes-to (λ w s. Gains name 0 around w old s b) o (tree t false ∷ p1.value ∷ []) p1.after (tree (applied t p1.value) false) p1.after p1.onward.0 refl
-    (applied-named around t p1.value p1.after p0.after old p1.own b 0 refl refl refl g1 (omega (arith, o.sum, g0.few, p0.sum, p1.sum, p1.onward.1)))
+unfolding row_of kinds number_of_kind parts_of is_chain part_passes may_be_part may_read is_read class_of refers Ready ready_for grant Gained made built argument given truth_in bytes_in number_in tree_in all_given values.part cost_of credit_of Knows need loan returned letter_of size
+tagged-std-type = named-by-row Production.TaggedStdType _ _ Kind.MaybeTags 0 refl refl refl refl (λ prefix. tt) (λ around v old new b g. g) (λ around v s n small k. in-std-paid _ (omega (arith)))
+
+pub nest-internal : Free Production.NestInternal name 0
+unfolding row_of kinds number_of_kind parts_of is_chain part_passes may_be_part may_read is_read class_of refers Ready ready_for grant Gained made built argument given truth_in bytes_in number_in tree_in all_given values.part cost_of credit_of Knows need loan returned letter_of size
+nest-internal = going-by-row Production.NestInternal _ _ refl refl refl refl (λ around v s n small k. piece-paid _ small (omega (arith, k.0, k.1, k.2)))
+
+pub nest-source : Free Production.NestSource name 0
+unfolding row_of kinds number_of_kind parts_of is_chain part_passes may_be_part may_read is_read class_of refers Ready ready_for grant Gained made built argument given truth_in bytes_in number_in tree_in all_given values.part cost_of credit_of Knows need loan returned letter_of size
+nest-source = going-by-row Production.NestSource _ _ refl refl refl refl (λ around v s n small k. piece-paid _ small (omega (arith, k.0, k.1, k.2)))
+
+pub nest-local-type : Free Production.NestLocalType name 0
+unfolding row_of kinds number_of_kind parts_of is_chain part_passes may_be_part may_read is_read class_of refers Ready ready_for grant Gained made built argument given truth_in bytes_in number_in tree_in all_given values.part cost_of credit_of Knows need loan returned letter_of size
+nest-local-type = going-by-row Production.NestLocalType _ _ refl refl refl refl (λ around v s n small k. piece-paid _ small (omega (arith)))
 
 -- ## Names between N and E
 
-pub nest-internal : Free Production.NestInternal name 0
-unfolding parts_of between is_chain close unfolding_.behind meaning values.part class_of grant Gained Ready ready_for need typed loan returned IsKnown IsKept tree_of named_so_far listed_so_far after SmallPrefix IsBehind lent size
-nest-internal around at old v new b small all o =
-    let p0 = o.paid in
-    let g0 = p0.gains in
-    let t : Term = extended around.prefix (source true (text_of p0.value)) in
-    let p1 = p0.onward in
-    let g1 = p1.gains Kind.NestRest refl (extended-scope around.prefix (source true (text_of p0.value))) (omega (arith, extended-part around.prefix (source true (text_of p0.value))), extended-scope around.prefix (source true (text_of p0.value))) (subst (λ s. AllSmall s.candidates) (sym g0.0) all) in
-    comes-to (λ w s. Gains name 0 around w old s b) o (tree t false ∷ p1.value ∷ []) p1.after p1.value p1.after p1.onward.0 refl
-    (record {
-      few = omega (arith, o.sum, ap (λ s. wealth s) g0.0, g0.1.0, g0.1.1, g0.1.2, p0.sum, g1.few, p1.sum, p1.onward.1, extended-size around.prefix (source true (text_of p0.value)) small);
-      known = g1.known;
-      kept = tt;
-      small = g1.small;
-    })
-
-pub nest-source : Free Production.NestSource name 0
-unfolding parts_of between is_chain close unfolding_.behind meaning values.part class_of grant Gained Ready ready_for need typed loan returned IsKnown IsKept tree_of named_so_far listed_so_far after SmallPrefix IsBehind lent size
-nest-source around at old v new b small all o =
-    let p0 = o.paid in
-    let g0 = p0.gains in
-    let t : Term = extended around.prefix (source false (text_of p0.value)) in
-    let p1 = p0.onward in
-    let g1 = p1.gains Kind.NestRest refl (extended-scope around.prefix (source false (text_of p0.value))) (omega (arith, extended-part around.prefix (source false (text_of p0.value))), extended-scope around.prefix (source false (text_of p0.value))) (subst (λ s. AllSmall s.candidates) (sym g0.0) all) in
-    comes-to (λ w s. Gains name 0 around w old s b) o (tree t false ∷ p1.value ∷ []) p1.after p1.value p1.after p1.onward.0 refl
-    (record {
-      few = omega (arith, o.sum, ap (λ s. wealth s) g0.0, g0.1.0, g0.1.1, g0.1.2, p0.sum, g1.few, p1.sum, p1.onward.1, extended-size around.prefix (source false (text_of p0.value)) small);
-      known = g1.known;
-      kept = tt;
-      small = g1.small;
-    })
-
-pub nest-local-type : Free Production.NestLocalType name 0
-unfolding parts_of between is_chain close unfolding_.behind meaning values.part class_of grant Gained Ready ready_for need typed loan returned IsKnown IsKept tree_of named_so_far listed_so_far after SmallPrefix IsBehind lent size
-nest-local-type around at old v new b small all o =
-    let p0 = o.paid in
-    let g0 = p0.gains Kind.Anonymous refl tt small all in
-    let t : Term = extended around.prefix (piece_of p0.value) in
-    let p1 = p0.onward in
-    let g1 = p1.gains Kind.NestRest refl (extended-scope around.prefix (piece_of p0.value)) (omega (arith, extended-part around.prefix (piece_of p0.value)), extended-scope around.prefix (piece_of p0.value)) g0.small in
-    comes-to (λ w s. Gains name 0 around w old s b) o (tree t false ∷ p1.value ∷ []) p1.after p1.value p1.after p1.onward.0 refl
-    (record {
-      few = omega (arith, o.sum, g0.few, p0.sum, g1.few, p1.sum, p1.onward.1, extended-size around.prefix (piece_of p0.value) small);
-      known = g1.known;
-      kept = tt;
-      small = g1.small;
-    })
-
-pub nest-with-s : Free Production.NestWithS name 0
-unfolding parts_of between is_chain close unfolding_.behind meaning values.part class_of grant Gained Ready ready_for need typed loan returned IsKnown IsKept
-nest-with-s around at old v new b small all o =
-    let p0 = o.paid in
-    let g0 = p0.gains Kind.NestAfterS refl tt small all in
-    comes-to (λ w s. Gains name 0 around w old s b) o (p0.value ∷ []) (p0.after) (p0.value) (p0.after) p0.onward.0 refl
-    (record { few = omega (arith, o.sum, g0.few, p0.sum, p0.onward.1); known = g0.known; kept = tt; small = g0.small })
-
-pub nested-type : Free Production.NestedType name 0
-unfolding parts_of between is_chain close unfolding_.behind meaning values.part class_of grant Gained Ready ready_for need typed loan returned IsKnown IsKept
-nested-type around at old v new b small all o =
-    let p0 = o.paid in
-    let g0 = p0.gains Kind.Nest refl tt small all in
-    comes-to (λ w s. Gains name 0 around w old s b) o (p0.value ∷ []) (p0.after) (p0.value) (p0.after) p0.onward.0 refl
-    (record { few = omega (arith, o.sum, g0.few, p0.sum, p0.onward.1); known = g0.known; kept = tt; small = g0.small })
-
-pub name-with-s : Free Production.NameWithS name 0
-unfolding parts_of between is_chain close unfolding_.behind meaning values.part class_of grant Gained Ready ready_for need typed loan returned IsKnown IsKept
-name-with-s around at old v new b small all o =
-    let p0 = o.paid in
-    let g0 = p0.gains Kind.NameAfterS refl tt small all in
-    comes-to (λ w s. Gains name 0 around w old s b) o (p0.value ∷ []) (p0.after) (p0.value) (p0.after) p0.onward.0 refl
-    (record { few = omega (arith, o.sum, g0.few, p0.sum, p0.onward.1); known = g0.known; kept = tt; small = g0.small })
-
-pub component-with-c : Free Production.ComponentWithC name 0
-unfolding parts_of between is_chain close unfolding_.behind meaning values.part class_of grant Gained Ready ready_for need typed loan returned IsKnown IsKept
-component-with-c around at old v new b small all o =
-    let p0 = o.paid in
-    let g0 = p0.gains Kind.ComponentAfterC refl tt small all in
-    comes-to (λ w s. Gains name 0 around w old s b) o (p0.value ∷ []) (p0.after) (p0.value) (p0.after) p0.onward.0 refl
-    (record { few = omega (arith, o.sum, g0.few, p0.sum, p0.onward.1); known = g0.known; kept = tt; small = g0.small })
-
-pub any-constructor : Free Production.AnyConstructor name 0
-unfolding parts_of between is_chain close unfolding_.behind meaning values.part class_of grant Gained Ready ready_for need typed loan returned IsKnown IsKept
-any-constructor around at old v new b small all o =
-    let p0 = o.paid in
-    let g0 = p0.gains Kind.ConstructorAfterC refl tt small all in
-    comes-to (λ w s. Gains name 0 around w old s b) o (p0.value ∷ []) (p0.after) (p0.value) (p0.after) p0.onward.0 refl
-    (record { few = omega (arith, o.sum, g0.few, p0.sum, p0.onward.1); known = g0.known; kept = tt; small = g0.small })
-
 pub nest-std : Free Production.NestStd name 0
 unfolding parts_of between is_chain close unfolding_.behind meaning values.part class_of grant Gained Ready ready_for need typed loan returned IsKnown IsKept tree_of named_so_far listed_so_far after SmallPrefix size part_of is_component is_encoding is_function_type MayEnd lent
-nest-std around at old v new b small all o =
+nest-std around at old v new b ready small all o =
     let p0 = o.paid in
     let g0 = p0.gains Kind.Unqualified refl tt small all in
     let t : Term = in_std (piece_of p0.value) in
@@ -314,7 +239,7 @@ nest-std around at old v new b small all o =
 
 pub nest-template : Free Production.NestTemplate name 0
 unfolding parts_of between is_chain close unfolding_.behind meaning values.part class_of grant Gained Ready ready_for need typed loan returned IsKnown IsKept tree_of named_so_far listed_so_far after SmallPrefix IsBehind lent
-nest-template around at old v new b small all o =
+nest-template around at old v new b ready small all o =
     let p0 = o.paid in
     let g0 = p0.gains Kind.Abbreviation refl tt small all in
     let t : Term = tree_of p0.value in
@@ -485,7 +410,7 @@ parameter-goes around place k vs old G all goes = go (parameter_named around pla
 
 pub nest-parameter : Free Production.NestParameter name 0
 unfolding parts_of between is_chain close unfolding_.behind meaning values.part class_of grant Gained Ready ready_for need typed loan returned IsKnown IsKept tree_of named_so_far after SmallPrefix index_of IsBehind lent full over size part_of front_of is_component is_encoding is_function_type parameter_so_far parameter_named listed_so_far
-nest-parameter around at old v new b small all o =
+nest-parameter around at old v new b ready small all o =
     let p0 = o.paid in
     let g0 = p0.gains in
     let k : ℕ = index_of p0.value in
@@ -518,25 +443,41 @@ unfolding name_letters
 letters-most q ref =
     omega (arith, lettered-most (qualifier_letters q ++ mark_letter ref), length-append (qualifier_letters q) (mark_letter ref), letters-short q, ref-most ref)
 
-pub nested-name : Free Production.NestedName name 0
-unfolding parts_of between is_chain close unfolding_.behind meaning values.part class_of grant Gained Ready ready_for need typed loan returned IsKnown IsKept letters_in tree_of qualifiers_of ref_of
-nested-name around at old v new b small all o =
-    let p0 = o.paid in
-    let g0 = p0.gains Kind.MaybeRestrict refl tt small all in
-    let p1 = p0.onward in
-    let g1 = p1.gains Kind.MaybeVolatile refl tt small g0.small in
-    let p2 = p1.onward in
-    let g2 = p2.gains Kind.MaybeConst refl tt small g1.small in
-    let p3 = p2.onward in
-    let g3 = p3.gains Kind.MaybeRef refl tt small g2.small in
-    let p4 = p3.onward in
-    let g4 = p4.gains Kind.Nest refl tt small g3.small in
-    comes-to (λ w s. Gains name 0 around w old s b) o (p0.value ∷ p1.value ∷ p2.value ∷ p3.value ∷ p4.value ∷ []) (p4.after) (named (tree_of p4.value) (record { restrict = is_there p0.value; volatile = is_there p1.value; const = is_there p2.value }) (mark_of p3.value)) (p4.after) p4.onward.0 refl
-    (record { few = omega (arith, o.sum, g0.few, p0.sum, g1.few, p1.sum, g2.few, p2.sum, g3.few, p3.sum, g4.few, p4.sum, p4.onward.1, letters-most (record { restrict = is_there p0.value; volatile = is_there p1.value; const = is_there p2.value }) (mark_of p3.value)); known = g4.known; kept = tt; small = g4.small })
+unfoldable pub name_rows : List Production
+name_rows = Production.NestWithS ∷ Production.NestedType ∷ Production.NameWithS ∷ Production.AnyConstructor ∷ Production.ComponentWithC ∷ Production.NestedName ∷ []
+
+name-pays : (p : Production) → is_listed_in name_rows p ≡ true → Pays (Standing true) p name 0
+unfolding is_listed_in name_rows kinds number_of number_of_kind parts_of is_chain unfolding_.behind meaning values.part class_of grant cost_of credit_of Knows need loan returned IsKnown IsKept letters_in tree_of qualifiers_of ref_of
+name-pays Production.NestWithS is = λ byte around old idle small v s n k all b few. record { few = omega (arith, few); known = k; kept = tt; small = all }
+name-pays Production.NestedType is = λ byte around old idle small v s n k all b few. record { few = omega (arith, few); known = k; kept = tt; small = all }
+name-pays Production.NameWithS is = λ byte around old idle small v s n k all b few. record { few = omega (arith, few); known = k; kept = tt; small = all }
+name-pays Production.AnyConstructor is = λ byte around old idle small v s n k all b few. record { few = omega (arith, few); known = k; kept = tt; small = all }
+name-pays Production.ComponentWithC is = λ byte around old idle small v s n k all b few. record { few = omega (arith, few); known = k; kept = tt; small = all }
+name-pays Production.NestedName is = λ byte around old idle small r s0 n0 k0 w s1 n1 k1 c s2 n2 k2 m s3 n3 k3 v s n k all b few.
+    record {
+      few = omega (arith, few, letters-most (record { restrict = is_there r; volatile = is_there w; const = is_there c }) (mark_of m));
+      known = k;
+      kept = tt;
+      small = all;
+    }
+name-pays _ is = absurd (false≢true is)
+
+pub name-gains : (p : Production) → is_listed_in name_rows p ≡ true → Free p name 0
+unfolding is_listed_in each_goes row_goes all_quiet refers parts_pass part_passes is_read class_of kinds number_of number_of_kind parts_of row_of may_read may_be_part name_rows
+name-gains p is = by-row true p name 0 (one-goes (may_be_part true) name_rows p refl is) (name-pays p is)
+
+pub string-literal : Free Production.StringLiteral name 4
+unfolding kinds number_of_kind parts_of is_chain unfolding_.behind meaning row_of row_goes all_quiet refers parts_pass letters_in tree_of qualifiers_of ref_of name_letters qualifier_letters mark_letter lettered size need loan returned IsKnown IsKept
+string-literal = by-row true Production.StringLiteral name 4 refl (λ byte around old idle small all b few. record {
+  few = omega (arith, few, extended-size around.prefix string_literal small);
+  known = ((omega (arith, extended-part around.prefix string_literal), extended-scope around.prefix string_literal), extended-other around.prefix string_literal);
+  kept = tt;
+  small = all;
+})
 
 pub local-name : Free Production.LocalName name 0
 unfolding parts_of between is_chain close unfolding_.behind meaning values.part class_of grant Gained Ready ready_for need typed loan returned IsKnown IsKept tree_of named_so_far listed_so_far after SmallPrefix letters_in qualifiers_of ref_of lent size front_of part_of is_component is_encoding is_function_type
-local-name around at old v new b small all o =
+local-name around at old v new b ready small all o =
     let p0 = o.paid in
     let g0 = p0.gains Kind.Encoding refl tt small all in
     let p1 = p0.onward in
@@ -570,7 +511,7 @@ local-name around at old v new b small all o =
 
 pub local-type : Free Production.LocalType name 0
 unfolding parts_of between is_chain close unfolding_.behind meaning values.part class_of grant Gained Ready ready_for need typed loan returned IsKnown IsKept tree_of named_so_far listed_so_far after SmallPrefix name_letters qualifier_letters mark_letter lettered letters_in qualifiers_of ref_of lent size front_of part_of is_component is_encoding is_function_type
-local-type around at old v new b small all o =
+local-type around at old v new b ready small all o =
     let p0 = o.paid in
     let g0 = p0.gains Kind.Encoding refl tt small all in
     let p1 = p0.onward in
@@ -602,17 +543,6 @@ local-type around at old v new b small all o =
       small = g3.small;
     })
 
-pub string-literal : Free Production.StringLiteral name 4
-unfolding parts_of between is_chain close unfolding_.behind meaning values.part class_of grant Gained Ready ready_for need typed loan returned IsKnown IsKept letters_in tree_of qualifiers_of ref_of name_letters qualifier_letters mark_letter lettered size
-string-literal around at old v new b small all o =
-    comes-to (λ w s. Gains name 4 around w old s b) o [] old (tree (extended around.prefix string_literal) true) old o.paid.0 refl
-    (record {
-      few = omega (arith, o.sum, o.paid.1, extended-size around.prefix string_literal small);
-      known = ((omega (arith, extended-part around.prefix string_literal), extended-scope around.prefix string_literal), extended-other around.prefix string_literal);
-      kept = tt;
-      small = all;
-    })
-
 instance-named : (around : Around) (t : Term) (w : Value) (s old : State) (b : ℕ) → w ≡ tree (tree_of w) true → AllSmall s.candidates
     → wealth s + (part t + size (tree_of w) + 13) ≤ wealth old + 8 * b → Gains name 0 around (tree (applied t w) false) old s b
 unfolding applied is_there tree_of size part_of is_component is_encoding is_function_type
@@ -624,7 +554,7 @@ instance-named around t w s old b some all few =
 -- a template that was named by an abbreviation or a reference, and its arguments
 pub abbreviated-name : Free Production.AbbreviatedName name 0
 unfolding parts_of between is_chain close unfolding_.behind meaning values.part class_of grant Gained Ready ready_for need typed loan returned IsKnown IsKept tree_of named_so_far listed_so_far after SmallPrefix owed applied is_there
-abbreviated-name around at old v new b small all o =
+abbreviated-name around at old v new b ready small all o =
     let p0 = o.paid in
     let g0 = p0.gains Kind.Abbreviation refl tt small all in
     let t : Term = tree_of p0.value in

@@ -7,7 +7,8 @@ use Rattle.sym_core.specs.Value.{counted_value}
 use Rattle.sym_link.specs.Unfold.{found}
 use Rattle.cpp_grammar.specs.declared.kind.Kind.{Kind}
 use Rattle.cpp_grammar.specs.declared.production.Production.{Production}
-use Rattle.cpp_grammar.specs.Grammar.{parts_of, is_chain}
+use Rattle.cpp_grammar.specs.Grammar.{kinds, number_of, number_of_kind, parts_of, is_chain}
+use Rattle.cpp_grammar.specs.Rows.{row_of}
 use Rattle.cpp_grammar.specs.Term.{Qualifiers, Term, symbol, instance, parameter, lvalue, rvalue, function_type, qualified, integer}
 use Rattle.cpp_grammar.specs.Values as values
 use Rattle.cpp_grammar.specs.Values.{State, Prefix, outermost, Around, prefix_tree, prefix_listed, Value, nothing_there, letter, text, signed, adjusted, tree, piece, named, signature, unqualified, tree_of, piece_of, is_listed, qualifiers_of, ref_of, letter_of, is_there, mark_of, text_of, signed_of, adjustment_of, normal, is_zero, signed_digits, local_number}
@@ -23,6 +24,7 @@ use Rattle.cpp_press_laws.proofs.Short.Size.{is_component, part_of, bare_of, siz
 use Rattle.cpp_press_laws.proofs.Short.Worth.{is_among, is_again, full, worth, full-most}
 use Rattle.cpp_press_laws.proofs.Short.Gains.{wealth, IsSmall, AllSmall, name, type, bare, arguments, Class, class_of, typed, held, need, lent, owed, loan, returned, grant, SmallPrefix, ready_for, Ready, IsKnown, IsKept, Gains, Gained, appended-wealth, appended-grown, typed-grown}
 use Rattle.cpp_press_laws.proofs.Short.Paid.{Ended, comes-to}
+use Rattle.cpp_press_laws.proofs.Short.ByRow.{is_read, part_passes, parts_pass, cost_of, credit_of, Knows, all_quiet, refers, Pays, row_goes, by-row, is_listed_in, each_goes, one-goes, may_read, may_be_part, Standing}
 use Rattle.cpp_grammar.specs.Values.{Candidate}
 use Rattle.cpp_grammar.specs.Scope.{element, is_open}
 use Rattle.cpp_grammar.specs.References.{substituted}
@@ -113,22 +115,6 @@ bare-here around v s old b all known few = go (is_function_type (tree_of v)) ref
           small = g.small;
         }
 
-pub qualified-plain-gains : Idle Production.QualifiedPlain bare
-unfolding parts_of between is_chain close unfolding_.behind meaning values.part class_of grant Gained Ready ready_for need typed loan returned IsKnown IsKept listed_value
-qualified-plain-gains around at old v new b idle small all o =
-    let p0 = o.paid in
-    let g0 = p0.gains Kind.Solid refl idle small all in
-    comes-to (λ w s. Gains bare 0 around w old s b) o (p0.value ∷ []) (p0.after) (listed_value p0.value) (with_unqualified around p0.value p0.after) p0.onward.0 refl
-    (bare-here around p0.value p0.after old b g0.small g0.known (omega (arith, o.sum, g0.few, p0.sum, p0.onward.1)))
-
-pub plain-with-d-gains : Idle Production.PlainWithD bare
-unfolding parts_of between is_chain close unfolding_.behind meaning values.part class_of grant Gained Ready ready_for need typed loan returned IsKnown IsKept listed_value
-plain-with-d-gains around at old v new b idle small all o =
-    let p0 = o.paid in
-    let g0 = p0.gains Kind.AfterD refl idle small all in
-    comes-to (λ w s. Gains bare 0 around w old s b) o (p0.value ∷ []) (p0.after) (listed_value p0.value) (with_unqualified around p0.value p0.after) p0.onward.0 refl
-    (bare-here around p0.value p0.after old b g0.small g0.known (omega (arith, o.sum, g0.few, p0.sum, p0.onward.1)))
-
 -- a type that isn't a function type
 pub as-bare : {around : Around} {v : Value} {old new : State} {b : ℕ} → is_function_type (tree_of v) ≡ false → Gains type 0 around v old new b
     → Gains bare 0 around v old new b
@@ -187,35 +173,28 @@ qualified-here around q v s old b some all few =
       qualified-worth q around.encoding (tree_of v) (components_of s.candidates) some,
     ))
 
-pub const-gains : Idle Production.ConstType type
-unfolding parts_of between is_chain close unfolding_.behind meaning values.part class_of grant Gained Ready ready_for need typed loan returned IsKnown IsKept listed_value tree_of is_there has_letters held
-const-gains around at old v new b idle small all o =
-    let p0 = o.paid in
-    let g0 = p0.gains Kind.Plain refl idle small all in
-    comes-to (λ w s. Gains type 0 around w old s b) o (p0.value ∷ []) (p0.after) (tree (qualified (record { restrict = false; volatile = false; const = true }) (tree_of p0.value)) true) (appended around (qualified (record { restrict = false; volatile = false; const = true }) (tree_of p0.value)) p0.after) p0.onward.0 refl
-    (qualified-here around (record { restrict = false; volatile = false; const = true }) p0.value (p0.after) old b refl g0.small (omega (arith, o.sum, g0.few, p0.sum, p0.onward.1)))
+unfoldable pub qualified_rows : Class → List Production
+qualified_rows bare = Production.QualifiedPlain ∷ Production.PlainWithD ∷ []
+qualified_rows type = Production.ConstType ∷ Production.VolatileType ∷ Production.RestrictType ∷ []
+qualified_rows _ = []
 
-pub volatile-gains : Idle Production.VolatileType type
-unfolding parts_of between is_chain close unfolding_.behind meaning values.part class_of grant Gained Ready ready_for need typed loan returned IsKnown IsKept listed_value tree_of is_there has_letters held
-volatile-gains around at old v new b idle small all o =
-    let p0 = o.paid in
-    let g0 = p0.gains Kind.MaybeConst refl tt small all in
-    let p1 = p0.onward in
-    let g1 = p1.gains Kind.Plain refl idle small g0.small in
-    comes-to (λ w s. Gains type 0 around w old s b) o (p0.value ∷ p1.value ∷ []) (p1.after) (tree (qualified (record { restrict = false; volatile = true; const = is_there p0.value }) (tree_of p1.value)) true) (appended around (qualified (record { restrict = false; volatile = true; const = is_there p0.value }) (tree_of p1.value)) p1.after) p1.onward.0 refl
-    (qualified-here around (record { restrict = false; volatile = true; const = is_there p0.value }) p1.value (p1.after) old b refl g1.small (omega (arith, o.sum, g0.few, p0.sum, g1.few, p1.sum, p1.onward.1)))
+qualified-pays : (c : Class) (p : Production) → is_listed_in (qualified_rows c) p ≡ true → Pays (Standing false) p c 0
+unfolding is_listed_in qualified_rows kinds number_of number_of_kind parts_of is_chain unfolding_.behind meaning values.part class_of grant cost_of credit_of Knows need typed loan returned IsKnown IsKept listed_value tree_of has_letters held
+qualified-pays bare Production.QualifiedPlain is = λ byte around old idle small v s n k all b few. bare-here around v s old b all k (omega (arith, few))
+qualified-pays bare Production.PlainWithD is = λ byte around old idle small v s n k all b few. bare-here around v s old b all k (omega (arith, few))
+qualified-pays type Production.ConstType is = λ byte around old idle small v s n k all b few. qualified-here around _ v s old b refl all (omega (arith, few))
+qualified-pays type Production.VolatileType is = λ byte around old idle small c s0 n0 k0 v s n k all b few. qualified-here around _ v s old b refl all (omega (arith, few))
+qualified-pays type Production.RestrictType is = λ byte around old idle small w s0 n0 k0 c s1 n1 k1 v s n k all b few. qualified-here around _ v s old b refl all (omega (arith, few))
+qualified-pays _ _ is = absurd (false≢true is)
 
-pub restrict-gains : Idle Production.RestrictType type
-unfolding parts_of between is_chain close unfolding_.behind meaning values.part class_of grant Gained Ready ready_for need typed loan returned IsKnown IsKept listed_value tree_of is_there has_letters held
-restrict-gains around at old v new b idle small all o =
-    let p0 = o.paid in
-    let g0 = p0.gains Kind.MaybeVolatile refl tt small all in
-    let p1 = p0.onward in
-    let g1 = p1.gains Kind.MaybeConst refl tt small g0.small in
-    let p2 = p1.onward in
-    let g2 = p2.gains Kind.Plain refl idle small g1.small in
-    comes-to (λ w s. Gains type 0 around w old s b) o (p0.value ∷ p1.value ∷ p2.value ∷ []) (p2.after) (tree (qualified (record { restrict = true; volatile = is_there p0.value; const = is_there p1.value }) (tree_of p2.value)) true) (appended around (qualified (record { restrict = true; volatile = is_there p0.value; const = is_there p1.value }) (tree_of p2.value)) p2.after) p2.onward.0 refl
-    (qualified-here around (record { restrict = true; volatile = is_there p0.value; const = is_there p1.value }) p2.value (p2.after) old b refl g2.small (omega (arith, o.sum, g0.few, p0.sum, g1.few, p1.sum, g2.few, p2.sum, p2.onward.1)))
+qualified-go : (c : Class) → each_goes (may_be_part false) (qualified_rows c) ≡ true
+unfolding is_listed_in each_goes row_goes all_quiet refers parts_pass part_passes is_read class_of kinds number_of number_of_kind parts_of row_of may_be_part qualified_rows may_read
+qualified-go bare = refl
+qualified-go type = refl
+qualified-go _ = refl
+
+pub qualified-gains : (c : Class) (p : Production) → is_listed_in (qualified_rows c) p ≡ true → Idle p c
+qualified-gains c p is = by-row false p c 0 (one-goes (may_be_part false) (qualified_rows c) p (qualified-go c) is) (qualified-pays c p is)
 
 -- ## Types with arguments
 
@@ -407,7 +386,7 @@ named-gains around v mid new old b r all few =
 -- what a substitution names is a candidate already
 pub substitution-gains : Free Production.Substitution type 0
 unfolding parts_of between is_chain close unfolding_.behind meaning values.part class_of grant Gained Ready ready_for need typed loan returned IsKnown IsKept
-substitution-gains around at old v new b small all o =
+substitution-gains around at old v new b ready small all o =
     let p0 = o.paid in
     let g0 = p0.gains in
     let closes : substituted around (at - 1) (slice_get p0.after.candidates (counted_value Seq36 (text_of p0.value))) p0.after ≡ Ok (found v new) =

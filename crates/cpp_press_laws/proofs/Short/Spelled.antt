@@ -13,6 +13,8 @@ use Rattle.cpp_press_laws.specs.Components.{Component, first_equal, is_same, seq
 use Rattle.cpp_press_laws.specs.Pressing.{is_operator, is_one_piece, is_encoding}
 use Rattle.cpp_press_laws.specs.MarkedComponents.{Marked, unmarked, Spelling, ended, reference, referred, component}
 use Rattle.cpp_press_laws.specs.MarkedPressing.{Ways, no_ways, type_ways, function_text, in_N_and_E, with_letters, name_ways, template_before, entity_text, local_text, begun, encoding_ways, piece_ways, argument_ways, ways_of}
+use Rattle.cpp_press_laws.proofs.Ways as way
+use Rattle.cpp_press_laws.proofs.Ways.{Way}
 use Rattle.cpp_press_laws.proofs.Short.Size.{is_component, is_name, part_of, front_of, bare_of, name_of, with_void, lettered, size, over, part, over-least, front-part, name-part}
 
 -- ## What components take
@@ -201,111 +203,73 @@ begun-short k spelling one place cs = one place place cs
 
 -- ## The ways of a tree
 
-pub record AllShort (t : Term) (w : Ways) : Type 0 where
-  pub as_type : Short (part t) w.as_type
-  pub under_qualifiers : Short (bare_of t (size t)) w.under_qualifiers
-  pub as_prefix : Short (front_of t (size t)) w.as_prefix
-  pub between : Short (name_of t (size t)) w.between_N_and_E
-  pub as_piece : Short (size t) w.as_piece
-  pub as_encoding : Short (size t) w.as_encoding
-  pub as_name : (letters : List ℕ) → Short (lettered letters + size t) (w.as_name letters)
-  pub before : (in_type : Bool) (arguments : Spelling) (k : ℕ) → Short k arguments → Short (2 + part t + k) (w.before in_type arguments)
-  pub as_argument : Short (part t) w.as_argument
-  pub as_parameters : Short (with_void t (size t)) w.as_parameters
-  pub as_more_parameters : Short (size t) w.as_more_parameters
-  pub as_elements : Short (size t) w.as_elements
+abbrev pub WayShort : Way → (t : Term) → Ways → Type 0
+WayShort way.as_type t w = Short (part t) w.as_type
+WayShort way.under_qualifiers t w = Short (bare_of t (size t)) w.under_qualifiers
+WayShort way.as_prefix t w = Short (front_of t (size t)) w.as_prefix
+WayShort way.between_N_and_E t w = Short (name_of t (size t)) w.between_N_and_E
+WayShort way.as_piece t w = Short (size t) w.as_piece
+WayShort way.as_encoding t w = Short (size t) w.as_encoding
+WayShort way.as_name t w = (letters : List ℕ) → Short (lettered letters + size t) (w.as_name letters)
+WayShort way.before t w = (in_type : Bool) (arguments : Spelling) (k : ℕ) → Short k arguments → Short (2 + part t + k) (w.before in_type arguments)
+WayShort way.as_argument t w = Short (part t) w.as_argument
+WayShort way.as_parameters t w = Short (with_void t (size t)) w.as_parameters
+WayShort way.as_more_parameters t w = Short (size t) w.as_more_parameters
+WayShort way.as_elements t w = Short (size t) w.as_elements
+
+abbrev pub AllShort : (t : Term) → Ways → Type 0
+AllShort t w = (each : Way) → WayShort each t w
+
+-- a tree that has no way
+none-all : (t : Term) → AllShort t no_ways
+unfolding no_ways
+none-all t way.as_name = λ letters. nothing-short _
+none-all t way.before = λ in_type arguments k two. less k (2 + part t + k) arguments (omega arith) two
+none-all t _ = nothing-short _
+
+-- one that has one spelling
+spelled-all : (t : Term) (s : Spelling) (m : ℕ) → Short m s → m ≤ part t → m ≤ bare_of t (size t) → m ≤ front_of t (size t) → AllShort t (type_ways s)
+unfolding type_ways no_ways
+spelled-all t s m one le bare front way.as_type = less m (part t) s le one
+spelled-all t s m one le bare front way.under_qualifiers = less m (bare_of t (size t)) s bare one
+spelled-all t s m one le bare front way.as_prefix = less m (front_of t (size t)) s front one
+spelled-all t s m one le bare front way.as_argument = less m (part t) s le one
+spelled-all t s m one le bare front way.before = λ in_type arguments k two. and-within m k (2 + part t + k) s arguments (omega (arith, le)) one two
+spelled-all t s m one le bare front w = none-all t w
 
 -- a type that is a component
 typed-all : (n : ℕ) (t : Term) (s : Spelling) → part t ≡ 8 → bare_of t (size t) ≡ 8 → front_of t (size t) ≡ 8 → Short (size t) s
     → AllShort t (type_ways (component n t s))
 unfolding type_ways no_ways
-typed-all n t s is bare front one =
-    let c : Short 8 (component n t s) = component-short n t s one in
-    record {
-      as_type = subst (λ k. Short k (component n t s)) (sym is) c;
-      under_qualifiers = subst (λ k. Short k (component n t s)) (sym bare) c;
-      as_prefix = subst (λ k. Short k (component n t s)) (sym front) c;
-      between = nothing-short _;
-      as_piece = nothing-short _;
-      as_encoding = nothing-short _;
-      as_name = λ letters. nothing-short _;
-      before = λ in_type arguments k two. and-within 8 k (2 + part t + k) (component n t s) arguments (omega (arith, is)) c two;
-      as_argument = subst (λ k. Short k (component n t s)) (sym is) c;
-      as_parameters = nothing-short _;
-      as_more_parameters = nothing-short _;
-      as_elements = nothing-short _;
-    }
-
--- one that is none
-plain-all : (t : Term) (bytes : List ℕ) → length bytes ≤ part t → length bytes ≤ bare_of t (size t) → length bytes ≤ front_of t (size t)
-    → AllShort t (type_ways (text bytes))
-unfolding type_ways no_ways
-plain-all t bytes le bare front = record {
-  as_type = bytes-short (part t) bytes le;
-  under_qualifiers = bytes-short (bare_of t (size t)) bytes bare;
-  as_prefix = bytes-short (front_of t (size t)) bytes front;
-  between = nothing-short _;
-  as_piece = nothing-short _;
-  as_encoding = nothing-short _;
-  as_name = λ letters. nothing-short _;
-  before = λ in_type arguments k two. behind-text k (2 + part t + k) bytes arguments (omega (arith, le)) two;
-  as_argument = bytes-short (part t) bytes le;
-  as_parameters = nothing-short _;
-  as_more_parameters = nothing-short _;
-  as_elements = nothing-short _;
-}
-
--- a tree that has only these ways
-ways-all : (t : Term) (prefix piece encoding argument parameters more elements : Spelling) → Short (front_of t (size t)) prefix → Short (size t) piece
-    → Short (size t) encoding → Short (part t) argument → Short (with_void t (size t)) parameters → Short (size t) more → Short (size t) elements
-    → AllShort t (record no_ways {
-      as_prefix = prefix;
-      as_piece = piece;
-      as_encoding = encoding;
-      as_argument = argument;
-      as_parameters = parameters;
-      as_more_parameters = more;
-      as_elements = elements;
-    })
-unfolding no_ways
-ways-all t prefix piece encoding argument parameters more elements a b c d e f g = record {
-  as_type = nothing-short _;
-  under_qualifiers = nothing-short _;
-  as_prefix = a;
-  between = nothing-short _;
-  as_piece = b;
-  as_encoding = c;
-  as_name = λ letters. nothing-short _;
-  before = λ in_type arguments k two. less k (2 + part t + k) arguments (omega arith) two;
-  as_argument = d;
-  as_parameters = e;
-  as_more_parameters = f;
-  as_elements = g;
-}
-
-none-all : (t : Term) → AllShort t no_ways
-unfolding no_ways
-none-all t =
-    ways-all t nothing nothing nothing nothing nothing nothing nothing (nothing-short _) (nothing-short _) (nothing-short _) (nothing-short _)
-    (nothing-short _) (nothing-short _) (nothing-short _)
+typed-all n t s is bare front one = spelled-all t (component n t s) 8 (component-short n t s one) (omega (arith, is)) (omega (arith, bare)) (omega (arith, front))
 
 piece-all : (t : Term) (s : Spelling) → Short (size t) s → AllShort t (piece_ways s)
 unfolding piece_ways no_ways
-piece-all t s one =
-    ways-all t nothing s nothing nothing nothing nothing nothing (nothing-short _) one (nothing-short _) (nothing-short _)
-    (nothing-short _) (nothing-short _) (nothing-short _)
+piece-all t s one way.as_piece = one
+piece-all t s one w = none-all t w
 
 argument-all : (t : Term) (s : Spelling) → Short (part t) s → AllShort t (argument_ways s)
 unfolding argument_ways no_ways
-argument-all t s one =
-    ways-all t nothing nothing nothing s nothing nothing nothing (nothing-short _) (nothing-short _) (nothing-short _) one
-    (nothing-short _) (nothing-short _) (nothing-short _)
+argument-all t s one way.as_argument = one
+argument-all t s one w = none-all t w
+
+prefix-all : (t : Term) (s : Spelling) → Short (front_of t (size t)) s → AllShort t (record no_ways { as_prefix = s })
+unfolding no_ways
+prefix-all t s one way.as_prefix = one
+prefix-all t s one w = none-all t w
+
+list-all : (t : Term) (parameters more elements : Spelling) → Short (with_void t (size t)) parameters → Short (size t) more → Short (size t) elements
+    → AllShort t (record no_ways { as_parameters = parameters; as_more_parameters = more; as_elements = elements })
+unfolding no_ways
+list-all t parameters more elements one two three way.as_parameters = one
+list-all t parameters more elements one two three way.as_more_parameters = two
+list-all t parameters more elements one two three way.as_elements = three
+list-all t parameters more elements one two three w = none-all t w
 
 whole-all : (t : Term) (s : Spelling) → Short (size t) s → AllShort t (record no_ways { as_encoding = s })
 unfolding no_ways
-whole-all t s one =
-    ways-all t nothing nothing s nothing nothing nothing nothing (nothing-short _) (nothing-short _) one (nothing-short _)
-    (nothing-short _) (nothing-short _) (nothing-short _)
+whole-all t s one way.as_encoding = one
+whole-all t s one w = none-all t w
 
 encoding-all : (t : Term) (spelling : (encoding : ℕ) → Spelling) → ((here : ℕ) → Short (size t) (spelling here)) → AllShort t (encoding_ways spelling)
 unfolding encoding_ways
@@ -317,26 +281,18 @@ named-all : (n : ℕ) (t : Term) (type own prefix between : Spelling) (before : 
     → ((in_type : Bool) (arguments : Spelling) (k : ℕ) → Short k arguments → Short (10 + k) (before in_type arguments))
     → AllShort t (name_ways n t type own prefix between before)
 unfolding name_ways no_ways lettered with_letters
-named-all n t type own prefix between before is bare front name typed owned prefixed betweened befored =
-    let c : Short 8 (component n t type) = component-short n t type typed in
-    record {
-      as_type = subst (λ k. Short k (component n t type)) (sym is) c;
-      under_qualifiers = subst (λ k. Short k (component n t type)) (sym bare) c;
-      as_prefix = subst (λ k. Short k (component n t prefix)) (sym front) (component-short n t prefix prefixed);
-      between = subst (λ k. Short k between) (sym name) betweened;
-      as_piece = nothing-short _;
-      as_encoding = nothing-short _;
-      as_name = letters-short;
-      before = λ in_type arguments k two. less (10 + k) (2 + part t + k) (before in_type arguments) (omega (arith, is)) (befored in_type arguments k two);
-      as_argument = subst (λ k. Short k (component n t type)) (sym is) c;
-      as_parameters = nothing-short _;
-      as_more_parameters = nothing-short _;
-      as_elements = nothing-short _;
-    }
+named-all n t type own prefix between before is bare front name typed owned prefixed betweened befored way.as_type = subst (λ k. Short k (component n t type)) (sym is) (component-short n t type typed)
+named-all n t type own prefix between before is bare front name typed owned prefixed betweened befored way.under_qualifiers = subst (λ k. Short k (component n t type)) (sym bare) (component-short n t type typed)
+named-all n t type own prefix between before is bare front name typed owned prefixed betweened befored way.as_prefix = subst (λ k. Short k (component n t prefix)) (sym front) (component-short n t prefix prefixed)
+named-all n t type own prefix between before is bare front name typed owned prefixed betweened befored way.between_N_and_E = subst (λ k. Short k between) (sym name) betweened
+named-all n t type own prefix between before is bare front name typed owned prefixed betweened befored way.as_name = letters-short
   where
     letters-short : (letters : List ℕ) → Short (lettered letters + size t) (with_letters letters own between)
     letters-short [] = less (size t) (lettered [] + size t) own (omega arith) owned
     letters-short (l ∷ ls) = nested-short (size t) (3 + length ls + size t) (l ∷ ls) between (omega arith) betweened
+named-all n t type own prefix between before is bare front name typed owned prefixed betweened befored way.before = λ in_type arguments k two. less (10 + k) (2 + part t + k) (before in_type arguments) (omega (arith, is)) (befored in_type arguments k two)
+named-all n t type own prefix between before is bare front name typed owned prefixed betweened befored way.as_argument = subst (λ k. Short k (component n t type)) (sym is) (component-short n t type typed)
+named-all n t type own prefix between before is bare front name typed owned prefixed betweened befored w = none-all t w
 
 entity-short : (k : ℕ) (entity : Term) (letters : List ℕ) (between : Spelling) → Short k between
     → Short (2 + length letters + k) (entity_text entity letters between)
@@ -365,50 +321,32 @@ unfolding lettered
 letters-most [] = omega arith
 letters-most (l ∷ ls) = omega arith
 
+local-spelled : (n : ℕ) (e entity : Term) (discriminator : Option (List ℕ)) → AllShort e (ways_of n e) → AllShort entity (ways_of n entity)
+    → (letters : List ℕ) → Short (lettered letters + size (local e entity discriminator))
+    (local_text (ways_of n e).as_encoding entity (ways_of n entity).between_N_and_E discriminator letters)
+unfolding size
+local-spelled n e entity discriminator one two letters =
+    local-short (size e) (name_of entity (size entity)) (lettered letters + size (local e entity discriminator)) (ways_of n e).as_encoding entity
+    (ways_of n entity).between_N_and_E discriminator letters (omega (arith, letters-most letters)) (one way.as_encoding) (two way.between_N_and_E)
+
 local-all : (n : ℕ) (e entity : Term) (discriminator : Option (List ℕ)) → ((m : ℕ) → AllShort e (ways_of m e)) → AllShort entity (ways_of n entity)
     → AllShort (local e entity discriminator) (ways_of n (local e entity discriminator))
 unfolding ways_of type_ways no_ways size part_of bare_of front_of is_component is_function_type is_encoding lettered
-local-all n e entity discriminator one two =
-    let t : Term = local e entity discriminator in
-    let s : List ℕ → Spelling = local_text (ways_of n e).as_encoding entity (ways_of n entity).between_N_and_E discriminator in
-    let spelled : (letters : List ℕ) → Short (lettered letters + size t) (s letters) = λ letters.
-    local-short (size e) (name_of entity (size entity)) (lettered letters + size t) (ways_of n e).as_encoding entity (ways_of n entity).between_N_and_E
-    discriminator letters (omega (arith, letters-most letters)) (one n).as_encoding two.between in
-    let c : Short 8 (component n t (s [])) = component-short n t (s []) (less (lettered [] + size t) (size t) (s []) (omega arith) (spelled [])) in
-    record {
-      as_type = c;
-      under_qualifiers = c;
-      as_prefix = c;
-      between = nothing-short _;
-      as_piece = nothing-short _;
-      as_encoding = nothing-short _;
-      as_name = spelled;
-      before = λ in_type arguments k two. and-within 8 k (2 + part t + k) (component n t (s [])) arguments (omega arith) c two;
-      as_argument = c;
-      as_parameters = nothing-short _;
-      as_more_parameters = nothing-short _;
-      as_elements = nothing-short _;
-    }
+local-all n e entity discriminator one two way.as_name = local-spelled n e entity discriminator (one n) two
+local-all n e entity discriminator one two w =
+    typed-all n (local e entity discriminator) (local_text (ways_of n e).as_encoding entity (ways_of n entity).between_N_and_E discriminator []) refl refl refl
+    (less (lettered [] + size (local e entity discriminator)) (size (local e entity discriminator)) _ (omega arith)
+    (local-spelled n e entity discriminator (one n) two [])) w
 
 function-type-all : (n : ℕ) (t : Term) (s : Spelling) → part t ≡ 8 → front_of t (size t) ≡ 8 → bare_of t (size t) ≡ size t → Short (size t) s
     → AllShort t (record (type_ways (component n t s)) { under_qualifiers = s })
 unfolding type_ways no_ways
-function-type-all n t s is front bare one =
-    let c : Short 8 (component n t s) = component-short n t s one in
-    record {
-      as_type = subst (λ k. Short k (component n t s)) (sym is) c;
-      under_qualifiers = subst (λ k. Short k s) (sym bare) one;
-      as_prefix = subst (λ k. Short k (component n t s)) (sym front) c;
-      between = nothing-short _;
-      as_piece = nothing-short _;
-      as_encoding = nothing-short _;
-      as_name = λ letters. nothing-short _;
-      before = λ in_type arguments k two. and-within 8 k (2 + part t + k) (component n t s) arguments (omega (arith, is)) c two;
-      as_argument = subst (λ k. Short k (component n t s)) (sym is) c;
-      as_parameters = nothing-short _;
-      as_more_parameters = nothing-short _;
-      as_elements = nothing-short _;
-    }
+function-type-all n t s is front bare one way.as_type = subst (λ k. Short k (component n t s)) (sym is) (component-short n t s one)
+function-type-all n t s is front bare one way.under_qualifiers = subst (λ k. Short k s) (sym bare) one
+function-type-all n t s is front bare one way.as_prefix = subst (λ k. Short k (component n t s)) (sym front) (component-short n t s one)
+function-type-all n t s is front bare one way.before = λ in_type arguments k two. and-within 8 k (2 + part t + k) (component n t s) arguments (omega (arith, is)) (component-short n t s one) two
+function-type-all n t s is front bare one way.as_argument = subst (λ k. Short k (component n t s)) (sym is) (component-short n t s one)
+function-type-all n t s is front bare one w = none-all t w
 
 -- the arguments of a template
 abbrev bracketed : (n : ℕ) → Term → Spelling
@@ -417,7 +355,7 @@ bracketed n a = text (codes "I") and ((ways_of n a).as_elements and text (codes 
 bracketed-short : (n : ℕ) (a : Term) → AllShort a (ways_of n a) → Short (2 + size a) (bracketed n a)
 bracketed-short n a one =
     behind-text (size a + 1) (2 + size a) (codes "I") ((ways_of n a).as_elements and text (codes "E")) (omega arith)
-    (before-text (size a) (size a + 1) (ways_of n a).as_elements (codes "E") (omega arith) one.as_elements)
+    (before-text (size a) (size a + 1) (ways_of n a).as_elements (codes "E") (omega arith) (one way.as_elements))
 
 instance-all : (n : ℕ) (t a : Term) → AllShort t (ways_of n t) → AllShort a (ways_of n a) → AllShort (instance t a) (ways_of n (instance t a))
 unfolding ways_of size part_of bare_of front_of name_of is_component is_name is_function_type is_encoding cost
@@ -427,25 +365,25 @@ instance-all n t a one two =
     let arguments : Short (2 + size a) behind = bracketed-short n a two in
     named-all n own ((ways_of n t).before true behind) ((ways_of n t).before false behind) ((ways_of n t).as_prefix and behind)
     ((ways_of n t).between_N_and_E and ended false n t and behind) (λ in_type more. component n own nothing and more) refl refl refl refl
-    (less (2 + part t + (2 + size a)) (size own) ((ways_of n t).before true behind) (omega arith) (one.before true behind (2 + size a) arguments))
-    (less (2 + part t + (2 + size a)) (size own) ((ways_of n t).before false behind) (omega arith) (one.before false behind (2 + size a) arguments))
-    (and-within (front_of t (size t)) (2 + size a) (size own) (ways_of n t).as_prefix behind (omega (arith, front-part t (size t))) one.as_prefix arguments)
+    (less (2 + part t + (2 + size a)) (size own) ((ways_of n t).before true behind) (omega arith) (one way.before true behind (2 + size a) arguments))
+    (less (2 + part t + (2 + size a)) (size own) ((ways_of n t).before false behind) (omega arith) (one way.before false behind (2 + size a) arguments))
+    (and-within (front_of t (size t)) (2 + size a) (size own) (ways_of n t).as_prefix behind (omega (arith, front-part t (size t))) (one way.as_prefix) arguments)
     (less (part t + (2 + size a)) (size own) ((ways_of n t).between_N_and_E and ended false n t and behind) (omega arith)
-    (made-short false n (name_of t (size t)) (part t) (2 + size a) t (ways_of n t).between_N_and_E behind one.between (name-part t (size t)) arguments))
+    (made-short false n (name_of t (size t)) (part t) (2 + size a) t (ways_of n t).between_N_and_E behind (one way.between_N_and_E) (name-part t (size t)) arguments))
     (λ in_type more k third. and-within 8 k (10 + k) (component n own nothing) more (omega arith) (component-short n own nothing (nothing-short (size own))) third)
 
 alone-all : (n : ℕ) (p : Term) → AllShort p (ways_of n p) → AllShort (alone p) (ways_of n (alone p))
 unfolding ways_of size part_of bare_of front_of name_of is_component is_name is_function_type is_encoding
 alone-all n p one =
     let s : Spelling = (ways_of n p).as_piece in
-    named-all n (alone p) s s s s (λ in_type arguments. template_before n (alone p) false s arguments) refl refl refl refl one.as_piece one.as_piece one.as_piece
-    one.as_piece (λ in_type arguments k two. template-short n k (alone p) false s arguments one.as_piece two)
+    named-all n (alone p) s s s s (λ in_type arguments. template_before n (alone p) false s arguments) refl refl refl refl (one way.as_piece) (one way.as_piece) (one way.as_piece)
+    (one way.as_piece) (λ in_type arguments k two. template-short n k (alone p) false s arguments (one way.as_piece) two)
 
 std-all : (n : ℕ) (p : Term) → AllShort p (ways_of n p) → AllShort (in_std p) (ways_of n (in_std p))
 unfolding ways_of size part_of bare_of front_of name_of is_component is_name is_function_type is_encoding
 std-all n p one =
     let s : Spelling = text (codes "St") and (ways_of n p).as_piece in
-    let spelled : Short (2 + size p) s = behind-text (size p) (2 + size p) (codes "St") (ways_of n p).as_piece (omega arith) one.as_piece in
+    let spelled : Short (2 + size p) s = behind-text (size p) (2 + size p) (codes "St") (ways_of n p).as_piece (omega arith) (one way.as_piece) in
     let most : Short (4 + size p) s = less (2 + size p) (4 + size p) s (omega arith) spelled in
     named-all n (in_std p) (elim (is_operator p) as (λ _. Spelling) [ true ↦ in_N_and_E [] s | false ↦ s ]) s s s
     (λ in_type arguments. template_before n (in_std p) (in_type && is_operator p) s arguments) refl refl refl refl
@@ -466,7 +404,7 @@ unfolding ways_of size part_of bare_of front_of name_of is_component is_name is_
 within-all n prefix p one two =
     let b : Spelling = (ways_of n prefix).as_prefix and (ways_of n p).as_piece in
     let k : ℕ = front_of prefix (size prefix) + size p in
-    let between : Short k b = and-short (front_of prefix (size prefix)) (size p) (ways_of n prefix).as_prefix (ways_of n p).as_piece one.as_prefix two.as_piece in
+    let between : Short k b = and-short (front_of prefix (size prefix)) (size p) (ways_of n prefix).as_prefix (ways_of n p).as_piece (one way.as_prefix) (two way.as_piece) in
     let most : Short (2 + k) b = less k (2 + k) b (omega arith) between in
     let nested : Short (2 + k) (in_N_and_E [] b) = nested-short k (2 + k) [] b (omega arith) between in
     named-all n (within prefix p) (in_N_and_E [] b) (in_N_and_E [] b) b b (λ in_type arguments. template_before n (within prefix p) true b arguments)
@@ -510,50 +448,49 @@ function-short c_linkage noexcept ref a b returned parameters one two =
 after-bytes : (n : ℕ) (t a : Term) (bytes : List ℕ) → part t ≡ 8 → bare_of t (size t) ≡ 8 → front_of t (size t) ≡ 8 → length bytes + part a ≤ size t
     → AllShort a (ways_of n a) → AllShort t (type_ways (component n t (text bytes and (ways_of n a).as_type)))
 after-bytes n t a bytes is bare front le one =
-    typed-all n t (text bytes and (ways_of n a).as_type) is bare front (behind-text (part a) (size t) bytes (ways_of n a).as_type le one.as_type)
+    typed-all n t (text bytes and (ways_of n a).as_type) is bare front (behind-text (part a) (size t) bytes (ways_of n a).as_type le (one way.as_type))
 
 pub all-short : (t : Term) (n : ℕ) → AllShort t (ways_of n t)
 unfolding ways_of type_ways no_ways size part_of bare_of front_of with_void is_component is_function_type is_encoding is_nil
 all-short (symbol e suffix) n =
     whole-all (symbol e suffix) _ (behind-text (size e + length suffix) (2 + size e + length suffix) (codes "_Z") ((ways_of n e).as_encoding and text suffix) (omega arith)
-    (before-text (size e) (size e + length suffix) (ways_of n e).as_encoding suffix (omega arith) (all-short e n).as_encoding))
+    (before-text (size e) (size e + length suffix) (ways_of n e).as_encoding suffix (omega arith) (all-short e n way.as_encoding)))
 all-short (function name q ref returned parameters) n =
     encoding-all (function name q ref returned parameters) _ (λ here. and-within (lettered (name_letters q ref) + size name) (part returned + with_void parameters (size parameters))
     (size (function name q ref returned parameters)) ((ways_of here name).as_name (name_letters q ref))
-    ((ways_of here returned).as_type and (ways_of here parameters).as_parameters) (omega arith) ((all-short name here).as_name (name_letters q ref))
+    ((ways_of here returned).as_type and (ways_of here parameters).as_parameters) (omega arith) ((all-short name here way.as_name) (name_letters q ref))
     (and-short (part returned) (with_void parameters (size parameters)) (ways_of here returned).as_type (ways_of here parameters).as_parameters
-    (all-short returned here).as_type (all-short parameters here).as_parameters))
+    (all-short returned here way.as_type) (all-short parameters here way.as_parameters)))
 all-short (object name q ref) n =
-    encoding-all (object name q ref) _ (λ here. (all-short name here).as_name (name_letters q ref))
+    encoding-all (object name q ref) _ (λ here. (all-short name here way.as_name) (name_letters q ref))
 all-short (special l type) n =
-    encoding-all (special l type) _ (λ here. behind-text (part type) (2 + part type) (codes "T" ++ l ∷ []) (ways_of here type).as_type (omega arith) (all-short type here).as_type)
+    encoding-all (special l type) _ (λ here. behind-text (part type) (2 + part type) (codes "T" ++ l ∷ []) (ways_of here type).as_type (omega arith) (all-short type here way.as_type))
 all-short (thunk kind e) n =
-    encoding-all (thunk kind e) _ (λ here. behind-text (size e) (size (thunk kind e)) (thunk_text kind) (ways_of here e).as_encoding (omega arith) (all-short e here).as_encoding)
+    encoding-all (thunk kind e) _ (λ here. behind-text (size e) (size (thunk kind e)) (thunk_text kind) (ways_of here e).as_encoding (omega arith) (all-short e here way.as_encoding))
 all-short (of_name l name q ref) n =
     encoding-all (of_name l name q ref) _ (λ here. behind-text (lettered (name_letters q ref) + size name) (size (of_name l name q ref)) (special_code l)
-    ((ways_of here name).as_name (name_letters q ref)) (omega arith) ((all-short name here).as_name (name_letters q ref)))
+    ((ways_of here name).as_name (name_letters q ref)) (omega arith) ((all-short name here way.as_name) (name_letters q ref)))
 all-short (construction derived digits parent) n =
     encoding-all (construction derived digits parent) _ (λ here. behind-text (part derived + (length digits + 1 + part parent)) (size (construction derived digits parent)) (codes "TC")
     ((ways_of here derived).as_type and (text (digits ++ codes "_") and (ways_of here parent).as_type)) (omega arith)
     (and-short (part derived) (length digits + 1 + part parent) (ways_of here derived).as_type (text (digits ++ codes "_") and (ways_of here parent).as_type)
-    (all-short derived here).as_type (behind-text (part parent) (length digits + 1 + part parent) (digits ++ codes "_") (ways_of here parent).as_type
-    (omega (arith, length-append digits (codes "_"))) (all-short parent here).as_type)))
+    (all-short derived here way.as_type) (behind-text (part parent) (length digits + 1 + part parent) (digits ++ codes "_") (ways_of here parent).as_type
+    (omega (arith, length-append digits (codes "_"))) (all-short parent here way.as_type))))
 all-short (clone letter e) n =
     encoding-all (clone letter e) _ (λ here. behind-text (1 + size e) (3 + size e) (codes "GT") (text (letter ∷ []) and (ways_of here e).as_encoding) (omega arith)
-    (behind-text (size e) (1 + size e) (letter ∷ []) (ways_of here e).as_encoding (omega arith) (all-short e here).as_encoding))
+    (behind-text (size e) (1 + size e) (letter ∷ []) (ways_of here e).as_encoding (omega arith) (all-short e here way.as_encoding)))
 all-short (alone p) n = alone-all n p (all-short p n)
 all-short (in_std p) n = std-all n p (all-short p n)
 all-short (within prefix p) n = within-all n prefix p (all-short prefix n) (all-short p n)
 all-short (instance template arguments) n = instance-all n template arguments (all-short template n) (all-short arguments n)
 all-short (local e entity discriminator) n = local-all n e entity discriminator (all-short e) (all-short entity n)
 all-short (holder name) n =
-    ways-all (holder name) ((ways_of n name).as_prefix and text (codes "M")) nothing nothing nothing nothing nothing nothing
-    (before-text (front_of name (size name)) (size (holder name)) (ways_of n name).as_prefix (codes "M") (omega (arith, front-part name (size name))) (all-short name n).as_prefix)
-    (nothing-short _) (nothing-short _) (nothing-short _) (nothing-short _) (nothing-short _) (nothing-short _)
+    prefix-all (holder name) ((ways_of n name).as_prefix and text (codes "M"))
+    (before-text (front_of name (size name)) (size (holder name)) (ways_of n name).as_prefix (codes "M") (omega (arith, front-part name (size name))) (all-short name n way.as_prefix))
 all-short (tagged of_structor name tag) n =
     typed-all n (tagged of_structor name tag) _ refl refl refl (before-text (part name) (size (tagged of_structor name tag)) (ways_of n name).as_type
-    (codes "B" ++ counted tag) (omega arith) (all-short name n).as_type)
-all-short (abbreviation l) n = plain-all (abbreviation l) (codes "S" ++ l ∷ []) (omega arith) (omega arith) (omega arith)
+    (codes "B" ++ counted tag) (omega arith) (all-short name n way.as_type))
+all-short (abbreviation l) n = spelled-all (abbreviation l) (text (codes "S" ++ l ∷ [])) 2 (text-short (codes "S" ++ l ∷ [])) (omega arith) (omega arith) (omega arith)
 all-short (parameter k) n = typed-all n (parameter k) (text (codes "T" ++ ordinal k)) refl refl refl (bytes-short (size (parameter k)) (codes "T" ++ ordinal k) (omega arith))
 all-short (source internal name) n = piece-all (source internal name) _ (bytes-short (size (source internal name)) _ (internal-short internal name))
 all-short (operator a b) n = piece-all (operator a b) _ (text-short (a ∷ b ∷ []))
@@ -565,30 +502,17 @@ all-short (lambda parameters k) n =
     piece-all (lambda parameters k) _ (behind-text (with_void parameters (size parameters) + length last) (size (lambda parameters k)) (codes "Ul")
     ((ways_of n parameters).as_parameters and text last) (omega arith)
     (before-text (with_void parameters (size parameters)) (with_void parameters (size parameters) + length last) (ways_of n parameters).as_parameters last (omega arith)
-    (all-short parameters n).as_parameters))
+    (all-short parameters n way.as_parameters)))
 all-short (unnamed k) n = piece-all (unnamed k) _ (bytes-short (size (unnamed k)) (codes "Ut" ++ ordinal (k - 1)) (omega arith))
 all-short string_literal n = piece-all string_literal _ (text-short (codes "s"))
 all-short (conversion type) n =
-    piece-all (conversion type) _ (behind-text (part type) (2 + part type) (codes "cv") (ways_of n type).as_type (omega arith) (all-short type n).as_type)
-all-short (builtin code) n = plain-all (builtin code) code (omega arith) (omega arith) (omega arith)
+    piece-all (conversion type) _ (behind-text (part type) (2 + part type) (codes "cv") (ways_of n type).as_type (omega arith) (all-short type n way.as_type))
+all-short (builtin code) n = spelled-all (builtin code) (text code) (length code) (text-short code) (omega arith) (omega arith) (omega arith)
 all-short (sized_float digits end) n =
     let s : Spelling = text (codes "DF") and (text digits and text (end ∷ [])) in
     let one : Short (3 + length digits) s = behind-text (length digits + 1) (3 + length digits) (codes "DF") (text digits and text (end ∷ [])) (omega arith)
     (before-text (length digits) (length digits + 1) (text digits) (end ∷ []) (omega arith) (text-short digits)) in
-    record {
-      as_type = one;
-      under_qualifiers = one;
-      as_prefix = one;
-      between = nothing-short _;
-      as_piece = nothing-short _;
-      as_encoding = nothing-short _;
-      as_name = λ letters. nothing-short _;
-      before = λ in_type arguments k two. and-within (3 + length digits) k (2 + part (sized_float digits end) + k) s arguments (omega arith) one two;
-      as_argument = one;
-      as_parameters = nothing-short _;
-      as_more_parameters = nothing-short _;
-      as_elements = nothing-short _;
-    }
+    spelled-all (sized_float digits end) s (3 + length digits) one (omega arith) (omega arith) (omega arith)
 all-short (vendor name) n =
     typed-all n (vendor name) (text (codes "u" ++ counted name)) refl refl refl (bytes-short (size (vendor name)) (codes "u" ++ counted name) (omega arith))
 all-short (pointer type) n = after-bytes n (pointer type) type (codes "P") refl refl refl (omega arith) (all-short type n)
@@ -599,14 +523,14 @@ all-short (array digits type) n =
 all-short (member_pointer class member) n =
     typed-all n (member_pointer class member) _ refl refl refl (behind-text (part class + part member) (1 + part class + part member) (codes "M")
     ((ways_of n class).as_type and (ways_of n member).as_type) (omega arith)
-    (and-short (part class) (part member) (ways_of n class).as_type (ways_of n member).as_type (all-short class n).as_type (all-short member n).as_type))
+    (and-short (part class) (part member) (ways_of n class).as_type (ways_of n member).as_type (all-short class n way.as_type) (all-short member n way.as_type)))
 all-short (function_type c_linkage noexcept ref returned parameters) n =
     function-type-all n (function_type c_linkage noexcept ref returned parameters) _ refl refl refl
     (function-short c_linkage noexcept ref (part returned) (with_void parameters (size parameters)) (ways_of n returned).as_type (ways_of n parameters).as_parameters
-    (all-short returned n).as_type (all-short parameters n).as_parameters)
+    (all-short returned n way.as_type) (all-short parameters n way.as_parameters))
 all-short (qualified q type) n =
     typed-all n (qualified q type) _ refl refl refl (behind-text (bare_of type (size type)) (size (qualified q type)) (qualifier_letters q)
-    (ways_of n type).under_qualifiers (omega arith) (all-short type n).under_qualifiers)
+    (ways_of n type).under_qualifiers (omega arith) (all-short type n way.under_qualifiers))
 all-short (vector digits type) n =
     after-bytes n (vector digits type) type (codes "Dv" ++ digits ++ codes "_") refl refl refl (omega (arith, length-append digits (codes "_"))) (all-short type n)
 all-short (complex type) n = after-bytes n (complex type) type (codes "C") refl refl refl (omega arith) (all-short type n)
@@ -615,28 +539,26 @@ all-short (integer type value) n =
     let last : List ℕ = signed_text value ++ codes "E" in
     argument-all (integer type value) _ (behind-text (part type + length last) (size (integer type value)) (codes "L") ((ways_of n type).as_type and text last)
     (omega (arith, length-append (signed_text value) (codes "E")))
-    (before-text (part type) (part type + length last) (ways_of n type).as_type last (omega arith) (all-short type n).as_type))
+    (before-text (part type) (part type + length last) (ways_of n type).as_type last (omega arith) (all-short type n way.as_type)))
 all-short (boolean truth) n = argument-all (boolean truth) _ (bytes-short 4 _ (truth-short truth))
 all-short null_pointer n = argument-all null_pointer _ (text-short (codes "LDnE"))
 all-short (encoding_literal e) n =
     argument-all (encoding_literal e) _ (behind-text (size e + 1) (4 + size e) (codes "L_Z") ((ways_of n e).as_encoding and text (codes "E")) (omega arith)
-    (before-text (size e) (size e + 1) (ways_of n e).as_encoding (codes "E") (omega arith) (all-short e n).as_encoding))
+    (before-text (size e) (size e + 1) (ways_of n e).as_encoding (codes "E") (omega arith) (all-short e n way.as_encoding)))
 all-short (address_of e) n =
     argument-all (address_of e) _ (behind-text (size e + 2) (8 + size e) (codes "XadL_Z") ((ways_of n e).as_encoding and text (codes "EE")) (omega arith)
-    (before-text (size e) (size e + 2) (ways_of n e).as_encoding (codes "EE") (omega arith) (all-short e n).as_encoding))
+    (before-text (size e) (size e + 2) (ways_of n e).as_encoding (codes "EE") (omega arith) (all-short e n way.as_encoding)))
 all-short (pack elements) n =
     argument-all (pack elements) _ (behind-text (size elements + 1) (2 + size elements) (codes "J") ((ways_of n elements).as_elements and text (codes "E")) (omega arith)
-    (before-text (size elements) (size elements + 1) (ways_of n elements).as_elements (codes "E") (omega arith) (all-short elements n).as_elements))
+    (before-text (size elements) (size elements + 1) (ways_of n elements).as_elements (codes "E") (omega arith) (all-short elements n way.as_elements)))
 all-short nil n =
-    ways-all nil nothing nothing nothing nothing (text (codes "v")) nothing nothing (nothing-short _) (nothing-short _) (nothing-short _) (nothing-short _)
-    (text-short (codes "v")) (nothing-short _) (nothing-short _)
+    list-all nil (text (codes "v")) nothing nothing (text-short (codes "v")) (nothing-short _) (nothing-short _)
 all-short (list first rest) n =
     let more : Spelling = (ways_of n first).as_type and (ways_of n rest).as_more_parameters in
     let one : Short (part first + size rest) more = and-short (part first) (size rest) (ways_of n first).as_type (ways_of n rest).as_more_parameters
-    (all-short first n).as_type (all-short rest n).as_more_parameters in
-    ways-all (list first rest) nothing nothing nothing nothing more more ((ways_of n first).as_argument and (ways_of n rest).as_elements) (nothing-short _) (nothing-short _)
-    (nothing-short _) (nothing-short _) one one
-    (and-short (part first) (size rest) (ways_of n first).as_argument (ways_of n rest).as_elements (all-short first n).as_argument (all-short rest n).as_elements)
+    (all-short first n way.as_type) (all-short rest n way.as_more_parameters) in
+    list-all (list first rest) more more ((ways_of n first).as_argument and (ways_of n rest).as_elements) one one
+    (and-short (part first) (size rest) (ways_of n first).as_argument (ways_of n rest).as_elements (all-short first n way.as_argument) (all-short rest n way.as_elements))
 all-short (of_default digits entity) n = none-all (of_default digits entity)
 all-short (generic_lambda parameters number) n = none-all (generic_lambda parameters number)
 all-short (constrained letter concept) n = none-all (constrained letter concept)

@@ -1,7 +1,8 @@
-use Rattle.std.proofs.Common.{◌∙◌, sym, inl, inr}
+use Rattle.std.proofs.Common.{List, ℕ, Bor, map, ◌∙◌, sym, inl, inr}
 use Rattle.clap.specs.Words.{found_of, rows_of}
 use Rattle.sym_command.proofs.CommandLemmas.{no-words}
-use Rattle.symfilt_command.proofs.CommandLemmas.{refused-run, refused-stopped}
+use Rattle.sym_command.proofs.PageLemmas.{OnErr-anyway}
+use Rattle.symfilt_command.proofs.CommandLemmas.{answered-run, begun-run, refused-run, refused-stopped, some-words}
 use Rattle.symfilt_command.proofs.command.answer_all.Goals as goal
 
 pub returns-in_default-clause-ok : goal.returns-in_default-clause-ok
@@ -10,6 +11,19 @@ returns-in_default-clause-ok g c =
 
 pub returns-in_default-clause-err : goal.returns-in_default-clause-err
 returns-in_default-clause-err g c = refused-stopped (rows_of (found_of c.args.matches.now)) (g.W.Sink.taken c.args.out.now) (g.E.Sink.taken c.args.err.now) (g.E.Sink.taken c.refuse_run.new.err) c.refuse_run.result c.refuse_run.ensures.says
+
+pub returns-then-not-is_empty-clause-ok : goal.returns-then-not-is_empty-clause-ok
+returns-then-not-is_empty-clause-ok g c =
+    let symbols = c.symbols_of-symbols.result.now in
+    answered-run (rows_of (found_of c.args.matches.now)) c.in-Some.options (map (λ (symbol : Bor (List ℕ)). symbol.now) symbols) c.in_ok-status.status
+    (g.W.Sink.taken c.args.out.now) (g.W.Sink.taken c.answer_symbols.new.out) (g.E.Sink.taken c.args.err.now) (g.E.Sink.taken c.answer_symbols.new.err)
+    c.in-Some.ensures c.symbols_of-symbols.ensures (some-words symbols (sym c.is_empty.ensures ∙ c.if-not-is_empty.true)) c.in_ok-status.ensures.ok
+
+pub returns-in_err-status-clause-err : goal.returns-in_err-status-clause-err
+returns-in_err-status-clause-err g c =
+    OnErr-anyway c.from_residual.result _ (begun-run (rows_of (found_of c.args.matches.now)) c.in-Some.options (map (λ (symbol : Bor (List ℕ)). symbol.now) c.symbols_of-symbols.result.now)
+    (g.W.Sink.taken c.args.out.now) (g.W.Sink.taken c.answer_symbols.new.out) (g.E.Sink.taken c.args.err.now) (g.E.Sink.taken c.answer_symbols.new.err)
+    c.in-Some.ensures c.symbols_of-symbols.ensures c.in_err-status.ensures.err)
 
 pub returns-in-None-clause-ok : goal.returns-in-None-clause-ok
 returns-in-None-clause-ok g c =

@@ -22,5 +22,5 @@ enclosing_ended-requires-clause-read g c =
 
 pub returns : goal.returns
 returns g c =
-    first-within (symbol_by g.G.Grammar.IS_WIDE g.G.Grammar.IS_BARE c.args.s.now) c.args.self.now c.push_byte.new.self _ c.args.mark c.args.from c.args.argument c.requires.awaits c.in_ok-push_byte.ensures
-    refl refl refl c.in_ok-push.ensures.items (sym c.IS_BARE-2.ensures ∙ c.if-IS_BARE-2.false)
+    first-within (symbol_by g.G.Grammar.IS_WIDE g.G.Grammar.IS_BARE c.args.s.now) c.args.self.now c.push_byte.new.self _ c.args.mark c.args.from c.end-to.result c.args.argument c.requires.awaits c.in_ok-push_byte.ensures
+    refl refl refl c.in_ok-push.ensures.items c.end-to.ensures

@@ -32,8 +32,8 @@ parameter_at-requires-clause-awaits g c =
 
 pub enclosing_parameter-requires-clause-read : goal.enclosing_parameter-requires-clause-read
 enclosing_parameter-requires-clause-read g c =
-    parameter-read-within (symbol_by g.G.Grammar.IS_WIDE g.G.Grammar.IS_BARE c.args.s.now) c.args.self.now c.in-Enclosing.mark c.in-Enclosing.from c.in-Enclosing.argument
-    (value-element (symbol_by g.G.Grammar.IS_WIDE g.G.Grammar.IS_BARE c.args.s.now) c.args.self.now c.args.is_reference (opens.Enclosing c.in-Enclosing.mark c.in-Enclosing.from c.in-Enclosing.argument) c.requires.writing
+    parameter-read-within (symbol_by g.G.Grammar.IS_WIDE g.G.Grammar.IS_BARE c.args.s.now) c.args.self.now c.in-Enclosing.mark c.in-Enclosing.from c.in-Enclosing.to c.in-Enclosing.argument
+    (value-element (symbol_by g.G.Grammar.IS_WIDE g.G.Grammar.IS_BARE c.args.s.now) c.args.self.now c.args.is_reference (opens.Enclosing c.in-Enclosing.mark c.in-Enclosing.from c.in-Enclosing.to c.in-Enclosing.argument) c.requires.writing
     (waits-last _ _ _ _ c.as_slice.ensures c.in_ok-entry.ensures.value c.in-Enclosing.is))
 
 pub lambda_parameter-requires-clause-read : goal.lambda_parameter-requires-clause-read

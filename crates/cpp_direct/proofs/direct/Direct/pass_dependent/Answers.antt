@@ -27,7 +27,7 @@ front_ended-requires-clause-ended g c =
 
 pub enclosing_parameter-requires-clause-read : goal.enclosing_parameter-requires-clause-read
 enclosing_parameter-requires-clause-read g c =
-    dependent-within (symbol_by g.G.Grammar.IS_WIDE g.G.Grammar.IS_BARE c.args.s.now) c.args.self.now c.args.is_reference c.in-Enclosing.mark c.args.begins c.args.number c.args.encoding c.in-Enclosing.from c.in-Enclosing.argument
+    dependent-within (symbol_by g.G.Grammar.IS_WIDE g.G.Grammar.IS_BARE c.args.s.now) c.args.self.now c.args.is_reference c.in-Enclosing.mark c.args.begins c.args.number c.args.encoding c.in-Enclosing.from c.in-Enclosing.to c.in-Enclosing.argument
     c.requires.writing (waits-last _ _ _ _ c.as_slice.ensures c.in_ok-mark.ensures.value c.in-Enclosing.is)
 
 pub mark_plain-requires : goal.mark_plain-requires

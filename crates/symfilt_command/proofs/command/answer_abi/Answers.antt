@@ -1,7 +1,0 @@
-use Rattle.symfilt_command.proofs.command.answer_abi.Goals as goal
-
-pub returns-then-legacy-clause-ok : goal.returns-then-legacy-clause-ok
-returns-then-legacy-clause-ok g c = rw (c.requires.abi, c.if-legacy.true) c.answer_words.ensures.ok
-
-pub returns-clause-ok : goal.returns-clause-ok
-returns-clause-ok g c = rw (c.requires.abi, c.if-legacy.false) c.answer_words-2.ensures.ok
