@@ -322,7 +322,8 @@ impl Linked {
         }
     }
 
-    /// What is done before the second part, where nothing is done but that a name is made of the first part.
+    /// What is done before the second part, where nothing is done but that a piece of a name, which the first part is, comes after
+    /// the name so far.
     #[tactic(auto, unfolding(cpp_term::specs::Between::between, cpp_term::specs::Between::in_name, cpp_term::specs::Between::in_types, cpp_term::specs::Between::in_signature, cpp_term::specs::Between::under_expansion, cpp_term::specs::Between::after, cpp_term::specs::Between::inside, cpp_term::specs::Between::applied, cpp_term::specs::Between::named_so_far, cpp_term::specs::Between::listed_so_far, cpp_term::specs::Values::tree_of, crate::specs::Parts::around_of, crate::specs::Parts::prefix_of, cpp_tree::specs::Nodes::tree_if_there, cpp_tree::specs::Nodes::tree_of, cpp_tree::specs::Nodes::piece_of, crate::specs::Reads::goes_on, crate::specs::Reads::behind_first, crate::specs::Reads::named_if, crate::specs::Reads::appended_if, crate::specs::Reads::with_candidate, crate::specs::Owed::made_before, crate::specs::NodeCount::makes_before, crate::specs::Owed::made_before, crate::specs::NodeCount::std_before, crate::specs::NodeCount::one_if_there, crate::specs::NodeCount::pack_before))]
     #[inline(always)]
     fn step_second_of_name(
@@ -361,6 +362,11 @@ impl Linked {
         requires rvalue_item { production ≡ productions.RvalueItem → ⊥ }
         requires unresolved_in_type { production ≡ productions.UnresolvedInType → ⊥ }
         requires integer_literal { production ≡ productions.IntegerLiteral → ⊥ }
+        requires abbreviated_name { production ≡ productions.AbbreviatedName → ⊥ }
+        requires nest_template { production ≡ productions.NestTemplate → ⊥ }
+        requires nest_tag { production ≡ productions.NestTag → ⊥ }
+        requires tag { production ≡ productions.Tag → ⊥ }
+        requires type_tag { production ≡ productions.TypeTag → ⊥ }
         ensures is { (cs : List values.Candidate) → between production (around_of (trees_in symbol.now self.now.nodes) kept) place (value_in symbol.now self.now.nodes first ∷ []) (record { candidates = cs; packs = self.now.packs }) ≡ goes_on symbol.now self.now.nodes kept (value_in symbol.now self.now.nodes first ∷ []) cs self.now.packs result }
         ensures there { IsStepThere symbol.now (length self.now.nodes.thunks) (length self.now.nodes.nodes) result }
         ensures of { IsStepOf production 1 result }
@@ -446,27 +452,6 @@ impl Linked {
             Production::StdName => self.named(Node::InStd(self.piece_in(symbol, first))),
             Production::TaggedStdType => self.named(Node::InStd(self.piece_in(symbol, first))),
             Production::NestStd => self.named(Node::InStd(self.piece_in(symbol, first))),
-            Production::AbbreviatedName => Step::Named {
-                node: self.node(symbol, first),
-                listed: true,
-                is_name: true,
-            },
-            Production::NestTemplate => Step::Named {
-                node: self.node(symbol, first),
-                listed: true,
-                is_name: true,
-            },
-            Production::NestTag => self.named(self.tagged(
-                symbol,
-                kept,
-                self.text_in(symbol, first),
-            )),
-            Production::Tag => self.named(self.tagged(symbol, kept, self.text_in(symbol, first))),
-            Production::TypeTag => self.named(self.tagged(
-                symbol,
-                kept,
-                self.text_in(symbol, first),
-            )),
             Production::SimpleId => self.listed_name(self.extended(
                 symbol,
                 kept.prefix(),
@@ -548,6 +533,27 @@ impl Linked {
                 kept,
                 self.node(symbol, first),
                 false,
+            )),
+            Production::AbbreviatedName => Step::Named {
+                node: self.node(symbol, first),
+                listed: true,
+                is_name: true,
+            },
+            Production::NestTemplate => Step::Named {
+                node: self.node(symbol, first),
+                listed: true,
+                is_name: true,
+            },
+            Production::NestTag => self.named(self.tagged(
+                symbol,
+                kept,
+                self.text_in(symbol, first),
+            )),
+            Production::Tag => self.named(self.tagged(symbol, kept, self.text_in(symbol, first))),
+            Production::TypeTag => self.named(self.tagged(
+                symbol,
+                kept,
+                self.text_in(symbol, first),
             )),
             Production::NestNext => self.go(self.behind_name(
                 kept,
