@@ -16,8 +16,8 @@ name_ended-requires-clause-ended g c =
       at = c.push_byte.new.self.at;
       rounds = c.push_byte.new.self.rounds;
     } in
-    name-closed (symbol_by g.G.Grammar.IS_WIDE g.G.Grammar.IS_BARE c.args.s.now) w c.in-NameArguments.from
-    (closed-by (symbol_by g.G.Grammar.IS_WIDE g.G.Grammar.IS_BARE c.args.s.now) c.args.self.now c.push_byte.new.self w c.in_ok-from.field-0 (opens.NameArguments c.in-NameArguments.from)
+    name-closed (symbol_by g.G.Grammar.IS_WIDE g.G.Grammar.IS_BARE g.G.Grammar.IS_BRIEF c.args.s.now) w c.in-NameArguments.from
+    (closed-by (symbol_by g.G.Grammar.IS_WIDE g.G.Grammar.IS_BARE g.G.Grammar.IS_BRIEF c.args.s.now) c.args.self.now c.push_byte.new.self w c.in_ok-from.field-0 (opens.NameArguments c.in-NameArguments.from)
     c.requires.ended c.in_ok-push_byte.ensures refl refl refl c.in_ok-from.ensures.items c.in-NameArguments.is)
 
 pub returns-in_ok-add_candidate-in-TypeArguments : goal.returns-in_ok-add_candidate-in-TypeArguments
@@ -31,8 +31,8 @@ returns-in_ok-add_candidate-in-TypeArguments g c =
       at = c.push_byte.new.self.at;
       rounds = c.push_byte.new.self.rounds;
     } in
-    type-closed (symbol_by g.G.Grammar.IS_WIDE g.G.Grammar.IS_BARE c.args.s.now) w c.add_candidate.new.self c.in-TypeArguments.from
-    (closed-by (symbol_by g.G.Grammar.IS_WIDE g.G.Grammar.IS_BARE c.args.s.now) c.args.self.now c.push_byte.new.self w c.in_ok-from.field-0 (opens.TypeArguments c.in-TypeArguments.from)
+    type-closed (symbol_by g.G.Grammar.IS_WIDE g.G.Grammar.IS_BARE g.G.Grammar.IS_BRIEF c.args.s.now) w c.add_candidate.new.self c.in-TypeArguments.from
+    (closed-by (symbol_by g.G.Grammar.IS_WIDE g.G.Grammar.IS_BARE g.G.Grammar.IS_BRIEF c.args.s.now) c.args.self.now c.push_byte.new.self w c.in_ok-from.field-0 (opens.TypeArguments c.in-TypeArguments.from)
     c.requires.ended c.in_ok-push_byte.ensures refl refl refl c.in_ok-from.ensures.items c.in-TypeArguments.is)
     c.in_ok-add_candidate-in-TypeArguments.ensures.candidates c.add_candidate.ensures.text c.add_candidate.ensures.open c.add_candidate.ensures.at
 
@@ -47,8 +47,8 @@ returns-in-NestArguments g c =
       at = c.push_byte.new.self.at;
       rounds = c.push_byte.new.self.rounds;
     } in
-    nest-closed (symbol_by g.G.Grammar.IS_WIDE g.G.Grammar.IS_BARE c.args.s.now) w c.in-NestArguments.nest
-    (closed-by (symbol_by g.G.Grammar.IS_WIDE g.G.Grammar.IS_BARE c.args.s.now) c.args.self.now c.push_byte.new.self w c.in_ok-from.field-0 (opens.NestArguments c.in-NestArguments.nest)
+    nest-closed (symbol_by g.G.Grammar.IS_WIDE g.G.Grammar.IS_BARE g.G.Grammar.IS_BRIEF c.args.s.now) w c.in-NestArguments.nest
+    (closed-by (symbol_by g.G.Grammar.IS_WIDE g.G.Grammar.IS_BARE g.G.Grammar.IS_BRIEF c.args.s.now) c.args.self.now c.push_byte.new.self w c.in_ok-from.field-0 (opens.NestArguments c.in-NestArguments.nest)
     c.requires.ended c.in_ok-push_byte.ensures refl refl refl c.in_ok-from.ensures.items c.in-NestArguments.is)
 
 pub returns-in_ok-add_candidate-in-FirstArguments : goal.returns-in_ok-add_candidate-in-FirstArguments
@@ -62,8 +62,8 @@ returns-in_ok-add_candidate-in-FirstArguments g c =
       at = c.push_byte.new.self.at;
       rounds = c.push_byte.new.self.rounds;
     } in
-    first-closed (symbol_by g.G.Grammar.IS_WIDE g.G.Grammar.IS_BARE c.args.s.now) w c.add_candidate-in-FirstArguments.new.self c.in-FirstArguments.nest
-    (closed-by (symbol_by g.G.Grammar.IS_WIDE g.G.Grammar.IS_BARE c.args.s.now) c.args.self.now c.push_byte.new.self w c.in_ok-from.field-0 (opens.FirstArguments c.in-FirstArguments.nest)
+    first-closed (symbol_by g.G.Grammar.IS_WIDE g.G.Grammar.IS_BARE g.G.Grammar.IS_BRIEF c.args.s.now) w c.add_candidate-in-FirstArguments.new.self c.in-FirstArguments.nest
+    (closed-by (symbol_by g.G.Grammar.IS_WIDE g.G.Grammar.IS_BARE g.G.Grammar.IS_BRIEF c.args.s.now) c.args.self.now c.push_byte.new.self w c.in_ok-from.field-0 (opens.FirstArguments c.in-FirstArguments.nest)
     c.requires.ended c.in_ok-push_byte.ensures refl refl refl c.in_ok-from.ensures.items c.in-FirstArguments.is)
     c.in_ok-add_candidate-in-FirstArguments.ensures.candidates c.add_candidate-in-FirstArguments.ensures.text
     c.add_candidate-in-FirstArguments.ensures.open c.add_candidate-in-FirstArguments.ensures.at

@@ -14,7 +14,7 @@ returns g c =
     (λ r. (
       source false r.0,
       source_text r.0,
-      source-name-piece (symbol_by g.G.Grammar.IS_WIDE g.G.Grammar.IS_BARE c.args.s.now) c.args.self.now.at r.0 c.name.new.self.at r.1,
+      source-name-piece (symbol_by g.G.Grammar.IS_WIDE g.G.Grammar.IS_BARE g.G.Grammar.IS_BRIEF c.args.s.now) c.args.self.now.at r.0 c.name.new.self.at r.1,
       piece-prints (source false r.0) (source_text r.0) (source-piece false r.0 r.2) (source-opening false r.0),
       r.3,
     ))
