@@ -53,7 +53,7 @@ element-read s old new t bytes a prints reads g =
         a.ts ++ t ∷ [],
         in_front_of_next a.ts a.texts ++ bytes,
         next-prints extra a.ts a.texts t bytes a.elements (type-element extra t bytes false prints),
-        reads.text ∙ ap (λ l. l ++ bytes) a.written ∙ append_assoc (led_by p.listing p.front p.name) (in_front_of_next a.ts a.texts) bytes,
+        reads.text ∙ ap (λ l. l ++ bytes) a.written ∙ append_assoc (led_by (detail_of s) p.listing p.front p.name) (in_front_of_next a.ts a.texts) bytes,
         λ first. absurd (false≢true first),
         λ further. some-elements a.ts t,
         element-goes-on s (element_kind p.listing) (λ l now then. Closes s p.listing p.owner (Stands s p.rest) p.front p.template l now then)
@@ -211,7 +211,7 @@ enumerator-read s old begun pushed middle new a other text candidates at waits w
     let here : pushed.at ≡ old.at = writes.at ∙ at in
     let p = a.place in
     let extra = extra_of p.listing in
-    let front = led_by p.listing p.front p.name in
+    let front = led_by (detail_of s) p.listing p.front p.name in
     let before = in_front_of_next a.ts a.texts in
     let more = codes ")" ++ number_text n in
     let own = codes "(" ++ a.bytes ++ codes ")" ++ sign_text n ++ n.digits in

@@ -54,4 +54,5 @@ pub mod ShortNumbers
 pub mod Signatures
 pub mod Tables
 pub mod TypesRead
+pub mod Unmarked
 pub mod UnscopedNames

@@ -56,7 +56,7 @@ pub record Keeps (old new : Direct) (ks : List Candidate) : Type 0 where
 
 -- arguments were opened
 pub record OpensArguments (old new : Direct) (owner : Open) : Type 0 where
-  pub text : new.text.list.items ≡ old.text.list.items ++ codes "<"
+  pub text : new.text.list.items ≡ old.text.list.items ++ before_arguments (detail_of s)
   pub waiting : new.waiting.list.items ≡ old.waiting.list.items ++ owner ∷ []
   pub at : new.at ≡ old.at + 1
   pub candidates : new.candidates ≡ old.candidates
@@ -68,22 +68,22 @@ byte-there s at byte known is some there = subst (λ b. StandsAt s at (b ∷ [])
 -- arguments begin after a name
 list-begins : (s : Symbol) (old mid new : Direct) (ks : List Candidate) (st : State) (owner : Open) (front name : List ℕ) (t : Term)
     → Keeps old mid ks → OpensArguments mid new owner → AreCandidates (detail_of s) old.text.list.items ks st.candidates
-    → IsTemplate (detail_of s) owner front t name (old.text.list.items ++ codes "<") → old.text.list.items ≡ front ++ name
+    → IsTemplate (detail_of s) owner front t name (old.text.list.items ++ before_arguments (detail_of s)) → old.text.list.items ≡ front ++ name
     → ArgumentsGoOn s owner (Stands s (reverse old.waiting.list.items)) front t [] (old.at + 1) st
     → IsWriting s new (steps.List true)
 list-begins s old mid new ks st owner front name t keeps opening_ candidates template written goes =
-    let text_is : new.text.list.items ≡ old.text.list.items ++ codes "<" = cc (opening_.text, keeps.text) in
+    let text_is : new.text.list.items ≡ old.text.list.items ++ before_arguments (detail_of s) = cc (opening_.text, keeps.text) in
     let candidates_are : new.candidates.list.items ≡ ks = cc (opening_.candidates, keeps.candidates) in
     let waiting_is : new.waiting.list.items ≡ old.waiting.list.items ++ owner ∷ [] = cc (opening_.waiting, keeps.waiting) in
     let at_is : new.at ≡ old.at + 1 = cc (opening_.at, keeps.at) in
     record {
       state = st;
       candidates = subst (λ l. AreCandidates (detail_of s) l new.candidates.list.items st.candidates) (sym text_is)
-          (subst (λ l. AreCandidates (detail_of s) (old.text.list.items ++ codes "<") l st.candidates) (sym candidates_are)
-          (candidates-stay (detail_of s) old.text.list.items (codes "<") ks st.candidates candidates));
+          (subst (λ l. AreCandidates (detail_of s) (old.text.list.items ++ before_arguments (detail_of s)) l st.candidates) (sym candidates_are)
+          (candidates-stay (detail_of s) old.text.list.items (before_arguments (detail_of s)) ks st.candidates candidates));
       is_before = arguments-begun s new st owner (reverse old.waiting.list.items) front name t
           (ap reverse waiting_is ∙ reverse-last old.waiting.list.items owner)
-          (subst (λ l. IsTemplate (detail_of s) owner front t name l) (sym text_is) template) (text_is ∙ ap (λ l. l ++ codes "<") written)
+          (subst (λ l. IsTemplate (detail_of s) owner front t name l) (sym text_is) template) (text_is ∙ ap (λ l. l ++ before_arguments (detail_of s)) written)
           (subst (λ n. ArgumentsGoOn s owner (Stands s (reverse old.waiting.list.items)) front t [] n st) (sym at_is) goes);
     }
 
@@ -178,7 +178,7 @@ named-opens s old mid new n here keeps opening_ =
     list-begins s old mid new (added old old.nest.from false) (with_candidate around n.own n.state) (opens.NestArguments old.nest) n.front n.bytes n.own
     keeps (subst (λ x. OpensArguments mid new (opens.NestArguments x)) keeps.nest opening_)
     (candidates-with old n.state n.front n.bytes old.nest.from n.own around false n.candidates n.written n.is_nest.from_is n.is_nest.prints)
-    (nest-stays n.front n.bytes old.text.list.items (codes "<") old.nest n.own n.is_nest, (λ own. n.structor), n.no_structor) n.written (
+    (nest-stays n.front n.bytes old.text.list.items (before_arguments (detail_of s)) old.nest n.own n.is_nest, (λ own. n.structor), n.no_structor) n.written (
       inside n.around,
       begun.inner,
       refl,
@@ -232,7 +232,7 @@ known-opens s old new n wide is_type here opening_ =
     let not_own : IsOwn old.nest.purpose → ⊥ = λ own. subst IsOwn is_type own in
     list-begins s old old new old.candidates.list.items n.state (opens.NestArguments old.nest) n.front n.bytes n.own
     (record { candidates = refl; text = refl; waiting = refl; nest = refl; at = refl }) opening_ n.candidates (
-      nest-stays n.front n.bytes old.text.list.items (codes "<") old.nest n.own n.is_nest,
+      nest-stays n.front n.bytes old.text.list.items (before_arguments (detail_of s)) old.nest n.own n.is_nest,
       (λ own. absurd (not_own own)),
       (λ e. absurd (false≢true (sym n.classless ∙ e))),
     ) n.written (
@@ -296,7 +296,7 @@ first-opens s kind old mid new st t first candidates n here keeps opening_ =
     list-begins s old mid new (added_unless old listed old.nest.from) (unless_listed listed around t st) (opens.FirstArguments old.nest) n.front n.bytes t
     keeps (subst (λ x. OpensArguments mid new (opens.FirstArguments x)) keeps.nest opening_)
     (candidates-unless old st listed n.front n.bytes old.nest.from t around candidates n.written n.is_nest.from_is n.is_nest.prints)
-    (nest-stays n.front n.bytes old.text.list.items (codes "<") old.nest t n.is_nest) n.written (
+    (nest-stays n.front n.bytes old.text.list.items (before_arguments (detail_of s)) old.nest t n.is_nest) n.written (
       inside n.around,
       begun.inner,
       refl,
@@ -655,7 +655,7 @@ std-begins s old mid purpose before name a here is filled text_is candidates_are
 -- what opening arguments says where there was memory
 pub opened-by : (s : Symbol) (r : Option Step) (old new : Direct) (owner : Open) → IfSome r (λ next. next ≡ steps.List true)
     → OnSome r (new.waiting.list.items ≡ old.waiting.list.items ++ owner ∷ []) → OnSome r (new.at ≡ old.at + 1)
-    → OnSome r (new.text.list.items ≡ old.text.list.items ++ codes "<") → OnSome r (new.candidates ≡ old.candidates)
+    → OnSome r (new.text.list.items ≡ old.text.list.items ++ before_arguments (detail_of s)) → OnSome r (new.candidates ≡ old.candidates)
     → (OpensArguments old new owner → IsWriting s new (steps.List true)) → IfSome r (IsWriting s new)
 opened-by s None old new owner step waiting at text candidates goes = tt
 opened-by s (Some next) old new owner step waiting at text candidates goes =

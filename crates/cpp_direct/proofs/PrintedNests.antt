@@ -12,7 +12,7 @@ use Rattle.cpp_grammar.specs.Items.{left, right, base, piece, first, Context, he
 use Rattle.cpp_grammar.specs.Meaning.{is_void}
 use Rattle.cpp_grammar.specs.Parts.{as_item, says, list_part, source_text, prefix_item, last_piece, opening_text, own_piece, piece_parts, within_parts, base_within, base_tagged, instance_parts, left_parts, right_parts, base_parts, parts_in, not_empty, is_plain_integer}
 use Rattle.cpp_direct.specs.Names.{is_angle, operator_text}
-use Rattle.cpp_direct.specs.Prints.{shown_in, Prints, PrintsName, NamesClass, PrintAll}
+use Rattle.cpp_direct.specs.Prints.{written_of, Prints, PrintsName, NamesClass, PrintAll}
 use Rattle.cpp_direct.specs.WriterInvariant.{IsTail, list_with}
 use Rattle.cpp_direct.proofs.PrintedParts.{shown_by, text_shown, cost_shown, alone_shown, first_cost_shown, text_append, cost_append}
 use Rattle.cpp_direct.proofs.PrintedNames.{source-filled, piece-text, piece-cost, operator-text, operator-cost}
@@ -26,8 +26,8 @@ joins x m y b n e f = rw (e, f, append-nil n) (sym (append_assoc b m n))
 
 -- a piece of a name, with its text, that is printed after colons
 pub record IsPiece (detail : Detail) (p : Term) (x : List ℕ) : Type 0 where
-  pub piece_text : (context : Context) → text_of (shown_in detail piece context p) ≡ x
-  pub piece_cost : (context : Context) → cost_of (shown_in detail piece context p) ≡ 1 + length x
+  pub piece_text : (context : Context) → text_of (written_of detail piece context p) ≡ x
+  pub piece_cost : (context : Context) → cost_of (written_of detail piece context p) ≡ 1 + length x
   pub within_is : (context : Context) (t : Term) → within_parts context t p ≡ prefix_item context t ∷ says "::" ∷ as_item piece context p ∷ []
   pub base_is : (context : Context) (t : Term) → base_within context t p ≡ text x ∷ []
   pub tagged_is : (context : Context) (t : Term) → base_tagged context (is_structor (within t p)) (within t p) ≡ text x ∷ []
@@ -81,19 +81,19 @@ within-is : {detail : Detail} (c : Context) (t p : Term) (x : List ℕ) → IsPi
 within-is c t p x is e = is.within_is c t ∙ ap (λ i. i ∷ says "::" ∷ as_item piece c p ∷ []) e
 
 within-text : {detail : Detail} (t : Term) (b : List ℕ) → Prints detail t b false → (p : Term) (x : List ℕ) → IsPiece detail p x → (c : Context)
-    → text_of (shown_in detail left c (within t p)) ≡ b ++ codes "::" ++ x
+    → text_of (written_of detail left c (within t p)) ≡ b ++ codes "::" ++ x
 unfolding parts_in left_parts not_empty
 within-text {detail} t b prints p x is c =
-    text_shown detail left c (within t p) (as_item left c t ∷ says "::" ∷ as_item piece c p ∷ []) (within-is c t p x is (prints.as_prefix c))
-    ∙ joins (text_of (shown_in detail left c t)) (codes "::") (text_of (shown_in detail piece c p)) b x (prints.left_text c) (is.piece_text c)
+    text_shown detail left c (within t p) (as_item left c t ∷ says "::" ∷ as_item piece c p ∷ []) (within-is c t p x is (prints.as_prefix c)) refl
+    ∙ joins (text_of (written_of detail left c t)) (codes "::") (text_of (written_of detail piece c p)) b x (prints.left_text c) (is.piece_text c)
 
 within-cost : {detail : Detail} (t : Term) (b : List ℕ) → Prints detail t b false → (p : Term) (x : List ℕ) → IsPiece detail p x → (c : Context)
-    → cost_of (shown_in detail left c (within t p)) ≡ cost_of (shown_in detail left c t) + 4 + length x
+    → cost_of (written_of detail left c (within t p)) ≡ cost_of (written_of detail left c t) + 4 + length x
 unfolding parts_in left_parts not_empty
 within-cost {detail} t b prints p x is c =
     omega (
       arith,
-      cost_shown detail left c (within t p) (as_item left c t ∷ says "::" ∷ as_item piece c p ∷ []) (within-is c t p x is (prints.as_prefix c)),
+      cost_shown detail left c (within t p) (as_item left c t ∷ says "::" ∷ as_item piece c p ∷ []) (within-is c t p x is (prints.as_prefix c)) refl,
       is.piece_cost c,
     )
 
@@ -107,7 +107,7 @@ within-names {detail} t b prints p x is = let w = within t p in record {
     arith,
     prints.cost c,
     within-cost t b prints p x is c,
-    cost_shown detail right c w [] refl,
+    cost_shown detail right c w [] refl refl,
     is.filled,
     length-append (b ++ codes "::") x,
     length-append b (codes "::"),
@@ -121,7 +121,7 @@ unfolding parts_in left_parts right_parts not_empty head head_with is_reference 
     prefix_item last_piece is_void is_plain_integer
 within-prints {detail} t b prints p x is opening = let w = within t p in let n = within-names t b prints p x is in record {
   left_text = n.left_text;
-  right_text = λ c. text_shown detail right c w [] refl;
+  right_text = λ c. text_shown detail right c w [] refl refl;
   cost = n.cost;
   is_reference_head = λ c. refl;
   is_funarr_head = λ c. refl;
@@ -142,14 +142,14 @@ pub within-class : {detail : Detail} (t : Term) (b : List ℕ) → Prints detail
     → NamesClass detail (within t p) x
 unfolding parts_in right_parts base_parts not_empty
 within-class {detail} t b prints p x is = let w = within t p in record {
-  base_text = λ c. text_shown detail base c w (text x ∷ []) (is.base_is c t) ∙ alone_shown detail x;
+  base_text = λ c. text_shown detail base c w (text x ∷ []) (is.base_is c t) refl ∙ alone_shown detail x;
   base_cost = λ c. omega (
     arith,
     prints.cost c,
     within-cost t b prints p x is c,
-    cost_shown detail right c w [] refl,
+    cost_shown detail right c w [] refl refl,
     is.filled,
-    cost_shown detail base c w (text x ∷ []) (is.base_is c t),
+    cost_shown detail base c w (text x ∷ []) (is.base_is c t) refl,
     first_cost_shown detail x [],
     ap length (within-text t b prints p x is c),
     length-append (b ++ codes "::") x,
@@ -165,15 +165,15 @@ pub constructor-prints : {detail : Detail} (t : Term) (b class : List ℕ) → P
 unfolding parts_in left_parts right_parts within_parts not_empty head head_with is_reference is_funarr is_empty is_open pack_length first_of
     is_function_type length_if_pack prefix_item last_piece opening_text is_void is_plain_integer
 constructor-prints {detail} t b class p n digit = let w = within t (constructor digit) in record {
-  left_text = λ c. text_shown detail left c w (as_item left c t ∷ says "::" ∷ as_item base c t ∷ []) refl
-      ∙ joins (text_of (shown_in detail left c t)) (codes "::") (text_of (shown_in detail base c t)) b class (p.left_text c) (n.base_text c);
-  right_text = λ c. text_shown detail right c w [] refl;
+  left_text = λ c. text_shown detail left c w (as_item left c t ∷ says "::" ∷ as_item base c t ∷ []) refl refl
+      ∙ joins (text_of (written_of detail left c t)) (codes "::") (text_of (written_of detail base c t)) b class (p.left_text c) (n.base_text c);
+  right_text = λ c. text_shown detail right c w [] refl refl;
   cost = λ c. omega (
     arith,
     n.base_cost c,
     ap length (p.left_text c),
-    cost_shown detail right c w [] refl,
-    cost_shown detail left c w (as_item left c t ∷ says "::" ∷ as_item base c t ∷ []) refl,
+    cost_shown detail right c w [] refl refl,
+    cost_shown detail left c w (as_item left c t ∷ says "::" ∷ as_item base c t ∷ []) refl refl,
     length-append (b ++ codes "::") class,
     length-append b (codes "::"),
   );
@@ -197,15 +197,15 @@ pub destructor-prints : {detail : Detail} (t : Term) (b class : List ℕ) → Pr
 unfolding parts_in left_parts right_parts within_parts not_empty head head_with is_reference is_funarr is_empty is_open pack_length first_of
     is_function_type length_if_pack prefix_item last_piece opening_text is_void is_plain_integer
 destructor-prints {detail} t b class p n digit = let w = within t (destructor digit) in record {
-  left_text = λ c. text_shown detail left c w (as_item left c t ∷ says "::~" ∷ as_item base c t ∷ []) refl
-      ∙ joins (text_of (shown_in detail left c t)) (codes "::~") (text_of (shown_in detail base c t)) b class (p.left_text c) (n.base_text c);
-  right_text = λ c. text_shown detail right c w [] refl;
+  left_text = λ c. text_shown detail left c w (as_item left c t ∷ says "::~" ∷ as_item base c t ∷ []) refl refl
+      ∙ joins (text_of (written_of detail left c t)) (codes "::~") (text_of (written_of detail base c t)) b class (p.left_text c) (n.base_text c);
+  right_text = λ c. text_shown detail right c w [] refl refl;
   cost = λ c. omega (
     arith,
     n.base_cost c,
     ap length (p.left_text c),
-    cost_shown detail right c w [] refl,
-    cost_shown detail left c w (as_item left c t ∷ says "::~" ∷ as_item base c t ∷ []) refl,
+    cost_shown detail right c w [] refl refl,
+    cost_shown detail left c w (as_item left c t ∷ says "::~" ∷ as_item base c t ∷ []) refl refl,
     length-append (b ++ codes "::~") class,
     length-append b (codes "::~"),
   );
@@ -231,28 +231,28 @@ unfolding parts_in left_parts instance_parts
 instance-is detail all c t arguments e =
     ap (λ b. instance_parts b c t arguments) all ∙ ap (λ o. (as_item left c t ∷ text o ∷ list_part first c arguments) ++ (says ">" ∷ [])) e
 
-bracketed : (x y b l : List ℕ) → x ≡ b → y ≡ l → (x ++ (codes "<" ++ y)) ++ codes ">" ≡ b ++ codes "<" ++ l ++ codes ">"
-bracketed x y b l e f = rw (e, f) (ap (λ s. s ++ codes ">") (sym (append_assoc b (codes "<") l)))
+bracketed : (x y b l : List ℕ) → x ≡ b → y ≡ l → (x ++ (before_arguments detail ++ y)) ++ after_arguments detail ≡ b ++ before_arguments detail ++ l ++ after_arguments detail
+bracketed x y b l e f = rw (e, f) (ap (λ s. s ++ after_arguments detail) (sym (append_assoc b (before_arguments detail) l)))
 
 instance-text : {detail : Detail} → has_arguments detail ≡ true → (t : Term) (b : List ℕ) → Prints detail t b false
     → (ts : List Term) (tail : Term) (l : List ℕ) → IsTail tail → PrintAll detail 3 ts l → (c : Context)
-    → text_of (shown_in detail left c (instance t (list_with ts tail))) ≡ b ++ codes "<" ++ l ++ codes ">"
+    → text_of (written_of detail left c (instance t (list_with ts tail))) ≡ b ++ before_arguments detail ++ l ++ after_arguments detail
 unfolding parts_in left_parts not_empty
 instance-text {detail} whole t b p ts tail l is all c =
     let ps = as_item left c t ∷ says "<" ∷ list_part first c (list_with ts tail) in
-    text_shown detail left c (instance t (list_with ts tail)) (ps ++ (says ">" ∷ [])) (instance-is detail whole c t (list_with ts tail) p.opening)
+    text_shown detail left c (instance t (list_with ts tail)) (ps ++ (says ">" ∷ [])) (instance-is detail whole c t (list_with ts tail) p.opening) refl
     ∙ text_append detail ps (says ">" ∷ [])
-    ∙ bracketed (text_of (shown_in detail left c t)) (text_of (shown_by detail (list_part first c (list_with ts tail)))) b l (p.left_text c) (list-text-before detail c 3 ts tail l is all)
+    ∙ bracketed (text_of (written_of detail left c t)) (text_of (shown_by detail (list_part first c (list_with ts tail)))) b l (p.left_text c) (list-text-before detail c 3 ts tail l is all)
 
 instance-cost : {detail : Detail} → has_arguments detail ≡ true → (t : Term) (b : List ℕ) → Prints detail t b false
     → (ts : List Term) (tail : Term) (l : List ℕ) → IsTail tail → PrintAll detail 3 ts l → (c : Context)
-    → cost_of (shown_in detail left c (instance t (list_with ts tail))) ≤ cost_of (shown_in detail left c t) + 7 + 4 * length l
+    → cost_of (written_of detail left c (instance t (list_with ts tail))) ≤ cost_of (written_of detail left c t) + 7 + 4 * length l
 unfolding parts_in left_parts not_empty
 instance-cost {detail} whole t b p ts tail l is all c =
     let ps = as_item left c t ∷ says "<" ∷ list_part first c (list_with ts tail) in
     omega (
       arith,
-      cost_shown detail left c (instance t (list_with ts tail)) (ps ++ (says ">" ∷ [])) (instance-is detail whole c t (list_with ts tail) p.opening),
+      cost_shown detail left c (instance t (list_with ts tail)) (ps ++ (says ">" ∷ [])) (instance-is detail whole c t (list_with ts tail) p.opening) refl,
       cost_append detail ps (says ">" ∷ []),
       list-cost-before detail c 3 ts tail l (omega arith) is all,
     )
@@ -260,20 +260,20 @@ instance-cost {detail} whole t b p ts tail l is all c =
 -- A name with arguments prints them in brackets.
 pub instance-prints : {detail : Detail} → has_arguments detail ≡ true → (t : Term) (b : List ℕ) → Prints detail t b false
     → (ts : List Term) (tail : Term) (l : List ℕ) → IsTail tail → PrintAll detail 3 ts l
-    → Prints detail (instance t (list_with ts tail)) (b ++ codes "<" ++ l ++ codes ">") false
+    → Prints detail (instance t (list_with ts tail)) (b ++ before_arguments detail ++ l ++ after_arguments detail) false
 unfolding parts_in right_parts not_empty head head_with is_reference is_funarr is_empty is_open pack_length first_of is_function_type length_if_pack prefix_item
     last_piece opening_text is_void is_plain_integer
 instance-prints {detail} whole t b p ts tail l is all = let i = instance t (list_with ts tail) in record {
   left_text = instance-text whole t b p ts tail l is all;
-  right_text = λ c. text_shown detail right c i [] refl;
+  right_text = λ c. text_shown detail right c i [] refl refl;
   cost = λ c. omega (
     arith,
     p.cost c,
     instance-cost whole t b p ts tail l is all c,
-    cost_shown detail right c i [] refl,
-    length-append (b ++ codes "<" ++ l) (codes ">"),
-    length-append (b ++ codes "<") l,
-    length-append b (codes "<"),
+    cost_shown detail right c i [] refl refl,
+    length-append (b ++ before_arguments detail ++ l) (after_arguments detail),
+    length-append (b ++ before_arguments detail) l,
+    length-append b (before_arguments detail),
   );
   is_reference_head = λ c. refl;
   is_funarr_head = λ c. refl;
@@ -295,17 +295,17 @@ pub instance-class : {detail : Detail} → has_arguments detail ≡ true → (t 
     → NamesClass detail (instance t (list_with ts tail)) class
 unfolding parts_in right_parts base_parts not_empty
 instance-class {detail} whole t b class p n ts tail l is all = let i = instance t (list_with ts tail) in record {
-  base_text = λ c. text_shown detail base c i (as_item base c t ∷ []) refl ∙ append-nil (text_of (shown_in detail base c t)) ∙ n.base_text c;
+  base_text = λ c. text_shown detail base c i (as_item base c t ∷ []) refl refl ∙ append-nil (text_of (written_of detail base c t)) ∙ n.base_text c;
   base_cost = λ c. omega (
     arith,
     n.base_cost c,
     ap length (p.left_text c),
     instance-cost whole t b p ts tail l is all c,
-    cost_shown detail right c i [] refl,
-    cost_shown detail base c i (as_item base c t ∷ []) refl,
+    cost_shown detail right c i [] refl refl,
+    cost_shown detail base c i (as_item base c t ∷ []) refl refl,
     ap length (instance-text whole t b p ts tail l is all c),
-    length-append (b ++ codes "<" ++ l) (codes ">"),
-    length-append (b ++ codes "<") l,
-    length-append b (codes "<"),
+    length-append (b ++ before_arguments detail ++ l) (after_arguments detail),
+    length-append (b ++ before_arguments detail) l,
+    length-append b (before_arguments detail),
   );
 }

@@ -11,7 +11,7 @@ use Rattle.cpp_grammar.specs.Meaning.{is_void}
 use Rattle.cpp_grammar.specs.Between.{with_tag}
 use Rattle.cpp_grammar.specs.Parts.{as_item, says, source_text, prefix_item, last_piece, opening_text, own_piece, piece_parts, base_tagged, left_parts, right_parts, base_parts, parts_in, not_empty, is_plain_integer}
 use Rattle.cpp_direct.specs.Names.{tag_text}
-use Rattle.cpp_direct.specs.Prints.{shown_in, Prints, PrintsName, NamesClass}
+use Rattle.cpp_direct.specs.Prints.{written_of, Prints, PrintsName, NamesClass}
 use Rattle.cpp_direct.proofs.PrintedParts.{shown_by, text_shown, cost_shown, alone_shown, first_shown, first_cost_shown}
 use Rattle.cpp_direct.proofs.PrintedNames.{std-prints}
 use Rattle.cpp_direct.proofs.PrintedNests.{IsPiece, within-prints}
@@ -33,19 +33,19 @@ tag-length b tag = omega (
   length-append (codes "[abi:") tag,
 )
 
-tagged-left : (detail : Detail) (of_structor : Bool) (t : Term) (b tag : List ℕ) → ((c : Context) → text_of (shown_in detail left c t) ≡ b) → (c : Context)
-    → text_of (shown_in detail left c (tagged of_structor t tag)) ≡ b ++ tag_text tag
+tagged-left : (detail : Detail) (of_structor : Bool) (t : Term) (b tag : List ℕ) → ((c : Context) → text_of (written_of detail left c t) ≡ b) → (c : Context)
+    → text_of (written_of detail left c (tagged of_structor t tag)) ≡ b ++ tag_text tag
 unfolding parts_in left_parts not_empty
 tagged-left detail of_structor t b tag prints c =
-    text_shown detail left c (tagged of_structor t tag) (as_item left c t ∷ says "[abi:" ∷ text tag ∷ says "]" ∷ []) refl
-    ∙ ap (λ l. text_of (shown_in detail left c t) ++ l) (behind-text detail tag) ∙ ap (λ l. l ++ tag_text tag) (prints c)
+    text_shown detail left c (tagged of_structor t tag) (as_item left c t ∷ says "[abi:" ∷ text tag ∷ says "]" ∷ []) refl refl
+    ∙ ap (λ l. text_of (written_of detail left c t) ++ l) (behind-text detail tag) ∙ ap (λ l. l ++ tag_text tag) (prints c)
 
 tagged-cost : (detail : Detail) (of_structor : Bool) (t : Term) (tag : List ℕ) (c : Context)
-    → cost_of (shown_in detail left c (tagged of_structor t tag)) ≡ cost_of (shown_in detail left c t) + 7 + length tag
+    → cost_of (written_of detail left c (tagged of_structor t tag)) ≡ cost_of (written_of detail left c t) + 7 + length tag
 unfolding parts_in left_parts not_empty
 tagged-cost detail of_structor t tag c = omega (
   arith,
-  cost_shown detail left c (tagged of_structor t tag) (as_item left c t ∷ says "[abi:" ∷ text tag ∷ says "]" ∷ []) refl,
+  cost_shown detail left c (tagged of_structor t tag) (as_item left c t ∷ says "[abi:" ∷ text tag ∷ says "]" ∷ []) refl refl,
   behind-cost detail tag,
 )
 
@@ -55,7 +55,7 @@ pub tagged-names : {detail : Detail} (of_structor : Bool) (t : Term) (b : List �
 unfolding parts_in right_parts not_empty
 tagged-names {detail} of_structor t b p tag = record {
   left_text = tagged-left detail of_structor t b tag p.left_text;
-  cost = λ c. omega (arith, p.cost c, tagged-cost detail of_structor t tag c, cost_shown detail right c (tagged of_structor t tag) [] refl, tag-length b tag);
+  cost = λ c. omega (arith, p.cost c, tagged-cost detail of_structor t tag c, cost_shown detail right c (tagged of_structor t tag) [] refl refl, tag-length b tag);
 }
 
 pub tagged-prints : {detail : Detail} (of_structor : Bool) (t : Term) (b : List ℕ) → Prints detail t b false → (tag : List ℕ)
@@ -67,7 +67,7 @@ tagged-prints {detail} of_structor t b p tag =
     let n = tagged-names of_structor t b (record { left_text = p.left_text; cost = p.cost }) tag in
     record {
       left_text = n.left_text;
-      right_text = λ c. text_shown detail right c w [] refl;
+      right_text = λ c. text_shown detail right c w [] refl refl;
       cost = n.cost;
       is_reference_head = λ c. refl;
       is_funarr_head = λ c. refl;
@@ -85,8 +85,8 @@ tagged-prints {detail} of_structor t b p tag =
 
 -- Where its class has this text at the base it names its class so.
 names-by : {detail : Detail} (of_structor : Bool) (t : Term) (b : List ℕ) → Prints detail t b false → (tag class : List ℕ)
-    → ((c : Context) → text_of (shown_in detail base c (tagged of_structor t tag)) ≡ class)
-    → ((c : Context) → cost_of (shown_in detail base c (tagged of_structor t tag)) ≤ 8 + 4 * length class)
+    → ((c : Context) → text_of (written_of detail base c (tagged of_structor t tag)) ≡ class)
+    → ((c : Context) → cost_of (written_of detail base c (tagged of_structor t tag)) ≤ 8 + 4 * length class)
     → NamesClass detail (tagged of_structor t tag) class
 unfolding parts_in right_parts not_empty
 names-by {detail} of_structor t b p tag class base_text base_cost = record {
@@ -96,7 +96,7 @@ names-by {detail} of_structor t b p tag class base_text base_cost = record {
     p.cost c,
     base_cost c,
     tagged-cost detail of_structor t tag c,
-    cost_shown detail right c (tagged of_structor t tag) [] refl,
+    cost_shown detail right c (tagged of_structor t tag) [] refl refl,
     ap length (tagged-left detail of_structor t b tag p.left_text c),
     tag-length b tag,
   );
@@ -110,8 +110,8 @@ unfolding with_tag parts_in base_parts base_tagged not_empty
 within-tagged {detail} t b prints p x is opening tag =
     let own : Term = within t p in
     names-by (is_structor own) own (b ++ codes "::" ++ x) (within-prints t b prints p x is opening) tag x
-    (λ c. text_shown detail base c (tagged (is_structor own) own tag) (text x ∷ []) (is.tagged_is c t) ∙ alone_shown detail x)
-    (λ c. omega (arith, cost_shown detail base c (tagged (is_structor own) own tag) (text x ∷ []) (is.tagged_is c t), first_cost_shown detail x []))
+    (λ c. text_shown detail base c (tagged (is_structor own) own tag) (text x ∷ []) (is.tagged_is c t) refl ∙ alone_shown detail x)
+    (λ c. omega (arith, cost_shown detail base c (tagged (is_structor own) own tag) (text x ∷ []) (is.tagged_is c t) refl, first_cost_shown detail x []))
 
 -- one in std
 pub std-tagged : {detail : Detail} (internal : Bool) (name : List ℕ) → name ≢ [] → (tag : List ℕ)
@@ -120,8 +120,8 @@ unfolding with_tag parts_in base_parts base_tagged own_piece without_tags is_str
 std-tagged {detail} internal name filled tag =
     let own : Term = in_std (source internal name) in
     names-by (is_structor own) own (codes "std::" ++ source_text name) (std-prints internal name filled) tag (source_text name)
-    (λ c. text_shown detail base c (tagged (is_structor own) own tag) (text (source_text name) ∷ []) refl ∙ alone_shown detail (source_text name))
-    (λ c. omega (arith, cost_shown detail base c (tagged (is_structor own) own tag) (text (source_text name) ∷ []) refl, first_cost_shown detail (source_text name) []))
+    (λ c. text_shown detail base c (tagged (is_structor own) own tag) (text (source_text name) ∷ []) refl refl ∙ alone_shown detail (source_text name))
+    (λ c. omega (arith, cost_shown detail base c (tagged (is_structor own) own tag) (text (source_text name) ∷ []) refl refl, first_cost_shown detail (source_text name) []))
 
 -- one with a tag already, which names its class so
 pub again-tagged : {detail : Detail} (of_structor : Bool) (t : Term) (b : List ℕ) → Prints detail t b false → (first tag class : List ℕ)
@@ -133,14 +133,14 @@ again-tagged {detail} true t b p first tag class n =
     let all : Term = tagged true own tag in
     let prints = tagged-prints true t b p first in
     record {
-      base_text = λ c. text_shown detail base c all (as_item base c own ∷ []) refl ∙ append-nil (text_of (shown_in detail base c own)) ∙ n.base_text c;
+      base_text = λ c. text_shown detail base c all (as_item base c own ∷ []) refl refl ∙ append-nil (text_of (written_of detail base c own)) ∙ n.base_text c;
       base_cost = λ c. omega (
         arith,
         n.base_cost c,
         tagged-cost detail true own tag c,
-        cost_shown detail right c all [] refl,
-        cost_shown detail right c own [] refl,
-        cost_shown detail base c all (as_item base c own ∷ []) refl,
+        cost_shown detail right c all [] refl refl,
+        cost_shown detail right c own [] refl refl,
+        cost_shown detail base c all (as_item base c own ∷ []) refl refl,
         ap length (tagged-left detail true own (b ++ tag_text first) tag prints.left_text c),
         ap length (prints.left_text c),
         tag-length (b ++ tag_text first) tag,
@@ -151,16 +151,16 @@ again-tagged {detail} false t b p first tag class n =
     let all : Term = tagged false own tag in
     let prints = tagged-prints false t b p first in
     record {
-      base_text = λ c. text_shown detail base c all (piece_parts c (own_piece (without_tags t))) refl
-          ∙ sym (text_shown detail base c own (piece_parts c (own_piece (without_tags t))) refl) ∙ n.base_text c;
+      base_text = λ c. text_shown detail base c all (piece_parts c (own_piece (without_tags t))) refl refl
+          ∙ sym (text_shown detail base c own (piece_parts c (own_piece (without_tags t))) refl refl) ∙ n.base_text c;
       base_cost = λ c. omega (
         arith,
         n.base_cost c,
         tagged-cost detail false own tag c,
-        cost_shown detail right c all [] refl,
-        cost_shown detail right c own [] refl,
-        cost_shown detail base c all (piece_parts c (own_piece (without_tags t))) refl,
-        cost_shown detail base c own (piece_parts c (own_piece (without_tags t))) refl,
+        cost_shown detail right c all [] refl refl,
+        cost_shown detail right c own [] refl refl,
+        cost_shown detail base c all (piece_parts c (own_piece (without_tags t))) refl refl,
+        cost_shown detail base c own (piece_parts c (own_piece (without_tags t))) refl refl,
         ap length (tagged-left detail false own (b ++ tag_text first) tag prints.left_text c),
         ap length (prints.left_text c),
         tag-length (b ++ tag_text first) tag,

@@ -11,7 +11,7 @@ use Rattle.cpp_grammar.specs.Items.{bare, left, right, piece, first, Context, cl
 use Rattle.cpp_grammar.specs.Meaning.{is_void}
 use Rattle.cpp_grammar.specs.Parts.{as_item, says, list_part, prefix_item, last_piece, opening_text, piece_parts, within_parts, left_parts, entity_of, right_parts, parts_in, not_empty, is_plain_integer}
 use Rattle.cpp_direct.specs.HolesOfLocals.{Discriminator, local_in}
-use Rattle.cpp_direct.specs.Prints.{shown_in, Prints, PrintsPiece, PrintAll, Encloses, list_of}
+use Rattle.cpp_direct.specs.Prints.{written_of, Prints, PrintsPiece, PrintAll, Encloses, list_of}
 use Rattle.cpp_direct.proofs.PrintedParts.{shown_by, text_shown, cost_shown, first_shown, first_cost_shown, text_append, cost_append}
 use Rattle.cpp_direct.proofs.PrintedFunctions.{closed-list, packless-list}
 use Rattle.cpp_direct.proofs.PrintedLists.{list-text, list-cost}
@@ -41,12 +41,12 @@ lambda-prints {detail} number digits is =
     let third = text (decimal number) ∷ last in
     let second = says ")#" ∷ third in
     record {
-      piece_text = λ c. text_shown detail piece c l (says "{lambda(" ∷ second) refl
+      piece_text = λ c. text_shown detail piece c l (says "{lambda(" ∷ second) refl refl
           ∙ ap (λ k. codes "{lambda(" ++ (codes ")#" ++ k)) (first_shown detail (decimal number) last)
           ∙ lambda_text (decimal number) digits is;
       piece_cost = λ c. omega (
         arith,
-        cost_shown detail piece c l (says "{lambda(" ∷ second) refl,
+        cost_shown detail piece c l (says "{lambda(" ∷ second) refl refl,
         first_cost_shown detail (decimal number) last,
         ap length is,
         length-append (codes "{lambda()#" ++ digits) (codes "}"),
@@ -74,14 +74,14 @@ lambda-list-prints {detail} ts l all number digits is =
     record {
       piece_text = λ c.
           let front = says "{lambda(" ∷ list_part first c (list_of ts) in
-          text_shown detail piece c t (front ++ behind) refl ∙ text_append detail front behind
+          text_shown detail piece c t (front ++ behind) refl refl ∙ text_append detail front behind
           ∙ ap (λ k. text_of (shown_by detail front) ++ (codes ")#" ++ k)) (first_shown detail (decimal number) last)
           ∙ list-bracketed (text_of (shown_by detail (list_part first c (list_of ts)))) (decimal number) l digits (list-text detail c 0 ts l all) is;
       piece_cost = λ c.
           let front = says "{lambda(" ∷ list_part first c (list_of ts) in
           omega (
             arith,
-            cost_shown detail piece c t (front ++ behind) refl,
+            cost_shown detail piece c t (front ++ behind) refl refl,
             cost_append detail front behind,
             list-cost detail c 0 ts l (omega arith) all,
             first_cost_shown detail (decimal number) last,
@@ -98,21 +98,21 @@ lambda-list-prints {detail} ts l all number digits is =
     }
 
 within-text : {detail : Detail} (c : Context) (e : Term) (b : List ℕ) → Encloses detail e b → (p : Term) (n : List ℕ) → PrintsPiece detail p n
-    → text_of (shown_in detail left c (within e p)) ≡ b ++ codes "::" ++ n
+    → text_of (written_of detail left c (within e p)) ≡ b ++ codes "::" ++ n
 unfolding parts_in left_parts not_empty
 within-text {detail} c e b h p n q =
     text_shown detail left c (within e p) (as_item bare closed e ∷ says "::" ∷ as_item piece c p ∷ [])
-    (q.as_component c e ∙ ap (λ i. i ∷ says "::" ∷ as_item piece c p ∷ []) (h.as_prefix c))
-    ∙ joins (text_of (shown_in detail bare closed e)) (codes "::") (text_of (shown_in detail piece c p)) b n h.bare_text (q.piece_text c)
+    (q.as_component c e ∙ ap (λ i. i ∷ says "::" ∷ as_item piece c p ∷ []) (h.as_prefix c)) refl
+    ∙ joins (text_of (written_of detail bare closed e)) (codes "::") (text_of (written_of detail piece c p)) b n h.bare_text (q.piece_text c)
 
 within-cost : {detail : Detail} (c : Context) (e : Term) (b : List ℕ) → Encloses detail e b → (p : Term) (n : List ℕ) → PrintsPiece detail p n
-    → cost_of (shown_in detail left c (within e p)) ≡ cost_of (shown_in detail bare closed e) + 3 + cost_of (shown_in detail piece c p)
+    → cost_of (written_of detail left c (within e p)) ≡ cost_of (written_of detail bare closed e) + 3 + cost_of (written_of detail piece c p)
 unfolding parts_in left_parts not_empty
 within-cost {detail} c e b h p n q =
     omega (
       arith,
       cost_shown detail left c (within e p) (as_item bare closed e ∷ says "::" ∷ as_item piece c p ∷ [])
-          (q.as_component c e ∙ ap (λ i. i ∷ says "::" ∷ as_item piece c p ∷ []) (h.as_prefix c)),
+          (q.as_component c e ∙ ap (λ i. i ∷ says "::" ∷ as_item piece c p ∷ []) (h.as_prefix c)) refl,
     )
 
 -- A type in a function prints the function and its own name.
@@ -121,16 +121,16 @@ pub local-prints : {detail : Detail} (e : Term) (b : List ℕ) → Encloses deta
 unfolding parts_in left_parts entity_of right_parts not_empty head head_with is_reference is_funarr is_empty is_open pack_length length_if_pack first_of is_function_type
     prefix_item last_piece is_void is_plain_integer
 local-prints {detail} e b h p n q digit = let t = local_in e p digit in record {
-  left_text = λ c. text_shown detail left c t (as_item left c (within e p) ∷ []) refl ∙ append-nil (text_of (shown_in detail left c (within e p)))
+  left_text = λ c. text_shown detail left c t (as_item left c (within e p) ∷ []) refl refl ∙ append-nil (text_of (written_of detail left c (within e p)))
       ∙ within-text c e b h p n q;
-  right_text = λ c. text_shown detail right c t [] refl;
+  right_text = λ c. text_shown detail right c t [] refl refl;
   cost = λ c. omega (
     arith,
     h.bare_cost,
     q.piece_cost c,
     within-cost c e b h p n q,
-    cost_shown detail left c t (as_item left c (within e p) ∷ []) refl,
-    cost_shown detail right c t [] refl,
+    cost_shown detail left c t (as_item left c (within e p) ∷ []) refl refl,
+    cost_shown detail right c t [] refl refl,
     length-append (b ++ codes "::") n,
     length-append b (codes "::"),
   );

@@ -219,7 +219,7 @@ unscoped-tagged s old new from takes tag wide p is reads =
 
 -- where arguments were opened after it
 list-stands : (s : Symbol) (read new : Direct) (from : ℕ) (takes : Bool) → IsUnscoped s read from takes → takes ≡ true → StandsAt s.bytes read.at (73 ∷ [])
-    → new.candidates.list.items ≡ added read from false → new.text.list.items ≡ read.text.list.items ++ codes "<"
+    → new.candidates.list.items ≡ added read from false → new.text.list.items ≡ read.text.list.items ++ before_arguments (detail_of s)
     → new.waiting.list.items ≡ read.waiting.list.items ++ opens.NameArguments from ∷ [] → new.at ≡ read.at + 1 → IsWriting s new (steps.List true)
 unfolding in_name inside
 list-stands s read new from takes p some there candidates_are text_is waiting_is here_is =
@@ -234,12 +234,12 @@ list-stands s read new from takes p some there candidates_are text_is waiting_is
     record {
       state = state;
       candidates = subst (λ l. AreCandidates (detail_of s) l new.candidates.list.items state.candidates) (sym text_is)
-          (subst (λ ks. AreCandidates (detail_of s) (read.text.list.items ++ codes "<") ks state.candidates) (sym candidates_are)
-          (candidates-stay (detail_of s) read.text.list.items (codes "<") (added read from false) state.candidates
+          (subst (λ ks. AreCandidates (detail_of s) (read.text.list.items ++ before_arguments (detail_of s)) ks state.candidates) (sym candidates_are)
+          (candidates-stay (detail_of s) read.text.list.items (before_arguments (detail_of s)) (added read from false) state.candidates
           (candidates-with read st p.front p.bytes from own (in_name place) false p.candidates p.written p.from_is prints)));
       is_before = arguments-begun s new state (opens.NameArguments from) (reverse read.waiting.list.items) p.front p.bytes own
           (ap reverse waiting_is ∙ reverse-last read.waiting.list.items (opens.NameArguments from)) (p.from_is, prints, p.no_structor)
-          (text_is ∙ ap (λ l. l ++ codes "<") p.written) (
+          (text_is ∙ ap (λ l. l ++ before_arguments (detail_of s)) p.written) (
             inside (in_name place),
             list.inner,
             refl,
@@ -252,12 +252,12 @@ list-stands s read new from takes p some there candidates_are text_is waiting_is
 pub unscoped-argued : (s : Symbol) (read kept new : Direct) (from : ℕ) (takes : Bool) (r : Option Step) → IsUnscoped s read from takes → takes ≡ true
     → StandsAt s.bytes read.at (73 ∷ []) → kept.candidates.list.items ≡ added read from false → kept.text ≡ read.text → kept.waiting ≡ read.waiting → kept.at ≡ read.at
     → IfSome r (λ next. next ≡ steps.List true) → OnSome r (new.waiting.list.items ≡ kept.waiting.list.items ++ opens.NameArguments from ∷ []) → OnSome r (new.at ≡ kept.at + 1)
-    → OnSome r (new.text.list.items ≡ kept.text.list.items ++ codes "<") → OnSome r (new.candidates ≡ kept.candidates) → IfSome r (IsWriting s new)
+    → OnSome r (new.text.list.items ≡ kept.text.list.items ++ before_arguments (detail_of s)) → OnSome r (new.candidates ≡ kept.candidates) → IfSome r (IsWriting s new)
 unscoped-argued s read kept new from takes None p some there ks same_text same_open same_at step open_ at_ text_ candidates_ = tt
 unscoped-argued s read kept new from takes (Some next) p some there ks same_text same_open same_at step open_ at_ text_ candidates_ =
     subst (λ x. IsWriting s new x) (sym step)
     (list-stands s read new from takes p some there
     (ap (λ v. v.list.items) candidates_ ∙ ks)
-    (text_ ∙ ap (λ v. v.list.items ++ codes "<") same_text)
+    (text_ ∙ ap (λ v. v.list.items ++ before_arguments (detail_of s)) same_text)
     (open_ ∙ ap (λ v. v.list.items ++ opens.NameArguments from ∷ []) same_open)
     (at_ ∙ ap (λ n. n + 1) same_at))

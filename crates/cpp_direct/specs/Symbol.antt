@@ -1,10 +1,9 @@
 -- A symbol, the grammar of C++ by which it is read, and how much of it is shown.
-use Rattle.std.specs.Prelude.{ℕ, List, [], ◌∷◌, Bool, true, false, codes}
+use Rattle.std.specs.Prelude.{ℕ, List, Bool, true, false}
 use Rattle.sym_print.specs.declared.detail.Detail.{Detail}
 use Rattle.sym_print.specs.declared.detail.Detail.TheVariants.{Full, Brief, NoParameters, BriefNoParameters}
 use Rattle.sym_shape.specs.Table.{Table}
 use Rattle.sym_demangle.specs.Mangled.{Mangled}
-use Rattle.sym_direct.specs.Marked.{opens, closes}
 use Rattle.cpp_grammar.specs.Table.{abi, wide}
 use Rattle.cpp_grammar.specs.Mangled.{cpp_mangled, wide_mangled}
 use Rattle.cpp_grammar.specs.Term.{Term}
@@ -36,15 +35,6 @@ symbol_as is_wide Full bytes = symbol_by is_wide false false bytes
 symbol_as is_wide Brief bytes = symbol_by is_wide false true bytes
 symbol_as is_wide NoParameters bytes = symbol_by is_wide true false bytes
 symbol_as is_wide BriefNoParameters bytes = symbol_by is_wide true true bytes
-
--- what is written before template arguments, and after them: brackets, or marks where they are to be left out
-abbrev pub opening : (is_brief : Bool) → List ℕ
-opening true = opens ∷ []
-opening false = codes "<"
-
-abbrev pub closing : (is_brief : Bool) → List ℕ
-closing true = closes ∷ []
-closing false = codes ">"
 
 -- the table of that grammar
 abbrev pub table_by : (is_wide : Bool) → Table

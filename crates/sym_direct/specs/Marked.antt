@@ -1,5 +1,5 @@
 -- Texts with stretches that are to be left out. A mark is before such a stretch, and another one after it; others may be in it.
-use Rattle.std.specs.Prelude.{◌≢◌, ℕ, zero, suc, ◌+◌, ◌-◌, List, [], ◌∷◌, Bool, true, false, nat_eq}
+use Rattle.std.specs.Prelude.{◌≢◌, ℕ, zero, suc, ◌+◌, ◌-◌, List, [], ◌∷◌, true, false, nat_eq}
 use Rattle.std.specs.List.{All}
 
 -- the mark before a stretch, and the one after it

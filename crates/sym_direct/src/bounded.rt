@@ -214,7 +214,7 @@ fn close_up(bytes: &mut [u8]) -> Option<usize>
     ensures length { length bytes.new ≡ length bytes.old }
 {
     let mut kept = 0;
-    let mut depth = 0;
+    let mut depth: usize = 0;
     let mut at = 0;
     'bytes: while at < bytes.len() {
         let byte = bytes[at];
@@ -224,7 +224,7 @@ fn close_up(bytes: &mut [u8]) -> Option<usize>
         if byte == OPENS {
             depth += 1;
         } else if byte == CLOSES {
-            depth -= if depth == 0 { 0 } else { 1 };
+            depth = depth.saturating_sub(1);
         } else if depth == 0 {
             bytes[kept] = byte;
             kept += 1;
