@@ -12,7 +12,8 @@ use Rattle.cpp_grammar.specs.Values.{Value, unqualified, tree_of, qualifiers_of,
 use Rattle.cpp_grammar.specs.Meaning.{encoding_of}
 use Rattle.cpp_grammar.specs.Parts.{as_item, says, text_part, source_text, prefix_item, within_parts, qualifier_text, ref_text, encoding_text, function_bare, function_full, full_parts, bare_parts, left_parts, entity_of, parts_in, not_empty}
 use Rattle.cpp_direct.specs.Prints.{written_of, PrintsName, Shows, Encloses}
-use Rattle.cpp_direct.proofs.PrintedParts.{shown_by, shows_parts, text_shown, cost_shown}
+use Rattle.cpp_direct.specs.WrittenParts.{IsUnmarked}
+use Rattle.cpp_direct.proofs.PrintedParts.{shown_by, writes_parts, text_shown, cost_shown}
 use Rattle.cpp_direct.proofs.PrintedNames.{piece-text, piece-cost}
 use Rattle.cpp_direct.proofs.PrintedNests.{joins}
 use Rattle.cpp_direct.proofs.PrintedSymbols.{encoding-object}
@@ -21,7 +22,7 @@ use Rattle.cpp_direct.proofs.PrintedSymbols.{encoding-object}
 
 bare-same : (d : Detail) (t : Term) → bare_parts d t ≡ full_parts d t → written_of d bare closed t ≡ written_of d full closed t
 unfolding parts_in
-bare-same d t e = shows_parts d bare closed t ∙ ap (λ ps. shown_by d ps) e ∙ sym (shows_parts d full closed t)
+bare-same d t e = writes_parts d bare closed t ∙ ap (λ ps. shown_by d ps) e ∙ sym (writes_parts d full closed t)
 
 encloses-as : (d : Detail) (t : Term) (b : List ℕ) → bare_parts d t ≡ full_parts d t → ((context : Context) → prefix_item context t ≡ as_item bare closed t)
     → is_open t ≡ false → ((scope : Term) → pack_length scope t ≡ None) → Shows d t b → Encloses d t b
@@ -54,7 +55,7 @@ unfolding bare_parts prefix_item is_open pack_length parts_in
 returned-enclosing d name q ref returned items b p =
     let e = function name q ref returned items in
     let same : written_of d bare closed e ≡ written_of d bare closed (function name q ref absent items) =
-    shows_parts d bare closed e ∙ sym (shows_parts d bare closed (function name q ref absent items)) in
+    writes_parts d bare closed e ∙ sym (writes_parts d bare closed (function name q ref absent items)) in
     record {
       as_prefix = λ c. refl;
       bare_text = ap text_of same ∙ p.bare_text;
@@ -115,14 +116,14 @@ name-encloses {detail} alone name b p q ref returned items =
 
 -- ## Entities
 
-inside-text : (d : Detail) (e : Term) (b : List ℕ) → Encloses d e b → (internal : Bool) (name : List ℕ)
+inside-text : (d : Detail) (e : Term) (b : List ℕ) → Encloses d e b → (internal : Bool) (name : List ℕ) → IsUnmarked name
     → text_of (written_of d left closed (within e (source internal name))) ≡ b ++ codes "::" ++ source_text name
 unfolding parts_in left_parts within_parts not_empty
-inside-text d e b p internal name =
+inside-text d e b p internal name plain =
     let n = source internal name in
     text_shown d left closed (within e n) (as_item bare closed e ∷ says "::" ∷ as_item piece closed n ∷ [])
     (ap (λ i. i ∷ says "::" ∷ as_item piece closed n ∷ []) (p.as_prefix closed)) refl
-    ∙ joins (text_of (written_of d bare closed e)) (codes "::") (text_of (written_of d piece closed n)) b (source_text name) p.bare_text (piece-text d closed internal name)
+    ∙ joins (text_of (written_of d bare closed e)) (codes "::") (text_of (written_of d piece closed n)) b (source_text name) p.bare_text (piece-text d closed internal name plain)
 
 inside-cost : (d : Detail) (e : Term) (b : List ℕ) → Encloses d e b → (internal : Bool) (name : List ℕ)
     → cost_of (written_of d left closed (within e (source internal name))) ≡ cost_of (written_of d bare closed e) + 4 + length (source_text name)
@@ -136,12 +137,12 @@ inside-cost d e b p internal name =
       piece-cost d closed internal name,
     )
 
-entity-text : (d : Detail) (e : Term) (b : List ℕ) → Encloses d e b → (internal : Bool) (name : List ℕ) (digit : Option (List ℕ))
+entity-text : (d : Detail) (e : Term) (b : List ℕ) → Encloses d e b → (internal : Bool) (name : List ℕ) (digit : Option (List ℕ)) → IsUnmarked name
     → text_of (written_of d left closed (local e (within e (source internal name)) digit)) ≡ b ++ codes "::" ++ source_text name
 unfolding parts_in left_parts entity_of not_empty
-entity-text d e b p internal name digit =
+entity-text d e b p internal name digit plain =
     let w = within e (source internal name) in
-    text_shown d left closed (local e w digit) (as_item left closed w ∷ []) refl refl ∙ append-nil (text_of (written_of d left closed w)) ∙ inside-text d e b p internal name
+    text_shown d left closed (local e w digit) (as_item left closed w ∷ []) refl refl ∙ append-nil (text_of (written_of d left closed w)) ∙ inside-text d e b p internal name plain
 
 entity-cost : (d : Detail) (e : Term) (b : List ℕ) → Encloses d e b → (internal : Bool) (name : List ℕ) (digit : Option (List ℕ))
     → 3 + cost_of (written_of d left closed (local e (within e (source internal name)) digit)) ≤ 4 * length (b ++ codes "::" ++ source_text name)
@@ -158,29 +159,29 @@ entity-cost d e b p internal name digit =
     )
 
 -- A local entity shows the encoding that it is in, and its name.
-pub entity-shows : (d : Detail) (e : Term) (b : List ℕ) → Encloses d e b → (internal : Bool) (name : List ℕ) (digit : Option (List ℕ))
+pub entity-shows : (d : Detail) (e : Term) (b : List ℕ) → Encloses d e b → (internal : Bool) (name : List ℕ) (digit : Option (List ℕ)) → IsUnmarked name
     → Shows d (object (local e (within e (source internal name)) digit) unqualified any_value) (b ++ codes "::" ++ source_text name)
 unfolding parts_in full_parts encoding_text qualifier_text ref_text text_part not_empty
-entity-shows d e b p internal name digit =
+entity-shows d e b p internal name digit plain =
     let t = local e (within e (source internal name)) digit in
     let o = object t unqualified any_value in
     record {
       shown_text = text_shown d full closed o (as_item left closed t ∷ []) refl refl ∙ append-nil (text_of (written_of d left closed t))
-          ∙ entity-text d e b p internal name digit;
+          ∙ entity-text d e b p internal name digit plain;
       shown_cost = omega (arith, entity-cost d e b p internal name digit, cost_shown d full closed o (as_item left closed t ∷ []) refl refl);
     }
 
 -- Its guard variable shows that it is one, and the same.
-pub guard-shows : (d : Detail) (e : Term) (b : List ℕ) → Encloses d e b → (internal : Bool) (name : List ℕ) (digit : Option (List ℕ))
+pub guard-shows : (d : Detail) (e : Term) (b : List ℕ) → Encloses d e b → (internal : Bool) (name : List ℕ) (digit : Option (List ℕ)) → IsUnmarked name
     → Shows d (of_name 86 (local e (within e (source internal name)) digit) unqualified any_value) (codes "guard variable for " ++ (b ++ codes "::" ++ source_text name))
 unfolding look_up same_bytes named_special_texts parts_in full_parts encoding_text qualifier_text ref_text text_part not_empty
-guard-shows d e b p internal name digit =
+guard-shows d e b p internal name digit plain =
     let t = local e (within e (source internal name)) digit in
     let g = of_name 86 t unqualified any_value in
     let k : List ℕ = codes "guard variable for " in
     record {
       shown_text = text_shown d full closed g (text k ∷ as_item left closed t ∷ []) refl refl
-          ∙ ap (λ l. k ++ l) (append-nil (text_of (written_of d left closed t)) ∙ entity-text d e b p internal name digit);
+          ∙ ap (λ l. k ++ l) (append-nil (text_of (written_of d left closed t)) ∙ entity-text d e b p internal name digit plain);
       shown_cost = omega (
         arith,
         entity-cost d e b p internal name digit,

@@ -13,9 +13,9 @@ use Rattle.cpp_grammar.specs.Parts.{text_part, list_part, says, opening_text, la
 use Rattle.cpp_grammar.specs.Ranks.{rank, rank_in}
 use Rattle.cpp_grammar.proofs.RanksFall.{ranks_fall}
 use Rattle.cpp_direct.specs.Symbol.{Symbol, detail_by, detail_of}
-use Rattle.cpp_direct.specs.WrittenParts.{unmarked, unmarked_parts, written_instance, written_name, written_in, written_parts, written}
+use Rattle.cpp_direct.specs.WrittenParts.{IsUnmarked, unmarked, unmarked_parts, written_instance, written_name, written_in, written_parts, written}
 use Rattle.cpp_direct.specs.Prints.{written_of}
-use Rattle.cpp_direct.proofs.Unmarked.{IsUnmarked, unmarked-same, length-unmarked}
+use Rattle.cpp_direct.proofs.Unmarked.{unmarked-same, length-unmarked}
 
 whole-by : (is_brief : Bool) → has_parameters (detail_by false is_brief) ≡ true
 whole-by true = refl
@@ -144,6 +144,7 @@ first_cost_shown d b ps =
 
 -- a text alone
 pub alone_shown : (d : Detail) (b : List ℕ) → IsUnmarked b → text_of (shown_by d (text b ∷ [])) ≡ b
+unfolding not_empty
 alone_shown d b plain = first_shown d b [] plain ∙ append-nil b
 
 -- a list that isn't empty has an element
@@ -201,6 +202,6 @@ part-text detail (b ∷ bs) plain = alone_shown detail (b ∷ bs) plain
 
 -- which costs its length
 pub part-cost : (detail : Detail) (b : List ℕ) → cost_of (shown_by detail (text_part b)) ≡ 1 + length b
-unfolding text_part
+unfolding text_part not_empty
 part-cost detail [] = omega arith
 part-cost detail (b ∷ bs) = omega (arith, first_cost_shown detail (b ∷ bs) [])

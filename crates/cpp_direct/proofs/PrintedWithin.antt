@@ -12,6 +12,7 @@ use Rattle.cpp_grammar.specs.Meaning.{is_void}
 use Rattle.cpp_grammar.specs.Parts.{as_item, says, list_part, prefix_item, last_piece, opening_text, piece_parts, within_parts, left_parts, entity_of, right_parts, parts_in, not_empty, is_plain_integer}
 use Rattle.cpp_direct.specs.HolesOfLocals.{Discriminator, local_in}
 use Rattle.cpp_direct.specs.Prints.{written_of, Prints, PrintsPiece, PrintAll, Encloses, list_of}
+use Rattle.cpp_direct.specs.WrittenParts.{IsUnmarked}
 use Rattle.cpp_direct.proofs.PrintedParts.{shown_by, text_shown, cost_shown, first_shown, first_cost_shown, text_append, cost_append}
 use Rattle.cpp_direct.proofs.PrintedFunctions.{closed-list, packless-list}
 use Rattle.cpp_direct.proofs.PrintedLists.{list-text, list-cost}
@@ -32,17 +33,17 @@ lambda_text : (d t : List ℕ) → d ≡ t → codes "{lambda(" ++ (codes ")#" +
 lambda_text d t e = ap (λ l. codes "{lambda()#" ++ l ++ codes "}") e
 
 -- a lambda without parameters prints its number
-pub lambda-prints : {detail : Detail} (number : ℕ) (digits : List ℕ) → decimal number ≡ digits
+pub lambda-prints : {detail : Detail} (number : ℕ) (digits : List ℕ) → decimal number ≡ digits → IsUnmarked digits
     → PrintsPiece detail (lambda nil number) (codes "{lambda()#" ++ digits ++ codes "}")
 unfolding parts_in piece_parts list_part within_parts not_empty is_open pack_length opening_text
-lambda-prints {detail} number digits is =
+lambda-prints {detail} number digits is plain =
     let l = lambda nil number in
     let last = says "}" ∷ [] in
     let third = text (decimal number) ∷ last in
     let second = says ")#" ∷ third in
     record {
       piece_text = λ c. text_shown detail piece c l (says "{lambda(" ∷ second) refl refl
-          ∙ ap (λ k. codes "{lambda(" ++ (codes ")#" ++ k)) (first_shown detail (decimal number) last)
+          ∙ ap (λ k. codes "{lambda(" ++ (codes ")#" ++ k)) (first_shown detail (decimal number) last (subst IsUnmarked (sym is) plain))
           ∙ lambda_text (decimal number) digits is;
       piece_cost = λ c. omega (
         arith,
@@ -64,10 +65,10 @@ list-bracketed x d l t e f =
     rw (e, f) (sym (append_assoc (codes "{lambda(" ++ l) (codes ")#") (t ++ codes "}")) ∙ sym (append_assoc (codes "{lambda(" ++ l ++ codes ")#") t (codes "}")))
 
 -- one with parameters prints these too
-pub lambda-list-prints : {detail : Detail} (ts : List Term) (l : List ℕ) → PrintAll detail 0 ts l → (number : ℕ) (digits : List ℕ) → decimal number ≡ digits
+pub lambda-list-prints : {detail : Detail} (ts : List Term) (l : List ℕ) → PrintAll detail 0 ts l → (number : ℕ) (digits : List ℕ) → decimal number ≡ digits → IsUnmarked digits
     → PrintsPiece detail (lambda (list_of ts) number) (codes "{lambda(" ++ l ++ codes ")#" ++ digits ++ codes "}")
 unfolding parts_in piece_parts within_parts not_empty is_open pack_length opening_text
-lambda-list-prints {detail} ts l all number digits is =
+lambda-list-prints {detail} ts l all number digits is plain =
     let t = lambda (list_of ts) number in
     let last = says "}" ∷ [] in
     let behind = says ")#" ∷ text (decimal number) ∷ last in
@@ -75,7 +76,7 @@ lambda-list-prints {detail} ts l all number digits is =
       piece_text = λ c.
           let front = says "{lambda(" ∷ list_part first c (list_of ts) in
           text_shown detail piece c t (front ++ behind) refl refl ∙ text_append detail front behind
-          ∙ ap (λ k. text_of (shown_by detail front) ++ (codes ")#" ++ k)) (first_shown detail (decimal number) last)
+          ∙ ap (λ k. text_of (shown_by detail front) ++ (codes ")#" ++ k)) (first_shown detail (decimal number) last (subst IsUnmarked (sym is) plain))
           ∙ list-bracketed (text_of (shown_by detail (list_part first c (list_of ts)))) (decimal number) l digits (list-text detail c 0 ts l all) is;
       piece_cost = λ c.
           let front = says "{lambda(" ∷ list_part first c (list_of ts) in

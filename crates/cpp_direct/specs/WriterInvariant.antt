@@ -14,7 +14,7 @@ use Rattle.cpp_grammar.specs.Values as values
 use Rattle.cpp_grammar.specs.Values.{State, Around, Value, tree, named, outermost, tree_of, qualifiers_of, ref_of, signed_digits}
 use Rattle.cpp_grammar.specs.Between.{no_items}
 use Rattle.cpp_grammar.specs.Meaning.{parameters, encoding_of}
-use Rattle.cpp_direct.specs.WrittenParts.{written, before_arguments}
+use Rattle.cpp_direct.specs.WrittenParts.{written, opening_bracket}
 use Rattle.cpp_direct.specs.Symbol.{Symbol, detail_of, mangled_of}
 use Rattle.cpp_direct.specs.declared.open.Candidate.{Candidate}
 use Rattle.cpp_direct.specs.declared.open.Nest.{Nest}
@@ -382,8 +382,8 @@ extra_of (of_pack before written) = 0
 
 -- the text before them
 abbrev pub led_by : Detail → Listing → (front name : List ℕ) → List ℕ
-led_by detail of_template front name = front ++ name ++ before_arguments detail
-led_by detail (of_pack before written) front name = front ++ name ++ before_arguments detail ++ in_front_of_next before written
+led_by detail of_template front name = front ++ name ++ opening_bracket detail
+led_by detail (of_pack before written) front name = front ++ name ++ opening_bracket detail ++ in_front_of_next before written
 
 -- what becomes of the list
 abbrev pub Closes : (s : Symbol) → Listing → Open → Below → (front : List ℕ) → (template : Term) → Term → (at : ℕ) → State → Type 0
@@ -537,13 +537,13 @@ Stands s (opens.Special ∷ rest) os text =
 Stands s (opens.Argument from number known ∷ []) os text = ⊥
 Stands s (opens.Argument from number known ∷ owner ∷ rest) os text =
     (front : List ℕ) × (template : Term) × (name : List ℕ) × (ts : List Term) × (elements : List ℕ) × IsTemplate (detail_of s) owner front template name text
-    × PrintAll (detail_of s) 3 ts elements × (text ≡ front ++ name ++ before_arguments (detail_of s) ++ in_front_of_next ts elements) × (from ≡ length text) × (number ≡ length ts)
+    × PrintAll (detail_of s) 3 ts elements × (text ≡ front ++ name ++ opening_bracket (detail_of s) ++ in_front_of_next ts elements) × (from ≡ length text) × (number ≡ length ts)
     × AreAmong (detail_of s) text false known ts
     × ((t : Term) (at : ℕ) (st : State) → Comes s os (tree t true) at st
     → ArgumentsGoOn s owner (Stands s rest) front template (ts ++ t ∷ []) at st)
 Stands s (opens.Element from number known ∷ opens.Pack ∷ owner ∷ rest) os text =
     (front : List ℕ) × (template : Term) × (name : List ℕ) × (ts : List Term) × (elements : List ℕ) × IsTemplate (detail_of s) owner front template name text
-    × PrintAll (detail_of s) 0 ts elements × (text ≡ front ++ name ++ before_arguments (detail_of s) ++ in_front_of_next ts elements) × (from ≡ length text) × (number ≡ length ts)
+    × PrintAll (detail_of s) 0 ts elements × (text ≡ front ++ name ++ opening_bracket (detail_of s) ++ in_front_of_next ts elements) × (from ≡ length text) × (number ≡ length ts)
     × AreAmong (detail_of s) text true known ts
     × ((t : Term) (at : ℕ) (st : State) → Comes s os (tree t true) at st
     → GoesOn s (of_pack [] []) owner (Stands s rest) front template (ts ++ t ∷ []) at st)

@@ -1,6 +1,6 @@
 -- What is written of a tree while its symbol is read: what it prints, and template arguments even where they aren't shown, between
 -- marks.
-use Rattle.std.specs.Prelude.{ℕ, List, [], ◌∷◌, ◌++◌, Bool, true, false, ◌||◌, nat_eq}
+use Rattle.std.specs.Prelude.{◌≡◌, ℕ, List, [], ◌∷◌, ◌++◌, Bool, true, false, ◌||◌, nat_eq}
 use Rattle.sym_print.specs.declared.detail.Detail.{Detail}
 use Rattle.sym_print.specs.Details.{has_arguments}
 use Rattle.sym_print.specs.Unshared.{Unshared}
@@ -20,11 +20,19 @@ abbrev pub closing_byte : (shown : Bool) → ℕ
 closing_byte true = 62
 closing_byte false = closes
 
-abbrev pub before_arguments : Detail → List ℕ
-before_arguments d = opening_byte (has_arguments d) ∷ []
+abbrev pub opening_bracket : Detail → List ℕ
+opening_bracket d = opening_byte (has_arguments d) ∷ []
 
-abbrev pub after_arguments : Detail → List ℕ
-after_arguments d = closing_byte (has_arguments d) ∷ []
+abbrev pub closing_bracket : Detail → List ℕ
+closing_bracket d = closing_byte (has_arguments d) ∷ []
+
+-- no byte of a text is a mark
+abbrev pub is_unmarked : List ℕ → Bool
+is_unmarked [] = true
+is_unmarked (byte ∷ bytes) = elim (nat_eq byte opens || nat_eq byte closes) [ true ↦ false | false ↦ is_unmarked bytes ]
+
+abbrev pub IsUnmarked : List ℕ → Type 0
+IsUnmarked bytes = is_unmarked bytes ≡ true
 
 -- a byte of a text: where arguments aren't shown, 0 for a mark
 abbrev pub unmarked_byte : (shown : Bool) → ℕ → ℕ

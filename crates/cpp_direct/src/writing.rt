@@ -4,7 +4,7 @@ ghost use Rattle.std.specs.Prelude.{◌≡◌, ◌+◌, ◌-◌, ◌≤◌, ◌�
 ghost use Rattle.std.specs.Option.{OnSome, IfSome};
 ghost use Rattle.cpp_direct.specs.declared.open.Step.TheVariants as steps;
 ghost use Rattle.cpp_direct.specs.Symbol.{detail_by};
-ghost use Rattle.cpp_direct.specs.WrittenParts.{before_arguments, after_arguments};
+ghost use Rattle.cpp_direct.specs.WrittenParts.{opening_bracket, closing_bracket};
 ghost use Rattle.cpp_direct.specs.Written.{Writes, Cuts, added, added_unless, with_dependent, with_hidden, AreKeptTo};
 
 use crate::direct::Direct;
@@ -187,7 +187,7 @@ impl Direct {
         ensures step { IfSome result (λ next. next ≡ steps.List true) }
         ensures open { OnSome result (self.new.waiting.list.items ≡ self.old.waiting.list.items ++ entry ∷ []) }
         ensures at { OnSome result (self.new.at ≡ self.old.at + 1) }
-        ensures text { OnSome result (self.new.text.list.items ≡ self.old.text.list.items ++ before_arguments (detail_by G.IS_BARE G.IS_BRIEF)) }
+        ensures text { OnSome result (self.new.text.list.items ≡ self.old.text.list.items ++ opening_bracket (detail_by G.IS_BARE G.IS_BRIEF)) }
         ensures candidates { OnSome result (self.new.candidates ≡ self.old.candidates) }
         ensures nest { OnSome result (self.new.nest ≡ self.old.nest) }
     {
@@ -198,7 +198,7 @@ impl Direct {
     /// Ends arguments that were opened so.
     #[inline(always)]
     pub(crate) fn end_arguments<G: Grammar>(&mut self) -> Option<()>
-        ensures { OnSome result (Writes self.old self.new (after_arguments (detail_by G.IS_BARE G.IS_BRIEF))) }
+        ensures { OnSome result (Writes self.old self.new (closing_bracket (detail_by G.IS_BARE G.IS_BRIEF))) }
     {
         self.push_byte(if G::IS_BRIEF { CLOSES } else { b'>' })
     }
