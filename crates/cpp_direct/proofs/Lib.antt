@@ -55,4 +55,5 @@ pub mod Signatures
 pub mod Tables
 pub mod TypesRead
 pub mod Unmarked
+pub mod VisibleTexts
 pub mod UnscopedNames

@@ -16,7 +16,7 @@ use Rattle.cpp_direct.specs.Names.{operator_text}
 use Rattle.cpp_direct.specs.WrittenParts.{unmarked_byte, unmarked, is_unmarked, IsUnmarked}
 
 -- the byte is a mark
-abbrev is_mark : ℕ → Bool
+abbrev pub is_mark : ℕ → Bool
 is_mark byte = nat_eq byte opens || nat_eq byte closes
 
 first-unmarked : (byte : ℕ) (bytes : List ℕ) → IsUnmarked (byte ∷ bytes) → (is_mark byte ≡ false) × IsUnmarked bytes

@@ -210,7 +210,7 @@ impl Direct {
     #[inline(always)]
     fn enclosed_piece<G: Grammar>(&mut self, s: &[u8]) -> Option<()>
         requires { IsReadable s.now }
-        ensures { OnSome result ((p : Term) × (n : List ℕ) × IsPieceAt (symbol_by G.IS_WIDE G.IS_BARE G.IS_BRIEF s.now) self.old.at p self.new.at × PrintsPiece (detail_by G.IS_BARE) p n × Reads self.old self.new n) }
+        ensures { OnSome result ((p : Term) × (n : List ℕ) × IsPieceAt (symbol_by G.IS_WIDE G.IS_BARE G.IS_BRIEF s.now) self.old.at p self.new.at × PrintsPiece (detail_by G.IS_BARE G.IS_BRIEF) p n × Reads self.old self.new n) }
     {
         if byte_at(s, self.at) == b'U' {
             return self.lambda::<G>(s);
@@ -222,7 +222,7 @@ impl Direct {
     // <closure-type-name> ::= Ul <lambda-sig> E [<nonnegative number>] _
     fn lambda<G: Grammar>(&mut self, s: &[u8]) -> Option<()>
         requires letter { StandsAt s.now self.old.at (85 ∷ []) }
-        ensures { OnSome result ((p : Term) × (n : List ℕ) × IsPieceAt (symbol_by G.IS_WIDE G.IS_BARE G.IS_BRIEF s.now) self.old.at p self.new.at × PrintsPiece (detail_by G.IS_BARE) p n × Reads self.old self.new n) }
+        ensures { OnSome result ((p : Term) × (n : List ℕ) × IsPieceAt (symbol_by G.IS_WIDE G.IS_BARE G.IS_BRIEF s.now) self.old.at p self.new.at × PrintsPiece (detail_by G.IS_BARE G.IS_BRIEF) p n × Reads self.old self.new n) }
     {
         let second = byte_at(s, self.at.checked_add(1)?);
         let third = byte_at(s, self.at.checked_add(2)?);
