@@ -130,6 +130,7 @@ may_leave Production.AnyArray = true
 may_leave Production.LengthArray = true
 may_leave Production.BoundedArray = true
 may_leave Production.ParameterArgument = true
+may_leave Production.LeveledParameter = true
 may_leave Production.DeclaredArgument = true
 may_leave Production.ConstrainedAuto = true
 may_leave Production.ConvertedDecltype = true

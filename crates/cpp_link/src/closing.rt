@@ -117,6 +117,10 @@ impl Linked {
                 candidate: self.type_candidate(symbol, kept, self.given(symbol, parts, 0)),
                 packs: self.packs,
             },
+            Production::DestroyedType => AfterRule {
+                candidate: self.type_candidate(symbol, kept, self.given(symbol, parts, 0)),
+                packs: self.packs,
+            },
             Production::Expansion => AfterRule {
                 candidate: None,
                 packs: kept.packs(),
@@ -126,6 +130,10 @@ impl Linked {
                 packs: kept.packs(),
             },
             Production::PackSize => AfterRule {
+                candidate: None,
+                packs: kept.packs(),
+            },
+            Production::FoldPack => AfterRule {
                 candidate: None,
                 packs: kept.packs(),
             },

@@ -113,6 +113,8 @@ impl Linked {
             Production::OperatorName => self.applied(symbol, parts, false),
             // <unqualified-name> ::= <operator-name>, within a nested name, without a c in front and after one
             Production::OtherOperatorName => self.applied(symbol, parts, false),
+            // <unqualified-name> ::= F <source-name> | F <operator-name>
+            Production::Friend => self.applied(symbol, parts, false),
             Production::OperatorNameWithC => self.applied(symbol, parts, false),
             // <ctor-dtor-name> ::= C1 | C2 | C3, after the C
             Production::Constructor => self.applied(symbol, parts, false),

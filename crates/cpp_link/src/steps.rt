@@ -170,6 +170,7 @@ impl Linked {
             Production::Lambda => self.go(self.in_signature(kept)),
             Production::ValueOf => self.go(self.in_signature(kept)),
             Production::OfConcept => self.go(self.in_signature(kept)),
+            Production::Constraint => self.go(self.in_signature(kept)),
             Production::Expansion => Step::Go {
                 candidate: None,
                 then: self.under_expansion(kept),
@@ -181,6 +182,11 @@ impl Linked {
                 packs: None,
             },
             Production::PackSize => Step::Go {
+                candidate: None,
+                then: self.under_expansion(kept),
+                packs: None,
+            },
+            Production::FoldPack => Step::Go {
                 candidate: None,
                 then: self.under_expansion(kept),
                 packs: None,
@@ -352,6 +358,7 @@ impl Linked {
             Production::Lambda => self.go(self.in_signature(kept)),
             Production::ValueOf => self.go(self.in_signature(kept)),
             Production::OfConcept => self.go(self.in_signature(kept)),
+            Production::Constraint => self.go(self.in_signature(kept)),
             Production::Expansion => Step::Go {
                 candidate: None,
                 then: self.under_expansion(kept),
@@ -439,6 +446,11 @@ impl Linked {
             )),
             // an operator's name within a nested one, after its c or without one
             Production::OtherOperatorName => self.named(self.extended(
+                symbol,
+                kept.prefix(),
+                self.piece_in(symbol, first),
+            )),
+            Production::Friend => self.named(self.extended(
                 symbol,
                 kept.prefix(),
                 self.piece_in(symbol, first),
@@ -564,6 +576,7 @@ impl Linked {
             Production::Lambda => self.go(self.in_signature(kept)),
             Production::ValueOf => self.go(self.in_signature(kept)),
             Production::OfConcept => self.go(self.in_signature(kept)),
+            Production::Constraint => self.go(self.in_signature(kept)),
             Production::Expansion => Step::Go {
                 candidate: None,
                 then: self.under_expansion(kept),
@@ -638,6 +651,7 @@ impl Linked {
             Production::Lambda => self.go(self.in_signature(kept)),
             Production::ValueOf => self.go(self.in_signature(kept)),
             Production::OfConcept => self.go(self.in_signature(kept)),
+            Production::Constraint => self.go(self.in_signature(kept)),
             Production::Expansion => Step::Go {
                 candidate: None,
                 then: self.under_expansion(kept),
@@ -690,6 +704,7 @@ impl Linked {
             Production::Lambda => self.go(self.in_signature(kept)),
             Production::ValueOf => self.go(self.in_signature(kept)),
             Production::OfConcept => self.go(self.in_signature(kept)),
+            Production::Constraint => self.go(self.in_signature(kept)),
             Production::Expansion => Step::Go {
                 candidate: None,
                 then: self.under_expansion(kept),
