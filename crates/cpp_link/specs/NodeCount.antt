@@ -78,6 +78,7 @@ makes_at_end Production.LocalTypeName known = name_at_end known
 makes_at_end Production.SourceName known = name_at_end known
 makes_at_end Production.OperatorName known = name_at_end known
 makes_at_end Production.OtherOperatorName known = name_at_end known
+makes_at_end Production.Friend known = name_at_end known
 makes_at_end Production.OperatorNameWithC known = name_at_end known
 makes_at_end Production.StdName known = name_at_end known
 makes_at_end Production.AbbreviatedName known = name_at_end known
