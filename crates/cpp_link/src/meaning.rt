@@ -1,15 +1,13 @@
 // What productions stand for, given their parts: a part, or one whose node isn't there yet.
 
 ghost use Rattle.std.specs.Prelude.{◌≡◌, ◌<◌, ◌≤◌, length, slice_index, true, ◌^◌};
-ghost use Rattle.cpp_term.specs.Values.{tree_of, is_there};
-ghost use Rattle.cpp_term.specs.Meaning.{meaning, listed_value};
-ghost use Rattle.cpp_tree.specs.Nodes as nodes;
+ghost use Rattle.cpp_term.specs.Meaning.{meaning};
 ghost use Rattle.cpp_tree.specs.Nodes.{over, IsTable};
 ghost use Rattle.sym_core.specs.Number.{FitsSymbol};
 ghost use Rattle.cpp_link.specs.declared.part.Outcome.{Outcome};
 ghost use Rattle.cpp_link.specs.declared.part.Part.{Part};
 ghost use Rattle.cpp_tree.specs.declared.node.Node.{Node};
-ghost use Rattle.cpp_link.specs.Parts.{trees_in, value_of, values_in, around_of, outcome_value, AreThere, IsOutcomeThere, IsPrefixThere, name_of};
+ghost use Rattle.cpp_link.specs.Parts.{trees_in, values_in, around_of, outcome_value, AreThere, IsOutcomeThere, IsPrefixThere, name_of};
 ghost use Rattle.cpp_link.specs.Closes.{ends_of};
 ghost use Rattle.cpp_link.specs.LinkReading.{link_meaning};
 ghost use Rattle.cpp_link.specs.Making.{IsCommon, IsRare, nodes_of_outcome};
@@ -17,11 +15,9 @@ ghost use Rattle.cpp_link.specs.NodeCount.{makes_at_end};
 
 use crate::families::{Family, family_of};
 use crate::linked::Linked;
-use crate::numbers::{from_byte, local_number, normal, one_byte, signed_digits};
 use crate::part::{Outcome, Part, Surroundings};
 use cpp_grammar::production::Production;
-use cpp_tree::node::{Adjustment, Mark, Node, Piece, Qualifiers, Thunk};
-use cpp_tree::nodes::{ABSENT, NIL};
+use cpp_tree::node::{Node, Piece, Qualifiers};
 
 /// A node to come, which is a tree.
 #[inline(always)]

@@ -1,15 +1,9 @@
 // What the rare productions of names stand for, given their parts.
 
-ghost use Rattle.std.specs.Prelude.{◌≡◌, ◌<◌, ◌≤◌, length, slice_index, true, ◌^◌};
-ghost use Rattle.cpp_term.specs.Values.{tree_of, is_there};
-ghost use Rattle.cpp_term.specs.Meaning.{listed_value};
-ghost use Rattle.cpp_tree.specs.Nodes as nodes;
+ghost use Rattle.std.specs.Prelude.{◌≡◌, ◌<◌, ◌≤◌, length, slice_index};
 ghost use Rattle.cpp_tree.specs.Nodes.{over, IsTable};
 ghost use Rattle.sym_core.specs.Number.{FitsSymbol};
-ghost use Rattle.cpp_link.specs.declared.part.Outcome.{Outcome};
-ghost use Rattle.cpp_link.specs.declared.part.Part.{Part};
-ghost use Rattle.cpp_tree.specs.declared.node.Node.{Node};
-ghost use Rattle.cpp_link.specs.Parts.{trees_in, value_of, values_in, around_of, outcome_value, AreThere, IsOutcomeThere, IsPrefixThere, name_of};
+ghost use Rattle.cpp_link.specs.Parts.{trees_in, values_in, around_of, outcome_value, AreThere, IsOutcomeThere, IsPrefixThere, name_of};
 ghost use Rattle.cpp_link.specs.Closes.{ends_of};
 ghost use Rattle.cpp_link.specs.LinkReading.{link_meaning};
 ghost use Rattle.cpp_link.specs.Making.{nodes_of_outcome};
