@@ -472,8 +472,8 @@ def build(extended=True, widened=False):
               # <function-param> ::= fL <number> p [<CV-qualifiers>] [<number>] _
               eats("L", "OuterParameter", DIGITS, "OuterRest", means="part 1"),
               # <fold-expr> ::= fl <operator-name> <expression> | fr <operator-name> <expression>
-              eats("l", "LeftFold", "Operator", "FoldOperand", means="pair(byte, operation(first0, second0, absent, t1), absent)"),
-              eats("r", "RightFold", "Operator", "FoldOperand", means="pair(byte, operation(first0, second0, t1, absent), absent)")],
+              eats("l", "LeftFold", "FoldOperator", "FoldOperand", means="pair(byte, operation(first0, second0, absent, t1), absent)"),
+              eats("r", "RightFold", "FoldOperator", "FoldOperand", means="pair(byte, operation(first0, second0, t1, absent), absent)")],
         "g": [binary("et"), unary("s")],
         # <expression> ::= il <expression>* E
         "i": [eats("l", "Braces", "Expressions", "'E'", means="pair(byte, i0, absent)"), binary("x")],
@@ -512,7 +512,9 @@ def build(extended=True, widened=False):
     for a, rules in second_letters.items(): kind(f"ExpressionAfter{a.upper()}", *rules)
     kind("Expressions", chain("Expressions", E, "Expressions", means="elements!", nodes=2), empty=True)
     kind("MaybeBefore", MARK("_"), empty=True)
-    # a pack, of which the operator of a fold is between the elements
+    # an operator of two letters, between the elements of a pack
+    kind("FoldOperator", *[rule for a, rule in by_letter.items() if a != "l"], eats("l", "FoldOperatorL", "FoldOperatorAfterL", means="piece operator(byte, l0)"))
+    kind("FoldOperatorAfterL", MARK(dict(OPS)["l"]))
     kind("FoldOperand", chain("FoldOperand", "FoldPack", means="operation('(', ')', t0, absent), listed"))
     kind("FoldPack", chain("FoldPack", E, before="0: under it", means="expansion(t0), listed", packs="own"))
     # after new where it is placed, which may not be said

@@ -197,6 +197,7 @@ pub enum Production {
     ParameterExpression,
     AddressedLiteral,
     Expressions,
+    FoldOperatorL,
     FoldOperand,
     FoldPack,
     Placed,

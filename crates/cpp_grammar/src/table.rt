@@ -241,63 +241,67 @@ const EXPRESSIONS: Sym = Sym::Kind(114);
 
 const MAYBE_BEFORE: Sym = Sym::Kind(115);
 
-const FOLD_OPERAND: Sym = Sym::Kind(116);
+const FOLD_OPERATOR: Sym = Sym::Kind(116);
 
-const FOLD_PACK: Sym = Sym::Kind(117);
+const FOLD_OPERATOR_AFTER_L: Sym = Sym::Kind(117);
 
-const PLACEMENT: Sym = Sym::Kind(118);
+const FOLD_OPERAND: Sym = Sym::Kind(118);
 
-const SOME_EXPRESSIONS: Sym = Sym::Kind(119);
+const FOLD_PACK: Sym = Sym::Kind(119);
 
-const INITIALIZER: Sym = Sym::Kind(120);
+const PLACEMENT: Sym = Sym::Kind(120);
 
-const INITIALIZER_AFTER_P: Sym = Sym::Kind(121);
+const SOME_EXPRESSIONS: Sym = Sym::Kind(121);
 
-const INITIALIZER_AFTER_I: Sym = Sym::Kind(122);
+const INITIALIZER: Sym = Sym::Kind(122);
 
-const OUTER_REST: Sym = Sym::Kind(123);
+const INITIALIZER_AFTER_P: Sym = Sym::Kind(123);
 
-const PARAMETER_NUMBER: Sym = Sym::Kind(124);
+const INITIALIZER_AFTER_I: Sym = Sym::Kind(124);
 
-const CONVERTED_TYPE: Sym = Sym::Kind(125);
+const OUTER_REST: Sym = Sym::Kind(125);
 
-const CONVERTED_SOLID: Sym = Sym::Kind(126);
+const PARAMETER_NUMBER: Sym = Sym::Kind(126);
 
-const DECLTYPE_AFTER_D: Sym = Sym::Kind(127);
+const CONVERTED_TYPE: Sym = Sym::Kind(127);
 
-const CONVERT_REST: Sym = Sym::Kind(128);
+const CONVERTED_SOLID: Sym = Sym::Kind(128);
 
-const UNRESOLVED: Sym = Sym::Kind(129);
+const DECLTYPE_AFTER_D: Sym = Sym::Kind(129);
 
-const UNRESOLVED_TYPE: Sym = Sym::Kind(130);
+const CONVERT_REST: Sym = Sym::Kind(130);
 
-const DESTRUCTOR_NAME: Sym = Sym::Kind(131);
+const UNRESOLVED: Sym = Sym::Kind(131);
 
-const REQUIREMENTS: Sym = Sym::Kind(132);
+const UNRESOLVED_TYPE: Sym = Sym::Kind(132);
 
-const AFTER_EXPRESSION: Sym = Sym::Kind(133);
+const DESTRUCTOR_NAME: Sym = Sym::Kind(133);
 
-const AFTER_NOEXCEPT: Sym = Sym::Kind(134);
+const REQUIREMENTS: Sym = Sym::Kind(134);
 
-const REQUIRED_TYPES: Sym = Sym::Kind(135);
+const AFTER_EXPRESSION: Sym = Sym::Kind(135);
 
-const LEVEL: Sym = Sym::Kind(136);
+const AFTER_NOEXCEPT: Sym = Sym::Kind(136);
 
-const MORE_LEVELS: Sym = Sym::Kind(137);
+const REQUIRED_TYPES: Sym = Sym::Kind(137);
 
-const UNRESOLVED_NAME: Sym = Sym::Kind(138);
+const LEVEL: Sym = Sym::Kind(138);
 
-const OPERATOR_NAME: Sym = Sym::Kind(139);
+const MORE_LEVELS: Sym = Sym::Kind(139);
 
-const ANY_ARRAY: Sym = Sym::Kind(140);
+const UNRESOLVED_NAME: Sym = Sym::Kind(140);
 
-const ARRAY_REST: Sym = Sym::Kind(141);
+const OPERATOR_NAME: Sym = Sym::Kind(141);
 
-const BOUND: Sym = Sym::Kind(142);
+const ANY_ARRAY: Sym = Sym::Kind(142);
 
-const NEST_MORE_OR_END: Sym = Sym::Kind(143);
+const ARRAY_REST: Sym = Sym::Kind(143);
 
-const TAGGED_SOURCE: Sym = Sym::Kind(144);
+const BOUND: Sym = Sym::Kind(144);
+
+const NEST_MORE_OR_END: Sym = Sym::Kind(145);
+
+const TAGGED_SOURCE: Sym = Sym::Kind(146);
 
 const NAME: Sym = Sym::Name;
 
@@ -311,7 +315,7 @@ const DIGITS: Sym = Sym::Number(NumberKind::Digits);
 pub const FIRST_LETTER: u8 = b'!';
 
 // For each kind a row: for each byte from `$` to `z` the letter of the production that the kind takes there.
-static LETTERS: [[u8; 87]; 145] = [
+static LETTERS: [[u8; 87]; 147] = [
     // $%&'()*+,-./0123456789:;<=>?@ABCDEFGHIJKLMNOPQRSTUVWXYZ[\]^_`abcdefghijklmnopqrstuvwxyz
     *b"                                                           *                           ", // Symbol
     *b"          +                                                                            ", // MaybeSuffix
@@ -429,35 +433,37 @@ static LETTERS: [[u8; 87]; 145] = [
     *b"                                                                 \xbe   \xbf  \xcf          \xbe   ", // ExpressionAfterT
     *b"                                                             \xe2                         ", // Expressions
     *b"                                                           !                           ", // MaybeBefore
-    *b"                                                             \xe3                         ", // FoldOperand
-    *b"                                                             \xe4                         ", // FoldPack
-    *b"                                                           ! \xe5                         ", // Placement
+    *b"                                                             \x92 \x94\x91\x98 \x9c \x9b  \xe3\x95\x90\x97\x93 \x96\x9a       ", // FoldOperator
+    *b"                                               !                 !             !!      ", // FoldOperatorAfterL
+    *b"                                                             \xe4                         ", // FoldOperand
+    *b"                                                             \xe5                         ", // FoldPack
+    *b"                                                           ! \xe6                         ", // Placement
     *b"                                                             \xe2                         ", // SomeExpressions
-    *b"                                 ~                                   \xe7      \xe6          ", // Initializer
+    *b"                                 ~                                   \xe8      \xe7          ", // Initializer
     *b"                                                                     \xc6                 ", // InitializerAfterP
     *b"                                                                        \xc6              ", // InitializerAfterI
     *b"                                                                            \xbb          ", // OuterRest
-    *b"            \xe9\xe9\xe9\xe9\xe9\xe9\xe9\xe9\xe9\xe9                          \xe8          \xe9                           ", // ParameterNumber
-    *b"            \xee\xee\xee\xee\xee\xee\xee\xee\xee\xee          \xea \xee    \xeb  \xee\xed\xec \xed\xee\xee\xee           \xee\xee\xee\xee\xee\xee\xee\xee\xee\xee \xee\xee\xee\xee   \xee\xee \xee\xee\xee\xee\xee", // ConvertedType
+    *b"            \xea\xea\xea\xea\xea\xea\xea\xea\xea\xea                          \xe9          \xea                           ", // ParameterNumber
+    *b"            \xef\xef\xef\xef\xef\xef\xef\xef\xef\xef          \xeb \xef    \xec  \xef\xee\xed \xee\xef\xef\xef           \xef\xef\xef\xef\xef\xef\xef\xef\xef\xef \xef\xef\xef\xef   \xef\xef \xef\xef\xef\xef\xef", // ConvertedType
     *b"            $$$$$$$$$$            v       T    qp#           ssssssssss ssss   ss sssss", // ConvertedSolid
     *b"                                                m                               m      ", // DecltypeAfterD
     *b"            \xba\xba\xba\xba\xba\xba\xba\xba\xba\xba                  \xb0       \xe0          \xc6 \xd0 \xd1\xd2\xd3\xd4\xd5 \xd6  \xd7\xd8\xd9\xda\xdb\xdc\xdd\xde\xdf      ", // ConvertRest
-    *b"            \xf0\xf0\xf0\xf0\xf0\xf0\xf0\xf0\xf0\xf0          \xef         \xef    \xef\xef                                      ", // Unresolved
-    *b"                                \xea         T    qp                                      ", // UnresolvedType
-    *b"            \xba\xba\xba\xba\xba\xba\xba\xba\xba\xba          \xf1         \xf1    \xf1\xf1                                      ", // DestructorName
-    *b"                                             \xf4  \xf3   \xf2                                  ", // Requirements
-    *b"                                          \xf6  \xf4\xf5 \xf3   \xf2                                  ", // AfterExpression
-    *b"                                             \xf4\xf5 \xf3   \xf2                                  ", // AfterNoexcept
-    *b"            \xf7\xf7\xf7\xf7\xf7\xf7\xf7\xf7\xf7\xf7          \xf7 \xf7    \xf7  \xf7\xf7\xf7 \xf7\xf7\xf7\xf7         \xca \xf7\xf7\xf7\xf7\xf7\xf7\xf7\xf7\xf7\xf7 \xf7\xf7\xf7\xf7   \xf7\xf7 \xf7\xf7\xf7\xf7\xf7", // RequiredTypes
+    *b"            \xf1\xf1\xf1\xf1\xf1\xf1\xf1\xf1\xf1\xf1          \xf0         \xf0    \xf0\xf0                                      ", // Unresolved
+    *b"                                \xeb         T    qp                                      ", // UnresolvedType
+    *b"            \xba\xba\xba\xba\xba\xba\xba\xba\xba\xba          \xf2         \xf2    \xf2\xf2                                      ", // DestructorName
+    *b"                                             \xf5  \xf4   \xf3                                  ", // Requirements
+    *b"                                          \xf7  \xf5\xf6 \xf4   \xf3                                  ", // AfterExpression
+    *b"                                             \xf5\xf6 \xf4   \xf3                                  ", // AfterNoexcept
+    *b"            \xf8\xf8\xf8\xf8\xf8\xf8\xf8\xf8\xf8\xf8          \xf8 \xf8    \xf8  \xf8\xf8\xf8 \xf8\xf8\xf8\xf8         \xca \xf8\xf8\xf8\xf8\xf8\xf8\xf8\xf8\xf8\xf8 \xf8\xf8\xf8\xf8   \xf8\xf8 \xf8\xf8\xf8\xf8\xf8", // RequiredTypes
     *b"            \xba\xba\xba\xba\xba\xba\xba\xba\xba\xba                                                                 ", // Level
-    *b"            \xf0\xf0\xf0\xf0\xf0\xf0\xf0\xf0\xf0\xf0           \xf8                                                     ", // MoreLevels
-    *b"            \xba\xba\xba\xba\xba\xba\xba\xba\xba\xba                                                     \xf9           ", // UnresolvedName
+    *b"            \xf1\xf1\xf1\xf1\xf1\xf1\xf1\xf1\xf1\xf1           \xf9                                                     ", // MoreLevels
+    *b"            \xba\xba\xba\xba\xba\xba\xba\xba\xba\xba                                                     \xfa           ", // UnresolvedName
     *b"                                                                          \xb9            ", // OperatorName
-    *b"                             \xfa                                                         ", // AnyArray
-    *b"            \xfc\xfc\xfc\xfc\xfc\xfc\xfc\xfc\xfc\xfc                                     \xfc                           ", // ArrayRest
+    *b"                             \xfb                                                         ", // AnyArray
+    *b"            \xfd\xfd\xfd\xfd\xfd\xfd\xfd\xfd\xfd\xfd                                     \xfd                           ", // ArrayRest
     *b"                                        \xb0       \xe0            \xd0 \xd1\xd2\xd3\xd4\xd5 \xd6  \xd7\xd8\xd9\xda\xdb\xdc\xdd\xde\xdf      ", // Bound
     *b"            GGGGGGGGGG         GG       G        G           G GGG G G  GGGGG GG       ", // NestMoreOrEnd
-    *b"            \xfd\xfd\xfd\xfd\xfd\xfd\xfd\xfd\xfd\xfd                                                                 ", // TaggedSource
+    *b"            \xfe\xfe\xfe\xfe\xfe\xfe\xfe\xfe\xfe\xfe                                                                 ", // TaggedSource
 ];
 
 /// A rule without its number and its symbols.
@@ -487,7 +493,7 @@ macro_rules! chains {
 }
 
 // The rules of the productions, in the order of their numbers.
-pub static HEADS: [Head; 221] = [
+pub static HEADS: [Head; 222] = [
     takes!(0), // ! Mark
     takes!(2), // \" InternalName
     takes!(2), // # LocalTypeName
@@ -682,37 +688,38 @@ pub static HEADS: [Head; 221] = [
     takes!(2), // \xe0 ParameterExpression
     takes!(2), // \xe1 AddressedLiteral
     chains!(2), // \xe2 Expressions
-    chains!(1), // \xe3 FoldOperand
-    chains!(1), // \xe4 FoldPack
-    chains!(2), // \xe5 Placed
-    takes!(1), // \xe6 Initializer
-    takes!(1), // \xe7 BracedInitializer
-    takes!(0), // \xe8 This
-    chains!(1), // \xe9 ParameterNumber
-    takes!(1), // \xea ConvertedDecltype
-    takes!(1), // \xeb ConvertedConst
-    takes!(1), // \xec ConvertedPointer
-    takes!(1), // \xed ConvertedReference
-    chains!(1), // \xee ConvertedType
-    chains!(2), // \xef UnresolvedInType
-    chains!(2), // \xf0 Levels
-    chains!(1), // \xf1 DestroyedType
-    takes!(2), // \xf2 ExpressionRequirement
-    takes!(2), // \xf3 TypeRequirement
-    takes!(2), // \xf4 NestedRequirement
-    takes!(2), // \xf5 ResultRequirement
-    takes!(1), // \xf6 NoexceptRequirement
-    chains!(2), // \xf7 RequiredType
-    takes!(1), // \xf8 LevelsEnd
-    takes!(1), // \xf9 UnresolvedOperator
-    takes!(1), // \xfa AnyArray
-    chains!(3), // \xfb BoundedArray
-    chains!(2), // \xfc LengthArray
-    chains!(2), // \xfd TaggedSource
+    takes!(1), // \xe3 FoldOperatorL
+    chains!(1), // \xe4 FoldOperand
+    chains!(1), // \xe5 FoldPack
+    chains!(2), // \xe6 Placed
+    takes!(1), // \xe7 Initializer
+    takes!(1), // \xe8 BracedInitializer
+    takes!(0), // \xe9 This
+    chains!(1), // \xea ParameterNumber
+    takes!(1), // \xeb ConvertedDecltype
+    takes!(1), // \xec ConvertedConst
+    takes!(1), // \xed ConvertedPointer
+    takes!(1), // \xee ConvertedReference
+    chains!(1), // \xef ConvertedType
+    chains!(2), // \xf0 UnresolvedInType
+    chains!(2), // \xf1 Levels
+    chains!(1), // \xf2 DestroyedType
+    takes!(2), // \xf3 ExpressionRequirement
+    takes!(2), // \xf4 TypeRequirement
+    takes!(2), // \xf5 NestedRequirement
+    takes!(2), // \xf6 ResultRequirement
+    takes!(1), // \xf7 NoexceptRequirement
+    chains!(2), // \xf8 RequiredType
+    takes!(1), // \xf9 LevelsEnd
+    takes!(1), // \xfa UnresolvedOperator
+    takes!(1), // \xfb AnyArray
+    chains!(3), // \xfc BoundedArray
+    chains!(2), // \xfd LengthArray
+    chains!(2), // \xfe TaggedSource
 ];
 
 // The symbols of the rules, in the same order.
-pub static SYMBOLS: [Sym; 1332] = symbols_listed! {
+pub static SYMBOLS: [Sym; 1338] = symbols_listed! {
     [NONE, NONE, NONE, NONE, NONE], // ! Mark
     [NAME, MAYBE_ARGUMENTS, NONE, NONE, NONE], // \" InternalName
     [ANONYMOUS, MAYBE_ARGUMENTS, NONE, NONE, NONE], // # LocalTypeName
@@ -876,8 +883,8 @@ pub static SYMBOLS: [Sym; 1332] = symbols_listed! {
     [CONVERTED_TYPE, CONVERT_REST, NONE, NONE, NONE], // \xc1 Convert
     [DESTRUCTOR_NAME, NONE, NONE, NONE, NONE], // \xc2 DestructorName
     [DIGITS, OUTER_REST, NONE, NONE, NONE], // \xc3 OuterParameter
-    [OPERATOR, FOLD_OPERAND, NONE, NONE, NONE], // \xc4 LeftFold
-    [OPERATOR, FOLD_OPERAND, NONE, NONE, NONE], // \xc5 RightFold
+    [FOLD_OPERATOR, FOLD_OPERAND, NONE, NONE, NONE], // \xc4 LeftFold
+    [FOLD_OPERATOR, FOLD_OPERAND, NONE, NONE, NONE], // \xc5 RightFold
     [EXPRESSIONS, Sym::Byte(b'E'), NONE, NONE, NONE], // \xc6 Braces
     [MAYBE_BEFORE, EXPRESSION, NONE, NONE, NONE], // \xc7 Step
     [PLACEMENT, TYPE, INITIALIZER, NONE, NONE], // \xc8 New
@@ -907,40 +914,41 @@ pub static SYMBOLS: [Sym; 1332] = symbols_listed! {
     [DECIMAL, ARGUMENTS_ALONE, NONE, NONE, NONE], // \xe0 ParameterExpression
     [ADDRESSED_LITERAL, Sym::Byte(b'E'), NONE, NONE, NONE], // \xe1 AddressedLiteral
     [EXPRESSION, EXPRESSIONS, NONE, NONE, NONE], // \xe2 Expressions
-    [FOLD_PACK, NONE, NONE, NONE, NONE], // \xe3 FoldOperand
-    [EXPRESSION, NONE, NONE, NONE, NONE], // \xe4 FoldPack
-    [SOME_EXPRESSIONS, Sym::Byte(b'_'), NONE, NONE, NONE], // \xe5 Placed
-    [INITIALIZER_AFTER_P, NONE, NONE, NONE, NONE], // \xe6 Initializer
-    [INITIALIZER_AFTER_I, NONE, NONE, NONE, NONE], // \xe7 BracedInitializer
-    [NONE, NONE, NONE, NONE, NONE], // \xe8 This
-    [DECIMAL, NONE, NONE, NONE, NONE], // \xe9 ParameterNumber
-    [DECLTYPE_AFTER_D, NONE, NONE, NONE, NONE], // \xea ConvertedDecltype
-    [CONVERTED_TYPE, NONE, NONE, NONE, NONE], // \xeb ConvertedConst
-    [CONVERTED_TYPE, NONE, NONE, NONE, NONE], // \xec ConvertedPointer
-    [CONVERTED_TYPE, NONE, NONE, NONE, NONE], // \xed ConvertedReference
-    [CONVERTED_SOLID, NONE, NONE, NONE, NONE], // \xee ConvertedType
-    [UNRESOLVED_TYPE, UNRESOLVED_NAME, NONE, NONE, NONE], // \xef UnresolvedInType
-    [LEVEL, MORE_LEVELS, NONE, NONE, NONE], // \xf0 Levels
-    [UNRESOLVED_TYPE, NONE, NONE, NONE, NONE], // \xf1 DestroyedType
-    [EXPRESSION, AFTER_EXPRESSION, NONE, NONE, NONE], // \xf2 ExpressionRequirement
-    [TYPE, REQUIREMENTS, NONE, NONE, NONE], // \xf3 TypeRequirement
-    [EXPRESSION, REQUIREMENTS, NONE, NONE, NONE], // \xf4 NestedRequirement
-    [CONCEPT, REQUIREMENTS, NONE, NONE, NONE], // \xf5 ResultRequirement
-    [AFTER_NOEXCEPT, NONE, NONE, NONE, NONE], // \xf6 NoexceptRequirement
-    [CONVERTED_TYPE, REQUIRED_TYPES, NONE, NONE, NONE], // \xf7 RequiredType
-    [UNRESOLVED_NAME, NONE, NONE, NONE, NONE], // \xf8 LevelsEnd
-    [OPERATOR_NAME, NONE, NONE, NONE, NONE], // \xf9 UnresolvedOperator
-    [ARRAY_REST, NONE, NONE, NONE, NONE], // \xfa AnyArray
-    [BOUND, Sym::Byte(b'_'), TYPE, NONE, NONE], // \xfb BoundedArray
-    [DECIMAL, TYPE, NONE, NONE, NONE], // \xfc LengthArray
-    [NAME, MAYBE_TAGS, NONE, NONE, NONE], // \xfd TaggedSource
+    [FOLD_OPERATOR_AFTER_L, NONE, NONE, NONE, NONE], // \xe3 FoldOperatorL
+    [FOLD_PACK, NONE, NONE, NONE, NONE], // \xe4 FoldOperand
+    [EXPRESSION, NONE, NONE, NONE, NONE], // \xe5 FoldPack
+    [SOME_EXPRESSIONS, Sym::Byte(b'_'), NONE, NONE, NONE], // \xe6 Placed
+    [INITIALIZER_AFTER_P, NONE, NONE, NONE, NONE], // \xe7 Initializer
+    [INITIALIZER_AFTER_I, NONE, NONE, NONE, NONE], // \xe8 BracedInitializer
+    [NONE, NONE, NONE, NONE, NONE], // \xe9 This
+    [DECIMAL, NONE, NONE, NONE, NONE], // \xea ParameterNumber
+    [DECLTYPE_AFTER_D, NONE, NONE, NONE, NONE], // \xeb ConvertedDecltype
+    [CONVERTED_TYPE, NONE, NONE, NONE, NONE], // \xec ConvertedConst
+    [CONVERTED_TYPE, NONE, NONE, NONE, NONE], // \xed ConvertedPointer
+    [CONVERTED_TYPE, NONE, NONE, NONE, NONE], // \xee ConvertedReference
+    [CONVERTED_SOLID, NONE, NONE, NONE, NONE], // \xef ConvertedType
+    [UNRESOLVED_TYPE, UNRESOLVED_NAME, NONE, NONE, NONE], // \xf0 UnresolvedInType
+    [LEVEL, MORE_LEVELS, NONE, NONE, NONE], // \xf1 Levels
+    [UNRESOLVED_TYPE, NONE, NONE, NONE, NONE], // \xf2 DestroyedType
+    [EXPRESSION, AFTER_EXPRESSION, NONE, NONE, NONE], // \xf3 ExpressionRequirement
+    [TYPE, REQUIREMENTS, NONE, NONE, NONE], // \xf4 TypeRequirement
+    [EXPRESSION, REQUIREMENTS, NONE, NONE, NONE], // \xf5 NestedRequirement
+    [CONCEPT, REQUIREMENTS, NONE, NONE, NONE], // \xf6 ResultRequirement
+    [AFTER_NOEXCEPT, NONE, NONE, NONE, NONE], // \xf7 NoexceptRequirement
+    [CONVERTED_TYPE, REQUIRED_TYPES, NONE, NONE, NONE], // \xf8 RequiredType
+    [UNRESOLVED_NAME, NONE, NONE, NONE, NONE], // \xf9 LevelsEnd
+    [OPERATOR_NAME, NONE, NONE, NONE, NONE], // \xfa UnresolvedOperator
+    [ARRAY_REST, NONE, NONE, NONE, NONE], // \xfb AnyArray
+    [BOUND, Sym::Byte(b'_'), TYPE, NONE, NONE], // \xfc BoundedArray
+    [DECIMAL, TYPE, NONE, NONE, NONE], // \xfd LengthArray
+    [NAME, MAYBE_TAGS, NONE, NONE, NONE], // \xfe TaggedSource
 };
 
 /// The number of the rule that a kind takes at a byte, if it takes one.
 #[inline]
 fn number(kind: u16, byte: u8) -> Option<usize>
     requires { kind < abi.kinds }
-    ensures few { IfSome result (λ number. number < 221) }
+    ensures few { IfSome result (λ number. number < 222) }
     ensures rule { (head : Head) → MatchOption result (abi.rule kind byte ≡ None) (λ number. abi.rule kind byte ≡ Some (listed_rule head number)) }
 {
     match letter_in(&LETTERS[kind as usize], byte) {

@@ -8,7 +8,7 @@ use crate::table::{FIRST_LETTER, HEADS, SYMBOLS};
 use sym_shape::{Rule, letter_in, place_of, symbols_from};
 
 // For each kind a row: for each byte from `$` to `z` the letter of the production that the kind takes there.
-static WIDE_LETTERS: [[u8; 87]; 145] = [
+static WIDE_LETTERS: [[u8; 87]; 147] = [
     // $%&'()*+,-./0123456789:;<=>?@ABCDEFGHIJKLMNOPQRSTUVWXYZ[\]^_`abcdefghijklmnopqrstuvwxyz
     *b"                                                           *                           ", // Symbol
     *b"          +                                                                            ", // MaybeSuffix
@@ -126,42 +126,44 @@ static WIDE_LETTERS: [[u8; 87]; 145] = [
     *b"                                                                 \xbe   \xbf  \xcf          \xbe   ", // ExpressionAfterT
     *b"            \xe2\xe2\xe2\xe2\xe2\xe2\xe2\xe2\xe2\xe2                  \xe2       \xe2            \xe2 \xe2\xe2\xe2\xe2\xe2 \xe2  \xe2\xe2\xe2\xe2\xe2\xe2\xe2\xe2\xe2      ", // Expressions
     *b"                                                           !                           ", // MaybeBefore
-    *b"            \xe3\xe3\xe3\xe3\xe3\xe3\xe3\xe3\xe3\xe3                  \xe3       \xe3            \xe3 \xe3\xe3\xe3\xe3\xe3 \xe3  \xe3\xe3\xe3\xe3\xe3\xe3\xe3\xe3\xe3      ", // FoldOperand
-    *b"            \xe4\xe4\xe4\xe4\xe4\xe4\xe4\xe4\xe4\xe4                  \xe4       \xe4            \xe4 \xe4\xe4\xe4\xe4\xe4 \xe4  \xe4\xe4\xe4\xe4\xe4\xe4\xe4\xe4\xe4      ", // FoldPack
-    *b"            \xe5\xe5\xe5\xe5\xe5\xe5\xe5\xe5\xe5\xe5                  \xe5       \xe5          ! \xe5 \xe5\xe5\xe5\xe5\xe5 \xe5  \xe5\xe5\xe5\xe5\xe5\xe5\xe5\xe5\xe5      ", // Placement
+    *b"                                                             \x92 \x94\x91\x98 \x9c \x9b  \xe3\x95\x90\x97\x93 \x96\x9a       ", // FoldOperator
+    *b"                                               !                 !             !!      ", // FoldOperatorAfterL
+    *b"            \xe4\xe4\xe4\xe4\xe4\xe4\xe4\xe4\xe4\xe4                  \xe4       \xe4            \xe4 \xe4\xe4\xe4\xe4\xe4 \xe4  \xe4\xe4\xe4\xe4\xe4\xe4\xe4\xe4\xe4      ", // FoldOperand
+    *b"            \xe5\xe5\xe5\xe5\xe5\xe5\xe5\xe5\xe5\xe5                  \xe5       \xe5            \xe5 \xe5\xe5\xe5\xe5\xe5 \xe5  \xe5\xe5\xe5\xe5\xe5\xe5\xe5\xe5\xe5      ", // FoldPack
+    *b"            \xe6\xe6\xe6\xe6\xe6\xe6\xe6\xe6\xe6\xe6                  \xe6       \xe6          ! \xe6 \xe6\xe6\xe6\xe6\xe6 \xe6  \xe6\xe6\xe6\xe6\xe6\xe6\xe6\xe6\xe6      ", // Placement
     *b"            \xe2\xe2\xe2\xe2\xe2\xe2\xe2\xe2\xe2\xe2                  \xe2       \xe2            \xe2 \xe2\xe2\xe2\xe2\xe2 \xe2  \xe2\xe2\xe2\xe2\xe2\xe2\xe2\xe2\xe2      ", // SomeExpressions
-    *b"                                 ~                                   \xe7      \xe6          ", // Initializer
+    *b"                                 ~                                   \xe8      \xe7          ", // Initializer
     *b"                                                                     \xc6                 ", // InitializerAfterP
     *b"                                                                        \xc6              ", // InitializerAfterI
     *b"                                                                            \xbb          ", // OuterRest
-    *b"            \xe9\xe9\xe9\xe9\xe9\xe9\xe9\xe9\xe9\xe9                          \xe8          \xe9                           ", // ParameterNumber
-    *b"            \xee\xee\xee\xee\xee\xee\xee\xee\xee\xee          \xea \xee    \xeb  \xee\xed\xec \xed\xee\xee\xee           \xee\xee\xee\xee\xee\xee\xee\xee\xee\xee \xee\xee\xee\xee   \xee\xee \xee\xee\xee\xee\xee", // ConvertedType
+    *b"            \xea\xea\xea\xea\xea\xea\xea\xea\xea\xea                          \xe9          \xea                           ", // ParameterNumber
+    *b"            \xef\xef\xef\xef\xef\xef\xef\xef\xef\xef          \xeb \xef    \xec  \xef\xee\xed \xee\xef\xef\xef           \xef\xef\xef\xef\xef\xef\xef\xef\xef\xef \xef\xef\xef\xef   \xef\xef \xef\xef\xef\xef\xef", // ConvertedType
     *b"            $$$$$$$$$$            v       T    qp#           ssssssssss ssss   ss sssss", // ConvertedSolid
     *b"                                                m                               m      ", // DecltypeAfterD
     *b"            \xba\xba\xba\xba\xba\xba\xba\xba\xba\xba                  \xb0       \xe0          \xc6 \xd0 \xd1\xd2\xd3\xd4\xd5 \xd6  \xd7\xd8\xd9\xda\xdb\xdc\xdd\xde\xdf      ", // ConvertRest
-    *b"            \xf0\xf0\xf0\xf0\xf0\xf0\xf0\xf0\xf0\xf0          \xef         \xef    \xef\xef                                      ", // Unresolved
-    *b"                                \xea         T    qp                                      ", // UnresolvedType
-    *b"            \xba\xba\xba\xba\xba\xba\xba\xba\xba\xba          \xf1         \xf1    \xf1\xf1                                      ", // DestructorName
-    *b"                                             \xf4  \xf3   \xf2                                  ", // Requirements
-    *b"                                          \xf6  \xf4\xf5 \xf3   \xf2                                  ", // AfterExpression
-    *b"                                             \xf4\xf5 \xf3   \xf2                                  ", // AfterNoexcept
-    *b"            \xf7\xf7\xf7\xf7\xf7\xf7\xf7\xf7\xf7\xf7          \xf7 \xf7    \xf7  \xf7\xf7\xf7 \xf7\xf7\xf7\xf7         \xca \xf7\xf7\xf7\xf7\xf7\xf7\xf7\xf7\xf7\xf7 \xf7\xf7\xf7\xf7   \xf7\xf7 \xf7\xf7\xf7\xf7\xf7", // RequiredTypes
+    *b"            \xf1\xf1\xf1\xf1\xf1\xf1\xf1\xf1\xf1\xf1          \xf0         \xf0    \xf0\xf0                                      ", // Unresolved
+    *b"                                \xeb         T    qp                                      ", // UnresolvedType
+    *b"            \xba\xba\xba\xba\xba\xba\xba\xba\xba\xba          \xf2         \xf2    \xf2\xf2                                      ", // DestructorName
+    *b"                                             \xf5  \xf4   \xf3                                  ", // Requirements
+    *b"                                          \xf7  \xf5\xf6 \xf4   \xf3                                  ", // AfterExpression
+    *b"                                             \xf5\xf6 \xf4   \xf3                                  ", // AfterNoexcept
+    *b"            \xf8\xf8\xf8\xf8\xf8\xf8\xf8\xf8\xf8\xf8          \xf8 \xf8    \xf8  \xf8\xf8\xf8 \xf8\xf8\xf8\xf8         \xca \xf8\xf8\xf8\xf8\xf8\xf8\xf8\xf8\xf8\xf8 \xf8\xf8\xf8\xf8   \xf8\xf8 \xf8\xf8\xf8\xf8\xf8", // RequiredTypes
     *b"            \xba\xba\xba\xba\xba\xba\xba\xba\xba\xba                                                                 ", // Level
-    *b"            \xf0\xf0\xf0\xf0\xf0\xf0\xf0\xf0\xf0\xf0           \xf8                                                     ", // MoreLevels
-    *b"            \xba\xba\xba\xba\xba\xba\xba\xba\xba\xba                                                     \xf9           ", // UnresolvedName
+    *b"            \xf1\xf1\xf1\xf1\xf1\xf1\xf1\xf1\xf1\xf1           \xf9                                                     ", // MoreLevels
+    *b"            \xba\xba\xba\xba\xba\xba\xba\xba\xba\xba                                                     \xfa           ", // UnresolvedName
     *b"                                                                          \xb9            ", // OperatorName
-    *b"                             \xfa                                                         ", // AnyArray
-    *b"            \xfc\xfc\xfc\xfc\xfc\xfc\xfc\xfc\xfc\xfc                  \xfb       \xfb          \xfc \xfb \xfb\xfb\xfb\xfb\xfb \xfb  \xfb\xfb\xfb\xfb\xfb\xfb\xfb\xfb\xfb      ", // ArrayRest
+    *b"                             \xfb                                                         ", // AnyArray
+    *b"            \xfd\xfd\xfd\xfd\xfd\xfd\xfd\xfd\xfd\xfd                  \xfc       \xfc          \xfd \xfc \xfc\xfc\xfc\xfc\xfc \xfc  \xfc\xfc\xfc\xfc\xfc\xfc\xfc\xfc\xfc      ", // ArrayRest
     *b"                                        \xb0       \xe0            \xd0 \xd1\xd2\xd3\xd4\xd5 \xd6  \xd7\xd8\xd9\xda\xdb\xdc\xdd\xde\xdf      ", // Bound
     *b"            GGGGGGGGGG         GGIG     GG       G           G GGG G G  GGGGG GG       ", // NestMoreOrEnd
-    *b"            \xfd\xfd\xfd\xfd\xfd\xfd\xfd\xfd\xfd\xfd                                                                 ", // TaggedSource
+    *b"            \xfe\xfe\xfe\xfe\xfe\xfe\xfe\xfe\xfe\xfe                                                                 ", // TaggedSource
 ];
 
 /// The number of the rule that a kind takes at a byte, if it takes one.
 #[inline]
 fn number(kind: u16, byte: u8) -> Option<usize>
     requires { kind < wide.kinds }
-    ensures few { IfSome result (λ number. number < 221) }
+    ensures few { IfSome result (λ number. number < 222) }
     ensures rule { (head : Head) → MatchOption result (wide.rule kind byte ≡ None) (λ number. wide.rule kind byte ≡ Some (listed_rule head number)) }
 {
     match letter_in(&WIDE_LETTERS[kind as usize], byte) {

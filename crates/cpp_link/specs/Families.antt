@@ -41,6 +41,7 @@ family_of Production.OperatorE = Family.Piece
 family_of Production.OperatorS = Family.Piece
 family_of Production.OperatorI = Family.Piece
 family_of Production.OperatorG = Family.Piece
+family_of Production.FoldOperatorL = Family.Piece
 family_of Production.OperatorL = Family.Piece
 family_of Production.LiteralOperator = Family.Piece
 family_of Production.Conversion = Family.Piece

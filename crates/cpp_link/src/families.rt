@@ -89,6 +89,7 @@ pub fn family_of(production: Production) -> Family
         Production::OperatorS => Family::Piece,
         Production::OperatorI => Family::Piece,
         Production::OperatorG => Family::Piece,
+        Production::FoldOperatorL => Family::Piece,
         Production::OperatorL => Family::Piece,
         Production::LiteralOperator => Family::Piece,
         Production::Conversion => Family::Piece,

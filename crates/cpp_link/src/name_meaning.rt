@@ -164,6 +164,10 @@ impl Linked {
             Production::OperatorS => piece(Piece::Operator(byte, self.letter(symbol, parts, 0))),
             Production::OperatorI => piece(Piece::Operator(byte, self.letter(symbol, parts, 0))),
             Production::OperatorG => piece(Piece::Operator(byte, self.letter(symbol, parts, 0))),
+            // <operator-name> of a fold, which is no literal operator
+            Production::FoldOperatorL => {
+                piece(Piece::Operator(byte, self.letter(symbol, parts, 0)))
+            }
             // <operator-name> ::= ls | le | .. | li <source-name>
             Production::OperatorL => self.operator_or_literal(
                 symbol,

@@ -3,7 +3,7 @@
 use cpp_grammar::production::Production;
 
 /// The productions.
-pub(crate) const PRODUCTIONS: [Production; 221] = [
+pub(crate) const PRODUCTIONS: [Production; 222] = [
     Production::Mark,
     Production::InternalName,
     Production::LocalTypeName,
@@ -198,6 +198,7 @@ pub(crate) const PRODUCTIONS: [Production; 221] = [
     Production::ParameterExpression,
     Production::AddressedLiteral,
     Production::Expressions,
+    Production::FoldOperatorL,
     Production::FoldOperand,
     Production::FoldPack,
     Production::Placed,
@@ -228,7 +229,7 @@ pub(crate) const PRODUCTIONS: [Production; 221] = [
 ];
 
 /// How many parts each has.
-pub(crate) const PART_COUNTS: [u8; 221] = [
+pub(crate) const PART_COUNTS: [u8; 222] = [
     0, // Mark
     2, // InternalName
     2, // LocalTypeName
@@ -423,6 +424,7 @@ pub(crate) const PART_COUNTS: [u8; 221] = [
     2, // ParameterExpression
     2, // AddressedLiteral
     2, // Expressions
+    1, // FoldOperatorL
     1, // FoldOperand
     1, // FoldPack
     2, // Placed
@@ -453,7 +455,7 @@ pub(crate) const PART_COUNTS: [u8; 221] = [
 ];
 
 /// Whether parts without a row may be between those of each.
-pub(crate) const SKIPS_PARTS: [bool; 221] = [
+pub(crate) const SKIPS_PARTS: [bool; 222] = [
     false, // Mark
     false, // InternalName
     false, // LocalTypeName
@@ -648,6 +650,7 @@ pub(crate) const SKIPS_PARTS: [bool; 221] = [
     false, // ParameterExpression
     false, // AddressedLiteral
     false, // Expressions
+    false, // FoldOperatorL
     false, // FoldOperand
     false, // FoldPack
     false, // Placed
@@ -678,7 +681,7 @@ pub(crate) const SKIPS_PARTS: [bool; 221] = [
 ];
 
 /// Before how many of its parts nothing is done in each: before none, the first, or all, which are five at most.
-pub(crate) const QUIET_PARTS: [u8; 221] = [
+pub(crate) const QUIET_PARTS: [u8; 222] = [
     5, // Mark
     1, // InternalName
     1, // LocalTypeName
@@ -873,6 +876,7 @@ pub(crate) const QUIET_PARTS: [u8; 221] = [
     1, // ParameterExpression
     5, // AddressedLiteral
     5, // Expressions
+    5, // FoldOperatorL
     5, // FoldOperand
     0, // FoldPack
     5, // Placed
