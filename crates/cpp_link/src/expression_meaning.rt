@@ -150,20 +150,8 @@ impl Linked {
                 true,
             ),
             // <fold-expr> ::= fl <operator-name> <expression> | fr <operator-name> <expression>, after the f
-            Production::LeftFold => self.folded(
-                symbol,
-                byte,
-                parts,
-                ABSENT,
-                self.tree(symbol, parts, 1),
-            ),
-            Production::RightFold => self.folded(
-                symbol,
-                byte,
-                parts,
-                self.tree(symbol, parts, 1),
-                ABSENT,
-            ),
+            Production::LeftFold => self.left_fold(symbol, byte, parts),
+            Production::RightFold => self.right_fold(symbol, byte, parts),
             Production::FoldOperand => made(in_parentheses(self.tree(symbol, parts, 0)), true),
             Production::FoldPack => made(Node::Expansion(self.tree(symbol, parts, 0)), true),
             // <expression> ::= rq <requirement>+ E | rQ <bare-function-type> _ <requirement>+ E, after the r

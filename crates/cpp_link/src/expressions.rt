@@ -280,23 +280,14 @@ impl Linked {
         }
     }
 
-    /// A fold: its second letter, and the operation of the operator that the first part is, which has one operand.
+    /// The second letter of a fold from the left, and the operation of its operator, which has only the right operand.
     #[tactic(auto, unfolding(crate::specs::Parts::outcome_value, cpp_tree::specs::Nodes::tree_of, crate::specs::Making::nodes_of_outcome))]
-    pub(crate) fn folded(
-        &self,
-        symbol: &[u8],
-        letter: u8,
-        parts: &[Part],
-        left: u32,
-        right: u32,
-    ) -> Outcome
+    pub(crate) fn left_fold(&self, symbol: &[u8], letter: u8, parts: &[Part]) -> Outcome
         requires table { IsTable (over symbol.now self.now.nodes) }
         requires there { AreThere symbol.now (length self.now.nodes.nodes) parts.now }
-        requires left { left < length self.now.nodes.nodes }
-        requires right { right < length self.now.nodes.nodes }
         ensures is { outcome_value symbol.now self.now.nodes result
             ≡ values.pair letter (term.operation (first_letter (piece_of (part (values_in symbol.now self.now.nodes parts.now) 0))) (second_letter (piece_of (part (values_in symbol.now self.now.nodes parts.now) 0)))
-            (tree_at (trees_in symbol.now self.now.nodes) left) (tree_at (trees_in symbol.now self.now.nodes) right)) term.absent }
+            term.absent (tree_of (part (values_in symbol.now self.now.nodes parts.now) 1))) term.absent }
         ensures there { IsOutcomeThere symbol.now (length self.now.nodes.thunks) (length self.now.nodes.nodes) result }
         ensures nodes { nodes_of_outcome result ≡ 1 }
     {
@@ -307,8 +298,32 @@ impl Linked {
             node: Node::Operation {
                 first: first_letter(operator),
                 second: second_letter(operator),
-                left,
-                right,
+                left: ABSENT,
+                right: self.tree(symbol, parts, 1),
+            },
+        }
+    }
+
+    /// The second letter of a fold from the right, and the operation of its operator, which has only the left operand.
+    #[tactic(auto, unfolding(crate::specs::Parts::outcome_value, cpp_tree::specs::Nodes::tree_of, crate::specs::Making::nodes_of_outcome))]
+    pub(crate) fn right_fold(&self, symbol: &[u8], letter: u8, parts: &[Part]) -> Outcome
+        requires table { IsTable (over symbol.now self.now.nodes) }
+        requires there { AreThere symbol.now (length self.now.nodes.nodes) parts.now }
+        ensures is { outcome_value symbol.now self.now.nodes result
+            ≡ values.pair letter (term.operation (first_letter (piece_of (part (values_in symbol.now self.now.nodes parts.now) 0))) (second_letter (piece_of (part (values_in symbol.now self.now.nodes parts.now) 0)))
+            (tree_of (part (values_in symbol.now self.now.nodes parts.now) 1)) term.absent) term.absent }
+        ensures there { IsOutcomeThere symbol.now (length self.now.nodes.thunks) (length self.now.nodes.nodes) result }
+        ensures nodes { nodes_of_outcome result ≡ 1 }
+    {
+        let operator = self.piece(symbol, parts, 0);
+        Outcome::MadeOperand {
+            letter,
+            left: None,
+            node: Node::Operation {
+                first: first_letter(operator),
+                second: second_letter(operator),
+                left: self.tree(symbol, parts, 1),
+                right: ABSENT,
             },
         }
     }
