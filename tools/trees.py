@@ -641,7 +641,7 @@ def family_laws(found):
     return "\n".join(lines) + "\n"
 
 def family_answers(family, productions):
-    return "\n".join([f"-- {WRITTEN}", f"use Rattle.cpp_link.proofs.Families.{{{snake(family)}}}", f"use Rattle.cpp_link.proofs.linked.Linked.outcome_of_{snake(family)}.Goals as goal", "",
+    return "\n".join([f"-- {WRITTEN}", f"use Rattle.cpp_link.proofs.FamilyArms.{{{snake(family)}}}", f"use Rattle.cpp_link.proofs.linked.Linked.outcome_of_{snake(family)}.Goals as goal", "",
         "pub unreachable-requires : goal.unreachable-requires", f"unreachable-requires c = {snake(family)} c.args.production c.requires.family", *[f"    c.in_default.not-{p}" for p in productions]]) + "\n"
 
 # the ABI's reading refuses a constructor that is inherited
@@ -782,7 +782,7 @@ def rewritten(text, name, lines):
 def files(crates):
     """the files that have declarations which are written, by their paths in the folder of the crates, and their texts"""
     found = families(crates)
-    texts = {"cpp_link/specs/Families.antt": family_specs(found), "cpp_link/proofs/Families.antt": family_laws(found),
+    texts = {"cpp_link/specs/Families.antt": family_specs(found), "cpp_link/proofs/FamilyArms.antt": family_laws(found),
              **{f"cpp_link/proofs/linked/Linked/outcome_of_{snake(family)}/Answers.antt": family_answers(family, found[family]) for family in FAMILIES},
              "cpp_tree/proofs/nodes/Nodes/noted/Answers.antt": noted_answers(),
              "cpp_link/proofs/linked/Linked/finish_rule/Answers.antt": rare_answers("finish_rule", "finish_rare-requires-clause-rare", "", "c.production_of-production.result", "", UNREAD_IMPORTS, UNREAD_ANSWER),

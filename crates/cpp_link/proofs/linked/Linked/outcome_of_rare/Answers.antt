@@ -1,5 +1,5 @@
 use Rattle.std.proofs.Common.{sym, ◌∙◌}
-use Rattle.cpp_link.proofs.Families.{common}
+use Rattle.cpp_link.proofs.FamilyArms.{common}
 use Rattle.cpp_link.proofs.linked.Linked.outcome_of_rare.Goals as goal
 
 pub unreachable-requires : goal.unreachable-requires
