@@ -630,7 +630,7 @@ def family_laws(found):
         "use Rattle.cpp_link.specs.Families.{family_of}", "use Rattle.cpp_link.specs.Making.{IsRare}"]
     for family, productions in found.items():
         name, others = snake(family), [f"n{i}" for i in range(len(productions))]
-        lines += ["", f"Is{family} : Family → Type 0", f"Is{family} Family.{family} = Unit {{0}}", f"Is{family} _ = ⊥", ""]
+        lines += ["", f"abbrev Is{family} : Family → Type 0", f"Is{family} Family.{family} = Unit {{0}}", f"Is{family} _ = ⊥", ""]
         if family == "Common":
             lines += [f"pub {name} : (p : Production) → family_of p ≡ Family.{family} → IsRare p → ⊥", "unfolding family_of", *[f"{name} Production.{p} is rare = rare" for p in productions],
                 f"{name} _ is rare = subst Is{family} (sym is) tt"]

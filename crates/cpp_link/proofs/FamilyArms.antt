@@ -5,7 +5,7 @@ use Rattle.cpp_link.specs.declared.families.Family.{Family}
 use Rattle.cpp_link.specs.Families.{family_of}
 use Rattle.cpp_link.specs.Making.{IsRare}
 
-IsGivenName : Family → Type 0
+abbrev IsGivenName : Family → Type 0
 IsGivenName Family.GivenName = Unit {0}
 IsGivenName _ = ⊥
 
@@ -40,7 +40,7 @@ given_name Production.ComponentWithC is n0 n1 n2 n3 n4 n5 n6 n7 n8 n9 n10 n11 n1
 given_name Production.AnyConstructor is n0 n1 n2 n3 n4 n5 n6 n7 n8 n9 n10 n11 n12 = n12 refl
 given_name _ is n0 n1 n2 n3 n4 n5 n6 n7 n8 n9 n10 n11 n12 = subst IsGivenName (sym is) tt
 
-IsAppliedName : Family → Type 0
+abbrev IsAppliedName : Family → Type 0
 IsAppliedName Family.AppliedName = Unit {0}
 IsAppliedName _ = ⊥
 
@@ -73,7 +73,7 @@ applied_name Production.StdName is n0 n1 n2 n3 n4 n5 n6 n7 n8 n9 n10 n11 = n10 r
 applied_name Production.AbbreviatedName is n0 n1 n2 n3 n4 n5 n6 n7 n8 n9 n10 n11 = n11 refl
 applied_name _ is n0 n1 n2 n3 n4 n5 n6 n7 n8 n9 n10 n11 = subst IsAppliedName (sym is) tt
 
-IsPiece : Family → Type 0
+abbrev IsPiece : Family → Type 0
 IsPiece Family.Piece = Unit {0}
 IsPiece _ = ⊥
 
@@ -120,7 +120,7 @@ piece Production.Lambda is n0 n1 n2 n3 n4 n5 n6 n7 n8 n9 n10 n11 n12 n13 n14 n15
 piece Production.Unnamed is n0 n1 n2 n3 n4 n5 n6 n7 n8 n9 n10 n11 n12 n13 n14 n15 n16 n17 n18 = n18 refl
 piece _ is n0 n1 n2 n3 n4 n5 n6 n7 n8 n9 n10 n11 n12 n13 n14 n15 n16 n17 n18 = subst IsPiece (sym is) tt
 
-IsLocalName : Family → Type 0
+abbrev IsLocalName : Family → Type 0
 IsLocalName Family.LocalName = Unit {0}
 IsLocalName _ = ⊥
 
@@ -139,7 +139,7 @@ local_name Production.DefaultTypeEntity is n0 n1 n2 n3 n4 = n3 refl
 local_name Production.StringLiteral is n0 n1 n2 n3 n4 = n4 refl
 local_name _ is n0 n1 n2 n3 n4 = subst IsLocalName (sym is) tt
 
-IsInherited : Family → Type 0
+abbrev IsInherited : Family → Type 0
 IsInherited Family.Inherited = Unit {0}
 IsInherited _ = ⊥
 
@@ -164,7 +164,7 @@ inherited Production.BaseInStd is n0 n1 n2 n3 n4 n5 n6 n7 = n6 refl
 inherited Production.BaseArguments is n0 n1 n2 n3 n4 n5 n6 n7 = n7 refl
 inherited _ is n0 n1 n2 n3 n4 n5 n6 n7 = subst IsInherited (sym is) tt
 
-IsSpecial : Family → Type 0
+abbrev IsSpecial : Family → Type 0
 IsSpecial Family.Special = Unit {0}
 IsSpecial _ = ⊥
 
@@ -183,7 +183,7 @@ special Production.Clone is n0 n1 n2 n3 n4 = n3 refl
 special Production.ConstructionVtable is n0 n1 n2 n3 n4 = n4 refl
 special _ is n0 n1 n2 n3 n4 = subst IsSpecial (sym is) tt
 
-IsThunk : Family → Type 0
+abbrev IsThunk : Family → Type 0
 IsThunk Family.Thunk = Unit {0}
 IsThunk _ = ⊥
 
@@ -202,7 +202,7 @@ thunk Production.NonVirtualOffset is n0 n1 n2 n3 n4 = n3 refl
 thunk Production.VirtualOffset is n0 n1 n2 n3 n4 = n4 refl
 thunk _ is n0 n1 n2 n3 n4 = subst IsThunk (sym is) tt
 
-IsNumber : Family → Type 0
+abbrev IsNumber : Family → Type 0
 IsNumber Family.Number = Unit {0}
 IsNumber _ = ⊥
 
@@ -225,7 +225,7 @@ number Production.Suffix is n0 n1 n2 n3 n4 n5 n6 = n5 refl
 number Production.SuffixByte is n0 n1 n2 n3 n4 n5 n6 = n6 refl
 number _ is n0 n1 n2 n3 n4 n5 n6 = subst IsNumber (sym is) tt
 
-IsPlainType : Family → Type 0
+abbrev IsPlainType : Family → Type 0
 IsPlainType Family.PlainType = Unit {0}
 IsPlainType _ = ⊥
 
@@ -262,7 +262,7 @@ plain_type Production.DestroyedType is n0 n1 n2 n3 n4 n5 n6 n7 n8 n9 n10 n11 n12
 plain_type Production.ConvertedType is n0 n1 n2 n3 n4 n5 n6 n7 n8 n9 n10 n11 n12 n13 = n13 refl
 plain_type _ is n0 n1 n2 n3 n4 n5 n6 n7 n8 n9 n10 n11 n12 n13 = subst IsPlainType (sym is) tt
 
-IsCompoundType : Family → Type 0
+abbrev IsCompoundType : Family → Type 0
 IsCompoundType Family.CompoundType = Unit {0}
 IsCompoundType _ = ⊥
 
@@ -295,7 +295,7 @@ compound_type Production.ConvertedPointer is n0 n1 n2 n3 n4 n5 n6 n7 n8 n9 n10 n
 compound_type Production.ConvertedReference is n0 n1 n2 n3 n4 n5 n6 n7 n8 n9 n10 n11 = n11 refl
 compound_type _ is n0 n1 n2 n3 n4 n5 n6 n7 n8 n9 n10 n11 = subst IsCompoundType (sym is) tt
 
-IsFunctionType : Family → Type 0
+abbrev IsFunctionType : Family → Type 0
 IsFunctionType Family.FunctionType = Unit {0}
 IsFunctionType _ = ⊥
 
@@ -324,7 +324,7 @@ function_type Production.RestLvalue is n0 n1 n2 n3 n4 n5 n6 n7 n8 n9 = n8 refl
 function_type Production.RestRvalue is n0 n1 n2 n3 n4 n5 n6 n7 n8 n9 = n9 refl
 function_type _ is n0 n1 n2 n3 n4 n5 n6 n7 n8 n9 = subst IsFunctionType (sym is) tt
 
-IsArgument : Family → Type 0
+abbrev IsArgument : Family → Type 0
 IsArgument Family.Argument = Unit {0}
 IsArgument _ = ⊥
 
@@ -367,7 +367,7 @@ argument Production.PackOf is n0 n1 n2 n3 n4 n5 n6 n7 n8 n9 n10 n11 n12 n13 n14 
 argument Production.Declarations is n0 n1 n2 n3 n4 n5 n6 n7 n8 n9 n10 n11 n12 n13 n14 n15 n16 = n16 refl
 argument _ is n0 n1 n2 n3 n4 n5 n6 n7 n8 n9 n10 n11 n12 n13 n14 n15 n16 = subst IsArgument (sym is) tt
 
-IsOperation : Family → Type 0
+abbrev IsOperation : Family → Type 0
 IsOperation Family.Operation = Unit {0}
 IsOperation _ = ⊥
 
@@ -412,7 +412,7 @@ operation Production.Initializer is n0 n1 n2 n3 n4 n5 n6 n7 n8 n9 n10 n11 n12 n1
 operation Production.BracedInitializer is n0 n1 n2 n3 n4 n5 n6 n7 n8 n9 n10 n11 n12 n13 n14 n15 n16 n17 = n17 refl
 operation _ is n0 n1 n2 n3 n4 n5 n6 n7 n8 n9 n10 n11 n12 n13 n14 n15 n16 n17 = subst IsOperation (sym is) tt
 
-IsOperands : Family → Type 0
+abbrev IsOperands : Family → Type 0
 IsOperands Family.Operands = Unit {0}
 IsOperands _ = ⊥
 
@@ -481,7 +481,7 @@ operands Production.PackSize is n0 n1 n2 n3 n4 n5 n6 n7 n8 n9 n10 n11 n12 n13 n1
 operands Production.ExpandExpression is n0 n1 n2 n3 n4 n5 n6 n7 n8 n9 n10 n11 n12 n13 n14 n15 n16 n17 n18 n19 n20 n21 n22 n23 n24 n25 n26 n27 n28 n29 = n29 refl
 operands _ is n0 n1 n2 n3 n4 n5 n6 n7 n8 n9 n10 n11 n12 n13 n14 n15 n16 n17 n18 n19 n20 n21 n22 n23 n24 n25 n26 n27 n28 n29 = subst IsOperands (sym is) tt
 
-IsUnresolved : Family → Type 0
+abbrev IsUnresolved : Family → Type 0
 IsUnresolved Family.Unresolved = Unit {0}
 IsUnresolved _ = ⊥
 
@@ -514,7 +514,7 @@ unresolved Production.This is n0 n1 n2 n3 n4 n5 n6 n7 n8 n9 n10 n11 = n10 refl
 unresolved Production.ParameterNumber is n0 n1 n2 n3 n4 n5 n6 n7 n8 n9 n10 n11 = n11 refl
 unresolved _ is n0 n1 n2 n3 n4 n5 n6 n7 n8 n9 n10 n11 = subst IsUnresolved (sym is) tt
 
-IsLiteral : Family → Type 0
+abbrev IsLiteral : Family → Type 0
 IsLiteral Family.Literal = Unit {0}
 IsLiteral _ = ⊥
 
@@ -537,7 +537,7 @@ literal Production.NullLiteral is n0 n1 n2 n3 n4 n5 n6 = n5 refl
 literal Production.CharLiteral is n0 n1 n2 n3 n4 n5 n6 = n6 refl
 literal _ is n0 n1 n2 n3 n4 n5 n6 = subst IsLiteral (sym is) tt
 
-IsCommon : Family → Type 0
+abbrev IsCommon : Family → Type 0
 IsCommon Family.Common = Unit {0}
 IsCommon _ = ⊥
 

@@ -5,7 +5,8 @@ ghost use Rattle.cpp_link.specs.Families.{family_of};
 
 use cpp_grammar::production::Production;
 
-/// What a rare production stands for. Each family has a function of its own, `outcome_of_..`, which the family's name ends.
+/// What a rare production stands for. Each family has a function, `outcome_of_..` with the family's name. These functions stay calls,
+/// since the stack frame of each has room for the locals of all its arms.
 #[derive(Clone, Copy)]
 pub enum Family {
     /// A rare name that one of its parts is.

@@ -62,8 +62,7 @@ pub(crate) fn qualified(restrict: bool, volatile: bool, const_: bool, ty: u32) -
 }
 
 impl Linked {
-    /// What a rare production that begins at a place stands for, given its parts. The stack frame has room for the locals of
-    /// every arm.
+    /// What a rare production that begins at a place stands for, given its parts.
     #[inline(never)]
     pub fn outcome_of_rare(
         &self,

@@ -328,10 +328,10 @@ impl Linked {
         }
     }
 
-    /// What is done before the second part, of a production that puts no other scope around it and isn't local, either.
+    /// What is done before the second part, where nothing is done but that a name is made of the first part.
     #[tactic(auto, unfolding(cpp_term::specs::Between::between, cpp_term::specs::Between::in_name, cpp_term::specs::Between::in_types, cpp_term::specs::Between::in_signature, cpp_term::specs::Between::under_expansion, cpp_term::specs::Between::after, cpp_term::specs::Between::inside, cpp_term::specs::Between::applied, cpp_term::specs::Between::named_so_far, cpp_term::specs::Between::listed_so_far, cpp_term::specs::Values::tree_of, crate::specs::Parts::around_of, crate::specs::Parts::prefix_of, cpp_tree::specs::Nodes::tree_if_there, cpp_tree::specs::Nodes::tree_of, cpp_tree::specs::Nodes::piece_of, crate::specs::Reads::goes_on, crate::specs::Reads::behind_first, crate::specs::Reads::named_if, crate::specs::Reads::appended_if, crate::specs::Reads::with_candidate, crate::specs::Owed::made_before, crate::specs::NodeCount::makes_before, crate::specs::Owed::made_before, crate::specs::NodeCount::std_before, crate::specs::NodeCount::one_if_there, crate::specs::NodeCount::pack_before))]
     #[inline(always)]
-    fn step_second_elsewhere(
+    fn step_second_of_name(
         &self,
         symbol: &[u8],
         production: Production,
@@ -357,6 +357,16 @@ impl Linked {
         requires encoding { production ≡ productions.Encoding → ⊥ }
         requires local_name { production ≡ productions.LocalName → ⊥ }
         requires local_type { production ≡ productions.LocalType → ⊥ }
+        requires inheriting { production ≡ productions.Inheriting → ⊥ }
+        requires nested_base { production ≡ productions.NestedBase → ⊥ }
+        requires source_base { production ≡ productions.SourceBase → ⊥ }
+        requires base_in_std { production ≡ productions.BaseInStd → ⊥ }
+        requires nest_next { production ≡ productions.NestNext → ⊥ }
+        requires type_with_s { production ≡ productions.TypeWithS → ⊥ }
+        requires lvalue_item { production ≡ productions.LvalueItem → ⊥ }
+        requires rvalue_item { production ≡ productions.RvalueItem → ⊥ }
+        requires unresolved_in_type { production ≡ productions.UnresolvedInType → ⊥ }
+        requires integer_literal { production ≡ productions.IntegerLiteral → ⊥ }
         ensures is { (cs : List values.Candidate) → between production (around_of (trees_in symbol.now self.now.nodes) kept) place (value_in symbol.now self.now.nodes first ∷ []) (record { candidates = cs; packs = self.now.packs }) ≡ goes_on symbol.now self.now.nodes kept (value_in symbol.now self.now.nodes first ∷ []) cs self.now.packs result }
         ensures there { IsStepThere symbol.now (length self.now.nodes.thunks) (length self.now.nodes.nodes) result }
         ensures of { IsStepOf production 1 result }
@@ -402,22 +412,6 @@ impl Linked {
                     internal: false,
                     bytes: self.text_in(symbol, first),
                 },
-            )),
-            Production::Inheriting => self.go(self.inside(kept)),
-            Production::NestedBase => self.go(self.behind_name(
-                kept,
-                self.node(symbol, first),
-                false,
-            )),
-            Production::SourceBase => self.go(self.behind_name(
-                kept,
-                self.node(symbol, first),
-                false,
-            )),
-            Production::BaseInStd => self.go(self.behind_name(
-                kept,
-                self.node(symbol, first),
-                false,
             )),
             Production::LocalTypeName => self.named(self.extended(
                 symbol,
@@ -484,30 +478,6 @@ impl Linked {
                 kept,
                 self.text_in(symbol, first),
             )),
-            Production::NestNext => self.go(self.behind_name(
-                kept,
-                self.node(symbol, first),
-                false,
-            )),
-            Production::TypeWithS => self.go(self.behind_name(
-                kept,
-                self.node(symbol, first),
-                is_listed(first),
-            )),
-            Production::LvalueItem => Step::Made {
-                node: Node::Lvalue(self.node(symbol, first)),
-                listed: true,
-                is_name: false,
-                is_candidate: true,
-                packs: self.packs,
-            },
-            Production::RvalueItem => Step::Made {
-                node: Node::Rvalue(self.node(symbol, first)),
-                listed: true,
-                is_name: false,
-                is_candidate: true,
-                packs: self.packs,
-            },
             Production::SimpleId => self.listed_name(self.extended(
                 symbol,
                 kept.prefix(),
@@ -521,16 +491,6 @@ impl Linked {
                 kept.prefix(),
                 self.piece_in(symbol, first),
             )),
-            Production::UnresolvedInType => Step::Go {
-                candidate: self.type_candidate(symbol, kept, first),
-                then: kept,
-                packs: self.packs,
-            },
-            Production::IntegerLiteral => Step::Go {
-                candidate: self.type_candidate(symbol, kept, first),
-                then: kept,
-                packs: self.packs,
-            },
             _ => self.go(kept),
         }
     }
@@ -585,7 +545,57 @@ impl Linked {
                 self.node(symbol, first),
                 true,
             )),
-            _ => self.step_second_elsewhere(symbol, production, place, kept, first),
+            Production::Inheriting => self.go(self.inside(kept)),
+            Production::NestedBase => self.go(self.behind_name(
+                kept,
+                self.node(symbol, first),
+                false,
+            )),
+            Production::SourceBase => self.go(self.behind_name(
+                kept,
+                self.node(symbol, first),
+                false,
+            )),
+            Production::BaseInStd => self.go(self.behind_name(
+                kept,
+                self.node(symbol, first),
+                false,
+            )),
+            Production::NestNext => self.go(self.behind_name(
+                kept,
+                self.node(symbol, first),
+                false,
+            )),
+            Production::TypeWithS => self.go(self.behind_name(
+                kept,
+                self.node(symbol, first),
+                is_listed(first),
+            )),
+            Production::LvalueItem => Step::Made {
+                node: Node::Lvalue(self.node(symbol, first)),
+                listed: true,
+                is_name: false,
+                is_candidate: true,
+                packs: self.packs,
+            },
+            Production::RvalueItem => Step::Made {
+                node: Node::Rvalue(self.node(symbol, first)),
+                listed: true,
+                is_name: false,
+                is_candidate: true,
+                packs: self.packs,
+            },
+            Production::UnresolvedInType => Step::Go {
+                candidate: self.type_candidate(symbol, kept, first),
+                then: kept,
+                packs: self.packs,
+            },
+            Production::IntegerLiteral => Step::Go {
+                candidate: self.type_candidate(symbol, kept, first),
+                then: kept,
+                packs: self.packs,
+            },
+            _ => self.step_second_of_name(symbol, production, place, kept, first),
         }
     }
 
