@@ -5,6 +5,7 @@ of the crates)."""
 import os, re, sys
 sys.path.insert(0, os.path.dirname(os.path.abspath(__file__)))
 import grammar
+import spellings
 import vocabulary as words
 from meanings import makers
 from vocabulary import OWN, OUTSIDE, INSIDE, SIGNATURE, TREE, PIECE, BYTES, NUMBER, TRUTH, QUALIFIERS, MARK, SIGNED, THUNK, DISCRIMINATOR
@@ -738,6 +739,14 @@ def rewritten(text, name, lines):
     else: text_above = text[:start] + f"{indent}-- {WRITTEN}\n"
     return text_above + text[start:first.start()] + "\n".join(indent + l for line in lines for l in line.split("\n")) + text[end:]
 
+def extended(text, name, lines):
+    """the text, with these lines as those clauses of a name that come after the line that says who writes them, up to a comment or its end"""
+    signature = re.search(rf"^(?:(?:unfoldable|abbrev|pub) )*{re.escape(name)} : ", text, re.M)
+    start = re.compile(rf"^-- {re.escape(WRITTEN)}.*(?:\n--.*)*", re.M).search(text, signature.end()).end()
+    assert "\n\n" not in text[signature.end():start], f"{name} has no clauses that are written"
+    end = re.compile(r"\n(?:\n|--)|\s*\Z").search(text, start).start()
+    return text[:start] + "".join("\n" + line for line in lines) + text[end:]
+
 def files(crates):
     """the files that have declarations which are written, by their paths in the folder of the crates, and their texts"""
     texts = {"cpp_tree/proofs/nodes/Nodes/noted/Answers.antt": noted_answers(),
@@ -747,14 +756,13 @@ def files(crates):
         if path not in texts:
             with open(f"{crates}/{path}", encoding="utf-8") as f: texts[path] = f.read()
         texts[path] = rewritten(texts[path], name, lines)
-    for path, template in wrapper_templates():
+    edits = [(path, with_wrappers, [template]) for path, template in wrapper_templates()]
+    edits += [(path, extended, [name, lines]) for path, name, lines in spellings.declarations(named(PRESSED))]
+    edits += [(path, with_arms, [function, lines]) for path, function, lines in common_arms()]
+    for path, edit, arguments_ in edits:
         if path not in texts:
             with open(f"{crates}/{path}", encoding="utf-8") as f: texts[path] = f.read()
-        texts[path] = with_wrappers(texts[path], template)
-    for path, function, lines in common_arms():
-        if path not in texts:
-            with open(f"{crates}/{path}", encoding="utf-8") as f: texts[path] = f.read()
-        texts[path] = with_arms(texts[path], function, lines)
+        texts[path] = edit(texts[path], *arguments_)
     return texts
 
 def main():

@@ -1,0 +1,159 @@
+"""The clauses of each tree whose spelling is a row of vocabulary.py (SPELLED): its definition, and the laws that are shown spelling by spelling.
+Each is at the end of a declaration of cpp_press_laws or cpp_spelling whose first clauses are by hand: trees.py writes them there."""
+import re
+from vocabulary import SPELLED
+
+def rows(trees):
+    """each tree with a row: its pattern, the sort of its spelling, its parts, and whether it fits nowhere"""
+    from trees import pattern
+    for tree in trees:
+        if tree[0] in SPELLED:
+            head, *parts = SPELLED[tree[0]].split(" | ")
+            yield tree, pattern(tree), head.split()[-1], [Part(part) for part in parts], head.startswith("nowhere")
+
+class Part:
+    def __init__(self, text):
+        tree = re.fullmatch(r"(\w+)\.(as_\w+|under_qualifiers)", text)
+        self.text, self.tree, self.way = text, tree and tree.group(1), tree and tree.group(2)
+    def spelled(self, n, says=False):
+        if self.tree: return f"(ways_of {n} {self.tree}).{self.way}"
+        return f"says {self.text[6:]}" if says and re.fullmatch(r'codes "\w+"', self.text) else f"text {braced(self.text)}"
+    def size(self):
+        """a number, and what is added to it"""
+        if self.tree:
+            own = f"(size {self.tree})"
+            return 0, [{"as_type": f"part_of {self.tree} {own}", "as_prefix": f"part_of {self.tree} {own}", "under_qualifiers": f"bare_of {self.tree} {own}",
+                        "as_parameters": f"with_void {self.tree} {own}"}.get(self.way, own[1:-1])]
+        sum_, others = 0, []
+        for term in self.text.split(" ++ "):
+            listed = re.fullmatch(r'codes "(\w+)"|(?:(?:\w+ ∷ )+\[\])|cond \w+ \(codes "(\w+)"\) (?:\[\]|\(.*\))', term)
+            if listed: sum_ += len(listed.group(1) or listed.group(2) or "") or term.count("∷")
+            else: others.append(f"length {braced(term)}")
+        return sum_, others
+    def facts(self):
+        """what arithmetic needs to know of the length of these bytes"""
+        if self.tree: return [f"front-part {self.tree} (size {self.tree})"] if self.way == "as_prefix" else []
+        if self.text.startswith("cond internal"): return ["internal-short internal name"]
+        if self.text.startswith("cond truth"): return ["truth-short truth"]
+        terms = self.text.split(" ++ ")
+        return [f"length-append {braced(term)} {braced(' ++ '.join(terms[i + 1:]))}" for i, term in enumerate(terms[:-1]) if not term.startswith("codes")]
+
+def braced(text): return f"({text})" if " " in text else text
+def spelled(parts, n, says=False): return " and ".join(part.spelled(n, says) for part in parts)
+def total(parts):
+    sizes = [part.size() for part in parts]
+    sum_, others = sum(size[0] for size in sizes), [term for size in sizes for term in size[1]]
+    return " + ".join(([str(sum_)] if sum_ or not others else []) + others)
+def arithmetic(*parts):
+    facts = [fact for part in parts for fact in part.facts()]
+    return f"(omega ({', '.join(['arith', *facts])}))" if facts else "(omega arith)"
+def side(parts, i, of):
+    """the fact of one of the subtrees, from that of either"""
+    trees = [part for part in parts if part.tree]
+    return f"(λ x w. {of} x ({'inl' if parts[i] is trees[0] else 'inr'} w))" if len(trees) > 1 else of
+
+def definitions(trees):
+    for tree, shape, sort, parts, nowhere in rows(trees):
+        text = spelled(parts, "here" if sort == "encoding" else "n", True)
+        own = {"component": f"type_ways (component n {shape} ({text}))", "encoding": f"encoding_ways (λ here. {text})", "prefix": f"record no_ways {{ as_prefix = {text} }}",
+               "none": "no_ways"}.get(sort, f"{sort}_ways ({text})")
+        yield f"ways_of n {shape} = {own}"
+
+def sizes(trees):
+    for tree, shape, sort, parts, nowhere in rows(trees):
+        # a builtin type has one byte at least
+        if sort != "none": yield f"size {shape} = {'1 + ' if tree[0] == 'builtin' else ''}{total(parts)}"
+    yield "size _ = 1"
+
+def keeping(trees):
+    """components stay, and those of a subtree that is closed are kept apart from others"""
+    def law(parts, i, n, known, of):
+        part, rest = parts[i], spelled(parts[i + 1:], n)
+        known_of = f"{known} {braced(spelled([part], n))}" if part.tree else f"{known} {braced(part.text)}"
+        if i + 1 == len(parts): return f"keeps {part.tree} {known} way.{part.way} {side(parts, i, of)}" if part.tree else f"text-keeps {known_of}"
+        after = f"({law(parts, i + 1, n, known, of)})"
+        if part.way == "as_encoding": return f"behind-and-keeps {known_of} ({rest}) (keeps {part.tree} {known} way.{part.way} {of}) {after}"
+        if part.tree: return f"and-keeps {known_of} ({rest}) (keeps {part.tree} {known} way.{part.way} {side(parts, i, of)}) {after}"
+        if parts[i + 1].way != "as_encoding": return f"behind-text-keeps {known_of} ({rest}) {after}"
+        return f"behind-bytes-keeps {known_of} ({rest}) {'(thunk-some kind)' if tree[0] == 'thunk' else '(omega arith)'} {after}"
+    for tree, shape, sort, parts, nowhere in rows(trees):
+        own, subtrees = f"open_ n R {shape}", [part for part in parts if part.tree]
+        if sort == "none": yield f"keeps {shape} open_ n R = no-ways-keep {own}"
+        elif sort == "encoding":
+            raw = [f"{'Whole' if part.way == 'as_type' else 'Inside'} {part.tree}" for part in subtrees]
+            if subtrees[0].way == "as_encoding": raw = f"(λ x. Shut ({raw[0]} x) x) (λ x s. s.1)"
+            else: raw = (f"({raw[0]})" if len(raw) == 1 else f"(λ x. {' ⊎ '.join(fact + ' x' for fact in raw)})") + " (λ x s. s)"
+            yield f"keeps {shape} open_ n R = encoding-ways-keep {own} _ {raw} (λ here h. {law(parts, 0, 'here', '⊥ here (OrOpen R)', 'h')})"
+        else:
+            lemma = {"component": "typed-keep"}.get(sort, f"{sort}-ways-keep")
+            unqualified = " (λ x w. w) (λ x w. w)" if sort in ("component", "type") else ""
+            of = "(λ x w. h x (inr w))" if sort == "prefix" else "h"
+            yield f"keeps {shape} open_ n R = {lemma} {own} _{unqualified} (λ h. {law(parts, 0, 'n', 'open_ n R', of)})"
+
+def growing(trees):
+    def law(parts, i, n):
+        part = parts[i]
+        if not part.tree: return f"text-grows {braced(part.text)}" if i + 1 == len(parts) else f"front {braced(part.text)} ({law(parts, i + 1, n)})"
+        fact = f"more-grows (ways-grow whole {part.tree} {side(parts, i, 'in_whole')} {n} way.{part.way}) (omega arith)"
+        if i + 1 == len(parts): return fact
+        return f"back ({fact}) {braced(parts[i + 1].text)}" if i + 2 == len(parts) and not parts[i + 1].tree else f"and-grows ({fact}) ({law(parts, i + 1, n)})"
+    for tree, shape, sort, parts, nowhere in rows(trees):
+        if sort == "none": law_ = f"no-ways-grow whole {shape}"
+        elif sort == "encoding": law_ = f"encoding-ways-grow whole {shape} (λ here. {law(parts, 0, 'here')})"
+        elif sort == "component": law_ = f"typed whole n {shape} ({law(parts, 0, 'n')})"
+        else: law_ = f"{sort}-ways-grow whole {shape} ({law(parts, 0, 'n')})"
+        yield f"ways-grow whole {shape} in_whole n = {law_}"
+
+def short(trees):
+    def law(parts, i, n, bound):
+        part, rest = parts[i], parts[i + 1:]
+        own, more = part.spelled(n), braced(spelled(rest, n))
+        fact = f"all-short {part.tree} {n} way.{part.way}" if part.tree else ""
+        if part.tree and part.way == "as_prefix": size = f"(front_of {part.tree} (size {part.tree}))"
+        else: size = braced(total([part]))
+        if not rest: return fact or f"bytes-short {bound} {braced(part.text)} {arithmetic(part)}"
+        if part.tree and len(rest) == 1 and not rest[0].tree: return f"before-text {size} {bound} {own} {braced(rest[0].text)} {arithmetic(part, *rest)} ({fact})"
+        after = law(parts, i + 1, n, braced(total(rest)))
+        if part.tree: return f"and-within {size} {braced(total(rest))} {bound} {own} {more} (omega arith) ({fact}) ({after})"
+        return f"behind-text {braced(total(rest))} {bound} {braced(part.text)} {more} {arithmetic(part)} ({after})"
+    for tree, shape, sort, parts, nowhere in rows(trees):
+        if sort == "none": law_ = f"none-all {shape}"
+        elif sort == "encoding": law_ = f"encoding-all {shape} _ (λ here. {law(parts, 0, 'here', f'(size {shape})')})"
+        elif sort == "component": law_ = f"typed-all n {shape} _ refl refl refl ({law(parts, 0, 'n', f'(size {shape})')})"
+        elif sort == "type":
+            bound = braced(total(parts))
+            law_ = f"spelled-all {shape} {braced(spelled(parts, 'n'))} {bound} ({law(parts, 0, 'n', bound)}) (omega arith) (omega arith) (omega arith)"
+        else: law_ = f"{sort}-all {shape} _ ({law(parts, 0, 'n', f'(size {shape})')})"
+        yield f"all-short {shape} n = {law_}"
+
+def fitting(trees): return [f"fits_of {shape} = fits_nowhere" for tree, shape, sort, parts, nowhere in rows(trees) if nowhere]
+
+def adding(trees):
+    for tree, shape, sort, parts, nowhere in rows(trees):
+        if nowhere: yield f"adds {shape} = nowhere-ways-add {shape} _"
+        elif sort == "piece" and len(parts) == 1: yield f"adds {shape} = leaf-piece-add {shape} _ _ (λ x i. i)"
+
+def writing(trees):
+    """an argument has a byte at least"""
+    for tree, shape, sort, parts, nowhere in rows(trees):
+        clause = f"argument-writes {shape} in_pack around allowed place cs h ="
+        if nowhere or not parts or not parts[0].text.startswith("codes"): continue
+        if sort == "component": yield f"{clause} component-writes around.encoding {shape} _ place cs (λ none. omega arith)"
+        elif sort in ("type", "argument"): yield f"{clause} omega arith"
+    yield "argument-writes _ in_pack around allowed place cs h = absurd h"
+
+def typed_arguments(trees):
+    return [f"type-argument {shape} around in_pack old new one = one" for tree, shape, sort, parts, nowhere in rows(trees) if sort in ("component", "type") and not nowhere]
+
+def declarations(trees):
+    """path, name, and the lines at its end"""
+    laws = "cpp_press_laws"
+    yield f"{laws}/specs/Pressing.antt", "ways_of", definitions(trees)
+    yield f"{laws}/specs/Fits.antt", "fits_of", fitting(trees)
+    yield f"{laws}/proofs/Short/Size.antt", "size", sizes(trees)
+    yield f"{laws}/proofs/Short/Spelled.antt", "all-short", short(trees)
+    yield f"{laws}/proofs/Components/KnownTrees.antt", "keeps", keeping(trees)
+    yield f"{laws}/proofs/Components/Apart.antt", "ways-grow", growing(trees)
+    yield f"{laws}/proofs/Components/AddedTrees.antt", "adds", adding(trees)
+    yield f"{laws}/proofs/Components/Counting.antt", "argument-writes", writing(trees)
+    yield f"{laws}/proofs/Fits/Arguments.antt", "type-argument", typed_arguments(trees)
