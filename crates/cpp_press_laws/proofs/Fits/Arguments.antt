@@ -62,8 +62,14 @@ type-argument (qualified q type) around in_pack old new one = one
 type-argument (vector digits type) around in_pack old new one = one
 type-argument (complex type) around in_pack old new one = one
 type-argument (expansion pattern) around in_pack old new one = one
-
 -- what fits nowhere
+type-argument (symbol e suffix) around in_pack old new one =
+    never-fitted around ((fits_of (symbol e suffix)).as_type item_type) ((fits_of (symbol e suffix)).as_argument in_pack)
+    (λ n. (ways_of n (symbol e suffix)).as_type)
+    (λ n. (ways_of n (symbol e suffix)).as_argument) (symbol e suffix) old new (λ n allowed place cs fits. fits) one
+type-argument t around in_pack old new one =
+    never-fitted around ((fits_of t).as_type item_type) ((fits_of t).as_argument in_pack) (λ n. (ways_of n t).as_type)
+    (λ n. (ways_of n t).as_argument) t old new (λ n allowed place cs fits. fits) one
 
 -- ## Lists
 
