@@ -1,7 +1,7 @@
 """The clauses of each tree whose spelling is a row of vocabulary.py (SPELLED): its definition, and the laws that are shown spelling by spelling.
 Each is at the end of a declaration of cpp_press_laws or cpp_spelling whose first clauses are by hand: trees.py writes them there."""
 import re
-from vocabulary import SPELLED
+from vocabulary import FITTING, SPELLED
 
 def rows(trees):
     """each tree with a row: its pattern, the sort of its spelling, its parts, and whether it fits nowhere"""
@@ -126,11 +126,26 @@ def short(trees):
         else: law_ = f"{sort}-all {shape} _ ({law(parts, 0, 'n', f'(size {shape})')})"
         yield f"all-short {shape} n = {law_}"
 
-def fitting(trees): return [f"fits_of {shape} = fits_nowhere" for tree, shape, sort, parts, nowhere in rows(trees) if nowhere]
+def needed(tree):
+    """what a tree needs so that it fits, and the slot that the type in it is in"""
+    return list(filter(None, FITTING[tree[0]].split(" | "))), "bare_type" if tree[0] == "qualified" else "any_type"
+
+def fitting(trees):
+    for tree, shape, sort, parts, nowhere in rows(trees):
+        if nowhere: yield f"fits_of {shape} = fits_nowhere"
+        elif tree[0] in FITTING:
+            tests, slot = needed(tree)
+            inner = f"behind_bytes {braced(parts[0].text)} ((fits_of {parts[1].tree}).as_type {slot}) around allowed place cs"
+            yield f"fits_of {shape} = type_fits {shape} (λ slot around allowed place cs. {' × '.join([*(f'({t})' if '≡' in t else t for t in tests), inner])})"
 
 def adding(trees):
     for tree, shape, sort, parts, nowhere in rows(trees):
         if nowhere: yield f"adds {shape} = nowhere-ways-add {shape} _"
+        elif tree[0] in FITTING:
+            tests, slot = needed(tree)
+            fits = f"fits.{len(tests)}" if tests else "fits"
+            inner = f"(adds {parts[1].tree}).at fit.as_type {slot} around allowed (place + length {braced(parts[0].text)}) cs {fits} complete"
+            yield f"adds {shape} = type-ways-add {shape} _ _ (λ x w. w) (λ slot around allowed place cs fits complete. {inner})"
         elif sort == "piece" and len(parts) == 1: yield f"adds {shape} = leaf-piece-add {shape} _ _ (λ x i. i)"
 
 def writing(trees):
@@ -145,8 +160,58 @@ def writing(trees):
 def typed_arguments(trees):
     return [f"type-argument {shape} around in_pack old new one = one" for tree, shape, sort, parts, nowhere in rows(trees) if sort in ("component", "type") and not nowhere]
 
+# ## Spelled onto what follows
+
+WAYS = {"as_type": "Type", "under_qualifiers": "UnderQualifiers", "as_prefix": "Prefix", "as_encoding": "Encoding", "as_parameters": "Parameters", "as_elements": "Elements"}
+
+def onto(trees, function, wanted, others):
+    """a tree before what follows it, part by part"""
+    def part(p):
+        if p.tree: return f"in_way n Way.{WAYS[p.way]} {p.tree}"
+        return f"fixed {p.text[6:]}" if re.fullmatch(r'codes "\w+"', p.text) else f"written {braced(p.text)}"
+    for tree, shape, sort, parts, nowhere in rows(trees):
+        if wanted(sort, parts): yield f"{function} n {shape} rest = {' onto '.join(map(part, parts))} onto rest"
+    if others: yield f"{function} n {others}"
+
+def rejoined(trees, clause, wanted, rest, others, here="n"):
+    """a tree's parts, one after the other, are what the tree is with what follows"""
+    for tree, shape, sort, parts, nowhere in rows(trees):
+        if not wanted(sort, parts): continue
+        joined = " ".join([["refl", "two", "three", "four"][len(parts) - 1], *(p.spelled(here) if p.tree else f"({p.spelled(here)})" for p in parts if len(parts) > 1), *([rest] if len(parts) > 1 else [])])
+        if here == "here" and len(parts) > 1: joined = f"ap {{A = Spelling}} (λ (f : Spelling). f here cs) ({joined})"
+        yield f"{clause.format(shape)} = {joined}"
+    if others: yield f"{clause.format('_')} = {others}"
+
+def contents(trees):
+    for tree, shape, sort, parts, nowhere in rows(trees):
+        if sort == "component": yield f"content n {shape} = {spelled(parts, 'n')}"
+    yield "content n _ = nothing"
+
+def of_sort(*sorts): return lambda sort, parts: sort in sorts
+def compound(sort, parts): return sort == "component" and any(p.tree for p in parts)
+def plain(sort, parts): return sort == "type" or sort == "component" and not compound(sort, parts)
+def several(*sorts): return lambda sort, parts: sort in sorts and len(parts) > 1
+
+def declarations_onto(trees):
+    specs, proofs = "cpp_spelling/specs/Spelled.antt", "cpp_spelling/proofs/Ways.antt"
+    yield specs, "piece_onto", onto(trees, "piece_onto", of_sort("piece"), "_ rest = rest")
+    yield specs, "prefix_onto", onto(trees, "prefix_onto", of_sort("prefix"), "t rest = between_onto n t rest")
+    yield specs, "compound_onto", onto(trees, "compound_onto", compound, "_ rest = rest")
+    yield specs, "type_onto", onto(trees, "type_onto", plain, "t rest = class_onto n t rest")
+    yield specs, "argument_onto", onto(trees, "argument_onto", of_sort("argument"), "t rest = type_onto n t rest")
+    yield specs, "encoding_onto", onto(trees, "encoding_onto", of_sort("encoding"), "_ rest = rest")
+    unlike = "first_of (cc, search (nothing-and r))"
+    yield proofs, "piece-is", rejoined(trees, "piece-is n {0} r", of_sort("piece"), "r", "nothing-and r")
+    yield proofs, "content", contents(trees)
+    yield proofs, "content-is", rejoined(trees, "content-is n {0} e is", of_sort("component"), "e", "absurd (true-false (sym is))")
+    yield proofs, "encoding-is", rejoined(trees, "encoding-is n here {0} r cs", of_sort("encoding"), "r", "ap {A = Spelling} (λ (f : Spelling). f here cs) (nothing-and r)", "here")
+    yield proofs, "argument-rest", rejoined(trees, "argument-rest n {0} r is", several("argument", "type"), "r", unlike)
+    for law in ("type-rest", "qualified-rest"): yield proofs, law, rejoined(trees, law + " n {0} r is", several("type"), "r", unlike)
+    yield proofs, "prefix-rest", rejoined(trees, "prefix-rest n {0} r is", several("type", "prefix"), "r", unlike)
+
 def declarations(trees):
     """path, name, and the lines at its end"""
+    yield from declarations_onto(trees)
     laws = "cpp_press_laws"
     yield f"{laws}/specs/Pressing.antt", "ways_of", definitions(trees)
     yield f"{laws}/specs/Fits.antt", "fits_of", fitting(trees)

@@ -412,6 +412,15 @@ def is_below():
         return facts[0] if len(facts) == 1 else " × ".join(f"({f})" if " < " in f else f for f in facts)
     return node_cases("IsBelow", ["s", "held", "n"], [], right, "Unit {0}", {("FunctionType", "n"): "e", ("Integer", "n"): "v"})
 
+def below_later():
+    """a node's bounds, at a later place"""
+    later = {PIECE: "piece-later s m n {0} {1} most", UNDER: "there-later m n (under_kept {0}) {1} most", TREE: "omega (arith, {1}, most)", OWN: "omega (arith, {1}, most)"}
+    def right(node, tree, args):
+        facts = [later.get(sort, "{1}").format(name, bound) for name, sort, bound in placed(args, tuple(BELOW))]
+        return None if not facts else facts[0] if len(facts) == 1 else f"({', '.join(facts)})"
+    renamed = {(node, name): {"m": "k", "n": "e", "b": "v"}[name] for node, tree, args in nodes() for name, sort in args if name in ("m", "n", "b")}
+    return node_cases("below-later", ["s", "held", "m", "n"], ["b", "most"], right, "tt", renamed)
+
 def placed(args, over):
     """the arguments of these sorts, each with the fact of its bound: a part of b where there are several bounds"""
     all_ = bounds(args)
@@ -632,13 +641,15 @@ def common_arms():
     """path, function, and the arms of its match that are written"""
     yield "cpp_link/src/finish.rt", "finish_rule", list(arms("finish_as", words.COMMON))
     yield "cpp_link/src/between.rt", "before_by_step", list(arms("before_as", words.COMMON_BEFORE))
+    compared = [(node, args) for node, tree, args in nodes() if tree in words.COMPONENTS]
+    yield "cpp_spelling/src/types.rt", "is_component", [f"        Node::{node}{'(_)' if len(args) == 1 else ' { .. }'} => true," for node, args in compared]
     yield "cpp_link/src/meaning.rt", "outcome_of_rare", [f"            Production::{p} => unreachable!()," for p in words.COMMON]
 
 def with_arms(text, function, lines):
     """the text, with these lines as the arms after the line that says so, up to the other ones or the end of the match"""
     start = text.index(f"// {WRITTEN}", re.search(rf"\bfn {function}\(", text).end())
     start = text.index("\n", start) + 1
-    end = re.compile(r"^(?:            _ =>|        \})", re.M).search(text, start).start()
+    end = re.compile(r"^(?: +_ =>|        \})", re.M).search(text, start).start()
     return text[:start] + "\n".join(lines) + "\n" + text[end:]
 
 # ## Declarations
@@ -658,6 +669,10 @@ def declarations():
     yield "cpp_press_laws/proofs/Components/Complete.antt", "inside-shut", inside_shut()
     yield "cpp_press_laws/proofs/Components/Growing.antt", "size", fold("size", [], lambda parts: f"suc ({' + '.join(parts)})", "1", trees=named(PRESSED))
     yield "cpp_press_laws/specs/Apart.antt", "IsNeverReferred", never_referred()
+    yield "cpp_press_laws/specs/Pressing.antt", "is_component", cases("is_component", [], [], lambda t: "true" if t[0] in words.COMPONENTS else None, "false", named(PRESSED))
+    yield "cpp_press_laws/specs/Pressing.antt", "is_encoding", cases("is_encoding", [], [], lambda t: "true" if t[0] in words.ENCODINGS else None, "false", named(PRESSED))
+    yield "cpp_press_laws/proofs/Components/Parts.antt", "PrefixOr", cases("PrefixOr", [], ["inside", "x"], lambda t: "⊥" if t[0] in words.ENCODINGS else None, None, named(PRESSED)) + ["PrefixOr t inside x = ItselfOr t inside x"]
+    yield "cpp_spelling/proofs/Made.antt", "below-later", below_later()
     yield "cpp_spelling/specs/Weight.antt", "weight", fold("weight", [], summed("12"), "12", trees=named(PRESSED))
     nowhere = {"symbol": None, "construction": None, "clone": None, "holder": None, "sized_float": None, "constrained": None, "generic_lambda": None, "bounded": None, "of_default": None, "conversion": None, "inheriting": None, "decltype": None, "operation": None, "function_parameter": None, "absent": None, ("order", "function"): ["name", "returned", "parameters", "q", "ref"]}
     yield "cpp_press_laws/proofs/Components/FewComponents.antt", "counts", by_each("counts", "few", [], nowhere, {"local": "local-name", "address_of": "address"})

@@ -366,6 +366,19 @@ SPELLED = {
     "absent": "nowhere none",
 }
 
+# what a type before whose type are bytes needs so that it fits, beside that type
+FITTING = {
+    "pointer": "",
+    "lvalue": "takes_all slot ≡ true",
+    "rvalue": "takes_all slot ≡ true",
+    "array": "takes_all slot ≡ true | AreSpellableDigits Decimal digits",
+    "qualified": "takes_qualified slot ≡ true | has_letters q ≡ true",
+    "vector": "takes_all slot ≡ true | AreSpellableDigits Digits digits",
+    "complex": "takes_all slot ≡ true",
+}
+# the trees that are encodings
+ENCODINGS = "function object special thunk of_name construction clone".split()
+
 # ## Rust v0 (RFC 2603)
 
 # <basic-type>: letter, text, and which constants of the type there are

@@ -408,18 +408,6 @@ fits_of (builtin code) = record fits_nowhere {
 }
 -- types
 fits_of (vendor name) = type_fits (vendor name) (λ slot around allowed place cs. (takes_all slot ≡ true) × IsSpellableName name)
-fits_of (pointer type) = type_fits (pointer type) (λ slot. behind_bytes (codes "P") ((fits_of type).as_type any_type))
-fits_of (lvalue type) =
-    type_fits (lvalue type) (λ slot around allowed place cs. (takes_all slot ≡ true)
-    × (fits_of type).as_type any_type around allowed (place + 1) cs)
-fits_of (rvalue type) =
-    type_fits (rvalue type) (λ slot around allowed place cs. (takes_all slot ≡ true)
-    × (fits_of type).as_type any_type around allowed (place + 1) cs)
-fits_of (array digits type) =
-    type_fits (array digits type) (λ slot around allowed place cs.
-    (takes_all slot ≡ true)
-    × AreSpellableDigits Decimal digits
-    × behind_bytes (codes "A" ++ digits ++ codes "_") ((fits_of type).as_type any_type) around allowed place cs)
 fits_of (member_pointer class member) =
     type_fits (member_pointer class member) (λ slot around allowed place cs.
     (fits_of class).as_type any_type around allowed (place + 1) cs
@@ -442,19 +430,6 @@ fits_of (function_type c_linkage noexcept ref returned parameters) =
         | literal_type ↦ as_reference own
       ];
     }
-fits_of (qualified q type) =
-    type_fits (qualified q type) (λ slot around allowed place cs.
-    (takes_qualified slot ≡ true)
-    × (has_letters q ≡ true)
-    × behind_bytes (qualifier_letters q) ((fits_of type).as_type bare_type) around allowed place cs)
-fits_of (vector digits type) =
-    type_fits (vector digits type) (λ slot around allowed place cs.
-    (takes_all slot ≡ true)
-    × AreSpellableDigits Digits digits
-    × behind_bytes (codes "Dv" ++ digits ++ codes "_") ((fits_of type).as_type any_type) around allowed place cs)
-fits_of (complex type) =
-    type_fits (complex type) (λ slot around allowed place cs. (takes_all slot ≡ true)
-    × (fits_of type).as_type any_type around allowed (place + 1) cs)
 -- packs under an expansion have a length of their own
 fits_of (expansion pattern) =
     type_fits (expansion pattern) (λ slot around allowed place cs.
@@ -499,7 +474,14 @@ fits_of (generic_lambda parameters number) = fits_nowhere
 fits_of (conversion type) = fits_nowhere
 fits_of (sized_float digits end) = fits_nowhere
 fits_of (constrained letter concept) = fits_nowhere
+fits_of (pointer type) = type_fits (pointer type) (λ slot around allowed place cs. behind_bytes (codes "P") ((fits_of type).as_type any_type) around allowed place cs)
+fits_of (lvalue type) = type_fits (lvalue type) (λ slot around allowed place cs. (takes_all slot ≡ true) × behind_bytes (codes "R") ((fits_of type).as_type any_type) around allowed place cs)
+fits_of (rvalue type) = type_fits (rvalue type) (λ slot around allowed place cs. (takes_all slot ≡ true) × behind_bytes (codes "O") ((fits_of type).as_type any_type) around allowed place cs)
+fits_of (array digits type) = type_fits (array digits type) (λ slot around allowed place cs. (takes_all slot ≡ true) × AreSpellableDigits Decimal digits × behind_bytes (codes "A" ++ digits ++ codes "_") ((fits_of type).as_type any_type) around allowed place cs)
 fits_of (bounded bound type) = fits_nowhere
+fits_of (qualified q type) = type_fits (qualified q type) (λ slot around allowed place cs. (takes_qualified slot ≡ true) × (has_letters q ≡ true) × behind_bytes (qualifier_letters q) ((fits_of type).as_type bare_type) around allowed place cs)
+fits_of (vector digits type) = type_fits (vector digits type) (λ slot around allowed place cs. (takes_all slot ≡ true) × AreSpellableDigits Digits digits × behind_bytes (codes "Dv" ++ digits ++ codes "_") ((fits_of type).as_type any_type) around allowed place cs)
+fits_of (complex type) = type_fits (complex type) (λ slot around allowed place cs. (takes_all slot ≡ true) × behind_bytes (codes "C") ((fits_of type).as_type any_type) around allowed place cs)
 fits_of (decltype operand) = fits_nowhere
 fits_of (operation one two u w) = fits_nowhere
 fits_of (function_parameter digits) = fits_nowhere

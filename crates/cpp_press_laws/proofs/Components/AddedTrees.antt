@@ -271,14 +271,6 @@ adds (lambda parameters k) =
 adds (builtin code) = builtin-add code
 adds (vendor name) = type-ways-add (vendor name) _ _ (λ x w. w)
     (λ slot around allowed place cs fits complete. none-added around.encoding cs complete)
-adds (pointer type) = type-ways-add (pointer type) _ _ (λ x w. w)
-    (λ slot around allowed place cs fits complete. ((adds type).at fit.as_type) any_type around allowed (place + 1) cs fits complete)
-adds (lvalue type) = type-ways-add (lvalue type) _ _ (λ x w. w)
-    (λ slot around allowed place cs fits complete. ((adds type).at fit.as_type) any_type around allowed (place + 1) cs fits.1 complete)
-adds (rvalue type) = type-ways-add (rvalue type) _ _ (λ x w. w)
-    (λ slot around allowed place cs fits complete. ((adds type).at fit.as_type) any_type around allowed (place + 1) cs fits.1 complete)
-adds (array digits type) = type-ways-add (array digits type) _ _ (λ x w. w) (λ slot around allowed place cs fits complete.
-    ((adds type).at fit.as_type) any_type around allowed (place + length (codes "A" ++ digits ++ codes "_")) cs fits.2 complete)
 adds (member_pointer class member) = type-ways-add (member_pointer class member) _ _ (λ x w. w)
     (λ slot around allowed place cs fits complete.
     let n : ℕ = around.encoding in
@@ -289,12 +281,6 @@ adds (member_pointer class member) = type-ways-add (member_pointer class member)
     (fits.0, behind-and (text (codes "M")) (ways_of n class).as_type G place cs fits.1) complete)
 adds (function_type c_linkage noexcept ref returned parameters) =
     function-type-add c_linkage noexcept ref returned parameters (adds returned) (adds parameters)
-adds (qualified q type) = type-ways-add (qualified q type) _ _ (λ x w. w) (λ slot around allowed place cs fits complete.
-    ((adds type).at fit.as_type) bare_type around allowed (place + length (qualifier_letters q)) cs fits.2 complete)
-adds (vector digits type) = type-ways-add (vector digits type) _ _ (λ x w. w) (λ slot around allowed place cs fits complete.
-    ((adds type).at fit.as_type) any_type around allowed (place + length (codes "Dv" ++ digits ++ codes "_")) cs fits.2 complete)
-adds (complex type) = type-ways-add (complex type) _ _ (λ x w. w)
-    (λ slot around allowed place cs fits complete. ((adds type).at fit.as_type) any_type around allowed (place + 1) cs fits.1 complete)
 adds (expansion pattern) = type-ways-add (expansion pattern) _ _ (λ x w. w) (λ slot around allowed place cs fits complete.
     ((adds pattern).at fit.as_type) any_type (under_expansion around) fits.1.0 (place + 2) cs fits.1.1 complete)
 adds (integer type value) = argument-ways-add (integer type value) _ _ (no-pieces (integer type value) (λ h. h))
@@ -334,7 +320,14 @@ adds string_literal = leaf-piece-add string_literal _ _ (λ x i. i)
 adds (conversion type) = nowhere-ways-add (conversion type) _
 adds (sized_float digits end) = nowhere-ways-add (sized_float digits end) _
 adds (constrained letter concept) = nowhere-ways-add (constrained letter concept) _
+adds (pointer type) = type-ways-add (pointer type) _ _ (λ x w. w) (λ slot around allowed place cs fits complete. (adds type).at fit.as_type any_type around allowed (place + length (codes "P")) cs fits complete)
+adds (lvalue type) = type-ways-add (lvalue type) _ _ (λ x w. w) (λ slot around allowed place cs fits complete. (adds type).at fit.as_type any_type around allowed (place + length (codes "R")) cs fits.1 complete)
+adds (rvalue type) = type-ways-add (rvalue type) _ _ (λ x w. w) (λ slot around allowed place cs fits complete. (adds type).at fit.as_type any_type around allowed (place + length (codes "O")) cs fits.1 complete)
+adds (array digits type) = type-ways-add (array digits type) _ _ (λ x w. w) (λ slot around allowed place cs fits complete. (adds type).at fit.as_type any_type around allowed (place + length (codes "A" ++ digits ++ codes "_")) cs fits.2 complete)
 adds (bounded bound type) = nowhere-ways-add (bounded bound type) _
+adds (qualified q type) = type-ways-add (qualified q type) _ _ (λ x w. w) (λ slot around allowed place cs fits complete. (adds type).at fit.as_type bare_type around allowed (place + length (qualifier_letters q)) cs fits.2 complete)
+adds (vector digits type) = type-ways-add (vector digits type) _ _ (λ x w. w) (λ slot around allowed place cs fits complete. (adds type).at fit.as_type any_type around allowed (place + length (codes "Dv" ++ digits ++ codes "_")) cs fits.2 complete)
+adds (complex type) = type-ways-add (complex type) _ _ (λ x w. w) (λ slot around allowed place cs fits complete. (adds type).at fit.as_type any_type around allowed (place + length (codes "C")) cs fits.1 complete)
 adds (decltype operand) = nowhere-ways-add (decltype operand) _
 adds (operation one two u w) = nowhere-ways-add (operation one two u w) _
 adds (function_parameter digits) = nowhere-ways-add (function_parameter digits) _

@@ -18,8 +18,8 @@ use Rattle.cpp_grammar.specs.Meaning.{parameters, encoding_of, discriminator_of,
 use Rattle.cpp_grammar.specs.Unfolding as unfolding_
 use Rattle.cpp_grammar.specs.Unfolding.{close}
 use Rattle.cpp_press_laws.specs.Texts.{ordinal, signed_text, name_letters, offset_text, thunk_text, discriminator_text}
-use Rattle.cpp_press_laws.specs.Pressing.{is_encoding}
-use Rattle.cpp_press_laws.proofs.Short.Size.{is_component, part_of, front_of, lettered, size, over, size-some, part-some}
+use Rattle.cpp_press_laws.specs.Pressing.{is_component, is_encoding}
+use Rattle.cpp_press_laws.proofs.Short.Size.{part_of, front_of, lettered, size, over, size-some, part-some}
 use Rattle.cpp_press_laws.proofs.Short.Worth.{full}
 use Rattle.cpp_press_laws.proofs.Short.Gains.{wealth, AllSmall, front, unit, whole, items, arguments, given, leaf, mark, offset, discriminator, rest, after_mark, second, operands, class_of, typed, letters_in, held, need, lent, loan, returned, grant, SmallPrefix, ready_for, Ready, IsKnown, IsKept, Gains, Gained, appended-grown, prefix-grown, Class}
 use Rattle.cpp_press_laws.proofs.Short.Paid.{Ended, comes-to}

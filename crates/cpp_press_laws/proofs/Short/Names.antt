@@ -21,8 +21,8 @@ use Rattle.cpp_grammar.specs.Meant.{made, meant, is_listing, given, all_given}
 use Rattle.cpp_grammar.specs.Builders.{built, argument, truth_in, bytes_in, number_in, tree_in}
 use Rattle.cpp_press_laws.specs.Texts.{qualifier_letters, mark_letter, name_letters}
 use Rattle.cpp_press_laws.specs.Components.{components_of}
-use Rattle.cpp_press_laws.specs.Pressing.{is_encoding}
-use Rattle.cpp_press_laws.proofs.Short.Size.{is_component, part_of, front_of, lettered, size, over, part, front-part, name-own, size-some}
+use Rattle.cpp_press_laws.specs.Pressing.{is_component, is_encoding}
+use Rattle.cpp_press_laws.proofs.Short.Size.{part_of, front_of, lettered, size, over, part, front-part, name-own, size-some}
 use Rattle.cpp_press_laws.proofs.Short.Worth.{full, full-most}
 use Rattle.cpp_press_laws.proofs.Short.Gains.{wealth, IsSmall, AllSmall, front, name, arguments, class_of, typed, letters_in, need, lent, owed, loan, returned, grant, SmallPrefix, IsBehind, MayEnd, ready_for, Ready, IsKnown, IsKept, Gains, Gained, Grown, appended-grown, prefix-grown, KindGains}
 use Rattle.cpp_press_laws.proofs.Short.Paid.{Ended, comes-to}

@@ -19,8 +19,8 @@ use Rattle.cpp_grammar.specs.Unfolding as unfolding_
 use Rattle.cpp_grammar.specs.Unfolding.{close}
 use Rattle.cpp_press_laws.specs.Texts.{qualifier_letters}
 use Rattle.cpp_press_laws.specs.Components.{components_of}
-use Rattle.cpp_press_laws.specs.Pressing.{is_encoding}
-use Rattle.cpp_press_laws.proofs.Short.Size.{is_component, part_of, bare_of, size, over, part, part-some}
+use Rattle.cpp_press_laws.specs.Pressing.{is_component, is_encoding}
+use Rattle.cpp_press_laws.proofs.Short.Size.{part_of, bare_of, size, over, part, part-some}
 use Rattle.cpp_press_laws.proofs.Short.Worth.{is_among, is_again, full, worth, full-most}
 use Rattle.cpp_press_laws.proofs.Short.Gains.{wealth, IsSmall, AllSmall, name, type, bare, arguments, Class, class_of, typed, held, need, lent, owed, loan, returned, grant, SmallPrefix, ready_for, Ready, IsKnown, IsKept, Gains, Gained, appended-wealth, appended-grown, typed-grown}
 use Rattle.cpp_press_laws.proofs.Short.Paid.{Ended, comes-to}

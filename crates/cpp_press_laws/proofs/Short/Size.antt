@@ -5,37 +5,7 @@ use Rattle.cpp_grammar.specs.Term.{Term, symbol, function, object, special, thun
 use Rattle.cpp_grammar.specs.References.{is_function_type}
 use Rattle.cpp_grammar.specs.Meaning.{is_nil}
 use Rattle.cpp_press_laws.specs.Texts.{counted, ordinal, signed_text, qualifier_letters, name_letters, thunk_text, discriminator_text}
-use Rattle.cpp_press_laws.specs.Pressing.{is_encoding}
-
--- what may be a reference where it is a part
-unfoldable pub is_component : Term → Bool
-is_component (alone p) = true
-is_component (in_std p) = true
-is_component (within prefix p) = true
-is_component (instance template arguments) = true
-is_component (local e entity discriminator) = true
-is_component (tagged of_structor name tag) = true
-is_component (parameter k) = true
-is_component (vendor name) = true
-is_component (pointer type) = true
-is_component (lvalue type) = true
-is_component (rvalue type) = true
-is_component (array digits type) = true
-is_component (member_pointer class member) = true
-is_component (function_type c_linkage noexcept ref returned parameters) = true
-is_component (qualified q type) = true
-is_component (vector digits type) = true
-is_component (complex type) = true
-is_component (expansion pattern) = true
-is_component _ = false
-
--- what is spelled between N and E
-unfoldable pub is_name : Term → Bool
-is_name (alone p) = true
-is_name (in_std p) = true
-is_name (within prefix p) = true
-is_name (instance template arguments) = true
-is_name _ = false
+use Rattle.cpp_press_laws.specs.Pressing.{is_component, is_name, is_encoding}
 
 -- a tree of so many bytes as a part, as a prefix, right under qualifiers, between N and E, as the parameters of a function
 unfoldable pub part_of : Term → (own : ℕ) → ℕ

@@ -10,12 +10,12 @@ use Rattle.cpp_grammar.specs.References.{is_function_type}
 use Rattle.cpp_grammar.specs.Meaning.{is_nil}
 use Rattle.cpp_press_laws.specs.Texts.{counted, ordinal, signed_text, qualifier_letters, mark_letter, name_letters, special_code, thunk_text, discriminator_text}
 use Rattle.cpp_press_laws.specs.Components.{Component, first_equal, is_same, seq_id}
-use Rattle.cpp_press_laws.specs.Pressing.{is_operator, is_one_piece, is_encoding}
+use Rattle.cpp_press_laws.specs.Pressing.{is_component, is_name, is_operator, is_one_piece, is_encoding}
 use Rattle.cpp_press_laws.specs.MarkedComponents.{Marked, unmarked, Spelling, ended, reference, referred, component}
 use Rattle.cpp_press_laws.specs.MarkedPressing.{Ways, no_ways, type_ways, function_text, in_N_and_E, with_letters, name_ways, template_before, entity_text, local_text, begun, encoding_ways, piece_ways, argument_ways, ways_of}
 use Rattle.cpp_press_laws.proofs.Ways as way
 use Rattle.cpp_press_laws.proofs.Ways.{Way}
-use Rattle.cpp_press_laws.proofs.Short.Size.{is_component, is_name, part_of, front_of, bare_of, name_of, with_void, lettered, size, over, part, over-least, front-part, name-part}
+use Rattle.cpp_press_laws.proofs.Short.Size.{part_of, front_of, bare_of, name_of, with_void, lettered, size, over, part, over-least, front-part, name-part}
 
 -- ## What components take
 

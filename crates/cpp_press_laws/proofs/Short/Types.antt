@@ -16,8 +16,8 @@ use Rattle.cpp_grammar.specs.Unfolding as unfolding_
 use Rattle.cpp_grammar.specs.Unfolding.{close}
 use Rattle.cpp_press_laws.specs.Texts.{signed_text}
 use Rattle.cpp_press_laws.specs.Components.{components_of}
-use Rattle.cpp_press_laws.specs.Pressing.{is_encoding}
-use Rattle.cpp_press_laws.proofs.Short.Size.{is_component, part_of, with_void, size, over, part, size-some, part-some}
+use Rattle.cpp_press_laws.specs.Pressing.{is_component, is_encoding}
+use Rattle.cpp_press_laws.proofs.Short.Size.{part_of, with_void, size, over, part, size-some, part-some}
 use Rattle.cpp_press_laws.proofs.Short.Worth.{is_among, full}
 use Rattle.cpp_press_laws.proofs.Short.Gains.{wealth, AllSmall, type, operands, Class, class_of, typed, held, need, lent, loan, returned, grant, SmallPrefix, ready_for, Ready, IsKnown, IsKept, Gains, Gained, appended-grown, typed-grown, appended-among}
 use Rattle.cpp_press_laws.proofs.Short.Paid.{Ended, comes-to}
