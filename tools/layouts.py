@@ -113,8 +113,8 @@ def answers(matched, steps, function, parts, by):
     head = parts.split()[0]
     unfolded = " ".join(filter(None, ["unfolding tree_of", head, by, "reargued"]))
     left = function in LEFT
-    # a function's marks are shown as qualifiers are
-    more = {("fill_right", "FunctionType"): " qualifier_text"}
+    # a function's marks are shown as qualifiers are; what a tag comes to has its own lemma
+    special = {("fill_right", "FunctionType"): unfolded + " qualifier_text", ("fill_left", "Tagged"): "unfolding tree_of reargued"}
     told = re.sub(r"\bd\b", DETAIL, re.sub(r"\bc\b", CONTEXT, parts))
     for node in matched[function]:
         if (function, node) in BY_HAND: continue
@@ -127,7 +127,7 @@ def answers(matched, steps, function, parts, by):
         if function == "fill_left": facts.append(f"ap (λ t. {told} t) (sym c.stored-stored.ensures.tree)")
         if not left: facts.append(f"ap (λ t. {applied_to(told, 't')}) (sym c.in-{node}.ensures.tree)")
         goal = f"returns-in-{node}-clause-shows"
-        yield [f"pub {goal} : goal.{goal}", unfolded + more.get((function, node), ""), f"{goal} g c = fills {SHOWN} _ _ _ {adds} ({' ∙ '.join(facts)})"]
+        yield [f"pub {goal} : goal.{goal}", special.get((function, node), unfolded), f"{goal} g c = fills {SHOWN} _ _ _ {adds} ({' ∙ '.join(facts)})"]
 
 def default(function, lemma, variables, of_others, matched):
     goal = "returns-in_default" + ("" if function == "ends_in_angle" else "-clause-shows")

@@ -209,6 +209,37 @@ def declarations_onto(trees):
     for law in ("type-rest", "qualified-rest"): yield proofs, law, rejoined(trees, law + " n {0} r is", several("type"), "r", unlike)
     yield proofs, "prefix-rest", rejoined(trees, "prefix-rest n {0} r is", several("type", "prefix"), "r", unlike)
 
+# ## Types before which are bytes
+
+TYPED = {"digits": "(digits : List ℕ) ", "q": "(q : Qualifiers) "}
+
+def lemmas(trees):
+    """path, and the lemma of each of them"""
+    for tree, shape, sort, parts, nowhere in rows(trees):
+        if tree[0] not in FITTING: continue
+        front, a = parts
+        tests, slot = needed(tree)
+        own, bytes_ = tree[0].replace("_", "-"), braced(front.text)
+        names = [name for name, sort in tree[1:] if name != a.tree]
+        binders, given = "".join(TYPED[name] for name in names), "".join(name + " " for name in names)
+        h = f"h.{len(tests)}" if tests else "h"
+        long = "(letters-long q h.1)" if tree[0] == "qualified" else "(omega arith)"
+        yield "cpp_press_laws/proofs/Components/FewTrees.antt", [f"pub few-{own} : {binders}(type : Term) → Counts type → Counts {shape}", "unfolding ways_of fits_of",
+            f"few-{own} {given}type r_t =", f"    few-type {shape} (λ n. {spelled(parts, 'n')}) _ (λ slot around allowed place cs h.",
+            f"    few-behind 0 1 {bytes_} {a.spelled('around.encoding')} place cs {long} (r_t.at spot.as_type {slot} around allowed (place + length {bytes_}) cs {h}))"]
+        if not tests or slot != "any_type": continue
+        known = "".join(f"{test} → " for test in tests[1:])
+        facts = ", ".join(["take", *("digit" for test in tests[1:]), "fits"])
+        premises = " × ".join([f"({tests[0]})", *tests[1:], f"(fits_of type).as_type any_type inner allowed (place + length {bytes_}) cs"])
+        yield "cpp_press_laws/proofs/Fits/Types.antt", [
+            f"pub {own}-fits : (around : Around) {binders}(type : Term) (old new : State) → {known}TypeFits around any_type type old new",
+            f"    → SolidFits takes_all around (tree {shape} false) old new",
+            "unfolding fits_of type_fits fits_nowhere ways_of type_ways no_ways is_open pack_length with_type with_unqualified is_function_type tree_of is_listed",
+            f"{own}-fits around {given}type old new {'digit ' if known else ''}one =", f"    one-part takes_all around {shape} type {bytes_} (λ slot inner allowed place cs. {premises}) old new",
+            "    (record {", "      is = tt;", f"      keeps = λ n. bytes-keep n {shape} type {bytes_} (λ x w. inr w);", "      function = tt;",
+            f"      whole = λ slot n allowed place cs. typed-complete {shape} (λ m. refl) slot (pressed_at n around) allowed place cs;",
+            f"    }}) refl (λ arguments. refl) (λ slot take n allowed place cs fits. ({facts})) one"]
+
 def declarations(trees):
     """path, name, and the lines at its end"""
     yield from declarations_onto(trees)

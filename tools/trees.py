@@ -6,6 +6,7 @@ import os, re, sys
 sys.path.insert(0, os.path.dirname(os.path.abspath(__file__)))
 import grammar
 import layouts
+import payments
 import spellings
 import vocabulary as words
 from meanings import makers
@@ -779,13 +780,13 @@ def files(crates):
     texts = {"cpp_tree/proofs/nodes/Nodes/noted/Answers.antt": noted_answers(),
              "cpp_link/proofs/linked/Linked/finish_rule/Answers.antt": rare_answers("finish_rule", "finish_rare-requires-clause-rare", "", "c.production_of-production.result", "", UNREAD_IMPORTS, UNREAD_ANSWER),
              "cpp_link/proofs/linked/Linked/outcome/Answers.antt": rare_answers("outcome", "unreachable-requires", "c.requires.common (", "c.args.production", ")")}
-    for path, name, lines in declarations():
+    for path, name, lines in [*declarations(), *payments.declarations(crates)]:
         if path not in texts:
             with open(f"{crates}/{path}", encoding="utf-8") as f: texts[path] = f.read()
         texts[path] = rewritten(texts[path], name, lines)
     texts["cpp_layout/proofs/Others.antt"], answers, matched = layouts.files(crates, {node: [NODE_TYPES[sort] for name, sort in args] for node, tree, args in nodes()})
     edits = [(path, with_declarations, [of_wrappers(template)]) for path, template in wrapper_templates()]
-    edits += [(path, with_declarations, [["\n".join(lines)]]) for path, lines in answers]
+    edits += [(path, with_declarations, [["\n".join(lines)]]) for path, lines in [*answers, *spellings.lemmas(named(PRESSED))]]
     edits += [("cpp_layout/specs/Layout.antt", rewritten, [name, by_nodes(name, matched, functions)]) for name, functions in (("IsNoName", layouts.LEFT[:1]), ("IsNoType", layouts.LEFT[:2]))]
     edits += [(path, extended, [name, lines]) for path, name, lines in spellings.declarations(named(PRESSED))]
     edits += [(path, with_arms, [function, lines]) for path, function, lines in common_arms()]
