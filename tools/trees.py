@@ -603,6 +603,47 @@ def rare_answers(function, goal, before, production, after, imports=(), others=(
     return "\n".join([f"-- {WRITTEN}", *imports, "use Rattle.cpp_link.proofs.Making.{is_rare}", f"use Rattle.cpp_link.proofs.linked.Linked.{function}.Goals as goal", "",
         f"pub {goal} : goal.{goal}", f"{goal} c = {before}is_rare {production} (record {{", *[f"  not_{snake(p)} = c.in_default.not-{p};" for p in words.COMMON], "})" + after, *others]) + "\n"
 
+# ## Families of rare productions
+
+# each with the module in which its function is, `outcome_of_` and its name
+FAMILIES = {family: module for module, families in {"name_meaning": "GivenName AppliedName Piece LocalName Inherited Special Thunk Number",
+    "type_meaning": "PlainType CompoundType FunctionType Argument", "expression_meaning": "Operation Operands Unresolved Literal"}.items() for family in families.split()}
+
+def families(crates):
+    """the productions of each family, which are those that its function has an arm for, and those that are common"""
+    found = {}
+    for family, module in FAMILIES.items():
+        with open(f"{crates}/cpp_link/src/{module}.rt", encoding="utf-8") as f: text = f.read()
+        start = text.index(f"fn outcome_of_{snake(family)}(")
+        found[family] = re.findall(r"^ {12}Production::(\w+) =>", text[start:text.index("_ => unreachable!()", start)], re.M)
+    return {**found, "Common": words.COMMON}
+
+def family_specs(found):
+    return "\n".join([f"-- {WRITTEN} The families of productions, by what they stand for.", "use Rattle.cpp_grammar.specs.declared.production.Production.{Production}",
+        "use Rattle.cpp_link.specs.declared.families.Family.{Family}", "", "unfoldable pub family_of : Production → Family",
+        *[f"family_of Production.{p} = Family.{family}" for family, productions in found.items() for p in productions]]) + "\n"
+
+def family_laws(found):
+    """that a production of a family is one of those that its function has an arm for, and that one of the family Common isn't rare"""
+    lines = [f"-- {WRITTEN} A production of a family is one of those that its function has an arm for.", "use Rattle.std.proofs.Common.{◌≡◌, refl, sym, subst}",
+        "use Rattle.cpp_grammar.specs.declared.production.Production.{Production}", "use Rattle.cpp_link.specs.declared.families.Family.{Family}",
+        "use Rattle.cpp_link.specs.Families.{family_of}", "use Rattle.cpp_link.specs.Making.{IsRare}"]
+    for family, productions in found.items():
+        name, others = snake(family), [f"n{i}" for i in range(len(productions))]
+        lines += ["", f"abbrev Is{family} : Family → Type 0", f"Is{family} Family.{family} = Unit {{0}}", f"Is{family} _ = ⊥", ""]
+        if family == "Common":
+            lines += [f"pub {name} : (p : Production) → family_of p ≡ Family.{family} → IsRare p → ⊥", "unfolding family_of", *[f"{name} Production.{p} is rare = rare" for p in productions],
+                f"{name} _ is rare = subst Is{family} (sym is) tt"]
+        else:
+            lines += [f"pub {name} : (p : Production) → family_of p ≡ Family.{family}", *[f"    → (p ≡ Production.{p} → ⊥)" for p in productions], "    → ⊥", "unfolding family_of",
+                *[applied(name, [f"Production.{p}", "is", *others]) + f" = {other} refl" for p, other in zip(productions, others)],
+                applied(name, ["_", "is", *others]) + f" = subst Is{family} (sym is) tt"]
+    return "\n".join(lines) + "\n"
+
+def family_answers(family, productions):
+    return "\n".join([f"-- {WRITTEN}", f"use Rattle.cpp_link.proofs.FamilyArms.{{{snake(family)}}}", f"use Rattle.cpp_link.proofs.linked.Linked.outcome_of_{snake(family)}.Goals as goal", "",
+        "pub unreachable-requires : goal.unreachable-requires", f"unreachable-requires c = {snake(family)} c.args.production c.requires.family", *[f"    c.in_default.not-{p}" for p in productions]]) + "\n"
+
 # the ABI's reading refuses a constructor that is inherited
 UNREAD_IMPORTS = ["use Rattle.std.proofs.Common.{sym, ◌∙◌}", "use Rattle.cpp_link.proofs.Inherited.{inheriting_unread}"]
 UNREAD_ANSWER = ["", "pub returns-in-Inheriting-clause-closes : goal.returns-in-Inheriting-clause-closes", "returns-in-Inheriting-clause-closes c =",
@@ -615,17 +656,17 @@ def arms(function, productions):
         if len(line) <= 100: yield line
         else: yield from [f"            Production::{p} => self.{function}(", "                symbol,", f"                Production::{p},", "                frame,", "                parts,", "            ),"]
 
-def common_arms():
+def arms_by_production(found):
     """path, function, and the arms of its match that are written"""
     yield "cpp_link/src/finish.rt", "finish_rule", list(arms("finish_as", words.COMMON))
     yield "cpp_link/src/between.rt", "before_by_step", list(arms("before_as", words.COMMON_BEFORE))
-    yield "cpp_link/src/meaning.rt", "outcome_of_rare", [f"            Production::{p} => unreachable!()," for p in words.COMMON]
+    yield "cpp_link/src/families.rt", "family_of", [f"        Production::{p} => Family::{family}," for family, productions in found.items() for p in productions]
 
 def with_arms(text, function, lines):
     """the text, with these lines as the arms after the line that says so, up to the other ones or the end of the match"""
     start = text.index(f"// {WRITTEN}", re.search(rf"\bfn {function}\(", text).end())
     start = text.index("\n", start) + 1
-    end = re.compile(r"^(?:            _ =>|        \})", re.M).search(text, start).start()
+    end = re.compile(r"^(?:            _ =>| {4}(?: {4})?\})", re.M).search(text, start).start()
     return text[:start] + "\n".join(lines) + "\n" + text[end:]
 
 # ## Declarations
@@ -740,7 +781,10 @@ def rewritten(text, name, lines):
 
 def files(crates):
     """the files that have declarations which are written, by their paths in the folder of the crates, and their texts"""
-    texts = {"cpp_tree/proofs/nodes/Nodes/noted/Answers.antt": noted_answers(),
+    found = families(crates)
+    texts = {"cpp_link/specs/Families.antt": family_specs(found), "cpp_link/proofs/FamilyArms.antt": family_laws(found),
+             **{f"cpp_link/proofs/linked/Linked/outcome_of_{snake(family)}/Answers.antt": family_answers(family, found[family]) for family in FAMILIES},
+             "cpp_tree/proofs/nodes/Nodes/noted/Answers.antt": noted_answers(),
              "cpp_link/proofs/linked/Linked/finish_rule/Answers.antt": rare_answers("finish_rule", "finish_rare-requires-clause-rare", "", "c.production_of-production.result", "", UNREAD_IMPORTS, UNREAD_ANSWER),
              "cpp_link/proofs/linked/Linked/outcome/Answers.antt": rare_answers("outcome", "unreachable-requires", "c.requires.common (", "c.args.production", ")")}
     for path, name, lines in declarations():
@@ -751,7 +795,7 @@ def files(crates):
         if path not in texts:
             with open(f"{crates}/{path}", encoding="utf-8") as f: texts[path] = f.read()
         texts[path] = with_wrappers(texts[path], template)
-    for path, function, lines in common_arms():
+    for path, function, lines in arms_by_production(found):
         if path not in texts:
             with open(f"{crates}/{path}", encoding="utf-8") as f: texts[path] = f.read()
         texts[path] = with_arms(texts[path], function, lines)
@@ -760,6 +804,7 @@ def files(crates):
 def main():
     crates = sys.argv[2]
     for path, text in files(crates).items():
+        os.makedirs(os.path.dirname(f"{crates}/{path}"), exist_ok=True)
         with open(f"{crates}/{path}", "w", encoding="utf-8") as f: f.write(text)
 
 if __name__ == "__main__": main()

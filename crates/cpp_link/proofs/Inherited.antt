@@ -1,7 +1,7 @@
 -- What is done with a constructor that is inherited is what the wide reading says.
-use Rattle.std.proofs.Common.{◌≡◌, refl, sym, ◌∙◌, ap, subst, arith, ℕ, suc, ◌+◌, ◌-◌, ◌<◌, ◌≤◌, List, [], ◌∷◌, ◌++◌, length, take, drop, Bool, true, false, Option, Some, None, Result, Ok, Err}
+use Rattle.std.proofs.Common.{◌≡◌, refl, sym, ◌∙◌, ap, subst, arith, ℕ, suc, ◌+◌, ◌-◌, ◌<◌, ◌≤◌, List, [], ◌∷◌, ◌++◌, length, take, drop, true, false, Option, Some, None, Result, Ok, Err}
 use Rattle.std.specs.Prelude.{OnOk}
-use Rattle.std.proofs.lemmas.Bool.{true≢false, false≢true}
+use Rattle.std.proofs.lemmas.Bool.{true≢false}
 use Rattle.std.proofs.lemmas.List.{drop_all, take-append-drop}
 use Rattle.sym_core.specs.declared.refusal.Refusal.{Refusal}
 use Rattle.sym_core.specs.declared.refusal.Refusal.TheVariants.{BadReference, Memory}
@@ -34,13 +34,13 @@ use Rattle.cpp_link.specs.LinkRescoping.{link_close_wide, linked_wide, is_counte
 use Rattle.cpp_link.specs.Making.{state_of}
 use Rattle.cpp_link.specs.NodeCount.{makes_before, inheriting_at_end}
 use Rattle.cpp_link.specs.Owed.{made_before, owes_of, owes}
-use Rattle.cpp_link.specs.Parts.{trees_in, value_of, values_of, value_in, values_in, prefix_of, name_of, is_lambda, around_of, candidates_of, IsClosed, IsThere, AreThere, IsKeptThere, AreCandidatesThere}
+use Rattle.cpp_link.specs.Parts.{trees_in, value_of, values_of, value_in, values_in, prefix_of, name_of, is_lambda, around_of, candidates_of, IsClosed, IsThere, IsKeptThere, AreCandidatesThere}
 use Rattle.cpp_link.specs.Staying.{around_stays}
 use Rattle.cpp_link.specs.View.{IsWhole, Surrounds, cpp_view}
 use Rattle.cpp_link.proofs.Finishing.{refused_right}
 use Rattle.cpp_link.proofs.Rescoped.{wide_read_is}
 use Rattle.cpp_link.proofs.Scopes.{wide_between_closed}
-use Rattle.cpp_link.proofs.Viewing.{parts_are, parts_all}
+use Rattle.cpp_link.proofs.Viewing.{parts_are}
 use Rattle.cpp_link.proofs.Within.{at_plain}
 
 -- ## The base class is counted

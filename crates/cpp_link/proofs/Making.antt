@@ -15,7 +15,6 @@ use Rattle.cpp_term.specs.References.{substituted}
 use Rattle.cpp_term.specs.Unfolding.{behind, close}
 use Rattle.cpp_tree.specs.Nodes.{tree_at}
 use Rattle.cpp_link.specs.declared.linked.Linked.{Linked}
-use Rattle.cpp_references.specs.declared.candidates.Candidate.{Candidate}
 use Rattle.cpp_references.specs.declared.around.Surroundings.{Surroundings}
 use Rattle.cpp_link.specs.declared.part.Part.{Part}
 use Rattle.cpp_link.specs.Making.{state_of, IsRare, IsCommon}

@@ -1,5 +1,5 @@
 -- What is made before the parts of a rule and where it closes is what its production makes.
-use Rattle.std.proofs.Common.{◌≡◌, refl, ◌∙◌, ap, arith, ℕ, suc, ◌+◌, ◌-◌, ◌<◌, ◌≤◌, List, [], ◌∷◌, length, drop, length-drop, Ok, Err}
+use Rattle.std.proofs.Common.{◌≡◌, refl, ◌∙◌, ap, arith, ℕ, ◌+◌, ◌-◌, ◌<◌, ◌≤◌, List, [], ◌∷◌, length, drop, length-drop, Ok, Err}
 use Rattle.std.specs.Prelude.{Result, OnOk}
 use Rattle.sym_core.specs.declared.refusal.Refusal.{Refusal}
 use Rattle.sym_link.specs.declared.language.Frame.{Frame}

@@ -1,11 +1,8 @@
 -- What is read of operations.
-use Rattle.std.proofs.Common.{◌≡◌, refl, ℕ, List, Bool, true, false, Option, Some, None}
+use Rattle.std.proofs.Common.{◌≡◌, refl, ℕ, List, true, false, Option, None}
 use Rattle.std.proofs.lemmas.Bool.{true≢false}
-use Rattle.cpp_term.specs.Term as term
 use Rattle.cpp_term.specs.Term.{Term}
-use Rattle.cpp_term.specs.Values as values
-use Rattle.cpp_term.specs.Values.{tree_of}
-use Rattle.cpp_term.specs.Meaning.{operation_or_address, operation_by, in_parentheses, is_comma, ends_arguments, enclosed_argument, enclosed_element}
+use Rattle.cpp_term.specs.Meaning.{operation_or_address, operation_by, is_comma, ends_arguments}
 use Rattle.cpp_term.specs.Reargued.{reargued}
 use Rattle.cpp_tree.specs.declared.node.Node.{Node}
 use Rattle.cpp_tree.specs.declared.node.Thunk.{Thunk}

@@ -322,9 +322,10 @@ impl Linked {
         }
     }
 
-    /// What is done before the second part, of a production that is no parameter, no pack and no name with its `M`.
+    /// What is done before the second part, where nothing is done but that a name is made of the first part.
     #[tactic(auto, unfolding(cpp_term::specs::Between::between, cpp_term::specs::Between::in_name, cpp_term::specs::Between::in_types, cpp_term::specs::Between::in_signature, cpp_term::specs::Between::under_expansion, cpp_term::specs::Between::after, cpp_term::specs::Between::inside, cpp_term::specs::Between::applied, cpp_term::specs::Between::named_so_far, cpp_term::specs::Between::listed_so_far, cpp_term::specs::Values::tree_of, crate::specs::Parts::around_of, crate::specs::Parts::prefix_of, cpp_tree::specs::Nodes::tree_if_there, cpp_tree::specs::Nodes::tree_of, cpp_tree::specs::Nodes::piece_of, crate::specs::Reads::goes_on, crate::specs::Reads::behind_first, crate::specs::Reads::named_if, crate::specs::Reads::appended_if, crate::specs::Reads::with_candidate, crate::specs::Owed::made_before, crate::specs::NodeCount::makes_before, crate::specs::Owed::made_before, crate::specs::NodeCount::std_before, crate::specs::NodeCount::one_if_there, crate::specs::NodeCount::pack_before))]
-    fn step_second(
+    #[inline(always)]
+    fn step_second_of_name(
         &self,
         symbol: &[u8],
         production: Production,
@@ -341,36 +342,31 @@ impl Linked {
         requires expression { production ≡ productions.ParameterExpression → ⊥ }
         requires pack { production ≡ productions.PackArgument → ⊥ }
         requires holder { production ≡ productions.Holder → ⊥ }
+        requires special { production ≡ productions.Special → ⊥ }
+        requires other_special { production ≡ productions.OtherSpecial → ⊥ }
+        requires lambda { production ≡ productions.Lambda → ⊥ }
+        requires value_of { production ≡ productions.ValueOf → ⊥ }
+        requires of_concept { production ≡ productions.OfConcept → ⊥ }
+        requires expansion { production ≡ productions.Expansion → ⊥ }
+        requires encoding { production ≡ productions.Encoding → ⊥ }
+        requires local_name { production ≡ productions.LocalName → ⊥ }
+        requires local_type { production ≡ productions.LocalType → ⊥ }
+        requires inheriting { production ≡ productions.Inheriting → ⊥ }
+        requires nested_base { production ≡ productions.NestedBase → ⊥ }
+        requires source_base { production ≡ productions.SourceBase → ⊥ }
+        requires base_in_std { production ≡ productions.BaseInStd → ⊥ }
+        requires nest_next { production ≡ productions.NestNext → ⊥ }
+        requires type_with_s { production ≡ productions.TypeWithS → ⊥ }
+        requires lvalue_item { production ≡ productions.LvalueItem → ⊥ }
+        requires rvalue_item { production ≡ productions.RvalueItem → ⊥ }
+        requires unresolved_in_type { production ≡ productions.UnresolvedInType → ⊥ }
+        requires integer_literal { production ≡ productions.IntegerLiteral → ⊥ }
         ensures is { (cs : List values.Candidate) → between production (around_of (trees_in symbol.now self.now.nodes) kept) place (value_in symbol.now self.now.nodes first ∷ []) (record { candidates = cs; packs = self.now.packs }) ≡ goes_on symbol.now self.now.nodes kept (value_in symbol.now self.now.nodes first ∷ []) cs self.now.packs result }
         ensures there { IsStepThere symbol.now (length self.now.nodes.thunks) (length self.now.nodes.nodes) result }
         ensures of { IsStepOf production 1 result }
         ensures makes { nodes_of_step result ≡ makes_before production (value_in symbol.now self.now.nodes first ∷ []) }
     {
         match production {
-            Production::Special => self.go(self.in_encoding(kept, place, None)),
-            Production::OtherSpecial => self.go(self.in_encoding(kept, place, None)),
-            Production::Lambda => self.go(self.in_signature(kept)),
-            Production::ValueOf => self.go(self.in_signature(kept)),
-            Production::OfConcept => self.go(self.in_signature(kept)),
-            Production::Expansion => Step::Go {
-                candidate: None,
-                then: self.under_expansion(kept),
-                packs: None,
-            },
-            Production::Encoding => {
-                let name = self.node(symbol, first);
-                self.go(self.in_encoding(kept, place, closed_arguments(&self.nodes, symbol, name)))
-            }
-            Production::LocalName => self.go(self.behind_name(
-                kept,
-                self.node(symbol, first),
-                true,
-            )),
-            Production::LocalType => self.go(self.behind_name(
-                kept,
-                self.node(symbol, first),
-                true,
-            )),
             Production::InternalName => self.named(self.extended(
                 symbol,
                 kept.prefix(),
@@ -410,22 +406,6 @@ impl Linked {
                     internal: false,
                     bytes: self.text_in(symbol, first),
                 },
-            )),
-            Production::Inheriting => self.go(self.inside(kept)),
-            Production::NestedBase => self.go(self.behind_name(
-                kept,
-                self.node(symbol, first),
-                false,
-            )),
-            Production::SourceBase => self.go(self.behind_name(
-                kept,
-                self.node(symbol, first),
-                false,
-            )),
-            Production::BaseInStd => self.go(self.behind_name(
-                kept,
-                self.node(symbol, first),
-                false,
             )),
             Production::LocalTypeName => self.named(self.extended(
                 symbol,
@@ -487,6 +467,88 @@ impl Linked {
                 kept,
                 self.text_in(symbol, first),
             )),
+            Production::SimpleId => self.listed_name(self.extended(
+                symbol,
+                kept.prefix(),
+                Piece::Source {
+                    internal: false,
+                    bytes: self.text_in(symbol, first),
+                },
+            )),
+            Production::OperatorReference => self.listed_name(self.extended(
+                symbol,
+                kept.prefix(),
+                self.piece_in(symbol, first),
+            )),
+            _ => self.go(kept),
+        }
+    }
+
+    /// What is done before the second part, of a production that is no parameter, no pack and no name with its `M`.
+    #[tactic(auto, unfolding(cpp_term::specs::Between::between, cpp_term::specs::Between::in_name, cpp_term::specs::Between::in_types, cpp_term::specs::Between::in_signature, cpp_term::specs::Between::under_expansion, cpp_term::specs::Between::after, cpp_term::specs::Between::inside, cpp_term::specs::Between::applied, cpp_term::specs::Between::named_so_far, cpp_term::specs::Between::listed_so_far, cpp_term::specs::Values::tree_of, crate::specs::Parts::around_of, crate::specs::Parts::prefix_of, cpp_tree::specs::Nodes::tree_if_there, cpp_tree::specs::Nodes::tree_of, cpp_tree::specs::Nodes::piece_of, crate::specs::Reads::goes_on, crate::specs::Reads::behind_first, crate::specs::Reads::named_if, crate::specs::Reads::appended_if, crate::specs::Reads::with_candidate, crate::specs::Owed::made_before, crate::specs::NodeCount::makes_before, crate::specs::Owed::made_before, crate::specs::NodeCount::std_before, crate::specs::NodeCount::one_if_there, crate::specs::NodeCount::pack_before))]
+    fn step_second(
+        &self,
+        symbol: &[u8],
+        production: Production,
+        place: u32,
+        kept: Surroundings,
+        first: Part,
+    ) -> Step
+        requires table { IsTable (over symbol.now self.now.nodes) }
+        requires kept { IsKeptThere (length self.now.nodes.nodes) kept }
+        requires first { IsThere symbol.now (length self.now.nodes.nodes) first }
+        requires parameter { production ≡ productions.Parameter → ⊥ }
+        requires nest { production ≡ productions.NestParameter → ⊥ }
+        requires argument { production ≡ productions.ParameterArgument → ⊥ }
+        requires expression { production ≡ productions.ParameterExpression → ⊥ }
+        requires pack { production ≡ productions.PackArgument → ⊥ }
+        requires holder { production ≡ productions.Holder → ⊥ }
+        ensures is { (cs : List values.Candidate) → between production (around_of (trees_in symbol.now self.now.nodes) kept) place (value_in symbol.now self.now.nodes first ∷ []) (record { candidates = cs; packs = self.now.packs }) ≡ goes_on symbol.now self.now.nodes kept (value_in symbol.now self.now.nodes first ∷ []) cs self.now.packs result }
+        ensures there { IsStepThere symbol.now (length self.now.nodes.thunks) (length self.now.nodes.nodes) result }
+        ensures of { IsStepOf production 1 result }
+        ensures makes { nodes_of_step result ≡ makes_before production (value_in symbol.now self.now.nodes first ∷ []) }
+    {
+        match production {
+            Production::Special => self.go(self.in_encoding(kept, place, None)),
+            Production::OtherSpecial => self.go(self.in_encoding(kept, place, None)),
+            Production::Lambda => self.go(self.in_signature(kept)),
+            Production::ValueOf => self.go(self.in_signature(kept)),
+            Production::OfConcept => self.go(self.in_signature(kept)),
+            Production::Expansion => Step::Go {
+                candidate: None,
+                then: self.under_expansion(kept),
+                packs: None,
+            },
+            Production::Encoding => {
+                let name = self.node(symbol, first);
+                self.go(self.in_encoding(kept, place, closed_arguments(&self.nodes, symbol, name)))
+            }
+            Production::LocalName => self.go(self.behind_name(
+                kept,
+                self.node(symbol, first),
+                true,
+            )),
+            Production::LocalType => self.go(self.behind_name(
+                kept,
+                self.node(symbol, first),
+                true,
+            )),
+            Production::Inheriting => self.go(self.inside(kept)),
+            Production::NestedBase => self.go(self.behind_name(
+                kept,
+                self.node(symbol, first),
+                false,
+            )),
+            Production::SourceBase => self.go(self.behind_name(
+                kept,
+                self.node(symbol, first),
+                false,
+            )),
+            Production::BaseInStd => self.go(self.behind_name(
+                kept,
+                self.node(symbol, first),
+                false,
+            )),
             Production::NestNext => self.go(self.behind_name(
                 kept,
                 self.node(symbol, first),
@@ -511,19 +573,6 @@ impl Linked {
                 is_candidate: true,
                 packs: self.packs,
             },
-            Production::SimpleId => self.listed_name(self.extended(
-                symbol,
-                kept.prefix(),
-                Piece::Source {
-                    internal: false,
-                    bytes: self.text_in(symbol, first),
-                },
-            )),
-            Production::OperatorReference => self.listed_name(self.extended(
-                symbol,
-                kept.prefix(),
-                self.piece_in(symbol, first),
-            )),
             Production::UnresolvedInType => Step::Go {
                 candidate: self.type_candidate(symbol, kept, first),
                 then: kept,
@@ -534,7 +583,7 @@ impl Linked {
                 then: kept,
                 packs: self.packs,
             },
-            _ => self.go(kept),
+            _ => self.step_second_of_name(symbol, production, place, kept, first),
         }
     }
 

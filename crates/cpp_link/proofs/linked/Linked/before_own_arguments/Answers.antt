@@ -1,4 +1,3 @@
-use Rattle.std.proofs.Common.{sym}
 use Rattle.std.proofs.lemmas.Result.{err_from_is_err_and}
 use Rattle.cpp_link.specs.Parts.{trees_in}
 use Rattle.cpp_link.proofs.Inherited.{own_arguments_go, own_arguments_refused}

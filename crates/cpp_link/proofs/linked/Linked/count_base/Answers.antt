@@ -1,5 +1,4 @@
-use Rattle.std.proofs.Common.{◌≡◌, sym, ◌∙◌}
-use Rattle.cpp_term.specs.Values.{State}
+use Rattle.std.proofs.Common.{sym, ◌∙◌}
 use Rattle.cpp_term.proofs.Notes.{both}
 use Rattle.cpp_link.specs.Parts.{trees_in, candidates_of}
 use Rattle.cpp_link.proofs.Inherited.{based_state}

@@ -1,4 +1,4 @@
-use Rattle.std.proofs.Common.{◌≡◌, sym, ◌∙◌, ap, true, false}
+use Rattle.std.proofs.Common.{◌≡◌, sym, ◌∙◌, ap}
 use Rattle.cpp_term.specs.Term.{lambda}
 use Rattle.cpp_term.specs.Values as values
 use Rattle.cpp_term.specs.Rescoping.{as_generic_lambda}
