@@ -283,9 +283,9 @@ def build(extended=True, widened=False):
         chain("RestItem", "ItemButRef", "FunctionRest", means="item 0 1"))
     # <ref-qualifier> ::= R | O, before the E of a function type
     REF_END = eats("E", "RefEnd", means="no_value!")
-    # <type> ::= R <type>, a parameter, and those behind it
+    # <type> ::= R <type>, a parameter, and those after it
     kind("AfterR", REF_END, chain("LvalueItem", "Type", "FunctionRest", before="1: lvalue(t0), candidate", means="item 0 1"))
-    # <type> ::= O <type>, a parameter, and those behind it
+    # <type> ::= O <type>, a parameter, and those after it
     kind("AfterO", REF_END, chain("RvalueItem", "Type", "FunctionRest", before="1: rvalue(t0), candidate", means="item 0 1"))
     # <bare-function-type> ::= <signature type>+
     kind("Items", chain("Items", "Item", "Items", means="cell 0 1"), empty=True)
@@ -336,7 +336,7 @@ def build(extended=True, widened=False):
         if a == "l": rules.append(eats("i", "LiteralOperator", NAME, means="piece literal_operator(x0)"))
         kind("OperatorAfter" + a.upper(), *rules)
     # <nested-name> ::= N [<CV-qualifiers>] [<ref-qualifier>] <template-prefix> <template-args> E, or <prefix> likewise. The name may end
-    # behind these arguments, so it isn't a candidate yet
+    # after these arguments, so it isn't a candidate yet
     kind("NestRestOrEnd", eats("I", "NestInstance", "ArgumentsFirst", "'E'", "NestMoreOrEnd",
                                before="0: list the name, inside; 2: name = instance(name, i0)", means="part 2"),
          chain("NestNext", "Component", "NestTail"))
@@ -349,7 +349,7 @@ def build(extended=True, widened=False):
     kind("ComponentAfterC",
         # <operator-name> ::= cv <type>
         wide(eats("v", "Conversion", "Type", before="0: inside", means="name + conversion(t0)")),
-        # <unqualified-name> ::= <operator-name>, within a nested name, behind a c
+        # <unqualified-name> ::= <operator-name>, within a nested name, after a c
         chain("OperatorNameWithC", "OperatorAfterC", "MaybeArguments", before="1: name = name + operator('c', l0)", means="applied"))
     kind("OtherOperator", *[rule for a, rule in by_letter.items() if a != "c"])
     # the base class of a constructor that is inherited, and the arguments of the constructor itself: after a name without arguments there
@@ -378,9 +378,9 @@ def build(extended=True, widened=False):
     # after a G and an St the wide grammar has more than the other: a chain leads to a kind that takes these bytes
     kind("SpecialMark", MARK("G"))
     kind("SpecialAfterG",
-        # <special-name> ::= GV <object name>, behind the G
+        # <special-name> ::= GV <object name>, after the G
         eats("V", "SpecialName", "CompleteName"),
-        # <special-name> ::= GTt <encoding> | GTn <encoding>, behind the G
+        # <special-name> ::= GTt <encoding> | GTn <encoding>, after the G
         wide(eats("T", "Clone", "CloneLetter", "Encoding", means="clone(l0, t1), listed")))
     kind("CloneLetter", MARK("tn"))
     # <unscoped-name> ::= St <unqualified-name>, as a type, perhaps with <abi-tags>
@@ -400,14 +400,14 @@ def build(extended=True, widened=False):
     ]
     kind("Argument", *argument)
     kind("ArgumentAfterT",
-        # <template-arg> ::= <template-param-decl> <template-arg>, behind the T; what is declared of it isn't in the tree
+        # <template-arg> ::= <template-param-decl> <template-arg>, after the T; what is declared of it isn't in the tree
         wide(chain("DeclaredArgument", "DeclarationAfterT", "OneArgument", means="part 1, listed")),
-        # <template-param> ::= T_ | T <parameter number> _, behind the T
+        # <template-param> ::= T_ | T <parameter number> _, after the T
         chain("ParameterArgument", DECIMAL, "ArgumentsAlone", before="1: parameter after its T", means="applied, listed alone"))
     kind("OneArgument",
         # <template-arg> ::= <expr-primary>
         eats("L", "OneLiteral", "Literal", "'E'", means="part 0"),
-        # <template-arg> ::= J <template-arg>* E, behind a <template-param-decl>
+        # <template-arg> ::= J <template-arg>* E, after a <template-param-decl>
         eats("J", "OnePack", "PackList", "'E'", means="pack(i0), listed"),
         *argument)
     # in what is declared parameters are those of no encoding, as in a lambda's signature
@@ -519,9 +519,9 @@ def build(extended=True, widened=False):
     # <array-type>, with a length that is a parameter, or a number, or isn't said
     kind("AnyArray", eats("A", "AnyArray", "ArrayRest", means="part 0"))
     kind("ArrayRest",
-        # <array-type> ::= A <expression> _ <element type>, behind the A
+        # <array-type> ::= A <expression> _ <element type>, after the A
         wide(chain("BoundedArray", "Bound", "'_'", "Type", means="bounded(t0, t2)")),
-        # <array-type> ::= A <number> _ <element type>, behind the A
+        # <array-type> ::= A <number> _ <element type>, after the A
         chain("LengthArray", DECIMAL, "Type", means="array(d0, t1)"))
     # a length that is no number
     kind("Bound", *by_first, PARAMETER_EXPRESSION, LITERAL_EXPRESSION)

@@ -4,8 +4,8 @@ ghost use Rattle.std.specs.Option.{IfSome};
 ghost use Rattle.sym_core.specs.Number.{FitsSymbol};
 ghost use Rattle.sym_print.specs.declared.detail.Detail.TheVariants.{Full, NoParameters};
 ghost use Rattle.sym_demangle.specs.Mangled.{answer};
-ghost use Rattle.sym_languages.specs.Languages.{language_answer_by};
-ghost use Rattle.sym_calls.specs.Calls.{EndsAs, IsTextWritten, answered, answers_by, asked_of, ending_of, name_told, press_told, text_told};
+ghost use Rattle.sym_languages.specs.Languages.{answers_by, language_answer_by};
+ghost use Rattle.sym_calls.specs.Calls.{EndsAs, IsTextWritten, answered, asked_of, ending_of, name_told, press_told, text_told};
 
 use crate::flags::{Asked, asked_of};
 use crate::outcome::{FLAGS, Outcome, alone, no_memory, of_refusal, write};
@@ -198,7 +198,7 @@ fn text_in<C: Cpp>(
     name: &[u8],
     buffer: &mut [u8],
 ) -> Outcome
-    ensures { EndsAs (name_told (answers_by C.mangled asked limit) asked name.now buffer.old) buffer.old (ending_of result buffer.new) }
+    ensures { EndsAs (name_told (answers_by C.mangled asked.legacy limit asked.detail) asked name.now buffer.old) buffer.old (ending_of result buffer.new) }
 {
     if asked.legacy {
         return name_by(alloc, &asked.with_legacy(limit, cpp), asked, name, buffer);

@@ -11,7 +11,7 @@ use Rattle.cpp_grammar.specs.Rows.{row_of}
 use Rattle.cpp_grammar.specs.Term.{RefQualifier, lvalue_only, rvalue_only, Signed, non_virtual, by_table, Term, symbol, function, lambda, lvalue, rvalue, pack, nil, list, absent}
 use Rattle.cpp_grammar.specs.Scope.{has_return_type}
 use Rattle.cpp_grammar.specs.Values as values
-use Rattle.cpp_grammar.specs.Values.{State, Prefix, outermost, Around, prefix_tree, prefix_listed, Value, nothing_there, letter, text, signed, adjusted, tree, piece, named, signature, unqualified, tree_of, piece_of, is_listed, qualifiers_of, ref_of, letter_of, is_there, mark_of, text_of, signed_of, adjustment_of, normal, is_zero, signed_digits, local_number}
+use Rattle.cpp_grammar.specs.Values.{State, Around, Value, nothing_there, letter, text, tree, piece, tree_of, piece_of, qualifiers_of, ref_of, letter_of, is_there, text_of, signed_of, adjustment_of, normal, is_zero, signed_digits, local_number}
 use Rattle.cpp_grammar.specs.References.{is_function_type}
 use Rattle.cpp_grammar.specs.Between.{in_name, in_types, in_signature, inside, no_items, between}
 use Rattle.cpp_grammar.specs.Meaning.{parameters, encoding_of, discriminator_of, with_item, signature_or, operator_or_literal, meaning}

@@ -7,7 +7,7 @@ use Rattle.cpp_grammar.specs.declared.production.Production.{Production}
 use Rattle.cpp_grammar.specs.Grammar.{kinds, number_of, number_of_kind, parts_of, is_chain}
 use Rattle.cpp_grammar.specs.Term.{Qualifiers, RefQualifier, any_value, lvalue_only, rvalue_only, Term, in_std, instance, local, parameter, string_literal}
 use Rattle.cpp_grammar.specs.Values as values
-use Rattle.cpp_grammar.specs.Values.{State, Prefix, outermost, Around, prefix_tree, prefix_listed, Value, nothing_there, letter, text, signed, adjusted, tree, piece, named, signature, unqualified, tree_of, piece_of, is_listed, qualifiers_of, ref_of, letter_of, is_there, mark_of, text_of, signed_of, adjustment_of, normal, is_zero, signed_digits, local_number}
+use Rattle.cpp_grammar.specs.Values.{State, Prefix, outermost, Around, prefix_tree, prefix_listed, Value, nothing_there, tree, named, tree_of, piece_of, qualifiers_of, ref_of, letter_of, is_there, mark_of}
 use Rattle.cpp_grammar.specs.References.{is_function_type}
 use Rattle.cpp_grammar.specs.Between.{after, inside, extended, applied, no_items, named_so_far, listed_so_far, index_of, between}
 use Rattle.cpp_grammar.specs.Meaning.{discriminator_of, meaning}

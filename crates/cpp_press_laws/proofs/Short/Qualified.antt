@@ -11,7 +11,7 @@ use Rattle.cpp_grammar.specs.Grammar.{kinds, number_of, number_of_kind, parts_of
 use Rattle.cpp_grammar.specs.Rows.{row_of}
 use Rattle.cpp_grammar.specs.Term.{Qualifiers, Term, symbol, instance, parameter, lvalue, rvalue, function_type, qualified, integer}
 use Rattle.cpp_grammar.specs.Values as values
-use Rattle.cpp_grammar.specs.Values.{State, Prefix, outermost, Around, prefix_tree, prefix_listed, Value, nothing_there, letter, text, signed, adjusted, tree, piece, named, signature, unqualified, tree_of, piece_of, is_listed, qualifiers_of, ref_of, letter_of, is_there, mark_of, text_of, signed_of, adjustment_of, normal, is_zero, signed_digits, local_number}
+use Rattle.cpp_grammar.specs.Values.{State, Around, Value, nothing_there, tree, named, tree_of, is_listed, is_there, text_of, signed_of}
 use Rattle.cpp_grammar.specs.References.{is_function_type, appended, parameter_named, with_type, with_unqualified}
 use Rattle.cpp_grammar.specs.Between.{after, applied, named_so_far, listed_so_far, parameter_so_far, index_of, between}
 use Rattle.cpp_grammar.specs.Meaning.{parameters, listed_value, reference_to, meaning}

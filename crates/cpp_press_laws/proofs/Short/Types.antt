@@ -8,7 +8,7 @@ use Rattle.cpp_grammar.specs.Grammar.{kinds, number_of, number_of_kind, parts_of
 use Rattle.cpp_grammar.specs.Rows.{row_of}
 use Rattle.cpp_grammar.specs.Term.{Term, symbol, lvalue, rvalue, expansion, encoding_literal, nil, list}
 use Rattle.cpp_grammar.specs.Values as values
-use Rattle.cpp_grammar.specs.Values.{State, Prefix, outermost, Around, prefix_tree, prefix_listed, Value, nothing_there, letter, text, signed, adjusted, tree, piece, named, signature, unqualified, tree_of, piece_of, is_listed, qualifiers_of, ref_of, letter_of, is_there, mark_of, text_of, signed_of, adjustment_of, normal, is_zero, signed_digits, local_number}
+use Rattle.cpp_grammar.specs.Values.{State, Around, Value, nothing_there, signed, tree, tree_of, is_listed, text_of, signed_of, normal}
 use Rattle.cpp_grammar.specs.References.{is_function_type, appended, with_type}
 use Rattle.cpp_grammar.specs.Between.{under_expansion, between}
 use Rattle.cpp_grammar.specs.Meaning.{is_void, is_nil, parameters, listed_value, reference_to, is_code, operation_or_address, operation_by, ends_arguments, in_parentheses, enclosed_argument, meaning}
