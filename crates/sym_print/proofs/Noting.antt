@@ -1,11 +1,11 @@
 -- What is noted stays so while entries are taken.
-use Rattle.std.proofs.Common.{◌≡◌, ℕ, suc, ◌+◌, ◌-◌, ◌<◌, ◌≤◌, Bool, true, false, Some, List, [], ◌∷◌, ◌++◌, length, take, drop, reverse, slice_get, refl, sym, ap, ◌∙◌, subst, append_assoc, append-nil, arith, inl, inr, ◌⊎◌, ⊎_elim}
+use Rattle.std.proofs.Common.{◌≡◌, ℕ, ◌+◌, ◌-◌, ◌<◌, ◌≤◌, Some, List, [], ◌∷◌, ◌++◌, length, take, drop, reverse, slice_get, refl, sym, ap, ◌∙◌, subst, append_assoc, append-nil, arith, inl, inr, ◌⊎◌, ⊎_elim}
 use Rattle.std.proofs.lemmas.List.{drop-append-le, length-append, length-drop, take-append-le, take_all}
 use Rattle.std.proofs.lemmas.Option.{slice_get_within, get_or_from_slice_get}
 use Rattle.std.proofs.Math.Numerals.{lt_of_le_of_ne}
 use Rattle.std.proofs.Math.Seq.{drop-length, drop-append_seam}
 use Rattle.std.specs.List.{All, Contains}
-use Rattle.std.proofs.lemmas.List.Elements.{All-append, All-nil, All-cons, All-head, All-tail, All-push, All-pop, All-weaker, All-same, All-contains, Contains-get_or}
+use Rattle.std.proofs.lemmas.List.Elements.{All-nil, All-cons, All-head, All-tail, All-push, All-pop, All-weaker, All-same, All-contains, Contains-get_or}
 use Rattle.sym_print.specs.declared.layout.Item.{Item}
 use Rattle.sym_print.specs.declared.layout.Part.{Part}
 use Rattle.sym_print.specs.declared.layout.Part.TheVariants.{Sub}
@@ -56,7 +56,7 @@ module _ {C : Type 0} where
       All-cons (λ x. x.below < height) b [] (lt_of_le_of_ne (All-head (λ x. x.below ≤ height) b [] all) (λ e. unmet (b, [], refl, e))) (All-nil (λ x. x.below < height))
   below-unmet low height (a ∷ b ∷ rest) nested all unmet =
       let inner = below-unmet a.below height (b ∷ rest) nested.1 (All-tail (λ x. x.below ≤ height) a (b ∷ rest) all)
-              (λ h. unmet (h.0, a ∷ h.1, ap (λ l. a ∷ l) h.2, h.3)) in
+      (λ h. unmet (h.0, a ∷ h.1, ap (λ l. a ∷ l) h.2, h.3)) in
       All-cons (λ x. x.below < height) a (b ∷ rest) (omega (arith, nested.1.0, All-head (λ x. x.below < height) b rest inner)) inner
 
 -- a list's end that is written and read on
@@ -177,12 +177,12 @@ module _ {C : Type 0} (unshared : Item C → Unshared) (bytes_of : Part C → Li
   }
 
   -- the innermost item that is being written isn't whole, nor is any
-  pub noted-unmet : (notes : Notes C) (stack : List (Part C)) (text : List ℕ) (spent taken : ℕ) → AreNoted unshared bytes_of notes stack text spent taken
-      → (EndsAt (length stack) notes.begun.items → ⊥) → AreBelow (length stack) notes.begun.items
-  noted-unmet notes stack text spent taken h unmet =
+  pub noted-unmet : (notes : Notes C) (stack : List (Part C)) (text : List ℕ) (spent taken height : ℕ) → AreNoted unshared bytes_of notes stack text spent taken
+      → height ≡ length stack → (EndsAt height notes.begun.items → ⊥) → AreBelow (length stack) notes.begun.items
+  noted-unmet notes stack text spent taken height h is unmet =
       below-unmet 0 (length stack) notes.begun.items h.nested
       (All-weaker (IsBegun unshared bytes_of stack text spent taken) (λ b. b.below ≤ length stack) (λ b i. i.place) notes.begun.items h.begun)
-      unmet
+      (subst (λ k. EndsAt k notes.begun.items → ⊥) is unmet)
 
   -- a text was written and taken away
   pub moves-text : (stack new : List (Part C)) (next : Part C) (text written : List ℕ) (spent paid taken counted : ℕ) → IsNext stack next → IsText next
@@ -245,8 +245,8 @@ module _ {C : Type 0} (unshared : Item C → Unshared) (bytes_of : Part C → Li
       let was = next_is_last stack (Sub i) h in
       let long : length (take (length stack - 1) stack) ≡ length stack - 1 = omega (arith, ap length was, length-append (take (length stack - 1) stack) (Sub i ∷ [])) in
       let top : drop b.below stack ≡ Sub i ∷ [] =
-              ap (λ n. drop n stack) (below ∙ sym long) ∙ ap (λ s. drop (length (take (length stack - 1) stack)) s) was
-              ∙ drop-append_seam (take (length stack - 1) stack) (Sub i ∷ []) in
+      ap (λ n. drop n stack) (below ∙ sym long) ∙ ap (λ s. drop (length (take (length stack - 1) stack)) s) was
+      ∙ drop-append_seam (take (length stack - 1) stack) (Sub i ∷ []) in
       let none : drop b.from text ≡ [] = ap (λ n. drop n text) from ∙ drop-length text in record {
         place = omega (arith, below);
         within = omega (arith, from);
@@ -281,7 +281,7 @@ module _ {C : Type 0} (unshared : Item C → Unshared) (bytes_of : Part C → Li
               (All-weaker (λ a. a.below < length stack) (λ a. a.below ≤ b.below) (λ a lt. omega (arith, place, lt)) old.begun.items below));
         },
         All-same (λ a. a.below < length stack) new.begun.items (old.begun.items ++ b ∷ []) e
-        (All-push (λ a. a.below < length stack) old.begun.items b below (omega (arith, place, some))),
+            (All-push (λ a. a.below < length stack) old.begun.items b below (omega (arith, place, some))),
       )
 
   -- an item that is whole is noted
@@ -294,16 +294,16 @@ module _ {C : Type 0} (unshared : Item C → Unshared) (bytes_of : Part C → Li
       let h : IsBegun unshared bytes_of stack text spent taken b = both.1 in
       let none : drop b.below stack ≡ [] = ap (λ k. drop k stack) top ∙ drop-length stack in
       let whole : drop b.from text ≡ text_of (unshared b.item) =
-              sym (append-nil (drop b.from text)) ∙ ap (λ s. drop b.from text ++ text_of_stack unshared bytes_of s) (sym none) ∙ h.is in
+      sym (append-nil (drop b.from text)) ∙ ap (λ s. drop b.from text ++ text_of_stack unshared bytes_of s) (sym none) ∙ h.is in
       let note : IsNote unshared text n = record {
-            after = [];
-            within = omega (arith, from, h.within);
-            is = ap (λ k. drop k text) from ∙ whole ∙ ap (λ x. text_of (unshared x)) (sym same) ∙ sym (append-nil (text_of (unshared n.item)));
-            ends = omega (arith, to, from, h.within, ap length whole, length-drop b.from text, ap (λ x. length (text_of (unshared x))) same);
-            costs = omega (arith, pays, h.costs, ap (cost_of_stack unshared bytes_of) none, ap (λ x. cost_of (unshared x)) same);
-            takes = omega (arith, counts, h.takes, ap (steps_of_stack unshared bytes_of) none, ap (λ x. steps_of (unshared x)) same);
-            few = omega (arith, pays, counts, h.few);
-          } in record {
+        after = [];
+        within = omega (arith, from, h.within);
+        is = ap (λ k. drop k text) from ∙ whole ∙ ap (λ x. text_of (unshared x)) (sym same) ∙ sym (append-nil (text_of (unshared n.item)));
+        ends = omega (arith, to, from, h.within, ap length whole, length-drop b.from text, ap (λ x. length (text_of (unshared x))) same);
+        costs = omega (arith, pays, h.costs, ap (cost_of_stack unshared bytes_of) none, ap (λ x. cost_of (unshared x)) same);
+        takes = omega (arith, counts, h.takes, ap (steps_of_stack unshared bytes_of) none, ap (λ x. steps_of (unshared x)) same);
+        few = omega (arith, pays, counts, h.few);
+      } in record {
         known = All-weaker (λ x. (x ≡ n) ⊎ Contains old.known.items x) (IsNote unshared text)
             (λ x. ⊎_elim (λ e. subst (IsNote unshared text) (sym e) note) (λ c. All-contains (IsNote unshared text) old.known.items x noted.known c)) new.known.items adds;
         begun = both.0;

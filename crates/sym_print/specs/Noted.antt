@@ -38,6 +38,10 @@ module _ {C : Type 0} where
   abbrev pub AreBelow : ℕ → List (Begun C) → Type 0
   AreBelow height begun = All (λ b. b.below < height) begun
 
+  -- this is the innermost
+  abbrev pub EndsWith : List (Begun C) → Begun C → Type 0
+  EndsWith begun last = (outer : List (Begun C)) × (begun ≡ outer ++ last ∷ [])
+
   -- the innermost has its place at a height
   abbrev pub EndsAt : ℕ → List (Begun C) → Type 0
   EndsAt height begun = (b : Begun C) × (outer : List (Begun C)) × (begun ≡ outer ++ b ∷ []) × (b.below ≡ height)

@@ -1,9 +1,9 @@
 // The texts of items that were written, for where the same items come again.
 #![tactic(auto)]
 
-ghost use Rattle.std.specs.Prelude.{◌≡◌, ◌+◌, ◌-◌, ◌≤◌, ◌++◌, ◌⊎◌, ◌∷◌, [], length, take, vec_len, true, false, IfSome};
+ghost use Rattle.std.specs.Prelude.{◌≡◌, ◌+◌, ◌-◌, ◌≤◌, ◌++◌, ◌⊎◌, ◌∷◌, [], length, take, vec_len, true, false, IfSome, IfNone};
 ghost use Rattle.std.specs.List.{All, Contains};
-ghost use Rattle.sym_print.specs.Noted.{EndsAt};
+ghost use Rattle.sym_print.specs.Noted.{EndsWith, EndsAt};
 ghost use Rattle.sym_print.specs.declared.layout.Part.{Part};
 ghost use Rattle.sym_print.specs.declared.notes.Note.{Note};
 
@@ -40,6 +40,18 @@ pub(crate) struct Notes<C: Copy> {
     pub(crate) begun: Vec<Begun<C>>,
 }
 
+/// The innermost of the items that are being written.
+#[inline(always)]
+fn innermost<C: Copy>(begun: &[Begun<C>]) -> Option<&Begun<C>>
+    ensures some { IfSome result (λ last. EndsWith begun.now last.now) }
+    ensures none { IfNone result (begun.now ≡ []) }
+{
+    match begun {
+        [.., last] => Some(last),
+        [] => None,
+    }
+}
+
 impl<C: Copy> Notes<C> {
     /// No notes. It takes no memory.
     pub(crate) fn idle(alloc: Global) -> Notes<C> {
@@ -64,9 +76,9 @@ impl<C: Copy> Notes<C> {
         ensures whole { result ≡ true → EndsAt height self.now.begun.items }
         ensures unmet { result ≡ false → EndsAt height self.now.begun.items → ⊥ }
     {
-        match self.begun.as_slice() {
-            [.., begun] => begun.below == height,
-            [] => false,
+        match innermost(&self.begun) {
+            Some(begun) => begun.below == height,
+            None => false,
         }
     }
 

@@ -1,4 +1,4 @@
-use Rattle.std.proofs.Common.{◌≡◌, ◌-◌, length, refl, arith}
+use Rattle.std.proofs.Common.{refl, arith}
 use Rattle.sym_print.proofs.Noting.{noted-begun}
 use Rattle.sym_print.proofs.entries.begin_item.Goals as goal
 

@@ -1,4 +1,4 @@
-use Rattle.std.proofs.Common.{◌≡◌, ◌-◌, ◌++◌, Err, Result, length, take, refl, arith, ap, ◌∙◌, rules, subst, false}
+use Rattle.std.proofs.Common.{◌≡◌, ◌-◌, ◌++◌, Err, Result, length, take, refl, arith, ap, ◌∙◌, rules, subst}
 use Rattle.std.proofs.lemmas.List.Elements.{All-same, All-take}
 use Rattle.std.proofs.lemmas.Result.{err_from_is_err_and}
 use Rattle.sym_core.specs.declared.Refusal.{Refusal}
@@ -6,7 +6,7 @@ use Rattle.sym_core.specs.declared.Refusal.TheVariants.{TooLong}
 use Rattle.sym_print.specs.declared.meter.Meter.{Meter}
 use Rattle.sym_print.specs.Joined.{IsNext, IsText, text_of_stack, cost_of_stack, steps_of_stack}
 use Rattle.sym_print.proofs.Stack.{without_last, text_of_write, cost_of_next, cost_of_text, steps_of_next, steps_of_text}
-use Rattle.sym_print.specs.Noted.{AreBelow, EndsAt}
+use Rattle.sym_print.specs.Noted.{EndsAt}
 use Rattle.sym_print.proofs.Noting.{noted-unmet, noted-moved, moves-text}
 use Rattle.sym_print.proofs.entries.print_entries.Given as given
 use Rattle.sym_print.proofs.entries.print_entries.Goals as goal
@@ -51,14 +51,14 @@ returns-in_err-print_item-in-Sub-clause-too_long g c same =
     let refused : Refusal → Result (Unit {0}) Refusal = λ r. Err r in
     omega (arith, c.in_err-print_item-in-Sub.ensures.too_long (ap refused was), c.loop-next.invariant.2, c.loop-next.invariant.6)
 
--- no item that is being written is whole
-open_still : (g : given.Over) → (c : goal.After-is_whole g) → c.is_whole.result ≡ false → AreBelow (length c.loop-next.stack.items) c.loop-next.notes.begun.items
-open_still g c not =
-    noted-unmet (g.Y.Layout.unshared c.args.y.now) (g.Y.Layout.bytes_of c.args.y.now) c.loop-next.notes c.loop-next.stack.items c.loop-next.text.items c.loop-next.meter.spent c.loop-next.meter.steps
-    c.loop-next.invariant.9 (subst (λ h. EndsAt h c.loop-next.notes.begun.items → ⊥) (c.len.ensures ∙ c.loop-next.stack.ok.0) (c.is_whole.ensures.unmet not))
+pub note_whole-requires-clause-whole : goal.note_whole-requires-clause-whole
+note_whole-requires-clause-whole g c =
+    subst (λ h. EndsAt h c.loop-next.notes.begun.items) (c.len.ensures ∙ c.loop-next.stack.ok.0) (c.is_whole.ensures.whole c.if-is_whole.true)
 
 pub print_item-requires-clause-below : goal.print_item-requires-clause-below
-print_item-requires-clause-below g c = open_still g c c.if-is_whole.false
+print_item-requires-clause-below g c =
+    noted-unmet (g.Y.Layout.unshared c.args.y.now) (g.Y.Layout.bytes_of c.args.y.now) c.loop-next.notes c.loop-next.stack.items c.loop-next.text.items c.loop-next.meter.spent c.loop-next.meter.steps
+    c.len.result c.loop-next.invariant.9 (c.len.ensures ∙ c.loop-next.stack.ok.0) (c.is_whole.ensures.unmet c.if-is_whole.false)
 
 -- what is left on the stack
 left : (g : given.Over) → (c : goal.After-take_last g) → c.take_last.new.self.items ≡ take (length c.loop-next.stack.items - 1) c.loop-next.stack.items
@@ -97,11 +97,12 @@ loop-next-preserved g c =
       omega (arith, c.take_last.ensures.capacity, c.loop-next.invariant.7),
       omega (arith, c.write_text.ensures.room, c.loop-next.invariant.8),
       noted-moved unshared bytes_of c.loop-next.notes stack c.take_last.new.self.items c.loop-next.text.items c.write_text.new.text.items
-      c.loop-next.meter.spent c.write_text.new.meter.spent c.loop-next.meter.steps c.write_text.new.meter.steps
-      (moves-text unshared bytes_of stack c.take_last.new.self.items part c.loop-next.text.items c.write_text.new.text.items
-      c.loop-next.meter.spent c.write_text.new.meter.spent c.loop-next.meter.steps c.write_text.new.meter.steps next is_text (left g c)
-      c.in_ok-write_text-in_default-next.ensures.ok c.in_ok-write_text-in_default-next.ensures.spent c.in_ok-write_text-in_default-next.ensures.steps c.write_text.ensures.some)
-      (open_still g c c.if-is_whole.false) c.loop-next.invariant.9,
+          c.loop-next.meter.spent c.write_text.new.meter.spent c.loop-next.meter.steps c.write_text.new.meter.steps
+          (moves-text unshared bytes_of stack c.take_last.new.self.items part c.loop-next.text.items c.write_text.new.text.items
+          c.loop-next.meter.spent c.write_text.new.meter.spent c.loop-next.meter.steps c.write_text.new.meter.steps next is_text (left g c)
+          c.in_ok-write_text-in_default-next.ensures.ok c.in_ok-write_text-in_default-next.ensures.spent c.in_ok-write_text-in_default-next.ensures.steps c.write_text.ensures.some)
+          (noted-unmet (g.Y.Layout.unshared c.args.y.now) (g.Y.Layout.bytes_of c.args.y.now) c.loop-next.notes c.loop-next.stack.items c.loop-next.text.items c.loop-next.meter.spent c.loop-next.meter.steps
+          c.len.result c.loop-next.invariant.9 (c.len.ensures ∙ c.loop-next.stack.ok.0) (c.is_whole.ensures.unmet c.if-is_whole.false)) c.loop-next.invariant.9,
     )
 
 pub returns-in_err-print_item-in-Sub-clause-paid : goal.returns-in_err-print_item-in-Sub-clause-paid
