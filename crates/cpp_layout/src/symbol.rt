@@ -133,7 +133,7 @@ impl Symbol {
 
     /// Whether a node is an instance of a template.
     #[inline(always)]
-    pub fn is_instance(&self, node: u32) -> bool
+    pub(crate) fn is_instance(&self, node: u32) -> bool
         requires { node < length self.now.table.nodes }
     {
         match self.nodes.entry(node).node {
