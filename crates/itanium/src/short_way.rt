@@ -10,8 +10,9 @@ ghost use Rattle.cpp_direct.specs.MidStep.{IsFresh};
 
 use cpp_direct::{Abi, BareAbi, BareWide, Direct, Grammar, Step, Wide, are_name_bytes};
 
-/// The longest symbol that is written so, in bytes: the lists stay small, and real symbols are shorter.
-const LONGEST: usize = 4_096;
+/// The longest symbol that is written so, in bytes: with its lists, which take some 70 bytes for each at most, a thread keeps 5 MB. The
+/// filter has no longer words.
+const LONGEST: usize = 65_536;
 
 /// The most bytes of text that are written for each byte of a symbol, and those that are written anyway. Of 725,558 real symbols 70
 /// have longer texts.

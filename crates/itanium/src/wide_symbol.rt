@@ -189,6 +189,20 @@ impl Layout for WideSymbol {
     }
 
     #[inline(always)]
+    fn is_noted(&self, item: Item<Context>) -> bool
+        requires may_come { MayBeAsked self.now (Part.Sub item) }
+    {
+        self.symbol.is_noted(item)
+    }
+
+    #[inline(always)]
+    fn is_same(&self, one: &Item<Context>, other: &Item<Context>) -> bool
+        ensures { result ≡ true → one.now ≡ other.now }
+    {
+        self.symbol.is_same(one, other)
+    }
+
+    #[inline(always)]
     fn bytes<'a>(&'a self, part: &'a Part<Context>) -> &'a [u8]
         requires may_come { MayBeAsked self.now part.now }
         requires is_text { IsText part.now }
