@@ -3,7 +3,7 @@
 ghost use Rattle.std.specs.Prelude.{◌≡◌, ◌≤◌, ◌+◌, ◌*◌, length, true, false, Ok};
 ghost use Rattle.sym_core.specs.Number.{FitsSymbol};
 ghost use Rattle.sym_demangle.specs.Mangled.{IsAnswer};
-ghost use Rattle.cpp_direct.specs.WriterInvariant.{IsShown};
+ghost use Rattle.cpp_direct.specs.WriterInvariant.{IsShown, IsWhole};
 ghost use Rattle.cpp_direct.specs.Symbol.{mangled_by, symbol_as, symbol_by};
 ghost use Rattle.cpp_direct.specs.MidStep.{IsFresh};
 
@@ -129,7 +129,7 @@ fn run<G: Grammar>(direct: &mut Direct, s: &[u8], most: u32, rounds: &mut usize)
     'steps: while *rounds < last {
         *rounds += 1;
         if let Step::Ended = step {
-            return direct.text().len() <= most as usize && direct.show::<G>(s).is_some();
+            return end::<G>(direct, s, most);
         }
         match direct.take::<G>(s, step) {
             Some(next) => step = next,
@@ -137,4 +137,20 @@ fn run<G: Grammar>(direct: &mut Direct, s: &[u8], most: u32, rounds: &mut usize)
         }
     }
     false
+}
+
+/// Leaves what is shown of what was written of a symbol, if at most so many bytes were.
+#[inline(always)]
+fn end<G: Grammar>(direct: &mut Direct, s: &[u8], most: u32) -> bool
+    requires { IsWhole (symbol_by G.IS_WIDE G.IS_BARE G.IS_BRIEF s.now) direct.old.text.list.items }
+    ensures shown { result ≡ true → IsShown (symbol_by G.IS_WIDE G.IS_BARE G.IS_BRIEF s.now) most direct.new.text.list.items }
+    ensures within { result ≡ true → length direct.new.text.list.items ≤ most }
+{
+    if direct.text().len() > most as usize {
+        return false;
+    }
+    match direct.show::<G>(s) {
+        Some(()) => true,
+        None => false,
+    }
 }

@@ -134,7 +134,7 @@ fn short_once<C: Cpp>(
     match kind.lang {
         Lang::Cpp => match languages.detail {
             Detail::Full => write_short::<C>(alloc, symbol, languages.limit, buffer),
-            detail => write_less::<C>(alloc, symbol, languages.limit, detail, buffer),
+            _ => write_less::<C>(alloc, symbol, languages.limit, languages.detail, buffer),
         },
         Lang::Rust => {
             if !languages.detail.has_arguments() {
