@@ -57,8 +57,8 @@ pub record Keeps (old new : Direct) (ks : List Candidate) : Type 0 where
   pub at : new.at ≡ old.at
 
 -- arguments were opened
-pub record OpensArguments (old new : Direct) (owner : Open) : Type 0 where
-  pub text : new.text.list.items ≡ old.text.list.items ++ opening_bracket (detail_of s)
+pub record OpensArguments (detail : Detail) (old new : Direct) (owner : Open) : Type 0 where
+  pub text : new.text.list.items ≡ old.text.list.items ++ opening_bracket detail
   pub waiting : new.waiting.list.items ≡ old.waiting.list.items ++ owner ∷ []
   pub at : new.at ≡ old.at + 1
   pub candidates : new.candidates ≡ old.candidates
@@ -69,7 +69,7 @@ byte-there s at byte known is some there = subst (λ b. StandsAt s at (b ∷ [])
 
 -- arguments begin after a name
 list-begins : (s : Symbol) (old mid new : Direct) (ks : List Candidate) (st : State) (owner : Open) (front name : List ℕ) (t : Term)
-    → Keeps old mid ks → OpensArguments mid new owner → AreCandidates (detail_of s) old.text.list.items ks st.candidates
+    → Keeps old mid ks → OpensArguments (detail_of s) mid new owner → AreCandidates (detail_of s) old.text.list.items ks st.candidates
     → IsTemplate (detail_of s) owner front t name (old.text.list.items ++ opening_bracket (detail_of s)) → old.text.list.items ≡ front ++ name
     → ArgumentsGoOn s owner (Stands s (reverse old.waiting.list.items)) front t [] (old.at + 1) st
     → IsWriting s new (steps.List true)
@@ -173,14 +173,14 @@ named-tagged s old new tag wide n is reads =
 
 -- arguments come after it
 pub named-opens : (s : Symbol) (old mid new : Direct) → IsNestNamed s old → StandsAt s.bytes old.at (73 ∷ [])
-    → Keeps old mid (added old old.nest.from false) → OpensArguments mid new (opens.NestArguments mid.nest) → IsWriting s new (steps.List true)
+    → Keeps old mid (added old old.nest.from false) → OpensArguments (detail_of s) mid new (opens.NestArguments mid.nest) → IsWriting s new (steps.List true)
 unfolding inside
 named-opens s old mid new n here keeps opening_ =
     let around = n.around in
     let begun = arguments-open s n.named.inner n.around n.own false old.at n.state
     (alone-arguments s (after n.own false n.around) n.named.inner old.at n.state n.named.awaits) here in
     list-begins s old mid new (added old old.nest.from false) (with_candidate around n.own n.state) (opens.NestArguments old.nest) n.front n.bytes n.own
-    keeps (subst (λ x. OpensArguments mid new (opens.NestArguments x)) keeps.nest opening_)
+    keeps (subst (λ x. OpensArguments (detail_of s) mid new (opens.NestArguments x)) keeps.nest opening_)
     (candidates-with old n.state n.front n.bytes old.nest.from n.own around false n.candidates n.written n.is_nest.from_is n.is_nest.prints)
     (nest-stays n.front n.bytes old.text.list.items (opening_bracket (detail_of s)) old.nest n.own n.is_nest, (λ own. n.structor), n.no_structor) n.written (
       inside n.around,
@@ -228,7 +228,7 @@ may-end s outer around t listed at st wide g =
 
 -- by the wide grammar arguments come after it, where it is a type
 pub known-opens : (s : Symbol) (old new : Direct) → IsNestKnown s old → s.is_wide ≡ true → old.nest.purpose ≡ purposes.Type → StandsAt s.bytes old.at (73 ∷ [])
-    → OpensArguments old new (opens.NestArguments old.nest) → IsWriting s new (steps.List true)
+    → OpensArguments (detail_of s) old new (opens.NestArguments old.nest) → IsWriting s new (steps.List true)
 unfolding inside
 known-opens s old new n wide is_type here opening_ =
     let g = n.known in
@@ -290,7 +290,7 @@ component-next s kind old new st t rest candidates n keeps =
 -- arguments of the first piece follow
 pub first-opens : (s : Symbol) (kind : Kind) (old mid new : Direct) (st : State) (t : Term) → IsFirstRest kind
     → AreCandidates (detail_of s) old.text.list.items old.candidates.list.items st.candidates → IsNesting s kind old t st → StandsAt s.bytes old.at (73 ∷ [])
-    → Keeps old mid (added_unless old old.nest.is_listed old.nest.from) → OpensArguments mid new (opens.FirstArguments mid.nest)
+    → Keeps old mid (added_unless old old.nest.is_listed old.nest.from) → OpensArguments (detail_of s) mid new (opens.FirstArguments mid.nest)
     → IsWriting s new (steps.List true)
 unfolding inside
 first-opens s kind old mid new st t first candidates n here keeps opening_ =
@@ -298,7 +298,7 @@ first-opens s kind old mid new st t first candidates n here keeps opening_ =
     let listed = old.nest.is_listed in
     let begun = any-arguments s kind n.goes.inner n.around t listed old.at st first n.goes.awaits here in
     list-begins s old mid new (added_unless old listed old.nest.from) (unless_listed listed around t st) (opens.FirstArguments old.nest) n.front n.bytes t
-    keeps (subst (λ x. OpensArguments mid new (opens.FirstArguments x)) keeps.nest opening_)
+    keeps (subst (λ x. OpensArguments (detail_of s) mid new (opens.FirstArguments x)) keeps.nest opening_)
     (candidates-unless old st listed n.front n.bytes old.nest.from t around candidates n.written n.is_nest.from_is n.is_nest.prints)
     (nest-stays n.front n.bytes old.text.list.items (opening_bracket (detail_of s)) old.nest t n.is_nest) n.written (
       inside n.around,
@@ -660,7 +660,7 @@ std-begins s old mid purpose before name a here is filled text_is candidates_are
 pub opened-by : (s : Symbol) (r : Option Step) (old new : Direct) (owner : Open) → IfSome r (λ next. next ≡ steps.List true)
     → OnSome r (new.waiting.list.items ≡ old.waiting.list.items ++ owner ∷ []) → OnSome r (new.at ≡ old.at + 1)
     → OnSome r (new.text.list.items ≡ old.text.list.items ++ opening_bracket (detail_of s)) → OnSome r (new.candidates ≡ old.candidates)
-    → (OpensArguments old new owner → IsWriting s new (steps.List true)) → IfSome r (IsWriting s new)
+    → (OpensArguments (detail_of s) old new owner → IsWriting s new (steps.List true)) → IfSome r (IsWriting s new)
 opened-by s None old new owner step waiting at text candidates goes = tt
 opened-by s (Some next) old new owner step waiting at text candidates goes =
     subst (λ x. IsWriting s new x) (sym step) (goes (record { text = text; waiting = waiting; at = at; candidates = candidates }))
