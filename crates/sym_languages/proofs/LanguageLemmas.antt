@@ -115,10 +115,3 @@ pub pressed_given : (front old new bytes spelling : List ℕ) (answer : Result (
 pressed_given front old new bytes spelling answer law is pushed =
     let answered : List ℕ → Result (List ℕ) Refusal = λ text. Ok text in
     (front ++ bytes, ap (with_front front) (law ∙ ap answered (sym is)), pushed)
-
--- a text that was written without parameters, and appended
-pub names_given : {W : Type 0} (m : Mangled W) (limit : ℕ) (detail : Detail) (symbol : List ℕ) → AreBytes symbol → (written shown old new : List ℕ) → detail ≡ NoParameters
-    → IsAnswer m NoParameters symbol limit (Ok written) → shown ≡ written → new ≡ old ++ shown
-    → (text : List ℕ) × (answer m detail symbol limit ≡ Ok text) × (new ≡ old ++ text)
-names_given m limit detail symbol bytes written shown old new is given same appended =
-    written_given m limit detail symbol bytes written shown old new (subst (λ d. IsAnswer m d symbol limit (Ok written)) (sym is) given) same appended
