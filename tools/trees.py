@@ -5,6 +5,7 @@ of the crates)."""
 import os, re, sys
 sys.path.insert(0, os.path.dirname(os.path.abspath(__file__)))
 import grammar
+import layouts
 import vocabulary as words
 from meanings import makers
 from vocabulary import OWN, OUTSIDE, INSIDE, SIGNATURE, TREE, PIECE, BYTES, NUMBER, TRUTH, QUALIFIERS, MARK, SIGNED, THUNK, DISCRIMINATOR
@@ -469,6 +470,13 @@ def first_of(parts): return parts[0] if len(parts) == 1 else applied("first_of",
 NOTED = ["nil", "alone", "in_std", "within", "instance", "local", "holder", "tagged", "of_default", "parameter", "constrained", "pointer", "lvalue", "rvalue", "array", "bounded", "member_pointer", "function_type", "qualified",
          "vector", "complex", "decltype", "expansion", "integer", "operation", "pack", "list", "again"]
 SORTS = {PIECE: ("p", "Piece"), BYTES: ("d", "Span"), MARK: ("m", "Mark"), QUALIFIERS: ("q", "Qualifiers"), SIGNED: ("v", "Signed"), DISCRIMINATOR: ("d", "Option Span")}
+# the types of a node's arguments
+NODE_TYPES = {TREE: "ℕ", OWN: "ℕ", INSIDE: "ℕ", OUTSIDE: "ℕ", SIGNATURE: "ℕ", NUMBER: "ℕ", THUNK: "ℕ", UNDER: "ℕ", TRUTH: "Bool", **{sort: type for sort, (letter, type) in SORTS.items()}}
+def by_nodes(name, matched, functions):
+    """false of the nodes for which these functions have arms"""
+    found = [node for function in functions for node in matched[function]] + ["Reargued"]
+    return [f"{name} {node_pattern(node, args)} = ⊥" for node, tree, args in sorted(nodes(), key=lambda n: found.index(n[0]) if n[0] in found else 0) if node in found] + [f"{name} _ = Unit {{0}}"]
+
 def noted_nodes():
     """each with its name, and its arguments with their types"""
     known = {tree: (node, args) for node, tree, args in nodes()}
@@ -508,12 +516,10 @@ def declared(text, name):
     end = text.find("\n\n", signature.start())
     return text.rfind("\n\n", 0, signature.start()) + 2, len(text.rstrip("\n")) if end < 0 else end
 
-def with_wrappers(text, template):
-    """the text, with the declaration of each wrapper: where it is, or else after that of the one before"""
+def with_declarations(text, owns):
+    """the text, with these declarations: each where it is, or else after the one before"""
     behind = None
-    for tree, production, letter in words.WRAPPERS:
-        own = template
-        for word, meant in (("TREE", tree), ("PRODUCTION", production), ("LETTER", letter), ("CODE", str(ord(letter)))): own = own.replace(word, meant)
+    for own in owns:
         name = re.match(r"(?:pub )?(\S+) : ", own).group(1)
         place = declared(text, name)
         own = f"-- {WRITTEN}\n{own}"
@@ -521,6 +527,12 @@ def with_wrappers(text, template):
         else: text = f"{text[:behind]}\n\n{own}{text[behind:]}"
         behind = declared(text, name)[1]
     return text
+
+def of_wrappers(template):
+    for tree, production, letter in words.WRAPPERS:
+        own = template
+        for word, meant in (("TREE", tree), ("PRODUCTION", production), ("LETTER", letter), ("CODE", str(ord(letter)))): own = own.replace(word, meant)
+        yield own
 
 # ## Productions
 
@@ -625,7 +637,7 @@ def with_arms(text, function, lines):
     """the text, with these lines as the arms after the line that says so, up to the other ones or the end of the match"""
     start = text.index(f"// {WRITTEN}", re.search(rf"\bfn {function}\(", text).end())
     start = text.index("\n", start) + 1
-    end = re.compile(r"^(?:            _ =>|        \})", re.M).search(text, start).start()
+    end = re.compile(r"^(?: +_ =>|        \})", re.M).search(text, start).start()
     return text[:start] + "\n".join(lines) + "\n" + text[end:]
 
 # ## Declarations
@@ -747,14 +759,15 @@ def files(crates):
         if path not in texts:
             with open(f"{crates}/{path}", encoding="utf-8") as f: texts[path] = f.read()
         texts[path] = rewritten(texts[path], name, lines)
-    for path, template in wrapper_templates():
+    texts["cpp_layout/proofs/Others.antt"], answers, matched = layouts.files(crates, {node: [NODE_TYPES[sort] for name, sort in args] for node, tree, args in nodes()})
+    edits = [(path, with_declarations, [of_wrappers(template)]) for path, template in wrapper_templates()]
+    edits += [(path, with_declarations, [["\n".join(lines)]]) for path, lines in answers]
+    edits += [("cpp_layout/specs/Layout.antt", rewritten, [name, by_nodes(name, matched, functions)]) for name, functions in (("IsNoName", layouts.LEFT[:1]), ("IsNoType", layouts.LEFT[:2]))]
+    edits += [(path, with_arms, [function, lines]) for path, function, lines in common_arms()]
+    for path, edit, arguments_ in edits:
         if path not in texts:
             with open(f"{crates}/{path}", encoding="utf-8") as f: texts[path] = f.read()
-        texts[path] = with_wrappers(texts[path], template)
-    for path, function, lines in common_arms():
-        if path not in texts:
-            with open(f"{crates}/{path}", encoding="utf-8") as f: texts[path] = f.read()
-        texts[path] = with_arms(texts[path], function, lines)
+        texts[path] = edit(texts[path], *arguments_)
     return texts
 
 def main():
