@@ -6,6 +6,8 @@ import os, re, sys
 sys.path.insert(0, os.path.dirname(os.path.abspath(__file__)))
 import grammar
 import layouts
+import payments
+import spellings
 import vocabulary as words
 from meanings import makers
 from vocabulary import OWN, OUTSIDE, INSIDE, SIGNATURE, TREE, PIECE, BYTES, NUMBER, TRUTH, QUALIFIERS, MARK, SIGNED, THUNK, DISCRIMINATOR
@@ -411,6 +413,15 @@ def is_below():
         return facts[0] if len(facts) == 1 else " × ".join(f"({f})" if " < " in f else f for f in facts)
     return node_cases("IsBelow", ["s", "held", "n"], [], right, "Unit {0}", {("FunctionType", "n"): "e", ("Integer", "n"): "v"})
 
+def below_later():
+    """a node's bounds, at a later place"""
+    later = {PIECE: "piece-later s m n {0} {1} most", UNDER: "there-later m n (under_kept {0}) {1} most", TREE: "omega (arith, {1}, most)", OWN: "omega (arith, {1}, most)"}
+    def right(node, tree, args):
+        facts = [later.get(sort, "{1}").format(name, bound) for name, sort, bound in placed(args, tuple(BELOW))]
+        return None if not facts else facts[0] if len(facts) == 1 else f"({', '.join(facts)})"
+    renamed = {(node, name): {"m": "k", "n": "e", "b": "v"}[name] for node, tree, args in nodes() for name, sort in args if name in ("m", "n", "b")}
+    return node_cases("below-later", ["s", "held", "m", "n"], ["b", "most"], right, "tt", renamed)
+
 def placed(args, over):
     """the arguments of these sorts, each with the fact of its bound: a part of b where there are several bounds"""
     all_ = bounds(args)
@@ -631,6 +642,8 @@ def common_arms():
     """path, function, and the arms of its match that are written"""
     yield "cpp_link/src/finish.rt", "finish_rule", list(arms("finish_as", words.COMMON))
     yield "cpp_link/src/between.rt", "before_by_step", list(arms("before_as", words.COMMON_BEFORE))
+    compared = [(node, args) for node, tree, args in nodes() if tree in words.COMPONENTS]
+    yield "cpp_spelling/src/types.rt", "is_component", [f"        Node::{node}{'(_)' if len(args) == 1 else ' { .. }'} => true," for node, args in compared]
     yield "cpp_link/src/meaning.rt", "outcome_of_rare", [f"            Production::{p} => unreachable!()," for p in words.COMMON]
 
 def with_arms(text, function, lines):
@@ -657,6 +670,10 @@ def declarations():
     yield "cpp_press_laws/proofs/Components/Complete.antt", "inside-shut", inside_shut()
     yield "cpp_press_laws/proofs/Components/Growing.antt", "size", fold("size", [], lambda parts: f"suc ({' + '.join(parts)})", "1", trees=named(PRESSED))
     yield "cpp_press_laws/specs/Apart.antt", "IsNeverReferred", never_referred()
+    yield "cpp_press_laws/specs/Pressing.antt", "is_component", cases("is_component", [], [], lambda t: "true" if t[0] in words.COMPONENTS else None, "false", named(PRESSED))
+    yield "cpp_press_laws/specs/Pressing.antt", "is_encoding", cases("is_encoding", [], [], lambda t: "true" if t[0] in words.ENCODINGS else None, "false", named(PRESSED))
+    yield "cpp_press_laws/proofs/Components/Parts.antt", "PrefixOr", cases("PrefixOr", [], ["inside", "x"], lambda t: "⊥" if t[0] in words.ENCODINGS else None, None, named(PRESSED)) + ["PrefixOr t inside x = ItselfOr t inside x"]
+    yield "cpp_spelling/proofs/Made.antt", "below-later", below_later()
     yield "cpp_spelling/specs/Weight.antt", "weight", fold("weight", [], summed("12"), "12", trees=named(PRESSED))
     nowhere = {"symbol": None, "construction": None, "clone": None, "holder": None, "sized_float": None, "constrained": None, "generic_lambda": None, "bounded": None, "of_default": None, "conversion": None, "inheriting": None, "decltype": None, "operation": None, "function_parameter": None, "absent": None, ("order", "function"): ["name", "returned", "parameters", "q", "ref"]}
     yield "cpp_press_laws/proofs/Components/FewComponents.antt", "counts", by_each("counts", "few", [], nowhere, {"local": "local-name", "address_of": "address"})
@@ -750,19 +767,28 @@ def rewritten(text, name, lines):
     else: text_above = text[:start] + f"{indent}-- {WRITTEN}\n"
     return text_above + text[start:first.start()] + "\n".join(indent + l for line in lines for l in line.split("\n")) + text[end:]
 
+def extended(text, name, lines):
+    """the text, with these lines as those clauses of a name that come after the line that says who writes them, up to a comment or its end"""
+    signature = re.search(rf"^(?:(?:unfoldable|abbrev|pub) )*{re.escape(name)} : ", text, re.M)
+    start = re.compile(rf"^-- {re.escape(WRITTEN)}.*(?:\n--.*)*", re.M).search(text, signature.end()).end()
+    assert "\n\n" not in text[signature.end():start], f"{name} has no clauses that are written"
+    end = re.compile(r"\n(?:\n|--)|\s*\Z").search(text, start).start()
+    return text[:start] + "".join("\n" + line for line in lines) + text[end:]
+
 def files(crates):
     """the files that have declarations which are written, by their paths in the folder of the crates, and their texts"""
     texts = {"cpp_tree/proofs/nodes/Nodes/noted/Answers.antt": noted_answers(),
              "cpp_link/proofs/linked/Linked/finish_rule/Answers.antt": rare_answers("finish_rule", "finish_rare-requires-clause-rare", "", "c.production_of-production.result", "", UNREAD_IMPORTS, UNREAD_ANSWER),
              "cpp_link/proofs/linked/Linked/outcome/Answers.antt": rare_answers("outcome", "unreachable-requires", "c.requires.common (", "c.args.production", ")")}
-    for path, name, lines in declarations():
+    for path, name, lines in [*declarations(), *payments.declarations(crates)]:
         if path not in texts:
             with open(f"{crates}/{path}", encoding="utf-8") as f: texts[path] = f.read()
         texts[path] = rewritten(texts[path], name, lines)
     texts["cpp_layout/proofs/Others.antt"], answers, matched = layouts.files(crates, {node: [NODE_TYPES[sort] for name, sort in args] for node, tree, args in nodes()})
     edits = [(path, with_declarations, [of_wrappers(template)]) for path, template in wrapper_templates()]
-    edits += [(path, with_declarations, [["\n".join(lines)]]) for path, lines in answers]
+    edits += [(path, with_declarations, [["\n".join(lines)]]) for path, lines in [*answers, *spellings.lemmas(named(PRESSED))]]
     edits += [("cpp_layout/specs/Layout.antt", rewritten, [name, by_nodes(name, matched, functions)]) for name, functions in (("IsNoName", layouts.LEFT[:1]), ("IsNoType", layouts.LEFT[:2]))]
+    edits += [(path, extended, [name, lines]) for path, name, lines in spellings.declarations(named(PRESSED))]
     edits += [(path, with_arms, [function, lines]) for path, function, lines in common_arms()]
     for path, edit, arguments_ in edits:
         if path not in texts:
