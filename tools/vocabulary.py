@@ -316,6 +316,69 @@ WRAPPERS = [
 COMPONENTS = """alone in_std within instance local tagged parameter vendor pointer lvalue rvalue array member_pointer function_type qualified vector
     complex expansion""".split()
 
+# How a tree is pressed: as a component, another type, an argument, a piece of a name, an encoding, a prefix or not at all, and its parts in their
+# order: bytes, as antt has them, or a subtree and the way that it is in. Arguments have the names of the crates that press. What fits nowhere
+# is read by the wide grammar alone. A tree whose spelling depends on where it is has no row, but clauses by hand.
+SPELLED = {
+    "special": 'encoding | codes "T" ++ l ∷ [] | type.as_type',
+    "thunk": 'encoding | thunk_text kind | e.as_encoding',
+    "construction": 'nowhere encoding | codes "TC" | derived.as_type | digits ++ codes "_" | parent.as_type',
+    "clone": 'nowhere encoding | codes "GT" | letter ∷ [] | e.as_encoding',
+    "holder": 'nowhere prefix | name.as_prefix | codes "M"',
+    "tagged": 'component | name.as_type | codes "B" ++ counted tag',
+    "of_default": "nowhere none",
+    "abbreviation": 'type | codes "S" ++ l ∷ []',
+    "parameter": 'component | codes "T" ++ ordinal k',
+    "source": 'piece | cond internal (codes "L") [] ++ counted name',
+    "operator": 'piece | a ∷ b ∷ []',
+    "literal_operator": 'piece | codes "li" ++ counted name',
+    "constructor": 'piece | codes "C" ++ digit ∷ []',
+    "destructor": 'piece | codes "D" ++ digit ∷ []',
+    "inheriting": "nowhere none",
+    "lambda": 'piece | codes "Ul" | parameters.as_parameters | codes "E" ++ ordinal (k - 1)',
+    "generic_lambda": "nowhere none",
+    "unnamed": 'piece | codes "Ut" ++ ordinal (k - 1)',
+    "string_literal": 'piece | codes "s"',
+    "conversion": 'nowhere piece | codes "cv" | type.as_type',
+    "builtin": 'type | code',
+    "sized_float": 'nowhere type | codes "DF" | digits | end ∷ []',
+    "constrained": "nowhere none",
+    "vendor": 'component | codes "u" ++ counted name',
+    "pointer": 'component | codes "P" | type.as_type',
+    "lvalue": 'component | codes "R" | type.as_type',
+    "rvalue": 'component | codes "O" | type.as_type',
+    "array": 'component | codes "A" ++ digits ++ codes "_" | type.as_type',
+    "bounded": "nowhere none",
+    "member_pointer": 'component | codes "M" | class.as_type | member.as_type',
+    "qualified": 'component | qualifier_letters q | type.under_qualifiers',
+    "vector": 'component | codes "Dv" ++ digits ++ codes "_" | type.as_type',
+    "complex": 'component | codes "C" | type.as_type',
+    "decltype": "nowhere none",
+    "expansion": 'component | codes "Dp" | pattern.as_type',
+    "integer": 'argument | codes "L" | type.as_type | signed_text value ++ codes "E"',
+    "boolean": 'argument | cond truth (codes "Lb1E") (codes "Lb0E")',
+    "null_pointer": 'argument | codes "LDnE"',
+    "encoding_literal": 'argument | codes "L_Z" | e.as_encoding | codes "E"',
+    "address_of": 'argument | codes "XadL_Z" | e.as_encoding | codes "EE"',
+    "operation": "nowhere none",
+    "function_parameter": "nowhere none",
+    "pack": 'argument | codes "J" | elements.as_elements | codes "E"',
+    "absent": "nowhere none",
+}
+
+# what a type before whose type are bytes needs so that it fits, beside that type
+FITTING = {
+    "pointer": "",
+    "lvalue": "takes_all slot ≡ true",
+    "rvalue": "takes_all slot ≡ true",
+    "array": "takes_all slot ≡ true | AreSpellableDigits Decimal digits",
+    "qualified": "takes_qualified slot ≡ true | has_letters q ≡ true",
+    "vector": "takes_all slot ≡ true | AreSpellableDigits Digits digits",
+    "complex": "takes_all slot ≡ true",
+}
+# the trees that are encodings
+ENCODINGS = "function object special thunk of_name construction clone".split()
+
 # ## Rust v0 (RFC 2603)
 
 # <basic-type>: letter, text, and which constants of the type there are
