@@ -495,6 +495,7 @@ impl Linked {
         requires lambda { production ≡ productions.Lambda → ⊥ }
         requires value_of { production ≡ productions.ValueOf → ⊥ }
         requires of_concept { production ≡ productions.OfConcept → ⊥ }
+        requires constraint { production ≡ productions.Constraint → ⊥ }
         requires expansion { production ≡ productions.Expansion → ⊥ }
         requires encoding { production ≡ productions.Encoding → ⊥ }
         requires local_name { production ≡ productions.LocalName → ⊥ }
