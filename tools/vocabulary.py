@@ -202,6 +202,7 @@ def cast(code, word): return (code, POSTFIX, word + "<", BOTH, ">(", LEFT, ")")
 # operation: p_ and m_ for an operator before its operand, c_ for a conversion of a list, q: for what follows the condition, () for parentheses
 OPERATIONS = [
     before("ps", "+"), before("ng", "-"), before("ad", "&"), before("de", "*"), before("co", "~"), before("nt", "!"), before("aw", "co_await "),
+    before("dl", "delete "), before("da", "delete[] "), ("tw", ASSIGN, "throw ", ALWAYS, "", NONE, ""), ("gs", PRIMARY, "::", LEFT, "", NONE, ""),
     before("p_", "++"), before("m_", "--"), after("pp", "++"), after("mm", "--"),
     ("ds", POINTER, "", POINTER + 1, ".*", POINTER, ""), ("pm", POINTER, "", POINTER + 1, "->*", POINTER, ""),
     infix("ml", "*", TIMES), infix("dv", "/", TIMES), infix("rm", "%", TIMES), infix("pl", "+", PLUS), infix("mi", "-", PLUS),
@@ -220,7 +221,12 @@ OPERATIONS = [
     applied("ti", "typeid", BOTH), applied("te", "typeid", LEFT), applied("st", "sizeof", BOTH), applied("sz", "sizeof", LEFT),
     applied("at", "alignof", BOTH), applied("az", "alignof", LEFT), applied("nx", "noexcept", LEFT),
     ("sZ", PRIMARY, "sizeof...(", LEFT, ")", NONE, ""), ("sr", PRIMARY, "", LEFT, "::", LEFT, ""), ("fT", PRIMARY, "this", NONE, "", NONE, ""),
-    ("()", PRIMARY, "(", LEFT, ")", NONE, ""),
+    ("()", PRIMARY, "(", LEFT, ")", NONE, ""), ("dn", PRIMARY, "~", BOTH, "", NONE, ""), ("cp", POSTFIX, "(", LEFT, ")(", LIST, ")"),
+    # new: where, and of which type, n_, with which initializer
+    ("nw", UNARY, "new", LEFT, " ", LEFT, ""), ("na", UNARY, "new[]", LEFT, " ", LEFT, ""), ("n(", PRIMARY, "(", LIST, ")", NONE, ""),
+    ("n_", PRIMARY, "", BOTH, "", LEFT, ""), ("pi", PRIMARY, "(", LIST, ")", NONE, ""),
+    ("fl", PRIMARY, "(...", LEFT, ")", NONE, ""), ("fr", PRIMARY, "(", LEFT, "...)", NONE, ""),
+    ("rq", PRIMARY, "requires {...}", NONE, "", NONE, ""), ("rQ", PRIMARY, "requires (...) {...}", NONE, "", NONE, ""),
 ]
 
 # the productions in which parts without a row may be between those with one
@@ -234,7 +240,7 @@ LEAVES = """NestWithS NestParameter NestInternal NestLocalType NestSource NestSt
     Abbreviation Substitution NestedType Expansion ItemIsType BuiltinWithD Vector NoexceptFunction Decltype Pointer MemberPointer
     Parameter TypeWithS LocalType Builtin Vendor Function Complex AbbreviatedType SizedFloat
     TypeInStd ArrayType AnyArray LengthArray BoundedArray
-    ParameterArgument DeclaredArgument ConstrainedAuto ConvertedDecltype""".split()
+    ParameterArgument LeveledParameter DeclaredArgument ConstrainedAuto ConvertedDecltype""".split()
 
 # The productions that are common in real symbols: where they close, and before the parts of some, they have code of their own, in which
 # what is done for a production is a constant. All others share theirs.

@@ -69,7 +69,8 @@ impl Linked {
             | Production::TypeWithD
             | Production::ItemWithD
             | Production::ConvertedType
-            | Production::ConvertedDecltype => AfterRule {
+            | Production::ConvertedDecltype
+            | Production::DestroyedType => AfterRule {
                 candidate: self.type_candidate(symbol, kept, self.given(symbol, parts, 0)),
                 packs: self.packs,
             },
@@ -77,12 +78,13 @@ impl Linked {
                 candidate: self.unqualified_candidate(symbol, kept, self.given(symbol, parts, 0)),
                 packs: self.packs,
             },
-            Production::Expansion | Production::ExpandExpression | Production::PackSize => {
-                AfterRule {
-                    candidate: None,
-                    packs: kept.packs(),
-                }
-            }
+            Production::Expansion
+            | Production::ExpandExpression
+            | Production::PackSize
+            | Production::FoldPack => AfterRule {
+                candidate: None,
+                packs: kept.packs(),
+            },
             _ => AfterRule {
                 candidate: None,
                 packs: self.packs,

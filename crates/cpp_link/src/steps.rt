@@ -170,6 +170,7 @@ impl Linked {
             Production::Lambda => self.go(self.in_signature(kept)),
             Production::ValueOf => self.go(self.in_signature(kept)),
             Production::OfConcept => self.go(self.in_signature(kept)),
+            Production::Constraint => self.go(self.in_signature(kept)),
             Production::Expansion => Step::Go {
                 candidate: None,
                 then: self.under_expansion(kept),
@@ -181,6 +182,11 @@ impl Linked {
                 packs: None,
             },
             Production::PackSize => Step::Go {
+                candidate: None,
+                then: self.under_expansion(kept),
+                packs: None,
+            },
+            Production::FoldPack => Step::Go {
                 candidate: None,
                 then: self.under_expansion(kept),
                 packs: None,
@@ -348,6 +354,7 @@ impl Linked {
         requires lambda { production ≡ productions.Lambda → ⊥ }
         requires value_of { production ≡ productions.ValueOf → ⊥ }
         requires of_concept { production ≡ productions.OfConcept → ⊥ }
+        requires constraint { production ≡ productions.Constraint → ⊥ }
         requires expansion { production ≡ productions.Expansion → ⊥ }
         requires encoding { production ≡ productions.Encoding → ⊥ }
         requires local_name { production ≡ productions.LocalName → ⊥ }
@@ -434,6 +441,11 @@ impl Linked {
                 kept.prefix(),
                 self.piece_in(symbol, first),
             )),
+            Production::Friend => self.named(self.extended(
+                symbol,
+                kept.prefix(),
+                self.piece_in(symbol, first),
+            )),
             Production::OperatorNameWithC => self.named(self.extended(
                 symbol,
                 kept.prefix(),
@@ -483,6 +495,7 @@ impl Linked {
         requires lambda { production ≡ productions.Lambda → ⊥ }
         requires value_of { production ≡ productions.ValueOf → ⊥ }
         requires of_concept { production ≡ productions.OfConcept → ⊥ }
+        requires constraint { production ≡ productions.Constraint → ⊥ }
         requires expansion { production ≡ productions.Expansion → ⊥ }
         requires encoding { production ≡ productions.Encoding → ⊥ }
         requires local_name { production ≡ productions.LocalName → ⊥ }
@@ -574,6 +587,7 @@ impl Linked {
             Production::Lambda => self.go(self.in_signature(kept)),
             Production::ValueOf => self.go(self.in_signature(kept)),
             Production::OfConcept => self.go(self.in_signature(kept)),
+            Production::Constraint => self.go(self.in_signature(kept)),
             Production::Expansion => Step::Go {
                 candidate: None,
                 then: self.under_expansion(kept),
@@ -673,6 +687,7 @@ impl Linked {
             Production::Lambda => self.go(self.in_signature(kept)),
             Production::ValueOf => self.go(self.in_signature(kept)),
             Production::OfConcept => self.go(self.in_signature(kept)),
+            Production::Constraint => self.go(self.in_signature(kept)),
             Production::Expansion => Step::Go {
                 candidate: None,
                 then: self.under_expansion(kept),
@@ -747,6 +762,7 @@ impl Linked {
             Production::Lambda => self.go(self.in_signature(kept)),
             Production::ValueOf => self.go(self.in_signature(kept)),
             Production::OfConcept => self.go(self.in_signature(kept)),
+            Production::Constraint => self.go(self.in_signature(kept)),
             Production::Expansion => Step::Go {
                 candidate: None,
                 then: self.under_expansion(kept),
@@ -799,6 +815,7 @@ impl Linked {
             Production::Lambda => self.go(self.in_signature(kept)),
             Production::ValueOf => self.go(self.in_signature(kept)),
             Production::OfConcept => self.go(self.in_signature(kept)),
+            Production::Constraint => self.go(self.in_signature(kept)),
             Production::Expansion => Step::Go {
                 candidate: None,
                 then: self.under_expansion(kept),

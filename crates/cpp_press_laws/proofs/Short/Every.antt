@@ -179,6 +179,9 @@ gains-empty Kind.BaseArguments around old is all = tt
 gains-empty Kind.OwnArguments around old is all = tt
 gains-empty Kind.Expressions around old is all = tt
 gains-empty Kind.MaybeBefore around old is all = tt
+gains-empty Kind.Requirements around old is all = tt
+gains-empty Kind.AfterExpression around old is all = tt
+gains-empty Kind.AfterNoexcept around old is all = tt
 gains-empty _ around old is all = absurd (false≢true is)
 
 branch-gains : (rule : Rule) (taken : List ℕ) (parts : Forest) → AllOf ShapeGains parts → ShapeGains (branch rule taken parts)
