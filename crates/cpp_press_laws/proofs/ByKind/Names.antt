@@ -20,7 +20,7 @@ use Rattle.cpp_press_laws.proofs.Fits.Templates.{std-template}
 use Rattle.cpp_press_laws.proofs.Fits.Nests.{std-nest}
 use Rattle.cpp_press_laws.proofs.Fits.Solids.{ParameterNamed}
 use Rattle.cpp_press_laws.proofs.Fits.Sorts.{NameRead, KindFits}
-use Rattle.cpp_press_laws.proofs.Fits.Typed.{abbreviated-type, name-type, parameter-name, type-with-s}
+use Rattle.cpp_press_laws.proofs.Fits.Typed.{abbreviated-type, name-type, parameter-name}
 use Rattle.cpp_press_laws.proofs.Fits.Own.{piece-solid, piece-own, nest-solid, std-own, named-own}
 use Rattle.cpp_press_laws.proofs.ByKind.Pieces.{type-begins, begins-function}
 use Rattle.cpp_press_laws.proofs.ByKind.Known.{OwnNameRead, InFront, PartRead, PartsRead, OpenedRead, opened-read, comes-as, by-parts, BranchRead}
@@ -101,10 +101,10 @@ type-after-s-branch rule taken parts all around at old v new front is e outer =
 pub with-s-solid : (takes : Slot → Bool) (kind : Kind) (around : Around) (at : ℕ) (old : State) (v : Value) (new : State)
     → InFront (OfKind (number_of_kind kind)) around at old → around.prefix ≡ outermost
     → OpenedRead kind around at old v new Production.TypeWithS → SolidFits takes around v old new
-unfolding parts_of number_of_kind between
+unfolding parts_of number_of_kind between meaning part unfolding_.behind
 with-s-solid takes kind around at old v new front outer o =
     by-parts (λ w s. SolidFits takes around w old s) Production.TypeWithS tt tt o (λ w s one b q more.
-    type-with-s takes around (byte_of o.taken) old w b old s q (one Kind.TypeAfterS refl outer) (more Kind.ArgumentsAlone refl))
+    name-type takes around w b old s q (one Kind.TypeAfterS refl outer) (more Kind.ArgumentsAlone refl))
 
 pub parameter-solid : (takes : Slot → Bool) (kind : Kind) (around : Around) (at : ℕ) (old : State) (v : Value) (new : State)
     → InFront (OfKind (number_of_kind kind)) around at old → around.prefix ≡ outermost

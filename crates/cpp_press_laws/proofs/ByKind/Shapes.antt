@@ -1,5 +1,5 @@
 -- What every shape of the grammar is read as fits, whatever kind it is read as.
-use Rattle.std.proofs.Common.{◌≡◌, ℕ, inl, inr, List, [], ◌∷◌, refl, sym, subst}
+use Rattle.std.proofs.Common.{◌≡◌, ℕ, inl, inr, List, [], ◌∷◌, false, refl, sym, subst}
 use Rattle.std.proofs.lemmas.Bool.{false≢true}
 use Rattle.sym_shape.specs.declared.rule.Rule.{Rule}
 use Rattle.sym_shape.specs.declared.rule.Sym.TheVariants.{Kind as OfKind}
@@ -8,19 +8,20 @@ use Rattle.cpp_grammar.specs.declared.kind.Kind.{Kind}
 use Rattle.cpp_grammar.specs.declared.production.Production.{Production}
 use Rattle.cpp_grammar.specs.Grammar.{alternatives, choose, pick, is_in, in_ranges, among, number_of_kind, number_of, kinds, parts_of, may_be_empty}
 use Rattle.cpp_grammar.specs.Term.{Term}
-use Rattle.cpp_grammar.specs.Values.{State, outermost, Around, Value, tree_of, part}
+use Rattle.cpp_grammar.specs.Values.{State, outermost, Around, Value, tree_of, ref_of, text_of, is_there, part}
 use Rattle.cpp_grammar.specs.Between.{between}
-use Rattle.cpp_grammar.specs.Meaning.{meaning}
+use Rattle.cpp_grammar.specs.Meaning.{meaning, parameters}
 use Rattle.cpp_grammar.specs.Unfolding as unfolding_
 use Rattle.cpp_grammar.specs.Unfolding.{byte_of}
 use Rattle.cpp_grammar.proofs.ClosedTrees.{is_encoding as holds_encoding}
 use Rattle.cpp_grammar.proofs.Growing.{same_choice, each_below}
 use Rattle.cpp_grammar.specs.Table.{abi, sheet, sheet_with}
 use Rattle.cpp_press_laws.specs.PressLaws.{IsReadFrom}
-use Rattle.cpp_press_laws.specs.Fits.{takes_all, SymbolFits}
-use Rattle.cpp_press_laws.proofs.Fits.Sorts.{KindFits, Meant, Later, takes_literals, solid-function}
+use Rattle.cpp_press_laws.specs.Fits.{parameter_type, takes_all, SymbolFits}
+use Rattle.cpp_press_laws.proofs.Fits.Sorts.{KindFits, Meant, Later, takes_literals}
 use Rattle.cpp_press_laws.proofs.Fits.Types.{complex-fits}
-use Rattle.cpp_press_laws.proofs.Fits.Typed.{solid-vendor}
+use Rattle.cpp_press_laws.proofs.Fits.Lists.{parameters-fit, function-fits}
+use Rattle.cpp_press_laws.proofs.Fits.Solids.{vendor-fits}
 use Rattle.cpp_press_laws.proofs.ByKind.Rules.{AllOf, OneOf, every-shape}
 use Rattle.cpp_press_laws.proofs.ByKind.Suffixes.{suffix-read}
 use Rattle.cpp_press_laws.proofs.ByKind.Known.{InFront, ShapeRead, OpenedRead, opened-read, taken-among, BranchRead, fits-by-parts}
@@ -45,13 +46,14 @@ solid-read around at old v new front outer (inl o) = builtin-arm around at old v
 solid-read around at old v new front outer (inr (inl o)) =
     fits-by-parts Kind.Solid Production.Vendor tt tt o (λ w s name.
     subst (λ t. KindFits Kind.Solid around (Meant Production.Vendor (byte_of o.taken) around (w ∷ [])) old
-    (Later Production.Vendor (byte_of o.taken) around old (w ∷ []) t)) (sym name.0) (solid-vendor around (byte_of o.taken) old w old name.2))
+    (Later Production.Vendor (byte_of o.taken) around old (w ∷ []) t)) (sym name.0) (vendor-fits around (text_of w) old name.2))
 solid-read around at old v new front outer (inr (inr (inl o))) =
     fits-by-parts Kind.Solid Production.ArrayType tt tt o (λ w s one. one Kind.AnyArray refl outer)
 solid-read around at old v new front outer (inr (inr (inr (inl o)))) =
     fits-by-parts Kind.Solid Production.Function tt tt o (λ c s linkage w t one x u two.
-    solid-function around (byte_of o.taken) old c w x old t u (subst (λ q. KindFits Kind.Type around w q t) (linkage Kind.MaybeCLinkage refl) (one Kind.Type refl outer))
-    (two Kind.FunctionRest refl outer))
+    function-fits around (is_there c) false (ref_of x) (tree_of w) (parameters (tree_of x)) old t u
+    (subst (λ q. KindFits Kind.Type around w q t) (linkage Kind.MaybeCLinkage refl) (one Kind.Type refl outer))
+    (let rest = two Kind.FunctionRest refl outer in parameters-fit around parameter_type (tree_of x) t u rest.0 rest.1))
 solid-read around at old v new front outer (inr (inr (inr (inr (inl o))))) =
     fits-by-parts Kind.Solid Production.Complex tt tt o (λ w s one. complex-fits around (tree_of w) old s (one Kind.Type refl outer))
 solid-read around at old v new front outer (inr (inr (inr (inr (inr (inl o)))))) = pointer-arm takes_all Kind.Solid around at old v new outer o

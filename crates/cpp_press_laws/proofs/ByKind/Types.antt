@@ -4,16 +4,18 @@ use Rattle.cpp_grammar.specs.declared.kind.Kind.{Kind}
 use Rattle.cpp_grammar.specs.declared.production.Production.{Production}
 use Rattle.cpp_grammar.specs.Grammar.{alternatives, number_of_kind, parts_of, is_chain}
 use Rattle.cpp_grammar.specs.Term.{builtin}
-use Rattle.cpp_grammar.specs.Values.{State, outermost, Around, Value, tree, tree_of, is_there, text_of, normal, part}
+use Rattle.cpp_grammar.specs.Values.{State, outermost, Around, Value, tree, tree_of, is_there, is_listed, ref_of, text_of, normal, part}
 use Rattle.cpp_grammar.specs.Between.{under_expansion, between}
-use Rattle.cpp_grammar.specs.Meaning.{listed_value, enclosed_argument, ends_arguments, meaning}
+use Rattle.cpp_grammar.specs.Meaning.{listed_value, reference_to, parameters, enclosed_argument, ends_arguments, meaning}
 use Rattle.cpp_grammar.specs.Unfolding as unfolding_
 use Rattle.cpp_grammar.specs.Unfolding.{byte_of}
+use Rattle.cpp_grammar.specs.References.{with_type}
 use Rattle.cpp_press_laws.specs.Fits.{Slot, any_type, item_type, parameter_type, takes_all, takes_qualified, takes_expansions, has_letters}
 use Rattle.cpp_press_laws.proofs.Components.AddedWays.{IsNotBare}
 use Rattle.cpp_press_laws.proofs.Fits.Types.{TypeFits, SolidFits, vector-fits, qualified-fits}
 use Rattle.cpp_press_laws.proofs.Fits.Solids.{builtin-with-d}
-use Rattle.cpp_press_laws.proofs.Fits.Sorts.{KindFits, item-is-type, reference-type, reference-plain, solid-noexcept}
+use Rattle.cpp_press_laws.proofs.Fits.Sorts.{KindFits, item-is-type, reference-solid, reference-plain}
+use Rattle.cpp_press_laws.proofs.Fits.Lists.{parameters-fit, function-fits}
 use Rattle.cpp_press_laws.proofs.Fits.Arguments.{expansion-fits}
 use Rattle.cpp_press_laws.proofs.Fits.Typed.{type-as-argument}
 use Rattle.cpp_press_laws.proofs.ByKind.LeafKinds.{own-byte, normal-digits}
@@ -52,10 +54,10 @@ restrict-arm kind slot take around at old v new outer o =
 reference-arm : (kind : Kind) (slot : Slot) → IsNotBare slot → takes_all slot ≡ true → (around : Around) (at : ℕ) (old : State) (v : Value)
     (new : State) → around.prefix ≡ outermost → OpenedRead kind around at old v new Production.ReferenceType
     → TypeFits around slot (tree_of v) old new
-unfolding parts_of between
+unfolding parts_of between meaning listed_value reference_to tree_of is_listed part unfolding_.behind with_type
 reference-arm kind slot other take around at old v new outer o =
     by-parts (In around slot old) Production.ReferenceType tt tt o
-    (λ w s one. reference-type around (byte_of o.taken) old slot other take w old s (one Kind.Type refl outer))
+    (λ w s one. (reference-solid around (byte_of o.taken) w old s (one Kind.Type refl outer)).types slot other take)
 
 plain-arm : (kind : Kind) (slot : Slot) → IsNotBare slot → takes_all slot ≡ true → (around : Around) (at : ℕ) (old : State) (v : Value)
     (new : State) → around.prefix ≡ outermost → OpenedRead kind around at old v new Production.PlainType
@@ -179,7 +181,7 @@ after-d-branch rule taken parts all around at old v new front is e outer =
           vector-fits around (normal (text_of d)) (tree_of w) old t (normal-digits (text_of d) number.2)
           (subst (λ q. KindFits Kind.Type around w q t) (mark.0 ∙ number.0) (one Kind.Type refl outer)))
       | inr (inr o) ↦ fits-by-parts Kind.AfterD Production.NoexceptFunction tt tt o (λ f s letter c r linkage w t one x u two.
-          solid-noexcept around (byte_of o.taken) old f c w x old t u
+          function-fits around (is_there c) true (ref_of x) (tree_of w) (parameters (tree_of x)) old t u
           (subst (λ q. KindFits Kind.Type around w q t) (linkage Kind.MaybeCLinkage refl ∙ letter.0) (one Kind.Type refl outer))
-          (two Kind.FunctionRest refl outer))
+          (let rest = two Kind.FunctionRest refl outer in parameters-fit around parameter_type (tree_of x) t u rest.0 rest.1))
     ]

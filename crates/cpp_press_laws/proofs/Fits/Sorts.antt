@@ -4,16 +4,15 @@ use Rattle.std.specs.Prelude.{cond, nat_eq}
 use Rattle.cpp_grammar.specs.declared.kind.Kind.{Kind}
 use Rattle.cpp_grammar.specs.declared.production.Production.{Production}
 use Rattle.cpp_grammar.specs.Term.{lvalue_only, rvalue_only, Term, abbreviation, lvalue, rvalue, encoding_literal, address_of, absent}
-use Rattle.cpp_grammar.specs.Values.{Candidate, State, Around, Value, nothing_there, tree, pair, tree_of, is_listed, is_there, ref_of, part}
+use Rattle.cpp_grammar.specs.Values.{Candidate, State, Around, Value, nothing_there, tree, pair, tree_of, is_listed, part}
 use Rattle.cpp_grammar.specs.References.{with_type, with_prefix, appended, is_function_type, with_unqualified}
 use Rattle.cpp_grammar.specs.Between.{after, no_items}
-use Rattle.cpp_grammar.specs.Meaning.{signature_or, meaning, listed_value, reference_to, parameters}
+use Rattle.cpp_grammar.specs.Meaning.{signature_or, meaning, listed_value, reference_to}
 use Rattle.cpp_grammar.specs.Unfolding as unfolding_
 use Rattle.cpp_press_laws.specs.Fits.{Slot, any_type, item_type, parameter_type, literal_type, takes_all, takes_expansions, IsAbbreviation}
 use Rattle.cpp_press_laws.proofs.Slots.{each-slot}
-use Rattle.cpp_press_laws.proofs.Components.AddedWays.{IsNotBare}
 use Rattle.cpp_press_laws.proofs.Fits.Types.{TypeFits, BareFits, SolidFits, lvalue-fits, rvalue-fits}
-use Rattle.cpp_press_laws.proofs.Fits.Lists.{ListFits, IsList, parameters-fit, function-fits}
+use Rattle.cpp_press_laws.proofs.Fits.Lists.{ListFits, IsList}
 use Rattle.cpp_press_laws.proofs.Fits.References.{Referred}
 use Rattle.cpp_press_laws.proofs.Fits.Names.{ElementsFit}
 use Rattle.cpp_press_laws.proofs.Fits.Solids.{BeforeFits}
@@ -104,7 +103,7 @@ item-is-type around byte began v old new one = fewer-slots takes_all takes_expan
 -- ## Qualified types and references
 
 -- a reference of either sort
-reference-solid : (around : Around) (byte : ℕ) (v : Value) (old new : State) → KindFits Kind.Type around v old new
+pub reference-solid : (around : Around) (byte : ℕ) (v : Value) (old new : State) → KindFits Kind.Type around v old new
     → SolidFits takes_all around (reference_to byte v) old new
 unfolding reference_to
 reference-solid around byte v old new one = go (nat_eq byte 82)
@@ -112,13 +111,6 @@ reference-solid around byte v old new one = go (nat_eq byte 82)
     go : (b : Bool) → SolidFits takes_all around (tree (cond b (lvalue (tree_of v)) (rvalue (tree_of v))) false) old new
     go true = lvalue-fits around (tree_of v) old new one
     go false = rvalue-fits around (tree_of v) old new one
-
-pub reference-type : (around : Around) (byte : ℕ) (began : State) (slot : Slot) → IsNotBare slot → takes_all slot ≡ true → (v : Value)
-    (old new : State) → KindFits Kind.Type around v old new
-    → TypeFits around slot (tree_of (Meant Production.ReferenceType byte around (v ∷ []))) old
-    (Later Production.ReferenceType byte around began (v ∷ []) new)
-unfolding meaning listed_value reference_to tree_of is_listed part unfolding_.behind with_type
-reference-type around byte began slot other take v old new one = (reference-solid around byte v old new one).types slot other take
 
 -- a reference right under qualifiers
 pub reference-plain : (around : Around) (byte : ℕ) (began : State) (v : Value) (old new : State) → KindFits Kind.Type around v old new
@@ -135,21 +127,3 @@ reference-plain around byte began v old new one = go (nat_eq byte 82)
 -- ## Types of types
 
 -- ## Function types
-
-pub solid-function : (around : Around) (byte : ℕ) (began : State) (linkage v rest : Value) (old mid new : State)
-    → KindFits Kind.Type around v old mid → KindFits Kind.FunctionRest around rest mid new
-    → KindFits Kind.Solid around (Meant Production.Function byte around (linkage ∷ v ∷ rest ∷ [])) old
-    (Later Production.Function byte around began (linkage ∷ v ∷ rest ∷ []) new)
-unfolding meaning part unfolding_.behind
-solid-function around byte began linkage v rest old mid new one other =
-    function-fits around (is_there linkage) false (ref_of rest) (tree_of v) (parameters (tree_of rest)) old mid new one
-    (parameters-fit around parameter_type (tree_of rest) mid new other.0 other.1)
-
-pub solid-noexcept : (around : Around) (byte : ℕ) (began : State) (mark linkage v rest : Value) (old mid new : State)
-    → KindFits Kind.Type around v old mid → KindFits Kind.FunctionRest around rest mid new
-    → KindFits Kind.AfterD around (Meant Production.NoexceptFunction byte around (mark ∷ linkage ∷ v ∷ rest ∷ [])) old
-    (Later Production.NoexceptFunction byte around began (mark ∷ linkage ∷ v ∷ rest ∷ []) new)
-unfolding meaning part unfolding_.behind
-solid-noexcept around byte began mark linkage v rest old mid new one other =
-    function-fits around (is_there linkage) true (ref_of rest) (tree_of v) (parameters (tree_of rest)) old mid new one
-    (parameters-fit around parameter_type (tree_of rest) mid new other.0 other.1)

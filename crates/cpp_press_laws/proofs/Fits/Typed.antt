@@ -6,18 +6,18 @@ use Rattle.cpp_grammar.specs.declared.kind.Kind.{Kind}
 use Rattle.cpp_grammar.specs.Grammar.{choose}
 use Rattle.cpp_grammar.specs.declared.production.Production.{Production}
 use Rattle.cpp_grammar.specs.Term.{Term, abbreviation, parameter, instance, lvalue, rvalue, builtin, pack}
-use Rattle.cpp_grammar.specs.Values.{Candidate, State, Around, prefix_listed, Value, nothing_there, tree, tree_of, is_listed, is_there, signed_of, part, text_of}
+use Rattle.cpp_grammar.specs.Values.{Candidate, State, Around, prefix_listed, Value, nothing_there, tree, tree_of, is_listed, is_there, signed_of, part}
 use Rattle.cpp_grammar.specs.References.{appended, with_type, with_unqualified, with_prefix}
 use Rattle.cpp_grammar.specs.Between.{after, applied, inside, no_items}
 use Rattle.cpp_grammar.specs.Meaning.{signature_or, meaning, with_item}
 use Rattle.cpp_grammar.specs.Unfolding as unfolding_
 use Rattle.sym_link.specs.Reading.{Found}
 use Rattle.cpp_press_laws.specs.Fits.{Slot, any_type, bare_type, item_type, parameter_type, literal_type, takes_all, IsBuiltin, IsAbbreviation}
-use Rattle.cpp_press_laws.specs.Spellable.{IsSpellableName, IsSpellableNumber}
+use Rattle.cpp_press_laws.specs.Spellable.{IsSpellableNumber}
 use Rattle.cpp_press_laws.proofs.Fits.Types.{TypeFits, SolidFits, lvalue-fits, rvalue-fits}
 use Rattle.cpp_press_laws.proofs.Fits.Lists.{list-fits}
 use Rattle.cpp_press_laws.proofs.Fits.References.{Referred, referred-solid, Substituted}
-use Rattle.cpp_press_laws.proofs.Fits.Solids.{LambdasAreBare, ParameterNamed, abbreviation-fits, abbreviation-before, builtin-fits, parameter-fits, parameter-before, instance-fits, vendor-fits}
+use Rattle.cpp_press_laws.proofs.Fits.Solids.{LambdasAreBare, ParameterNamed, abbreviation-fits, abbreviation-before, builtin-fits, parameter-fits, parameter-before, instance-fits}
 use Rattle.cpp_press_laws.proofs.Fits.Found.{referred-before}
 use Rattle.cpp_press_laws.proofs.Fits.Arguments.{ArgumentsFit, type-argument, no-arguments-fit, arguments-fit, pack-fits, integer-fits}
 use Rattle.cpp_press_laws.proofs.Fits.Sorts.{takes_literals, NameRead, KindFits, Meant, Later}
@@ -83,13 +83,6 @@ name-type takes around v w old mid new name (inr (there, other)) =
     subst (λ u. SolidFits takes around (tree (applied (tree_of v) u) (is_listed v && not (is_there u))) old new) (sym there)
     (subst (λ b. SolidFits takes around (tree (instance (tree_of v) (tree_of w)) b) old new) (sym (and-false (is_listed v)))
     (instance-fits takes around (tree_of v) (tree_of w) old new (name.before (tree_of w) new other)))
-
-pub type-with-s : (takes : Slot → Bool) (around : Around) (byte : ℕ) (began : State) (v w : Value) (old mid new : State)
-    → KindFits Kind.TypeAfterS around v old mid → KindFits Kind.MaybeArguments (after (tree_of v) (is_listed v) around) w mid new
-    → SolidFits takes around (Meant Production.TypeWithS byte around (v ∷ w ∷ [])) old
-    (Later Production.TypeWithS byte around began (v ∷ w ∷ []) new)
-unfolding meaning part unfolding_.behind
-type-with-s takes around byte began v w old mid new name other = name-type takes around v w old mid new name other
 
 -- ## References among parameters
 
@@ -189,9 +182,3 @@ abbreviation-read around byte began state small is = inl (byte, refl, (small, is
 pub substitution-read : (around : Around) (old : State) (r : Found Value State) → Substituted around old r
     → KindFits Kind.Abbreviation around r.value old r.state
 substitution-read around old r named = inr (named.candidate, named.value, named.referred)
-
-pub solid-vendor : (around : Around) (byte : ℕ) (began : State) (name : Value) (state : State) → IsSpellableName (text_of name)
-    → KindFits Kind.Solid around (Meant Production.Vendor byte around (name ∷ [])) state
-    (Later Production.Vendor byte around began (name ∷ []) state)
-unfolding meaning part unfolding_.behind
-solid-vendor around byte began name state is = vendor-fits around (text_of name) state is
