@@ -1,7 +1,7 @@
 // A symbol that was read by the wide grammar.
 #![tactic(auto)]
 
-ghost use Rattle.std.specs.Prelude.{◌≡◌, ◌+◌, ◌*◌, ◌<◌, ◌≤◌, [], length, slice_get, vec_len, vec_capacity, Some, Err, IfOk, IfErr, OnOk, ◌⊎◌};
+ghost use Rattle.std.specs.Prelude.{◌≡◌, ◌+◌, ◌*◌, ◌<◌, ◌≤◌, [], length, slice_get, vec_len, vec_capacity, Some, true, Err, IfOk, IfErr, OnOk, ◌⊎◌};
 ghost use Rattle.std.specs.List.{All};
 ghost use Rattle.sym_core.specs.declared.Refusal.{Refusal};
 ghost use Rattle.sym_print.specs.declared.layout.Part.{Part};
