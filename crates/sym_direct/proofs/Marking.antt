@@ -1,7 +1,7 @@
 -- Bytes are moved to the front unless they are between marks.
 use Rattle.std.proofs.Common.{◌≡◌, ◌≢◌, refl, ap, sym, ◌∙◌, subst, ℕ, zero, suc, ◌+◌, ◌-◌, ◌≤◌, ◌<◌, List, [], ◌∷◌, ◌++◌, length, take, drop, Bool, true, false, nat_eq, arith, append-nil, append_assoc}
 use Rattle.std.specs.Prelude.{slice_set, get_or}
-use Rattle.std.proofs.lemmas.Bool.{eq-eqb, eqb-true}
+use Rattle.std.proofs.lemmas.Bool.{eq-eqb, eqb-true, eqb-false}
 use Rattle.std.proofs.lemmas.List.{take_more_set, drop-set-lt, drop_all, length-set}
 use Rattle.std.proofs.lemmas.List.Elements.{All-append}
 use Rattle.std.proofs.Math.Seq.{drop-cons}
@@ -15,16 +15,6 @@ pub record AreClosedUp (all bytes : List ℕ) (kept depth at : ℕ) : Type 0 whe
   pub as_long : length bytes ≡ length all
   pub left : take kept bytes ++ visible depth (drop at bytes) ≡ visible 0 all
   pub plain : HasNoZero (take kept bytes)
-
-pub none-closed : (all : List ℕ) → AreClosedUp all all 0 0 0
-none-closed all =
-    record { kept_few = omega arith; depth_few = omega arith; inside = omega arith; as_long = refl; left = refl; plain = λ k d less. absurd (omega (arith, less)) }
-
-next-at : (all bytes : List ℕ) (kept depth at : ℕ) → at < length bytes → AreClosedUp all bytes kept depth at
-    → take kept bytes ++ visible depth (get_or bytes at 0 ∷ drop (at + 1) bytes) ≡ visible 0 all
-next-at all bytes kept depth at less p =
-    let more : at + 1 ≡ suc at = omega arith in
-    ap (λ l. take kept bytes ++ visible depth l) (ap (λ n. get_or bytes at 0 ∷ drop n bytes) more ∙ sym (drop-cons bytes at 0 less)) ∙ p.left
 
 unequal : (a b : ℕ) → a ≢ b → nat_eq a b ≡ false
 unequal a b other = go (nat_eq a b) refl
@@ -62,6 +52,43 @@ unfolding visible
 visible-other depth byte bytes one two =
     not-chosen (nat_eq byte opens) (visible (depth + 1) bytes) (unless_closed depth byte bytes) one
     ∙ not-chosen (nat_eq byte closes) (visible (depth - 1) bytes) (unless_within depth byte (visible depth bytes)) two
+
+visible-kept : (byte : ℕ) (bytes : List ℕ) → nat_eq byte opens ≡ false → nat_eq byte closes ≡ false → visible 0 (byte ∷ bytes) ≡ byte ∷ visible 0 bytes
+unfolding unless_within
+visible-kept byte bytes one two = visible-other 0 byte bytes one two
+
+front-plain : (all : List ℕ) (size : ℕ) → ((k : ℕ) → k < size → 2 < get_or all k 0) → HasNoZero (take size all)
+front-plain [] zero each k d less = absurd (omega (arith, less))
+front-plain [] (suc size) each k d less = absurd (omega (arith, less))
+front-plain (byte ∷ bytes) zero each k d less = absurd (omega (arith, less))
+front-plain (byte ∷ bytes) (suc size) each zero d less = λ e. omega (arith, each 0 (omega arith), e)
+front-plain (byte ∷ bytes) (suc size) each (suc k) d less = front-plain bytes size (λ j small. each (suc j) (omega (arith, small))) k d (omega (arith, less))
+
+-- none of the bytes before the first mark or 0 is left out
+front-visible : (all : List ℕ) (size : ℕ) → size ≤ length all → ((k : ℕ) → k < size → 2 < get_or all k 0)
+    → take size all ++ visible 0 (drop size all) ≡ visible 0 all
+front-visible all zero within each = refl
+front-visible [] (suc size) within each = absurd (omega (arith, within))
+front-visible (byte ∷ bytes) (suc size) within each =
+    let above = each 0 (omega arith) in
+    ap (λ l. byte ∷ l) (front-visible bytes size (omega (arith, within)) (λ k less. each (suc k) (omega (arith, less))))
+    ∙ sym (visible-kept byte bytes (unequal byte opens (λ e. omega (arith, above, e))) (unequal byte closes (λ e. omega (arith, above, e))))
+
+pub front-closed : (all : List ℕ) (size : ℕ) → size ≤ length all → ((k : ℕ) → k < size → 2 < get_or all k 0) → AreClosedUp all all size 0 size
+front-closed all size within each = record {
+  kept_few = omega arith;
+  depth_few = omega arith;
+  inside = within;
+  as_long = refl;
+  left = front-visible all size within each;
+  plain = front-plain all size each;
+}
+
+next-at : (all bytes : List ℕ) (kept depth at : ℕ) → at < length bytes → AreClosedUp all bytes kept depth at
+    → take kept bytes ++ visible depth (get_or bytes at 0 ∷ drop (at + 1) bytes) ≡ visible 0 all
+next-at all bytes kept depth at less p =
+    let more : at + 1 ≡ suc at = omega arith in
+    ap (λ l. take kept bytes ++ visible depth l) (ap (λ n. get_or bytes at 0 ∷ drop n bytes) more ∙ sym (drop-cons bytes at 0 less)) ∙ p.left
 
 -- a stretch begins,
 pub opened-up : (all bytes : List ℕ) (kept depth at : ℕ) → at < length bytes → AreClosedUp all bytes kept depth at
@@ -148,3 +175,12 @@ pub same-closed : (all : List ℕ) (b c : List ℕ) (k l d e at : ℕ) → c ≡
 same-closed all b c k l d e at same_bytes same_kept same_depth p =
     subst (λ x. AreClosedUp all x l e at) (sym same_bytes)
     (subst (λ x. AreClosedUp all b x e at) (sym same_kept) (subst (λ x. AreClosedUp all b k x at) (sym same_depth) p))
+
+-- one more of the bytes before a place is neither
+pub front-grows : (bytes : List ℕ) (at : ℕ) → ((k : ℕ) → k < at → 2 < get_or bytes k 0) → 2 < get_or bytes at 0
+    → (k : ℕ) → k < at + 1 → 2 < get_or bytes k 0
+front-grows bytes at each more k less = go (nat_eq k at) refl
+  where
+    go : (b : Bool) → nat_eq k at ≡ b → 2 < get_or bytes k 0
+    go true is = subst (λ n. 2 < get_or bytes n 0) (sym (eqb-true k at is)) more
+    go false is = each k (omega (arith, less, eqb-false k at is))

@@ -1,6 +1,6 @@
 // Lists that grow up to a bound.
 
-ghost use Rattle.std.specs.Prelude.{◌≡◌, ◌+◌, ◌-◌, ◌≤◌, ◌∷◌, ◌++◌, ◌<◌, ◌^◌, [], length, take, drop, slice_set, vec_capacity};
+ghost use Rattle.std.specs.Prelude.{ℕ, get_or, ◌≡◌, ◌+◌, ◌-◌, ◌≤◌, ◌∷◌, ◌++◌, ◌<◌, ◌^◌, [], length, take, drop, slice_set, vec_capacity};
 ghost use Rattle.std.specs.Option.{OnSome, IfSome, option_to_list};
 ghost use Rattle.sym_direct.specs.Marked.{visible, HasNoZero};
 
@@ -206,6 +206,18 @@ fn copy_to_end(bytes: &mut Vec<u8>, from: usize, to: usize) -> Option<()>
     Some(())
 }
 
+/// How many bytes are before the first that is a mark or 0.
+fn front_size(bytes: &[u8]) -> usize
+    ensures within { result ≤ length bytes.now }
+    ensures each { (k : ℕ) → k < result → 2 < get_or bytes.now k 0 }
+{
+    let mut at = 0;
+    'front: while at < bytes.len() && bytes[at] > CLOSES {
+        at += 1;
+    }
+    at
+}
+
 /// Moves what isn't between marks to the front, and answers how much it is, unless a 0 is among the bytes.
 fn close_up(bytes: &mut [u8]) -> Option<usize>
     ensures size { IfSome result (λ kept. kept ≤ length bytes.old) }
@@ -213,21 +225,22 @@ fn close_up(bytes: &mut [u8]) -> Option<usize>
     ensures plain { IfSome result (λ kept. HasNoZero (take kept bytes.new)) }
     ensures length { length bytes.new ≡ length bytes.old }
 {
-    let mut kept = 0;
+    let mut at = front_size(bytes);
+    let mut kept = at;
     let mut depth: usize = 0;
-    let mut at = 0;
     'bytes: while at < bytes.len() {
         let byte = bytes[at];
-        if byte == 0 {
-            return None;
-        }
-        if byte == OPENS {
-            depth += 1;
+        if byte > CLOSES {
+            if depth == 0 {
+                bytes[kept] = byte;
+                kept += 1;
+            }
         } else if byte == CLOSES {
             depth = depth.saturating_sub(1);
-        } else if depth == 0 {
-            bytes[kept] = byte;
-            kept += 1;
+        } else if byte == OPENS {
+            depth += 1;
+        } else {
+            return None;
         }
         at += 1;
     }
