@@ -11,7 +11,7 @@ ghost use Rattle.cpp_link.specs.Families.{family_of};
 ghost use Rattle.cpp_link.specs.declared.families.Family.{Family};
 ghost use Rattle.cpp_link.specs.NodeCount.{makes_at_end};
 
-use crate::expressions::{in_parentheses, pair};
+use crate::expressions::pair;
 use crate::linked::Linked;
 use crate::meaning::made;
 use crate::numbers::normal;
@@ -152,7 +152,15 @@ impl Linked {
             // <fold-expr> ::= fl <operator-name> <expression> | fr <operator-name> <expression>, after the f
             Production::LeftFold => self.left_fold(symbol, byte, parts),
             Production::RightFold => self.right_fold(symbol, byte, parts),
-            Production::FoldOperand => made(in_parentheses(self.tree(symbol, parts, 0)), true),
+            Production::FoldOperand => made(
+                Node::Operation {
+                    first: b'(',
+                    second: b')',
+                    left: self.tree(symbol, parts, 0),
+                    right: ABSENT,
+                },
+                true,
+            ),
             Production::FoldPack => made(Node::Expansion(self.tree(symbol, parts, 0)), true),
             // <expression> ::= rq <requirement>+ E | rQ <bare-function-type> _ <requirement>+ E, after the r
             Production::Requires => pair(byte, ABSENT, ABSENT),
