@@ -404,6 +404,8 @@ class Spelling:
             self.arguments, self.listed = None, True
         if leaves_candidate(node):
             self.append(around, began)
+        if node.production == "Constraint":
+            return ()
         if node.kind in self.table.argument_lists:
             return ("PackList" in self.table.parts[node.production] or self.is_pack(node), *(values[-1] or ()))
         return ()
@@ -439,7 +441,7 @@ class Spelling:
             self.encodings += 1
             self.listed = True
             return Around(self.encodings, None, False, False)
-        if node.production == "Lambda":
+        if node.production in ("Lambda", "Constraint"):
             return around._replace(scope=None, in_lambda=True)
         if node.production == "Expansion":
             return around._replace(in_expansion=True)
@@ -450,13 +452,15 @@ def leaves_candidate(node):
     """Whether a type is a candidate after this node."""
     if node.production in ("RestrictType", "VolatileType", "ConstType", "ReferenceType", "LvalueItem", "RvalueItem", "ConvertedConst", "ConvertedPointer", "ConvertedReference"):
         return True
-    return node.production in ("PlainType", "TypeWithD", "PlainArgument", "ArgumentWithT", "ConvertedType", "ConvertedDecltype") and is_new(node.parts[0])
+    return node.production in ("PlainType", "TypeWithD", "PlainArgument", "ArgumentWithT", "ConvertedType", "ConvertedDecltype", "DestroyedType") and is_new(node.parts[0])
 
 
 def is_new(inner):
     """Whether a type isn't a candidate yet, and will be one."""
     if inner.production == "TypeWithS":
         return inner.parts[0].production == "TypeInStd" or inner.parts[1] is not None
+    if inner.production == "LeveledParameter":
+        return is_new(inner.parts[1])
     if inner.production in ("Parameter", "ParameterArgument"):
         return inner.parts[1] is not None
     return inner.production not in ("Builtin", "BuiltinWithD", "SizedFloat", "ConstrainedAuto", "DeclaredArgument")

@@ -166,7 +166,9 @@ def build(extended=True, widened=False):
     ]
     kind("Component", *component, S_NAME, *operators,
         # <prefix> ::= <data-member-prefix> <unqualified-name>, with <data-member-prefix> ::= <prefix> M
-        wide(chain("Holder", "HolderMark", "HeldComponent", before="1: holder", means="part 1")))
+        wide(chain("Holder", "HolderMark", "HeldComponent", before="1: holder", means="part 1")),
+        # <unqualified-name> ::= F <source-name> | F <operator-name>, a friend, perhaps with <template-args>
+        wide(eats("F", "Friend", "Unqualified", "MaybeArguments", before="1: name = name + p0", means="applied")))
     kind("ConstructorAfterC",
         # <ctor-dtor-name> ::= CI1 <base class type> | CI2 <base class type>, after the C, perhaps with <template-args>
         wide(eats("I", "Inheriting", "InheritedDigit", "BaseClass", before="1: inside", means="inheriting!", nodes=2)),
@@ -283,12 +285,14 @@ def build(extended=True, widened=False):
         chain("RestItem", "ItemButRef", "FunctionRest", means="item 0 1"))
     # <ref-qualifier> ::= R | O, before the E of a function type
     REF_END = eats("E", "RefEnd", means="no_value!")
-    # <type> ::= R <type>, a parameter, and those behind it
+    # <type> ::= R <type>, a parameter, and those after it
     kind("AfterR", REF_END, chain("LvalueItem", "Type", "FunctionRest", before="1: lvalue(t0), candidate", means="item 0 1"))
-    # <type> ::= O <type>, a parameter, and those behind it
+    # <type> ::= O <type>, a parameter, and those after it
     kind("AfterO", REF_END, chain("RvalueItem", "Type", "FunctionRest", before="1: rvalue(t0), candidate", means="item 0 1"))
-    # <bare-function-type> ::= <signature type>+
-    kind("Items", chain("Items", "Item", "Items", means="cell 0 1"), empty=True)
+    # Q <constraint-expression>. What it says isn't in the tree; parameters in it are those of no encoding, as in a lambda's signature
+    CONSTRAINT = wide(eats("Q", "Constraint", "Expression", before="all: in a signature", means="no_value!"))
+    # <bare-function-type> ::= <signature type>+, perhaps with what is asked of the template's arguments
+    kind("Items", chain("Items", "Item", "Items", means="cell 0 1"), CONSTRAINT, empty=True)
     # <template-args> ::= I <template-arg>* E; the template name before them is a candidate
     ARGUMENTS = eats("I", "Arguments", "ArgumentsFirst", "'E'", before="0: list the name, inside", means="i0, listed")
     # <unqualified-name> ::= <unqualified-name> <abi-tags>, perhaps with <template-args>; a name without its tags is no candidate
@@ -303,7 +307,7 @@ def build(extended=True, widened=False):
         # <template-arg> ::= <type> | X <expression> E | <template-param-decl> <template-arg>
         chain("AnyArgument", "Argument", "ArgumentList", means="cell 0 1"),
     ]
-    kind("ArgumentList", *arguments, empty=True)
+    kind("ArgumentList", *arguments, CONSTRAINT, empty=True)
     # the same in a pack
     kind("PackList", eats("L", "LiteralElement", "Literal", "'E'", "PackList", means="cell 0 2"),
          chain("AnyElement", "Argument", "PackList", means="cell 0 1"), empty=True)
@@ -336,7 +340,7 @@ def build(extended=True, widened=False):
         if a == "l": rules.append(eats("i", "LiteralOperator", NAME, means="piece literal_operator(x0)"))
         kind("OperatorAfter" + a.upper(), *rules)
     # <nested-name> ::= N [<CV-qualifiers>] [<ref-qualifier>] <template-prefix> <template-args> E, or <prefix> likewise. The name may end
-    # behind these arguments, so it isn't a candidate yet
+    # after these arguments, so it isn't a candidate yet
     kind("NestRestOrEnd", eats("I", "NestInstance", "ArgumentsFirst", "'E'", "NestMoreOrEnd",
                                before="0: list the name, inside; 2: name = instance(name, i0)", means="part 2"),
          chain("NestNext", "Component", "NestTail"))
@@ -349,7 +353,7 @@ def build(extended=True, widened=False):
     kind("ComponentAfterC",
         # <operator-name> ::= cv <type>
         wide(eats("v", "Conversion", "Type", before="0: inside", means="name + conversion(t0)")),
-        # <unqualified-name> ::= <operator-name>, within a nested name, behind a c
+        # <unqualified-name> ::= <operator-name>, within a nested name, after a c
         chain("OperatorNameWithC", "OperatorAfterC", "MaybeArguments", before="1: name = name + operator('c', l0)", means="applied"))
     kind("OtherOperator", *[rule for a, rule in by_letter.items() if a != "c"])
     # the base class of a constructor that is inherited, and the arguments of the constructor itself: after a name without arguments there
@@ -372,15 +376,15 @@ def build(extended=True, widened=False):
                                before="0: list the name, inside; 2: name = instance(name, i0)", means="part 2, or part 0"), empty=True)
     kind("OwnArguments", OWN_ARGUMENTS, empty=True)
     # a pack begins with an I where it is the first argument alone: after a name that I would begin the arguments of the name
-    kind("ArgumentsFirst", *arguments, wide(pack("I")), empty=True)
+    kind("ArgumentsFirst", *arguments, wide(pack("I")), CONSTRAINT, empty=True)
     kind("PlainEntity", *plain_entity)
     kind("PlainTypeEntity", *plain_type_entity)
     # after a G and an St the wide grammar has more than the other: a chain leads to a kind that takes these bytes
     kind("SpecialMark", MARK("G"))
     kind("SpecialAfterG",
-        # <special-name> ::= GV <object name>, behind the G
+        # <special-name> ::= GV <object name>, after the G
         eats("V", "SpecialName", "CompleteName"),
-        # <special-name> ::= GTt <encoding> | GTn <encoding>, behind the G
+        # <special-name> ::= GTt <encoding> | GTn <encoding>, after the G
         wide(eats("T", "Clone", "CloneLetter", "Encoding", means="clone(l0, t1), listed")))
     kind("CloneLetter", MARK("tn"))
     # <unscoped-name> ::= St <unqualified-name>, as a type, perhaps with <abi-tags>
@@ -399,15 +403,19 @@ def build(extended=True, widened=False):
         chain("PlainArgument", "SolidButT", means="part 0, listed", candidate="type 0"),
     ]
     kind("Argument", *argument)
+    PARAMETER_ARGUMENT = chain("ParameterArgument", DECIMAL, "ArgumentsAlone", before="1: parameter after its T", means="applied, listed alone")
     kind("ArgumentAfterT",
-        # <template-arg> ::= <template-param-decl> <template-arg>, behind the T; what is declared of it isn't in the tree
+        # <template-arg> ::= <template-param-decl> <template-arg>, after the T; what is declared of it isn't in the tree
         wide(chain("DeclaredArgument", "DeclarationAfterT", "OneArgument", means="part 1, listed")),
-        # <template-param> ::= T_ | T <parameter number> _, behind the T
-        chain("ParameterArgument", DECIMAL, "ArgumentsAlone", before="1: parameter after its T", means="applied, listed alone"))
+        # <template-param> ::= T_ | T <parameter number> _, after the T
+        PARAMETER_ARGUMENT,
+        # <template-param> ::= TL <level> _ _ | TL <level> _ <parameter number> _, after the T
+        wide(eats("L", "LeveledParameter", DECIMAL, "LeveledParameter", means="part 1")))
+    kind("LeveledParameter", PARAMETER_ARGUMENT)
     kind("OneArgument",
         # <template-arg> ::= <expr-primary>
         eats("L", "OneLiteral", "Literal", "'E'", means="part 0"),
-        # <template-arg> ::= J <template-arg>* E, behind a <template-param-decl>
+        # <template-arg> ::= J <template-arg>* E, after a <template-param-decl>
         eats("J", "OnePack", "PackList", "'E'", means="pack(i0), listed"),
         *argument)
     # in what is declared parameters are those of no encoding, as in a lambda's signature
@@ -442,32 +450,45 @@ def build(extended=True, widened=False):
     SIMPLE_ID = chain("SimpleId", NAME, "ArgumentsAlone", before="1: name = name + source(no, x0), listed", means="applied")
     # <function-param> ::= fp [<CV-qualifiers>] [<number>] _ | fpT
     FUNCTION_PARAMETER = eats("p", "FunctionParameter", "MaybeRestrict", "MaybeVolatile", "MaybeConst", "ParameterNumber", means="part 3")
+    # what is required isn't in the tree
+    def REQUIRES(letter): return eats(letter, "Requires", "Requirements", "'E'", means="pair(byte, absent, absent)")
     second_letters = {
         # <expression> ::= ad <expression>, where the ABI's grammar has the address of an encoding
         "a": [eats("d", "AddressExpression", "AddressedExpression", means="pair(byte, t0, absent)"), wide(binary("SNan")), wide(unary("wz")), wide(of_type("t"))],
         "c": [
             # <expression> ::= cl <expression>+ E
-            eats("l", "Call", E, "Expressions", "'E'", means="pair(byte, t0, i1)"),
+            # <expression> ::= cp <expression>+ E, where the function's name is in parentheses
+            eats("lp", "Call", E, "Expressions", "'E'", means="pair(byte, t0, i1)"),
             binary("m"), unary("o"),
             # <expression> ::= cv <type> <expression> | cv <type> _ <expression>* E
             eats("v", "Convert", "ConvertedType", "ConvertRest", means="pair(l1 or byte, t0, t1)"),
             CAST],
-        "d": [CAST, unary("e"), binary("tsvV")],
+        # <expression> ::= dl <expression> | da <expression>, and [gs] before these is an operator by itself
+        "d": [CAST, unary("ela"), binary("tsvV"),
+              # <base-unresolved-name> ::= dn <destructor-name>
+              eats("n", "DestructorName", "DestructorName", means="pair(byte, t0, absent)")],
         "e": [binary("Ooq")],
         "f": [FUNCTION_PARAMETER,
               # <function-param> ::= fL <number> p [<CV-qualifiers>] [<number>] _
-              eats("L", "OuterParameter", DIGITS, "OuterRest", means="part 1")],
-        "g": [binary("et")],
+              eats("L", "OuterParameter", DIGITS, "OuterRest", means="part 1"),
+              # <fold-expr> ::= fl <operator-name> <expression> | fr <operator-name> <expression>
+              eats("l", "LeftFold", "FoldOperator", "FoldOperand", means="pair(byte, operation(first0, second0, absent, t1), absent)"),
+              eats("r", "RightFold", "FoldOperator", "FoldOperand", means="pair(byte, operation(first0, second0, t1, absent), absent)")],
+        "g": [binary("et"), unary("s")],
         # <expression> ::= il <expression>* E
         "i": [eats("l", "Braces", "Expressions", "'E'", means="pair(byte, i0, absent)"), binary("x")],
         "l": [binary("Sest")],
         "m": [binary("ILil"), step("m")],
-        "n": [binary("e"), unary("gtx")],
+        "n": [binary("e"), unary("gtx"),
+              # <expression> ::= nw <expression>* _ <type> <initializer> | na <expression>* _ <type> <initializer>
+              eats("wa", "New", "Placement", "Type", "Initializer", means="pair(byte, t0, operation('n', '_', t1, t2))")],
         "o": [binary("Ror"), ON],
         "p": [binary("Llmt"), unary("s"), step("p")],
         # <expression> ::= qu <expression> <expression> <expression>
         "q": [eats("u", "Conditional", E, E, E, means="pair(byte, t0, operation('q', ':', t1, t2))")],
-        "r": [binary("MSms"), CAST],
+        "r": [binary("MSms"), CAST,
+              # <expression> ::= rq <requirement>+ E | rQ <bare-function-type> _ <requirement>+ E
+              REQUIRES("q"), eats("Q", "RequiresOf", "RequiredTypes", means="pair(byte, absent, absent)")],
         "s": [CAST,
               # <expression> ::= sp <expression>
               eats("p", "ExpandExpression", E, before="0: under it", means="expansion(t0), listed", packs="own"),
@@ -477,7 +498,7 @@ def build(extended=True, widened=False):
               eats("r", "Unresolved", "Unresolved", means="part 0"),
               binary("s"), of_type("t"), unary("z")],
         # <expression> ::= tl <type> <expression>* E
-        "t": [eats("l", "TypedBraces", "Type", "Expressions", "'E'", means="pair(byte, t0, i1)"), of_type("i"), unary("e")],
+        "t": [eats("l", "TypedBraces", "Type", "Expressions", "'E'", means="pair(byte, t0, i1)"), of_type("i"), unary("ew")],
     }
     by_first = [eats(a, E + a.upper(), f"ExpressionAfter{a.upper()}", means="by_letters!", nodes=1) for a in second_letters]
     # <expression> ::= <template-param> [<template-args>]
@@ -491,6 +512,19 @@ def build(extended=True, widened=False):
     for a, rules in second_letters.items(): kind(f"ExpressionAfter{a.upper()}", *rules)
     kind("Expressions", chain("Expressions", E, "Expressions", means="elements!", nodes=2), empty=True)
     kind("MaybeBefore", MARK("_"), empty=True)
+    # an operator of two letters, between the elements of a pack
+    kind("FoldOperator", *[rule for a, rule in by_letter.items() if a != "l"], eats("l", "FoldOperatorL", "FoldOperatorAfterL", means="piece operator(byte, l0)"))
+    kind("FoldOperatorAfterL", MARK(dict(OPS)["l"]))
+    kind("FoldOperand", chain("FoldOperand", "FoldPack", means="operation('(', ')', t0, absent), listed"))
+    kind("FoldPack", chain("FoldPack", E, before="0: under it", means="expansion(t0), listed", packs="own"))
+    # after new where it is placed, which may not be said
+    kind("Placement", MARK("_"), chain("Placed", "SomeExpressions", "'_'", means="operation('n', '(', t0, absent), listed"))
+    kind("SomeExpressions", chain("Expressions", E, "Expressions"))
+    # <initializer> ::= pi <expression>* E | il <expression>* E, or only an E
+    kind("Initializer", eats("E", "RefEnd"), eats("p", "Initializer", "InitializerAfterP", means="by_letters!", nodes=1),
+         eats("i", "BracedInitializer", "InitializerAfterI", means="by_letters!", nodes=1))
+    kind("InitializerAfterP", eats("i", "Braces", "Expressions", "'E'"))
+    kind("InitializerAfterI", eats("l", "Braces", "Expressions", "'E'"))
     kind("OuterRest", FUNCTION_PARAMETER)
     kind("ParameterNumber", eats("T", "This", means="operation('f', 'T', absent, absent), listed"), chain("ParameterNumber", DECIMAL, means="function_parameter(d0), listed"))
     # a type that doesn't end in a discriminator, since a _ may come after it; it is a candidate by itself
@@ -512,6 +546,19 @@ def build(extended=True, widened=False):
         chain("Levels", "Level", "MoreLevels", means="operation('s', 'r', t0, t1), listed"))
     unresolved = ("Parameter", "TypeWithS", "NestedType")
     kind("UnresolvedType", eats("D", "ConvertedDecltype", "DecltypeAfterD"), *[rule for rule in solid if rule[1] in unresolved])
+    # <destructor-name> ::= <unresolved-type> | <simple-id>
+    kind("DestructorName", chain("DestroyedType", "UnresolvedType", means="part 0, listed", candidate="type 0"), SIMPLE_ID)
+    # <requirement> ::= X <expression> [N] [R <type-constraint>] | T <type> | Q <constraint-expression>
+    requirements = [
+        eats("X", "ExpressionRequirement", E, "AfterExpression", means="byte"),
+        eats("T", "TypeRequirement", "Type", "Requirements", means="byte"),
+        eats("Q", "NestedRequirement", E, "Requirements", means="byte"),
+    ]
+    RESULT = eats("R", "ResultRequirement", "Concept", "Requirements", means="byte")
+    kind("Requirements", *requirements, empty=True)
+    kind("AfterExpression", eats("N", "NoexceptRequirement", "AfterNoexcept", means="byte"), RESULT, *requirements, empty=True)
+    kind("AfterNoexcept", RESULT, *requirements, empty=True)
+    kind("RequiredTypes", REQUIRES("_"), chain("RequiredType", "ConvertedType", "RequiredTypes", means="part 1"))
     kind("Level", SIMPLE_ID)
     kind("MoreLevels", eats("E", "LevelsEnd", "UnresolvedName", means="part 0"), chain("Levels", "Level", "MoreLevels"))
     kind("UnresolvedName", eats("o", "UnresolvedOperator", "OperatorName", means="part 0"), SIMPLE_ID)
@@ -519,9 +566,9 @@ def build(extended=True, widened=False):
     # <array-type>, with a length that is a parameter, or a number, or isn't said
     kind("AnyArray", eats("A", "AnyArray", "ArrayRest", means="part 0"))
     kind("ArrayRest",
-        # <array-type> ::= A <expression> _ <element type>, behind the A
+        # <array-type> ::= A <expression> _ <element type>, after the A
         wide(chain("BoundedArray", "Bound", "'_'", "Type", means="bounded(t0, t2)")),
-        # <array-type> ::= A <number> _ <element type>, behind the A
+        # <array-type> ::= A <number> _ <element type>, after the A
         chain("LengthArray", DECIMAL, "Type", means="array(d0, t1)"))
     # a length that is no number
     kind("Bound", *by_first, PARAMETER_EXPRESSION, LITERAL_EXPRESSION)

@@ -7,7 +7,7 @@ hand."""
 import re, sys
 from annotated import names_of, read, used
 
-SHARED = "is_operator is_encoding is_one_piece pressed".split()
+SHARED = "is_operator is_encoding is_component is_name is_one_piece pressed".split()
 
 # what differs: each text occurs once
 CHANGED = [

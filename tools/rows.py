@@ -81,11 +81,12 @@ def pressed_row(reference, symbol):
 def listed_presses(reference):
     """the short symbols that are pressed, each with the spelling that the reference agrees with"""
     out = []
-    for line in open(f"{HERE}/../crates/check_rows/stdin"):
-        words = line.rstrip("\n").split("\t")
-        if words[0] != "press" or not words[1].startswith("_Z") or len(words[1]) > 120: continue
-        text = pressed_row(reference, words[1].encode())
-        assert text == f"presses {quoted(words[1].encode())} {quoted(words[2].encode())}", line
+    # other rows have bytes that are no text
+    for line in open(f"{HERE}/../crates/check_rows/stdin", "rb"):
+        words = line.rstrip(b"\n").split(b"\t")
+        if words[0] != b"press" or not words[1].startswith(b"_Z") or len(words[1]) > 120: continue
+        text = pressed_row(reference, words[1])
+        assert text == f"presses {quoted(words[1])} {quoted(words[2])}", line
         out.append(text)
     return out
 

@@ -5,6 +5,9 @@ of the crates)."""
 import os, re, sys
 sys.path.insert(0, os.path.dirname(os.path.abspath(__file__)))
 import grammar
+import layouts
+import payments
+import spellings
 import vocabulary as words
 from meanings import makers
 from vocabulary import OWN, OUTSIDE, INSIDE, SIGNATURE, TREE, PIECE, BYTES, NUMBER, TRUTH, QUALIFIERS, MARK, SIGNED, THUNK, DISCRIMINATOR
@@ -410,6 +413,15 @@ def is_below():
         return facts[0] if len(facts) == 1 else " × ".join(f"({f})" if " < " in f else f for f in facts)
     return node_cases("IsBelow", ["s", "held", "n"], [], right, "Unit {0}", {("FunctionType", "n"): "e", ("Integer", "n"): "v"})
 
+def below_later():
+    """a node's bounds, at a later place"""
+    later = {PIECE: "piece-later s m n {0} {1} most", UNDER: "there-later m n (under_kept {0}) {1} most", TREE: "omega (arith, {1}, most)", OWN: "omega (arith, {1}, most)"}
+    def right(node, tree, args):
+        facts = [later.get(sort, "{1}").format(name, bound) for name, sort, bound in placed(args, tuple(BELOW))]
+        return None if not facts else facts[0] if len(facts) == 1 else f"({', '.join(facts)})"
+    renamed = {(node, name): {"m": "k", "n": "e", "b": "v"}[name] for node, tree, args in nodes() for name, sort in args if name in ("m", "n", "b")}
+    return node_cases("below-later", ["s", "held", "m", "n"], ["b", "most"], right, "tt", renamed)
+
 def placed(args, over):
     """the arguments of these sorts, each with the fact of its bound: a part of b where there are several bounds"""
     all_ = bounds(args)
@@ -469,6 +481,13 @@ def first_of(parts): return parts[0] if len(parts) == 1 else applied("first_of",
 NOTED = ["nil", "alone", "in_std", "within", "instance", "local", "holder", "tagged", "of_default", "parameter", "constrained", "pointer", "lvalue", "rvalue", "array", "bounded", "member_pointer", "function_type", "qualified",
          "vector", "complex", "decltype", "expansion", "integer", "operation", "pack", "list", "again"]
 SORTS = {PIECE: ("p", "Piece"), BYTES: ("d", "Span"), MARK: ("m", "Mark"), QUALIFIERS: ("q", "Qualifiers"), SIGNED: ("v", "Signed"), DISCRIMINATOR: ("d", "Option Span")}
+# the types of a node's arguments
+NODE_TYPES = {TREE: "ℕ", OWN: "ℕ", INSIDE: "ℕ", OUTSIDE: "ℕ", SIGNATURE: "ℕ", NUMBER: "ℕ", THUNK: "ℕ", UNDER: "ℕ", TRUTH: "Bool", **{sort: type for sort, (letter, type) in SORTS.items()}}
+def by_nodes(name, matched, functions):
+    """false of the nodes for which these functions have arms"""
+    found = [node for function in functions for node in matched[function]] + ["Reargued"]
+    return [f"{name} {node_pattern(node, args)} = ⊥" for node, tree, args in sorted(nodes(), key=lambda n: found.index(n[0]) if n[0] in found else 0) if node in found] + [f"{name} _ = Unit {{0}}"]
+
 def noted_nodes():
     """each with its name, and its arguments with their types"""
     known = {tree: (node, args) for node, tree, args in nodes()}
@@ -508,12 +527,10 @@ def declared(text, name):
     end = text.find("\n\n", signature.start())
     return text.rfind("\n\n", 0, signature.start()) + 2, len(text.rstrip("\n")) if end < 0 else end
 
-def with_wrappers(text, template):
-    """the text, with the declaration of each wrapper: where it is, or else after that of the one before"""
+def with_declarations(text, owns):
+    """the text, with these declarations: each where it is, or else after the one before"""
     behind = None
-    for tree, production, letter in words.WRAPPERS:
-        own = template
-        for word, meant in (("TREE", tree), ("PRODUCTION", production), ("LETTER", letter), ("CODE", str(ord(letter)))): own = own.replace(word, meant)
+    for own in owns:
         name = re.match(r"(?:pub )?(\S+) : ", own).group(1)
         place = declared(text, name)
         own = f"-- {WRITTEN}\n{own}"
@@ -521,6 +538,12 @@ def with_wrappers(text, template):
         else: text = f"{text[:behind]}\n\n{own}{text[behind:]}"
         behind = declared(text, name)[1]
     return text
+
+def of_wrappers(template):
+    for tree, production, letter in words.WRAPPERS:
+        own = template
+        for word, meant in (("TREE", tree), ("PRODUCTION", production), ("LETTER", letter), ("CODE", str(ord(letter)))): own = own.replace(word, meant)
+        yield own
 
 # ## Productions
 
@@ -661,12 +684,14 @@ def arms_by_production(found):
     yield "cpp_link/src/finish.rt", "finish_rule", list(arms("finish_as", words.COMMON))
     yield "cpp_link/src/between.rt", "before_by_step", list(arms("before_as", words.COMMON_BEFORE))
     yield "cpp_link/src/families.rt", "family_of", [f"        Production::{p} => Family::{family}," for family, productions in found.items() for p in productions]
+    compared = [(node, args) for node, tree, args in nodes() if tree in words.COMPONENTS]
+    yield "cpp_spelling/src/types.rt", "is_component", [f"        Node::{node}{'(_)' if len(args) == 1 else ' { .. }'} => true," for node, args in compared]
 
 def with_arms(text, function, lines):
     """the text, with these lines as the arms after the line that says so, up to the other ones or the end of the match"""
     start = text.index(f"// {WRITTEN}", re.search(rf"\bfn {function}\(", text).end())
     start = text.index("\n", start) + 1
-    end = re.compile(r"^(?:            _ =>| {4}(?: {4})?\})", re.M).search(text, start).start()
+    end = re.compile(r"^(?: +_ =>| {4}(?: {4})?\})", re.M).search(text, start).start()
     return text[:start] + "\n".join(lines) + "\n" + text[end:]
 
 # ## Declarations
@@ -686,6 +711,10 @@ def declarations():
     yield "cpp_press_laws/proofs/Components/Complete.antt", "inside-shut", inside_shut()
     yield "cpp_press_laws/proofs/Components/Growing.antt", "size", fold("size", [], lambda parts: f"suc ({' + '.join(parts)})", "1", trees=named(PRESSED))
     yield "cpp_press_laws/specs/Apart.antt", "IsNeverReferred", never_referred()
+    yield "cpp_press_laws/specs/Pressing.antt", "is_component", cases("is_component", [], [], lambda t: "true" if t[0] in words.COMPONENTS else None, "false", named(PRESSED))
+    yield "cpp_press_laws/specs/Pressing.antt", "is_encoding", cases("is_encoding", [], [], lambda t: "true" if t[0] in words.ENCODINGS else None, "false", named(PRESSED))
+    yield "cpp_press_laws/proofs/Components/Parts.antt", "PrefixOr", cases("PrefixOr", [], ["inside", "x"], lambda t: "⊥" if t[0] in words.ENCODINGS else None, None, named(PRESSED)) + ["PrefixOr t inside x = ItselfOr t inside x"]
+    yield "cpp_spelling/proofs/Made.antt", "below-later", below_later()
     yield "cpp_spelling/specs/Weight.antt", "weight", fold("weight", [], summed("12"), "12", trees=named(PRESSED))
     nowhere = {"symbol": None, "construction": None, "clone": None, "holder": None, "sized_float": None, "constrained": None, "generic_lambda": None, "bounded": None, "of_default": None, "conversion": None, "inheriting": None, "decltype": None, "operation": None, "function_parameter": None, "absent": None, ("order", "function"): ["name", "returned", "parameters", "q", "ref"]}
     yield "cpp_press_laws/proofs/Components/FewComponents.antt", "counts", by_each("counts", "few", [], nowhere, {"local": "local-name", "address_of": "address"})
@@ -779,6 +808,14 @@ def rewritten(text, name, lines):
     else: text_above = text[:start] + f"{indent}-- {WRITTEN}\n"
     return text_above + text[start:first.start()] + "\n".join(indent + l for line in lines for l in line.split("\n")) + text[end:]
 
+def extended(text, name, lines):
+    """the text, with these lines as those clauses of a name that come after the line that says who writes them, up to a comment or its end"""
+    signature = re.search(rf"^(?:(?:unfoldable|abbrev|pub) )*{re.escape(name)} : ", text, re.M)
+    start = re.compile(rf"^-- {re.escape(WRITTEN)}.*(?:\n--.*)*", re.M).search(text, signature.end()).end()
+    assert "\n\n" not in text[signature.end():start], f"{name} has no clauses that are written"
+    end = re.compile(r"\n(?:\n|--)|\s*\Z").search(text, start).start()
+    return text[:start] + "".join("\n" + line for line in lines) + text[end:]
+
 def files(crates):
     """the files that have declarations which are written, by their paths in the folder of the crates, and their texts"""
     found = families(crates)
@@ -787,18 +824,20 @@ def files(crates):
              "cpp_tree/proofs/nodes/Nodes/noted/Answers.antt": noted_answers(),
              "cpp_link/proofs/linked/Linked/finish_rule/Answers.antt": rare_answers("finish_rule", "finish_rare-requires-clause-rare", "", "c.production_of-production.result", "", UNREAD_IMPORTS, UNREAD_ANSWER),
              "cpp_link/proofs/linked/Linked/outcome/Answers.antt": rare_answers("outcome", "unreachable-requires", "c.requires.common (", "c.args.production", ")")}
-    for path, name, lines in declarations():
+    for path, name, lines in [*declarations(), *payments.declarations(crates)]:
         if path not in texts:
             with open(f"{crates}/{path}", encoding="utf-8") as f: texts[path] = f.read()
         texts[path] = rewritten(texts[path], name, lines)
-    for path, template in wrapper_templates():
+    texts["cpp_layout/proofs/Others.antt"], answers, matched = layouts.files(crates, {node: [NODE_TYPES[sort] for name, sort in args] for node, tree, args in nodes()})
+    edits = [(path, with_declarations, [of_wrappers(template)]) for path, template in wrapper_templates()]
+    edits += [(path, with_declarations, [["\n".join(lines)]]) for path, lines in [*answers, *spellings.lemmas(named(PRESSED))]]
+    edits += [("cpp_layout/specs/Layout.antt", rewritten, [name, by_nodes(name, matched, functions)]) for name, functions in (("IsNoName", layouts.LEFT[:1]), ("IsNoType", layouts.LEFT[:2]))]
+    edits += [(path, extended, [name, lines]) for path, name, lines in spellings.declarations(named(PRESSED))]
+    edits += [(path, with_arms, [function, lines]) for path, function, lines in arms_by_production(found)]
+    for path, edit, arguments_ in edits:
         if path not in texts:
             with open(f"{crates}/{path}", encoding="utf-8") as f: texts[path] = f.read()
-        texts[path] = with_wrappers(texts[path], template)
-    for path, function, lines in arms_by_production(found):
-        if path not in texts:
-            with open(f"{crates}/{path}", encoding="utf-8") as f: texts[path] = f.read()
-        texts[path] = with_arms(texts[path], function, lines)
+        texts[path] = edit(texts[path], *arguments_)
     return texts
 
 def main():

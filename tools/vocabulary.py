@@ -202,6 +202,7 @@ def cast(code, word): return (code, POSTFIX, word + "<", BOTH, ">(", LEFT, ")")
 # operation: p_ and m_ for an operator before its operand, c_ for a conversion of a list, q: for what follows the condition, () for parentheses
 OPERATIONS = [
     before("ps", "+"), before("ng", "-"), before("ad", "&"), before("de", "*"), before("co", "~"), before("nt", "!"), before("aw", "co_await "),
+    before("dl", "delete "), before("da", "delete[] "), ("tw", ASSIGN, "throw ", ALWAYS, "", NONE, ""), ("gs", PRIMARY, "::", LEFT, "", NONE, ""),
     before("p_", "++"), before("m_", "--"), after("pp", "++"), after("mm", "--"),
     ("ds", POINTER, "", POINTER + 1, ".*", POINTER, ""), ("pm", POINTER, "", POINTER + 1, "->*", POINTER, ""),
     infix("ml", "*", TIMES), infix("dv", "/", TIMES), infix("rm", "%", TIMES), infix("pl", "+", PLUS), infix("mi", "-", PLUS),
@@ -220,7 +221,12 @@ OPERATIONS = [
     applied("ti", "typeid", BOTH), applied("te", "typeid", LEFT), applied("st", "sizeof", BOTH), applied("sz", "sizeof", LEFT),
     applied("at", "alignof", BOTH), applied("az", "alignof", LEFT), applied("nx", "noexcept", LEFT),
     ("sZ", PRIMARY, "sizeof...(", LEFT, ")", NONE, ""), ("sr", PRIMARY, "", LEFT, "::", LEFT, ""), ("fT", PRIMARY, "this", NONE, "", NONE, ""),
-    ("()", PRIMARY, "(", LEFT, ")", NONE, ""),
+    ("()", PRIMARY, "(", LEFT, ")", NONE, ""), ("dn", PRIMARY, "~", BOTH, "", NONE, ""), ("cp", POSTFIX, "(", LEFT, ")(", LIST, ")"),
+    # new: where, and of which type, n_, with which initializer
+    ("nw", UNARY, "new", LEFT, " ", LEFT, ""), ("na", UNARY, "new[]", LEFT, " ", LEFT, ""), ("n(", PRIMARY, "(", LIST, ")", NONE, ""),
+    ("n_", PRIMARY, "", BOTH, "", LEFT, ""), ("pi", PRIMARY, "(", LIST, ")", NONE, ""),
+    ("fl", PRIMARY, "(...", LEFT, ")", NONE, ""), ("fr", PRIMARY, "(", LEFT, "...)", NONE, ""),
+    ("rq", PRIMARY, "requires {...}", NONE, "", NONE, ""), ("rQ", PRIMARY, "requires (...) {...}", NONE, "", NONE, ""),
 ]
 
 # the productions in which parts without a row may be between those with one
@@ -234,7 +240,7 @@ LEAVES = """NestWithS NestParameter NestInternal NestLocalType NestSource NestSt
     Abbreviation Substitution NestedType Expansion ItemIsType BuiltinWithD Vector NoexceptFunction Decltype Pointer MemberPointer
     Parameter TypeWithS LocalType Builtin Vendor Function Complex AbbreviatedType SizedFloat
     TypeInStd ArrayType AnyArray LengthArray BoundedArray
-    ParameterArgument DeclaredArgument ConstrainedAuto ConvertedDecltype""".split()
+    ParameterArgument LeveledParameter DeclaredArgument ConstrainedAuto ConvertedDecltype""".split()
 
 # The productions that are common in real symbols: where they close, and before the parts of some, they have code of their own, in which
 # what is done for a production is a constant. All others share theirs.
@@ -315,6 +321,69 @@ WRAPPERS = [
 # those that are components, and may be referred to as types and prefixes: all types but builtin ones and abbreviations, and names
 COMPONENTS = """alone in_std within instance local tagged parameter vendor pointer lvalue rvalue array member_pointer function_type qualified vector
     complex expansion""".split()
+
+# How a tree is pressed: as a component, another type, an argument, a piece of a name, an encoding, a prefix or not at all, and its parts in their
+# order: bytes, as antt has them, or a subtree and the way that it is in. Arguments have the names of the crates that press. What fits nowhere
+# is read by the wide grammar alone. A tree whose spelling depends on where it is has no row, but clauses by hand.
+SPELLED = {
+    "special": 'encoding | codes "T" ++ l ∷ [] | type.as_type',
+    "thunk": 'encoding | thunk_text kind | e.as_encoding',
+    "construction": 'nowhere encoding | codes "TC" | derived.as_type | digits ++ codes "_" | parent.as_type',
+    "clone": 'nowhere encoding | codes "GT" | letter ∷ [] | e.as_encoding',
+    "holder": 'nowhere prefix | name.as_prefix | codes "M"',
+    "tagged": 'component | name.as_type | codes "B" ++ counted tag',
+    "of_default": "nowhere none",
+    "abbreviation": 'type | codes "S" ++ l ∷ []',
+    "parameter": 'component | codes "T" ++ ordinal k',
+    "source": 'piece | cond internal (codes "L") [] ++ counted name',
+    "operator": 'piece | a ∷ b ∷ []',
+    "literal_operator": 'piece | codes "li" ++ counted name',
+    "constructor": 'piece | codes "C" ++ digit ∷ []',
+    "destructor": 'piece | codes "D" ++ digit ∷ []',
+    "inheriting": "nowhere none",
+    "lambda": 'piece | codes "Ul" | parameters.as_parameters | codes "E" ++ ordinal (k - 1)',
+    "generic_lambda": "nowhere none",
+    "unnamed": 'piece | codes "Ut" ++ ordinal (k - 1)',
+    "string_literal": 'piece | codes "s"',
+    "conversion": 'nowhere piece | codes "cv" | type.as_type',
+    "builtin": 'type | code',
+    "sized_float": 'nowhere type | codes "DF" | digits | end ∷ []',
+    "constrained": "nowhere none",
+    "vendor": 'component | codes "u" ++ counted name',
+    "pointer": 'component | codes "P" | type.as_type',
+    "lvalue": 'component | codes "R" | type.as_type',
+    "rvalue": 'component | codes "O" | type.as_type',
+    "array": 'component | codes "A" ++ digits ++ codes "_" | type.as_type',
+    "bounded": "nowhere none",
+    "member_pointer": 'component | codes "M" | class.as_type | member.as_type',
+    "qualified": 'component | qualifier_letters q | type.under_qualifiers',
+    "vector": 'component | codes "Dv" ++ digits ++ codes "_" | type.as_type',
+    "complex": 'component | codes "C" | type.as_type',
+    "decltype": "nowhere none",
+    "expansion": 'component | codes "Dp" | pattern.as_type',
+    "integer": 'argument | codes "L" | type.as_type | signed_text value ++ codes "E"',
+    "boolean": 'argument | cond truth (codes "Lb1E") (codes "Lb0E")',
+    "null_pointer": 'argument | codes "LDnE"',
+    "encoding_literal": 'argument | codes "L_Z" | e.as_encoding | codes "E"',
+    "address_of": 'argument | codes "XadL_Z" | e.as_encoding | codes "EE"',
+    "operation": "nowhere none",
+    "function_parameter": "nowhere none",
+    "pack": 'argument | codes "J" | elements.as_elements | codes "E"',
+    "absent": "nowhere none",
+}
+
+# what a type before whose type are bytes needs so that it fits, beside that type
+FITTING = {
+    "pointer": "",
+    "lvalue": "takes_all slot ≡ true",
+    "rvalue": "takes_all slot ≡ true",
+    "array": "takes_all slot ≡ true | AreSpellableDigits Decimal digits",
+    "qualified": "takes_qualified slot ≡ true | has_letters q ≡ true",
+    "vector": "takes_all slot ≡ true | AreSpellableDigits Digits digits",
+    "complex": "takes_all slot ≡ true",
+}
+# the trees that are encodings
+ENCODINGS = "function object special thunk of_name construction clone".split()
 
 # ## Rust v0 (RFC 2603)
 

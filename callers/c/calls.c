@@ -68,7 +68,7 @@ static void texts(void)
     is_refused("_RNvB_3foo", 99, 0, SYMDEMANGLE_BAD_REFERENCE, 4);
     is_refused("_RNvCszzzzzzzzzzz_3foo3bar", 99, 0, SYMDEMANGLE_BAD_VALUE, 5);
     is_refused("_Z1fv", 5, 0, SYMDEMANGLE_TOO_LONG, 0);
-    is_refused("_Z1fQ", 99, 0, SYMDEMANGLE_MALFORMED, 4);
+    is_refused("_Z1fY", 99, 0, SYMDEMANGLE_MALFORMED, 4);
     is_refused("_Z1fS_", 99, 0, SYMDEMANGLE_BAD_REFERENCE, 4);
     is_refused("_ZN1AUt18446744073709551614_E", 99, 0, SYMDEMANGLE_BAD_VALUE, 5);
     is_refused("_RNvC3foo3bar", 99, 64, SYMDEMANGLE_FLAGS, 0);
@@ -111,7 +111,7 @@ static void names_of_other_kinds(void)
     has_text("_Z1fv", 99, SYMDEMANGLE_UNDERSCORE, "f()");
     has_text("__RNvC3foo3bar", 99, SYMDEMANGLE_UNDERSCORE, "foo::bar");
     has_text("__ZN1AC4Ev", 99, SYMDEMANGLE_UNDERSCORE + SYMDEMANGLE_WIDE, "A::A()");
-    is_refused("__Z1fQ", 99, SYMDEMANGLE_UNDERSCORE, SYMDEMANGLE_MALFORMED, 5);
+    is_refused("__Z1fY", 99, SYMDEMANGLE_UNDERSCORE, SYMDEMANGLE_MALFORMED, 5);
     is_refused("__RNvB_3foo", 99, SYMDEMANGLE_UNDERSCORE, SYMDEMANGLE_BAD_REFERENCE, 5);
     is_refused("__ZN1AC6Ev", 99, SYMDEMANGLE_UNDERSCORE + SYMDEMANGLE_WIDE, SYMDEMANGLE_MALFORMED, 7);
     is_refused("__Z1fv", 99, 0, SYMDEMANGLE_NO_SYMBOL, 0);
@@ -130,7 +130,7 @@ static void is_told(const symdemangle_result *told, uint32_t status, size_t leng
 
 static void many(void)
 {
-    static const char names[] = "_Z1fv_RNvC3foo3bar_Z1fQmain_RNvC3foo3baz";
+    static const char names[] = "_Z1fv_RNvC3foo3bar_Z1fYmain_RNvC3foo3baz";
     static const size_t ends[] = {5, 18, 23, 27, 40}, falling[] = {5, 4}, beyond[] = {5, 99};
     static const symdemangle_result untold = {9, 9, 9};
     symdemangle_result told[5];
@@ -139,7 +139,7 @@ static void many(void)
     check(symdemangle_texts(names, length, ends, 5, 99, 0, buffer, sizeof buffer, told) == SYMDEMANGLE_OK, "many", "");
     is_told(&told[0], SYMDEMANGLE_OK, 3, 0, "_Z1fv");
     is_told(&told[1], SYMDEMANGLE_OK, 8, 0, "_RNvC3foo3bar");
-    is_told(&told[2], SYMDEMANGLE_MALFORMED, 0, 4, "_Z1fQ");
+    is_told(&told[2], SYMDEMANGLE_MALFORMED, 0, 4, "_Z1fY");
     is_told(&told[3], SYMDEMANGLE_NO_SYMBOL, 0, 0, "main");
     is_told(&told[4], SYMDEMANGLE_OK, 8, 0, "_RNvC3foo3baz");
     check(memcmp(buffer, "f()foo::barfoo::baz", 19) == 0 && is_kept(19), "texts of many", "");
@@ -161,7 +161,7 @@ static void many(void)
 
 static void many_of_other_kinds(void)
 {
-    static const char names[] = "_ZN1AC4Ev_Z1fv__Z1fQ_ZN1a1b17h0123456789abcdefE";
+    static const char names[] = "_ZN1AC4Ev_Z1fv__Z1fY_ZN1a1b17h0123456789abcdefE";
     static const size_t ends[] = {9, 14, 20, 47};
     static const uint32_t flags = SYMDEMANGLE_WIDE + SYMDEMANGLE_LEGACY + SYMDEMANGLE_UNDERSCORE;
     symdemangle_result told[4];
@@ -169,7 +169,7 @@ static void many_of_other_kinds(void)
     check(symdemangle_texts(names, 47, ends, 4, 99, flags, buffer, sizeof buffer, told) == SYMDEMANGLE_OK, "many, wide", "");
     is_told(&told[0], SYMDEMANGLE_OK, 6, 0, "_ZN1AC4Ev");
     is_told(&told[1], SYMDEMANGLE_OK, 3, 0, "_Z1fv");
-    is_told(&told[2], SYMDEMANGLE_MALFORMED, 0, 5, "__Z1fQ");
+    is_told(&told[2], SYMDEMANGLE_MALFORMED, 0, 5, "__Z1fY");
     is_told(&told[3], SYMDEMANGLE_OK, 4, 0, "_ZN1a1b17h0123456789abcdefE");
     check(memcmp(buffer, "A::A()f()a::b", 13) == 0 && is_kept(13), "texts of many, wide", "");
 }

@@ -36,7 +36,7 @@ int main()
     is(texts_or_names({"_Z1fv", "main", "_RNvC3foo5000" + name, ""}), std::vector<std::string>{"f()", "main", "foo::" + name, ""}, "many");
     is(texts_or_names({}), std::vector<std::string>{}, "none of many");
     tally found = {9, 9, 9};
-    is(filtered("at _Z1fv. _Z1fQ", {}, &found), "at f(). _Z1fQ", "filter");
+    is(filtered("at _Z1fv. _Z1fY", {}, &found), "at f(). _Z1fY", "filter");
     is(found.words == 2 && found.replaced == 1 && found.refused == 1, true, "tally");
     is(filtered(std::string(9999, '-') + "_Z1fv"), std::string(9999, '-') + "f()", "a long filtered text");
     is(filtered("_Z1fv", {64, 99}), std::nullopt, "a flag that is none");

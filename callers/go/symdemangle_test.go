@@ -22,7 +22,7 @@ func TestText(t *testing.T) {
 	for name, wanted := range map[string]Error{
 		"main":   {11, 0},
 		"":       {11, 0},
-		"_Z1fQ":  {1, 4},
+		"_Z1fY":  {1, 4},
 		"__Z1fv": {11, 0},
 	} {
 		_, err := Text(name, 0)
@@ -30,13 +30,13 @@ func TestText(t *testing.T) {
 			t.Error(name, err)
 		}
 	}
-	if _, err := Text("_Z1fQ", 0); err.Error() != "malformed symbol at 4" {
+	if _, err := Text("_Z1fY", 0); err.Error() != "malformed symbol at 4" {
 		t.Error(err)
 	}
 }
 
 func TestFilter(t *testing.T) {
-	if text, err := Filter("at _Z1fv. _Z1fQ", 0); err != nil || text != "at f(). _Z1fQ" {
+	if text, err := Filter("at _Z1fv. _Z1fY", 0); err != nil || text != "at f(). _Z1fY" {
 		t.Error(text, err)
 	}
 	if text, err := Filter("", 0); err != nil || text != "" {

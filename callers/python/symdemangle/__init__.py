@@ -9,7 +9,7 @@
 ['f()', 'foo::bar']
 >>> symdemangle.filter_text("at _ZN3foo3barEPKc+0x10")
 'at foo::bar(char const*)+0x10'
->>> symdemangle.try_demangle("_Z1fQ")
+>>> symdemangle.try_demangle("_Z1fY")
 Traceback (most recent call last):
 symdemangle.Refused: malformed symbol at 4
 

@@ -50,7 +50,7 @@ class Calls(unittest.TestCase):
             symdemangle.demangle(name, briefly=True)
 
     def test_refusals(self):
-        self.refused("_Z1fQ", 1, 4)
+        self.refused("_Z1fY", 1, 4)
         self.refused("_Z1fS_", 2, 4)
         self.refused("_Z1fv", 4, 0, limit=5)
         self.refused("main", 11, 0)
@@ -67,14 +67,14 @@ class Calls(unittest.TestCase):
         self.assertEqual(symdemangle.demangle_all(["_Z1fIJicEEvDpT_"] * 3, no_parameters=True, brief=True), ["f"] * 3)
 
     def test_filters(self):
-        self.assertEqual(symdemangle.filter_text("at _Z1fv. _Z1fQ"), "at f(). _Z1fQ")
+        self.assertEqual(symdemangle.filter_text("at _Z1fv. _Z1fY"), "at f(). _Z1fY")
         self.assertEqual(symdemangle.filter_bytes(b"\xff _Z1fv \0"), b"\xff f() \0")
         self.assertEqual(symdemangle.filter_text("‘_Z1fv’"), "‘_Z1fv’")
         self.assertEqual(symdemangle.filter_text("‘_Z1fv’", ascii_words=True), "‘f()’")
 
     def test_streams(self):
-        text = b"at _RNvC3foo3bar. (_Z1fQ)\n" * 3000 + b"_Z1fv...."
-        wanted = b"at foo::bar. (_Z1fQ)\n" * 3000 + b"f()...."
+        text = b"at _RNvC3foo3bar. (_Z1fY)\n" * 3000 + b"_Z1fv...."
+        wanted = b"at foo::bar. (_Z1fY)\n" * 3000 + b"f()...."
         for step in (7, 4096, len(text)):
             sink = io.BytesIO()
             self.assertEqual(symdemangle.filter_stream(Slow(text, step), sink), Tally(6001, 3001, 3000))

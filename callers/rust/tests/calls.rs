@@ -25,7 +25,7 @@ fn texts_and_refusals() {
     assert_eq!(refused("_RNvCszzzzzzzzzzz_3foo3bar"), Error::BadValue { at: 5 });
     assert_eq!(refused(""), Error::NoSymbol);
     assert_eq!(refused("main"), Error::NoSymbol);
-    assert_eq!(refused("__Z1fQ"), Error::Malformed { at: 5 });
+    assert_eq!(refused("__Z1fY"), Error::Malformed { at: 5 });
     assert_eq!(Error::NoSymbol.to_string(), "not a symbol");
 }
 

@@ -8,6 +8,7 @@ use Rattle.cpp_grammar.specs.Grammar.{may_be_empty}
 use Rattle.cpp_grammar.specs.Term.{Term, nil, instance}
 use Rattle.cpp_grammar.specs.Values.{nothing_there}
 use Rattle.cpp_grammar.specs.Between.{no_items}
+use Rattle.cpp_direct.specs.WrittenParts.{opening_bracket}
 use Rattle.cpp_direct.specs.Symbol.{detail_of, Symbol}
 use Rattle.cpp_direct.specs.declared.open.Argument.{Argument}
 use Rattle.cpp_direct.specs.declared.open.Arguments.{Arguments}
@@ -57,9 +58,9 @@ argument-begins s old new from p named from_is waits text candidates at = go p.i
         let all : PrintAllBy (IsElement (detail_of s) (extra_of place.listing)) [] p.is_before.2 =
         subst (λ ts. PrintAllBy (IsElement (detail_of s) (extra_of place.listing)) ts p.is_before.2) ts_is p.is_before.3 in
         let texts_is : p.is_before.2 ≡ [] = none-text (IsElement (detail_of s) (extra_of place.listing)) p.is_before.2 all in
-        let written : old.text.list.items ≡ place.front ++ place.name ++ codes "<" ++ [] =
-        subst (λ l. old.text.list.items ≡ led_by l place.front place.name ++ p.is_before.2) is p.is_before.4
-        ∙ ap (λ l. place.front ++ place.name ++ codes "<" ++ l) texts_is in
+        let written : old.text.list.items ≡ place.front ++ place.name ++ opening_bracket (detail_of s) ++ [] =
+        subst (λ l. old.text.list.items ≡ led_by (detail_of s) l place.front place.name ++ p.is_before.2) is p.is_before.4
+        ∙ ap (λ l. place.front ++ place.name ++ opening_bracket (detail_of s) ++ l) texts_is in
         let element = element-awaits s Kind.ArgumentList goes.1 goes.0 old.at p.state tt goes.3 in
         let belongs : reverse old.waiting.list.items ≡ o ∷ place.rest =
         subst (λ l. Belongs (detail_of s) l (reverse old.waiting.list.items) o place.rest) is place.belongs in
@@ -160,7 +161,7 @@ argument-passes s old new from number known is_reference p waits text candidates
         texts,
         next-prints 3 p.ts p.texts p.t p.bytes p.elements (type-element 3 p.t p.bytes is_reference p.prints),
         ap (λ v. v.list.items) text ∙ p.written
-            ∙ append_assoc (p.front ++ p.name ++ codes "<") (in_front_of_next p.ts p.texts) p.bytes,
+            ∙ append_assoc (p.front ++ p.name ++ opening_bracket (detail_of s)) (in_front_of_next p.ts p.texts) p.bytes,
         λ e. absurd (false≢true e),
         λ e. some-elements p.ts p.t,
         subst (λ n. ArgumentsGoOn s p.owner (Stands s p.rest) p.front p.template ts n p.state) (sym at) p.goes,
@@ -230,7 +231,7 @@ argument-known : (s : Symbol) (old : Direct) (from to number : ℕ) (place : Arg
     → AreAmong (detail_of s) old.text.list.items false more (p.ts ++ p.t ∷ [])
 argument-known s old from to number place known more is_reference p to_is place_is knows =
     known-more old.text.list.items false from to number is_reference place known more p.ts p.t
-    (p.front ++ p.name ++ codes "<" ++ in_front_of_next p.ts p.texts) p.bytes p.written p.from_is to_is p.number_is p.prints place_is knows p.among
+    (p.front ++ p.name ++ opening_bracket (detail_of s) ++ in_front_of_next p.ts p.texts) p.bytes p.written p.from_is to_is p.number_is p.prints place_is knows p.among
 
 -- the end of the arguments follows
 pub argument-closes : (s : Symbol) (old new : Direct) (from to number : ℕ) (place : Argument) (known more : Arguments) (is_reference : Bool)
@@ -259,7 +260,7 @@ argument-closes s old new from to number place known more is_reference p stands 
       is_template = subst (λ v. IsTemplate (detail_of s) p.owner p.front p.template p.name v.list.items) (sym text) p.is_template;
       elements = next-prints 3 p.ts p.texts p.t p.bytes p.elements (type-element 3 p.t p.bytes is_reference p.prints);
       written = ap (λ v. v.list.items) text ∙ p.written
-          ∙ append_assoc (p.front ++ p.name ++ codes "<") (in_front_of_next p.ts p.texts) p.bytes;
+          ∙ append_assoc (p.front ++ p.name ++ opening_bracket (detail_of s)) (in_front_of_next p.ts p.texts) p.bytes;
       owns = subst (λ n. Owns s p.owner (Stands s p.rest) p.front (instance p.template (list_with ts nil)) n p.state) (sym at)
           (p.goes.4 nothing_there old.at p.state (expects-empty s Kind.ArgumentList p.goes.0 p.goes.1 old.at p.state p.goes.3 refl) stands);
       known = subst (λ v. AreKnown (detail_of s) v.list.items more ts nil) (sym text)
@@ -290,7 +291,7 @@ argument-awaits s old new from to number place known more is_reference p waits t
       elements = next-prints 3 p.ts p.texts p.t p.bytes p.elements (type-element 3 p.t p.bytes is_reference p.prints);
       some = some-elements p.ts p.t;
       written = ap (λ v. v.list.items) text ∙ p.written
-          ∙ append_assoc (p.front ++ p.name ++ codes "<") (in_front_of_next p.ts p.texts) p.bytes;
+          ∙ append_assoc (p.front ++ p.name ++ opening_bracket (detail_of s)) (in_front_of_next p.ts p.texts) p.bytes;
       number_is = omega (arith, p.number_is, length-append p.ts (p.t ∷ []));
       among = subst (λ v. AreAmong (detail_of s) v.list.items false more ts) (sym text)
           (argument-known s old from to number place known more is_reference p to_is place_is knows);
@@ -307,9 +308,9 @@ next-argument-begins s old mid new before from number known p writes from_is num
     let entry = opens.Argument from number known in
     let goes = p.goes in
     let element = element-awaits s Kind.ArgumentList goes.1 goes.0 old.at p.state tt goes.3 in
-    let written : mid.text.list.items ≡ p.front ++ p.name ++ codes "<" ++ in_front_of_next p.ts p.texts =
-    writes.text ∙ ap (λ l. l ++ codes ", ") p.written ∙ append_assoc (p.front ++ p.name ++ codes "<") p.texts (codes ", ")
-    ∙ ap (λ l. p.front ++ p.name ++ codes "<" ++ l) (sym (next-written p.ts p.texts p.some)) in
+    let written : mid.text.list.items ≡ p.front ++ p.name ++ opening_bracket (detail_of s) ++ in_front_of_next p.ts p.texts =
+    writes.text ∙ ap (λ l. l ++ codes ", ") p.written ∙ append_assoc (p.front ++ p.name ++ opening_bracket (detail_of s)) p.texts (codes ", ")
+    ∙ ap (λ l. p.front ++ p.name ++ opening_bracket (detail_of s) ++ l) (sym (next-written p.ts p.texts p.some)) in
     let opened : reverse new.waiting.list.items ≡ entry ∷ o ∷ p.rest =
     ap reverse waits ∙ reverse-last mid.waiting.list.items entry
     ∙ ap (λ ws. entry ∷ ws) (ap (λ v. reverse v.list.items) writes.waiting ∙ p.open_is) in

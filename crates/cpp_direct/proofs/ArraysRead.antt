@@ -1,6 +1,6 @@
 -- A writer reads an array, and hands it on.
 use Rattle.sym_print.specs.declared.detail.Detail.{Detail}
-use Rattle.std.proofs.Common.{◌≡◌, ◌⊎◌, inl, inr, ℕ, ◌+◌, ◌-◌, ◌≤◌, List, [], ◌∷◌, ◌++◌, length, take, drop, reverse, slice_get, Bool, true, false, Some, refl, ap, sym, subst, ◌∙◌, codes, append_assoc}
+use Rattle.std.proofs.Common.{◌≡◌, ◌⊎◌, inl, inr, ℕ, ◌+◌, ◌-◌, ◌≤◌, List, [], ◌∷◌, ◌++◌, length, take, drop, reverse, slice_get, Bool, true, false, Some, refl, ap, sym, subst, ◌∙◌, codes, append_assoc, arith}
 use Rattle.cpp_grammar.specs.declared.kind.Kind.{Kind}
 use Rattle.cpp_grammar.specs.Term.{Term, array, pointer, lvalue}
 use Rattle.cpp_grammar.specs.Values as values
@@ -19,6 +19,13 @@ use Rattle.cpp_direct.specs.HolesOfTypes.{NoReference, IsQualifiable}
 use Rattle.cpp_direct.specs.WriterInvariant.{IsScoped, AreCandidates, TakesFunction, Stands, IsWriting}
 use Rattle.cpp_direct.specs.MidStep.{IsArrayRead, IsElementPassed, IsElementRead}
 use Rattle.cpp_direct.specs.Written.{Writes, hidden, with_hidden}
+use Rattle.sym_core.specs.declared.NameClass.TheVariants.{Cpp}
+use Rattle.sym_core.specs.Token.{is_name_byte}
+use Rattle.cpp_direct.specs.Names.{IsReadable}
+use Rattle.cpp_direct.specs.WrittenParts.{IsUnmarked}
+use Rattle.cpp_direct.proofs.Unmarked.{each-unmarked, name-byte}
+use Rattle.cpp_direct.proofs.NamePlaces.{all-reached, own-each}
+use Rattle.cpp_direct.proofs.PrintedValues.{normal-unmarked}
 use Rattle.cpp_direct.proofs.Kept.{candidates-written, reverse-last}
 use Rattle.cpp_direct.proofs.Listed.{last-found}
 use Rattle.cpp_direct.proofs.Moves.{stands-split}
@@ -130,15 +137,22 @@ with-hidden w true = refl
 with-hidden w false = refl
 
 -- its size is written
-pub array-written : (s : Symbol) (w begun first second third last : Direct) (access : Access) (from to : ℕ) (p : IsArrayRead s w access from to) (size : List ℕ)
+size-unmarked : (s : List ℕ) (from to : ℕ) (digits : List ℕ) → IsReadable s → from ≤ to → to ≤ length s → take (to - from) (drop from s) ≡ digits
+    → IsUnmarked digits
+size-unmarked s from to digits readable ordered inside is =
+    each-unmarked (λ b. is_name_byte Cpp b ≡ true) name-byte digits
+    (all-reached digits (own-each s from (to - from) digits (omega (arith, ordered, inside)) (omega (arith, ordered, inside)) (sym is) readable.plain))
+
+pub array-written : (s : Symbol) → IsReadable s.bytes → (w begun first second third last : Direct) (access : Access) (from to : ℕ) (p : IsArrayRead s w access from to) (size : List ℕ)
     → begun.text ≡ w.text → begun.candidates ≡ w.candidates → begun.at ≡ w.at → reverse begun.waiting.list.items ≡ p.rest
     → Writes begun first (array_opening access) → size ≡ values.normal (take (to - from) (drop from s.bytes)) → Writes first second size
     → Writes second third (codes "]") → last.candidates.list.items ≡ with_hidden third (is_marked access) → last.text ≡ third.text → last.waiting ≡ third.waiting
     → last.at ≡ third.at → IsElementPassed s last
-array-written s w begun first second third last access from to p size text candidates at waits one size_is two three more same_text same_waits same_at =
+array-written s readable w begun first second third last access from to p size text candidates at waits one size_is two three more same_text same_waits same_at =
     let opening = array_opening access in
     let digits = values.normal p.digits in
     let own = array digits p.own in
+    let plain = normal-unmarked p.digits (size-unmarked s.bytes from to p.digits readable p.ordered p.inside p.size) in
     let whole = accessed access own in
     let bytes = p.bytes ++ opening ++ digits ++ codes "]" in
     let then_ = with_accessed access p.made_in own p.state in
@@ -165,7 +179,7 @@ array-written s w begun first second third last access from to p size text candi
       front = p.front;
       bytes = bytes;
       written = written;
-      element = λ extra. array-element extra access digits p.own p.bytes p.is_reference p.prints;
+      element = λ extra. array-element extra access digits plain p.own p.bytes p.is_reference p.prints;
       comes = subst (λ n. Comes s p.outer (tree whole true) n then_) (sym (same_at ∙ three.at ∙ two.at ∙ one.at ∙ at)) p.comes;
       takes = subst TakesFunction (sym open_is) p.takes;
       stands = subst (λ ws. Stands s ws p.outer p.front) (sym open_is) p.stands;

@@ -31,7 +31,9 @@ use Rattle.cpp_direct.proofs.Moves.{stands-join}
 use Rattle.cpp_direct.proofs.MovesOfLists.{bool-element, integer-element, enumerator-opens}
 use Rattle.cpp_direct.proofs.PrintedLetters.{integer-there}
 use Rattle.cpp_direct.proofs.PrintedLists.{next-prints, type-element}
-use Rattle.cpp_direct.proofs.PrintedValues.{boolean-prints, plain-integer-prints, cast-integer-prints, normal-filled, enumerator-prints, not-integer}
+use Rattle.cpp_direct.specs.WrittenParts.{IsUnmarked}
+use Rattle.cpp_direct.proofs.Unmarked.{digits-unmarked}
+use Rattle.cpp_direct.proofs.PrintedValues.{boolean-prints, plain-integer-prints, cast-integer-prints, normal-filled, enumerator-prints, not-integer, normal-unmarked}
 use Rattle.cpp_direct.proofs.FoundTokens.{reads-then}
 
 -- ## Elements
@@ -53,7 +55,7 @@ element-read s old new t bytes a prints reads g =
         a.ts ++ t ∷ [],
         in_front_of_next a.ts a.texts ++ bytes,
         next-prints extra a.ts a.texts t bytes a.elements (type-element extra t bytes false prints),
-        reads.text ∙ ap (λ l. l ++ bytes) a.written ∙ append_assoc (led_by p.listing p.front p.name) (in_front_of_next a.ts a.texts) bytes,
+        reads.text ∙ ap (λ l. l ++ bytes) a.written ∙ append_assoc (led_by (detail_of s) p.listing p.front p.name) (in_front_of_next a.ts a.texts) bytes,
         λ first. absurd (false≢true first),
         λ further. some-elements a.ts t,
         element-goes-on s (element_kind p.listing) (λ l now then. Closes s p.listing p.owner (Stands s p.rest) p.front p.template l now then)
@@ -89,20 +91,23 @@ boolean-element-read s old begun middle new a first next nothing read ended =
     (subst (λ n. ListGoesOn s (element_kind a.place.listing) a.goes.1 a.goes.0 (boolean (nat_eq d 49)) n a.state) behind
     (bool-element s (element_kind a.place.listing) a.goes.1 a.goes.0 d old.at a.state (element-kind a.place.listing) read.1 a.goes.3 whole))
 
-integer-prints : {detail : Detail} (letter : ℕ) (n : Bool) (ds : List ℕ) → is_integer_letter letter ≡ true → ds ≢ []
+number-unmarked : (s : List ℕ) (at : ℕ) (digits : List ℕ) (end : ℕ) → IsDigitsAt s at digits end → IsUnmarked digits
+number-unmarked s at digits end is = subst IsUnmarked is.own (digits-unmarked is.token.own is.is_number.digits.0)
+
+integer-prints : {detail : Detail} (letter : ℕ) (n : Bool) (ds : List ℕ) → is_integer_letter letter ≡ true → ds ≢ [] → IsUnmarked ds
     → Prints detail (integer (builtin (letter ∷ [])) (signed_digits n ds)) (integer_text letter (signed_digits n ds)) false
 unfolding is_integer_letter among signed_digits
-integer-prints {detail} letter n ds is filled = go (is_plain_integer (builtin (letter ∷ []))) refl
+integer-prints {detail} letter n ds is filled plain = go (is_plain_integer (builtin (letter ∷ []))) refl
   where
     go : (b : Bool) → is_plain_integer (builtin (letter ∷ [])) ≡ b
         → Prints detail (integer (builtin (letter ∷ [])) (signed_digits n ds)) (elim b [
           | true ↦ number_text (signed_digits n ds) ++ look_up (letter ∷ []) literal_endings
           | false ↦ codes "(" ++ look_up (letter ∷ []) builtin_texts ++ codes ")" ++ number_text (signed_digits n ds)
         ]) false
-    go true e = plain-integer-prints letter e (signed_digits n ds) (normal-filled ds filled)
+    go true e = plain-integer-prints letter e (signed_digits n ds) (normal-filled ds filled) (normal-unmarked ds plain)
     go false e = subst (λ l. Prints detail (integer (builtin (letter ∷ [])) (signed_digits n ds)) l false)
         (append_assoc (codes "(" ++ look_up (letter ∷ []) builtin_texts ++ codes ")") (sign_text (signed_digits n ds)) (normal ds))
-        (cast-integer-prints letter e (integer-there letter is) (signed_digits n ds) (normal-filled ds filled))
+        (cast-integer-prints letter e (integer-there letter is) (signed_digits n ds) (normal-filled ds filled) (normal-unmarked ds plain))
 
 -- an integer was read, and an E
 pub integer-element-read : (s : Symbol) (old begun middle new : Direct) (a : AwaitsNextArgument s old) → StandsAt s.bytes old.at (76 ∷ [])
@@ -120,7 +125,7 @@ integer-element-read s old begun middle new a first next nothing read ended =
     let there : begun.at + 1 + length (minus_sign negative) ≡ old.at + length (76 ∷ letter ∷ minus_sign negative) = omega (arith, next) in
     let filled : ds ≢ [] = λ none. absurd (omega (arith, read.5.is_number.digits.1, ap length read.5.own, ap (λ (l : List ℕ). length l) none)) in
     element-read s old new t (written ++ []) a
-    (subst (λ l. Prints (detail_of s) t l false) (sym (append-nil written)) (integer-prints letter negative ds read.3 filled))
+    (subst (λ l. Prints (detail_of s) t l false) (sym (append-nil written)) (integer-prints letter negative ds read.3 filled (number-unmarked s.bytes _ ds _ read.5)))
     (reads-then old middle new written [] (reads-then old begun middle [] written nothing read.6) ended.2)
     (subst (λ n. ListGoesOn s (element_kind a.place.listing) a.goes.1 a.goes.0 t n a.state) (sym ended.1)
     (integer-element s (element_kind a.place.listing) a.goes.1 a.goes.0 letter negative ds old.at middle.at a.state (element-kind a.place.listing) read.3 a.goes.3 whole
@@ -211,7 +216,7 @@ enumerator-read s old begun pushed middle new a other text candidates at waits w
     let here : pushed.at ≡ old.at = writes.at ∙ at in
     let p = a.place in
     let extra = extra_of p.listing in
-    let front = led_by p.listing p.front p.name in
+    let front = led_by (detail_of s) p.listing p.front p.name in
     let before = in_front_of_next a.ts a.texts in
     let more = codes ")" ++ number_text n in
     let own = codes "(" ++ a.bytes ++ codes ")" ++ sign_text n ++ n.digits in
@@ -220,7 +225,7 @@ enumerator-read s old begun pushed middle new a other text candidates at waits w
     ∙ append_assoc old.text.list.items (codes ")") (number_text n) in
     let filled : ds ≢ [] = λ none. absurd (omega (arith, read.3.is_number.digits.1, ap length read.3.own, ap (λ (l : List ℕ). length l) none)) in
     let prints = enumerator-prints a.type a.bytes a.is_reference a.prints (not-integer a.type a.bytes a.is_reference a.prints
-    (no-integer-type old.text.list.items (front ++ before) a.bytes a.written other)) n (normal-filled ds filled) in
+    (no-integer-type old.text.list.items (front ++ before) a.bytes a.written other)) n (normal-filled ds filled) (normal-unmarked ds (number-unmarked s.bytes _ ds _ read.3)) in
     record {
       state = a.state;
       candidates = subst (λ v. AreCandidates (detail_of s) new.text.list.items v.list.items a.state.candidates)

@@ -49,6 +49,8 @@ use Rattle.cpp_direct.proofs.PrintedParts.{has-none, has-parameters}
 use Rattle.cpp_direct.proofs.PrintedLocals.{function-encloses, name-encloses, object-enclosing, returned-enclosing}
 use Rattle.cpp_direct.proofs.PrintedNames.{as-name, source-prints}
 use Rattle.cpp_direct.proofs.PrintedSymbols.{encoding-plain, function-shows, encoding-returned, object-encoded, parameters-kept, void-shows}
+use Rattle.cpp_direct.specs.WrittenParts.{IsUnmarked}
+use Rattle.cpp_direct.proofs.Unmarked.{name-unmarked, is-no-mark, more-unmarked}
 use Rattle.cpp_direct.proofs.PrintedWithin.{lambda-prints, lambda-list-prints, local-prints}
 use Rattle.cpp_direct.proofs.TypesRead.{builtin-listed, no-builtin}
 use Rattle.cpp_direct.proofs.MovesOfTypes.{builtin-comes}
@@ -163,7 +165,7 @@ source-within s old start new name from a letter same_text same_candidates same_
       name = source_text name;
       written = reads.text ∙ ap (λ v. v.list.items ++ source_text name) same_text;
       from_is = from_is ∙ ap (λ v. length v.list.items) same_text;
-      prints = as-name own (source_text name) false (source-prints false name filled);
+      prints = as-name own (source_text name) false (source-prints false name filled (name-unmarked s.bytes start.at name new.at is));
       no_return = refl;
       goes = subst (λ v. ItemsGoOn s nowhere (TypeWithin s (Stands s (reverse v.list.items)) front) (λ l. encoding_of (tree own false) l) [] new.at a.state)
           (sym (reads.waiting ∙ same_waiting))
@@ -606,6 +608,10 @@ number-text (Some d) is =
     let n = local_number (d ∷ []) in
     decimal_digit n (number-is (Some d) is) ∙ ap (λ k. k ∷ []) (omega (arith, is.0))
 
+lambda-unmarked : (digit : Option ℕ) → IsLambdaDigit digit → IsUnmarked (lambda_number digit)
+lambda-unmarked None is = refl
+lambda-unmarked (Some d) is = more-unmarked (d + 2) [] (is-no-mark (d + 2) (λ e. omega (arith, is.0, e)) (λ e. omega (arith, is.0, e))) refl
+
 -- it is read, and written
 pub lambda-told : (s : Symbol) (old new : Direct) (digit : Option ℕ) → IsLambdaDigit digit → StandsAt s.bytes old.at (85 ∷ lambda_bytes (lambda_digits digit))
     → new.at ≡ old.at + length (85 ∷ lambda_bytes (lambda_digits digit)) → Reads old new (codes "{lambda()#" ++ lambda_number digit ++ codes "}")
@@ -614,7 +620,7 @@ lambda-told s old new digit is stands ends reads = (
   lambda nil (local_number (lambda_digits digit)),
   codes "{lambda()#" ++ lambda_number digit ++ codes "}",
   lambda-piece s old.at digit new.at is stands ends,
-  lambda-prints (local_number (lambda_digits digit)) (lambda_number digit) (number-text digit is),
+  lambda-prints (local_number (lambda_digits digit)) (lambda_number digit) (number-text digit is) (lambda-unmarked digit is),
   reads,
 )
 
@@ -776,7 +782,7 @@ lambda-done s w begun pushed numbered popped_ last new from p apart ends same_te
     let bytes = p.bytes ++ codes "::" ++ (codes "{lambda(" ++ p.texts ++ codes ")#" ++ num ++ codes "}") in
     let shown : Prints (detail_of s) own bytes false = subst (λ u. Prints (detail_of s) (local_in p.e u digit) bytes false) same
     (local-prints p.e p.bytes p.encloses (lambda items n) (codes "{lambda(" ++ p.texts ++ codes ")#" ++ num ++ codes "}")
-    (lambda-list-prints p.ts p.texts p.elements n num (number-text number is)) digit) in
+    (lambda-list-prints p.ts p.texts p.elements n num (number-text number is) (lambda-unmarked number is)) digit) in
     let place : pushed.at ≡ w.at + 1 = one.at ∙ at in
     let ending : StandsAt s.bytes w.at (lambda_ending number) =
     stands-join s.bytes w.at (69 ∷ []) (lambda_digits number ++ 95 ∷ []) ends (subst (λ k. StandsAt s.bytes k (lambda_digits number ++ 95 ∷ [])) place digits_) in

@@ -29,6 +29,7 @@ use Rattle.cpp_direct.specs.Prints.{PrintsName, Shows, Encloses, list_of}
 use Rattle.cpp_direct.specs.WriterInvariant.{AreCandidates, AwaitsItems, Encoded, EndsBehind, EncodedBehind, Fronts, IsWhole, IsWriting, HasScope, IsFunction, IsScoped, ItemsGoOn, ParametersGoOn, Stands, qualifiers, list_with, in_front_of_next, encoding_place, named_in}
 use Rattle.cpp_direct.specs.MidStep.{AwaitsNextParameter, IsNameEnded, AwaitsParameters, IsParameterEnded, IsFunctionEnded, IsEncodingEnded, IsSymbolEnded}
 use Rattle.cpp_direct.specs.Written.{Writes, Cuts}
+use Rattle.cpp_direct.proofs.Unmarked.{suffix-unmarked}
 use Rattle.cpp_direct.proofs.Kept.{candidates-written, reverse-last}
 use Rattle.cpp_direct.proofs.Moves.{expects-empty}
 use Rattle.cpp_direct.proofs.MovesOfLists.{element-awaits}
@@ -57,7 +58,7 @@ whole-suffixed s e at text [] encoded shows stands ended is = absurd is
 whole-suffixed s e at text (d ∷ rest) encoded shows stands ended is = record {
   whole = symbol e (d ∷ rest);
   stands = encoded.ends_in (d ∷ rest) stands ended is;
-  text_is = suffix-text (detail_of s) e text shows d rest;
+  text_is = suffix-text (detail_of s) e text shows d rest (suffix-unmarked (d ∷ rest) is);
   cost = suffix-cost (detail_of s) e text shows d rest;
 }
 

@@ -19,6 +19,7 @@ use Rattle.cpp_direct.specs.WriterInvariant.{AreCandidates, EntityBehind}
 use Rattle.cpp_direct.specs.MidStep.{IsFresh, AwaitsEncoding, IsSymbolEnded}
 use Rattle.cpp_direct.specs.MidStepOfLocals.{AwaitsEntity}
 use Rattle.cpp_direct.specs.Written.{Writes, Reads}
+use Rattle.cpp_direct.proofs.Unmarked.{name-unmarked}
 use Rattle.cpp_direct.proofs.Begins.{encoded-whole, third-tells}
 use Rattle.cpp_direct.proofs.Ending.{behind-three}
 use Rattle.cpp_direct.proofs.FoundTokens.{reads-then, reads-of, reads-begun}
@@ -65,7 +66,7 @@ local-begins s w fresh starts letter =
                   (object-comes s opened_ encoding_ (named t unqualified any_value) end st (here.onward e at st comes internal name digit end is));
               shows = λ bytes p.
                   subst (λ l. Shows (detail_of s) made (l ++ (bytes ++ codes "::" ++ source_text name))) (sym fresh.no_text)
-                  (entity-shows (detail_of s) e bytes p internal name (discriminator_of (discriminator_value digit)));
+                  (entity-shows (detail_of s) e bytes p internal name (discriminator_of (discriminator_value digit)) (name-unmarked s.bytes _ name is.middle is.is_name));
             };
       };
     }
@@ -100,7 +101,7 @@ guard-begins s old new fresh starts marks letter stands writes =
                   (guard_.onward (named t unqualified any_value) end st (here.onward e at st comes internal name digit end is));
               shows = λ bytes p.
                   subst (λ l. Shows (detail_of s) made (l ++ (bytes ++ codes "::" ++ source_text name))) (sym text_is)
-                  (guard-shows (detail_of s) e bytes p internal name (discriminator_of (discriminator_value digit)));
+                  (guard-shows (detail_of s) e bytes p internal name (discriminator_of (discriminator_value digit)) (name-unmarked s.bytes _ name is.middle is.is_name));
             };
       };
     }

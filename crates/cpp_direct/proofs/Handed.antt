@@ -233,7 +233,7 @@ argument-read s w o p takes =
         in_front_of_next waits.ts waits.texts ++ p.bytes,
         next-prints (extra_of place.listing) waits.ts waits.texts p.own p.bytes waits.elements (p.element (extra_of place.listing)),
         p.written ∙ ap (λ l. l ++ p.bytes) waits.written
-            ∙ append_assoc (led_by place.listing place.front place.name) (in_front_of_next waits.ts waits.texts) p.bytes,
+            ∙ append_assoc (led_by (detail_of s) place.listing place.front place.name) (in_front_of_next waits.ts waits.texts) p.bytes,
         λ e. absurd (false≢true e),
         λ e. some-elements waits.ts p.own,
         waits.onward p.own w.at p.state p.comes,

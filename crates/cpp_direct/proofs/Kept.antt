@@ -7,6 +7,7 @@ use Rattle.std.proofs.Math.Seq.{drop-append_seam, take-append_seam}
 use Rattle.cpp_grammar.specs.Term.{Term}
 use Rattle.cpp_grammar.specs.Values as values
 use Rattle.cpp_grammar.specs.Values.{State, Around}
+use Rattle.cpp_direct.specs.WrittenParts.{opening_bracket}
 use Rattle.cpp_direct.specs.Symbol.{detail_of, Symbol}
 use Rattle.cpp_direct.specs.declared.open.Candidate.{Candidate}
 use Rattle.cpp_direct.specs.declared.open.Nest.{Nest}
@@ -178,7 +179,7 @@ template-stays detail _ front t name text more p = p
 
 -- arguments begin
 pub arguments-begun : (s : Symbol) (w : Direct) (st : State) (owner : Open) (rest : List Open) (front name : List ℕ) (t : Term)
-    → reverse w.waiting.list.items ≡ owner ∷ rest → IsTemplate (detail_of s) owner front t name w.text.list.items → w.text.list.items ≡ front ++ name ++ codes "<"
+    → reverse w.waiting.list.items ≡ owner ∷ rest → IsTemplate (detail_of s) owner front t name w.text.list.items → w.text.list.items ≡ front ++ name ++ opening_bracket (detail_of s)
     → ArgumentsGoOn s owner (Stands s rest) front t [] w.at st → IsBefore s w st (steps.List true)
 arguments-begun s w st owner rest front name t open_is is_template written goes = (
   record {
@@ -194,7 +195,7 @@ arguments-begun s w st owner rest front name t open_is is_template written goes 
   [],
   [],
   ([], tt, refl),
-  written ∙ sym (append-nil (front ++ name ++ codes "<")),
+  written ∙ sym (append-nil (front ++ name ++ opening_bracket (detail_of s))),
   (λ e. refl),
   (λ e. absurd (false≢true (sym e))),
   goes,

@@ -54,4 +54,6 @@ pub mod ShortNumbers
 pub mod Signatures
 pub mod Tables
 pub mod TypesRead
+pub mod Unmarked
+pub mod VisibleTexts
 pub mod UnscopedNames

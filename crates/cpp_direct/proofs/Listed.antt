@@ -11,6 +11,7 @@ use Rattle.cpp_grammar.specs.Term.{Term, nil, list, instance, pack}
 use Rattle.cpp_grammar.specs.Scope.{arguments_of}
 use Rattle.cpp_grammar.specs.Values.{State, tree, nothing_there, tree_of, qualifiers_of, ref_of}
 use Rattle.cpp_grammar.specs.Between.{no_items}
+use Rattle.cpp_direct.specs.WrittenParts.{opening_bracket, closing_bracket}
 use Rattle.cpp_direct.specs.Symbol.{detail_of, Symbol}
 use Rattle.cpp_direct.specs.declared.open.Mark.TheVariants as marks
 use Rattle.cpp_direct.specs.declared.open.Nest.{Nest}
@@ -24,7 +25,6 @@ use Rattle.cpp_direct.specs.Prints.{PrintAll, list_of}
 use Rattle.cpp_direct.specs.WriterInvariant.{HasArguments, argument_of, AreCandidates, IsListing, IsNest, IsTail, IsTemplate, IsWriting, Owns, Serves, ArgumentsGoOn, AwaitsElementOf, AwaitsEnumerator, Belongs, Closes, ElementsGoOn, EnumeratorGoesOn, GoesOn, Listing, of_template, of_pack, Stands, element_kind, extra_of, led_by, list_with, in_front_of_next, nowhere}
 use Rattle.cpp_direct.specs.MidStep.{AreKnown, IsListEnded, AwaitsNextArgument, IsNameEnded}
 use Rattle.cpp_direct.specs.Written.{Writes, added}
-use Rattle.cpp_direct.proofs.PrintedParts.{has-arguments}
 use Rattle.sym_print.specs.Details.{has_arguments}
 use Rattle.cpp_direct.proofs.Moves.{expects-empty, stands-split}
 use Rattle.cpp_direct.proofs.MovesOfLists.{element-awaits, pack-opens}
@@ -136,17 +136,15 @@ pub record IsClosed (s : Symbol) (w : Direct) (owner : Open) : Type 0 where
   pub arguments : List ℕ
   pub is_template : IsTemplate (detail_of s) owner front template name w.text.list.items
   pub elements : PrintAll (detail_of s) 3 ts arguments
-  pub written : w.text.list.items ≡ front ++ (name ++ codes "<" ++ arguments ++ codes ">")
+  pub written : w.text.list.items ≡ front ++ (name ++ opening_bracket (detail_of s) ++ arguments ++ closing_bracket (detail_of s))
   pub owns : Owns s owner (Stands s (reverse w.waiting.list.items)) front (instance template (list_with ts tail)) w.at state
   pub known : AreKnown (detail_of s) w.text.list.items w.argument ts tail
 
-closing : (a b d : List ℕ) → (a ++ b ++ codes "<" ++ d) ++ codes ">" ≡ a ++ (b ++ codes "<" ++ d ++ codes ">")
-closing a b d =
-    ap (λ l. l ++ d ++ codes ">") (append_assoc a b (codes "<")) ∙ ap (λ l. l ++ codes ">") (append_assoc a (b ++ codes "<") d)
-    ∙ append_assoc a (b ++ codes "<" ++ d) (codes ">")
+closing : (o e a b d : List ℕ) → (a ++ b ++ o ++ d) ++ e ≡ a ++ (b ++ o ++ d ++ e)
+closing o e a b d = ap (λ l. l ++ d ++ e) (append_assoc a b o) ∙ ap (λ l. l ++ e) (append_assoc a (b ++ o) d) ∙ append_assoc a (b ++ o ++ d) e
 
 -- the last bracket is written, and what was opened last is taken away
-pub closes : (s : Symbol) (old new : Direct) (owner : Open) → IsListEnded s old new.argument → new.text.list.items ≡ old.text.list.items ++ codes ">"
+pub closes : (s : Symbol) (old new : Direct) (owner : Open) → IsListEnded s old new.argument → new.text.list.items ≡ old.text.list.items ++ closing_bracket (detail_of s)
     → new.candidates.list.items ≡ old.candidates.list.items → new.at ≡ old.at → old.waiting.list.items ≡ new.waiting.list.items ++ owner ∷ [] → IsClosed s new owner
 closes s old new owner p text candidates at opened =
     let last = opened-last old.waiting.list.items new.waiting.list.items owner p.owner p.rest p.open_is opened in
@@ -154,8 +152,8 @@ closes s old new owner p text candidates at opened =
     record {
       state = p.state;
       candidates = subst (λ l. AreCandidates (detail_of s) l new.candidates.list.items p.state.candidates) (sym text)
-          (subst (λ ks. AreCandidates (detail_of s) (old.text.list.items ++ codes ">") ks p.state.candidates) (sym candidates)
-          (candidates-stay (detail_of s) old.text.list.items (codes ">") old.candidates.list.items p.state.candidates p.candidates));
+          (subst (λ ks. AreCandidates (detail_of s) (old.text.list.items ++ closing_bracket (detail_of s)) ks p.state.candidates) (sym candidates)
+          (candidates-stay (detail_of s) old.text.list.items (closing_bracket (detail_of s)) old.candidates.list.items p.state.candidates p.candidates));
       front = p.front;
       template = p.template;
       name = p.name;
@@ -164,22 +162,22 @@ closes s old new owner p text candidates at opened =
       is_tail = p.is_tail;
       arguments = p.arguments;
       is_template = subst (λ l. IsTemplate (detail_of s) owner p.front p.template p.name l) (sym text)
-          (subst (λ o. IsTemplate (detail_of s) o p.front p.template p.name (old.text.list.items ++ codes ">")) last.0
-          (template-stays (detail_of s) p.owner p.front p.template p.name old.text.list.items (codes ">") p.is_template));
+          (subst (λ o. IsTemplate (detail_of s) o p.front p.template p.name (old.text.list.items ++ closing_bracket (detail_of s))) last.0
+          (template-stays (detail_of s) p.owner p.front p.template p.name old.text.list.items (closing_bracket (detail_of s)) p.is_template));
       elements = p.elements;
-      written = text ∙ ap (λ l. l ++ codes ">") p.written ∙ closing p.front p.name p.arguments;
+      written = text ∙ ap (λ l. l ++ closing_bracket (detail_of s)) p.written ∙ closing (opening_bracket (detail_of s)) (closing_bracket (detail_of s)) p.front p.name p.arguments;
       owns = subst (λ n. Owns s owner (Stands s (reverse new.waiting.list.items)) p.front made n p.state) (sym at)
           (subst (λ r. Owns s owner (Stands s r) p.front made old.at p.state) last.1
           (subst (λ o. Owns s o (Stands s p.rest) p.front made old.at p.state) last.0 p.owns));
-      known = subst (λ l. AreKnown (detail_of s) l new.argument p.ts p.tail) (sym text) (known-stay old.text.list.items (codes ">") new.argument p.ts p.tail p.known);
+      known = subst (λ l. AreKnown (detail_of s) l new.argument p.ts p.tail) (sym text) (known-stay old.text.list.items (closing_bracket (detail_of s)) new.argument p.ts p.tail p.known);
     }
 
 -- the same by what was written and taken away
-pub closed-by : (s : Symbol) (old mid new : Direct) (x owner : Open) → IsListEnded s old new.argument → Writes old mid (codes ">")
+pub closed-by : (s : Symbol) (old mid new : Direct) (x owner : Open) → IsListEnded s old new.argument → Writes old mid (closing_bracket (detail_of s))
     → new.text ≡ mid.text → new.candidates ≡ mid.candidates → new.at ≡ mid.at → mid.waiting.list.items ≡ new.waiting.list.items ++ x ∷ [] → x ≡ owner
     → IsClosed s new owner
 closed-by s old mid new x owner p writes text candidates at items is =
-    closes s old new owner p (subst (λ v. v.list.items ≡ old.text.list.items ++ codes ">") (sym text) writes.text)
+    closes s old new owner p (subst (λ v. v.list.items ≡ old.text.list.items ++ closing_bracket (detail_of s)) (sym text) writes.text)
     (subst (λ v. v.list.items ≡ old.candidates.list.items) (sym (candidates ∙ writes.candidates)) refl) (at ∙ writes.at)
     (subst (λ v. v.list.items ≡ new.waiting.list.items ++ owner ∷ []) writes.waiting (items ∙ ap (λ o. new.waiting.list.items ++ o ∷ []) is))
 
@@ -217,10 +215,10 @@ pub type-closed : (s : Symbol) (w new : Direct) (from : ℕ) → IsClosed s w (o
     → new.candidates.list.items ≡ added w from false → new.text ≡ w.text → new.waiting ≡ w.waiting → new.at ≡ w.at → IsWriting s new (steps.Value false)
 type-closed s w new from p candidates text waiting at =
     let t = instance p.template (list_with p.ts p.tail) in
-    let bytes = p.name ++ codes "<" ++ p.arguments ++ codes ">" in
+    let bytes = p.name ++ opening_bracket (detail_of s) ++ p.arguments ++ closing_bracket (detail_of s) in
     let outer = p.owns.0 in
     let state = with_candidate p.owns.1 t p.state in
-    let prints = instance-prints (has-arguments s) p.template p.name p.is_template.1 p.ts p.tail p.arguments p.is_tail p.elements in
+    let prints = instance-prints p.template p.name p.is_template.1 p.ts p.tail p.arguments p.is_tail p.elements in
     record {
       state = state;
       candidates = subst (λ v. AreCandidates (detail_of s) v.list.items new.candidates.list.items state.candidates) (sym text)
@@ -238,23 +236,22 @@ type-closed s w new from p candidates text waiting at =
       );
     }
 
-instance-nest : {detail : Detail} → has_arguments detail ≡ true
-    → (front name text : List ℕ) (nest : Nest) (is_listed is_instance : Bool) (t : Term) (ts : List Term) (tail : Term) (l : List ℕ)
-    → IsTail tail → IsNest detail front name text nest t → PrintAll detail 3 ts l → text ≡ front ++ (name ++ codes "<" ++ l ++ codes ">")
-    → IsNest detail front (name ++ codes "<" ++ l ++ codes ">") text (record nest { is_listed = is_listed; is_instance = is_instance })
+instance-nest : {detail : Detail} (front name text : List ℕ) (nest : Nest) (is_listed is_instance : Bool) (t : Term) (ts : List Term) (tail : Term) (l : List ℕ)
+    → IsTail tail → IsNest detail front name text nest t → PrintAll detail 3 ts l → text ≡ front ++ (name ++ opening_bracket detail ++ l ++ closing_bracket detail)
+    → IsNest detail front (name ++ opening_bracket detail ++ l ++ closing_bracket detail) text (record nest { is_listed = is_listed; is_instance = is_instance })
     (instance t (list_with ts tail))
-instance-nest whole front name text nest is_listed is_instance t ts tail l is p all written = record {
+instance-nest {detail} front name text nest is_listed is_instance t ts tail l is p all written = record {
   back = [];
-  written = written ∙ sym (append-nil (front ++ (name ++ codes "<" ++ l ++ codes ">")));
+  written = written ∙ sym (append-nil (front ++ (name ++ opening_bracket detail ++ l ++ closing_bracket detail)));
   from_is = p.from_is;
-  prints = instance-prints whole t name p.prints ts tail l is all;
+  prints = instance-prints t name p.prints ts tail l is all;
   class_front = p.class_front;
   class = p.class;
   class_back = p.class_back;
   class_written = p.class_written;
   class_from = p.class_from;
   class_to = p.class_to;
-  names_class = λ h. instance-class whole t name p.class p.prints (p.names_class h) ts tail l is all;
+  names_class = λ h. instance-class t name p.class p.prints (p.names_class h) ts tail l is all;
 }
 
 -- the arguments of a piece of a nested name
@@ -271,9 +268,9 @@ nest-closed s w nest p =
           front = p.front;
           around = p.owns.0;
           outer = p.owns.1;
-          bytes = p.name ++ codes "<" ++ p.arguments ++ codes ">";
+          bytes = p.name ++ opening_bracket (detail_of s) ++ p.arguments ++ closing_bracket (detail_of s);
           written = p.written;
-          is_nest = instance-nest (has-arguments s) p.front p.name w.text.list.items nest false true p.template p.ts p.tail p.arguments p.is_tail p.is_template.0
+          is_nest = instance-nest p.front p.name w.text.list.items nest false true p.template p.ts p.tail p.arguments p.is_tail p.is_template.0
               p.elements p.written;
           goes = p.owns.2;
           serves = p.owns.3;
@@ -290,12 +287,12 @@ pub first-closed : (s : Symbol) (w new : Direct) (nest : Nest) → IsClosed s w 
     → IsWriting s (record new { nest = nest }) steps.Component
 first-closed s w new nest p candidates text waiting at =
     let t = instance p.template (list_with p.ts p.tail) in
-    let bytes = p.name ++ codes "<" ++ p.arguments ++ codes ">" in
+    let bytes = p.name ++ opening_bracket (detail_of s) ++ p.arguments ++ closing_bracket (detail_of s) in
     let around = p.owns.0 in
     let outer = p.owns.1 in
     let state = with_candidate around t p.state in
     let is_nest : IsNest (detail_of s) p.front bytes w.text.list.items nest t
-    = instance-nest (has-arguments s) p.front p.name w.text.list.items nest nest.is_listed nest.is_instance p.template p.ts p.tail p.arguments p.is_tail p.is_template
+    = instance-nest p.front p.name w.text.list.items nest nest.is_listed nest.is_instance p.template p.ts p.tail p.arguments p.is_tail p.is_template
     p.elements p.written in
     record {
       state = state;
@@ -320,7 +317,7 @@ pub name-closed : (s : Symbol) (w : Direct) (from : ℕ) → IsClosed s w (opens
 unfolding tree_of qualifiers_of ref_of
 name-closed s w from p =
     let t = instance p.template (list_with p.ts p.tail) in
-    let bytes = p.name ++ codes "<" ++ p.arguments ++ codes ">" in
+    let bytes = p.name ++ opening_bracket (detail_of s) ++ p.arguments ++ closing_bracket (detail_of s) in
     record {
       state = p.state;
       candidates = p.candidates;
@@ -333,7 +330,7 @@ name-closed s w from p =
       name = bytes;
       written = p.written;
       from_is = p.is_template.0;
-      prints = as-name t bytes false (instance-prints (has-arguments s) p.template p.name p.is_template.1 p.ts p.tail p.arguments p.is_tail p.elements);
+      prints = as-name t bytes false (instance-prints p.template p.name p.is_template.1 p.ts p.tail p.arguments p.is_tail p.elements);
       no_return = λ h. absurd (false≢true (sym h));
       returns = λ h. instance-returns p.template (list_with p.ts p.tail) p.is_template.2;
       names = closed-arguments s w (opens.NameArguments from) p;
@@ -380,7 +377,7 @@ list-ends s w first owner p stands found other = go p.is_before.0.listing refl
           arguments = texts;
           is_template = place.is_template;
           elements = subst (λ l. PrintAll (detail_of s) (extra_of l) ts texts) is p.is_before.3;
-          written = subst (λ l. w.text.list.items ≡ led_by l place.front place.name ++ texts) is p.is_before.4;
+          written = subst (λ l. w.text.list.items ≡ led_by (detail_of s) l place.front place.name ++ texts) is p.is_before.4;
           known = λ k o. absurd (none-known k o);
           owns = goes.4 nothing_there w.at p.state (expects-empty s Kind.ArgumentList goes.0 goes.1 w.at p.state goes.3 refl) stands;
         }
@@ -427,7 +424,7 @@ empty-pack-ends s w first owner p stands found other = go p.is_before.0.listing 
           arguments = texts;
           is_template = place.is_template;
           elements = subst (λ l. PrintAll (detail_of s) (extra_of l) ts texts) is p.is_before.3;
-          written = subst (λ l. w.text.list.items ≡ led_by l place.front place.name ++ texts) is p.is_before.4;
+          written = subst (λ l. w.text.list.items ≡ led_by (detail_of s) l place.front place.name ++ texts) is p.is_before.4;
           known = λ k o. absurd (none-known k o);
           owns = subst (λ k. Owns s place.owner (Stands s place.rest) place.front (instance place.template (list_with ts (list (pack nil) nil))) k p.state)
               (omega arith)
@@ -462,7 +459,7 @@ pack-ends s w new p stands found text candidates at popped = go p.is_before.0.li
         let belongs = subst (λ l. Belongs (detail_of s) l (reverse w.waiting.list.items) place.owner place.rest) is place.belongs in
         let goes = subst (λ l. GoesOn s l place.owner (Stands s place.rest) place.front place.template us w.at p.state) is p.is_before.7 in
         let us_print = subst (λ l. PrintAll (detail_of s) (extra_of l) us texts) is p.is_before.3 in
-        let us_written = subst (λ l. w.text.list.items ≡ led_by l place.front place.name ++ texts) is p.is_before.4 in
+        let us_written = subst (λ l. w.text.list.items ≡ led_by (detail_of s) l place.front place.name ++ texts) is p.is_before.4 in
         let made = pack (list_of us) in
         let same : new.text.list.items ≡ w.text.list.items = ap (λ v. v.list.items) text in
         record {
@@ -483,7 +480,7 @@ pack-ends s w new p stands found text candidates at popped = go p.is_before.0.li
             before ++ made ∷ [],
             in_front_of_next before written ++ texts,
             next-prints 3 before written made texts belongs.1 (pack-element us texts (p.is_before.6 refl) us_print),
-            same ∙ us_written ∙ append_assoc (place.front ++ place.name ++ codes "<") (in_front_of_next before written) texts,
+            same ∙ us_written ∙ append_assoc (place.front ++ place.name ++ opening_bracket (detail_of s)) (in_front_of_next before written) texts,
             λ e. absurd (false≢true e),
             λ e. some-elements before made,
             subst (λ n. ArgumentsGoOn s place.owner (Stands s place.rest) place.front place.template (before ++ made ∷ []) n p.state) (sym at)
@@ -501,7 +498,7 @@ argument-expected s w new first p text candidates waiting at =
     let place = p.is_before.0 in
     let ts = p.is_before.1 in
     let texts = p.is_before.2 in
-    let led = led_by place.listing place.front place.name in
+    let led = led_by (detail_of s) place.listing place.front place.name in
     record {
       state = p.state;
       candidates = subst (λ l. AreCandidates (detail_of s) l new.candidates.list.items p.state.candidates) (sym text)
@@ -553,7 +550,7 @@ pack-begins s old new owner a stands found other waits at text candidates = go a
         let opened = pack-opens s goes.1 goes.0 old.at a.state goes.3 stands in
         let belongs = subst (λ l. Belongs (detail_of s) l (reverse old.waiting.list.items) p.owner p.rest) is p.belongs in
         let elements = subst (λ l. PrintAll (detail_of s) (extra_of l) a.ts a.texts) is a.elements in
-        let written = subst (λ l. old.text.list.items ≡ led_by l p.front p.name ++ in_front_of_next a.ts a.texts) is a.written in
+        let written = subst (λ l. old.text.list.items ≡ led_by (detail_of s) l p.front p.name ++ in_front_of_next a.ts a.texts) is a.written in
         record {
           state = a.state;
           candidates = subst (λ v. AreCandidates (detail_of s) new.text.list.items v.list.items a.state.candidates) (sym candidates)
@@ -575,7 +572,7 @@ pack-begins s old new owner a stands found other waits at text candidates = go a
             [],
             [],
             none-print (detail_of s) 0,
-            ap (λ v. v.list.items) text ∙ written ∙ sym (append-nil (p.front ++ p.name ++ codes "<" ++ in_front_of_next a.ts a.texts)),
+            ap (λ v. v.list.items) text ∙ written ∙ sym (append-nil (p.front ++ p.name ++ opening_bracket (detail_of s) ++ in_front_of_next a.ts a.texts)),
             (λ e. refl),
             (λ e. absurd (false≢true (sym e))),
             (
@@ -596,7 +593,7 @@ pub record ListWaits (s : Symbol) (opened : List Open) (os : List Opened) (text 
   pub ts : List Term
   pub texts : List ℕ
   pub elements : PrintAll (detail_of s) (extra_of place.listing) ts texts
-  pub written : text ≡ led_by place.listing place.front place.name ++ in_front_of_next ts texts
+  pub written : text ≡ led_by (detail_of s) place.listing place.front place.name ++ in_front_of_next ts texts
   pub onward : (t : Term) (at : ℕ) (st : State) → Comes s os (tree t true) at st
       → GoesOn s place.listing place.owner (Stands s place.rest) place.front place.template (ts ++ t ∷ []) at st
 
@@ -660,7 +657,7 @@ list-stands s opened os text w = go w.place.listing refl
           w.texts,
           p.is_template,
           subst (λ l. PrintAll (detail_of s) (extra_of l) w.ts w.texts) is w.elements,
-          subst (λ l. text ≡ led_by l p.front p.name ++ in_front_of_next w.ts w.texts) is w.written,
+          subst (λ l. text ≡ led_by (detail_of s) l p.front p.name ++ in_front_of_next w.ts w.texts) is w.written,
           λ t at st comes. subst (λ l. GoesOn s l p.owner (Stands s p.rest) p.front p.template (w.ts ++ t ∷ []) at st) is (w.onward t at st comes),
         ))
     go (of_pack before written) is =
@@ -678,7 +675,7 @@ list-stands s opened os text w = go w.place.listing refl
             w.texts,
             p.is_template,
             subst (λ l. PrintAll (detail_of s) (extra_of l) w.ts w.texts) is w.elements,
-            subst (λ l. text ≡ led_by l p.front p.name ++ in_front_of_next w.ts w.texts) is w.written,
+            subst (λ l. text ≡ led_by (detail_of s) l p.front p.name ++ in_front_of_next w.ts w.texts) is w.written,
             λ t at st comes. subst (λ l. GoesOn s l p.owner (Stands s p.rest) p.front p.template (w.ts ++ t ∷ []) at st) is (w.onward t at st comes),
           ),
         )
@@ -763,7 +760,7 @@ type-expected s w a =
 -- a list waits for the type of an enumerator
 pub enumerator-stands : (s : Symbol) (opened : List Open) (text : List ℕ) (os : List Opened) (p : IsListing (detail_of s) opened text) (ts : List Term)
     (texts : List ℕ) → PrintAll (detail_of s) (extra_of p.listing) ts texts
-    → text ≡ led_by p.listing p.front p.name ++ in_front_of_next ts texts ++ codes "("
+    → text ≡ led_by (detail_of s) p.listing p.front p.name ++ in_front_of_next ts texts ++ codes "("
     → ((t : Term) (at : ℕ) (st : State) → Comes s os (tree t true) at st
     → EnumeratorGoesOn s p.listing p.owner (Stands s p.rest) p.front p.template ts t at st)
     → Stands s (opens.Enumerator ∷ opened) os text
@@ -778,7 +775,7 @@ enumerator-stands s opened text os p ts texts elements written onward = go p.lis
       texts,
       p.is_template,
       subst (λ k. PrintAll (detail_of s) (extra_of k) ts texts) is elements,
-      subst (λ k. text ≡ led_by k p.front p.name ++ in_front_of_next ts texts ++ codes "(") is written,
+      subst (λ k. text ≡ led_by (detail_of s) k p.front p.name ++ in_front_of_next ts texts ++ codes "(") is written,
       λ t at st comes. subst (λ k. EnumeratorGoesOn s k p.owner (Stands s p.rest) p.front p.template ts t at st) is (onward t at st comes),
     )
 

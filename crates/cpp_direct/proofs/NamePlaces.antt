@@ -55,7 +55,7 @@ two-digits s at middle next a b low high digit first middle_is second next_is = 
   some = omega (arith, low);
 }
 
-all-reached : (own : List ℕ) → ReachesNameBytes Cpp own (length own) → AreNameBytes Cpp own
+pub all-reached : (own : List ℕ) → ReachesNameBytes Cpp own (length own) → AreNameBytes Cpp own
 all-reached [] h = tt
 all-reached (b ∷ bs) h = (h 0 (omega arith), all-reached bs (λ k less. h (suc k) (omega (arith, less))))
 

@@ -19,6 +19,7 @@ use Rattle.cpp_direct.specs.Prints.{Prints}
 use Rattle.cpp_direct.specs.WriterInvariant.{AreCandidates, IsNest, IsWriting, Serves, Stands}
 use Rattle.cpp_direct.specs.MidStep.{AwaitsClass, IsNestNamed, IsOperatorRead}
 use Rattle.cpp_direct.specs.Written.{Writes, Reads}
+use Rattle.cpp_direct.proofs.Unmarked.{name-unmarked}
 use Rattle.cpp_direct.proofs.Kept.{piece-found, candidates-stay}
 use Rattle.cpp_direct.proofs.Moves.{stands-join}
 use Rattle.cpp_direct.proofs.MovesOfComponents.{component-source, component-internal, component-operator, component-constructor, component-destructor}
@@ -183,7 +184,7 @@ named-again s old new p g at from to unlisted classless no_instance =
         class_to = to ∙ p.class_to;
         names_class = λ e. absurd (false≢true (sym classless ∙ e));
       };
-      names_tagged = λ e tag. absurd (false≢true (sym classless ∙ e));
+      names_tagged = λ e tag plain. absurd (false≢true (sym classless ∙ e));
       unlisted = unlisted;
       no_instance = no_instance;
       no_return = p.no_return;
@@ -250,7 +251,7 @@ piece-named s old new st t piece x front bytes around outer candidates before is
         class_to = to ∙ ap length class_written ∙ length-append (old.text.list.items ++ m) x;
         names_class = λ e. within-class t bytes is.prints piece x is_piece;
       };
-      names_tagged = λ e tag. within-tagged t bytes is.prints piece x is_piece opening tag;
+      names_tagged = λ e tag plain. within-tagged t bytes is.prints piece x is_piece opening tag plain;
       unlisted = unlisted;
       no_instance = no_instance;
       no_return = refl;
@@ -317,7 +318,7 @@ pub source-follows : (s : Symbol) (old start marked read new : Direct) (internal
 source-follows s old start marked read new internal p letter m w name is filled r text candidates waiting at nest_from purpose from to unlisted has
     no_instance =
     let b = p.is_before in
-    piece-follows s old start marked read new (letters internal) (source internal name) (source_text name) p (source-piece internal name filled) (source-opening internal name) m w r
+    piece-follows s old start marked read new (letters internal) (source internal name) (source_text name) p (source-piece internal name filled (name-unmarked s.bytes marked.at name read.at is)) (source-opening internal name) m w r
     (source-read s b.4 b.3 b.0 old.at p.state b.7 internal name read.at marked.at new.at letter is (w.at ∙ m.at) at)
     text candidates waiting nest_from purpose from to unlisted has no_instance
 

@@ -1,6 +1,8 @@
 -- Nested names are read and written from left to right.
 use Rattle.sym_print.specs.declared.detail.Detail.{Detail}
+use Rattle.cpp_direct.specs.WrittenParts.{opening_bracket}
 use Rattle.cpp_direct.specs.declared.open.Arguments.{Arguments}
+use Rattle.cpp_direct.proofs.Unmarked.{name-unmarked}
 use Rattle.cpp_direct.proofs.Scopes.{none-known}
 use Rattle.std.proofs.Common.{◌≡◌, ◌≢◌, ℕ, ◌+◌, ◌-◌, ◌≤◌, List, [], ◌∷◌, ◌++◌, length, take, drop, reverse, slice_get, Bool, true, false, Option, Some, None, refl, ap, sym, ◌∙◌, subst, arith, codes, append-nil, append_assoc, nat_eq, ◌&&◌, length-append}
 use Rattle.std.specs.Option.{IfSome, OnSome}
@@ -55,8 +57,8 @@ pub record Keeps (old new : Direct) (ks : List Candidate) : Type 0 where
   pub at : new.at ≡ old.at
 
 -- arguments were opened
-pub record OpensArguments (old new : Direct) (owner : Open) : Type 0 where
-  pub text : new.text.list.items ≡ old.text.list.items ++ codes "<"
+pub record OpensArguments (detail : Detail) (old new : Direct) (owner : Open) : Type 0 where
+  pub text : new.text.list.items ≡ old.text.list.items ++ opening_bracket detail
   pub waiting : new.waiting.list.items ≡ old.waiting.list.items ++ owner ∷ []
   pub at : new.at ≡ old.at + 1
   pub candidates : new.candidates ≡ old.candidates
@@ -67,23 +69,23 @@ byte-there s at byte known is some there = subst (λ b. StandsAt s at (b ∷ [])
 
 -- arguments begin after a name
 list-begins : (s : Symbol) (old mid new : Direct) (ks : List Candidate) (st : State) (owner : Open) (front name : List ℕ) (t : Term)
-    → Keeps old mid ks → OpensArguments mid new owner → AreCandidates (detail_of s) old.text.list.items ks st.candidates
-    → IsTemplate (detail_of s) owner front t name (old.text.list.items ++ codes "<") → old.text.list.items ≡ front ++ name
+    → Keeps old mid ks → OpensArguments (detail_of s) mid new owner → AreCandidates (detail_of s) old.text.list.items ks st.candidates
+    → IsTemplate (detail_of s) owner front t name (old.text.list.items ++ opening_bracket (detail_of s)) → old.text.list.items ≡ front ++ name
     → ArgumentsGoOn s owner (Stands s (reverse old.waiting.list.items)) front t [] (old.at + 1) st
     → IsWriting s new (steps.List true)
 list-begins s old mid new ks st owner front name t keeps opening_ candidates template written goes =
-    let text_is : new.text.list.items ≡ old.text.list.items ++ codes "<" = cc (opening_.text, keeps.text) in
+    let text_is : new.text.list.items ≡ old.text.list.items ++ opening_bracket (detail_of s) = cc (opening_.text, keeps.text) in
     let candidates_are : new.candidates.list.items ≡ ks = cc (opening_.candidates, keeps.candidates) in
     let waiting_is : new.waiting.list.items ≡ old.waiting.list.items ++ owner ∷ [] = cc (opening_.waiting, keeps.waiting) in
     let at_is : new.at ≡ old.at + 1 = cc (opening_.at, keeps.at) in
     record {
       state = st;
       candidates = subst (λ l. AreCandidates (detail_of s) l new.candidates.list.items st.candidates) (sym text_is)
-          (subst (λ l. AreCandidates (detail_of s) (old.text.list.items ++ codes "<") l st.candidates) (sym candidates_are)
-          (candidates-stay (detail_of s) old.text.list.items (codes "<") ks st.candidates candidates));
+          (subst (λ l. AreCandidates (detail_of s) (old.text.list.items ++ opening_bracket (detail_of s)) l st.candidates) (sym candidates_are)
+          (candidates-stay (detail_of s) old.text.list.items (opening_bracket (detail_of s)) ks st.candidates candidates));
       is_before = arguments-begun s new st owner (reverse old.waiting.list.items) front name t
           (ap reverse waiting_is ∙ reverse-last old.waiting.list.items owner)
-          (subst (λ l. IsTemplate (detail_of s) owner front t name l) (sym text_is) template) (text_is ∙ ap (λ l. l ++ codes "<") written)
+          (subst (λ l. IsTemplate (detail_of s) owner front t name l) (sym text_is) template) (text_is ∙ ap (λ l. l ++ opening_bracket (detail_of s)) written)
           (subst (λ n. ArgumentsGoOn s owner (Stands s (reverse old.waiting.list.items)) front t [] n st) (sym at_is) goes);
     }
 
@@ -121,7 +123,8 @@ unfolding with_tag has_return_type arguments_of is_structor
 named-tagged s old new tag wide n is reads =
     let g = tag-follows s n.named.inner n.around n.own old.at n.state tag new.at wide n.named.awaits is in
     let own : Term = with_tag n.own tag in
-    let prints = tagged-prints (is_structor n.own) n.own n.bytes n.is_nest.prints tag in
+    let plain = name-unmarked s.bytes (old.at + 1) tag new.at is.1 in
+    let prints = tagged-prints (is_structor n.own) n.own n.bytes n.is_nest.prints tag plain in
     let written : new.text.list.items ≡ n.front ++ (n.bytes ++ tag_text tag)
     = reads.text ∙ ap (λ l. l ++ tag_text tag) n.written ∙ append_assoc n.front n.bytes (tag_text tag) in
     let nest = sym reads.nest in
@@ -138,7 +141,7 @@ named-tagged s old new tag wide n is reads =
           ∙ append_assoc (n.is_nest.class_front ++ n.is_nest.class) n.is_nest.class_back (tag_text tag);
       class_from = ap (λ x. x.class_from) reads.nest ∙ n.is_nest.class_from;
       class_to = ap (λ x. x.class_to) reads.nest ∙ n.is_nest.class_to;
-      names_class = λ e. n.names_tagged (classed e) tag;
+      names_class = λ e. n.names_tagged (classed e) tag plain;
     } in
     record {
       state = n.state;
@@ -157,7 +160,8 @@ named-tagged s old new tag wide n is reads =
       bytes = n.bytes ++ tag_text tag;
       written = written;
       is_nest = is_nest;
-      names_tagged = λ e more. again-tagged (is_structor n.own) n.own n.bytes n.is_nest.prints tag more n.is_nest.class (n.names_tagged (classed e) tag);
+      names_tagged = λ e more more_plain.
+          again-tagged (is_structor n.own) n.own n.bytes n.is_nest.prints tag more n.is_nest.class plain more_plain (n.names_tagged (classed e) tag plain);
       unlisted = ap (λ x. x.is_listed) reads.nest ∙ n.unlisted;
       no_instance = ap (λ x. x.is_instance) reads.nest ∙ n.no_instance;
       no_return = refl;
@@ -169,16 +173,16 @@ named-tagged s old new tag wide n is reads =
 
 -- arguments come after it
 pub named-opens : (s : Symbol) (old mid new : Direct) → IsNestNamed s old → StandsAt s.bytes old.at (73 ∷ [])
-    → Keeps old mid (added old old.nest.from false) → OpensArguments mid new (opens.NestArguments mid.nest) → IsWriting s new (steps.List true)
+    → Keeps old mid (added old old.nest.from false) → OpensArguments (detail_of s) mid new (opens.NestArguments mid.nest) → IsWriting s new (steps.List true)
 unfolding inside
 named-opens s old mid new n here keeps opening_ =
     let around = n.around in
     let begun = arguments-open s n.named.inner n.around n.own false old.at n.state
     (alone-arguments s (after n.own false n.around) n.named.inner old.at n.state n.named.awaits) here in
     list-begins s old mid new (added old old.nest.from false) (with_candidate around n.own n.state) (opens.NestArguments old.nest) n.front n.bytes n.own
-    keeps (subst (λ x. OpensArguments mid new (opens.NestArguments x)) keeps.nest opening_)
+    keeps (subst (λ x. OpensArguments (detail_of s) mid new (opens.NestArguments x)) keeps.nest opening_)
     (candidates-with old n.state n.front n.bytes old.nest.from n.own around false n.candidates n.written n.is_nest.from_is n.is_nest.prints)
-    (nest-stays n.front n.bytes old.text.list.items (codes "<") old.nest n.own n.is_nest, (λ own. n.structor), n.no_structor) n.written (
+    (nest-stays n.front n.bytes old.text.list.items (opening_bracket (detail_of s)) old.nest n.own n.is_nest, (λ own. n.structor), n.no_structor) n.written (
       inside n.around,
       begun.inner,
       refl,
@@ -224,7 +228,7 @@ may-end s outer around t listed at st wide g =
 
 -- by the wide grammar arguments come after it, where it is a type
 pub known-opens : (s : Symbol) (old new : Direct) → IsNestKnown s old → s.is_wide ≡ true → old.nest.purpose ≡ purposes.Type → StandsAt s.bytes old.at (73 ∷ [])
-    → OpensArguments old new (opens.NestArguments old.nest) → IsWriting s new (steps.List true)
+    → OpensArguments (detail_of s) old new (opens.NestArguments old.nest) → IsWriting s new (steps.List true)
 unfolding inside
 known-opens s old new n wide is_type here opening_ =
     let g = n.known in
@@ -232,7 +236,7 @@ known-opens s old new n wide is_type here opening_ =
     let not_own : IsOwn old.nest.purpose → ⊥ = λ own. subst IsOwn is_type own in
     list-begins s old old new old.candidates.list.items n.state (opens.NestArguments old.nest) n.front n.bytes n.own
     (record { candidates = refl; text = refl; waiting = refl; nest = refl; at = refl }) opening_ n.candidates (
-      nest-stays n.front n.bytes old.text.list.items (codes "<") old.nest n.own n.is_nest,
+      nest-stays n.front n.bytes old.text.list.items (opening_bracket (detail_of s)) old.nest n.own n.is_nest,
       (λ own. absurd (not_own own)),
       (λ e. absurd (false≢true (sym n.classless ∙ e))),
     ) n.written (
@@ -286,7 +290,7 @@ component-next s kind old new st t rest candidates n keeps =
 -- arguments of the first piece follow
 pub first-opens : (s : Symbol) (kind : Kind) (old mid new : Direct) (st : State) (t : Term) → IsFirstRest kind
     → AreCandidates (detail_of s) old.text.list.items old.candidates.list.items st.candidates → IsNesting s kind old t st → StandsAt s.bytes old.at (73 ∷ [])
-    → Keeps old mid (added_unless old old.nest.is_listed old.nest.from) → OpensArguments mid new (opens.FirstArguments mid.nest)
+    → Keeps old mid (added_unless old old.nest.is_listed old.nest.from) → OpensArguments (detail_of s) mid new (opens.FirstArguments mid.nest)
     → IsWriting s new (steps.List true)
 unfolding inside
 first-opens s kind old mid new st t first candidates n here keeps opening_ =
@@ -294,9 +298,9 @@ first-opens s kind old mid new st t first candidates n here keeps opening_ =
     let listed = old.nest.is_listed in
     let begun = any-arguments s kind n.goes.inner n.around t listed old.at st first n.goes.awaits here in
     list-begins s old mid new (added_unless old listed old.nest.from) (unless_listed listed around t st) (opens.FirstArguments old.nest) n.front n.bytes t
-    keeps (subst (λ x. OpensArguments mid new (opens.FirstArguments x)) keeps.nest opening_)
+    keeps (subst (λ x. OpensArguments (detail_of s) mid new (opens.FirstArguments x)) keeps.nest opening_)
     (candidates-unless old st listed n.front n.bytes old.nest.from t around candidates n.written n.is_nest.from_is n.is_nest.prints)
-    (nest-stays n.front n.bytes old.text.list.items (codes "<") old.nest t n.is_nest) n.written (
+    (nest-stays n.front n.bytes old.text.list.items (opening_bracket (detail_of s)) old.nest t n.is_nest) n.written (
       inside n.around,
       begun.inner,
       refl,
@@ -529,7 +533,7 @@ source-begins s old mid purpose name a is filled reads from to from_is to_is =
     nest-begins s old (record mid { nest = nest }) purpose a t (source_text name) reads.text reads.candidates reads.waiting refl
     (class-nest old.text.list.items [] (source_text name) nest t from_is (from_is ∙ ap length (sym (append-nil old.text.list.items)))
     (omega (arith, to_is, ap length reads.text, length-append old.text.list.items (source_text name), ap length (append-nil old.text.list.items)))
-    (source-prints false name filled) (source-class false name filled))
+    (source-prints false name filled (name-unmarked s.bytes old.at name mid.at is)) (source-class false name filled (name-unmarked s.bytes old.at name mid.at is)))
     (nest-source s a.outer a.around old.at a.state name mid.at a.outside a.awaits is)
 
 -- each code of a table is one of these letters
@@ -634,16 +638,16 @@ std-begins s old mid purpose before name a here is filled text_is candidates_are
         back = [];
         written = written ∙ sym (append-nil (old.text.list.items ++ bytes));
         from_is = from_is;
-        prints = std-prints false name filled;
+        prints = std-prints false name filled (name-unmarked s.bytes (before + 2) name mid.at is);
         class_front = old.text.list.items ++ codes "std::";
         class = source_text name;
         class_back = [];
         class_written = text_is ∙ sym (append-nil (old.text.list.items ++ codes "std::" ++ source_text name));
         class_from = class_from_is;
         class_to = omega (arith, to_is, ap length text_is, length-append (old.text.list.items ++ codes "std::") (source_text name));
-        names_class = λ e. std-class false name filled;
+        names_class = λ e. std-class false name filled (name-unmarked s.bytes (before + 2) name mid.at is);
       };
-      names_tagged = λ e tag. std-tagged false name filled tag;
+      names_tagged = λ e tag plain. std-tagged false name filled (name-unmarked s.bytes (before + 2) name mid.at is) tag plain;
       unlisted = refl;
       no_instance = refl;
       no_return = refl;
@@ -655,8 +659,8 @@ std-begins s old mid purpose before name a here is filled text_is candidates_are
 -- what opening arguments says where there was memory
 pub opened-by : (s : Symbol) (r : Option Step) (old new : Direct) (owner : Open) → IfSome r (λ next. next ≡ steps.List true)
     → OnSome r (new.waiting.list.items ≡ old.waiting.list.items ++ owner ∷ []) → OnSome r (new.at ≡ old.at + 1)
-    → OnSome r (new.text.list.items ≡ old.text.list.items ++ codes "<") → OnSome r (new.candidates ≡ old.candidates)
-    → (OpensArguments old new owner → IsWriting s new (steps.List true)) → IfSome r (IsWriting s new)
+    → OnSome r (new.text.list.items ≡ old.text.list.items ++ opening_bracket (detail_of s)) → OnSome r (new.candidates ≡ old.candidates)
+    → (OpensArguments (detail_of s) old new owner → IsWriting s new (steps.List true)) → IfSome r (IsWriting s new)
 opened-by s None old new owner step waiting at text candidates goes = tt
 opened-by s (Some next) old new owner step waiting at text candidates goes =
     subst (λ x. IsWriting s new x) (sym step) (goes (record { text = text; waiting = waiting; at = at; candidates = candidates }))

@@ -1,4 +1,5 @@
 -- The elements of a pack that is the first argument of a name: it may be the only one.
+use Rattle.cpp_direct.specs.WrittenParts.{opening_bracket}
 use Rattle.cpp_direct.proofs.Ending.{next-written}
 use Rattle.cpp_direct.specs.Written.{Writes}
 use Rattle.std.proofs.Common.{◌≡◌, ℕ, ◌+◌, ◌-◌, length, List, [], ◌∷◌, ◌++◌, reverse, slice_get, inr, inl, Bool, true, false, Some, refl, ap, sym, ◌∙◌, subst, codes, append-nil, arith, append_assoc}
@@ -52,9 +53,9 @@ element-begins s old new from p named letter from_is waits text candidates at = 
         let all : PrintAllBy (IsElement (detail_of s) (extra_of place.listing)) [] p.is_before.2 =
         subst (λ ts. PrintAllBy (IsElement (detail_of s) (extra_of place.listing)) ts p.is_before.2) ts_is p.is_before.3 in
         let texts_is : p.is_before.2 ≡ [] = none-text (IsElement (detail_of s) (extra_of place.listing)) p.is_before.2 all in
-        let written : old.text.list.items ≡ place.front ++ place.name ++ codes "<" ++ [] =
-        subst (λ l. old.text.list.items ≡ led_by l place.front place.name ++ p.is_before.2) is p.is_before.4
-        ∙ ap (λ l. place.front ++ place.name ++ codes "<" ++ l) texts_is in
+        let written : old.text.list.items ≡ place.front ++ place.name ++ opening_bracket (detail_of s) ++ [] =
+        subst (λ l. old.text.list.items ≡ led_by (detail_of s) l place.front place.name ++ p.is_before.2) is p.is_before.4
+        ∙ ap (λ l. place.front ++ place.name ++ opening_bracket (detail_of s) ++ l) texts_is in
         let opened = pack-opens s goes.1 goes.0 old.at p.state goes.3 letter in
         let in_pack : GoesOn s (of_pack [] []) o below place.front place.template [] (old.at + 1) p.state = (
           goes.0,
@@ -152,7 +153,7 @@ pub element-passes : (s : Symbol) (old new : Direct) (from number : ℕ) (known 
     → IsWriting s new (steps.List false)
 element-passes s old new from number known is_reference p waits text candidates at =
     let ts = p.ts ++ p.t ∷ [] in
-    let led = p.front ++ p.name ++ codes "<" in
+    let led = p.front ++ p.name ++ opening_bracket (detail_of s) in
     let texts = in_front_of_next p.ts p.texts ++ p.bytes in
     record {
       state = p.state;
@@ -186,7 +187,7 @@ element-known : (s : Symbol) (old : Direct) (from to number : ℕ) (place : Argu
     → AreAmong (detail_of s) old.text.list.items true more (p.ts ++ p.t ∷ [])
 element-known s old from to number place known more is_reference p to_is place_is knows =
     known-more old.text.list.items true from to number is_reference place known more p.ts p.t
-    (p.front ++ p.name ++ codes "<" ++ in_front_of_next p.ts p.texts) p.bytes p.written p.from_is to_is p.number_is p.prints place_is knows p.among
+    (p.front ++ p.name ++ opening_bracket (detail_of s) ++ in_front_of_next p.ts p.texts) p.bytes p.written p.from_is to_is p.number_is p.prints place_is knows p.among
 
 -- another one may follow
 pub pack-element-awaits : (s : Symbol) (old new : Direct) (from to number : ℕ) (place : Argument) (known more : Arguments) (is_reference : Bool)
@@ -212,7 +213,7 @@ pack-element-awaits s old new from to number place known more is_reference p wai
       elements = next-prints 0 p.ts p.texts p.t p.bytes p.elements (type-element 0 p.t p.bytes is_reference p.prints);
       some = some-elements p.ts p.t;
       written = ap (λ v. v.list.items) text ∙ p.written
-          ∙ append_assoc (p.front ++ p.name ++ codes "<") (in_front_of_next p.ts p.texts) p.bytes;
+          ∙ append_assoc (p.front ++ p.name ++ opening_bracket (detail_of s)) (in_front_of_next p.ts p.texts) p.bytes;
       number_is = omega (arith, p.number_is, length-append p.ts (p.t ∷ []));
       among = subst (λ v. AreAmong (detail_of s) v.list.items true more ts) (sym text)
           (element-known s old from to number place known more is_reference p to_is place_is knows);
@@ -229,9 +230,9 @@ next-element-begins s old mid new before from number known p writes from_is numb
     let entry = opens.Element from number known in
     let goes = p.goes in
     let element = element-awaits s Kind.PackList goes.1 goes.0 old.at p.state tt goes.3 in
-    let written : mid.text.list.items ≡ p.front ++ p.name ++ codes "<" ++ in_front_of_next p.ts p.texts =
-    writes.text ∙ ap (λ l. l ++ codes ", ") p.written ∙ append_assoc (p.front ++ p.name ++ codes "<") p.texts (codes ", ")
-    ∙ ap (λ l. p.front ++ p.name ++ codes "<" ++ l) (sym (next-written p.ts p.texts p.some)) in
+    let written : mid.text.list.items ≡ p.front ++ p.name ++ opening_bracket (detail_of s) ++ in_front_of_next p.ts p.texts =
+    writes.text ∙ ap (λ l. l ++ codes ", ") p.written ∙ append_assoc (p.front ++ p.name ++ opening_bracket (detail_of s)) p.texts (codes ", ")
+    ∙ ap (λ l. p.front ++ p.name ++ opening_bracket (detail_of s) ++ l) (sym (next-written p.ts p.texts p.some)) in
     let opened : reverse new.waiting.list.items ≡ entry ∷ opens.Pack ∷ o ∷ p.rest =
     ap reverse waits ∙ reverse-last mid.waiting.list.items entry
     ∙ ap (λ ws. entry ∷ ws) (ap (λ v. reverse v.list.items) writes.waiting ∙ p.open_is) in
@@ -310,7 +311,7 @@ pack-closes s old new from to number size place known more is_reference p ends s
         refl,
       );
       written = ap (λ v. v.list.items) text ∙ p.written
-          ∙ append_assoc (p.front ++ p.name ++ codes "<") (in_front_of_next p.ts p.texts) p.bytes;
+          ∙ append_assoc (p.front ++ p.name ++ opening_bracket (detail_of s)) (in_front_of_next p.ts p.texts) p.bytes;
       owns = subst (λ n. Owns s p.owner (Stands s p.rest) p.front (instance p.template (list own nil)) n p.state) (sym at) owns;
       known = λ k o.
           let there = elements-there size more k in

@@ -10,7 +10,8 @@ use Rattle.cpp_grammar.specs.Parts.{as_item, says, text_part, left_parts, right_
 use Rattle.cpp_direct.specs.declared.open.Access.{Access}
 use Rattle.cpp_direct.specs.declared.open.Access.TheVariants as accesses
 use Rattle.cpp_direct.specs.HolesOfArrays.{accessed, array_opening}
-use Rattle.cpp_direct.specs.Prints.{shown_in, Prints, IsElement}
+use Rattle.cpp_direct.specs.Prints.{written_of, Prints, IsElement}
+use Rattle.cpp_direct.specs.WrittenParts.{IsUnmarked}
 use Rattle.cpp_direct.proofs.PrintedParts.{shown_by, text_shown, cost_shown, text_append, cost_append, part-text, part-cost}
 
 -- ## What an array prints at the left and at the right
@@ -20,37 +21,37 @@ unfolding array_left
 beginning c t e = rw (e, array_left) refl
 
 left-text : {detail : Detail} (c : Context) (digits : List ℕ) (t : Term) (b : List ℕ) (r : Bool) → Prints detail t b r
-    → text_of (shown_in detail left c (array digits t)) ≡ b ++ codes " "
+    → text_of (written_of detail left c (array digits t)) ≡ b ++ codes " "
 unfolding parts_in left_parts not_empty
 left-text {detail} c digits t b r p =
-    text_shown detail left c (array digits t) (as_item left c t ∷ says " " ∷ []) (beginning c t (p.is_funarr_head c)) ∙ ap (λ s. s ++ codes " ") (p.left_text c)
+    text_shown detail left c (array digits t) (as_item left c t ∷ says " " ∷ []) (beginning c t (p.is_funarr_head c)) refl ∙ ap (λ s. s ++ codes " ") (p.left_text c)
 
 left-cost : {detail : Detail} (c : Context) (digits : List ℕ) (t : Term) (b : List ℕ) (r : Bool) → Prints detail t b r
-    → cost_of (shown_in detail left c (array digits t)) ≡ 2 + cost_of (shown_in detail left c t)
+    → cost_of (written_of detail left c (array digits t)) ≡ 2 + cost_of (written_of detail left c t)
 unfolding parts_in left_parts not_empty
-left-cost {detail} c digits t b r p = omega (arith, cost_shown detail left c (array digits t) (as_item left c t ∷ says " " ∷ []) (beginning c t (p.is_funarr_head c)))
+left-cost {detail} c digits t b r p = omega (arith, cost_shown detail left c (array digits t) (as_item left c t ∷ says " " ∷ []) (beginning c t (p.is_funarr_head c)) refl)
 
 sized_text : (x y l : List ℕ) → x ≡ l → y ≡ [] → (codes "[" ++ x) ++ (codes "]" ++ (y ++ [])) ≡ codes "[" ++ l ++ codes "]"
 sized_text x y l e f = rw (e, f) refl
 
-right-text : {detail : Detail} (c : Context) (digits : List ℕ) (t : Term) (b : List ℕ) (r : Bool) → Prints detail t b r
-    → text_of (shown_in detail right c (array digits t)) ≡ codes "[" ++ digits ++ codes "]"
+right-text : {detail : Detail} (c : Context) (digits : List ℕ) → IsUnmarked digits → (t : Term) (b : List ℕ) (r : Bool) → Prints detail t b r
+    → text_of (written_of detail right c (array digits t)) ≡ codes "[" ++ digits ++ codes "]"
 unfolding parts_in right_parts not_empty
-right-text {detail} c digits t b r p =
+right-text {detail} c digits plain t b r p =
     let front = says "[" ∷ text_part digits in
     let behind = says "]" ∷ as_item right c t ∷ [] in
-    text_shown detail right c (array digits t) (front ++ behind) refl ∙ text_append detail front behind
-    ∙ sized_text (text_of (shown_by detail (text_part digits))) (text_of (shown_in detail right c t)) digits (part-text detail digits) (p.right_text c)
+    text_shown detail right c (array digits t) (front ++ behind) refl refl ∙ text_append detail front behind
+    ∙ sized_text (text_of (shown_by detail (text_part digits))) (text_of (written_of detail right c t)) digits (part-text detail digits plain) (p.right_text c)
 
 right-cost : (detail : Detail) (c : Context) (digits : List ℕ) (t : Term)
-    → cost_of (shown_in detail right c (array digits t)) ≡ 3 + cost_of (shown_in detail right c t) + length digits
+    → cost_of (written_of detail right c (array digits t)) ≡ 3 + cost_of (written_of detail right c t) + length digits
 unfolding parts_in right_parts not_empty
 right-cost detail c digits t =
     let front = says "[" ∷ text_part digits in
     let behind = says "]" ∷ as_item right c t ∷ [] in
     omega (
       arith,
-      cost_shown detail right c (array digits t) (front ++ behind) refl,
+      cost_shown detail right c (array digits t) (front ++ behind) refl refl,
       cost_append detail front behind,
       part-cost detail digits,
     )
@@ -82,11 +83,11 @@ text-length : (b o l : List ℕ) → length (b ++ o ++ l ++ codes "]") ≡ lengt
 text-length b o l = omega (arith, length-append (b ++ o ++ l) (codes "]"), length-append (b ++ o) l, length-append b o)
 
 -- An array prints its elements' type and its size, and a mark between them where it is pointed or referred to.
-pub array-element : {detail : Detail} (extra : ℕ) (access : Access) (digits : List ℕ) (t : Term) (b : List ℕ) (r : Bool) → Prints detail t b r
+pub array-element : {detail : Detail} (extra : ℕ) (access : Access) (digits : List ℕ) → IsUnmarked digits → (t : Term) (b : List ℕ) (r : Bool) → Prints detail t b r
     → IsElement detail extra (accessed access (array digits t)) (b ++ array_opening access ++ digits ++ codes "]")
 unfolding parts_in left_parts right_parts marked_parts reference_parts closing_right head head_with is_reference is_funarr not_empty is_empty is_open pack_length is_void
-array-element {detail} extra accesses.Plain digits t b r p = let a = array digits t in record {
-  both_texts = λ c. plain_text (text_of (shown_in detail left c a)) (text_of (shown_in detail right c a)) b digits (left-text c digits t b r p) (right-text c digits t b r p);
+array-element {detail} extra accesses.Plain digits plain t b r p = let a = array digits t in record {
+  both_texts = λ c. plain_text (text_of (written_of detail left c a)) (text_of (written_of detail right c a)) b digits (left-text c digits t b r p) (right-text c digits plain t b r p);
   cost = λ c. omega (
     arith,
     p.cost c,
@@ -99,18 +100,18 @@ array-element {detail} extra accesses.Plain digits t b r p = let a = array digit
   packless = p.packless;
   void = λ e. cc e;
 }
-array-element {detail} extra accesses.Pointer digits t b r p = let a = array digits t in record {
+array-element {detail} extra accesses.Pointer digits plain t b r p = let a = array digits t in record {
   both_texts = λ c.
-      ap (λ k. k ++ text_of (shown_in detail right c (pointer a))) (text_shown detail left c (pointer a) (as_item left c a ∷ says "(*" ∷ []) refl)
-      ∙ ap (λ k. (text_of (shown_in detail left c a) ++ codes "(*") ++ k) (text_shown detail right c (pointer a) (says ")" ∷ as_item right c a ∷ []) refl)
-      ∙ marked_text (text_of (shown_in detail left c a)) (text_of (shown_in detail right c a)) b digits (codes "*") (left-text c digits t b r p) (right-text c digits t b r p);
+      ap (λ k. k ++ text_of (written_of detail right c (pointer a))) (text_shown detail left c (pointer a) (as_item left c a ∷ says "(*" ∷ []) refl refl)
+      ∙ ap (λ k. (text_of (written_of detail left c a) ++ codes "(*") ++ k) (text_shown detail right c (pointer a) (says ")" ∷ as_item right c a ∷ []) refl refl)
+      ∙ marked_text (text_of (written_of detail left c a)) (text_of (written_of detail right c a)) b digits (codes "*") (left-text c digits t b r p) (right-text c digits plain t b r p);
   cost = λ c. omega (
     arith,
     p.cost c,
     left-cost c digits t b r p,
     right-cost detail c digits t,
-    cost_shown detail left c (pointer a) (as_item left c a ∷ says "(*" ∷ []) refl,
-    cost_shown detail right c (pointer a) (says ")" ∷ as_item right c a ∷ []) refl,
+    cost_shown detail left c (pointer a) (as_item left c a ∷ says "(*" ∷ []) refl refl,
+    cost_shown detail right c (pointer a) (says ")" ∷ as_item right c a ∷ []) refl refl,
     text-length b (codes " (*)[") digits,
   );
   filled = λ c. refl;
@@ -118,18 +119,18 @@ array-element {detail} extra accesses.Pointer digits t b r p = let a = array dig
   packless = p.packless;
   void = λ e. cc e;
 }
-array-element {detail} extra accesses.Lvalue digits t b r p = let a = array digits t in record {
+array-element {detail} extra accesses.Lvalue digits plain t b r p = let a = array digits t in record {
   both_texts = λ c.
-      ap (λ k. k ++ text_of (shown_in detail right c (lvalue a))) (text_shown detail left c (lvalue a) (as_item left c a ∷ says "(&" ∷ []) refl)
-      ∙ ap (λ k. (text_of (shown_in detail left c a) ++ codes "(&") ++ k) (text_shown detail right c (lvalue a) (says ")" ∷ as_item right c a ∷ []) refl)
-      ∙ marked_text (text_of (shown_in detail left c a)) (text_of (shown_in detail right c a)) b digits (codes "&") (left-text c digits t b r p) (right-text c digits t b r p);
+      ap (λ k. k ++ text_of (written_of detail right c (lvalue a))) (text_shown detail left c (lvalue a) (as_item left c a ∷ says "(&" ∷ []) refl refl)
+      ∙ ap (λ k. (text_of (written_of detail left c a) ++ codes "(&") ++ k) (text_shown detail right c (lvalue a) (says ")" ∷ as_item right c a ∷ []) refl refl)
+      ∙ marked_text (text_of (written_of detail left c a)) (text_of (written_of detail right c a)) b digits (codes "&") (left-text c digits t b r p) (right-text c digits plain t b r p);
   cost = λ c. omega (
     arith,
     p.cost c,
     left-cost c digits t b r p,
     right-cost detail c digits t,
-    cost_shown detail left c (lvalue a) (as_item left c a ∷ says "(&" ∷ []) refl,
-    cost_shown detail right c (lvalue a) (says ")" ∷ as_item right c a ∷ []) refl,
+    cost_shown detail left c (lvalue a) (as_item left c a ∷ says "(&" ∷ []) refl refl,
+    cost_shown detail right c (lvalue a) (says ")" ∷ as_item right c a ∷ []) refl refl,
     text-length b (codes " (&)[") digits,
   );
   filled = λ c. refl;

@@ -8,7 +8,7 @@ use Rattle.cpp_grammar.specs.Scope.{arguments_of, count, element, pack_length, l
 use Rattle.cpp_grammar.specs.Items.{left, right, expand, Context, argument, indexed, packs_of, is_none_of, is_empty}
 use Rattle.cpp_grammar.specs.Meaning.{is_void}
 use Rattle.cpp_grammar.specs.Parts.{as_item, says, at_index, comma_before, expand_parts, expand_rest, expansion_parts, is_below, left_parts, right_parts, parts_in, types_of, not_empty}
-use Rattle.cpp_direct.specs.Prints.{Prints, PrintsIn, PrintEachBy, PrintAllBy, IsElementIn, shown_in, forwarded, joined, list_of}
+use Rattle.cpp_direct.specs.Prints.{Prints, PrintsIn, PrintEachBy, PrintAllBy, IsElementIn, written_of, forwarded, joined, list_of}
 use Rattle.cpp_direct.specs.MidStep.{PrintsForwarded}
 use Rattle.cpp_direct.proofs.PrintedLists.{further, joined-further}
 use Rattle.cpp_direct.proofs.PrintedParts.{shown_by, text_shown, cost_shown}
@@ -93,14 +93,14 @@ one-more {detail} ts m b l lt p n =
     let rest = expand_rest c each (suc m + 1) in
     let qs = says ", " ∷ as_item left d each ∷ as_item right d each ∷ rest in
     let goes = rest-goes ts (suc m) lt in (
-      ap (λ ps. text_of (shown_by detail ps)) goes ∙ append-nil (text_of (shown_in detail (expand (suc m)) c each)) ∙ text_shown detail (expand (suc m)) c each qs refl
-          ∙ ap (λ x. codes ", " ++ (x ++ (text_of (shown_in detail right d each) ++ text_of (shown_by detail rest)))) p.left_text
+      ap (λ ps. text_of (shown_by detail ps)) goes ∙ append-nil (text_of (written_of detail (expand (suc m)) c each)) ∙ text_shown detail (expand (suc m)) c each qs refl refl
+          ∙ ap (λ x. codes ", " ++ (x ++ (text_of (written_of detail right d each) ++ text_of (shown_by detail rest)))) p.left_text
           ∙ ap (λ x. codes ", " ++ (b ++ (x ++ text_of (shown_by detail rest)))) p.right_text
           ∙ ap (λ x. codes ", " ++ (b ++ x)) n.0,
       omega (
         arith,
         ap (λ ps. cost_of (shown_by detail ps)) goes,
-        cost_shown detail (expand (suc m)) c each qs refl,
+        cost_shown detail (expand (suc m)) c each qs refl refl,
         p.cost,
         n.1,
         length-append (codes ", ") (b ++ l),
@@ -148,17 +148,17 @@ expanded {detail} t rest b texts one others =
     let ps = as_item (expand 0) c each ∷ [] in
     let qs = as_item left d each ∷ as_item right d each ∷ last in
     record {
-      both_texts = ap (λ l. text_of (shown_in detail left c e) ++ l) (text_shown detail right c e [] refl) ∙ append-nil (text_of (shown_in detail left c e))
-          ∙ text_shown detail left c e ps refl ∙ append-nil (text_of (shown_in detail (expand 0) c each)) ∙ text_shown detail (expand 0) c each qs refl
-          ∙ ap (λ l. l ++ (text_of (shown_in detail right d each) ++ text_of (shown_by detail last))) p.left_text
+      both_texts = ap (λ l. text_of (written_of detail left c e) ++ l) (text_shown detail right c e [] refl refl) ∙ append-nil (text_of (written_of detail left c e))
+          ∙ text_shown detail left c e ps refl refl ∙ append-nil (text_of (written_of detail (expand 0) c each)) ∙ text_shown detail (expand 0) c each qs refl refl
+          ∙ ap (λ l. l ++ (text_of (written_of detail right d each) ++ text_of (shown_by detail last))) p.left_text
           ∙ ap (λ l. b ++ (l ++ text_of (shown_by detail last))) p.right_text ∙ ap (λ l. b ++ l) n.0 ∙ sym (joined-further b texts);
       cost = omega (
         arith,
         p.cost,
         n.1,
-        cost_shown detail left c e ps refl,
-        cost_shown detail right c e [] refl,
-        cost_shown detail (expand 0) c each qs refl,
+        cost_shown detail left c e ps refl refl,
+        cost_shown detail right c e [] refl refl,
+        cost_shown detail (expand 0) c each qs refl refl,
         ap length (joined-further b texts),
         length-append b (further texts),
       );

@@ -7,7 +7,7 @@ use Rattle.cpp_grammar.specs.Scope.{is_open, pack_length, first_of}
 use Rattle.cpp_grammar.specs.Items.{closed, left, right, first, Context, head, head_with, is_funarr, is_empty}
 use Rattle.cpp_grammar.specs.Meaning.{is_void, is_nil, parameters}
 use Rattle.cpp_grammar.specs.Parts.{as_item, says, text_part, list_part, left_parts, right_parts, function_right, marked_parts, closing_right, ref_text, parts_in, not_empty}
-use Rattle.cpp_direct.specs.Prints.{shown_in, Prints, IsElement, PrintAll, list_of}
+use Rattle.cpp_direct.specs.Prints.{written_of, Prints, IsElement, PrintAll, list_of}
 use Rattle.cpp_direct.specs.HolesOfFunctions.{plain_function, pointed}
 use Rattle.cpp_direct.specs.WriterInvariant.{list_with, opening_text}
 use Rattle.cpp_direct.proofs.PrintedParts.{shown_by, text_shown, cost_shown, text_append, cost_append}
@@ -21,33 +21,33 @@ abbrev plain : (returned items : Term) → Term
 plain returned items = function_type false false any_value returned items
 
 left-text : {detail : Detail} (c : Context) (r : Term) (b : List ℕ) (is_reference : Bool) (items : Term) → Prints detail r b is_reference
-    → text_of (shown_in detail left c (plain r items)) ≡ b ++ codes " "
+    → text_of (written_of detail left c (plain r items)) ≡ b ++ codes " "
 unfolding parts_in left_parts not_empty
 left-text {detail} c r b is_reference items p =
-    text_shown detail left c (plain r items) (as_item left c r ∷ says " " ∷ []) refl ∙ ap (λ s. s ++ codes " ") (p.left_text c)
+    text_shown detail left c (plain r items) (as_item left c r ∷ says " " ∷ []) refl refl ∙ ap (λ s. s ++ codes " ") (p.left_text c)
 
-left-cost : (detail : Detail) (c : Context) (r items : Term) → cost_of (shown_in detail left c (plain r items)) ≡ 2 + cost_of (shown_in detail left c r)
+left-cost : (detail : Detail) (c : Context) (r items : Term) → cost_of (written_of detail left c (plain r items)) ≡ 2 + cost_of (written_of detail left c r)
 unfolding parts_in left_parts not_empty
-left-cost detail c r items = omega (arith, cost_shown detail left c (plain r items) (as_item left c r ∷ says " " ∷ []) refl)
+left-cost detail c r items = omega (arith, cost_shown detail left c (plain r items) (as_item left c r ∷ says " " ∷ []) refl refl)
 
 bracketed_text : (x y l : List ℕ) → x ≡ l → y ≡ [] → ((codes "(" ++ x) ++ codes ")") ++ (y ++ []) ≡ codes "(" ++ l ++ codes ")"
 bracketed_text x y l e f = rw (e, f) (append-nil (codes "(" ++ l ++ codes ")"))
 
 right-text : {detail : Detail} (c : Context) (r : Term) (b : List ℕ) (is_reference : Bool) (ts : List Term) (l : List ℕ) → Prints detail r b is_reference
     → PrintAll detail 0 ts l
-    → text_of (shown_in detail right c (plain r (list_of ts))) ≡ codes "(" ++ l ++ codes ")"
+    → text_of (written_of detail right c (plain r (list_of ts))) ≡ codes "(" ++ l ++ codes ")"
 unfolding parts_in right_parts function_right text_part ref_text not_empty
 right-text {detail} c r b is_reference ts l p all =
     let front = says "(" ∷ list_part first c (list_of ts) in
     let close = says ")" ∷ [] in
     let behind = as_item right c r ∷ [] in
-    text_shown detail right c (plain r (list_of ts)) (front ++ close ++ behind) refl ∙ text_append detail (front ++ close) behind
+    text_shown detail right c (plain r (list_of ts)) (front ++ close ++ behind) refl refl ∙ text_append detail (front ++ close) behind
     ∙ ap (λ s. s ++ text_of (shown_by detail behind)) (text_append detail front close)
-    ∙ bracketed_text (text_of (shown_by detail (list_part first c (list_of ts)))) (text_of (shown_in detail right c r)) l
+    ∙ bracketed_text (text_of (shown_by detail (list_part first c (list_of ts)))) (text_of (written_of detail right c r)) l
     (list-text detail c 0 ts l all) (p.right_text c)
 
 right-cost : (detail : Detail) (c : Context) (r : Term) (ts : List Term) (l : List ℕ) → PrintAll detail 0 ts l
-    → cost_of (shown_in detail right c (plain r (list_of ts))) ≤ 3 + cost_of (shown_in detail right c r) + 4 * length l
+    → cost_of (written_of detail right c (plain r (list_of ts))) ≤ 3 + cost_of (written_of detail right c r) + 4 * length l
 unfolding parts_in right_parts function_right text_part ref_text not_empty
 right-cost detail c r ts l all =
     let front = says "(" ∷ list_part first c (list_of ts) in
@@ -56,7 +56,7 @@ right-cost detail c r ts l all =
     omega (
       arith,
       list-cost detail c 0 ts l (omega arith) all,
-      cost_shown detail right c (plain r (list_of ts)) (front ++ close ++ behind) refl,
+      cost_shown detail right c (plain r (list_of ts)) (front ++ close ++ behind) refl refl,
       cost_append detail (front ++ close) behind,
       cost_append detail front close,
     )
@@ -95,7 +95,7 @@ plain-element : {detail : Detail} (extra : ℕ) (is_pointer : Bool) (r : Term) (
 unfolding parts_in left_parts right_parts marked_parts closing_right head head_with is_funarr not_empty is_empty is_open pack_length first_of is_void
 plain-element {detail} extra false r b is_reference ts l p all = record {
   both_texts = λ c. let f = plain r (list_of ts) in
-      function_text (text_of (shown_in detail left c f)) (text_of (shown_in detail right c f)) b l
+      function_text (text_of (written_of detail left c f)) (text_of (written_of detail right c f)) b l
       (left-text c r b is_reference (list_of ts) p) (right-text c r b is_reference ts l p all);
   cost = λ c. omega (
     arith,
@@ -111,17 +111,17 @@ plain-element {detail} extra false r b is_reference ts l p all = record {
 }
 plain-element {detail} extra true r b is_reference ts l p all = let f = plain r (list_of ts) in record {
   both_texts = λ c.
-      ap (λ k. k ++ text_of (shown_in detail right c (pointer f))) (text_shown detail left c (pointer f) (as_item left c f ∷ says "(*" ∷ []) refl)
-      ∙ ap (λ k. (text_of (shown_in detail left c f) ++ codes "(*") ++ k) (text_shown detail right c (pointer f) (says ")" ∷ as_item right c f ∷ []) refl)
-      ∙ pointer_text (text_of (shown_in detail left c f)) (text_of (shown_in detail right c f)) b l
+      ap (λ k. k ++ text_of (written_of detail right c (pointer f))) (text_shown detail left c (pointer f) (as_item left c f ∷ says "(*" ∷ []) refl refl)
+      ∙ ap (λ k. (text_of (written_of detail left c f) ++ codes "(*") ++ k) (text_shown detail right c (pointer f) (says ")" ∷ as_item right c f ∷ []) refl refl)
+      ∙ pointer_text (text_of (written_of detail left c f)) (text_of (written_of detail right c f)) b l
       (left-text c r b is_reference (list_of ts) p) (right-text c r b is_reference ts l p all);
   cost = λ c. omega (
     arith,
     p.cost c,
     left-cost detail c r (list_of ts),
     right-cost detail c r ts l all,
-    cost_shown detail left c (pointer f) (as_item left c f ∷ says "(*" ∷ []) refl,
-    cost_shown detail right c (pointer f) (says ")" ∷ as_item right c f ∷ []) refl,
+    cost_shown detail left c (pointer f) (as_item left c f ∷ says "(*" ∷ []) refl refl,
+    cost_shown detail right c (pointer f) (says ")" ∷ as_item right c f ∷ []) refl refl,
     text-length b (codes " (*)(") l,
   );
   filled = λ c. refl;

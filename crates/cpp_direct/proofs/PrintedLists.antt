@@ -7,7 +7,7 @@ use Rattle.cpp_grammar.specs.Scope.{is_open, pack_length, first_of}
 use Rattle.cpp_grammar.specs.Items.{left, right, first, more, Context, is_empty}
 use Rattle.cpp_grammar.specs.Meaning.{is_void}
 use Rattle.cpp_grammar.specs.Parts.{as_item, says, list_part, first_parts, more_parts, left_parts, right_parts, parts_in, not_empty}
-use Rattle.cpp_direct.specs.Prints.{shown_in, Prints, IsElement, list_of, joined, IsElementIn, PrintEachBy, PrintAllBy, PrintEach, PrintAll, PrintEachIn, PrintAllIn}
+use Rattle.cpp_direct.specs.Prints.{written_of, Prints, IsElement, list_of, joined, IsElementIn, PrintEachBy, PrintAllBy, PrintEach, PrintAll, PrintEachIn, PrintAllIn}
 use Rattle.cpp_direct.specs.WriterInvariant.{IsTail, list_with, in_front_of_next}
 use Rattle.cpp_direct.proofs.PrintedParts.{shown_by, text_shown, cost_shown}
 
@@ -67,10 +67,10 @@ ends-list {detail} tail (inl is) = subst (EndsList detail 1) (sym is) (record {
   packless = λ scope. refl;
 })
 ends-list {detail} tail (inr is) = let l = list (pack nil) nil in subst (EndsList detail 1) (sym is) (record {
-  first_text = λ c. append-nil (text_of (shown_in detail first c l)) ∙ text_shown detail first c l [] refl;
-  first_cost = λ c. omega (arith, cost_shown detail first c l [] refl);
-  more_text = λ c. append-nil (text_of (shown_in detail more c l)) ∙ text_shown detail more c l [] refl;
-  more_cost = λ c. omega (arith, cost_shown detail more c l [] refl);
+  first_text = λ c. append-nil (text_of (written_of detail first c l)) ∙ text_shown detail first c l [] refl refl;
+  first_cost = λ c. omega (arith, cost_shown detail first c l [] refl refl);
+  more_text = λ c. append-nil (text_of (written_of detail more c l)) ∙ text_shown detail more c l [] refl refl;
+  more_cost = λ c. omega (arith, cost_shown detail more c l [] refl refl);
   closed = refl;
   packless = λ scope. refl;
 })
@@ -85,10 +85,10 @@ more-text : {detail : Detail} (c : Context) (extra : ℕ) (ts : List Term) (tail
 unfolding list_part parts_in not_empty
 more-text {detail} c extra [] tail [] most ends each = ends.more_text c
 more-text {detail} c extra (t ∷ ts) tail (b ∷ bs) most ends each =
-    append-nil (text_of (shown_in detail more c (list t (list_with ts tail))))
+    append-nil (text_of (written_of detail more c (list t (list_with ts tail))))
     ∙ text_shown detail more c (list t (list_with ts tail)) (says ", " ∷ as_item left c t ∷ as_item right c t ∷ list_part more c (list_with ts tail))
-    (more-is c t (list_with ts tail) (each.0.filled))
-    ∙ ap (λ s. codes ", " ++ s) (element-text (text_of (shown_in detail left c t)) (text_of (shown_in detail right c t))
+    (more-is c t (list_with ts tail) (each.0.filled)) refl
+    ∙ ap (λ s. codes ", " ++ s) (element-text (text_of (written_of detail left c t)) (text_of (written_of detail right c t))
     (text_of (shown_by detail (list_part more c (list_with ts tail)))) b (further bs)
     (each.0.both_texts) (more-text c extra ts tail bs most ends each.1))
 more-text {detail} c extra [] tail (b ∷ bs) most ends each = elim each [ ]
@@ -108,7 +108,7 @@ more-cost {detail} c extra (t ∷ ts) tail (b ∷ bs) most few ends each =
       length-append b (further bs),
       length-append (codes ", ") (b ++ further bs),
       cost_shown detail more c (list t (list_with ts tail)) (says ", " ∷ as_item left c t ∷ as_item right c t ∷ list_part more c (list_with ts tail))
-          (more-is c t (list_with ts tail) (each.0.filled)),
+          (more-is c t (list_with ts tail) (each.0.filled)) refl,
     )
 more-cost {detail} c extra [] tail (b ∷ bs) most few ends each = elim each [ ]
 more-cost {detail} c extra (t ∷ ts) tail [] most few ends each = elim each [ ]
@@ -119,10 +119,10 @@ first-text : {detail : Detail} (c : Context) (extra : ℕ) (ts : List Term) (tai
 unfolding list_part parts_in not_empty
 first-text {detail} c extra [] tail [] most ends each = ends.first_text c
 first-text {detail} c extra (t ∷ ts) tail (b ∷ bs) most ends each =
-    append-nil (text_of (shown_in detail first c (list t (list_with ts tail))))
+    append-nil (text_of (written_of detail first c (list t (list_with ts tail))))
     ∙ text_shown detail first c (list t (list_with ts tail)) (as_item left c t ∷ as_item right c t ∷ list_part more c (list_with ts tail))
-    (first-is c t (list_with ts tail) (each.0.filled))
-    ∙ element-text (text_of (shown_in detail left c t)) (text_of (shown_in detail right c t)) (text_of (shown_by detail (list_part more c (list_with ts tail)))) b (further bs)
+    (first-is c t (list_with ts tail) (each.0.filled)) refl
+    ∙ element-text (text_of (written_of detail left c t)) (text_of (written_of detail right c t)) (text_of (shown_by detail (list_part more c (list_with ts tail)))) b (further bs)
     (each.0.both_texts) (more-text c extra ts tail bs most ends each.1)
     ∙ sym (joined-further b bs)
 first-text {detail} c extra [] tail (b ∷ bs) most ends each = elim each [ ]
@@ -142,7 +142,7 @@ first-cost {detail} c extra (t ∷ ts) tail (b ∷ bs) most few ends each =
       ap length (joined-further b bs),
       length-append b (further bs),
       cost_shown detail first c (list t (list_with ts tail)) (as_item left c t ∷ as_item right c t ∷ list_part more c (list_with ts tail))
-          (first-is c t (list_with ts tail) (each.0.filled)),
+          (first-is c t (list_with ts tail) (each.0.filled)) refl,
     )
 first-cost {detail} c extra [] tail (b ∷ bs) most few ends each = elim each [ ]
 first-cost {detail} c extra (t ∷ ts) tail [] most few ends each = elim each [ ]
@@ -244,13 +244,13 @@ pub pack-element : {detail : Detail} (ts : List Term) (l : List ℕ) → ts ≢ 
 unfolding parts_in left_parts right_parts not_empty is_empty is_open pack_length is_void
 pack-element {detail} [] l some all = absurd (some refl)
 pack-element {detail} (t ∷ ts) l some all = let p = pack (list_of (t ∷ ts)) in record {
-  both_texts = λ c. ap (λ k. k ++ text_of (shown_in detail right c p))
-      (text_shown detail left c p (list_part first c (list_of (t ∷ ts))) refl ∙ list-text detail c 0 (t ∷ ts) l all)
-      ∙ ap (λ k. l ++ k) (text_shown detail right c p [] refl) ∙ append-nil l;
+  both_texts = λ c. ap (λ k. k ++ text_of (written_of detail right c p))
+      (text_shown detail left c p (list_part first c (list_of (t ∷ ts))) refl refl ∙ list-text detail c 0 (t ∷ ts) l all)
+      ∙ ap (λ k. l ++ k) (text_shown detail right c p [] refl refl) ∙ append-nil l;
   cost = λ c. omega (
     arith,
-    cost_shown detail left c p (list_part first c (list_of (t ∷ ts))) refl,
-    cost_shown detail right c p [] refl,
+    cost_shown detail left c p (list_part first c (list_of (t ∷ ts))) refl refl,
+    cost_shown detail right c p [] refl refl,
     list-cost detail c 0 (t ∷ ts) l (omega arith) all,
   );
   filled = λ c. first-filled c all.0 all.1;

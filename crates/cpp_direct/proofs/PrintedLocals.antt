@@ -11,17 +11,18 @@ use Rattle.cpp_grammar.specs.Items.{full, bare, left, piece, Context, closed}
 use Rattle.cpp_grammar.specs.Values.{Value, unqualified, tree_of, qualifiers_of, ref_of}
 use Rattle.cpp_grammar.specs.Meaning.{encoding_of}
 use Rattle.cpp_grammar.specs.Parts.{as_item, says, text_part, source_text, prefix_item, within_parts, qualifier_text, ref_text, encoding_text, function_bare, function_full, full_parts, bare_parts, left_parts, entity_of, parts_in, not_empty}
-use Rattle.cpp_direct.specs.Prints.{shown_in, PrintsName, Shows, Encloses}
-use Rattle.cpp_direct.proofs.PrintedParts.{shown_by, shows_parts, text_shown, cost_shown}
+use Rattle.cpp_direct.specs.Prints.{written_of, PrintsName, Shows, Encloses}
+use Rattle.cpp_direct.specs.WrittenParts.{IsUnmarked}
+use Rattle.cpp_direct.proofs.PrintedParts.{shown_by, writes_parts, text_shown, cost_shown}
 use Rattle.cpp_direct.proofs.PrintedNames.{piece-text, piece-cost}
 use Rattle.cpp_direct.proofs.PrintedNests.{joins}
 use Rattle.cpp_direct.proofs.PrintedSymbols.{encoding-object}
 
 -- ## Encodings before an entity
 
-bare-same : (d : Detail) (t : Term) → bare_parts d t ≡ full_parts d t → shown_in d bare closed t ≡ shown_in d full closed t
+bare-same : (d : Detail) (t : Term) → bare_parts d t ≡ full_parts d t → written_of d bare closed t ≡ written_of d full closed t
 unfolding parts_in
-bare-same d t e = shows_parts d bare closed t ∙ ap (λ ps. shown_by d ps) e ∙ sym (shows_parts d full closed t)
+bare-same d t e = writes_parts d bare closed t ∙ ap (λ ps. shown_by d ps) e ∙ sym (writes_parts d full closed t)
 
 encloses-as : (d : Detail) (t : Term) (b : List ℕ) → bare_parts d t ≡ full_parts d t → ((context : Context) → prefix_item context t ≡ as_item bare closed t)
     → is_open t ≡ false → ((scope : Term) → pack_length scope t ≡ None) → Shows d t b → Encloses d t b
@@ -53,8 +54,8 @@ pub returned-enclosing : (d : Detail) (name : Term) (q : Qualifiers) (ref : RefQ
 unfolding bare_parts prefix_item is_open pack_length parts_in
 returned-enclosing d name q ref returned items b p =
     let e = function name q ref returned items in
-    let same : shown_in d bare closed e ≡ shown_in d bare closed (function name q ref absent items) =
-    shows_parts d bare closed e ∙ sym (shows_parts d bare closed (function name q ref absent items)) in
+    let same : written_of d bare closed e ≡ written_of d bare closed (function name q ref absent items) =
+    writes_parts d bare closed e ∙ sym (writes_parts d bare closed (function name q ref absent items)) in
     record {
       as_prefix = λ c. refl;
       bare_text = ap text_of same ∙ p.bare_text;
@@ -88,8 +89,8 @@ name-shows {detail} alone name b p q ref returned items =
     let f = function name q ref returned items in
     let is = named_parts detail alone name q ref returned items in
     record {
-      shown_text = text_shown detail full closed f (as_item left closed name ∷ []) is ∙ append-nil (text_of (shown_in detail left closed name)) ∙ p.left_text closed;
-      shown_cost = omega (arith, p.cost closed, cost_shown detail full closed f (as_item left closed name ∷ []) is);
+      shown_text = text_shown detail full closed f (as_item left closed name ∷ []) is refl ∙ append-nil (text_of (written_of detail left closed name)) ∙ p.left_text closed;
+      shown_cost = omega (arith, p.cost closed, cost_shown detail full closed f (as_item left closed name ∷ []) is refl);
     }
 
 -- A return type isn't shown there.
@@ -102,8 +103,8 @@ returned-shows {detail} alone name q ref returned items b p =
     let is = named_parts detail alone name q ref returned items in
     let plain_is = named_parts detail alone name q ref absent items in
     record {
-      shown_text = text_shown detail full closed e ps is ∙ sym (text_shown detail full closed plain ps plain_is) ∙ p.shown_text;
-      shown_cost = omega (arith, p.shown_cost, cost_shown detail full closed e ps is, cost_shown detail full closed plain ps plain_is);
+      shown_text = text_shown detail full closed e ps is refl ∙ sym (text_shown detail full closed plain ps plain_is refl) ∙ p.shown_text;
+      shown_cost = omega (arith, p.shown_cost, cost_shown detail full closed e ps is refl, cost_shown detail full closed plain ps plain_is refl);
     }
 
 -- Before what is in it a function shows its name, too.
@@ -115,76 +116,76 @@ name-encloses {detail} alone name b p q ref returned items =
 
 -- ## Entities
 
-inside-text : (d : Detail) (e : Term) (b : List ℕ) → Encloses d e b → (internal : Bool) (name : List ℕ)
-    → text_of (shown_in d left closed (within e (source internal name))) ≡ b ++ codes "::" ++ source_text name
+inside-text : (d : Detail) (e : Term) (b : List ℕ) → Encloses d e b → (internal : Bool) (name : List ℕ) → IsUnmarked name
+    → text_of (written_of d left closed (within e (source internal name))) ≡ b ++ codes "::" ++ source_text name
 unfolding parts_in left_parts within_parts not_empty
-inside-text d e b p internal name =
+inside-text d e b p internal name plain =
     let n = source internal name in
     text_shown d left closed (within e n) (as_item bare closed e ∷ says "::" ∷ as_item piece closed n ∷ [])
-    (ap (λ i. i ∷ says "::" ∷ as_item piece closed n ∷ []) (p.as_prefix closed))
-    ∙ joins (text_of (shown_in d bare closed e)) (codes "::") (text_of (shown_in d piece closed n)) b (source_text name) p.bare_text (piece-text d closed internal name)
+    (ap (λ i. i ∷ says "::" ∷ as_item piece closed n ∷ []) (p.as_prefix closed)) refl
+    ∙ joins (text_of (written_of d bare closed e)) (codes "::") (text_of (written_of d piece closed n)) b (source_text name) p.bare_text (piece-text d closed internal name plain)
 
 inside-cost : (d : Detail) (e : Term) (b : List ℕ) → Encloses d e b → (internal : Bool) (name : List ℕ)
-    → cost_of (shown_in d left closed (within e (source internal name))) ≡ cost_of (shown_in d bare closed e) + 4 + length (source_text name)
+    → cost_of (written_of d left closed (within e (source internal name))) ≡ cost_of (written_of d bare closed e) + 4 + length (source_text name)
 unfolding parts_in left_parts within_parts not_empty
 inside-cost d e b p internal name =
     let n = source internal name in
     omega (
       arith,
       cost_shown d left closed (within e n) (as_item bare closed e ∷ says "::" ∷ as_item piece closed n ∷ [])
-          (ap (λ i. i ∷ says "::" ∷ as_item piece closed n ∷ []) (p.as_prefix closed)),
+          (ap (λ i. i ∷ says "::" ∷ as_item piece closed n ∷ []) (p.as_prefix closed)) refl,
       piece-cost d closed internal name,
     )
 
-entity-text : (d : Detail) (e : Term) (b : List ℕ) → Encloses d e b → (internal : Bool) (name : List ℕ) (digit : Option (List ℕ))
-    → text_of (shown_in d left closed (local e (within e (source internal name)) digit)) ≡ b ++ codes "::" ++ source_text name
+entity-text : (d : Detail) (e : Term) (b : List ℕ) → Encloses d e b → (internal : Bool) (name : List ℕ) (digit : Option (List ℕ)) → IsUnmarked name
+    → text_of (written_of d left closed (local e (within e (source internal name)) digit)) ≡ b ++ codes "::" ++ source_text name
 unfolding parts_in left_parts entity_of not_empty
-entity-text d e b p internal name digit =
+entity-text d e b p internal name digit plain =
     let w = within e (source internal name) in
-    text_shown d left closed (local e w digit) (as_item left closed w ∷ []) refl ∙ append-nil (text_of (shown_in d left closed w)) ∙ inside-text d e b p internal name
+    text_shown d left closed (local e w digit) (as_item left closed w ∷ []) refl refl ∙ append-nil (text_of (written_of d left closed w)) ∙ inside-text d e b p internal name plain
 
 entity-cost : (d : Detail) (e : Term) (b : List ℕ) → Encloses d e b → (internal : Bool) (name : List ℕ) (digit : Option (List ℕ))
-    → 3 + cost_of (shown_in d left closed (local e (within e (source internal name)) digit)) ≤ 4 * length (b ++ codes "::" ++ source_text name)
+    → 3 + cost_of (written_of d left closed (local e (within e (source internal name)) digit)) ≤ 4 * length (b ++ codes "::" ++ source_text name)
 unfolding parts_in left_parts entity_of not_empty
 entity-cost d e b p internal name digit =
     let w = within e (source internal name) in
     omega (
       arith,
       p.bare_cost,
-      cost_shown d left closed (local e w digit) (as_item left closed w ∷ []) refl,
+      cost_shown d left closed (local e w digit) (as_item left closed w ∷ []) refl refl,
       inside-cost d e b p internal name,
       length-append (b ++ codes "::") (source_text name),
       length-append b (codes "::"),
     )
 
 -- A local entity shows the encoding that it is in, and its name.
-pub entity-shows : (d : Detail) (e : Term) (b : List ℕ) → Encloses d e b → (internal : Bool) (name : List ℕ) (digit : Option (List ℕ))
+pub entity-shows : (d : Detail) (e : Term) (b : List ℕ) → Encloses d e b → (internal : Bool) (name : List ℕ) (digit : Option (List ℕ)) → IsUnmarked name
     → Shows d (object (local e (within e (source internal name)) digit) unqualified any_value) (b ++ codes "::" ++ source_text name)
 unfolding parts_in full_parts encoding_text qualifier_text ref_text text_part not_empty
-entity-shows d e b p internal name digit =
+entity-shows d e b p internal name digit plain =
     let t = local e (within e (source internal name)) digit in
     let o = object t unqualified any_value in
     record {
-      shown_text = text_shown d full closed o (as_item left closed t ∷ []) refl ∙ append-nil (text_of (shown_in d left closed t))
-          ∙ entity-text d e b p internal name digit;
-      shown_cost = omega (arith, entity-cost d e b p internal name digit, cost_shown d full closed o (as_item left closed t ∷ []) refl);
+      shown_text = text_shown d full closed o (as_item left closed t ∷ []) refl refl ∙ append-nil (text_of (written_of d left closed t))
+          ∙ entity-text d e b p internal name digit plain;
+      shown_cost = omega (arith, entity-cost d e b p internal name digit, cost_shown d full closed o (as_item left closed t ∷ []) refl refl);
     }
 
 -- Its guard variable shows that it is one, and the same.
-pub guard-shows : (d : Detail) (e : Term) (b : List ℕ) → Encloses d e b → (internal : Bool) (name : List ℕ) (digit : Option (List ℕ))
+pub guard-shows : (d : Detail) (e : Term) (b : List ℕ) → Encloses d e b → (internal : Bool) (name : List ℕ) (digit : Option (List ℕ)) → IsUnmarked name
     → Shows d (of_name 86 (local e (within e (source internal name)) digit) unqualified any_value) (codes "guard variable for " ++ (b ++ codes "::" ++ source_text name))
 unfolding look_up same_bytes named_special_texts parts_in full_parts encoding_text qualifier_text ref_text text_part not_empty
-guard-shows d e b p internal name digit =
+guard-shows d e b p internal name digit plain =
     let t = local e (within e (source internal name)) digit in
     let g = of_name 86 t unqualified any_value in
     let k : List ℕ = codes "guard variable for " in
     record {
-      shown_text = text_shown d full closed g (text k ∷ as_item left closed t ∷ []) refl
-          ∙ ap (λ l. k ++ l) (append-nil (text_of (shown_in d left closed t)) ∙ entity-text d e b p internal name digit);
+      shown_text = text_shown d full closed g (text k ∷ as_item left closed t ∷ []) refl refl
+          ∙ ap (λ l. k ++ l) (append-nil (text_of (written_of d left closed t)) ∙ entity-text d e b p internal name digit plain);
       shown_cost = omega (
         arith,
         entity-cost d e b p internal name digit,
-        cost_shown d full closed g (text k ∷ as_item left closed t ∷ []) refl,
+        cost_shown d full closed g (text k ∷ as_item left closed t ∷ []) refl refl,
         length-append k (b ++ codes "::" ++ source_text name),
       );
     }

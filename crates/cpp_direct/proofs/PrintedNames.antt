@@ -12,7 +12,9 @@ use Rattle.cpp_grammar.specs.Items.{left, right, base, piece, Context, head_with
 use Rattle.cpp_grammar.specs.Meaning.{is_void}
 use Rattle.cpp_grammar.specs.Parts.{as_item, says, source_text, prefix_item, last_piece, opening_text, piece_parts, left_parts, right_parts, base_parts, parts_in, not_empty, is_plain_integer}
 use Rattle.cpp_direct.specs.Names.{is_angle, operator_text}
-use Rattle.cpp_direct.specs.Prints.{shown_in, EndsAsInteger, Prints, PrintsName, NamesClass}
+use Rattle.cpp_direct.specs.Prints.{written_of, EndsAsInteger, Prints, PrintsName, NamesClass}
+use Rattle.cpp_direct.specs.WrittenParts.{IsUnmarked}
+use Rattle.cpp_direct.proofs.Unmarked.{source-unmarked, operator-unmarked, abbreviation-unmarked, builtin-unmarked}
 use Rattle.cpp_direct.proofs.PrintedParts.{text_shown, cost_shown, alone_shown, first_cost_shown, length-filled}
 
 -- the text of a source name isn't empty
@@ -46,18 +48,18 @@ builtin-ends letter e =
     (codes "unsigned", inr (inr (inr refl)))) (codes "long", inr (inr (inr refl)))) (codes "unsigned long", inr (inr (inr refl))) e
 
 -- A source name prints itself.
-pub source-prints : {detail : Detail} (internal : Bool) (name : List ℕ) → name ≢ [] → Prints detail (alone (source internal name)) (source_text name) false
+pub source-prints : {detail : Detail} (internal : Bool) (name : List ℕ) → name ≢ [] → IsUnmarked name → Prints detail (alone (source internal name)) (source_text name) false
 unfolding parts_in left_parts right_parts piece_parts not_empty head head_with is_reference is_funarr is_empty is_open pack_length is_function_type length_if_pack
     prefix_item last_piece opening_text is_void is_plain_integer
-source-prints {detail} internal name filled = let t = alone (source internal name) in record {
-  left_text = λ c. text_shown detail left c t (text (source_text name) ∷ []) refl ∙ alone_shown detail (source_text name);
-  right_text = λ c. text_shown detail right c t [] refl;
+source-prints {detail} internal name filled plain = let t = alone (source internal name) in record {
+  left_text = λ c. text_shown detail left c t (text (source_text name) ∷ []) refl refl ∙ alone_shown detail (source_text name) (source-unmarked name plain);
+  right_text = λ c. text_shown detail right c t [] refl refl;
   cost = λ c. omega (
     arith,
     source-filled name filled,
     first_cost_shown detail (source_text name) [],
-    cost_shown detail left c t (text (source_text name) ∷ []) refl,
-    cost_shown detail right c t [] refl,
+    cost_shown detail left c t (text (source_text name) ∷ []) refl refl,
+    cost_shown detail right c t [] refl refl,
   );
   is_reference_head = λ c. refl;
   is_funarr_head = λ c. refl;
@@ -74,81 +76,81 @@ source-prints {detail} internal name filled = let t = alone (source internal nam
 }
 
 -- It names its class by itself.
-pub source-class : {detail : Detail} (internal : Bool) (name : List ℕ) → name ≢ [] → NamesClass detail (alone (source internal name)) (source_text name)
+pub source-class : {detail : Detail} (internal : Bool) (name : List ℕ) → name ≢ [] → IsUnmarked name → NamesClass detail (alone (source internal name)) (source_text name)
 unfolding parts_in left_parts right_parts base_parts piece_parts not_empty
-source-class {detail} internal name filled = let t = alone (source internal name) in record {
-  base_text = λ c. text_shown detail base c t (text (source_text name) ∷ []) refl ∙ alone_shown detail (source_text name);
+source-class {detail} internal name filled plain = let t = alone (source internal name) in record {
+  base_text = λ c. text_shown detail base c t (text (source_text name) ∷ []) refl refl ∙ alone_shown detail (source_text name) (source-unmarked name plain);
   base_cost = λ c. omega (
     arith,
     source-filled name filled,
     first_cost_shown detail (source_text name) [],
-    cost_shown detail left c t (text (source_text name) ∷ []) refl,
-    cost_shown detail right c t [] refl,
-    cost_shown detail base c t (text (source_text name) ∷ []) refl,
-    ap length (text_shown detail left c t (text (source_text name) ∷ []) refl ∙ alone_shown detail (source_text name)),
+    cost_shown detail left c t (text (source_text name) ∷ []) refl refl,
+    cost_shown detail right c t [] refl refl,
+    cost_shown detail base c t (text (source_text name) ∷ []) refl refl,
+    ap length (text_shown detail left c t (text (source_text name) ∷ []) refl refl ∙ alone_shown detail (source_text name) (source-unmarked name plain)),
   );
 }
 
 -- a source name as a piece
-pub piece-text : (d : Detail) (c : Context) (internal : Bool) (name : List ℕ) → text_of (shown_in d piece c (source internal name)) ≡ source_text name
+pub piece-text : (d : Detail) (c : Context) (internal : Bool) (name : List ℕ) → IsUnmarked name → text_of (written_of d piece c (source internal name)) ≡ source_text name
 unfolding parts_in piece_parts
-piece-text d c internal name = text_shown d piece c (source internal name) (text (source_text name) ∷ []) refl ∙ alone_shown d (source_text name)
+piece-text d c internal name plain = text_shown d piece c (source internal name) (text (source_text name) ∷ []) refl refl ∙ alone_shown d (source_text name) (source-unmarked name plain)
 
 -- and what it costs
-pub piece-cost : (d : Detail) (c : Context) (internal : Bool) (name : List ℕ) → cost_of (shown_in d piece c (source internal name)) ≡ 1 + length (source_text name)
+pub piece-cost : (d : Detail) (c : Context) (internal : Bool) (name : List ℕ) → cost_of (written_of d piece c (source internal name)) ≡ 1 + length (source_text name)
 unfolding parts_in piece_parts not_empty
 piece-cost d c internal name = omega (
   arith,
-  cost_shown d piece c (source internal name) (text (source_text name) ∷ []) refl,
+  cost_shown d piece c (source internal name) (text (source_text name) ∷ []) refl refl,
   first_cost_shown d (source_text name) [],
 )
 
 -- an operator as a piece
 pub operator-text : (detail : Detail) (c : Context) (first second : ℕ)
-    → text_of (shown_in detail piece c (operator first second)) ≡ operator_text first second
+    → text_of (written_of detail piece c (operator first second)) ≡ operator_text first second
 unfolding parts_in piece_parts
 operator-text detail c first second =
     let x = operator_text first second in
-    text_shown detail piece c (operator first second) (text x ∷ []) refl ∙ alone_shown detail x
+    text_shown detail piece c (operator first second) (text x ∷ []) refl refl ∙ alone_shown detail x (operator-unmarked first second)
 
 -- and what it costs
 pub operator-cost : (detail : Detail) (c : Context) (first second : ℕ)
-    → cost_of (shown_in detail piece c (operator first second)) ≡ 1 + length (operator_text first second)
+    → cost_of (written_of detail piece c (operator first second)) ≡ 1 + length (operator_text first second)
 unfolding parts_in piece_parts not_empty
 operator-cost detail c first second =
     let x = operator_text first second in
-    omega (arith, cost_shown detail piece c (operator first second) (text x ∷ []) refl, first_cost_shown detail x [])
+    omega (arith, cost_shown detail piece c (operator first second) (text x ∷ []) refl refl, first_cost_shown detail x [])
 
-std-left : (detail : Detail) (c : Context) (internal : Bool) (name : List ℕ)
-    → text_of (shown_in detail left c (in_std (source internal name))) ≡ codes "std::" ++ source_text name
+std-left : (detail : Detail) (c : Context) (internal : Bool) (name : List ℕ) → IsUnmarked name
+    → text_of (written_of detail left c (in_std (source internal name))) ≡ codes "std::" ++ source_text name
 unfolding parts_in left_parts not_empty
-std-left detail c internal name =
-    text_shown detail left c (in_std (source internal name)) (says "std::" ∷ as_item piece c (source internal name) ∷ []) refl
-    ∙ ap (λ s. codes "std::" ++ (s ++ [])) (piece-text detail c internal name) ∙ ap (λ s. codes "std::" ++ s) (append-nil (source_text name))
+std-left detail c internal name plain =
+    text_shown detail left c (in_std (source internal name)) (says "std::" ∷ as_item piece c (source internal name) ∷ []) refl refl
+    ∙ ap (λ s. codes "std::" ++ (s ++ [])) (piece-text detail c internal name plain) ∙ ap (λ s. codes "std::" ++ s) (append-nil (source_text name))
 
 std-cost : (detail : Detail) (c : Context) (internal : Bool) (name : List ℕ)
-    → cost_of (shown_in detail left c (in_std (source internal name))) ≡ 7 + length (source_text name)
+    → cost_of (written_of detail left c (in_std (source internal name))) ≡ 7 + length (source_text name)
 unfolding parts_in left_parts not_empty
 std-cost detail c internal name =
     omega (
       arith,
-      cost_shown detail left c (in_std (source internal name)) (says "std::" ∷ as_item piece c (source internal name) ∷ []) refl,
+      cost_shown detail left c (in_std (source internal name)) (says "std::" ∷ as_item piece c (source internal name) ∷ []) refl refl,
       piece-cost detail c internal name,
     )
 
 -- A source name in std prints so.
-pub std-prints : {detail : Detail} (internal : Bool) (name : List ℕ) → name ≢ []
+pub std-prints : {detail : Detail} (internal : Bool) (name : List ℕ) → name ≢ [] → IsUnmarked name
     → Prints detail (in_std (source internal name)) (codes "std::" ++ source_text name) false
 unfolding parts_in left_parts right_parts not_empty head head_with is_reference is_funarr is_empty is_open pack_length is_function_type length_if_pack prefix_item
     last_piece opening_text is_void is_plain_integer
-std-prints {detail} internal name filled = let t = in_std (source internal name) in record {
-  left_text = λ c. std-left detail c internal name;
-  right_text = λ c. text_shown detail right c t [] refl;
+std-prints {detail} internal name filled plain = let t = in_std (source internal name) in record {
+  left_text = λ c. std-left detail c internal name plain;
+  right_text = λ c. text_shown detail right c t [] refl refl;
   cost = λ c. omega (
     arith,
     source-filled name filled,
     std-cost detail c internal name,
-    cost_shown detail right c t [] refl,
+    cost_shown detail right c t [] refl refl,
     length-append (codes "std::") (source_text name),
   );
   is_reference_head = λ c. refl;
@@ -169,13 +171,13 @@ std-prints {detail} internal name filled = let t = in_std (source internal name)
 pub operator-names : {detail : Detail} (a b : ℕ) → PrintsName detail (alone (operator a b)) (operator_text a b)
 unfolding parts_in left_parts right_parts piece_parts not_empty
 operator-names {detail} a b = let t = alone (operator a b) in let x = operator_text a b in record {
-  left_text = λ c. text_shown detail left c t (text x ∷ []) refl ∙ alone_shown detail x;
+  left_text = λ c. text_shown detail left c t (text x ∷ []) refl refl ∙ alone_shown detail x (operator-unmarked a b);
   cost = λ c. omega (
     arith,
     length-append (codes "operator") (look_up (a ∷ b ∷ []) operator_texts),
     first_cost_shown detail x [],
-    cost_shown detail left c t (text x ∷ []) refl,
-    cost_shown detail right c t [] refl,
+    cost_shown detail left c t (text x ∷ []) refl refl,
+    cost_shown detail right c t [] refl refl,
   );
 }
 
@@ -185,7 +187,7 @@ unfolding parts_in right_parts not_empty head head_with is_reference is_funarr i
     prefix_item last_piece opening_text is_void is_plain_integer
 operator-prints {detail} a b plain = let t = alone (operator a b) in let n = operator-names a b in record {
   left_text = n.left_text;
-  right_text = λ c. text_shown detail right c t [] refl;
+  right_text = λ c. text_shown detail right c t [] refl refl;
   cost = n.cost;
   is_reference_head = λ c. refl;
   is_funarr_head = λ c. refl;
@@ -209,14 +211,14 @@ std-operator-names {detail} a b =
     let x = operator_text a b in
     let is : (c : Context) → parts_in detail c left t ≡ says "std::" ∷ as_item piece c (operator a b) ∷ [] = λ c. refl in
     record {
-      left_text = λ c. text_shown detail left c t (says "std::" ∷ as_item piece c (operator a b) ∷ []) (is c)
+      left_text = λ c. text_shown detail left c t (says "std::" ∷ as_item piece c (operator a b) ∷ []) (is c) refl
           ∙ ap (λ s. codes "std::" ++ (s ++ [])) (operator-text detail c a b) ∙ ap (λ s. codes "std::" ++ s) (append-nil x);
       cost = λ c. omega (
         arith,
         operator-cost detail c a b,
         length-append (codes "operator") (look_up (a ∷ b ∷ []) operator_texts),
-        cost_shown detail left c t (says "std::" ∷ as_item piece c (operator a b) ∷ []) (is c),
-        cost_shown detail right c t [] refl,
+        cost_shown detail left c t (says "std::" ∷ as_item piece c (operator a b) ∷ []) (is c) refl,
+        cost_shown detail right c t [] refl refl,
         length-append (codes "std::") x,
       );
     }
@@ -226,7 +228,7 @@ unfolding parts_in right_parts not_empty head head_with is_reference is_funarr i
     prefix_item last_piece opening_text is_void is_plain_integer
 std-operator-prints {detail} a b plain = let t = in_std (operator a b) in let n = std-operator-names a b in record {
   left_text = n.left_text;
-  right_text = λ c. text_shown detail right c t [] refl;
+  right_text = λ c. text_shown detail right c t [] refl refl;
   cost = n.cost;
   is_reference_head = λ c. refl;
   is_funarr_head = λ c. refl;
@@ -243,18 +245,18 @@ std-operator-prints {detail} a b plain = let t = in_std (operator a b) in let n 
 }
 
 -- It names its class without std.
-pub std-class : {detail : Detail} (internal : Bool) (name : List ℕ) → name ≢ [] → NamesClass detail (in_std (source internal name)) (source_text name)
+pub std-class : {detail : Detail} (internal : Bool) (name : List ℕ) → name ≢ [] → IsUnmarked name → NamesClass detail (in_std (source internal name)) (source_text name)
 unfolding parts_in right_parts base_parts piece_parts not_empty
-std-class {detail} internal name filled = let t = in_std (source internal name) in record {
-  base_text = λ c. text_shown detail base c t (text (source_text name) ∷ []) refl ∙ alone_shown detail (source_text name);
+std-class {detail} internal name filled plain = let t = in_std (source internal name) in record {
+  base_text = λ c. text_shown detail base c t (text (source_text name) ∷ []) refl refl ∙ alone_shown detail (source_text name) (source-unmarked name plain);
   base_cost = λ c. omega (
     arith,
     source-filled name filled,
     first_cost_shown detail (source_text name) [],
     std-cost detail c internal name,
-    cost_shown detail right c t [] refl,
-    cost_shown detail base c t (text (source_text name) ∷ []) refl,
-    ap length (std-left detail c internal name),
+    cost_shown detail right c t [] refl refl,
+    cost_shown detail base c t (text (source_text name) ∷ []) refl refl,
+    ap length (std-left detail c internal name plain),
     length-append (codes "std::") (source_text name),
   );
 }
@@ -265,9 +267,9 @@ pub abbreviation-prints : {detail : Detail} (letter : ℕ) → look_up (letter �
 unfolding parts_in left_parts right_parts not_empty head head_with is_reference is_funarr is_empty is_open pack_length is_function_type length_if_pack prefix_item
     last_piece opening_text is_void is_plain_integer
 abbreviation-prints {detail} letter filled = let t = abbreviation letter in let b = look_up (letter ∷ []) abbreviation_texts in record {
-  left_text = λ c. text_shown detail left c t (text b ∷ []) refl ∙ alone_shown detail b;
-  right_text = λ c. text_shown detail right c t [] refl;
-  cost = λ c. omega (arith, length-filled b filled, first_cost_shown detail b [], cost_shown detail left c t (text b ∷ []) refl, cost_shown detail right c t [] refl);
+  left_text = λ c. text_shown detail left c t (text b ∷ []) refl refl ∙ alone_shown detail b (abbreviation-unmarked (letter ∷ []));
+  right_text = λ c. text_shown detail right c t [] refl refl;
+  cost = λ c. omega (arith, length-filled b filled, first_cost_shown detail b [], cost_shown detail left c t (text b ∷ []) refl refl, cost_shown detail right c t [] refl refl);
   is_reference_head = λ c. refl;
   is_funarr_head = λ c. refl;
   filled = λ c. refl;
@@ -292,9 +294,9 @@ pub builtin-prints : {detail : Detail} (letter : ℕ) → look_up (letter ∷ []
 unfolding parts_in left_parts right_parts not_empty head head_with is_reference is_funarr is_empty is_open pack_length is_function_type length_if_pack prefix_item
     last_piece opening_text is_void is_plain_integer
 builtin-prints {detail} letter filled = let t = builtin (letter ∷ []) in let b = look_up (letter ∷ []) builtin_texts in record {
-  left_text = λ c. text_shown detail left c t (text b ∷ []) refl ∙ alone_shown detail b;
-  right_text = λ c. text_shown detail right c t [] refl;
-  cost = λ c. omega (arith, length-filled b filled, first_cost_shown detail b [], cost_shown detail left c t (text b ∷ []) refl, cost_shown detail right c t [] refl);
+  left_text = λ c. text_shown detail left c t (text b ∷ []) refl refl ∙ alone_shown detail b (builtin-unmarked (letter ∷ []));
+  right_text = λ c. text_shown detail right c t [] refl refl;
+  cost = λ c. omega (arith, length-filled b filled, first_cost_shown detail b [], cost_shown detail left c t (text b ∷ []) refl refl, cost_shown detail right c t [] refl refl);
   is_reference_head = λ c. refl;
   is_funarr_head = λ c. refl;
   filled = λ c. refl;
@@ -315,9 +317,9 @@ pub builtin-with-d-prints : {detail : Detail} (letter : ℕ) → look_up (68 ∷
 unfolding parts_in left_parts right_parts not_empty head head_with is_reference is_funarr is_empty is_open pack_length is_function_type length_if_pack prefix_item
     last_piece opening_text is_void is_plain_integer
 builtin-with-d-prints {detail} letter filled = let t = builtin (68 ∷ letter ∷ []) in let b = look_up (68 ∷ letter ∷ []) builtin_texts in record {
-  left_text = λ c. text_shown detail left c t (text b ∷ []) refl ∙ alone_shown detail b;
-  right_text = λ c. text_shown detail right c t [] refl;
-  cost = λ c. omega (arith, length-filled b filled, first_cost_shown detail b [], cost_shown detail left c t (text b ∷ []) refl, cost_shown detail right c t [] refl);
+  left_text = λ c. text_shown detail left c t (text b ∷ []) refl refl ∙ alone_shown detail b (builtin-unmarked (68 ∷ letter ∷ []));
+  right_text = λ c. text_shown detail right c t [] refl refl;
+  cost = λ c. omega (arith, length-filled b filled, first_cost_shown detail b [], cost_shown detail left c t (text b ∷ []) refl refl, cost_shown detail right c t [] refl refl);
   is_reference_head = λ c. refl;
   is_funarr_head = λ c. refl;
   filled = λ c. refl;

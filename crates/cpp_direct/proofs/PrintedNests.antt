@@ -12,9 +12,11 @@ use Rattle.cpp_grammar.specs.Items.{left, right, base, piece, first, Context, he
 use Rattle.cpp_grammar.specs.Meaning.{is_void}
 use Rattle.cpp_grammar.specs.Parts.{as_item, says, list_part, source_text, prefix_item, last_piece, opening_text, own_piece, piece_parts, within_parts, base_within, base_tagged, instance_parts, left_parts, right_parts, base_parts, parts_in, not_empty, is_plain_integer}
 use Rattle.cpp_direct.specs.Names.{is_angle, operator_text}
-use Rattle.cpp_direct.specs.Prints.{shown_in, Prints, PrintsName, NamesClass, PrintAll}
+use Rattle.cpp_direct.specs.Prints.{written_of, Prints, PrintsName, NamesClass, PrintAll}
 use Rattle.cpp_direct.specs.WriterInvariant.{IsTail, list_with}
-use Rattle.cpp_direct.proofs.PrintedParts.{shown_by, text_shown, cost_shown, alone_shown, first_cost_shown, text_append, cost_append}
+use Rattle.cpp_direct.proofs.PrintedParts.{printed_by, shown_by, text_shown, cost_shown, alone_shown, first_cost_shown, writes_parts, text-append, cost-append, list-unmarked}
+use Rattle.cpp_direct.specs.WrittenParts.{IsUnmarked, opening_byte, closing_byte, opening_bracket, closing_bracket, written_instance}
+use Rattle.cpp_direct.proofs.Unmarked.{source-unmarked, operator-unmarked}
 use Rattle.cpp_direct.proofs.PrintedNames.{source-filled, piece-text, piece-cost, operator-text, operator-cost}
 use Rattle.cpp_direct.proofs.PrintedLists.{list-text-before, list-cost-before, list-closed, list-packless}
 
@@ -26,26 +28,28 @@ joins x m y b n e f = rw (e, f, append-nil n) (sym (append_assoc b m n))
 
 -- a piece of a name, with its text, that is printed after colons
 pub record IsPiece (detail : Detail) (p : Term) (x : List ℕ) : Type 0 where
-  pub piece_text : (context : Context) → text_of (shown_in detail piece context p) ≡ x
-  pub piece_cost : (context : Context) → cost_of (shown_in detail piece context p) ≡ 1 + length x
+  pub piece_text : (context : Context) → text_of (written_of detail piece context p) ≡ x
+  pub piece_cost : (context : Context) → cost_of (written_of detail piece context p) ≡ 1 + length x
   pub within_is : (context : Context) (t : Term) → within_parts context t p ≡ prefix_item context t ∷ says "::" ∷ as_item piece context p ∷ []
   pub base_is : (context : Context) (t : Term) → base_within context t p ≡ text x ∷ []
   pub tagged_is : (context : Context) (t : Term) → base_tagged context (is_structor (within t p)) (within t p) ≡ text x ∷ []
   pub filled : 1 ≤ length x
+  pub plain : IsUnmarked x
   pub is_closed : is_open p ≡ false
   pub packless : (scope : Term) → pack_length scope p ≡ None
   pub no_structor : (t : Term) → is_structor (within t p) ≡ false
 
 -- a source name is one
-pub source-piece : {detail : Detail} (internal : Bool) (name : List ℕ) → name ≢ [] → IsPiece detail (source internal name) (source_text name)
+pub source-piece : {detail : Detail} (internal : Bool) (name : List ℕ) → name ≢ [] → IsUnmarked name → IsPiece detail (source internal name) (source_text name)
 unfolding within_parts base_within base_tagged own_piece without_tags piece_parts is_open pack_length is_structor
-source-piece {detail} internal name filled = record {
-  piece_text = λ c. piece-text detail c internal name;
+source-piece {detail} internal name filled plain = record {
+  piece_text = λ c. piece-text detail c internal name plain;
   piece_cost = λ c. piece-cost detail c internal name;
   within_is = λ c t. refl;
   base_is = λ c t. refl;
   tagged_is = λ c t. refl;
   filled = source-filled name filled;
+  plain = source-unmarked name plain;
   is_closed = refl;
   packless = λ scope. refl;
   no_structor = λ t. refl;
@@ -66,6 +70,7 @@ operator-piece {detail} a b = record {
   base_is = λ c t. refl;
   tagged_is = λ c t. refl;
   filled = omega (arith, length-append (codes "operator") (look_up (a ∷ b ∷ []) operator_texts));
+  plain = operator-unmarked a b;
   is_closed = refl;
   packless = λ scope. refl;
   no_structor = λ t. refl;
@@ -81,19 +86,19 @@ within-is : {detail : Detail} (c : Context) (t p : Term) (x : List ℕ) → IsPi
 within-is c t p x is e = is.within_is c t ∙ ap (λ i. i ∷ says "::" ∷ as_item piece c p ∷ []) e
 
 within-text : {detail : Detail} (t : Term) (b : List ℕ) → Prints detail t b false → (p : Term) (x : List ℕ) → IsPiece detail p x → (c : Context)
-    → text_of (shown_in detail left c (within t p)) ≡ b ++ codes "::" ++ x
+    → text_of (written_of detail left c (within t p)) ≡ b ++ codes "::" ++ x
 unfolding parts_in left_parts not_empty
 within-text {detail} t b prints p x is c =
-    text_shown detail left c (within t p) (as_item left c t ∷ says "::" ∷ as_item piece c p ∷ []) (within-is c t p x is (prints.as_prefix c))
-    ∙ joins (text_of (shown_in detail left c t)) (codes "::") (text_of (shown_in detail piece c p)) b x (prints.left_text c) (is.piece_text c)
+    text_shown detail left c (within t p) (as_item left c t ∷ says "::" ∷ as_item piece c p ∷ []) (within-is c t p x is (prints.as_prefix c)) refl
+    ∙ joins (text_of (written_of detail left c t)) (codes "::") (text_of (written_of detail piece c p)) b x (prints.left_text c) (is.piece_text c)
 
 within-cost : {detail : Detail} (t : Term) (b : List ℕ) → Prints detail t b false → (p : Term) (x : List ℕ) → IsPiece detail p x → (c : Context)
-    → cost_of (shown_in detail left c (within t p)) ≡ cost_of (shown_in detail left c t) + 4 + length x
+    → cost_of (written_of detail left c (within t p)) ≡ cost_of (written_of detail left c t) + 4 + length x
 unfolding parts_in left_parts not_empty
 within-cost {detail} t b prints p x is c =
     omega (
       arith,
-      cost_shown detail left c (within t p) (as_item left c t ∷ says "::" ∷ as_item piece c p ∷ []) (within-is c t p x is (prints.as_prefix c)),
+      cost_shown detail left c (within t p) (as_item left c t ∷ says "::" ∷ as_item piece c p ∷ []) (within-is c t p x is (prints.as_prefix c)) refl,
       is.piece_cost c,
     )
 
@@ -107,7 +112,7 @@ within-names {detail} t b prints p x is = let w = within t p in record {
     arith,
     prints.cost c,
     within-cost t b prints p x is c,
-    cost_shown detail right c w [] refl,
+    cost_shown detail right c w [] refl refl,
     is.filled,
     length-append (b ++ codes "::") x,
     length-append b (codes "::"),
@@ -121,7 +126,7 @@ unfolding parts_in left_parts right_parts not_empty head head_with is_reference 
     prefix_item last_piece is_void is_plain_integer
 within-prints {detail} t b prints p x is opening = let w = within t p in let n = within-names t b prints p x is in record {
   left_text = n.left_text;
-  right_text = λ c. text_shown detail right c w [] refl;
+  right_text = λ c. text_shown detail right c w [] refl refl;
   cost = n.cost;
   is_reference_head = λ c. refl;
   is_funarr_head = λ c. refl;
@@ -142,14 +147,14 @@ pub within-class : {detail : Detail} (t : Term) (b : List ℕ) → Prints detail
     → NamesClass detail (within t p) x
 unfolding parts_in right_parts base_parts not_empty
 within-class {detail} t b prints p x is = let w = within t p in record {
-  base_text = λ c. text_shown detail base c w (text x ∷ []) (is.base_is c t) ∙ alone_shown detail x;
+  base_text = λ c. text_shown detail base c w (text x ∷ []) (is.base_is c t) refl ∙ alone_shown detail x is.plain;
   base_cost = λ c. omega (
     arith,
     prints.cost c,
     within-cost t b prints p x is c,
-    cost_shown detail right c w [] refl,
+    cost_shown detail right c w [] refl refl,
     is.filled,
-    cost_shown detail base c w (text x ∷ []) (is.base_is c t),
+    cost_shown detail base c w (text x ∷ []) (is.base_is c t) refl,
     first_cost_shown detail x [],
     ap length (within-text t b prints p x is c),
     length-append (b ++ codes "::") x,
@@ -165,15 +170,15 @@ pub constructor-prints : {detail : Detail} (t : Term) (b class : List ℕ) → P
 unfolding parts_in left_parts right_parts within_parts not_empty head head_with is_reference is_funarr is_empty is_open pack_length first_of
     is_function_type length_if_pack prefix_item last_piece opening_text is_void is_plain_integer
 constructor-prints {detail} t b class p n digit = let w = within t (constructor digit) in record {
-  left_text = λ c. text_shown detail left c w (as_item left c t ∷ says "::" ∷ as_item base c t ∷ []) refl
-      ∙ joins (text_of (shown_in detail left c t)) (codes "::") (text_of (shown_in detail base c t)) b class (p.left_text c) (n.base_text c);
-  right_text = λ c. text_shown detail right c w [] refl;
+  left_text = λ c. text_shown detail left c w (as_item left c t ∷ says "::" ∷ as_item base c t ∷ []) refl refl
+      ∙ joins (text_of (written_of detail left c t)) (codes "::") (text_of (written_of detail base c t)) b class (p.left_text c) (n.base_text c);
+  right_text = λ c. text_shown detail right c w [] refl refl;
   cost = λ c. omega (
     arith,
     n.base_cost c,
     ap length (p.left_text c),
-    cost_shown detail right c w [] refl,
-    cost_shown detail left c w (as_item left c t ∷ says "::" ∷ as_item base c t ∷ []) refl,
+    cost_shown detail right c w [] refl refl,
+    cost_shown detail left c w (as_item left c t ∷ says "::" ∷ as_item base c t ∷ []) refl refl,
     length-append (b ++ codes "::") class,
     length-append b (codes "::"),
   );
@@ -197,15 +202,15 @@ pub destructor-prints : {detail : Detail} (t : Term) (b class : List ℕ) → Pr
 unfolding parts_in left_parts right_parts within_parts not_empty head head_with is_reference is_funarr is_empty is_open pack_length first_of
     is_function_type length_if_pack prefix_item last_piece opening_text is_void is_plain_integer
 destructor-prints {detail} t b class p n digit = let w = within t (destructor digit) in record {
-  left_text = λ c. text_shown detail left c w (as_item left c t ∷ says "::~" ∷ as_item base c t ∷ []) refl
-      ∙ joins (text_of (shown_in detail left c t)) (codes "::~") (text_of (shown_in detail base c t)) b class (p.left_text c) (n.base_text c);
-  right_text = λ c. text_shown detail right c w [] refl;
+  left_text = λ c. text_shown detail left c w (as_item left c t ∷ says "::~" ∷ as_item base c t ∷ []) refl refl
+      ∙ joins (text_of (written_of detail left c t)) (codes "::~") (text_of (written_of detail base c t)) b class (p.left_text c) (n.base_text c);
+  right_text = λ c. text_shown detail right c w [] refl refl;
   cost = λ c. omega (
     arith,
     n.base_cost c,
     ap length (p.left_text c),
-    cost_shown detail right c w [] refl,
-    cost_shown detail left c w (as_item left c t ∷ says "::~" ∷ as_item base c t ∷ []) refl,
+    cost_shown detail right c w [] refl refl,
+    cost_shown detail left c w (as_item left c t ∷ says "::~" ∷ as_item base c t ∷ []) refl refl,
     length-append (b ++ codes "::~") class,
     length-append b (codes "::~"),
   );
@@ -225,55 +230,71 @@ destructor-prints {detail} t b class p n digit = let w = within t (destructor di
 
 -- ## Names with arguments
 
-instance-is : (detail : Detail) → has_arguments detail ≡ true → (c : Context) (t arguments : Term) → opening_text (last_piece t) ≡ codes "<"
-    → parts_in detail c left (instance t arguments) ≡ (as_item left c t ∷ says "<" ∷ list_part first c arguments) ++ (says ">" ∷ [])
-unfolding parts_in left_parts instance_parts
-instance-is detail all c t arguments e =
-    ap (λ b. instance_parts b c t arguments) all ∙ ap (λ o. (as_item left c t ∷ text o ∷ list_part first c arguments) ++ (says ">" ∷ [])) e
+-- what is written of an instance
+written-is : (shown : Bool) (c : Context) (t arguments : Term) → opening_text (last_piece t) ≡ codes "<"
+    → written_instance shown c t arguments
+    ≡ (as_item left c t ∷ text (opening_byte shown ∷ []) ∷ list_part first c arguments) ++ (text (closing_byte shown ∷ []) ∷ [])
+unfolding instance_parts
+written-is true c t arguments e = ap (λ o. (as_item left c t ∷ text o ∷ list_part first c arguments) ++ (says ">" ∷ [])) e
+written-is false c t arguments e = refl
 
-bracketed : (x y b l : List ℕ) → x ≡ b → y ≡ l → (x ++ (codes "<" ++ y)) ++ codes ">" ≡ b ++ codes "<" ++ l ++ codes ">"
-bracketed x y b l e f = rw (e, f) (ap (λ s. s ++ codes ">") (sym (append_assoc b (codes "<") l)))
+instance-is : (detail : Detail) (c : Context) (t arguments : Term) → opening_text (last_piece t) ≡ codes "<"
+    → written_of detail left c (instance t arguments)
+    ≡ printed_by detail ((as_item left c t ∷ text (opening_bracket detail) ∷ list_part first c arguments) ++ (text (closing_bracket detail) ∷ []))
+instance-is detail c t arguments e =
+    writes_parts detail left c (instance t arguments) ∙ ap (λ ps. printed_by detail ps) (written-is (has_arguments detail) c t arguments e)
 
-instance-text : {detail : Detail} → has_arguments detail ≡ true → (t : Term) (b : List ℕ) → Prints detail t b false
+bracketed : (o e b k x y : List ℕ) → x ≡ b → y ≡ k → (x ++ (o ++ y)) ++ e ≡ b ++ o ++ k ++ e
+bracketed o e b k x y f g = rw (f, g) (ap (λ s. s ++ e) (sym (append_assoc b o k)))
+
+-- the elements, which are one item or none
+list-printed : (detail : Detail) (c : Context) (arguments : Term)
+    → shown_by detail (list_part first c arguments) ≡ printed_by detail (list_part first c arguments)
+list-printed detail c arguments = ap (λ ps. printed_by detail ps) (list-unmarked (has_arguments detail) first c arguments)
+
+instance-text : {detail : Detail} (t : Term) (b : List ℕ) → Prints detail t b false
     → (ts : List Term) (tail : Term) (l : List ℕ) → IsTail tail → PrintAll detail 3 ts l → (c : Context)
-    → text_of (shown_in detail left c (instance t (list_with ts tail))) ≡ b ++ codes "<" ++ l ++ codes ">"
-unfolding parts_in left_parts not_empty
-instance-text {detail} whole t b p ts tail l is all c =
-    let ps = as_item left c t ∷ says "<" ∷ list_part first c (list_with ts tail) in
-    text_shown detail left c (instance t (list_with ts tail)) (ps ++ (says ">" ∷ [])) (instance-is detail whole c t (list_with ts tail) p.opening)
-    ∙ text_append detail ps (says ">" ∷ [])
-    ∙ bracketed (text_of (shown_in detail left c t)) (text_of (shown_by detail (list_part first c (list_with ts tail)))) b l (p.left_text c) (list-text-before detail c 3 ts tail l is all)
+    → text_of (written_of detail left c (instance t (list_with ts tail))) ≡ b ++ opening_bracket detail ++ l ++ closing_bracket detail
+unfolding not_empty
+instance-text {detail} t b p ts tail l is all c =
+    let arguments = list_part first c (list_with ts tail) in
+    let ps = as_item left c t ∷ text (opening_bracket detail) ∷ arguments in
+    ap text_of (instance-is detail c t (list_with ts tail) p.opening)
+    ∙ text-append detail ps (text (closing_bracket detail) ∷ [])
+    ∙ bracketed (opening_bracket detail) (closing_bracket detail) b l (text_of (written_of detail left c t)) (text_of (printed_by detail arguments)) (p.left_text c)
+    (sym (ap text_of (list-printed detail c (list_with ts tail))) ∙ list-text-before detail c 3 ts tail l is all)
 
-instance-cost : {detail : Detail} → has_arguments detail ≡ true → (t : Term) (b : List ℕ) → Prints detail t b false
+instance-cost : {detail : Detail} (t : Term) (b : List ℕ) → Prints detail t b false
     → (ts : List Term) (tail : Term) (l : List ℕ) → IsTail tail → PrintAll detail 3 ts l → (c : Context)
-    → cost_of (shown_in detail left c (instance t (list_with ts tail))) ≤ cost_of (shown_in detail left c t) + 7 + 4 * length l
-unfolding parts_in left_parts not_empty
-instance-cost {detail} whole t b p ts tail l is all c =
-    let ps = as_item left c t ∷ says "<" ∷ list_part first c (list_with ts tail) in
+    → cost_of (written_of detail left c (instance t (list_with ts tail))) ≤ cost_of (written_of detail left c t) + 7 + 4 * length l
+unfolding not_empty
+instance-cost {detail} t b p ts tail l is all c =
+    let ps = as_item left c t ∷ text (opening_bracket detail) ∷ list_part first c (list_with ts tail) in
     omega (
       arith,
-      cost_shown detail left c (instance t (list_with ts tail)) (ps ++ (says ">" ∷ [])) (instance-is detail whole c t (list_with ts tail) p.opening),
-      cost_append detail ps (says ">" ∷ []),
+      ap cost_of (instance-is detail c t (list_with ts tail) p.opening),
+      cost-append detail ps (text (closing_bracket detail) ∷ []),
+      ap cost_of (list-printed detail c (list_with ts tail)),
       list-cost-before detail c 3 ts tail l (omega arith) is all,
     )
 
 -- A name with arguments prints them in brackets.
-pub instance-prints : {detail : Detail} → has_arguments detail ≡ true → (t : Term) (b : List ℕ) → Prints detail t b false
+pub instance-prints : {detail : Detail} (t : Term) (b : List ℕ) → Prints detail t b false
     → (ts : List Term) (tail : Term) (l : List ℕ) → IsTail tail → PrintAll detail 3 ts l
-    → Prints detail (instance t (list_with ts tail)) (b ++ codes "<" ++ l ++ codes ">") false
+    → Prints detail (instance t (list_with ts tail)) (b ++ opening_bracket detail ++ l ++ closing_bracket detail) false
 unfolding parts_in right_parts not_empty head head_with is_reference is_funarr is_empty is_open pack_length first_of is_function_type length_if_pack prefix_item
     last_piece opening_text is_void is_plain_integer
-instance-prints {detail} whole t b p ts tail l is all = let i = instance t (list_with ts tail) in record {
-  left_text = instance-text whole t b p ts tail l is all;
-  right_text = λ c. text_shown detail right c i [] refl;
+instance-prints {detail} t b p ts tail l is all = let i = instance t (list_with ts tail) in record {
+  left_text = instance-text t b p ts tail l is all;
+  right_text = λ c. text_shown detail right c i [] refl refl;
   cost = λ c. omega (
     arith,
     p.cost c,
-    instance-cost whole t b p ts tail l is all c,
-    cost_shown detail right c i [] refl,
-    length-append (b ++ codes "<" ++ l) (codes ">"),
-    length-append (b ++ codes "<") l,
-    length-append b (codes "<"),
+    instance-cost t b p ts tail l is all c,
+    cost_shown detail right c i [] refl refl,
+    length-append (b ++ opening_bracket detail ++ l) (closing_bracket detail),
+    length-append (b ++ opening_bracket detail) l,
+    length-append b (opening_bracket detail),
   );
   is_reference_head = λ c. refl;
   is_funarr_head = λ c. refl;
@@ -290,22 +311,22 @@ instance-prints {detail} whole t b p ts tail l is all = let i = instance t (list
 }
 
 -- Its class is named without them.
-pub instance-class : {detail : Detail} → has_arguments detail ≡ true → (t : Term) (b class : List ℕ) → Prints detail t b false → NamesClass detail t class
+pub instance-class : {detail : Detail} (t : Term) (b class : List ℕ) → Prints detail t b false → NamesClass detail t class
     → (ts : List Term) (tail : Term) (l : List ℕ) → IsTail tail → PrintAll detail 3 ts l
     → NamesClass detail (instance t (list_with ts tail)) class
 unfolding parts_in right_parts base_parts not_empty
-instance-class {detail} whole t b class p n ts tail l is all = let i = instance t (list_with ts tail) in record {
-  base_text = λ c. text_shown detail base c i (as_item base c t ∷ []) refl ∙ append-nil (text_of (shown_in detail base c t)) ∙ n.base_text c;
+instance-class {detail} t b class p n ts tail l is all = let i = instance t (list_with ts tail) in record {
+  base_text = λ c. text_shown detail base c i (as_item base c t ∷ []) refl refl ∙ append-nil (text_of (written_of detail base c t)) ∙ n.base_text c;
   base_cost = λ c. omega (
     arith,
     n.base_cost c,
     ap length (p.left_text c),
-    instance-cost whole t b p ts tail l is all c,
-    cost_shown detail right c i [] refl,
-    cost_shown detail base c i (as_item base c t ∷ []) refl,
-    ap length (instance-text whole t b p ts tail l is all c),
-    length-append (b ++ codes "<" ++ l) (codes ">"),
-    length-append (b ++ codes "<") l,
-    length-append b (codes "<"),
+    instance-cost t b p ts tail l is all c,
+    cost_shown detail right c i [] refl refl,
+    cost_shown detail base c i (as_item base c t ∷ []) refl refl,
+    ap length (instance-text t b p ts tail l is all c),
+    length-append (b ++ opening_bracket detail ++ l) (closing_bracket detail),
+    length-append (b ++ opening_bracket detail) l,
+    length-append b (opening_bracket detail),
   );
 }

@@ -1,69 +1,151 @@
 -- What an item prints is what its parts print.
-use Rattle.std.proofs.Common.{◌≡◌, Bool, true, false, refl, ap, sym, ◌∙◌, ℕ, ◌+◌, ◌≤◌, List, [], ◌∷◌, ◌++◌, length, arith, append-nil, append_assoc, ◌≢◌}
+use Rattle.std.proofs.Common.{◌≡◌, Bool, true, false, refl, ap, sym, ◌∙◌, ℕ, ◌+◌, ◌≤◌, List, [], ◌∷◌, ◌++◌, length, arith, subst, append-nil, append_assoc, ◌≢◌}
 use Rattle.sym_print.specs.declared.detail.Detail.{Detail}
 use Rattle.sym_print.specs.Details.{has_arguments, has_parameters}
-use Rattle.sym_print.specs.Unfold.{PartOf, text, sub, printed_parts}
+use Rattle.sym_print.specs.declared.detail.Detail.TheVariants.{Full}
+use Rattle.sym_print.specs.Unfold.{PartOf, text, sub, printed_parts, RanksBelow}
 use Rattle.sym_print.specs.Unshared.{Unshared, text_of, cost_of}
 use Rattle.sym_print.proofs.Unfolding.{printed-parts}
-use Rattle.cpp_grammar.specs.Term.{Term}
-use Rattle.cpp_grammar.specs.Items.{Form, Context, Item}
-use Rattle.cpp_grammar.specs.Parts.{text_part, parts_in, not_empty, parts}
-use Rattle.cpp_grammar.specs.Ranks.{rank}
-use Rattle.cpp_grammar.specs.Answer.{shown}
+use Rattle.sym_direct.specs.Marked.{opens, closes}
+use Rattle.cpp_grammar.specs.Term.{Term, instance, nil}
+use Rattle.cpp_grammar.specs.Items.{Form, left, low, first, Context, Item}
+use Rattle.cpp_grammar.specs.Parts.{text_part, list_part, says, opening_text, last_piece, instance_parts, left_parts, low_parts, parts_in, not_empty, parts}
+use Rattle.cpp_grammar.specs.Ranks.{rank, rank_in}
 use Rattle.cpp_grammar.proofs.RanksFall.{ranks_fall}
 use Rattle.cpp_direct.specs.Symbol.{Symbol, detail_by, detail_of}
-use Rattle.cpp_direct.specs.Prints.{shown_in}
+use Rattle.cpp_direct.specs.WrittenParts.{IsUnmarked, unmarked, unmarked_parts, written_instance, written_name, written_in, written_parts, written}
+use Rattle.cpp_direct.specs.Prints.{written_of}
+use Rattle.cpp_direct.proofs.Unmarked.{unmarked-same, length-unmarked}
 
--- functions are shown with their parameters, or by their names alone, and templates with their arguments
+whole-by : (is_brief : Bool) → has_parameters (detail_by false is_brief) ≡ true
+whole-by true = refl
+whole-by false = refl
+
+bare-by : (is_brief : Bool) → has_parameters (detail_by true is_brief) ≡ false
+bare-by true = refl
+bare-by false = refl
+
+-- functions are shown with their parameters, or by their names alone
 pub has-parameters : (s : Symbol) → s.is_bare ≡ false → has_parameters (detail_of s) ≡ true
-has-parameters s whole = ap (λ b. has_parameters (detail_by b)) whole
+has-parameters s whole = ap (λ b. has_parameters (detail_by b s.is_brief)) whole ∙ whole-by s.is_brief
 
 pub has-none : (s : Symbol) → s.is_bare ≡ true → has_parameters (detail_of s) ≡ false
-has-none s bare = ap (λ b. has_parameters (detail_by b)) bare
+has-none s bare = ap (λ b. has_parameters (detail_by b s.is_brief)) bare ∙ bare-by s.is_brief
 
-arguments-by : (is_bare : Bool) → has_arguments (detail_by is_bare) ≡ true
-arguments-by true = refl
-arguments-by false = refl
+-- ## What parts print
 
-pub has-arguments : (s : Symbol) → has_arguments (detail_of s) ≡ true
-has-arguments s = arguments-by s.is_bare
+-- what parts print in a detail, as they are
+abbrev pub printed_by : Detail → List (PartOf Item) → Unshared
+printed_by d ps = printed_parts (written d) (not_empty ps)
 
--- what parts print in a detail
+-- and with texts that have no marks where arguments aren't shown
 abbrev pub shown_by : Detail → List (PartOf Item) → Unshared
-shown_by d ps = printed_parts (shown d) (not_empty ps)
+shown_by d ps = printed_by d (unmarked_parts (has_arguments d) ps)
+
+-- a list's elements are one item, or none
+pub list-unmarked : (shown : Bool) (form : Form) (context : Context) (t : Term) → unmarked_parts shown (list_part form context t) ≡ list_part form context t
+unfolding list_part
+list-unmarked shown form context nil = refl
+list-unmarked shown form context t = refl
+
+unmarked-falls : (shown : Bool) (n : ℕ) (ps : List (PartOf Item)) → RanksBelow rank n (not_empty ps) → RanksBelow rank n (not_empty (unmarked_parts shown ps))
+unfolding not_empty
+unmarked-falls shown n [] below = below
+unmarked-falls shown n (text [] ∷ ps) below = unmarked-falls shown n ps below
+unmarked-falls shown n (text (b ∷ bs) ∷ ps) below = unmarked-falls shown n ps below
+unmarked-falls shown n (sub i ∷ ps) below = (below.0, unmarked-falls shown n ps below.1)
+
+-- the last text may be another one
+last-falls : (n x y : ℕ) (ps : List (PartOf Item)) → RanksBelow rank n (not_empty (ps ++ text (x ∷ []) ∷ []))
+    → RanksBelow rank n (not_empty (ps ++ text (y ∷ []) ∷ []))
+unfolding not_empty
+last-falls n x y [] below = below
+last-falls n x y (text [] ∷ ps) below = last-falls n x y ps below
+last-falls n x y (text (b ∷ bs) ∷ ps) below = last-falls n x y ps below
+last-falls n x y (sub i ∷ ps) below = (below.0, last-falls n x y ps below.1)
+
+-- and so may the first
+first-falls : (n : ℕ) (b : List ℕ) (ps : List (PartOf Item)) → RanksBelow rank n (not_empty (text b ∷ ps)) → RanksBelow rank n (not_empty ps)
+unfolding not_empty
+first-falls n [] ps below = below
+first-falls n (b ∷ bs) ps below = below
+
+instance-falls : (shown : Bool) (n : ℕ) (c : Context) (t a : Term) → RanksBelow rank n (not_empty (instance_parts true c t a))
+    → RanksBelow rank n (not_empty (written_instance shown c t a))
+unfolding not_empty instance_parts
+instance-falls true n c t a below = below
+instance-falls false n c t a below =
+    (below.0, last-falls n 62 closes (list_part first c a) (first-falls n (opening_text (last_piece t)) (list_part first c a ++ (says ">" ∷ [])) below.1))
+
+name-falls : (d : Detail) (c : Context) (form : Form) (t : Term)
+    → ((e : Detail) → RanksBelow rank (rank_in c form t) (not_empty (parts_in e c form t)))
+    → ((a b : Term) → t ≡ instance a b → parts_in Full c form t ≡ instance_parts true c a b)
+    → RanksBelow rank (rank_in c form t) (not_empty (written_name d c form t))
+name-falls d c form (instance a b) below is =
+    instance-falls (has_arguments d) (rank_in c form (instance a b)) c a b
+    (subst (λ ps. RanksBelow rank (rank_in c form (instance a b)) (not_empty ps)) (is a b refl) (below Full))
+name-falls d c form t below is = unmarked-falls (has_arguments d) (rank_in c form t) (parts_in d c form t) (below d)
+
+same-instance : (c : Context) (form : Form) (t a b : Term) → t ≡ instance a b → parts_in Full c form (instance a b) ≡ instance_parts true c a b
+    → parts_in Full c form t ≡ instance_parts true c a b
+same-instance c form t a b e is = subst (λ u. parts_in Full c form u ≡ instance_parts true c a b) (sym e) is
+
+in-falls : (d : Detail) (c : Context) (form : Form) (t : Term)
+    → ((e : Detail) → RanksBelow rank (rank_in c form t) (not_empty (parts_in e c form t)))
+    → RanksBelow rank (rank_in c form t) (not_empty (written_in d c form t))
+unfolding parts_in left_parts low_parts
+in-falls d c left t below = name-falls d c left t below (λ a b e. same-instance c left t a b e refl)
+in-falls d c low t below = name-falls d c low t below (λ a b e. same-instance c low t a b e refl)
+in-falls d c form t below = unmarked-falls (has_arguments d) (rank_in c form t) (parts_in d c form t) (below d)
+
+-- the rank falls to each part of what is written
+pub written_falls : (d : Detail) (item : Item) → RanksBelow rank (rank item) (written_parts d item)
+unfolding written_parts parts rank
+written_falls d item = in-falls d item.context item.form item.tree (λ e. ranks_fall e item)
 
 -- a tree in a form prints its parts
-pub shows_parts : (d : Detail) (form : Form) (context : Context) (t : Term) → shown_in d form context t ≡ shown_by d (parts_in d context form t)
-unfolding parts
-shows_parts d form context t = printed-parts (parts d) rank (ranks_fall d) (record { tree = t; form = form; context = context })
+pub writes_parts : (d : Detail) (form : Form) (context : Context) (t : Term) → written_of d form context t ≡ printed_by d (written_in d context form t)
+unfolding written_parts
+writes_parts d form context t = printed-parts (written_parts d) rank (written_falls d) (record { tree = t; form = form; context = context })
 
--- the text of a tree in a form, where its parts are known
+-- the text of a tree in a form, where its parts are known, and it is no instance
 pub text_shown : (d : Detail) (form : Form) (context : Context) (t : Term) (ps : List (PartOf Item)) → parts_in d context form t ≡ ps
-    → text_of (shown_in d form context t) ≡ text_of (shown_by d ps)
-text_shown d form context t ps e = ap text_of (shows_parts d form context t) ∙ ap (λ xs. text_of (shown_by d xs)) e
+    → written_in d context form t ≡ unmarked_parts (has_arguments d) (parts_in d context form t)
+    → text_of (written_of d form context t) ≡ text_of (shown_by d ps)
+text_shown d form context t ps e same =
+    ap text_of (writes_parts d form context t) ∙ ap (λ xs. text_of (printed_by d xs)) same ∙ ap (λ xs. text_of (shown_by d xs)) e
 
 -- the same of the cost
 pub cost_shown : (d : Detail) (form : Form) (context : Context) (t : Term) (ps : List (PartOf Item)) → parts_in d context form t ≡ ps
-    → cost_of (shown_in d form context t) ≡ cost_of (shown_by d ps)
-cost_shown d form context t ps e = ap cost_of (shows_parts d form context t) ∙ ap (λ xs. cost_of (shown_by d xs)) e
+    → written_in d context form t ≡ unmarked_parts (has_arguments d) (parts_in d context form t)
+    → cost_of (written_of d form context t) ≡ cost_of (shown_by d ps)
+cost_shown d form context t ps e same =
+    ap cost_of (writes_parts d form context t) ∙ ap (λ xs. cost_of (printed_by d xs)) same ∙ ap (λ xs. cost_of (shown_by d xs)) e
 
 -- a text comes before what is after it, be it empty or not
-pub first_shown : (d : Detail) (b : List ℕ) (ps : List (PartOf Item)) → text_of (shown_by d (text b ∷ ps)) ≡ b ++ text_of (shown_by d ps)
+first-printed : (d : Detail) (b : List ℕ) (ps : List (PartOf Item)) → text_of (printed_by d (text b ∷ ps)) ≡ b ++ text_of (printed_by d ps)
 unfolding not_empty
-first_shown d [] ps = refl
-first_shown d (b ∷ bs) ps = refl
+first-printed d [] ps = refl
+first-printed d (b ∷ bs) ps = refl
+
+pub first_shown : (d : Detail) (b : List ℕ) (ps : List (PartOf Item)) → IsUnmarked b → text_of (shown_by d (text b ∷ ps)) ≡ b ++ text_of (shown_by d ps)
+first_shown d b ps plain =
+    first-printed d (unmarked (has_arguments d) b) (unmarked_parts (has_arguments d) ps) ∙ ap (λ x. x ++ text_of (shown_by d ps)) (unmarked-same (has_arguments d) b plain)
+
+first-cost-printed : (d : Detail) (b : List ℕ) (ps : List (PartOf Item)) → cost_of (printed_by d (text b ∷ ps)) ≡ length b + cost_of (printed_by d ps)
+unfolding not_empty
+first-cost-printed d [] ps = omega arith
+first-cost-printed d (b ∷ bs) ps = omega arith
 
 -- and costs its length
 pub first_cost_shown : (d : Detail) (b : List ℕ) (ps : List (PartOf Item)) → cost_of (shown_by d (text b ∷ ps)) ≡ length b + cost_of (shown_by d ps)
-unfolding not_empty
-first_cost_shown d [] ps = omega arith
-first_cost_shown d (b ∷ bs) ps = omega arith
+first_cost_shown d b ps =
+    omega (arith, first-cost-printed d (unmarked (has_arguments d) b) (unmarked_parts (has_arguments d) ps), length-unmarked (has_arguments d) b)
 
 -- a text alone
-pub alone_shown : (d : Detail) (b : List ℕ) → text_of (shown_by d (text b ∷ [])) ≡ b
+pub alone_shown : (d : Detail) (b : List ℕ) → IsUnmarked b → text_of (shown_by d (text b ∷ [])) ≡ b
 unfolding not_empty
-alone_shown d [] = refl
-alone_shown d (b ∷ bs) = append-nil (b ∷ bs)
+alone_shown d b plain = first_shown d b [] plain ∙ append-nil b
 
 -- a list that isn't empty has an element
 pub length-filled : (xs : List ℕ) → xs ≢ [] → 1 ≤ length xs
@@ -71,34 +153,55 @@ length-filled [] e = absurd (e refl)
 length-filled (x ∷ xs) e = omega arith
 
 -- parts after parts
-pub text_append : (detail : Detail) (ps qs : List (PartOf Item))
-    → text_of (shown_by detail (ps ++ qs)) ≡ text_of (shown_by detail ps) ++ text_of (shown_by detail qs)
+pub text-append : (detail : Detail) (ps qs : List (PartOf Item))
+    → text_of (printed_by detail (ps ++ qs)) ≡ text_of (printed_by detail ps) ++ text_of (printed_by detail qs)
 unfolding not_empty
-text_append detail [] qs = refl
-text_append detail (text [] ∷ ps) qs = text_append detail ps qs
-text_append detail (text (b ∷ bs) ∷ ps) qs =
-    ap (λ s. (b ∷ bs) ++ s) (text_append detail ps qs) ∙ sym (append_assoc (b ∷ bs) (text_of (shown_by detail ps)) (text_of (shown_by detail qs)))
-text_append detail (sub i ∷ ps) qs =
-    ap (λ s. text_of (shown detail i) ++ s) (text_append detail ps qs)
-    ∙ sym (append_assoc (text_of (shown detail i)) (text_of (shown_by detail ps)) (text_of (shown_by detail qs)))
+text-append detail [] qs = refl
+text-append detail (text [] ∷ ps) qs = text-append detail ps qs
+text-append detail (text (b ∷ bs) ∷ ps) qs =
+    ap (λ s. (b ∷ bs) ++ s) (text-append detail ps qs) ∙ sym (append_assoc (b ∷ bs) (text_of (printed_by detail ps)) (text_of (printed_by detail qs)))
+text-append detail (sub i ∷ ps) qs =
+    ap (λ s. text_of (written detail i) ++ s) (text-append detail ps qs)
+    ∙ sym (append_assoc (text_of (written detail i)) (text_of (printed_by detail ps)) (text_of (printed_by detail qs)))
 
 -- cost what both do
+pub cost-append : (detail : Detail) (ps qs : List (PartOf Item))
+    → 1 + cost_of (printed_by detail (ps ++ qs)) ≡ cost_of (printed_by detail ps) + cost_of (printed_by detail qs)
+unfolding not_empty
+cost-append detail [] qs = omega arith
+cost-append detail (text [] ∷ ps) qs = cost-append detail ps qs
+cost-append detail (text (b ∷ bs) ∷ ps) qs = omega (arith, cost-append detail ps qs)
+cost-append detail (sub i ∷ ps) qs = omega (arith, cost-append detail ps qs)
+
+unmarked-append : (shown : Bool) (ps qs : List (PartOf Item)) → unmarked_parts shown (ps ++ qs) ≡ unmarked_parts shown ps ++ unmarked_parts shown qs
+unmarked-append shown [] qs = refl
+unmarked-append shown (text b ∷ ps) qs = ap (λ rs. text (unmarked shown b) ∷ rs) (unmarked-append shown ps qs)
+unmarked-append shown (sub i ∷ ps) qs = ap (λ rs. sub i ∷ rs) (unmarked-append shown ps qs)
+
+-- the same of parts without marks
+pub text_append : (detail : Detail) (ps qs : List (PartOf Item))
+    → text_of (shown_by detail (ps ++ qs)) ≡ text_of (shown_by detail ps) ++ text_of (shown_by detail qs)
+text_append detail ps qs =
+    ap (λ rs. text_of (printed_by detail rs)) (unmarked-append (has_arguments detail) ps qs)
+    ∙ text-append detail (unmarked_parts (has_arguments detail) ps) (unmarked_parts (has_arguments detail) qs)
+
 pub cost_append : (detail : Detail) (ps qs : List (PartOf Item))
     → 1 + cost_of (shown_by detail (ps ++ qs)) ≡ cost_of (shown_by detail ps) + cost_of (shown_by detail qs)
-unfolding not_empty
-cost_append detail [] qs = omega arith
-cost_append detail (text [] ∷ ps) qs = cost_append detail ps qs
-cost_append detail (text (b ∷ bs) ∷ ps) qs = omega (arith, cost_append detail ps qs)
-cost_append detail (sub i ∷ ps) qs = omega (arith, cost_append detail ps qs)
+cost_append detail ps qs =
+    omega (
+      arith,
+      ap (λ rs. cost_of (printed_by detail rs)) (unmarked-append (has_arguments detail) ps qs),
+      cost-append detail (unmarked_parts (has_arguments detail) ps) (unmarked_parts (has_arguments detail) qs),
+    )
 
 -- a text that is a part unless it is empty
-pub part-text : (detail : Detail) (b : List ℕ) → text_of (shown_by detail (text_part b)) ≡ b
+pub part-text : (detail : Detail) (b : List ℕ) → IsUnmarked b → text_of (shown_by detail (text_part b)) ≡ b
 unfolding text_part not_empty
-part-text detail [] = refl
-part-text detail (b ∷ bs) = append-nil (b ∷ bs)
+part-text detail [] plain = refl
+part-text detail (b ∷ bs) plain = alone_shown detail (b ∷ bs) plain
 
 -- which costs its length
 pub part-cost : (detail : Detail) (b : List ℕ) → cost_of (shown_by detail (text_part b)) ≡ 1 + length b
 unfolding text_part not_empty
 part-cost detail [] = omega arith
-part-cost detail (b ∷ bs) = omega arith
+part-cost detail (b ∷ bs) = omega (arith, first_cost_shown detail (b ∷ bs) [])

@@ -1,7 +1,7 @@
 -- Encodings of which the text is known, and the symbols that they are.
 use Rattle.std.proofs.Common.{◌≡◌, ◌≢◌, refl, ap, sym, ◌∙◌, ℕ, ◌*◌, ◌≤◌, List, [], ◌∷◌, ◌++◌, length, Bool, true, false, ◌&&◌, arith, codes, length-append, append-nil, append_assoc, subst}
 use Rattle.sym_print.specs.declared.detail.Detail.{Detail}
-use Rattle.sym_print.specs.Details.{has_parameters}
+use Rattle.sym_print.specs.Details.{has_arguments, has_parameters}
 use Rattle.sym_print.specs.Unfold.{text}
 use Rattle.sym_print.specs.Unshared.{text_of, cost_of}
 use Rattle.cpp_grammar.specs.Term.{Qualifiers, RefQualifier, non_virtual, by_table, Thunk, adjusting, covariant, Term, symbol, function, object, special, thunk, builtin, nil, list, absent}
@@ -14,8 +14,10 @@ use Rattle.cpp_grammar.specs.Parts.{as_item, says, text_part, list_part, types_o
 use Rattle.cpp_grammar.specs.Answer.{shown, root_item}
 use Rattle.cpp_direct.specs.declared.open.Mark.{Mark}
 use Rattle.cpp_direct.specs.Marks.{has_const, called_on}
-use Rattle.cpp_direct.specs.Prints.{shown_in, PrintsName, PrintsIn, IsElement, Shows, list_of, joined, PrintEachIn, PrintAllIn}
+use Rattle.cpp_direct.specs.Prints.{written_of, PrintsName, PrintsIn, IsElement, Shows, list_of, joined, PrintEachIn, PrintAllIn}
 use Rattle.cpp_direct.specs.WriterInvariant.{qualifiers, plain_encoding}
+use Rattle.cpp_direct.specs.WrittenParts.{IsUnmarked, unmarked, written}
+use Rattle.cpp_direct.proofs.Unmarked.{length-unmarked, qualifiers-unmarked, special-unmarked, thunk-unmarked, unmarked-same}
 use Rattle.cpp_direct.proofs.PrintedParts.{shown_by, text_shown, cost_shown, first_shown, first_cost_shown, text_append, cost_append, part-text, part-cost, length-filled}
 use Rattle.cpp_direct.proofs.PrintedLists.{list-text-in, list-cost-in, none-print-in}
 
@@ -44,15 +46,15 @@ function-shows {detail} shown name b p ts l all q ref =
     let behind = says ")" ∷ text_part (encoding_text q ref) in
     let is = plain_parts detail shown name q ref (list_of ts) in
     record {
-      shown_text = text_shown detail full closed f (front ++ behind) is ∙ text_append detail front behind
-          ∙ signed_text (text_of (shown_in detail left closed name)) (text_of (shown_by detail (list_part first c (list_of ts))))
+      shown_text = text_shown detail full closed f (front ++ behind) is refl ∙ text_append detail front behind
+          ∙ signed_text (text_of (written_of detail left closed name)) (text_of (shown_by detail (list_part first c (list_of ts))))
           (text_of (shown_by detail (text_part (encoding_text q ref)))) b l (encoding_text q ref) (p.left_text closed)
-          (list-text-in detail c 6 ts l all) (part-text detail (encoding_text q ref));
+          (list-text-in detail c 6 ts l all) (part-text detail (encoding_text q ref) (qualifiers-unmarked q ref));
       shown_cost = omega (
         arith,
         p.cost closed,
         list-cost-in detail c 6 ts l (omega arith) all,
-        cost_shown detail full closed f (front ++ behind) is,
+        cost_shown detail full closed f (front ++ behind) is refl,
         cost_append detail front behind,
         part-cost detail (encoding_text q ref),
         length-append (b ++ codes "(" ++ l ++ codes ")") (encoding_text q ref),
@@ -66,7 +68,7 @@ function-shows {detail} shown name b p ts l all q ref =
 not-absent : {detail : Detail} (c : Context) (t : Term) (b : List ℕ) (r : Bool) → PrintsIn detail c 2 t b r → t ≡ absent → ⊥
 unfolding parts_in left_parts not_empty
 not-absent {detail} c t b r p e =
-    let none : b ≡ [] = sym p.left_text ∙ ap (λ u. text_of (shown_in detail left c u)) e ∙ text_shown detail left c absent [] refl in
+    let none : b ≡ [] = sym p.left_text ∙ ap (λ u. text_of (written_of detail left c u)) e ∙ text_shown detail left c absent [] refl refl in
     omega (arith, p.cost, ap length none)
 
 returned_parts : (detail : Detail) → has_parameters detail ≡ true → (name : Term) (q : Qualifiers) (ref : RefQualifier) (r items : Term) → (r ≡ absent → ⊥)
@@ -95,16 +97,16 @@ front-shows {detail} shown name q ref items l shows r b is_reference p =
     let is = returned_parts detail shown name q ref r items (not-absent c r b is_reference p) in
     let plain_is = plain_parts detail shown name q ref items in
     record {
-      shown_text = text_shown detail full closed f (front ++ middle ++ behind) is ∙ text_append detail (front ++ middle) behind
+      shown_text = text_shown detail full closed f (front ++ middle ++ behind) is refl ∙ text_append detail (front ++ middle) behind
           ∙ ap (λ x. x ++ text_of (shown_by detail behind)) (text_append detail front middle)
-          ∙ fronted_text (text_of (shown_in detail left c r)) (text_of (shown_by detail middle)) (text_of (shown_in detail right c r)) b l p.left_text
-          (sym (text_shown detail full closed plain middle plain_is) ∙ shows.shown_text) p.right_text;
+          ∙ fronted_text (text_of (written_of detail left c r)) (text_of (shown_by detail middle)) (text_of (written_of detail right c r)) b l p.left_text
+          (sym (text_shown detail full closed plain middle plain_is refl) ∙ shows.shown_text) p.right_text;
       shown_cost = omega (
         arith,
         p.cost,
         shows.shown_cost,
-        cost_shown detail full closed f (front ++ middle ++ behind) is,
-        cost_shown detail full closed plain middle plain_is,
+        cost_shown detail full closed f (front ++ middle ++ behind) is refl,
+        cost_shown detail full closed plain middle plain_is refl,
         cost_append detail (front ++ middle) behind,
         cost_append detail front middle,
         length-append (b ++ codes " ") l,
@@ -119,13 +121,13 @@ unfolding parts_in full_parts not_empty
 object-shows {detail} name b p q ref =
     let ps = as_item left closed name ∷ text_part (encoding_text q ref) in
     record {
-      shown_text = text_shown detail full closed (object name q ref) ps refl
+      shown_text = text_shown detail full closed (object name q ref) ps refl refl
           ∙ ap (λ s. s ++ text_of (shown_by detail (text_part (encoding_text q ref)))) (p.left_text closed)
-          ∙ ap (λ s. b ++ s) (part-text detail (encoding_text q ref));
+          ∙ ap (λ s. b ++ s) (part-text detail (encoding_text q ref) (qualifiers-unmarked q ref));
       shown_cost = omega (
         arith,
         p.cost closed,
-        cost_shown detail full closed (object name q ref) ps refl,
+        cost_shown detail full closed (object name q ref) ps refl refl,
         part-cost detail (encoding_text q ref),
         length-append b (encoding_text q ref),
       );
@@ -142,12 +144,12 @@ special-shows {detail} letter filled t b p =
     let k = look_up (letter ∷ []) special_texts in
     let behind = as_item left closed t ∷ as_item right closed t ∷ [] in
     record {
-      shown_text = text_shown detail full closed (special letter t) (text k ∷ behind) refl ∙ first_shown detail k behind
-          ∙ element_text (text_of (shown_in detail left closed t)) (text_of (shown_in detail right closed t)) k b (p.both_texts closed);
+      shown_text = text_shown detail full closed (special letter t) (text k ∷ behind) refl refl ∙ first_shown detail k behind (special-unmarked (letter ∷ []))
+          ∙ element_text (text_of (written_of detail left closed t)) (text_of (written_of detail right closed t)) k b (p.both_texts closed);
       shown_cost = omega (
         arith,
         p.cost closed,
-        cost_shown detail full closed (special letter t) (text k ∷ behind) refl,
+        cost_shown detail full closed (special letter t) (text k ∷ behind) refl refl,
         first_cost_shown detail k behind,
         length-filled k filled,
         length-append k b,
@@ -167,12 +169,12 @@ thunk-shows d kind e b p =
     let k = thunk_text kind in
     let behind = as_item full closed e ∷ [] in
     record {
-      shown_text = text_shown d full closed (thunk kind e) (text k ∷ behind) refl ∙ first_shown d k behind
-          ∙ ap (λ s. k ++ s) (append-nil (text_of (shown_in d full closed e)) ∙ p.shown_text);
+      shown_text = text_shown d full closed (thunk kind e) (text k ∷ behind) refl refl ∙ first_shown d k behind (thunk-unmarked kind)
+          ∙ ap (λ s. k ++ s) (append-nil (text_of (written_of d full closed e)) ∙ p.shown_text);
       shown_cost = omega (
         arith,
         p.shown_cost,
-        cost_shown d full closed (thunk kind e) (text k ∷ behind) refl,
+        cost_shown d full closed (thunk kind e) (text k ∷ behind) refl refl,
         first_cost_shown d k behind,
         thunk-filled kind,
         length-append k b,
@@ -260,35 +262,37 @@ object-encoded {detail} v b p = subst (λ f. Shows detail f (b ++ encoding_text 
 -- ## Symbols
 
 -- A symbol shows its encoding.
-pub symbol-text : (d : Detail) (e : Term) (b : List ℕ) → Shows d e b → text_of (shown d (root_item (symbol e []))) ≡ b
+pub symbol-text : (d : Detail) (e : Term) (b : List ℕ) → Shows d e b → text_of (written d (root_item (symbol e []))) ≡ b
 unfolding parts_in root_parts not_empty
-symbol-text d e b s = text_shown d root closed (symbol e []) (as_item full closed e ∷ []) refl ∙ append-nil (text_of (shown_in d full closed e)) ∙ s.shown_text
+symbol-text d e b s = text_shown d root closed (symbol e []) (as_item full closed e ∷ []) refl refl ∙ append-nil (text_of (written_of d full closed e)) ∙ s.shown_text
 
 -- It costs at most four for each byte of the text.
-pub symbol-cost : (d : Detail) (e : Term) (b : List ℕ) → Shows d e b → cost_of (shown d (root_item (symbol e []))) ≤ 4 * length b
+pub symbol-cost : (d : Detail) (e : Term) (b : List ℕ) → Shows d e b → cost_of (written d (root_item (symbol e []))) ≤ 4 * length b
 unfolding parts_in root_parts not_empty
-symbol-cost d e b s = omega (arith, s.shown_cost, cost_shown d root closed (symbol e []) (as_item full closed e ∷ []) refl)
+symbol-cost d e b s = omega (arith, s.shown_cost, cost_shown d root closed (symbol e []) (as_item full closed e ∷ []) refl refl)
 
 suffixed : (x b s : List ℕ) → x ≡ b → x ++ (codes " (" ++ (s ++ (codes ")" ++ []))) ≡ b ++ codes " (" ++ s ++ codes ")"
 suffixed x b s e = rw e (sym (append_assoc b (codes " (") (s ++ codes ")")) ∙ sym (append_assoc (b ++ codes " (") s (codes ")")))
 
 -- With a suffix it shows that too.
-pub suffix-text : (d : Detail) (e : Term) (b : List ℕ) → Shows d e b → (c : ℕ) (rest : List ℕ)
-    → text_of (shown d (root_item (symbol e (c ∷ rest)))) ≡ b ++ codes " (" ++ (c ∷ rest) ++ codes ")"
+pub suffix-text : (d : Detail) (e : Term) (b : List ℕ) → Shows d e b → (c : ℕ) (rest : List ℕ) → IsUnmarked (c ∷ rest)
+    → text_of (written d (root_item (symbol e (c ∷ rest)))) ≡ b ++ codes " (" ++ (c ∷ rest) ++ codes ")"
 unfolding parts_in root_parts not_empty
-suffix-text d e b s c rest =
-    text_shown d root closed (symbol e (c ∷ rest)) (as_item full closed e ∷ says " (" ∷ text (c ∷ rest) ∷ says ")" ∷ []) refl
-    ∙ suffixed (text_of (shown_in d full closed e)) b (c ∷ rest) s.shown_text
+suffix-text d e b s c rest plain =
+    text_shown d root closed (symbol e (c ∷ rest)) (as_item full closed e ∷ says " (" ∷ text (c ∷ rest) ∷ says ")" ∷ []) refl refl
+    ∙ ap (λ l. text_of (written_of d full closed e) ++ (codes " (" ++ (l ++ codes ")"))) (unmarked-same (has_arguments d) (c ∷ rest) plain)
+    ∙ suffixed (text_of (written_of d full closed e)) b (c ∷ rest) s.shown_text
 
 -- That costs at most four for each byte of the text as well.
 pub suffix-cost : (d : Detail) (e : Term) (b : List ℕ) → Shows d e b → (c : ℕ) (rest : List ℕ)
-    → cost_of (shown d (root_item (symbol e (c ∷ rest)))) ≤ 4 * length (b ++ codes " (" ++ (c ∷ rest) ++ codes ")")
+    → cost_of (written d (root_item (symbol e (c ∷ rest)))) ≤ 4 * length (b ++ codes " (" ++ (c ∷ rest) ++ codes ")")
 unfolding parts_in root_parts not_empty
 suffix-cost d e b s c rest =
     omega (
       arith,
       s.shown_cost,
-      cost_shown d root closed (symbol e (c ∷ rest)) (as_item full closed e ∷ says " (" ∷ text (c ∷ rest) ∷ says ")" ∷ []) refl,
+      cost_shown d root closed (symbol e (c ∷ rest)) (as_item full closed e ∷ says " (" ∷ text (c ∷ rest) ∷ says ")" ∷ []) refl refl,
+      length-unmarked (has_arguments d) rest,
       length-append (b ++ codes " (" ++ (c ∷ rest)) (codes ")"),
       length-append (b ++ codes " (") (c ∷ rest),
       length-append b (codes " ("),

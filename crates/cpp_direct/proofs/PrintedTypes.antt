@@ -2,7 +2,7 @@
 use Rattle.sym_print.specs.declared.detail.Detail.{Detail}
 use Prim.Native.String.{String}
 use Rattle.cpp_direct.proofs.PrintedParts.{text_shown, cost_shown}
-use Rattle.cpp_direct.specs.Prints.{Prints, PrintsIn, EndsAsInteger, shown_in, NamesArgument, IsElementIn}
+use Rattle.cpp_direct.specs.Prints.{Prints, PrintsIn, EndsAsInteger, written_of, NamesArgument, IsElementIn}
 use Rattle.cpp_grammar.specs.Items.{closed, Form, left, right, low, Context, Head, lref, collapsed, head_with, head, is_reference, is_funarr, is_empty, argument, head_closed}
 use Rattle.cpp_grammar.specs.Meaning.{is_void}
 use Rattle.cpp_grammar.specs.Parts.{as_item, says, text_part, qualifier_text, prefix_item, last_piece, opening_text, marked_parts, reference_parts, qualified_left, qualified_right, closing_right, left_parts, right_parts, parts_in, not_empty, is_plain_integer}
@@ -43,7 +43,7 @@ made-prints : {detail : Detail} (t : Term) (b : List ℕ) (r : Bool) → ((c : C
     → ((scope : Term) → pack_length scope t ≡ None)
     → length_if_pack t ≡ None → ((c : Context) → prefix_item c t ≡ as_item left c t) → opening_text (last_piece t) ≡ codes "<"
     → (is_plain_integer t ≡ true → EndsAsInteger b)
-    → (r ≡ true → (c : Context) → 2 + cost_of (shown_in detail left c t) + cost_of (shown_in detail right c t) ≤ 4 * length b) → Prints detail t b r
+    → (r ≡ true → (c : Context) → 2 + cost_of (written_of detail left c t) + cost_of (written_of detail right c t) ≤ 4 * length b) → Prints detail t b r
 made-prints t b r h is_closed packless no_pack as_prefix opening integer reference_cost = record {
   left_text = λ c. (h c).left_text;
   right_text = λ c. (h c).right_text;
@@ -67,14 +67,14 @@ pub pointer-in : {detail : Detail} (c : Context) (extra : ℕ) (t : Term) (b : L
     → PrintsIn detail c extra (pointer t) (b ++ codes "*") false
 unfolding parts_in left_parts right_parts not_empty head head_with is_reference is_funarr is_empty is_function_type is_void
 pointer-in {detail} c extra t b r p = record {
-  left_text = text_shown detail left c (pointer t) (as_item left c t ∷ says "*" ∷ []) (marked c t "*" p.is_funarr_head) ∙ ap (λ s. s ++ codes "*") p.left_text;
-  right_text = text_shown detail right c (pointer t) (as_item right c t ∷ []) (closing c t p.is_funarr_head) ∙ ap (λ s. s ++ []) p.right_text;
+  left_text = text_shown detail left c (pointer t) (as_item left c t ∷ says "*" ∷ []) (marked c t "*" p.is_funarr_head) refl ∙ ap (λ s. s ++ codes "*") p.left_text;
+  right_text = text_shown detail right c (pointer t) (as_item right c t ∷ []) (closing c t p.is_funarr_head) refl ∙ ap (λ s. s ++ []) p.right_text;
   cost = omega (
     arith,
     p.cost,
     length-append b (codes "*"),
-    cost_shown detail left c (pointer t) (as_item left c t ∷ says "*" ∷ []) (marked c t "*" p.is_funarr_head),
-    cost_shown detail right c (pointer t) (as_item right c t ∷ []) (closing c t p.is_funarr_head),
+    cost_shown detail left c (pointer t) (as_item left c t ∷ says "*" ∷ []) (marked c t "*" p.is_funarr_head) refl,
+    cost_shown detail right c (pointer t) (as_item right c t ∷ []) (closing c t p.is_funarr_head) refl,
   );
   is_reference_head = refl;
   is_funarr_head = refl;
@@ -92,15 +92,15 @@ pointer-prints t b r p =
 
 -- An lvalue reference costs one less than its text allows.
 lvalue-cost : {detail : Detail} (c : Context) (t : Term) (b : List ℕ) → Prints detail t b false
-    → 2 + cost_of (shown_in detail left c (lvalue t)) + cost_of (shown_in detail right c (lvalue t)) ≤ 4 * length (b ++ codes "&")
+    → 2 + cost_of (written_of detail left c (lvalue t)) + cost_of (written_of detail right c (lvalue t)) ≤ 4 * length (b ++ codes "&")
 unfolding parts_in left_parts right_parts not_empty
 lvalue-cost {detail} c t b p =
     omega (
       arith,
       p.cost c,
       length-append b (codes "&"),
-      cost_shown detail left c (lvalue t) (as_item left c t ∷ says "&" ∷ []) (reference c low t "&" (p.is_reference_head c) (p.is_funarr_head c)),
-      cost_shown detail right c (lvalue t) (as_item right c t ∷ []) (closing c t (p.is_funarr_head c)),
+      cost_shown detail left c (lvalue t) (as_item left c t ∷ says "&" ∷ []) (reference c low t "&" (p.is_reference_head c) (p.is_funarr_head c)) refl,
+      cost_shown detail right c (lvalue t) (as_item right c t ∷ []) (closing c t (p.is_funarr_head c)) refl,
     )
 
 -- An lvalue reference prints its type, which is no reference, and its mark.
@@ -111,14 +111,14 @@ lvalue-in {detail} c extra t b p =
     let ps = as_item left c t ∷ says "&" ∷ [] in
     let is = reference c low t "&" p.is_reference_head p.is_funarr_head in
     record {
-      left_text = text_shown detail left c (lvalue t) ps is ∙ ap (λ s. s ++ codes "&") p.left_text;
-      right_text = text_shown detail right c (lvalue t) (as_item right c t ∷ []) (closing c t p.is_funarr_head) ∙ ap (λ s. s ++ []) p.right_text;
+      left_text = text_shown detail left c (lvalue t) ps is refl ∙ ap (λ s. s ++ codes "&") p.left_text;
+      right_text = text_shown detail right c (lvalue t) (as_item right c t ∷ []) (closing c t p.is_funarr_head) refl ∙ ap (λ s. s ++ []) p.right_text;
       cost = omega (
         arith,
         p.cost,
         length-append b (codes "&"),
-        cost_shown detail left c (lvalue t) ps is,
-        cost_shown detail right c (lvalue t) (as_item right c t ∷ []) (closing c t p.is_funarr_head),
+        cost_shown detail left c (lvalue t) ps is refl,
+        cost_shown detail right c (lvalue t) (as_item right c t ∷ []) (closing c t p.is_funarr_head) refl,
       );
       is_reference_head = refl;
       is_funarr_head = refl;
@@ -146,15 +146,15 @@ collapsed-no_function _ = refl
 
 -- An rvalue reference costs so much less, too,
 rvalue-cost : {detail : Detail} (c : Context) (t : Term) (b : List ℕ) → Prints detail t b false
-    → 2 + cost_of (shown_in detail left c (rvalue t)) + cost_of (shown_in detail right c (rvalue t)) ≤ 4 * length (b ++ codes "&&")
+    → 2 + cost_of (written_of detail left c (rvalue t)) + cost_of (written_of detail right c (rvalue t)) ≤ 4 * length (b ++ codes "&&")
 unfolding parts_in left_parts right_parts not_empty
 rvalue-cost {detail} c t b p =
     omega (
       arith,
       p.cost c,
       length-append b (codes "&&"),
-      cost_shown detail left c (rvalue t) (as_item left c t ∷ says "&&" ∷ []) (reference c left t "&&" (p.is_reference_head c) (p.is_funarr_head c)),
-      cost_shown detail right c (rvalue t) (as_item right c t ∷ []) (closing c t (p.is_funarr_head c)),
+      cost_shown detail left c (rvalue t) (as_item left c t ∷ says "&&" ∷ []) (reference c left t "&&" (p.is_reference_head c) (p.is_funarr_head c)) refl,
+      cost_shown detail right c (rvalue t) (as_item right c t ∷ []) (closing c t (p.is_funarr_head c)) refl,
     )
 
 -- and prints its type and its mark.
@@ -165,14 +165,14 @@ rvalue-in {detail} c extra t b p =
     let ps = as_item left c t ∷ says "&&" ∷ [] in
     let is = reference c left t "&&" p.is_reference_head p.is_funarr_head in
     record {
-      left_text = text_shown detail left c (rvalue t) ps is ∙ ap (λ s. s ++ codes "&&") p.left_text;
-      right_text = text_shown detail right c (rvalue t) (as_item right c t ∷ []) (closing c t p.is_funarr_head) ∙ ap (λ s. s ++ []) p.right_text;
+      left_text = text_shown detail left c (rvalue t) ps is refl ∙ ap (λ s. s ++ codes "&&") p.left_text;
+      right_text = text_shown detail right c (rvalue t) (as_item right c t ∷ []) (closing c t p.is_funarr_head) refl ∙ ap (λ s. s ++ []) p.right_text;
       cost = omega (
         arith,
         p.cost,
         length-append b (codes "&&"),
-        cost_shown detail left c (rvalue t) ps is,
-        cost_shown detail right c (rvalue t) (as_item right c t ∷ []) (closing c t p.is_funarr_head),
+        cost_shown detail left c (rvalue t) ps is refl,
+        cost_shown detail right c (rvalue t) (as_item right c t ∷ []) (closing c t p.is_funarr_head) refl,
       );
       is_reference_head = collapsed-refers (head c t);
       is_funarr_head = collapsed-no_function (head c t);
@@ -211,14 +211,14 @@ const-in {detail} c extra t b p =
     let ps = as_item left c t ∷ says " const" ∷ [] in
     let is = qualified_left-is c t p.no_function p.is_reference_head p.is_funarr_head in
     record {
-      left_text = text_shown detail left c (qualified constant t) ps is ∙ ap (λ s. s ++ codes " const") p.left_text;
-      right_text = text_shown detail right c (qualified constant t) (as_item right c t ∷ []) (qualified_right-is c t p.no_function) ∙ ap (λ s. s ++ []) p.right_text;
+      left_text = text_shown detail left c (qualified constant t) ps is refl ∙ ap (λ s. s ++ codes " const") p.left_text;
+      right_text = text_shown detail right c (qualified constant t) (as_item right c t ∷ []) (qualified_right-is c t p.no_function) refl ∙ ap (λ s. s ++ []) p.right_text;
       cost = omega (
         arith,
         p.cost,
         length-append b (codes " const"),
-        cost_shown detail left c (qualified constant t) ps is,
-        cost_shown detail right c (qualified constant t) (as_item right c t ∷ []) (qualified_right-is c t p.no_function),
+        cost_shown detail left c (qualified constant t) ps is refl,
+        cost_shown detail right c (qualified constant t) (as_item right c t ∷ []) (qualified_right-is c t p.no_function) refl,
       );
       is_reference_head = p.is_reference_head;
       is_funarr_head = p.is_funarr_head;
@@ -252,13 +252,13 @@ parameter-in {detail} c k b r p =
     let t = parameter k in
     let a = argument c k in
     record {
-      left_text = text_shown detail left c t (as_item left closed a ∷ []) refl ∙ append-nil (text_of (shown_in detail left closed a)) ∙ p.left_text closed;
-      right_text = text_shown detail right c t (as_item right closed a ∷ []) refl ∙ append-nil (text_of (shown_in detail right closed a)) ∙ p.right_text closed;
+      left_text = text_shown detail left c t (as_item left closed a ∷ []) refl refl ∙ append-nil (text_of (written_of detail left closed a)) ∙ p.left_text closed;
+      right_text = text_shown detail right c t (as_item right closed a ∷ []) refl refl ∙ append-nil (text_of (written_of detail right closed a)) ∙ p.right_text closed;
       cost = omega (
         arith,
         p.cost closed,
-        cost_shown detail left c t (as_item left closed a ∷ []) refl,
-        cost_shown detail right c t (as_item right closed a ∷ []) refl,
+        cost_shown detail left c t (as_item left closed a ∷ []) refl refl,
+        cost_shown detail right c t (as_item right closed a ∷ []) refl refl,
       );
       is_reference_head = p.is_reference_head closed;
       is_funarr_head = p.is_funarr_head closed;
@@ -285,15 +285,15 @@ rvalue-again {detail} c b p =
     let ps = as_item left c u ∷ [] in
     let is : reference_parts c left u "&&" ≡ ps = rw (p.is_reference_head closed, reference_parts) refl in
     record {
-      left_text = text_shown detail left c (rvalue u) ps is ∙ append-nil (text_of (shown_in detail left c u)) ∙ inner.left_text;
-      right_text = text_shown detail right c (rvalue u) (as_item right c u ∷ []) (closing c u inner.is_funarr_head) ∙ append-nil (text_of (shown_in detail right c u)) ∙ inner.right_text;
+      left_text = text_shown detail left c (rvalue u) ps is refl ∙ append-nil (text_of (written_of detail left c u)) ∙ inner.left_text;
+      right_text = text_shown detail right c (rvalue u) (as_item right c u ∷ []) (closing c u inner.is_funarr_head) refl ∙ append-nil (text_of (written_of detail right c u)) ∙ inner.right_text;
       cost = omega (
         arith,
         p.reference_cost refl closed,
-        cost_shown detail left c u (as_item left closed a ∷ []) refl,
-        cost_shown detail right c u (as_item right closed a ∷ []) refl,
-        cost_shown detail left c (rvalue u) ps is,
-        cost_shown detail right c (rvalue u) (as_item right c u ∷ []) (closing c u inner.is_funarr_head),
+        cost_shown detail left c u (as_item left closed a ∷ []) refl refl,
+        cost_shown detail right c u (as_item right closed a ∷ []) refl refl,
+        cost_shown detail left c (rvalue u) ps is refl,
+        cost_shown detail right c (rvalue u) (as_item right c u ∷ []) (closing c u inner.is_funarr_head) refl,
       );
       is_reference_head = collapsed-refers (head c u);
       is_funarr_head = collapsed-no_function (head c u);

@@ -11,7 +11,9 @@ use Rattle.cpp_grammar.specs.Items.{left, right, Context, Item, head_with, head,
 use Rattle.cpp_grammar.specs.Values.{normal}
 use Rattle.cpp_grammar.specs.Meaning.{is_void}
 use Rattle.cpp_grammar.specs.Parts.{as_item, says, text_part, sign_part, is_plain_integer, builtin_code, integer_parts, prefix_item, last_piece, opening_text, left_parts, right_parts, parts_in, not_empty}
-use Rattle.cpp_direct.specs.Prints.{shown_in, EndsAsInteger, Prints, sign_text}
+use Rattle.cpp_direct.specs.Prints.{written_of, EndsAsInteger, Prints, sign_text}
+use Rattle.cpp_direct.specs.WrittenParts.{IsUnmarked}
+use Rattle.cpp_direct.proofs.Unmarked.{truth-unmarked, ending-unmarked, rest-unmarked}
 use Rattle.cpp_direct.proofs.PrintedParts.{shown_by, text_shown, cost_shown, alone_shown, first_shown, first_cost_shown, text_append, cost_append, part-text, part-cost, length-filled}
 use Rattle.cpp_direct.proofs.PrintedNames.{builtin-prints}
 
@@ -24,9 +26,9 @@ pub boolean-prints : {detail : Detail} (b : Bool) → Prints detail (boolean b) 
 unfolding parts_in left_parts right_parts not_empty head head_with is_reference is_funarr is_empty is_open pack_length is_function_type length_if_pack prefix_item
     last_piece opening_text is_void is_plain_integer
 boolean-prints {detail} b = let t = boolean b in let w : List ℕ = cond b (codes "true") (codes "false") in record {
-  left_text = λ c. text_shown detail left c t (text w ∷ []) refl ∙ alone_shown detail w;
-  right_text = λ c. text_shown detail right c t [] refl;
-  cost = λ c. omega (arith, boolean-filled b, first_cost_shown detail w [], cost_shown detail left c t (text w ∷ []) refl, cost_shown detail right c t [] refl);
+  left_text = λ c. text_shown detail left c t (text w ∷ []) refl refl ∙ alone_shown detail w (truth-unmarked b);
+  right_text = λ c. text_shown detail right c t [] refl refl;
+  cost = λ c. omega (arith, boolean-filled b, first_cost_shown detail w [], cost_shown detail left c t (text w ∷ []) refl refl, cost_shown detail right c t [] refl refl);
   is_reference_head = λ c. refl;
   is_funarr_head = λ c. refl;
   filled = λ c. refl;
@@ -70,6 +72,17 @@ normal-filled (d ∷ c ∷ ds) e = go (nat_eq d 48) (normal-filled (c ∷ ds) (�
     go true behind = behind
     go false behind = λ f. cc f
 
+-- They have no marks where there were none.
+pub normal-unmarked : (digits : List ℕ) → IsUnmarked digits → IsUnmarked (normal digits)
+unfolding normal
+normal-unmarked [] plain = plain
+normal-unmarked (d ∷ []) plain = plain
+normal-unmarked (d ∷ c ∷ ds) plain = go (nat_eq d 48) (normal-unmarked (c ∷ ds) (rest-unmarked d (c ∷ ds) plain))
+  where
+    go : (zero_first : Bool) → IsUnmarked (normal (c ∷ ds)) → IsUnmarked (elim zero_first [ true ↦ normal (c ∷ ds) | false ↦ d ∷ c ∷ ds ])
+    go true behind = behind
+    go false behind = plain
+
 -- ## Integers
 
 plain-is : (c : Context) (t : Term) (n : Signed) → is_plain_integer t ≡ true
@@ -86,28 +99,28 @@ three : (x y z s d e : List ℕ) → x ≡ s → y ≡ d ++ z → z ≡ e → x 
 three x y z s d e f g h = rw (f, g, h) (sym (append_assoc s d e))
 
 -- An integer of a type that needs no cast prints its sign, its digits and the ending of its type.
-pub plain-integer-prints : {detail : Detail} (letter : ℕ) → is_plain_integer (builtin (letter ∷ [])) ≡ true → (n : Signed) → n.digits ≢ []
+pub plain-integer-prints : {detail : Detail} (letter : ℕ) → is_plain_integer (builtin (letter ∷ [])) ≡ true → (n : Signed) → n.digits ≢ [] → IsUnmarked n.digits
     → Prints detail (integer (builtin (letter ∷ [])) n) (sign_text n ++ n.digits ++ look_up (letter ∷ []) literal_endings) false
 unfolding parts_in left_parts right_parts builtin_code not_empty head head_with is_reference is_funarr is_empty is_open pack_length
     is_function_type length_if_pack prefix_item last_piece opening_text is_void is_plain_integer
-plain-integer-prints {detail} letter plain n filled =
+plain-integer-prints {detail} letter plain n filled digits_plain =
     let t = builtin (letter ∷ []) in
     let i = integer t n in
     let ending = look_up (letter ∷ []) literal_endings in
     let behind = text n.digits ∷ text_part ending in
     record {
-      left_text = λ c. text_shown detail left c i (sign_part n ++ behind) (plain-is c t n plain) ∙ text_append detail (sign_part n) behind
+      left_text = λ c. text_shown detail left c i (sign_part n ++ behind) (plain-is c t n plain) refl ∙ text_append detail (sign_part n) behind
           ∙ three (text_of (shown_by detail (sign_part n))) (text_of (shown_by detail behind)) (text_of (shown_by detail (text_part ending)))
-          (sign_text n) n.digits ending (sign-text detail n) (first_shown detail n.digits (text_part ending)) (part-text detail ending);
-      right_text = λ c. text_shown detail right c i [] refl;
+          (sign_text n) n.digits ending (sign-text detail n) (first_shown detail n.digits (text_part ending) digits_plain) (part-text detail ending (ending-unmarked (letter ∷ [])));
+      right_text = λ c. text_shown detail right c i [] refl refl;
       cost = λ c. omega (
         arith,
-        cost_shown detail left c i (sign_part n ++ behind) (plain-is c t n plain),
+        cost_shown detail left c i (sign_part n ++ behind) (plain-is c t n plain) refl,
         cost_append detail (sign_part n) behind,
         sign-cost detail n,
         first_cost_shown detail n.digits (text_part ending),
         part-cost detail ending,
-        cost_shown detail right c i [] refl,
+        cost_shown detail right c i [] refl refl,
         length-filled n.digits filled,
         length-append (sign_text n ++ n.digits) ending,
         length-append (sign_text n) n.digits,
@@ -131,29 +144,29 @@ cast_text : (x r y z b s d : List ℕ) → x ≡ b → r ≡ [] → y ≡ s → 
 cast_text x r y z b s d e f g h = rw (e, f, g, h) (ap (λ u. u ++ s ++ d) (sym (append_assoc (codes "(") b (codes ")"))))
 
 -- An integer of another type prints its type in front.
-pub enumerator-prints : {detail : Detail} (t : Term) (b : List ℕ) (r : Bool) → Prints detail t b r → is_plain_integer t ≡ false → (n : Signed) → n.digits ≢ []
+pub enumerator-prints : {detail : Detail} (t : Term) (b : List ℕ) (r : Bool) → Prints detail t b r → is_plain_integer t ≡ false → (n : Signed) → n.digits ≢ [] → IsUnmarked n.digits
     → Prints detail (integer t n) (codes "(" ++ b ++ codes ")" ++ sign_text n ++ n.digits) false
 unfolding parts_in left_parts right_parts not_empty head head_with is_reference is_funarr is_empty is_open pack_length is_function_type length_if_pack prefix_item
     last_piece opening_text is_void is_plain_integer
-enumerator-prints {detail} t b r p cast n filled =
+enumerator-prints {detail} t b r p cast n filled digits_plain =
     let i = integer t n in
     let front : Context → List (PartOf Item) = λ c. says "(" ∷ as_item left c t ∷ as_item right c t ∷ says ")" ∷ [] in
     record {
-      left_text = λ c. text_shown detail left c i (front c ++ sign_part n ++ (text n.digits ∷ [])) (cast-is c t n cast)
+      left_text = λ c. text_shown detail left c i (front c ++ sign_part n ++ (text n.digits ∷ [])) (cast-is c t n cast) refl
           ∙ text_append detail (front c ++ sign_part n) (text n.digits ∷ [])
           ∙ ap (λ u. u ++ text_of (shown_by detail (text n.digits ∷ []))) (text_append detail (front c) (sign_part n))
-          ∙ cast_text (text_of (shown_in detail left c t)) (text_of (shown_in detail right c t)) (text_of (shown_by detail (sign_part n)))
-          (text_of (shown_by detail (text n.digits ∷ []))) b (sign_text n) n.digits (p.left_text c) (p.right_text c) (sign-text detail n) (alone_shown detail n.digits);
-      right_text = λ c. text_shown detail right c i [] refl;
+          ∙ cast_text (text_of (written_of detail left c t)) (text_of (written_of detail right c t)) (text_of (shown_by detail (sign_part n)))
+          (text_of (shown_by detail (text n.digits ∷ []))) b (sign_text n) n.digits (p.left_text c) (p.right_text c) (sign-text detail n) (alone_shown detail n.digits digits_plain);
+      right_text = λ c. text_shown detail right c i [] refl refl;
       cost = λ c. omega (
         arith,
         p.cost c,
-        cost_shown detail left c i (front c ++ sign_part n ++ (text n.digits ∷ [])) (cast-is c t n cast),
+        cost_shown detail left c i (front c ++ sign_part n ++ (text n.digits ∷ [])) (cast-is c t n cast) refl,
         cost_append detail (front c ++ sign_part n) (text n.digits ∷ []),
         cost_append detail (front c) (sign_part n),
         sign-cost detail n,
         first_cost_shown detail n.digits [],
-        cost_shown detail right c i [] refl,
+        cost_shown detail right c i [] refl refl,
         length-filled n.digits filled,
         length-append (codes "(" ++ b ++ codes ")" ++ sign_text n) n.digits,
         length-append (codes "(" ++ b ++ codes ")") (sign_text n),
@@ -176,10 +189,10 @@ enumerator-prints {detail} t b r p cast n filled =
 
 -- and so does one of a builtin type
 pub cast-integer-prints : {detail : Detail} (letter : ℕ) → is_plain_integer (builtin (letter ∷ [])) ≡ false → look_up (letter ∷ []) builtin_texts ≢ []
-    → (n : Signed) → n.digits ≢ []
+    → (n : Signed) → n.digits ≢ [] → IsUnmarked n.digits
     → Prints detail (integer (builtin (letter ∷ [])) n) (codes "(" ++ look_up (letter ∷ []) builtin_texts ++ codes ")" ++ sign_text n ++ n.digits) false
-cast-integer-prints letter cast there n filled =
-    enumerator-prints (builtin (letter ∷ [])) (look_up (letter ∷ []) builtin_texts) false (builtin-prints letter there) cast n filled
+cast-integer-prints letter cast there n filled digits_plain =
+    enumerator-prints (builtin (letter ∷ [])) (look_up (letter ∷ []) builtin_texts) false (builtin-prints letter there) cast n filled digits_plain
 
 -- a type with another name is none whose integers are without it
 pub not-integer : {detail : Detail} (t : Term) (b : List ℕ) (r : Bool) → Prints detail t b r → (EndsAsInteger b → ⊥) → is_plain_integer t ≡ false

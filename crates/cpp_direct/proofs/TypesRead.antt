@@ -14,6 +14,7 @@ use Rattle.cpp_grammar.specs.Texts.{Naming, look_up, builtin_texts, abbreviation
 use Rattle.cpp_grammar.specs.Parts.{source_text}
 use Rattle.cpp_grammar.specs.Values.{State, tree}
 use Rattle.cpp_grammar.specs.Between.{after, inside, no_items}
+use Rattle.cpp_direct.specs.WrittenParts.{opening_bracket}
 use Rattle.cpp_direct.specs.Symbol.{detail_of, Symbol}
 use Rattle.cpp_direct.specs.Bytes.{is_builtin, is_builtin_with_d, is_abbreviated}
 use Rattle.cpp_direct.specs.Letters.{builtin_letters, builtin_letters_with_d, abbreviation_letters}
@@ -30,6 +31,7 @@ use Rattle.cpp_direct.specs.Prints.{Prints}
 use Rattle.cpp_direct.specs.WriterInvariant.{IsScoped, AreCandidates, Marks, Stands, IsWriting, argument_of}
 use Rattle.cpp_direct.specs.MidStep.{AwaitsType, AwaitsNamedType, AwaitsNest, IsNamedAgain, IsTypeNamed, AwaitsMark}
 use Rattle.cpp_direct.specs.Written.{Reads, added, added_unless}
+use Rattle.cpp_direct.proofs.Unmarked.{name-unmarked}
 use Rattle.cpp_direct.proofs.Scopes.{scoped-encoding}
 use Rattle.cpp_direct.proofs.Kept.{plainly-prints, arguments-begun, piece-found, candidates-stay, candidates-added, candidates-read, candidate-found, reverse-last, last-reversed}
 use Rattle.cpp_direct.proofs.Moves.{expects-empty, stands-join}
@@ -143,7 +145,7 @@ bare-done s old new from listed r a waits text candidates at =
 
 -- and arguments do
 pub argued-done : (s : Symbol) (old new : Direct) (from : ℕ) (listed : Bool) → IsTypeNamed s old from listed false → StandsAt s.bytes old.at (73 ∷ [])
-    → new.waiting.list.items ≡ old.waiting.list.items ++ opens.TypeArguments from ∷ [] → new.text.list.items ≡ old.text.list.items ++ codes "<"
+    → new.waiting.list.items ≡ old.waiting.list.items ++ opens.TypeArguments from ∷ [] → new.text.list.items ≡ old.text.list.items ++ opening_bracket (detail_of s)
     → new.candidates.list.items ≡ added_unless old listed from → new.at ≡ old.at + 1 → IsWriting s new (steps.List true)
 unfolding inside
 argued-done s old new from listed a stands waits text candidates at =
@@ -152,11 +154,11 @@ argued-done s old new from listed a stands waits text candidates at =
     record {
       state = state;
       candidates = subst (λ l. AreCandidates (detail_of s) l new.candidates.list.items state.candidates) (sym text)
-          (candidates-stay (detail_of s) old.text.list.items (codes "<") new.candidates.list.items state.candidates
+          (candidates-stay (detail_of s) old.text.list.items (opening_bracket (detail_of s)) new.candidates.list.items state.candidates
           (named-candidates s old new from listed false a candidates));
       is_before = arguments-begun s new state (opens.TypeArguments from) (reverse old.waiting.list.items) a.front a.bytes a.own
           (ap reverse waits ∙ reverse-last old.waiting.list.items (opens.TypeArguments from)) (a.from_is, a.prints)
-          (text ∙ ap (λ l. l ++ codes "<") a.written) (
+          (text ∙ ap (λ l. l ++ opening_bracket (detail_of s)) a.written) (
             inside a.around,
             o.inner,
             refl,
@@ -175,12 +177,12 @@ pub argued-answer : (s : Symbol) (old mid new : Direct) (from : ℕ) (listed r :
     → mid.candidates.list.items ≡ added_unless old listed from → mid.text ≡ old.text → mid.waiting ≡ old.waiting → mid.at ≡ old.at
     → StandsAt s.bytes mid.at (73 ∷ []) → IfSome o (λ next. next ≡ steps.List true)
     → OnSome o (new.waiting.list.items ≡ mid.waiting.list.items ++ opens.TypeArguments from ∷ []) → OnSome o (new.at ≡ mid.at + 1)
-    → OnSome o (new.text.list.items ≡ mid.text.list.items ++ codes "<") → OnSome o (new.candidates ≡ mid.candidates) → IfSome o (IsWriting s new)
+    → OnSome o (new.text.list.items ≡ mid.text.list.items ++ opening_bracket (detail_of s)) → OnSome o (new.candidates ≡ mid.candidates) → IfSome o (IsWriting s new)
 argued-answer s old mid new from listed r o a none candidates text waits at stands is new_waits new_at new_text new_candidates =
     by-step o (steps.List true) (IsWriting s new) is
     (λ e. argued-done s old new from listed (subst (λ b. IsTypeNamed s old from listed b) none a) (subst (λ k. StandsAt s.bytes k (73 ∷ [])) at stands)
     (given _ o (steps.List true) e new_waits ∙ ap (λ v. v.list.items ++ opens.TypeArguments from ∷ []) waits)
-    (given _ o (steps.List true) e new_text ∙ ap (λ v. v.list.items ++ codes "<") text)
+    (given _ o (steps.List true) e new_text ∙ ap (λ v. v.list.items ++ opening_bracket (detail_of s)) text)
     (ap (λ v. v.list.items) (given _ o (steps.List true) e new_candidates) ∙ candidates)
     (given _ o (steps.List true) e new_at ∙ ap (λ k. k + 1) at))
 
@@ -389,7 +391,7 @@ source-named s old new from name a is some reads begins = record {
   bytes = source_text name;
   written = reads.text;
   from_is = begins;
-  prints = source-prints false name some;
+  prints = source-prints false name some (name-unmarked s.bytes old.at name new.at is);
   no_reference = λ e. refl;
   stands = subst (λ v. Stands s (reverse v.list.items) a.os old.text.list.items) (sym reads.waiting) a.stands;
 }
@@ -415,7 +417,7 @@ std-named s old mid new from name a s_stands t_stands text candidates waits at i
   bytes = codes "std::" ++ source_text name;
   written = reads.text ∙ ap (λ l. l ++ source_text name) text ∙ append_assoc old.text.list.items (codes "std::") (source_text name);
   from_is = begins;
-  prints = std-prints false name some;
+  prints = std-prints false name some (name-unmarked s.bytes mid.at name new.at is);
   no_reference = λ e. refl;
   stands = subst (λ v. Stands s (reverse v.list.items) a.os old.text.list.items) (sym (reads.waiting ∙ waits)) a.stands;
 }

@@ -1,4 +1,6 @@
 -- Names of encodings that are in no class: where a writer is after them.
+use Rattle.cpp_direct.specs.WrittenParts.{opening_bracket}
+use Rattle.cpp_direct.proofs.Unmarked.{name-unmarked}
 use Rattle.cpp_direct.proofs.Scopes.{none-known}
 use Rattle.std.proofs.Common.{◌≡◌, ◌≢◌, ℕ, ◌+◌, length, List, [], ◌∷◌, ◌++◌, reverse, Bool, true, false, not, cond, Option, Some, None, refl, ap, sym, subst, ◌∙◌, arith, append_assoc, codes}
 use Rattle.std.specs.Option.{IfSome, OnSome}
@@ -96,7 +98,7 @@ pub source-unscoped : (s : Symbol) (internal : Bool) (old new : Direct) (name : 
 unfolding has_return_type arguments_of is_structor
 source-unscoped s internal old new name p is filled reads from from_is =
     let own = alone (source internal name) in
-    let prints = source-prints internal name filled in
+    let prints = source-prints internal name filled (name-unmarked s.bytes old.at name new.at is) in
     unscoped-read s old new true own (source_text name) p.awaits.state p.before p.awaits.candidates
     (name-has s internal (record old { at = p.before }) p.awaits old.at name new.at p.letter p.at_is is)
     reads (as-name own (source_text name) false prints) (λ e. prints) refl refl from from_is
@@ -135,7 +137,7 @@ std-source-unscoped s old marked read first second name p letter next mark then_
     let own = in_std (source false name) in
     let x = codes "std::" ++ source_text name in
     let encoding = encoding-expected s old p in
-    let prints = std-prints false name filled in
+    let prints = std-prints false name filled (name-unmarked s.bytes marked.at name read.at is) in
     let here = stands-join s.bytes old.at (83 ∷ []) (116 ∷ []) letter (subst (λ n. StandsAt s.bytes n (116 ∷ [])) next mark) in
     let there = subst (λ n. IsNameAt s.bytes n name read.at) (std-place old.at first second marked.at next then_ w.at) is in
     unscoped-read s old read true own x p.state old.at p.candidates
@@ -195,6 +197,7 @@ unfolding with_tag has_return_type arguments_of is_structor
 unscoped-tagged s old new from takes tag wide p is reads =
     let g = tag-follows s p.has.inner (in_name p.encoding) p.own old.at p.state tag new.at wide p.has.awaits is in
     let own : Term = with_tag p.own tag in
+    let plain = name-unmarked s.bytes (old.at + 1) tag new.at is.1 in
     record {
       state = p.state;
       candidates = candidates-read (detail_of s) old new (tag_text tag) p.state.candidates reads p.candidates;
@@ -211,15 +214,15 @@ unscoped-tagged s old new from takes tag wide p is reads =
       };
       written = reads.text ∙ ap (λ l. l ++ tag_text tag) p.written ∙ append_assoc p.front p.bytes (tag_text tag);
       from_is = p.from_is;
-      names = tagged-names (is_structor p.own) p.own p.bytes p.names tag;
-      prints = λ e. tagged-prints (is_structor p.own) p.own p.bytes (p.prints e) tag;
+      names = tagged-names (is_structor p.own) p.own p.bytes p.names tag plain;
+      prints = λ e. tagged-prints (is_structor p.own) p.own p.bytes (p.prints e) tag plain;
       no_return = refl;
       no_structor = p.no_structor;
     }
 
 -- where arguments were opened after it
 list-stands : (s : Symbol) (read new : Direct) (from : ℕ) (takes : Bool) → IsUnscoped s read from takes → takes ≡ true → StandsAt s.bytes read.at (73 ∷ [])
-    → new.candidates.list.items ≡ added read from false → new.text.list.items ≡ read.text.list.items ++ codes "<"
+    → new.candidates.list.items ≡ added read from false → new.text.list.items ≡ read.text.list.items ++ opening_bracket (detail_of s)
     → new.waiting.list.items ≡ read.waiting.list.items ++ opens.NameArguments from ∷ [] → new.at ≡ read.at + 1 → IsWriting s new (steps.List true)
 unfolding in_name inside
 list-stands s read new from takes p some there candidates_are text_is waiting_is here_is =
@@ -234,12 +237,12 @@ list-stands s read new from takes p some there candidates_are text_is waiting_is
     record {
       state = state;
       candidates = subst (λ l. AreCandidates (detail_of s) l new.candidates.list.items state.candidates) (sym text_is)
-          (subst (λ ks. AreCandidates (detail_of s) (read.text.list.items ++ codes "<") ks state.candidates) (sym candidates_are)
-          (candidates-stay (detail_of s) read.text.list.items (codes "<") (added read from false) state.candidates
+          (subst (λ ks. AreCandidates (detail_of s) (read.text.list.items ++ opening_bracket (detail_of s)) ks state.candidates) (sym candidates_are)
+          (candidates-stay (detail_of s) read.text.list.items (opening_bracket (detail_of s)) (added read from false) state.candidates
           (candidates-with read st p.front p.bytes from own (in_name place) false p.candidates p.written p.from_is prints)));
       is_before = arguments-begun s new state (opens.NameArguments from) (reverse read.waiting.list.items) p.front p.bytes own
           (ap reverse waiting_is ∙ reverse-last read.waiting.list.items (opens.NameArguments from)) (p.from_is, prints, p.no_structor)
-          (text_is ∙ ap (λ l. l ++ codes "<") p.written) (
+          (text_is ∙ ap (λ l. l ++ opening_bracket (detail_of s)) p.written) (
             inside (in_name place),
             list.inner,
             refl,
@@ -252,12 +255,12 @@ list-stands s read new from takes p some there candidates_are text_is waiting_is
 pub unscoped-argued : (s : Symbol) (read kept new : Direct) (from : ℕ) (takes : Bool) (r : Option Step) → IsUnscoped s read from takes → takes ≡ true
     → StandsAt s.bytes read.at (73 ∷ []) → kept.candidates.list.items ≡ added read from false → kept.text ≡ read.text → kept.waiting ≡ read.waiting → kept.at ≡ read.at
     → IfSome r (λ next. next ≡ steps.List true) → OnSome r (new.waiting.list.items ≡ kept.waiting.list.items ++ opens.NameArguments from ∷ []) → OnSome r (new.at ≡ kept.at + 1)
-    → OnSome r (new.text.list.items ≡ kept.text.list.items ++ codes "<") → OnSome r (new.candidates ≡ kept.candidates) → IfSome r (IsWriting s new)
+    → OnSome r (new.text.list.items ≡ kept.text.list.items ++ opening_bracket (detail_of s)) → OnSome r (new.candidates ≡ kept.candidates) → IfSome r (IsWriting s new)
 unscoped-argued s read kept new from takes None p some there ks same_text same_open same_at step open_ at_ text_ candidates_ = tt
 unscoped-argued s read kept new from takes (Some next) p some there ks same_text same_open same_at step open_ at_ text_ candidates_ =
     subst (λ x. IsWriting s new x) (sym step)
     (list-stands s read new from takes p some there
     (ap (λ v. v.list.items) candidates_ ∙ ks)
-    (text_ ∙ ap (λ v. v.list.items ++ codes "<") same_text)
+    (text_ ∙ ap (λ v. v.list.items ++ opening_bracket (detail_of s)) same_text)
     (open_ ∙ ap (λ v. v.list.items ++ opens.NameArguments from ∷ []) same_open)
     (at_ ∙ ap (λ n. n + 1) same_at))

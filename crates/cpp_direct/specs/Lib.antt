@@ -16,3 +16,4 @@ pub mod Symbol
 pub mod MidStep
 pub mod MidStepOfLocals
 pub mod Written
+pub mod WrittenParts

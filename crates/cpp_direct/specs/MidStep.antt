@@ -1,6 +1,7 @@
 -- Where a writer is between two of its functions, within a step.
 use Rattle.std.specs.Prelude.{◌≡◌, ◌≢◌, ◌⊎◌, ℕ, zero, suc, ◌+◌, List, [], ◌∷◌, ◌++◌, length, reverse, ◌≤◌, Bool, true, false, cond, Some, codes, ◌-◌, take, drop, slice_get}
 use Rattle.cpp_direct.specs.Written.{Writes}
+use Rattle.cpp_direct.specs.WrittenParts.{IsUnmarked, opening_bracket}
 use Rattle.sym_print.specs.declared.detail.Detail.{Detail}
 use Rattle.cpp_grammar.specs.declared.kind.Kind.{Kind}
 use Rattle.cpp_grammar.specs.Term.{Term, Signed, absent, array, function, instance, builtin, pack, list, nil}
@@ -205,8 +206,8 @@ pub record IsArgumentRead (s : Symbol) (w : Direct) (from number : ℕ) (known :
   pub bytes : List ℕ
   pub is_template : IsTemplate (detail_of s) owner front template name w.text.list.items
   pub elements : PrintAll (detail_of s) 3 ts texts
-  pub written : w.text.list.items ≡ (front ++ name ++ codes "<" ++ in_front_of_next ts texts) ++ bytes
-  pub from_is : from ≡ length (front ++ name ++ codes "<" ++ in_front_of_next ts texts)
+  pub written : w.text.list.items ≡ (front ++ name ++ opening_bracket (detail_of s) ++ in_front_of_next ts texts) ++ bytes
+  pub from_is : from ≡ length (front ++ name ++ opening_bracket (detail_of s) ++ in_front_of_next ts texts)
   pub number_is : number ≡ length ts
   pub among : AreAmong (detail_of s) w.text.list.items false known ts
   pub prints : Prints (detail_of s) t bytes is_reference
@@ -227,7 +228,7 @@ pub record AwaitsKnownArgument (s : Symbol) (w : Direct) (before : ℕ) (known :
   pub is_template : IsTemplate (detail_of s) owner front template name w.text.list.items
   pub elements : PrintAll (detail_of s) 3 ts texts
   pub some : ts ≢ []
-  pub written : w.text.list.items ≡ front ++ name ++ codes "<" ++ texts
+  pub written : w.text.list.items ≡ front ++ name ++ opening_bracket (detail_of s) ++ texts
   pub number_is : before + 1 ≡ length ts
   pub among : AreAmong (detail_of s) w.text.list.items false known ts
   pub goes : ArgumentsGoOn s owner (Stands s rest) front template ts w.at state
@@ -248,8 +249,8 @@ pub record IsPackElementRead (s : Symbol) (w : Direct) (from number : ℕ) (know
   pub bytes : List ℕ
   pub is_template : IsTemplate (detail_of s) owner front template name w.text.list.items
   pub elements : PrintAll (detail_of s) 0 ts texts
-  pub written : w.text.list.items ≡ (front ++ name ++ codes "<" ++ in_front_of_next ts texts) ++ bytes
-  pub from_is : from ≡ length (front ++ name ++ codes "<" ++ in_front_of_next ts texts)
+  pub written : w.text.list.items ≡ (front ++ name ++ opening_bracket (detail_of s) ++ in_front_of_next ts texts) ++ bytes
+  pub from_is : from ≡ length (front ++ name ++ opening_bracket (detail_of s) ++ in_front_of_next ts texts)
   pub number_is : number ≡ length ts
   pub among : AreAmong (detail_of s) w.text.list.items true known ts
   pub prints : Prints (detail_of s) t bytes is_reference
@@ -270,7 +271,7 @@ pub record AwaitsPackElement (s : Symbol) (w : Direct) (before : ℕ) (known : A
   pub is_template : IsTemplate (detail_of s) owner front template name w.text.list.items
   pub elements : PrintAll (detail_of s) 0 ts texts
   pub some : ts ≢ []
-  pub written : w.text.list.items ≡ front ++ name ++ codes "<" ++ texts
+  pub written : w.text.list.items ≡ front ++ name ++ opening_bracket (detail_of s) ++ texts
   pub number_is : before + 1 ≡ length ts
   pub among : AreAmong (detail_of s) w.text.list.items true known ts
   pub goes : GoesOn s (of_pack [] []) owner (Stands s rest) front template ts w.at state
@@ -313,7 +314,7 @@ pub record IsNestNamed (s : Symbol) (w : Direct) : Type 0 where
   pub bytes : List ℕ
   pub written : w.text.list.items ≡ front ++ bytes
   pub is_nest : IsNest (detail_of s) front bytes w.text.list.items w.nest own
-  pub names_tagged : w.nest.has_class ≡ true → (tag : List ℕ) → NamesClass (detail_of s) (with_tag own tag) is_nest.class
+  pub names_tagged : w.nest.has_class ≡ true → (tag : List ℕ) → IsUnmarked tag → NamesClass (detail_of s) (with_tag own tag) is_nest.class
   pub unlisted : w.nest.is_listed ≡ false
   pub no_instance : w.nest.is_instance ≡ false
   pub no_return : has_return_type own ≡ false
@@ -383,7 +384,7 @@ pub record IsListEnded (s : Symbol) (w : Direct) (argument : Arguments) : Type 0
   pub arguments : List ℕ
   pub is_template : IsTemplate (detail_of s) owner front template name w.text.list.items
   pub elements : PrintAll (detail_of s) 3 ts arguments
-  pub written : w.text.list.items ≡ front ++ name ++ codes "<" ++ arguments
+  pub written : w.text.list.items ≡ front ++ name ++ opening_bracket (detail_of s) ++ arguments
   pub owns : Owns s owner (Stands s rest) front (instance template (list_with ts tail)) w.at state
   pub known : AreKnown (detail_of s) w.text.list.items argument ts tail
 
@@ -395,7 +396,7 @@ pub record AwaitsNextArgument (s : Symbol) (w : Direct) : Type 0 where
   pub ts : List Term
   pub texts : List ℕ
   pub elements : PrintAll (detail_of s) (extra_of place.listing) ts texts
-  pub written : w.text.list.items ≡ led_by place.listing place.front place.name ++ in_front_of_next ts texts
+  pub written : w.text.list.items ≡ led_by (detail_of s) place.listing place.front place.name ++ in_front_of_next ts texts
   pub goes : GoesOn s place.listing place.owner (Stands s place.rest) place.front place.template ts w.at state
 
 -- The type of an enumerator was read, which is an element. Its number is expected.
@@ -412,7 +413,7 @@ pub record AwaitsNumber (s : Symbol) (w : Direct) : Type 0 where
   pub bytes : List ℕ
   pub is_reference : Bool
   pub prints : Prints (detail_of s) type bytes is_reference
-  pub written : w.text.list.items ≡ led_by place.listing place.front place.name ++ in_front_of_next ts texts ++ codes "(" ++ bytes
+  pub written : w.text.list.items ≡ led_by (detail_of s) place.listing place.front place.name ++ in_front_of_next ts texts ++ codes "(" ++ bytes
   pub goes : EnumeratorGoesOn s place.listing place.owner (Stands s place.rest) place.front place.template ts type w.at state
 
 -- The name of an encoding was read and written from a place on, but for its qualifier. The known ones of these arguments are at their

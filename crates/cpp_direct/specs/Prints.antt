@@ -8,11 +8,11 @@ use Rattle.cpp_grammar.specs.References.{is_function_type}
 use Rattle.cpp_grammar.specs.Items.{Form, full, bare, left, right, base, piece, Context, closed, head, is_reference, is_funarr, is_empty, argument}
 use Rattle.cpp_grammar.specs.Meaning.{is_void}
 use Rattle.cpp_grammar.specs.Parts.{as_item, says, prefix_item, within_parts, last_piece, opening_text, is_plain_integer}
-use Rattle.cpp_grammar.specs.Answer.{shown}
+use Rattle.cpp_direct.specs.WrittenParts.{written}
 
--- what a tree prints in a form, wherever it is, in a detail
-abbrev pub shown_in : Detail → Form → Context → Term → Unshared
-shown_in detail form context t = shown detail (record { tree = t; form = form; context = context })
+-- what is written of a tree in a form, wherever it is, in a detail
+abbrev pub written_of : Detail → Form → Context → Term → Unshared
+written_of detail form context t = written detail (record { tree = t; form = form; context = context })
 
 -- the name of a builtin type whose integers are without it is one of these words, or ends in one after a blank
 abbrev pub EndsAsInteger : List ℕ → Type 0
@@ -21,9 +21,9 @@ EndsAsInteger bytes =
 
 -- A tree with this text. It is a type, or the name of something; whether it is a reference is known.
 pub record Prints (detail : Detail) (t : Term) (bytes : List ℕ) (reference : Bool) : Type 0 where
-  pub left_text : (context : Context) → text_of (shown_in detail left context t) ≡ bytes
-  pub right_text : (context : Context) → text_of (shown_in detail right context t) ≡ []
-  pub cost : (context : Context) → 1 + cost_of (shown_in detail left context t) + cost_of (shown_in detail right context t) ≤ 4 * length bytes
+  pub left_text : (context : Context) → text_of (written_of detail left context t) ≡ bytes
+  pub right_text : (context : Context) → text_of (written_of detail right context t) ≡ []
+  pub cost : (context : Context) → 1 + cost_of (written_of detail left context t) + cost_of (written_of detail right context t) ≤ 4 * length bytes
   pub is_reference_head : (context : Context) → is_reference (head context t) ≡ reference
   pub is_funarr_head : (context : Context) → is_funarr (head context t) ≡ false
   pub filled : (context : Context) → is_empty context t ≡ false
@@ -31,7 +31,7 @@ pub record Prints (detail : Detail) (t : Term) (bytes : List ℕ) (reference : B
   pub packless : (scope : Term) → pack_length scope t ≡ None
   pub no_function : is_function_type t ≡ false
   pub no_pack : length_if_pack t ≡ None
-  pub reference_cost : reference ≡ true → (context : Context) → 2 + cost_of (shown_in detail left context t) + cost_of (shown_in detail right context t) ≤ 4 * length bytes
+  pub reference_cost : reference ≡ true → (context : Context) → 2 + cost_of (written_of detail left context t) + cost_of (written_of detail right context t) ≤ 4 * length bytes
   pub as_prefix : (context : Context) → prefix_item context t ≡ as_item left context t
   pub opening : opening_text (last_piece t) ≡ codes "<"
   pub void : is_void t ≡ true → bytes ≡ codes "void"
@@ -39,14 +39,14 @@ pub record Prints (detail : Detail) (t : Term) (bytes : List ℕ) (reference : B
 
 -- A tree with this text at the left, as the name of a function or of data has it.
 pub record PrintsName (detail : Detail) (t : Term) (bytes : List ℕ) : Type 0 where
-  pub left_text : (context : Context) → text_of (shown_in detail left context t) ≡ bytes
-  pub cost : (context : Context) → 1 + cost_of (shown_in detail left context t) + cost_of (shown_in detail right context t) ≤ 4 * length bytes
+  pub left_text : (context : Context) → text_of (written_of detail left context t) ≡ bytes
+  pub cost : (context : Context) → 1 + cost_of (written_of detail left context t) + cost_of (written_of detail right context t) ≤ 4 * length bytes
 
 -- A tree with this text in a context. It may cost so much more than one that has this text wherever it is.
 pub record PrintsIn (detail : Detail) (context : Context) (extra : ℕ) (t : Term) (bytes : List ℕ) (reference : Bool) : Type 0 where
-  pub left_text : text_of (shown_in detail left context t) ≡ bytes
-  pub right_text : text_of (shown_in detail right context t) ≡ []
-  pub cost : 1 + cost_of (shown_in detail left context t) + cost_of (shown_in detail right context t) ≤ extra + 4 * length bytes
+  pub left_text : text_of (written_of detail left context t) ≡ bytes
+  pub right_text : text_of (written_of detail right context t) ≡ []
+  pub cost : 1 + cost_of (written_of detail left context t) + cost_of (written_of detail right context t) ≤ extra + 4 * length bytes
   pub is_reference_head : is_reference (head context t) ≡ reference
   pub is_funarr_head : is_funarr (head context t) ≡ false
   pub filled : is_empty context t ≡ false
@@ -71,14 +71,14 @@ forwarded false = codes "&&"
 
 -- A tree whose class is named so where it comes before a constructor or a destructor.
 pub record NamesClass (detail : Detail) (t : Term) (class : List ℕ) : Type 0 where
-  pub base_text : (context : Context) → text_of (shown_in detail base context t) ≡ class
-  pub base_cost : (context : Context) → cost_of (shown_in detail left context t) + cost_of (shown_in detail right context t) + cost_of (shown_in detail base context t)
-      ≤ 4 * (length (text_of (shown_in detail left context t)) + length class)
+  pub base_text : (context : Context) → text_of (written_of detail base context t) ≡ class
+  pub base_cost : (context : Context) → cost_of (written_of detail left context t) + cost_of (written_of detail right context t) + cost_of (written_of detail base context t)
+      ≤ 4 * (length (text_of (written_of detail left context t)) + length class)
 
 -- A piece of a name with this text, where it is a component of another name.
 pub record PrintsPiece (detail : Detail) (p : Term) (bytes : List ℕ) : Type 0 where
-  pub piece_text : (context : Context) → text_of (shown_in detail piece context p) ≡ bytes
-  pub piece_cost : (context : Context) → cost_of (shown_in detail piece context p) ≤ 4 * length bytes
+  pub piece_text : (context : Context) → text_of (written_of detail piece context p) ≡ bytes
+  pub piece_cost : (context : Context) → cost_of (written_of detail piece context p) ≤ 4 * length bytes
   pub as_component : (context : Context) (prefix : Term)
       → within_parts context prefix p ≡ prefix_item context prefix ∷ says "::" ∷ as_item piece context p ∷ []
   pub is_closed : is_open p ≡ false
@@ -87,14 +87,14 @@ pub record PrintsPiece (detail : Detail) (p : Term) (bytes : List ℕ) : Type 0 
 
 -- An encoding with this text in a detail.
 pub record Shows (detail : Detail) (t : Term) (bytes : List ℕ) : Type 0 where
-  pub shown_text : text_of (shown_in detail full closed t) ≡ bytes
-  pub shown_cost : 1 + cost_of (shown_in detail full closed t) ≤ 4 * length bytes
+  pub shown_text : text_of (written_of detail full closed t) ≡ bytes
+  pub shown_cost : 1 + cost_of (written_of detail full closed t) ≤ 4 * length bytes
 
 -- An encoding that has this text before what is in it, in a detail.
 pub record Encloses (detail : Detail) (t : Term) (bytes : List ℕ) : Type 0 where
   pub as_prefix : (context : Context) → prefix_item context t ≡ as_item bare closed t
-  pub bare_text : text_of (shown_in detail bare closed t) ≡ bytes
-  pub bare_cost : 1 + cost_of (shown_in detail bare closed t) ≤ 4 * length bytes
+  pub bare_text : text_of (written_of detail bare closed t) ≡ bytes
+  pub bare_cost : 1 + cost_of (written_of detail bare closed t) ≤ 4 * length bytes
   pub is_closed : is_open t ≡ false
   pub packless : (scope : Term) → pack_length scope t ≡ None
 
@@ -117,8 +117,8 @@ joined (b ∷ c ∷ bs) = b ++ codes ", " ++ joined (c ∷ bs)
 
 -- A tree prints this text as the element of a list. It may cost so much more than a type with that text.
 pub record IsElement (detail : Detail) (extra : ℕ) (t : Term) (bytes : List ℕ) : Type 0 where
-  pub both_texts : (context : Context) → text_of (shown_in detail left context t) ++ text_of (shown_in detail right context t) ≡ bytes
-  pub cost : (context : Context) → 1 + cost_of (shown_in detail left context t) + cost_of (shown_in detail right context t) ≤ extra + 4 * length bytes
+  pub both_texts : (context : Context) → text_of (written_of detail left context t) ++ text_of (written_of detail right context t) ≡ bytes
+  pub cost : (context : Context) → 1 + cost_of (written_of detail left context t) + cost_of (written_of detail right context t) ≤ extra + 4 * length bytes
   pub filled : (context : Context) → is_empty context t ≡ false
   pub is_closed : is_open t ≡ false
   pub packless : (scope : Term) → pack_length scope t ≡ None
@@ -126,8 +126,8 @@ pub record IsElement (detail : Detail) (extra : ℕ) (t : Term) (bytes : List �
 
 -- The same in a context.
 pub record IsElementIn (detail : Detail) (context : Context) (extra : ℕ) (t : Term) (bytes : List ℕ) : Type 0 where
-  pub both_texts : text_of (shown_in detail left context t) ++ text_of (shown_in detail right context t) ≡ bytes
-  pub cost : 1 + cost_of (shown_in detail left context t) + cost_of (shown_in detail right context t) ≤ extra + 4 * length bytes
+  pub both_texts : text_of (written_of detail left context t) ++ text_of (written_of detail right context t) ≡ bytes
+  pub cost : 1 + cost_of (written_of detail left context t) + cost_of (written_of detail right context t) ≤ extra + 4 * length bytes
   pub filled : is_empty context t ≡ false
   pub void : is_void t ≡ true → bytes ≡ codes "void"
 

@@ -1,29 +1,40 @@
 -- A symbol, the grammar of C++ by which it is read, and how much of it is shown.
 use Rattle.std.specs.Prelude.{ℕ, List, Bool, true, false}
 use Rattle.sym_print.specs.declared.detail.Detail.{Detail}
-use Rattle.sym_print.specs.declared.detail.Detail.TheVariants.{Full, NoParameters}
+use Rattle.sym_print.specs.declared.detail.Detail.TheVariants.{Full, Brief, NoParameters, BriefNoParameters}
 use Rattle.sym_shape.specs.Table.{Table}
 use Rattle.sym_demangle.specs.Mangled.{Mangled}
 use Rattle.cpp_grammar.specs.Table.{abi, wide}
 use Rattle.cpp_grammar.specs.Mangled.{cpp_mangled, wide_mangled}
 use Rattle.cpp_grammar.specs.Term.{Term}
 
--- the bytes of a symbol, whether it is read by the wide grammar, and whether functions are shown by their names alone
+-- the bytes of a symbol, whether it is read by the wide grammar, whether functions are shown by their names alone, and whether
+-- names are shown without their template arguments
 pub record Symbol : Type 0 where
   pub bytes : List ℕ
   pub is_wide : Bool
   pub is_bare : Bool
+  pub is_brief : Bool
 
-abbrev pub symbol_by : (is_wide is_bare : Bool) → (bytes : List ℕ) → Symbol
-symbol_by is_wide is_bare bytes = record { bytes = bytes; is_wide = is_wide; is_bare = is_bare }
+abbrev pub symbol_by : (is_wide is_bare is_brief : Bool) → (bytes : List ℕ) → Symbol
+symbol_by is_wide is_bare is_brief bytes = record { bytes = bytes; is_wide = is_wide; is_bare = is_bare; is_brief = is_brief }
 
 -- how much is shown
-abbrev pub detail_by : (is_bare : Bool) → Detail
-detail_by true = NoParameters
-detail_by false = Full
+abbrev pub detail_by : (is_bare is_brief : Bool) → Detail
+detail_by true true = BriefNoParameters
+detail_by true false = NoParameters
+detail_by false true = Brief
+detail_by false false = Full
 
 abbrev pub detail_of : Symbol → Detail
-detail_of s = detail_by s.is_bare
+detail_of s = detail_by s.is_bare s.is_brief
+
+-- the symbol of which so much is shown
+abbrev pub symbol_as : (is_wide : Bool) → Detail → (bytes : List ℕ) → Symbol
+symbol_as is_wide Full bytes = symbol_by is_wide false false bytes
+symbol_as is_wide Brief bytes = symbol_by is_wide false true bytes
+symbol_as is_wide NoParameters bytes = symbol_by is_wide true false bytes
+symbol_as is_wide BriefNoParameters bytes = symbol_by is_wide true true bytes
 
 -- the table of that grammar
 abbrev pub table_by : (is_wide : Bool) → Table

@@ -14,6 +14,7 @@ use Rattle.cpp_grammar.specs.Values as values
 use Rattle.cpp_grammar.specs.Values.{State, Around, Value, tree, named, outermost, tree_of, qualifiers_of, ref_of, signed_digits}
 use Rattle.cpp_grammar.specs.Between.{no_items}
 use Rattle.cpp_grammar.specs.Meaning.{parameters, encoding_of}
+use Rattle.cpp_direct.specs.WrittenParts.{written, opening_bracket}
 use Rattle.cpp_direct.specs.Symbol.{Symbol, detail_of, mangled_of}
 use Rattle.cpp_direct.specs.declared.open.Candidate.{Candidate}
 use Rattle.cpp_direct.specs.declared.open.Nest.{Nest}
@@ -195,12 +196,19 @@ pub record AwaitsItems (s : Symbol) (lead : List ℕ) (v : Value) (at : ℕ) (st
   pub awaits : Expects s Kind.Items around inner at st
   pub onward : (l : Value) (at : ℕ) (st : State) → Comes s inner l at st → EncodedBehind s lead (encoding_of v (no_items l)) at
 
--- The symbol is one with this text.
+-- This text is written of the whole symbol.
 pub record IsWhole (s : Symbol) (text : List ℕ) : Type 0 where
   pub whole : Term
   pub stands : StandsFor (mangled_of s) s.bytes (Ok whole)
+  pub text_is : text_of (written (detail_of s) (root_item whole)) ≡ text
+  pub cost : cost_of (written (detail_of s) (root_item whole)) ≤ 4 * length text
+
+-- The symbol is shown by this text, which costs at most four times so much.
+pub record IsShown (s : Symbol) (most : ℕ) (text : List ℕ) : Type 0 where
+  pub whole : Term
+  pub stands : StandsFor (mangled_of s) s.bytes (Ok whole)
   pub text_is : text_of (shown (detail_of s) (root_item whole)) ≡ text
-  pub cost : cost_of (shown (detail_of s) (root_item whole)) ≤ 4 * length text
+  pub cost : cost_of (shown (detail_of s) (root_item whole)) ≤ 4 * most
 
 -- ## Names
 
@@ -373,9 +381,9 @@ extra_of of_template = 3
 extra_of (of_pack before written) = 0
 
 -- the text before them
-abbrev pub led_by : Listing → (front name : List ℕ) → List ℕ
-led_by of_template front name = front ++ name ++ codes "<"
-led_by (of_pack before written) front name = front ++ name ++ codes "<" ++ in_front_of_next before written
+abbrev pub led_by : Detail → Listing → (front name : List ℕ) → List ℕ
+led_by detail of_template front name = front ++ name ++ opening_bracket detail
+led_by detail (of_pack before written) front name = front ++ name ++ opening_bracket detail ++ in_front_of_next before written
 
 -- what becomes of the list
 abbrev pub Closes : (s : Symbol) → Listing → Open → Below → (front : List ℕ) → (template : Term) → Term → (at : ℕ) → State → Type 0
@@ -422,7 +430,7 @@ abbrev pub AwaitsElementOf : (s : Symbol) → Listing → Open → Below → Lis
 AwaitsElementOf s listing owner below os text =
     (front : List ℕ) × (template : Term) × (name : List ℕ) × (ts : List Term) × (elements : List ℕ)
     × IsTemplate (detail_of s) owner front template name text × PrintAll (detail_of s) (extra_of listing) ts elements
-    × (text ≡ led_by listing front name ++ in_front_of_next ts elements)
+    × (text ≡ led_by (detail_of s) listing front name ++ in_front_of_next ts elements)
     × ((t : Term) (at : ℕ) (st : State) → Comes s os (tree t true) at st → GoesOn s listing owner below front template (ts ++ t ∷ []) at st)
 
 -- a list goes on after an enumerator of this type, once its number and an E are read
@@ -437,7 +445,7 @@ abbrev pub AwaitsEnumerator : (s : Symbol) → Listing → Open → Below → Li
 AwaitsEnumerator s listing owner below os text =
     (front : List ℕ) × (template : Term) × (name : List ℕ) × (ts : List Term) × (elements : List ℕ)
     × IsTemplate (detail_of s) owner front template name text × PrintAll (detail_of s) (extra_of listing) ts elements
-    × (text ≡ led_by listing front name ++ in_front_of_next ts elements ++ codes "(")
+    × (text ≡ led_by (detail_of s) listing front name ++ in_front_of_next ts elements ++ codes "(")
     × ((t : Term) (at : ℕ) (st : State) → Comes s os (tree t true) at st → EnumeratorGoesOn s listing owner below front template ts t at st)
 
 -- what is open is this list of this owner
@@ -529,13 +537,13 @@ Stands s (opens.Special ∷ rest) os text =
 Stands s (opens.Argument from number known ∷ []) os text = ⊥
 Stands s (opens.Argument from number known ∷ owner ∷ rest) os text =
     (front : List ℕ) × (template : Term) × (name : List ℕ) × (ts : List Term) × (elements : List ℕ) × IsTemplate (detail_of s) owner front template name text
-    × PrintAll (detail_of s) 3 ts elements × (text ≡ front ++ name ++ codes "<" ++ in_front_of_next ts elements) × (from ≡ length text) × (number ≡ length ts)
+    × PrintAll (detail_of s) 3 ts elements × (text ≡ front ++ name ++ opening_bracket (detail_of s) ++ in_front_of_next ts elements) × (from ≡ length text) × (number ≡ length ts)
     × AreAmong (detail_of s) text false known ts
     × ((t : Term) (at : ℕ) (st : State) → Comes s os (tree t true) at st
     → ArgumentsGoOn s owner (Stands s rest) front template (ts ++ t ∷ []) at st)
 Stands s (opens.Element from number known ∷ opens.Pack ∷ owner ∷ rest) os text =
     (front : List ℕ) × (template : Term) × (name : List ℕ) × (ts : List Term) × (elements : List ℕ) × IsTemplate (detail_of s) owner front template name text
-    × PrintAll (detail_of s) 0 ts elements × (text ≡ front ++ name ++ codes "<" ++ in_front_of_next ts elements) × (from ≡ length text) × (number ≡ length ts)
+    × PrintAll (detail_of s) 0 ts elements × (text ≡ front ++ name ++ opening_bracket (detail_of s) ++ in_front_of_next ts elements) × (from ≡ length text) × (number ≡ length ts)
     × AreAmong (detail_of s) text true known ts
     × ((t : Term) (at : ℕ) (st : State) → Comes s os (tree t true) at st
     → GoesOn s (of_pack [] []) owner (Stands s rest) front template (ts ++ t ∷ []) at st)
@@ -587,7 +595,7 @@ IsBefore s w st (steps.Dependent is_reference begins number encoding) =
 IsBefore s w st (steps.List is_first) =
     (place : IsListing (detail_of s) (reverse w.waiting.list.items) w.text.list.items) × (ts : List Term) × (elements : List ℕ)
     × PrintAll (detail_of s) (extra_of place.listing) ts elements
-    × (w.text.list.items ≡ led_by place.listing place.front place.name ++ elements)
+    × (w.text.list.items ≡ led_by (detail_of s) place.listing place.front place.name ++ elements)
     × (is_first ≡ true → ts ≡ []) × (is_first ≡ false → ts ≢ [])
     × GoesOn s place.listing place.owner (Stands s place.rest) place.front place.template ts w.at st
 IsBefore s w st steps.Rest = (t : Term) × (kind : Kind) × IsFirstRest kind × IsNesting s kind w t st

@@ -56,8 +56,8 @@ impl Direct {
     pub(crate) fn begin_array<G: Grammar>(&mut self, s: &[u8], access: Access) -> Option<Step>
         requires fits { IsReadable s.now }
         requires letters { StandsAt s.now self.old.at (access_letters access) }
-        requires writing { IsWriting (symbol_by G.IS_WIDE G.IS_BARE s.now) self.old steps.Type }
-        ensures { IfSome result (IsWriting (symbol_by G.IS_WIDE G.IS_BARE s.now) self.new) }
+        requires writing { IsWriting (symbol_by G.IS_WIDE G.IS_BARE G.IS_BRIEF s.now) self.old steps.Type }
+        ensures { IfSome result (IsWriting (symbol_by G.IS_WIDE G.IS_BARE G.IS_BRIEF s.now) self.new) }
     {
         if !self.takes_element() {
             return None;
@@ -86,8 +86,8 @@ impl Direct {
         to: u32,
     ) -> Option<Step>
         requires fits { IsReadable s.now }
-        requires read { IsArrayRead (symbol_by G.IS_WIDE G.IS_BARE s.now) self.old access from to }
-        ensures { IfSome result (IsWriting (symbol_by G.IS_WIDE G.IS_BARE s.now) self.new) }
+        requires read { IsArrayRead (symbol_by G.IS_WIDE G.IS_BARE G.IS_BRIEF s.now) self.old access from to }
+        ensures { IfSome result (IsWriting (symbol_by G.IS_WIDE G.IS_BARE G.IS_BRIEF s.now) self.new) }
     {
         let _open = self.waiting.pop();
         self.push(array_opening(access))?;

@@ -1,8 +1,12 @@
 // The lists of a writer.
 
 ghost use Rattle.std.specs.Prelude.{◌≡◌, ◌+◌, ◌*◌, ◌≤◌, [], length};
+ghost use Rattle.std.specs.Option.{OnSome};
 ghost use Rattle.sym_core.specs.Number.{FitsSymbol};
+ghost use Rattle.cpp_direct.specs.Symbol.{symbol_by};
+ghost use Rattle.cpp_direct.specs.WriterInvariant.{IsShown, IsWhole};
 
+use crate::grammar::Grammar;
 use crate::open::{Arguments, Candidate, Nest, Open};
 use crate::symbols::{NO_NEST, NOWHERE};
 use std::alloc::Global;
@@ -42,6 +46,19 @@ impl Direct {
         ensures { result.now ≡ self.now.text.list.items }
     {
         self.text.as_slice()
+    }
+
+    /// Leaves out of what was written what isn't to be shown. A text that can't be told from one with marks in it is given up.
+    #[inline(always)]
+    pub fn show<G: Grammar>(&mut self, _s: &[u8]) -> Option<()>
+        requires { IsWhole (symbol_by G.IS_WIDE G.IS_BARE G.IS_BRIEF _s.now) self.old.text.list.items }
+        ensures shown { OnSome result (IsShown (symbol_by G.IS_WIDE G.IS_BARE G.IS_BRIEF _s.now) (length self.old.text.list.items) self.new.text.list.items) }
+        ensures most { length self.new.text.list.items ≤ length self.old.text.list.items }
+    {
+        if G::IS_BRIEF {
+            return self.text.leave_out_marked();
+        }
+        Some(())
     }
 
     /// Empties the lists, and gives them the room that they have while a symbol is written: the text so many bytes, at most eight for

@@ -32,8 +32,8 @@ impl Direct {
     pub(crate) fn begin_enclosing<G: Grammar>(&mut self, s: &[u8]) -> Option<Step>
         requires fits { IsReadable s.now }
         requires letter { StandsAt s.now self.old.at (90 ∷ []) }
-        requires awaits { AwaitsNamedType (symbol_by G.IS_WIDE G.IS_BARE s.now) self.old }
-        ensures { IfSome result (IsWriting (symbol_by G.IS_WIDE G.IS_BARE s.now) self.new) }
+        requires awaits { AwaitsNamedType (symbol_by G.IS_WIDE G.IS_BARE G.IS_BRIEF s.now) self.old }
+        ensures { IfSome result (IsWriting (symbol_by G.IS_WIDE G.IS_BARE G.IS_BRIEF s.now) self.new) }
     {
         self.at = self.at.checked_add(1)?;
         if byte_at(s, self.at) != b'N' {
@@ -56,8 +56,8 @@ impl Direct {
         from: u32,
     ) -> Option<Step>
         requires fits { IsReadable s.now }
-        requires named { IsEnclosingNamed (symbol_by G.IS_WIDE G.IS_BARE s.now) self.old mark from }
-        ensures { IfSome result (IsWriting (symbol_by G.IS_WIDE G.IS_BARE s.now) self.new) }
+        requires named { IsEnclosingNamed (symbol_by G.IS_WIDE G.IS_BARE G.IS_BRIEF s.now) self.old mark from }
+        ensures { IfSome result (IsWriting (symbol_by G.IS_WIDE G.IS_BARE G.IS_BRIEF s.now) self.new) }
     {
         if byte_at(s, self.at) == b'E' {
             return self.enclosing_ended::<G>(s, mark, from);
@@ -75,8 +75,8 @@ impl Direct {
         from: u32,
     ) -> Option<Step>
         requires fits { IsReadable s.now }
-        requires named { IsEnclosingInstance (symbol_by G.IS_WIDE G.IS_BARE s.now) self.old mark from }
-        ensures { IfSome result (IsWriting (symbol_by G.IS_WIDE G.IS_BARE s.now) self.new) }
+        requires named { IsEnclosingInstance (symbol_by G.IS_WIDE G.IS_BARE G.IS_BRIEF s.now) self.old mark from }
+        ensures { IfSome result (IsWriting (symbol_by G.IS_WIDE G.IS_BARE G.IS_BRIEF s.now) self.new) }
     {
         if cpp_layout::builtin_text(byte_at(s, self.at)).is_empty() {
             return None;
@@ -100,8 +100,8 @@ impl Direct {
         argument: Arguments,
     ) -> Option<Step>
         requires fits { IsReadable s.now }
-        requires awaits { AwaitsEnclosingParameters (symbol_by G.IS_WIDE G.IS_BARE s.now) self.old mark from argument }
-        ensures { IfSome result (IsWriting (symbol_by G.IS_WIDE G.IS_BARE s.now) self.new) }
+        requires awaits { AwaitsEnclosingParameters (symbol_by G.IS_WIDE G.IS_BARE G.IS_BRIEF s.now) self.old mark from argument }
+        ensures { IfSome result (IsWriting (symbol_by G.IS_WIDE G.IS_BARE G.IS_BRIEF s.now) self.new) }
     {
         let behind = byte_at(s, self.at.checked_add(1)?);
         if byte_at(s, self.at) == b'v' && behind == b'E' {
@@ -138,8 +138,8 @@ impl Direct {
         _argument: Arguments,
     ) -> Option<Step>
         requires fits { IsReadable s.now }
-        requires read { IsEnclosingParameterRead (symbol_by G.IS_WIDE G.IS_BARE s.now) self.old mark from to _argument }
-        ensures { IfSome result (IsWriting (symbol_by G.IS_WIDE G.IS_BARE s.now) self.new) }
+        requires read { IsEnclosingParameterRead (symbol_by G.IS_WIDE G.IS_BARE G.IS_BRIEF s.now) self.old mark from to _argument }
+        ensures { IfSome result (IsWriting (symbol_by G.IS_WIDE G.IS_BARE G.IS_BRIEF s.now) self.new) }
     {
         if byte_at(s, self.at) != b'E' {
             self.push_pair(b',', b' ')?;
@@ -162,8 +162,8 @@ impl Direct {
     /// Writes the qualifiers of a function in which a type is.
     fn enclosing_ended<G: Grammar>(&mut self, s: &[u8], mark: Mark, from: u32) -> Option<Step>
         requires fits { IsReadable s.now }
-        requires read { IsEnclosingRead (symbol_by G.IS_WIDE G.IS_BARE s.now) self.old mark from }
-        ensures { IfSome result (IsWriting (symbol_by G.IS_WIDE G.IS_BARE s.now) self.new) }
+        requires read { IsEnclosingRead (symbol_by G.IS_WIDE G.IS_BARE G.IS_BRIEF s.now) self.old mark from }
+        ensures { IfSome result (IsWriting (symbol_by G.IS_WIDE G.IS_BARE G.IS_BRIEF s.now) self.new) }
     {
         self.push_mark(mark)?;
         self.enclosed::<G>(s, from)
@@ -173,8 +173,8 @@ impl Direct {
     // <local-name> ::= Z <function encoding> E <entity name> [<discriminator>]
     fn enclosed<G: Grammar>(&mut self, s: &[u8], from: u32) -> Option<Step>
         requires fits { IsReadable s.now }
-        requires read { IsEnclosingRead (symbol_by G.IS_WIDE G.IS_BARE s.now) self.old marks.Plain from }
-        ensures { IfSome result (IsWriting (symbol_by G.IS_WIDE G.IS_BARE s.now) self.new) }
+        requires read { IsEnclosingRead (symbol_by G.IS_WIDE G.IS_BARE G.IS_BRIEF s.now) self.old marks.Plain from }
+        ensures { IfSome result (IsWriting (symbol_by G.IS_WIDE G.IS_BARE G.IS_BRIEF s.now) self.new) }
     {
         if byte_at(s, self.at) != b'E' {
             return None;
@@ -194,8 +194,8 @@ impl Direct {
     // <local-name> ::= Z <function encoding> E <entity name> [<discriminator>]
     fn enclosed_named<G: Grammar>(&mut self, s: &[u8], from: u32) -> Option<Step>
         requires fits { IsReadable s.now }
-        requires awaits { AwaitsTypeName (symbol_by G.IS_WIDE G.IS_BARE s.now) self.old from }
-        ensures { IfSome result (IsWriting (symbol_by G.IS_WIDE G.IS_BARE s.now) self.new) }
+        requires awaits { AwaitsTypeName (symbol_by G.IS_WIDE G.IS_BARE G.IS_BRIEF s.now) self.old from }
+        ensures { IfSome result (IsWriting (symbol_by G.IS_WIDE G.IS_BARE G.IS_BRIEF s.now) self.new) }
     {
         self.push_pair(b':', b':')?;
         self.enclosed_piece::<G>(s)?;
@@ -210,7 +210,7 @@ impl Direct {
     #[inline(always)]
     fn enclosed_piece<G: Grammar>(&mut self, s: &[u8]) -> Option<()>
         requires { IsReadable s.now }
-        ensures { OnSome result ((p : Term) × (n : List ℕ) × IsPieceAt (symbol_by G.IS_WIDE G.IS_BARE s.now) self.old.at p self.new.at × PrintsPiece (detail_by G.IS_BARE) p n × Reads self.old self.new n) }
+        ensures { OnSome result ((p : Term) × (n : List ℕ) × IsPieceAt (symbol_by G.IS_WIDE G.IS_BARE G.IS_BRIEF s.now) self.old.at p self.new.at × PrintsPiece (detail_by G.IS_BARE G.IS_BRIEF) p n × Reads self.old self.new n) }
     {
         if byte_at(s, self.at) == b'U' {
             return self.lambda::<G>(s);
@@ -222,7 +222,7 @@ impl Direct {
     // <closure-type-name> ::= Ul <lambda-sig> E [<nonnegative number>] _
     fn lambda<G: Grammar>(&mut self, s: &[u8]) -> Option<()>
         requires letter { StandsAt s.now self.old.at (85 ∷ []) }
-        ensures { OnSome result ((p : Term) × (n : List ℕ) × IsPieceAt (symbol_by G.IS_WIDE G.IS_BARE s.now) self.old.at p self.new.at × PrintsPiece (detail_by G.IS_BARE) p n × Reads self.old self.new n) }
+        ensures { OnSome result ((p : Term) × (n : List ℕ) × IsPieceAt (symbol_by G.IS_WIDE G.IS_BARE G.IS_BRIEF s.now) self.old.at p self.new.at × PrintsPiece (detail_by G.IS_BARE G.IS_BRIEF) p n × Reads self.old self.new n) }
     {
         let second = byte_at(s, self.at.checked_add(1)?);
         let third = byte_at(s, self.at.checked_add(2)?);
@@ -260,9 +260,9 @@ impl Direct {
     /// Begins a lambda that has parameters, in a symbol that isn't a long one: each lambda goes over it once more.
     // <closure-type-name> ::= Ul <lambda-sig> E [<nonnegative number>] _
     fn begin_lambda<G: Grammar>(&mut self, s: &[u8], from: u32) -> Option<Step>
-        requires awaits { AwaitsTypeName (symbol_by G.IS_WIDE G.IS_BARE s.now) self.old from }
+        requires awaits { AwaitsTypeName (symbol_by G.IS_WIDE G.IS_BARE G.IS_BRIEF s.now) self.old from }
         requires letter { StandsAt s.now self.old.at (85 ∷ []) }
-        ensures { IfSome result (IsWriting (symbol_by G.IS_WIDE G.IS_BARE s.now) self.new) }
+        ensures { IfSome result (IsWriting (symbol_by G.IS_WIDE G.IS_BARE G.IS_BRIEF s.now) self.new) }
     {
         self.at = self.at.checked_add(1)?;
         if byte_at(s, self.at) != b'l' {
@@ -282,8 +282,8 @@ impl Direct {
     // <lambda-sig> ::= <parameter type>+
     pub(crate) fn lambda_parameter<G: Grammar>(&mut self, s: &[u8], from: u32) -> Option<Step>
         requires fits { IsReadable s.now }
-        requires read { IsLambdaParameterRead (symbol_by G.IS_WIDE G.IS_BARE s.now) self.old from }
-        ensures { IfSome result (IsWriting (symbol_by G.IS_WIDE G.IS_BARE s.now) self.new) }
+        requires read { IsLambdaParameterRead (symbol_by G.IS_WIDE G.IS_BARE G.IS_BRIEF s.now) self.old from }
+        ensures { IfSome result (IsWriting (symbol_by G.IS_WIDE G.IS_BARE G.IS_BRIEF s.now) self.new) }
     {
         if byte_at(s, self.at) != b'E' {
             self.push_pair(b',', b' ')?;

@@ -39,8 +39,8 @@ impl Direct {
     pub(crate) fn begin_function<G: Grammar>(&mut self, s: &[u8], is_pointer: bool) -> Option<Step>
         requires fits { IsReadable s.now }
         requires letters { StandsAt s.now self.old.at (if is_pointer then 80 ∷ 70 ∷ [] else 70 ∷ []) }
-        requires writing { IsWriting (symbol_by G.IS_WIDE G.IS_BARE s.now) self.old steps.Type }
-        ensures { IfSome result (IsWriting (symbol_by G.IS_WIDE G.IS_BARE s.now) self.new) }
+        requires writing { IsWriting (symbol_by G.IS_WIDE G.IS_BARE G.IS_BRIEF s.now) self.old steps.Type }
+        ensures { IfSome result (IsWriting (symbol_by G.IS_WIDE G.IS_BARE G.IS_BRIEF s.now) self.new) }
     {
         if !self.takes_element() {
             return None;
@@ -54,8 +54,8 @@ impl Direct {
     // <bare-function-type> ::= <return type> <parameter type>+
     pub(crate) fn returned<G: Grammar>(&mut self, s: &[u8], is_pointer: bool) -> Option<Step>
         requires fits { IsReadable s.now }
-        requires returned { IsReturned (symbol_by G.IS_WIDE G.IS_BARE s.now) self.old is_pointer }
-        ensures { IfSome result (IsWriting (symbol_by G.IS_WIDE G.IS_BARE s.now) self.new) }
+        requires returned { IsReturned (symbol_by G.IS_WIDE G.IS_BARE G.IS_BRIEF s.now) self.old is_pointer }
+        ensures { IfSome result (IsWriting (symbol_by G.IS_WIDE G.IS_BARE G.IS_BRIEF s.now) self.new) }
     {
         let _open = self.waiting.pop();
         self.push(if is_pointer { b" (*)(" } else { b" (" })?;
@@ -67,8 +67,8 @@ impl Direct {
     // <bare-function-type> ::= <return type> v
     fn first_parameter<G: Grammar>(&mut self, s: &[u8], is_pointer: bool) -> Option<Step>
         requires fits { IsReadable s.now }
-        requires awaits { AwaitsSignature (symbol_by G.IS_WIDE G.IS_BARE s.now) self.old is_pointer true }
-        ensures { IfSome result (IsWriting (symbol_by G.IS_WIDE G.IS_BARE s.now) self.new) }
+        requires awaits { AwaitsSignature (symbol_by G.IS_WIDE G.IS_BARE G.IS_BRIEF s.now) self.old is_pointer true }
+        ensures { IfSome result (IsWriting (symbol_by G.IS_WIDE G.IS_BARE G.IS_BRIEF s.now) self.new) }
     {
         let behind = byte_at(s, self.at.checked_add(1)?);
         if byte_at(s, self.at) == b'v' && behind == b'E' {
@@ -87,8 +87,8 @@ impl Direct {
         is_first: bool,
     ) -> Option<Step>
         requires fits { IsReadable s.now }
-        requires awaits { AwaitsSignature (symbol_by G.IS_WIDE G.IS_BARE s.now) self.old is_pointer is_first }
-        ensures { IfSome result (IsWriting (symbol_by G.IS_WIDE G.IS_BARE s.now) self.new) }
+        requires awaits { AwaitsSignature (symbol_by G.IS_WIDE G.IS_BARE G.IS_BRIEF s.now) self.old is_pointer is_first }
+        ensures { IfSome result (IsWriting (symbol_by G.IS_WIDE G.IS_BARE G.IS_BRIEF s.now) self.new) }
     {
         if byte_at(s, self.at) == b'E' {
             // a lone void is no parameter
@@ -107,8 +107,8 @@ impl Direct {
     /// Reads a parameter of a function type up to the first type in it.
     // <type> ::= R <type> | O <type>
     fn parameter<G: Grammar>(&mut self, s: &[u8], _is_pointer: bool) -> Option<Step>
-        requires { AwaitsParameter (symbol_by G.IS_WIDE G.IS_BARE s.now) self.old _is_pointer }
-        ensures { IfSome result (IsWriting (symbol_by G.IS_WIDE G.IS_BARE s.now) self.new) }
+        requires { AwaitsParameter (symbol_by G.IS_WIDE G.IS_BARE G.IS_BRIEF s.now) self.old _is_pointer }
+        ensures { IfSome result (IsWriting (symbol_by G.IS_WIDE G.IS_BARE G.IS_BRIEF s.now) self.new) }
     {
         let from = self.text.end();
         let byte = byte_at(s, self.at);
@@ -128,8 +128,8 @@ impl Direct {
     // <function-type> ::= F <bare-function-type> E
     fn function_ended<G: Grammar>(&mut self, s: &[u8], is_pointer: bool) -> Option<Step>
         requires fits { IsReadable s.now }
-        requires ended { IsFunctionRead (symbol_by G.IS_WIDE G.IS_BARE s.now) self.old is_pointer }
-        ensures { IfSome result (IsWriting (symbol_by G.IS_WIDE G.IS_BARE s.now) self.new) }
+        requires ended { IsFunctionRead (symbol_by G.IS_WIDE G.IS_BARE G.IS_BRIEF s.now) self.old is_pointer }
+        ensures { IfSome result (IsWriting (symbol_by G.IS_WIDE G.IS_BARE G.IS_BRIEF s.now) self.new) }
     {
         self.push_byte(b')')?;
         self.add_hidden(is_pointer)?;
@@ -140,8 +140,8 @@ impl Direct {
     /// Hands what prints on both sides of a name on to what takes it.
     pub(crate) fn pass_element<G: Grammar>(&mut self, s: &[u8]) -> Option<Step>
         requires fits { IsReadable s.now }
-        requires passed { IsElementPassed (symbol_by G.IS_WIDE G.IS_BARE s.now) self.old }
-        ensures { IfSome result (IsWriting (symbol_by G.IS_WIDE G.IS_BARE s.now) self.new) }
+        requires passed { IsElementPassed (symbol_by G.IS_WIDE G.IS_BARE G.IS_BRIEF s.now) self.old }
+        ensures { IfSome result (IsWriting (symbol_by G.IS_WIDE G.IS_BARE G.IS_BRIEF s.now) self.new) }
     {
         match *self.waiting.as_slice().last()? {
             Open::Parameters {

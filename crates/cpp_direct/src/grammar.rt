@@ -1,6 +1,6 @@
 // How a symbol is read and shown.
 
-ghost use Rattle.std.specs.Prelude.{Bool, true, false};
+ghost use Rattle.std.specs.Prelude.{Bool};
 
 /// A grammar of C++ symbols, and how much of a symbol is shown.
 pub trait Grammar {
@@ -10,59 +10,30 @@ pub trait Grammar {
     /// Whether functions are shown by their names alone.
     const IS_BARE: bool;
 
+    /// Whether names are shown without their template arguments.
+    const IS_BRIEF: bool;
+
     ghost IS_WIDE: { Bool };
 
     ghost IS_BARE: { Bool };
+
+    ghost IS_BRIEF: { Bool };
 }
 
-/// The grammar of the ABI's symbols.
-pub struct Abi;
+/// The wide grammar or that of the ABI's symbols, where functions are shown by their names alone or whole, and names without their
+/// template arguments or with them.
+pub struct Shown<const WIDE: bool, const BARE: bool, const BRIEF: bool>;
 
-impl Grammar for Abi {
-    const IS_WIDE: bool = false;
+impl<const WIDE: bool, const BARE: bool, const BRIEF: bool> Grammar for Shown<WIDE, BARE, BRIEF> {
+    const IS_WIDE: bool = WIDE;
 
-    const IS_BARE: bool = false;
+    const IS_BARE: bool = BARE;
 
-    ghost IS_WIDE = { false };
+    const IS_BRIEF: bool = BRIEF;
 
-    ghost IS_BARE = { false };
-}
+    ghost IS_WIDE = { WIDE };
 
-/// The wide grammar.
-pub struct Wide;
+    ghost IS_BARE = { BARE };
 
-impl Grammar for Wide {
-    const IS_WIDE: bool = true;
-
-    const IS_BARE: bool = false;
-
-    ghost IS_WIDE = { true };
-
-    ghost IS_BARE = { false };
-}
-
-/// The grammar of the ABI's symbols, where functions are shown by their names alone.
-pub struct BareAbi;
-
-impl Grammar for BareAbi {
-    const IS_WIDE: bool = false;
-
-    const IS_BARE: bool = true;
-
-    ghost IS_WIDE = { false };
-
-    ghost IS_BARE = { true };
-}
-
-/// The same of the wide grammar.
-pub struct BareWide;
-
-impl Grammar for BareWide {
-    const IS_WIDE: bool = true;
-
-    const IS_BARE: bool = true;
-
-    ghost IS_WIDE = { true };
-
-    ghost IS_BARE = { true };
+    ghost IS_BRIEF = { BRIEF };
 }

@@ -27,6 +27,6 @@ mod unscoped;
 mod writing;
 
 pub use direct::Direct;
-pub use grammar::{Abi, BareAbi, BareWide, Grammar, Wide};
+pub use grammar::{Grammar, Shown};
 pub use names::are_name_bytes;
 pub use open::Step;

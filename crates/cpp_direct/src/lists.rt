@@ -72,8 +72,8 @@ impl Direct {
     // <template-args> ::= I <template-arg>* E
     pub(crate) fn list_at<G: Grammar>(&mut self, s: &[u8], is_first: bool) -> Option<Step>
         requires fits { IsReadable s.now }
-        requires writing { IsWriting (symbol_by G.IS_WIDE G.IS_BARE s.now) self.old (steps.List is_first) }
-        ensures { IfSome result (IsWriting (symbol_by G.IS_WIDE G.IS_BARE s.now) self.new) }
+        requires writing { IsWriting (symbol_by G.IS_WIDE G.IS_BARE G.IS_BRIEF s.now) self.old (steps.List is_first) }
+        ensures { IfSome result (IsWriting (symbol_by G.IS_WIDE G.IS_BARE G.IS_BRIEF s.now) self.new) }
     {
         let byte = byte_at(s, self.at);
         if byte == b'E' {
@@ -107,8 +107,8 @@ impl Direct {
     #[inline(always)]
     pub(crate) fn begin_pack<G: Grammar>(&mut self, s: &[u8]) -> Option<Step>
         requires letter { StandsAt s.now self.old.at (74 ∷ []) }
-        requires awaits { AwaitsNextArgument (symbol_by G.IS_WIDE G.IS_BARE s.now) self.old }
-        ensures { IfSome result (IsWriting (symbol_by G.IS_WIDE G.IS_BARE s.now) self.new) }
+        requires awaits { AwaitsNextArgument (symbol_by G.IS_WIDE G.IS_BARE G.IS_BRIEF s.now) self.old }
+        ensures { IfSome result (IsWriting (symbol_by G.IS_WIDE G.IS_BARE G.IS_BRIEF s.now) self.new) }
     {
         match *self.waiting.as_slice().last()? {
             Open::Pack => None,
@@ -122,8 +122,8 @@ impl Direct {
     fn empty_pack<G: Grammar>(&mut self, s: &[u8], _is_first: bool) -> Option<Step>
         requires fits { IsReadable s.now }
         requires letters { StandsAt s.now self.old.at (74 ∷ 69 ∷ []) }
-        requires writing { IsWriting (symbol_by G.IS_WIDE G.IS_BARE s.now) self.old (steps.List _is_first) }
-        ensures { IfSome result (IsWriting (symbol_by G.IS_WIDE G.IS_BARE s.now) self.new) }
+        requires writing { IsWriting (symbol_by G.IS_WIDE G.IS_BARE G.IS_BRIEF s.now) self.old (steps.List _is_first) }
+        ensures { IfSome result (IsWriting (symbol_by G.IS_WIDE G.IS_BARE G.IS_BRIEF s.now) self.new) }
     {
         self.at = self.at.checked_add(2)?;
         if byte_at(s, self.at) != b'E' {
@@ -141,8 +141,8 @@ impl Direct {
     fn list_ended<G: Grammar>(&mut self, s: &[u8], is_first: bool) -> Option<Step>
         requires fits { IsReadable s.now }
         requires letter { StandsAt s.now self.old.at (69 ∷ []) }
-        requires writing { IsWriting (symbol_by G.IS_WIDE G.IS_BARE s.now) self.old (steps.List is_first) }
-        ensures { IfSome result (IsWriting (symbol_by G.IS_WIDE G.IS_BARE s.now) self.new) }
+        requires writing { IsWriting (symbol_by G.IS_WIDE G.IS_BARE G.IS_BRIEF s.now) self.old (steps.List is_first) }
+        ensures { IfSome result (IsWriting (symbol_by G.IS_WIDE G.IS_BARE G.IS_BRIEF s.now) self.new) }
     {
         self.at = self.at.checked_add(1)?;
         match *self.waiting.as_slice().last()? {
@@ -161,10 +161,10 @@ impl Direct {
     /// Ends arguments. Some of them may be known.
     pub(crate) fn close_list<G: Grammar>(&mut self, s: &[u8], argument: Arguments) -> Option<Step>
         requires fits { IsReadable s.now }
-        requires ended { IsListEnded (symbol_by G.IS_WIDE G.IS_BARE s.now) self.old argument }
-        ensures { IfSome result (IsWriting (symbol_by G.IS_WIDE G.IS_BARE s.now) self.new) }
+        requires ended { IsListEnded (symbol_by G.IS_WIDE G.IS_BARE G.IS_BRIEF s.now) self.old argument }
+        ensures { IfSome result (IsWriting (symbol_by G.IS_WIDE G.IS_BARE G.IS_BRIEF s.now) self.new) }
     {
-        self.push_byte(b'>')?;
+        self.end_arguments::<G>()?;
         self.argument = argument;
         match self.waiting.pop()? {
             Open::TypeArguments { from } => {
@@ -197,8 +197,8 @@ impl Direct {
     fn literal<G: Grammar>(&mut self, s: &[u8]) -> Option<Step>
         requires fits { IsReadable s.now }
         requires letter { StandsAt s.now self.old.at (76 ∷ []) }
-        requires awaits { AwaitsNextArgument (symbol_by G.IS_WIDE G.IS_BARE s.now) self.old }
-        ensures { IfSome result (IsWriting (symbol_by G.IS_WIDE G.IS_BARE s.now) self.new) }
+        requires awaits { AwaitsNextArgument (symbol_by G.IS_WIDE G.IS_BARE G.IS_BRIEF s.now) self.old }
+        ensures { IfSome result (IsWriting (symbol_by G.IS_WIDE G.IS_BARE G.IS_BRIEF s.now) self.new) }
     {
         self.at = self.at.checked_add(1)?;
         match byte_at(s, self.at) {
@@ -224,8 +224,8 @@ impl Direct {
     // <expr-primary> ::= L <type> <value number> E
     pub(crate) fn enumerator<G: Grammar>(&mut self, s: &[u8]) -> Option<Step>
         requires fits { IsReadable s.now }
-        requires awaits { AwaitsNumber (symbol_by G.IS_WIDE G.IS_BARE s.now) self.old }
-        ensures { IfSome result (IsWriting (symbol_by G.IS_WIDE G.IS_BARE s.now) self.new) }
+        requires awaits { AwaitsNumber (symbol_by G.IS_WIDE G.IS_BARE G.IS_BRIEF s.now) self.old }
+        ensures { IfSome result (IsWriting (symbol_by G.IS_WIDE G.IS_BARE G.IS_BRIEF s.now) self.new) }
     {
         // the integers of some builtin types are without them
         if self.text.as_slice().ends_with(b"(int") {

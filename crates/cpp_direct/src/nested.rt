@@ -66,8 +66,8 @@ impl Direct {
     // <prefix> ::= <unqualified-name> | <substitution>
     pub(crate) fn nest_at<G: Grammar>(&mut self, s: &[u8], purpose: Purpose) -> Option<Step>
         requires fits { IsReadable s.now }
-        requires awaits { AwaitsNest (symbol_by G.IS_WIDE G.IS_BARE s.now) self.old purpose }
-        ensures { IfSome result (IsWriting (symbol_by G.IS_WIDE G.IS_BARE s.now) self.new) }
+        requires awaits { AwaitsNest (symbol_by G.IS_WIDE G.IS_BARE G.IS_BRIEF s.now) self.old purpose }
+        ensures { IfSome result (IsWriting (symbol_by G.IS_WIDE G.IS_BARE G.IS_BRIEF s.now) self.new) }
     {
         if byte_at(s, self.at) == b'S' {
             return self.nest_with_s::<G>(s, purpose);
@@ -90,8 +90,8 @@ impl Direct {
     fn nest_with_s<G: Grammar>(&mut self, s: &[u8], purpose: Purpose) -> Option<Step>
         requires fits { IsReadable s.now }
         requires letter { StandsAt s.now self.old.at (83 ∷ []) }
-        requires awaits { AwaitsNest (symbol_by G.IS_WIDE G.IS_BARE s.now) self.old purpose }
-        ensures { IfSome result (IsWriting (symbol_by G.IS_WIDE G.IS_BARE s.now) self.new) }
+        requires awaits { AwaitsNest (symbol_by G.IS_WIDE G.IS_BARE G.IS_BRIEF s.now) self.old purpose }
+        ensures { IfSome result (IsWriting (symbol_by G.IS_WIDE G.IS_BARE G.IS_BRIEF s.now) self.new) }
     {
         let from = self.text.end();
         self.at = self.at.checked_add(1)?;
@@ -119,14 +119,14 @@ impl Direct {
     // <nested-name> ::= N <substitution> <template-args> E
     #[inline(always)]
     fn nest_known<G: Grammar>(&mut self, s: &[u8]) -> Option<Step>
-        requires { IsNestKnown (symbol_by G.IS_WIDE G.IS_BARE s.now) self.old }
-        ensures { IfSome result (IsWriting (symbol_by G.IS_WIDE G.IS_BARE s.now) self.new) }
+        requires { IsNestKnown (symbol_by G.IS_WIDE G.IS_BARE G.IS_BRIEF s.now) self.old }
+        ensures { IfSome result (IsWriting (symbol_by G.IS_WIDE G.IS_BARE G.IS_BRIEF s.now) self.new) }
     {
         if G::IS_WIDE
             && let Purpose::Type = self.nest.purpose
             && byte_at(s, self.at) == b'I'
         {
-            return self.open_arguments(Open::NestArguments { nest: self.nest });
+            return self.open_arguments::<G>(Open::NestArguments { nest: self.nest });
         }
         Some(Step::Rest)
     }
@@ -136,8 +136,8 @@ impl Direct {
     fn nest_in_std<G: Grammar>(&mut self, s: &[u8], purpose: Purpose) -> Option<Step>
         requires fits { IsReadable s.now }
         requires awaits { (before : ℕ) × (before + 1 ≡ self.old.at) × StandsAt s.now before (83 ∷ 116 ∷ [])
-            × AwaitsNest (symbol_by G.IS_WIDE G.IS_BARE s.now) (record self.old { at = before }) purpose }
-        ensures { IfSome result (IsWriting (symbol_by G.IS_WIDE G.IS_BARE s.now) self.new) }
+            × AwaitsNest (symbol_by G.IS_WIDE G.IS_BARE G.IS_BRIEF s.now) (record self.old { at = before }) purpose }
+        ensures { IfSome result (IsWriting (symbol_by G.IS_WIDE G.IS_BARE G.IS_BRIEF s.now) self.new) }
     {
         let from = self.text.end();
         self.at = self.at.checked_add(1)?;
@@ -161,8 +161,8 @@ impl Direct {
     #[inline(always)]
     fn nest_named<G: Grammar>(&mut self, s: &[u8]) -> Option<Step>
         requires fits { IsReadable s.now }
-        requires named { IsNestNamed (symbol_by G.IS_WIDE G.IS_BARE s.now) self.old }
-        ensures { IfSome result (IsWriting (symbol_by G.IS_WIDE G.IS_BARE s.now) self.new) }
+        requires named { IsNestNamed (symbol_by G.IS_WIDE G.IS_BARE G.IS_BRIEF s.now) self.old }
+        ensures { IfSome result (IsWriting (symbol_by G.IS_WIDE G.IS_BARE G.IS_BRIEF s.now) self.new) }
     {
         if G::IS_WIDE && byte_at(s, self.at) == b'B' {
             self.tag(s)?;
@@ -175,25 +175,25 @@ impl Direct {
     // <prefix> ::= <template-prefix> <template-args>
     #[inline(always)]
     fn nest_tagged<G: Grammar>(&mut self, s: &[u8]) -> Option<Step>
-        requires { IsNestNamed (symbol_by G.IS_WIDE G.IS_BARE s.now) self.old }
-        ensures { IfSome result (IsWriting (symbol_by G.IS_WIDE G.IS_BARE s.now) self.new) }
+        requires { IsNestNamed (symbol_by G.IS_WIDE G.IS_BARE G.IS_BRIEF s.now) self.old }
+        ensures { IfSome result (IsWriting (symbol_by G.IS_WIDE G.IS_BARE G.IS_BRIEF s.now) self.new) }
     {
         if byte_at(s, self.at) != b'I' {
             return Some(Step::Tail);
         }
         self.add_candidate(self.nest.from, false)?;
-        self.open_arguments(Open::NestArguments { nest: self.nest })
+        self.open_arguments::<G>(Open::NestArguments { nest: self.nest })
     }
 
     /// Reads what follows the first piece of a nested name.
     pub(crate) fn rest_at<G: Grammar>(&mut self, s: &[u8]) -> Option<Step>
         requires fits { IsReadable s.now }
-        requires writing { IsWriting (symbol_by G.IS_WIDE G.IS_BARE s.now) self.old steps.Rest }
-        ensures { IfSome result (IsWriting (symbol_by G.IS_WIDE G.IS_BARE s.now) self.new) }
+        requires writing { IsWriting (symbol_by G.IS_WIDE G.IS_BARE G.IS_BRIEF s.now) self.old steps.Rest }
+        ensures { IfSome result (IsWriting (symbol_by G.IS_WIDE G.IS_BARE G.IS_BRIEF s.now) self.new) }
     {
         self.add_unless(self.nest.is_listed, self.nest.from)?;
         if byte_at(s, self.at) == b'I' {
-            return self.open_arguments(Open::FirstArguments { nest: self.nest });
+            return self.open_arguments::<G>(Open::FirstArguments { nest: self.nest });
         }
         self.component_at::<G>(s)
     }
@@ -201,8 +201,8 @@ impl Direct {
     /// Reads another component of a nested name, or its end.
     pub(crate) fn tail_at<G: Grammar>(&mut self, s: &[u8]) -> Option<Step>
         requires fits { IsReadable s.now }
-        requires writing { IsWriting (symbol_by G.IS_WIDE G.IS_BARE s.now) self.old steps.Tail }
-        ensures { IfSome result (IsWriting (symbol_by G.IS_WIDE G.IS_BARE s.now) self.new) }
+        requires writing { IsWriting (symbol_by G.IS_WIDE G.IS_BARE G.IS_BRIEF s.now) self.old steps.Tail }
+        ensures { IfSome result (IsWriting (symbol_by G.IS_WIDE G.IS_BARE G.IS_BRIEF s.now) self.new) }
     {
         if byte_at(s, self.at) == b'E' {
             return self.nest_ended::<G>(s);
@@ -233,8 +233,8 @@ impl Direct {
     fn nest_ended<G: Grammar>(&mut self, s: &[u8]) -> Option<Step>
         requires fits { IsReadable s.now }
         requires end { StandsAt s.now self.old.at (69 ∷ []) }
-        requires writing { IsWriting (symbol_by G.IS_WIDE G.IS_BARE s.now) self.old steps.Tail }
-        ensures { IfSome result (IsWriting (symbol_by G.IS_WIDE G.IS_BARE s.now) self.new) }
+        requires writing { IsWriting (symbol_by G.IS_WIDE G.IS_BARE G.IS_BRIEF s.now) self.old steps.Tail }
+        ensures { IfSome result (IsWriting (symbol_by G.IS_WIDE G.IS_BARE G.IS_BRIEF s.now) self.new) }
     {
         self.at = self.at.checked_add(1)?;
         match self.nest.purpose {
@@ -262,8 +262,8 @@ impl Direct {
     // <unqualified-name> ::= <source-name> | <operator-name> | <ctor-dtor-name>
     pub(crate) fn component_at<G: Grammar>(&mut self, s: &[u8]) -> Option<Step>
         requires fits { IsReadable s.now }
-        requires writing { IsWriting (symbol_by G.IS_WIDE G.IS_BARE s.now) self.old steps.Component }
-        ensures { IfSome result (IsWriting (symbol_by G.IS_WIDE G.IS_BARE s.now) self.new) }
+        requires writing { IsWriting (symbol_by G.IS_WIDE G.IS_BARE G.IS_BRIEF s.now) self.old steps.Component }
+        ensures { IfSome result (IsWriting (symbol_by G.IS_WIDE G.IS_BARE G.IS_BRIEF s.now) self.new) }
     {
         match byte_at(s, self.at) {
             b'C' => self.constructor::<G>(s),
@@ -279,8 +279,8 @@ impl Direct {
     fn source<G: Grammar>(&mut self, s: &[u8], is_internal: bool) -> Option<Step>
         requires fits { IsReadable s.now }
         requires letter { is_internal ≡ true → StandsAt s.now self.old.at (76 ∷ []) }
-        requires writing { IsWriting (symbol_by G.IS_WIDE G.IS_BARE s.now) self.old steps.Component }
-        ensures { IfSome result (IsWriting (symbol_by G.IS_WIDE G.IS_BARE s.now) self.new) }
+        requires writing { IsWriting (symbol_by G.IS_WIDE G.IS_BARE G.IS_BRIEF s.now) self.old steps.Component }
+        ensures { IfSome result (IsWriting (symbol_by G.IS_WIDE G.IS_BARE G.IS_BRIEF s.now) self.new) }
     {
         if is_internal {
             self.at = self.at.checked_add(1)?;
@@ -303,8 +303,8 @@ impl Direct {
     #[inline(never)]
     fn operator<G: Grammar>(&mut self, s: &[u8]) -> Option<Step>
         requires fits { IsReadable s.now }
-        requires writing { IsWriting (symbol_by G.IS_WIDE G.IS_BARE s.now) self.old steps.Component }
-        ensures { IfSome result (IsWriting (symbol_by G.IS_WIDE G.IS_BARE s.now) self.new) }
+        requires writing { IsWriting (symbol_by G.IS_WIDE G.IS_BARE G.IS_BRIEF s.now) self.old steps.Component }
+        ensures { IfSome result (IsWriting (symbol_by G.IS_WIDE G.IS_BARE G.IS_BRIEF s.now) self.new) }
     {
         self.push_pair(b':', b':')?;
         let class_from = self.text.end();
@@ -325,8 +325,8 @@ impl Direct {
     /// Reads the E of a nested name after an operator that no arguments are read of.
     fn operator_ended<G: Grammar>(&mut self, s: &[u8]) -> Option<Step>
         requires fits { IsReadable s.now }
-        requires read { IsOperatorRead (symbol_by G.IS_WIDE G.IS_BARE s.now) self.old }
-        ensures { IfSome result (IsWriting (symbol_by G.IS_WIDE G.IS_BARE s.now) self.new) }
+        requires read { IsOperatorRead (symbol_by G.IS_WIDE G.IS_BARE G.IS_BRIEF s.now) self.old }
+        ensures { IfSome result (IsWriting (symbol_by G.IS_WIDE G.IS_BARE G.IS_BRIEF s.now) self.new) }
     {
         if byte_at(s, self.at) != b'E' {
             return None;
@@ -342,8 +342,8 @@ impl Direct {
     fn constructor<G: Grammar>(&mut self, s: &[u8]) -> Option<Step>
         requires fits { IsReadable s.now }
         requires letter { StandsAt s.now self.old.at (67 ∷ []) }
-        requires writing { IsWriting (symbol_by G.IS_WIDE G.IS_BARE s.now) self.old steps.Component }
-        ensures { IfSome result (IsWriting (symbol_by G.IS_WIDE G.IS_BARE s.now) self.new) }
+        requires writing { IsWriting (symbol_by G.IS_WIDE G.IS_BARE G.IS_BRIEF s.now) self.old steps.Component }
+        ensures { IfSome result (IsWriting (symbol_by G.IS_WIDE G.IS_BARE G.IS_BRIEF s.now) self.new) }
     {
         self.at = self.at.checked_add(1)?;
         let digit = byte_at(s, self.at);
@@ -359,8 +359,8 @@ impl Direct {
     fn destructor<G: Grammar>(&mut self, s: &[u8]) -> Option<Step>
         requires fits { IsReadable s.now }
         requires letter { StandsAt s.now self.old.at (68 ∷ []) }
-        requires writing { IsWriting (symbol_by G.IS_WIDE G.IS_BARE s.now) self.old steps.Component }
-        ensures { IfSome result (IsWriting (symbol_by G.IS_WIDE G.IS_BARE s.now) self.new) }
+        requires writing { IsWriting (symbol_by G.IS_WIDE G.IS_BARE G.IS_BRIEF s.now) self.old steps.Component }
+        ensures { IfSome result (IsWriting (symbol_by G.IS_WIDE G.IS_BARE G.IS_BRIEF s.now) self.new) }
     {
         self.at = self.at.checked_add(1)?;
         let digit = byte_at(s, self.at);
@@ -376,8 +376,8 @@ impl Direct {
     #[inline(always)]
     fn class_again<G: Grammar>(&mut self, s: &[u8]) -> Option<Step>
         requires fits { IsReadable s.now }
-        requires awaits { AwaitsClass (symbol_by G.IS_WIDE G.IS_BARE s.now) self.old }
-        ensures { IfSome result (IsWriting (symbol_by G.IS_WIDE G.IS_BARE s.now) self.new) }
+        requires awaits { AwaitsClass (symbol_by G.IS_WIDE G.IS_BARE G.IS_BRIEF s.now) self.old }
+        ensures { IfSome result (IsWriting (symbol_by G.IS_WIDE G.IS_BARE G.IS_BRIEF s.now) self.new) }
     {
         self.repeat(self.nest.class_from, self.nest.class_to)?;
         self.nest = Nest {

@@ -171,8 +171,8 @@ impl Direct {
     #[inline(always)]
     pub(crate) fn first_type<G: Grammar>(&mut self, s: &[u8]) -> Option<Step>
         requires fits { IsReadable s.now }
-        requires writing { IsWriting (symbol_by G.IS_WIDE G.IS_BARE s.now) self.old (steps.List true) }
-        ensures { IfSome result (IsWriting (symbol_by G.IS_WIDE G.IS_BARE s.now) self.new) }
+        requires writing { IsWriting (symbol_by G.IS_WIDE G.IS_BARE G.IS_BRIEF s.now) self.old (steps.List true) }
+        ensures { IfSome result (IsWriting (symbol_by G.IS_WIDE G.IS_BARE G.IS_BRIEF s.now) self.new) }
     {
         if !self.is_named() {
             return Some(Step::Type);
@@ -195,8 +195,8 @@ impl Direct {
     pub(crate) fn first_pack<G: Grammar>(&mut self, s: &[u8]) -> Option<Step>
         requires fits { IsReadable s.now }
         requires letter { StandsAt s.now self.old.at (74 ∷ []) }
-        requires writing { IsWriting (symbol_by G.IS_WIDE G.IS_BARE s.now) self.old (steps.List true) }
-        ensures { IfSome result (IsWriting (symbol_by G.IS_WIDE G.IS_BARE s.now) self.new) }
+        requires writing { IsWriting (symbol_by G.IS_WIDE G.IS_BARE G.IS_BRIEF s.now) self.old (steps.List true) }
+        ensures { IfSome result (IsWriting (symbol_by G.IS_WIDE G.IS_BARE G.IS_BRIEF s.now) self.new) }
     {
         if !self.is_named() {
             return self.begin_pack::<G>(s);
@@ -228,8 +228,8 @@ impl Direct {
         is_reference: bool,
     ) -> Option<Step>
         requires fits { IsReadable s.now }
-        requires read { IsPackElementRead (symbol_by G.IS_WIDE G.IS_BARE s.now) self.old from number known is_reference }
-        ensures { IfSome result (IsWriting (symbol_by G.IS_WIDE G.IS_BARE s.now) self.new) }
+        requires read { IsPackElementRead (symbol_by G.IS_WIDE G.IS_BARE G.IS_BRIEF s.now) self.old from number known is_reference }
+        ensures { IfSome result (IsWriting (symbol_by G.IS_WIDE G.IS_BARE G.IS_BRIEF s.now) self.new) }
     {
         let _element = self.waiting.pop();
         let byte = byte_at(s, self.at);
@@ -256,8 +256,8 @@ impl Direct {
     // <template-arg> ::= J <template-arg>* E
     fn next_element<G: Grammar>(&mut self, s: &[u8], before: u16, known: Arguments) -> Option<Step>
         requires fits { IsReadable s.now }
-        requires awaits { AwaitsPackElement (symbol_by G.IS_WIDE G.IS_BARE s.now) self.old before known }
-        ensures { IfSome result (IsWriting (symbol_by G.IS_WIDE G.IS_BARE s.now) self.new) }
+        requires awaits { AwaitsPackElement (symbol_by G.IS_WIDE G.IS_BARE G.IS_BRIEF s.now) self.old before known }
+        ensures { IfSome result (IsWriting (symbol_by G.IS_WIDE G.IS_BARE G.IS_BRIEF s.now) self.new) }
     {
         self.push_pair(b',', b' ')?;
         let from = self.text.end();
@@ -280,8 +280,8 @@ impl Direct {
         argument: Arguments,
     ) -> Option<Step>
         requires fits { IsReadable s.now }
-        requires awaits { AwaitsNextParameter (symbol_by G.IS_WIDE G.IS_BARE s.now) self.old mark start argument }
-        ensures { IfSome result (IsWriting (symbol_by G.IS_WIDE G.IS_BARE s.now) self.new) }
+        requires awaits { AwaitsNextParameter (symbol_by G.IS_WIDE G.IS_BARE G.IS_BRIEF s.now) self.old mark start argument }
+        ensures { IfSome result (IsWriting (symbol_by G.IS_WIDE G.IS_BARE G.IS_BRIEF s.now) self.new) }
     {
         if argument.first.is_pack {
             return self.expansion::<G>(s, mark, start, argument);
@@ -301,8 +301,8 @@ impl Direct {
     ) -> Option<Step>
         requires fits { IsReadable s.now }
         requires is_pack { argument.first.is_pack ≡ true }
-        requires awaits { AwaitsNextParameter (symbol_by G.IS_WIDE G.IS_BARE s.now) self.old mark start argument }
-        ensures { IfSome result (IsWriting (symbol_by G.IS_WIDE G.IS_BARE s.now) self.new) }
+        requires awaits { AwaitsNextParameter (symbol_by G.IS_WIDE G.IS_BARE G.IS_BRIEF s.now) self.old mark start argument }
+        ensures { IfSome result (IsWriting (symbol_by G.IS_WIDE G.IS_BARE G.IS_BRIEF s.now) self.new) }
     {
         let Some(end) = expansion_end(s, self.at) else {
             return Some(Step::Type);
@@ -364,8 +364,8 @@ impl Direct {
         is_reference: bool,
     ) -> Option<Step>
         requires fits { IsReadable s.now }
-        requires read { IsArgumentRead (symbol_by G.IS_WIDE G.IS_BARE s.now) self.old from number known is_reference }
-        ensures { IfSome result (IsWriting (symbol_by G.IS_WIDE G.IS_BARE s.now) self.new) }
+        requires read { IsArgumentRead (symbol_by G.IS_WIDE G.IS_BARE G.IS_BRIEF s.now) self.old from number known is_reference }
+        ensures { IfSome result (IsWriting (symbol_by G.IS_WIDE G.IS_BARE G.IS_BRIEF s.now) self.new) }
     {
         let _open = self.waiting.pop();
         let byte = byte_at(s, self.at);
@@ -386,8 +386,8 @@ impl Direct {
     // <template-args> ::= I <template-arg>* E
     fn next_argument<G: Grammar>(&mut self, s: &[u8], before: u16, known: Arguments) -> Option<Step>
         requires fits { IsReadable s.now }
-        requires awaits { AwaitsKnownArgument (symbol_by G.IS_WIDE G.IS_BARE s.now) self.old before known }
-        ensures { IfSome result (IsWriting (symbol_by G.IS_WIDE G.IS_BARE s.now) self.new) }
+        requires awaits { AwaitsKnownArgument (symbol_by G.IS_WIDE G.IS_BARE G.IS_BRIEF s.now) self.old before known }
+        ensures { IfSome result (IsWriting (symbol_by G.IS_WIDE G.IS_BARE G.IS_BRIEF s.now) self.new) }
     {
         self.push_pair(b',', b' ')?;
         let from = self.text.end();
@@ -425,8 +425,8 @@ impl Direct {
     pub(crate) fn template_parameter<G: Grammar>(&mut self, s: &[u8]) -> Option<Step>
         requires fits { IsReadable s.now }
         requires letter { StandsAt s.now self.old.at (84 ∷ []) }
-        requires awaits { AwaitsType (symbol_by G.IS_WIDE G.IS_BARE s.now) self.old }
-        ensures { IfSome result (IsWriting (symbol_by G.IS_WIDE G.IS_BARE s.now) self.new) }
+        requires awaits { AwaitsType (symbol_by G.IS_WIDE G.IS_BARE G.IS_BRIEF s.now) self.old }
+        ensures { IfSome result (IsWriting (symbol_by G.IS_WIDE G.IS_BARE G.IS_BRIEF s.now) self.new) }
     {
         let read = parameter_number(s, self.at.checked_add(1)?)?;
         let named = self.argument()?;
@@ -456,8 +456,8 @@ impl Direct {
         candidate: Candidate,
     ) -> Option<Step>
         requires fits { IsReadable s.now }
-        requires again { IsNamedAgain (symbol_by G.IS_WIDE G.IS_BARE s.now) self.old candidate }
-        ensures { IfSome result (IsWriting (symbol_by G.IS_WIDE G.IS_BARE s.now) self.new) }
+        requires again { IsNamedAgain (symbol_by G.IS_WIDE G.IS_BARE G.IS_BRIEF s.now) self.old candidate }
+        ensures { IfSome result (IsWriting (symbol_by G.IS_WIDE G.IS_BARE G.IS_BRIEF s.now) self.new) }
     {
         let named = self.argument()?;
         // in another encoding it isn't the same type
@@ -491,8 +491,8 @@ impl Direct {
         encoding: u16,
     ) -> Option<Step>
         requires fits { IsReadable s.now }
-        requires writing { IsWriting (symbol_by G.IS_WIDE G.IS_BARE s.now) self.old (steps.Dependent is_reference begins number encoding) }
-        ensures { IfSome result (IsWriting (symbol_by G.IS_WIDE G.IS_BARE s.now) self.new) }
+        requires writing { IsWriting (symbol_by G.IS_WIDE G.IS_BARE G.IS_BRIEF s.now) self.old (steps.Dependent is_reference begins number encoding) }
+        ensures { IfSome result (IsWriting (symbol_by G.IS_WIDE G.IS_BARE G.IS_BRIEF s.now) self.new) }
     {
         match *self.waiting.as_slice().last()? {
             Open::Pointer { .. } => self.mark_dependent::<G>(
@@ -533,8 +533,8 @@ impl Direct {
         number: u16,
         encoding: u16,
     ) -> Option<Step>
-        requires { IsWriting (symbol_by G.IS_WIDE G.IS_BARE s.now) self.old (steps.Dependent false begins number encoding) }
-        ensures { IfSome result (IsWriting (symbol_by G.IS_WIDE G.IS_BARE s.now) self.new) }
+        requires { IsWriting (symbol_by G.IS_WIDE G.IS_BARE G.IS_BRIEF s.now) self.old (steps.Dependent false begins number encoding) }
+        ensures { IfSome result (IsWriting (symbol_by G.IS_WIDE G.IS_BARE G.IS_BRIEF s.now) self.new) }
     {
         match *self.waiting.as_slice().last()? {
             Open::Lvalue { .. } => self.mark_dependent::<G>(
@@ -560,8 +560,8 @@ impl Direct {
         number: u16,
         encoding: u16,
     ) -> Option<Step>
-        requires { AwaitsDependentMark (symbol_by G.IS_WIDE G.IS_BARE _s.now) self.old mark.now is_reference begins number encoding }
-        ensures { IfSome result (IsWriting (symbol_by G.IS_WIDE G.IS_BARE _s.now) self.new) }
+        requires { AwaitsDependentMark (symbol_by G.IS_WIDE G.IS_BARE G.IS_BRIEF _s.now) self.old mark.now is_reference begins number encoding }
+        ensures { IfSome result (IsWriting (symbol_by G.IS_WIDE G.IS_BARE G.IS_BRIEF _s.now) self.new) }
     {
         let _open = self.waiting.pop();
         self.push(mark)?;

@@ -74,8 +74,8 @@ impl Direct {
     #[inline(always)]
     pub fn take<G: Grammar>(&mut self, s: &[u8], step: Step) -> Option<Step>
         requires fits { IsReadable s.now }
-        requires writing { IsWriting (symbol_by G.IS_WIDE G.IS_BARE s.now) self.old step }
-        ensures { IfSome result (IsWriting (symbol_by G.IS_WIDE G.IS_BARE s.now) self.new) }
+        requires writing { IsWriting (symbol_by G.IS_WIDE G.IS_BARE G.IS_BRIEF s.now) self.old step }
+        ensures { IfSome result (IsWriting (symbol_by G.IS_WIDE G.IS_BARE G.IS_BRIEF s.now) self.new) }
     {
         match step {
             Step::Type => self.type_at::<G>(s, false),
@@ -100,7 +100,7 @@ impl Direct {
     pub fn begin<G: Grammar>(&mut self, s: &[u8]) -> Option<Step>
         requires fits { IsReadable s.now }
         requires fresh { IsFresh self.old }
-        ensures { IfSome result (IsWriting (symbol_by G.IS_WIDE G.IS_BARE s.now) self.new) }
+        ensures { IfSome result (IsWriting (symbol_by G.IS_WIDE G.IS_BARE G.IS_BRIEF s.now) self.new) }
     {
         if byte_at(s, 0) != b'_' || byte_at(s, 1) != b'Z' {
             return None;
@@ -123,8 +123,8 @@ impl Direct {
     // <encoding> ::= <function name> <bare-function-type> | <data name>
     pub(crate) fn begin_encoding<G: Grammar>(&mut self, s: &[u8]) -> Option<Step>
         requires fits { IsReadable s.now }
-        requires awaits { AwaitsEncoding (symbol_by G.IS_WIDE G.IS_BARE s.now) self.old }
-        ensures { IfSome result (IsWriting (symbol_by G.IS_WIDE G.IS_BARE s.now) self.new) }
+        requires awaits { AwaitsEncoding (symbol_by G.IS_WIDE G.IS_BARE G.IS_BRIEF s.now) self.old }
+        ensures { IfSome result (IsWriting (symbol_by G.IS_WIDE G.IS_BARE G.IS_BRIEF s.now) self.new) }
     {
         match byte_at(s, self.at) {
             b'N' => self.begin_nested::<G>(s),
@@ -145,7 +145,7 @@ impl Direct {
         requires fresh { IsFresh self.old }
         requires starts { StandsAt s.now 0 (95 ∷ 90 ∷ []) }
         requires letter { StandsAt s.now 2 (84 ∷ []) }
-        ensures { IfSome result (IsWriting (symbol_by G.IS_WIDE G.IS_BARE s.now) self.new) }
+        ensures { IfSome result (IsWriting (symbol_by G.IS_WIDE G.IS_BARE G.IS_BRIEF s.now) self.new) }
     {
         let text = cpp_layout::special_text(byte_at(s, 3));
         if text.is_empty() {
@@ -160,9 +160,9 @@ impl Direct {
     // <nested-name> ::= N [<CV-qualifiers>] [<ref-qualifier>] <prefix> <unqualified-name> E
     fn begin_nested<G: Grammar>(&mut self, s: &[u8]) -> Option<Step>
         requires fits { IsReadable s.now }
-        requires awaits { AwaitsEncoding (symbol_by G.IS_WIDE G.IS_BARE s.now) self.old }
+        requires awaits { AwaitsEncoding (symbol_by G.IS_WIDE G.IS_BARE G.IS_BRIEF s.now) self.old }
         requires letter { StandsAt s.now self.old.at (78 ∷ []) }
-        ensures { IfSome result (IsWriting (symbol_by G.IS_WIDE G.IS_BARE s.now) self.new) }
+        ensures { IfSome result (IsWriting (symbol_by G.IS_WIDE G.IS_BARE G.IS_BRIEF s.now) self.new) }
     {
         self.at = self.at.checked_add(1)?;
         let place = mark_at(s, self.at)?;
@@ -181,8 +181,8 @@ impl Direct {
         from: u32,
     ) -> Option<Step>
         requires fits { IsReadable s.now }
-        requires ended { IsNameEnded (symbol_by G.IS_WIDE G.IS_BARE s.now) self.old mark is_instance argument from }
-        ensures { IfSome result (IsWriting (symbol_by G.IS_WIDE G.IS_BARE s.now) self.new) }
+        requires ended { IsNameEnded (symbol_by G.IS_WIDE G.IS_BARE G.IS_BRIEF s.now) self.old mark is_instance argument from }
+        ensures { IfSome result (IsWriting (symbol_by G.IS_WIDE G.IS_BARE G.IS_BRIEF s.now) self.new) }
     {
         if may_end(byte_at(s, self.at)) {
             return self.end::<G>(s, mark);
@@ -221,8 +221,8 @@ impl Direct {
         from: u32,
     ) -> Option<Step>
         requires fits { IsReadable s.now }
-        requires ended { IsNameEnded (symbol_by G.IS_WIDE G.IS_BARE s.now) self.old mark true argument from }
-        ensures { IfSome result (IsWriting (symbol_by G.IS_WIDE G.IS_BARE s.now) self.new) }
+        requires ended { IsNameEnded (symbol_by G.IS_WIDE G.IS_BARE G.IS_BRIEF s.now) self.old mark true argument from }
+        ensures { IfSome result (IsWriting (symbol_by G.IS_WIDE G.IS_BARE G.IS_BRIEF s.now) self.new) }
     {
         if !has_front(s, from) {
             return None;
@@ -251,8 +251,8 @@ impl Direct {
         argument: Arguments,
     ) -> Option<Step>
         requires fits { IsReadable s.now }
-        requires ended { IsFrontRead (symbol_by G.IS_WIDE G.IS_BARE s.now) self.old mark start argument }
-        ensures { IfSome result (IsWriting (symbol_by G.IS_WIDE G.IS_BARE s.now) self.new) }
+        requires ended { IsFrontRead (symbol_by G.IS_WIDE G.IS_BARE G.IS_BRIEF s.now) self.old mark start argument }
+        ensures { IfSome result (IsWriting (symbol_by G.IS_WIDE G.IS_BARE G.IS_BRIEF s.now) self.new) }
     {
         if may_end(byte_at(s, self.at)) {
             return None;
@@ -281,8 +281,8 @@ impl Direct {
         requires fits { IsReadable s.now }
         requires local { is_local s.now ≡ true }
         requires whole { G.IS_BARE ≡ false }
-        requires ended { IsFrontRead (symbol_by G.IS_WIDE G.IS_BARE s.now) self.old mark start argument }
-        ensures { IfSome result (IsWriting (symbol_by G.IS_WIDE G.IS_BARE s.now) self.new) }
+        requires ended { IsFrontRead (symbol_by G.IS_WIDE G.IS_BARE G.IS_BRIEF s.now) self.old mark start argument }
+        ensures { IfSome result (IsWriting (symbol_by G.IS_WIDE G.IS_BARE G.IS_BRIEF s.now) self.new) }
     {
         let begins = self.text.end();
         self.repeat(0, start)?;
@@ -300,8 +300,8 @@ impl Direct {
         argument: Arguments,
     ) -> Option<Step>
         requires fits { IsReadable s.now }
-        requires awaits { AwaitsParameters (symbol_by G.IS_WIDE G.IS_BARE s.now) self.old mark start argument }
-        ensures { IfSome result (IsWriting (symbol_by G.IS_WIDE G.IS_BARE s.now) self.new) }
+        requires awaits { AwaitsParameters (symbol_by G.IS_WIDE G.IS_BARE G.IS_BRIEF s.now) self.old mark start argument }
+        ensures { IfSome result (IsWriting (symbol_by G.IS_WIDE G.IS_BARE G.IS_BRIEF s.now) self.new) }
     {
         let byte = byte_at(s, self.at);
         self.push_byte(b'(')?;
@@ -327,8 +327,8 @@ impl Direct {
         argument: Arguments,
     ) -> Option<Step>
         requires fits { IsReadable s.now }
-        requires ended { IsParameterEnded (symbol_by G.IS_WIDE G.IS_BARE s.now) self.old mark start argument }
-        ensures { IfSome result (IsWriting (symbol_by G.IS_WIDE G.IS_BARE s.now) self.new) }
+        requires ended { IsParameterEnded (symbol_by G.IS_WIDE G.IS_BARE G.IS_BRIEF s.now) self.old mark start argument }
+        ensures { IfSome result (IsWriting (symbol_by G.IS_WIDE G.IS_BARE G.IS_BRIEF s.now) self.new) }
     {
         let byte = byte_at(s, self.at);
         if !may_end(byte) {
@@ -349,8 +349,8 @@ impl Direct {
         _argument: Arguments,
     ) -> Option<Step>
         requires fits { IsReadable s.now }
-        requires ended { IsParameterEnded (symbol_by G.IS_WIDE G.IS_BARE s.now) self.old mark start _argument }
-        ensures { IfSome result (IsWriting (symbol_by G.IS_WIDE G.IS_BARE s.now) self.new) }
+        requires ended { IsParameterEnded (symbol_by G.IS_WIDE G.IS_BARE G.IS_BRIEF s.now) self.old mark start _argument }
+        ensures { IfSome result (IsWriting (symbol_by G.IS_WIDE G.IS_BARE G.IS_BRIEF s.now) self.new) }
     {
         // a lone void is no parameter
         if self.text.as_slice().ends_with(b"(void") {
@@ -363,8 +363,8 @@ impl Direct {
     /// name is taken away.
     fn close<G: Grammar>(&mut self, s: &[u8], mark: Mark, start: u32) -> Option<Step>
         requires fits { IsReadable s.now }
-        requires ended { IsFunctionEnded (symbol_by G.IS_WIDE G.IS_BARE s.now) self.old mark start }
-        ensures { IfSome result (IsWriting (symbol_by G.IS_WIDE G.IS_BARE s.now) self.new) }
+        requires ended { IsFunctionEnded (symbol_by G.IS_WIDE G.IS_BARE G.IS_BRIEF s.now) self.old mark start }
+        ensures { IfSome result (IsWriting (symbol_by G.IS_WIDE G.IS_BARE G.IS_BRIEF s.now) self.new) }
     {
         if G::IS_BARE {
             let end = self.text.end();
@@ -380,8 +380,8 @@ impl Direct {
     /// The end of an encoding, after its text but for its qualifier: a local entity follows, or the end of the symbol.
     pub(crate) fn end<G: Grammar>(&mut self, s: &[u8], mark: Mark) -> Option<Step>
         requires fits { IsReadable s.now }
-        requires ended { IsEncodingEnded (symbol_by G.IS_WIDE G.IS_BARE s.now) self.old mark }
-        ensures { IfSome result (IsWriting (symbol_by G.IS_WIDE G.IS_BARE s.now) self.new) }
+        requires ended { IsEncodingEnded (symbol_by G.IS_WIDE G.IS_BARE G.IS_BRIEF s.now) self.old mark }
+        ensures { IfSome result (IsWriting (symbol_by G.IS_WIDE G.IS_BARE G.IS_BRIEF s.now) self.new) }
     {
         self.push_mark(mark)?;
         self.encoded::<G>(s)
@@ -390,8 +390,8 @@ impl Direct {
     /// The end of an encoding, after its text: a local entity follows, or the end of the symbol.
     fn encoded<G: Grammar>(&mut self, s: &[u8]) -> Option<Step>
         requires fits { IsReadable s.now }
-        requires ended { IsEncodingEnded (symbol_by G.IS_WIDE G.IS_BARE s.now) self.old marks.Plain }
-        ensures { IfSome result (IsWriting (symbol_by G.IS_WIDE G.IS_BARE s.now) self.new) }
+        requires ended { IsEncodingEnded (symbol_by G.IS_WIDE G.IS_BARE G.IS_BRIEF s.now) self.old marks.Plain }
+        ensures { IfSome result (IsWriting (symbol_by G.IS_WIDE G.IS_BARE G.IS_BRIEF s.now) self.new) }
     {
         if is_local(s) {
             return self.entity::<G>(s);
@@ -402,8 +402,8 @@ impl Direct {
     /// The end of a symbol, after the text of its encoding.
     // <mangled-name> ::= _Z <encoding> . <vendor-specific suffix>
     pub(crate) fn finish<G: Grammar>(&mut self, s: &[u8]) -> Option<Step>
-        requires { IsSymbolEnded (symbol_by G.IS_WIDE G.IS_BARE s.now) self.old }
-        ensures { IfSome result (IsWriting (symbol_by G.IS_WIDE G.IS_BARE s.now) self.new) }
+        requires { IsSymbolEnded (symbol_by G.IS_WIDE G.IS_BARE G.IS_BRIEF s.now) self.old }
+        ensures { IfSome result (IsWriting (symbol_by G.IS_WIDE G.IS_BARE G.IS_BRIEF s.now) self.new) }
     {
         let suffix = s.get(self.at..)?;
         if suffix.is_empty() {

@@ -31,8 +31,8 @@ impl Direct {
     // <type> ::= <builtin-type> | <qualified-type> | <class-enum-type> | P <type> | R <type> | O <type> | <substitution>
     pub(crate) fn type_at<G: Grammar>(&mut self, s: &[u8], is_plain: bool) -> Option<Step>
         requires fits { IsReadable s.now }
-        requires writing { IsWriting (symbol_by G.IS_WIDE G.IS_BARE s.now) self.old (if is_plain then steps.Plain else steps.Type) }
-        ensures { IfSome result (IsWriting (symbol_by G.IS_WIDE G.IS_BARE s.now) self.new) }
+        requires writing { IsWriting (symbol_by G.IS_WIDE G.IS_BARE G.IS_BRIEF s.now) self.old (if is_plain then steps.Plain else steps.Type) }
+        ensures { IfSome result (IsWriting (symbol_by G.IS_WIDE G.IS_BARE G.IS_BRIEF s.now) self.new) }
     {
         let from = self.text.end();
         match byte_at(s, self.at) {
@@ -75,9 +75,9 @@ impl Direct {
     fn pointer_at<G: Grammar>(&mut self, s: &[u8], is_plain: bool) -> Option<Step>
         requires fits { IsReadable s.now }
         requires letter { StandsAt s.now self.old.at (80 ∷ []) }
-        requires awaits { AwaitsType (symbol_by G.IS_WIDE G.IS_BARE s.now) self.old }
-        requires writing { IsWriting (symbol_by G.IS_WIDE G.IS_BARE s.now) self.old (if is_plain then steps.Plain else steps.Type) }
-        ensures { IfSome result (IsWriting (symbol_by G.IS_WIDE G.IS_BARE s.now) self.new) }
+        requires awaits { AwaitsType (symbol_by G.IS_WIDE G.IS_BARE G.IS_BRIEF s.now) self.old }
+        requires writing { IsWriting (symbol_by G.IS_WIDE G.IS_BARE G.IS_BRIEF s.now) self.old (if is_plain then steps.Plain else steps.Type) }
+        ensures { IfSome result (IsWriting (symbol_by G.IS_WIDE G.IS_BARE G.IS_BRIEF s.now) self.new) }
     {
         if !is_plain && byte_at(s, self.at.checked_add(1)?) == b'F' {
             return self.begin_function::<G>(s, true);
@@ -93,8 +93,8 @@ impl Direct {
     // <class-enum-type> ::= <name>
     pub(crate) fn named_type<G: Grammar>(&mut self, s: &[u8]) -> Option<Step>
         requires fits { IsReadable s.now }
-        requires awaits { AwaitsNamedType (symbol_by G.IS_WIDE G.IS_BARE s.now) self.old }
-        ensures { IfSome result (IsWriting (symbol_by G.IS_WIDE G.IS_BARE s.now) self.new) }
+        requires awaits { AwaitsNamedType (symbol_by G.IS_WIDE G.IS_BARE G.IS_BRIEF s.now) self.old }
+        ensures { IfSome result (IsWriting (symbol_by G.IS_WIDE G.IS_BARE G.IS_BRIEF s.now) self.new) }
     {
         let from = self.text.end();
         match byte_at(s, self.at) {
@@ -115,8 +115,8 @@ impl Direct {
     #[inline(always)]
     fn builtin<G: Grammar>(&mut self, _s: &[u8], letter: u8) -> Option<Step>
         requires letter { letter ≢ 0 → StandsAt _s.now self.old.at (letter ∷ []) }
-        requires awaits { AwaitsType (symbol_by G.IS_WIDE G.IS_BARE _s.now) self.old }
-        ensures { IfSome result (IsWriting (symbol_by G.IS_WIDE G.IS_BARE _s.now) self.new) }
+        requires awaits { AwaitsType (symbol_by G.IS_WIDE G.IS_BARE G.IS_BRIEF _s.now) self.old }
+        ensures { IfSome result (IsWriting (symbol_by G.IS_WIDE G.IS_BARE G.IS_BRIEF _s.now) self.new) }
     {
         let text = cpp_layout::builtin_text(letter);
         if text.is_empty() {
@@ -133,8 +133,8 @@ impl Direct {
     #[inline(never)]
     fn builtin_with_d<G: Grammar>(&mut self, s: &[u8]) -> Option<Step>
         requires letter { StandsAt s.now self.old.at (68 ∷ []) }
-        requires awaits { AwaitsType (symbol_by G.IS_WIDE G.IS_BARE s.now) self.old }
-        ensures { IfSome result (IsWriting (symbol_by G.IS_WIDE G.IS_BARE s.now) self.new) }
+        requires awaits { AwaitsType (symbol_by G.IS_WIDE G.IS_BARE G.IS_BRIEF s.now) self.old }
+        ensures { IfSome result (IsWriting (symbol_by G.IS_WIDE G.IS_BARE G.IS_BRIEF s.now) self.new) }
     {
         self.at = self.at.checked_add(1)?;
         let letter = byte_at(s, self.at);
@@ -152,8 +152,8 @@ impl Direct {
     fn type_with_s<G: Grammar>(&mut self, s: &[u8]) -> Option<Step>
         requires fits { IsReadable s.now }
         requires letter { StandsAt s.now self.old.at (83 ∷ []) }
-        requires awaits { AwaitsNamedType (symbol_by G.IS_WIDE G.IS_BARE s.now) self.old }
-        ensures { IfSome result (IsWriting (symbol_by G.IS_WIDE G.IS_BARE s.now) self.new) }
+        requires awaits { AwaitsNamedType (symbol_by G.IS_WIDE G.IS_BARE G.IS_BRIEF s.now) self.old }
+        ensures { IfSome result (IsWriting (symbol_by G.IS_WIDE G.IS_BARE G.IS_BRIEF s.now) self.new) }
     {
         let from = self.text.end();
         self.at = self.at.checked_add(1)?;
@@ -188,8 +188,8 @@ impl Direct {
         is_listed: bool,
         is_reference: bool,
     ) -> Option<Step>
-        requires { IsTypeNamed (symbol_by G.IS_WIDE G.IS_BARE s.now) self.old from is_listed is_reference }
-        ensures { IfSome result (IsWriting (symbol_by G.IS_WIDE G.IS_BARE s.now) self.new) }
+        requires { IsTypeNamed (symbol_by G.IS_WIDE G.IS_BARE G.IS_BRIEF s.now) self.old from is_listed is_reference }
+        ensures { IfSome result (IsWriting (symbol_by G.IS_WIDE G.IS_BARE G.IS_BRIEF s.now) self.new) }
     {
         self.add_unless(is_listed, from)?;
         if byte_at(s, self.at) != b'I' {
@@ -198,14 +198,14 @@ impl Direct {
         if is_reference {
             return None;
         }
-        self.open_arguments(Open::TypeArguments { from })
+        self.open_arguments::<G>(Open::TypeArguments { from })
     }
 
     /// Hands a type on to what waits for it.
     pub(crate) fn pass<G: Grammar>(&mut self, s: &[u8], is_reference: bool) -> Option<Step>
         requires fits { IsReadable s.now }
-        requires writing { IsWriting (symbol_by G.IS_WIDE G.IS_BARE s.now) self.old (steps.Value is_reference) }
-        ensures { IfSome result (IsWriting (symbol_by G.IS_WIDE G.IS_BARE s.now) self.new) }
+        requires writing { IsWriting (symbol_by G.IS_WIDE G.IS_BARE G.IS_BRIEF s.now) self.old (steps.Value is_reference) }
+        ensures { IfSome result (IsWriting (symbol_by G.IS_WIDE G.IS_BARE G.IS_BRIEF s.now) self.new) }
     {
         let entry = *self.waiting.as_slice().last()?;
         match entry {
@@ -256,9 +256,9 @@ impl Direct {
         is_reference: bool,
     ) -> Option<Step>
         requires fits { IsReadable s.now }
-        requires writing { IsWriting (symbol_by G.IS_WIDE G.IS_BARE s.now) self.old (steps.Value is_reference) }
+        requires writing { IsWriting (symbol_by G.IS_WIDE G.IS_BARE G.IS_BRIEF s.now) self.old (steps.Value is_reference) }
         requires waits { slice_get self.old.waiting.list.items (length self.old.waiting.list.items - 1) ≡ Some entry }
-        ensures { IfSome result (IsWriting (symbol_by G.IS_WIDE G.IS_BARE s.now) self.new) }
+        ensures { IfSome result (IsWriting (symbol_by G.IS_WIDE G.IS_BARE G.IS_BRIEF s.now) self.new) }
     {
         match entry {
             Open::Pointer { from } => self.mark::<G>(s, b"*", from, false),
@@ -293,8 +293,8 @@ impl Direct {
         from: u32,
         is_reference: bool,
     ) -> Option<Step>
-        requires { AwaitsMark (symbol_by G.IS_WIDE G.IS_BARE _s.now) self.old mark.now from is_reference }
-        ensures { IfSome result (IsWriting (symbol_by G.IS_WIDE G.IS_BARE _s.now) self.new) }
+        requires { AwaitsMark (symbol_by G.IS_WIDE G.IS_BARE G.IS_BRIEF _s.now) self.old mark.now from is_reference }
+        ensures { IfSome result (IsWriting (symbol_by G.IS_WIDE G.IS_BARE G.IS_BRIEF _s.now) self.new) }
     {
         let _open = self.waiting.pop();
         self.push(mark)?;

@@ -20,8 +20,8 @@ impl Direct {
     // <unscoped-name> ::= <source-name>
     pub(crate) fn begin_name<G: Grammar>(&mut self, s: &[u8], is_internal: bool) -> Option<Step>
         requires fits { IsReadable s.now }
-        requires awaits { AwaitsSource (symbol_by G.IS_WIDE G.IS_BARE s.now) self.old is_internal }
-        ensures { IfSome result (IsWriting (symbol_by G.IS_WIDE G.IS_BARE s.now) self.new) }
+        requires awaits { AwaitsSource (symbol_by G.IS_WIDE G.IS_BARE G.IS_BRIEF s.now) self.old is_internal }
+        ensures { IfSome result (IsWriting (symbol_by G.IS_WIDE G.IS_BARE G.IS_BRIEF s.now) self.new) }
     {
         let from = self.text.end();
         self.name(s)?;
@@ -33,8 +33,8 @@ impl Direct {
     #[inline(never)]
     pub(crate) fn begin_operator<G: Grammar>(&mut self, s: &[u8]) -> Option<Step>
         requires fits { IsReadable s.now }
-        requires awaits { AwaitsEncoding (symbol_by G.IS_WIDE G.IS_BARE s.now) self.old }
-        ensures { IfSome result (IsWriting (symbol_by G.IS_WIDE G.IS_BARE s.now) self.new) }
+        requires awaits { AwaitsEncoding (symbol_by G.IS_WIDE G.IS_BARE G.IS_BRIEF s.now) self.old }
+        ensures { IfSome result (IsWriting (symbol_by G.IS_WIDE G.IS_BARE G.IS_BRIEF s.now) self.new) }
     {
         let from = self.text.end();
         let takes = self.operator_name(s)?;
@@ -46,9 +46,9 @@ impl Direct {
     #[inline(never)]
     pub(crate) fn begin_in_std<G: Grammar>(&mut self, s: &[u8]) -> Option<Step>
         requires fits { IsReadable s.now }
-        requires awaits { AwaitsEncoding (symbol_by G.IS_WIDE G.IS_BARE s.now) self.old }
+        requires awaits { AwaitsEncoding (symbol_by G.IS_WIDE G.IS_BARE G.IS_BRIEF s.now) self.old }
         requires letter { StandsAt s.now self.old.at (83 ∷ []) }
-        ensures { IfSome result (IsWriting (symbol_by G.IS_WIDE G.IS_BARE s.now) self.new) }
+        ensures { IfSome result (IsWriting (symbol_by G.IS_WIDE G.IS_BARE G.IS_BRIEF s.now) self.new) }
     {
         let from = self.text.end();
         self.at = self.at.checked_add(1)?;
@@ -70,8 +70,8 @@ impl Direct {
     // <unqualified-name> ::= <unqualified-name> <abi-tags>
     fn unscoped_named<G: Grammar>(&mut self, s: &[u8], from: u32, takes: bool) -> Option<Step>
         requires fits { IsReadable s.now }
-        requires named { IsUnscoped (symbol_by G.IS_WIDE G.IS_BARE s.now) self.old from takes }
-        ensures { IfSome result (IsWriting (symbol_by G.IS_WIDE G.IS_BARE s.now) self.new) }
+        requires named { IsUnscoped (symbol_by G.IS_WIDE G.IS_BARE G.IS_BRIEF s.now) self.old from takes }
+        ensures { IfSome result (IsWriting (symbol_by G.IS_WIDE G.IS_BARE G.IS_BRIEF s.now) self.new) }
     {
         if G::IS_WIDE && byte_at(s, self.at) == b'B' {
             self.tag(s)?;
@@ -85,8 +85,8 @@ impl Direct {
     #[inline(always)]
     fn unscoped_tagged<G: Grammar>(&mut self, s: &[u8], from: u32, takes: bool) -> Option<Step>
         requires fits { IsReadable s.now }
-        requires named { IsUnscoped (symbol_by G.IS_WIDE G.IS_BARE s.now) self.old from takes }
-        ensures { IfSome result (IsWriting (symbol_by G.IS_WIDE G.IS_BARE s.now) self.new) }
+        requires named { IsUnscoped (symbol_by G.IS_WIDE G.IS_BARE G.IS_BRIEF s.now) self.old from takes }
+        ensures { IfSome result (IsWriting (symbol_by G.IS_WIDE G.IS_BARE G.IS_BRIEF s.now) self.new) }
     {
         if byte_at(s, self.at) != b'I' {
             return self.name_ended::<G>(s, Mark::Plain, false, NOWHERE, from);
@@ -95,7 +95,7 @@ impl Direct {
             return None;
         }
         self.add_candidate(from, false)?;
-        self.open_arguments(Open::NameArguments { from })
+        self.open_arguments::<G>(Open::NameArguments { from })
     }
 
     /// Reads an operator, and answers whether arguments after it are read: there is a blank between << or < and its arguments.

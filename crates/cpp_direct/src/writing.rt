@@ -1,13 +1,16 @@
 // The text and the candidates, as they grow.
 
-ghost use Rattle.std.specs.Prelude.{◌≡◌, ◌+◌, ◌-◌, ◌≤◌, ◌∷◌, ◌++◌, [], length, take, drop, codes, true, if◌then◌else◌};
+ghost use Rattle.std.specs.Prelude.{◌≡◌, ◌+◌, ◌-◌, ◌≤◌, ◌∷◌, ◌++◌, [], length, take, drop, true, if◌then◌else◌};
 ghost use Rattle.std.specs.Option.{OnSome, IfSome};
 ghost use Rattle.cpp_direct.specs.declared.open.Step.TheVariants as steps;
+ghost use Rattle.cpp_direct.specs.Symbol.{detail_by};
+ghost use Rattle.cpp_direct.specs.WrittenParts.{opening_bracket, closing_bracket};
 ghost use Rattle.cpp_direct.specs.Written.{Writes, Cuts, added, added_unless, with_dependent, with_hidden, AreKeptTo};
 
 use crate::direct::Direct;
+use crate::grammar::Grammar;
 use crate::open::{Candidate, Open, Step};
-use sym_direct::Bounded;
+use sym_direct::{Bounded, CLOSES, OPENS};
 
 /// A candidate whose text is nowhere: it ends before it begins.
 const HIDDEN: Candidate = Candidate {
@@ -177,19 +180,27 @@ impl Direct {
         Some(step)
     }
 
-    /// Opens arguments.
+    /// Opens arguments, after a bracket, or after a mark where they are to be left out.
     // <template-args> ::= I <template-arg>* E
     #[inline(always)]
-    pub(crate) fn open_arguments(&mut self, entry: Open) -> Option<Step>
+    pub(crate) fn open_arguments<G: Grammar>(&mut self, entry: Open) -> Option<Step>
         ensures step { IfSome result (λ next. next ≡ steps.List true) }
         ensures open { OnSome result (self.new.waiting.list.items ≡ self.old.waiting.list.items ++ entry ∷ []) }
         ensures at { OnSome result (self.new.at ≡ self.old.at + 1) }
-        ensures text { OnSome result (self.new.text.list.items ≡ self.old.text.list.items ++ codes "<") }
+        ensures text { OnSome result (self.new.text.list.items ≡ self.old.text.list.items ++ opening_bracket (detail_by G.IS_BARE G.IS_BRIEF)) }
         ensures candidates { OnSome result (self.new.candidates ≡ self.old.candidates) }
         ensures nest { OnSome result (self.new.nest ≡ self.old.nest) }
     {
-        self.push_byte(b'<')?;
+        self.push_byte(if G::IS_BRIEF { OPENS } else { b'<' })?;
         self.open_type(entry, Step::List { is_first: true })
+    }
+
+    /// Ends arguments that were opened so.
+    #[inline(always)]
+    pub(crate) fn end_arguments<G: Grammar>(&mut self) -> Option<()>
+        ensures { OnSome result (Writes self.old self.new (closing_bracket (detail_by G.IS_BARE G.IS_BRIEF))) }
+    {
+        self.push_byte(if G::IS_BRIEF { CLOSES } else { b'>' })
     }
 }
 

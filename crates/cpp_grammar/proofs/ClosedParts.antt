@@ -151,6 +151,7 @@ between_goes own Production.OtherSpecial around place vs state n at stays apart 
 between_goes own Production.Lambda around place vs state n at stays apart pre all e = absurd (true≢false apart)
 between_goes own Production.ValueOf around place vs state n at stays apart pre all e = absurd (true≢false apart)
 between_goes own Production.OfConcept around place vs state n at stays apart pre all e = absurd (true≢false apart)
+between_goes own Production.Constraint around place vs state n at stays apart pre all e = absurd (true≢false apart)
 between_goes own p around place vs state n at stays apart pre all e = done_goes own (before_part (row_of p) (length vs)) around place vs state n at (step_passes goes_here (row_of p) refl (length vs)) pre all e
 
 within : (own : Bool) (p : Production) (around : Around) (at : ℕ) (state : State) (n : Next Value State Around) → GoesOn own around at state n → Goes own (Within own p around) around at state n
@@ -168,6 +169,9 @@ goes_within own Production.ValueOf around place vs state n at stays pre all e =
     (λ within. (refl, λ o. absurd (true≢false (within.1 o)))) e
 goes_within own Production.OfConcept around place vs state n at stays pre all e =
     goes_by own (Within own Production.OfConcept around) around at state vs (in_signature around) state n all (grows_same own around at state state refl) (fits_signature own around)
+    (λ within. (refl, λ o. absurd (true≢false (within.1 o)))) e
+goes_within own Production.Constraint around place vs state n at stays pre all e =
+    goes_by own (Within own Production.Constraint around) around at state vs (in_signature around) state n all (grows_same own around at state state refl) (fits_signature own around)
     (λ within. (refl, λ o. absurd (true≢false (within.1 o)))) e
 goes_within own p around place vs state n at stays pre all e =
     within own p around at state n (between_goes own p around place vs state n at stays refl pre (all_where (Within own p around) (Bare own around) vs (λ bare. (bare, λ o. refl)) all) e)

@@ -12,7 +12,7 @@ use Rattle.cpp_grammar.specs.Scope.{count, element, is_list, has_pack, length_if
 use Rattle.cpp_grammar.specs.Closed.{ScopesAreClosed}
 use Rattle.sym_core.specs.declared.NumberKind.TheVariants.{Seq36}
 use Rattle.sym_core.specs.Value.{counted_value}
-use Rattle.cpp_grammar.specs.Values.{Candidate, State, Around, prefix_tree, prefix_listed, Value, letter, tree, piece, pair, is_listed, text_of, local_number, part, tree_of}
+use Rattle.cpp_grammar.specs.Values.{Candidate, State, Around, prefix_tree, prefix_listed, Value, nothing_there, letter, tree, piece, pair, is_listed, text_of, local_number, part, tree_of}
 use Rattle.cpp_grammar.specs.References.{appended, is_function_type, with_type, with_unqualified, with_prefix, with_packs, packs_in, substituted, parameter_named}
 use Rattle.cpp_grammar.specs.Rescoping.{lambda_with, as_generic_lambda, with_holder, with_base, counted_base, is_counted_alike, is_foreign, in_scope, under_scope, with_free, restated, substituted_wide, numbered, close_wide}
 use Rattle.cpp_grammar.specs.Meaning.{parameters, meaning}
@@ -461,6 +461,12 @@ unfolding held is_open
 letter_comes byte around state r end e =
     subst (λ x. Comes true around end state x) (ok_same (found (letter byte) state) r e) (record { good = record { closed = λ h. refl; scopes = tt }; grows = grows_same true around end state state refl })
 
+-- what is asked of arguments stands for nothing
+nothing_comes : (around : Around) (state : State) (r : Found Value State) (end : ℕ) → ◌≡◌ {A = Result (Found Value State) Refusal} (Ok (found nothing_there state)) (Ok r) → Comes true around end state r
+unfolding held is_open
+nothing_comes around state r end e =
+    subst (λ x. Comes true around end state x) (ok_same (found nothing_there state) r e) (record { good = record { closed = λ h. refl; scopes = tt }; grows = grows_same true around end state state refl })
+
 -- a base class is counted
 pub base_grows : (around : Around) (end : ℕ) (t : Term) (state : State) → Good (Bare true around) t → Grows true around end state (with_base around t state)
 unfolding with_base
@@ -495,5 +501,6 @@ wide_close_good Production.Inheriting byte around place began vs state r end old
     inheriting_comes byte around vs state r end pre (all_where (Within true Production.Inheriting around) (Bare true around) vs (λ bare. (bare, λ own. refl)) all) e
 wide_close_good Production.ValueOf byte around place began vs state r end old pre all name e = letter_comes byte around state r end e
 wide_close_good Production.OfConcept byte around place began vs state r end old pre all name e = letter_comes byte around state r end e
+wide_close_good Production.Constraint byte around place began vs state r end old pre all name e = nothing_comes around state r end e
 wide_close_good production byte around place began vs state r end old pre all name e =
     made_good true production byte around began vs state r end pre (all_where (Within true production around) (Bare true around) vs (λ bare. (bare, λ own. refl)) all) name e

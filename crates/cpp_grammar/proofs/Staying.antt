@@ -266,6 +266,7 @@ between_none Production.Special around place vs state settled all cs = record { 
 between_none Production.OtherSpecial around place vs state settled all cs = record { values = all; inside = λ l. refl; context = name_none place; candidates = cs }
 between_none Production.ValueOf around place vs state settled all cs = record { values = all; inside = λ l. refl; context = signature_none around; candidates = cs }
 between_none Production.OfConcept around place vs state settled all cs = record { values = all; inside = λ l. refl; context = signature_none around; candidates = cs }
+between_none Production.Constraint around place vs state settled all cs = record { values = all; inside = λ l. refl; context = signature_none around; candidates = cs }
 between_none Production.Lambda around place vs state settled all cs = record { values = all; inside = λ l. refl; context = signature_none around; candidates = cs }
 between_none p around place vs state settled all cs = done_none (before_part (row_of p) (length vs)) around place vs state (step_passes goes_here (row_of p) refl (length vs)) settled all cs
 

@@ -44,11 +44,12 @@ differs Production.Inheriting = true
 differs Production.Holder = true
 differs _ = false
 
--- the productions whose parts are in a signature: lambdas, and what is declared of an argument
+-- the productions whose parts are in a signature: lambdas, what is declared of an argument, and what is asked of arguments
 unfoldable pub has_signature : Production → Bool
 has_signature Production.Lambda = true
 has_signature Production.ValueOf = true
 has_signature Production.OfConcept = true
+has_signature Production.Constraint = true
 has_signature _ = false
 
 -- all others go as in the reading of the ABI's grammar

@@ -92,6 +92,10 @@ operations =
     printed_as "co" UNARY "~" (from_precedence UNARY) "" not_printed "" ∷
     printed_as "nt" UNARY "!" (from_precedence UNARY) "" not_printed "" ∷
     printed_as "aw" UNARY "co_await " (from_precedence UNARY) "" not_printed "" ∷
+    printed_as "dl" UNARY "delete " (from_precedence UNARY) "" not_printed "" ∷
+    printed_as "da" UNARY "delete[] " (from_precedence UNARY) "" not_printed "" ∷
+    printed_as "tw" ASSIGN "throw " (from_precedence ALWAYS) "" not_printed "" ∷
+    printed_as "gs" PRIMARY "::" as_it_is "" not_printed "" ∷
     printed_as "p_" UNARY "++" (from_precedence UNARY) "" not_printed "" ∷
     printed_as "m_" UNARY "--" (from_precedence UNARY) "" not_printed "" ∷
     printed_as "pp" POSTFIX "" (from_precedence UNARY) "++" not_printed "" ∷
@@ -153,7 +157,18 @@ operations =
     printed_as "sZ" PRIMARY "sizeof...(" as_it_is ")" not_printed "" ∷
     printed_as "sr" PRIMARY "" as_it_is "::" as_it_is "" ∷
     printed_as "fT" PRIMARY "this" not_printed "" not_printed "" ∷
-    printed_as "()" PRIMARY "(" as_it_is ")" not_printed "" ∷ []
+    printed_as "()" PRIMARY "(" as_it_is ")" not_printed "" ∷
+    printed_as "dn" PRIMARY "~" as_type "" not_printed "" ∷
+    printed_as "cp" POSTFIX "(" as_it_is ")(" as_list ")" ∷
+    printed_as "nw" UNARY "new" as_it_is " " as_it_is "" ∷
+    printed_as "na" UNARY "new[]" as_it_is " " as_it_is "" ∷
+    printed_as "n(" PRIMARY "(" as_list ")" not_printed "" ∷
+    printed_as "n_" PRIMARY "" as_type "" as_it_is "" ∷
+    printed_as "pi" PRIMARY "(" as_list ")" not_printed "" ∷
+    printed_as "fl" PRIMARY "(..." as_it_is ")" not_printed "" ∷
+    printed_as "fr" PRIMARY "(" as_it_is "...)" not_printed "" ∷
+    printed_as "rq" PRIMARY "requires {...}" not_printed "" not_printed "" ∷
+    printed_as "rQ" PRIMARY "requires (...) {...}" not_printed "" not_printed "" ∷ []
 
 -- the operation of a code, and none of another
 unfoldable pub operation_of_code : List ℕ → List Operation → Option Operation

@@ -22,6 +22,9 @@ pub data Source : Type 0 where
   letter_at : ℕ → Source
   -- the letter of a part, or the byte that is taken, where the part has none
   letter_or_taken : ℕ → Source
+  -- the letters of the operator that a part is
+  operator_first_at : ℕ → Source
+  operator_second_at : ℕ → Source
   -- the number of a lambda or an unnamed type
   number_at : ℕ → Source
   yes : Source

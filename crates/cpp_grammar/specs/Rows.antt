@@ -2,7 +2,7 @@
 use Rattle.std.specs.Prelude.{List, [], ◌∷◌, true, false}
 use Rattle.cpp_grammar.specs.declared.production.Production.{Production}
 use Rattle.cpp_grammar.specs.Makers.{new_symbol, new_special, new_of_name, new_construction, new_clone, new_in_std, new_instance, new_local, new_abbreviation, new_source, new_operator, new_literal_operator, new_constructor, new_destructor, new_unnamed, new_string_literal, new_conversion, new_builtin, new_sized_float, new_constrained, new_vendor, new_pointer, new_lvalue, new_rvalue, new_array, new_bounded, new_member_pointer, new_function_type, new_qualified, new_vector, new_complex, new_decltype, new_expansion, new_integer, new_boolean, new_null_pointer, new_encoding_literal, new_operation, new_function_parameter, new_pack}
-use Rattle.cpp_grammar.specs.Row.{tree_at, list_at, parameters_at, piece_at, the_name, no_tree, text_at, digits_at, code, taken, fixed, letter_at, letter_or_taken, number_at, yes, no, there_at, letter_is, qualifiers_at, qualified_by, ref_at, signed_at, discriminator_at, of, only, extending, tagging, applying, packing, listed, unlisted, as_part, unless_there, as_part_alone, Form, handed, finished, either, the_byte, makes, a_piece, a_pair, cell, item, a_name, in_place, own, as_before, in_its_name, in_its_types, in_a_signature, under_it, nameless, after_part, after_the_name, Gain, nothing, the_prefix, type_of, unqualified_of, itself, Before, quiet, goes, becomes, tests, holds, unread, Row, by_letters, character, closure, covariant_thunk, elements, enclosed, encoding, first_of_operator, in_default, inheriting, local_name, lvalue_signature, many_digits, negative, nest_end, nested_name, no_parameters, no_value, non_virtual_offset, non_virtual_thunk, one_digit, positive, reference, rvalue_signature, substitution, suffix, virtual_offset, virtual_thunk}
+use Rattle.cpp_grammar.specs.Row.{tree_at, list_at, parameters_at, piece_at, the_name, no_tree, text_at, digits_at, code, taken, fixed, letter_at, letter_or_taken, operator_first_at, operator_second_at, number_at, yes, no, there_at, letter_is, qualifiers_at, qualified_by, ref_at, signed_at, discriminator_at, of, only, extending, tagging, applying, packing, listed, unlisted, as_part, unless_there, as_part_alone, Form, handed, finished, either, the_byte, makes, a_piece, a_pair, cell, item, a_name, in_place, own, as_before, in_its_name, in_its_types, in_a_signature, under_it, nameless, after_part, after_the_name, Gain, nothing, the_prefix, type_of, unqualified_of, itself, Before, quiet, goes, becomes, tests, holds, unread, Row, by_letters, character, closure, covariant_thunk, elements, enclosed, encoding, first_of_operator, in_default, inheriting, local_name, lvalue_signature, many_digits, negative, nest_end, nested_name, no_parameters, no_value, non_virtual_offset, non_virtual_thunk, one_digit, positive, reference, rvalue_signature, substitution, suffix, virtual_offset, virtual_thunk}
 
 -- nothing is done before the parts, and nothing becomes a candidate at the end
 abbrev plain : Form → Row
@@ -67,6 +67,7 @@ row_of Production.Destructor = after_steps (quiet ∷ becomes (extending (of new
 row_of Production.ComponentWithC = plain (handed 0)
 row_of Production.OtherOperatorName = after_steps (quiet ∷ becomes (extending (only (piece_at 0))) false true false ∷ []) quiet (a_name unlisted)
 row_of Production.Holder = after_steps (quiet ∷ holds ∷ []) quiet (handed 1)
+row_of Production.Friend = after_steps (quiet ∷ becomes (extending (only (piece_at 0))) false true false ∷ []) quiet (a_name unlisted)
 row_of Production.Inheriting = after_steps (quiet ∷ goes nothing nameless ∷ []) quiet (own inheriting 2)
 row_of Production.Constructor = after_steps (quiet ∷ becomes (extending (of new_constructor (letter_at 0 ∷ []))) false true false ∷ []) quiet (a_name unlisted)
 row_of Production.Abbreviation = plain (makes (of new_abbreviation (taken ∷ [])) listed)
@@ -116,6 +117,7 @@ row_of Production.RestItem = plain (item 0 1)
 row_of Production.RefEnd = plain (own no_value 0)
 row_of Production.LvalueItem = after_steps (quiet ∷ becomes (of new_lvalue (tree_at 0 ∷ [])) true false true ∷ []) quiet (item 0 1)
 row_of Production.RvalueItem = after_steps (quiet ∷ becomes (of new_rvalue (tree_at 0 ∷ [])) true false true ∷ []) quiet (item 0 1)
+row_of Production.Constraint = after_steps [] (goes nothing in_a_signature) (own no_value 0)
 row_of Production.Items = plain (cell 0 1)
 row_of Production.Arguments = after_steps (goes the_prefix nameless ∷ []) quiet (makes (only (list_at 0)) listed)
 row_of Production.Tag = after_steps (quiet ∷ becomes (tagging 0) false true false ∷ []) quiet in_place
@@ -159,8 +161,9 @@ row_of Production.TypeTag = after_steps (quiet ∷ becomes (tagging 0) false tru
 row_of Production.Expression = plain (own enclosed 1)
 row_of Production.ArgumentWithT = gains (finished 0) (type_of 0)
 row_of Production.PlainArgument = gains (finished 0) (type_of 0)
-row_of Production.DeclaredArgument = plain (finished 1)
 row_of Production.ParameterArgument = after_steps (quiet ∷ tests true true ∷ []) quiet (a_name (unless_there 1))
+row_of Production.DeclaredArgument = plain (finished 1)
+row_of Production.LeveledParameter = plain (handed 1)
 row_of Production.OneLiteral = plain (handed 0)
 row_of Production.OnePack = plain (makes (of new_pack (list_at 0 ∷ [])) listed)
 row_of Production.AnyType = plain the_byte
@@ -179,10 +182,16 @@ row_of Production.Unary = plain (a_pair taken (only (tree_at 0)) (only no_tree))
 row_of Production.OfType = plain (a_pair taken (only (tree_at 0)) (only no_tree))
 row_of Production.Call = plain (a_pair taken (only (tree_at 0)) (only (list_at 1)))
 row_of Production.Convert = plain (a_pair (letter_or_taken 1) (only (tree_at 0)) (only (tree_at 1)))
+row_of Production.DestructorName = plain (a_pair taken (only (tree_at 0)) (only no_tree))
 row_of Production.OuterParameter = plain (handed 1)
+row_of Production.LeftFold = plain (a_pair taken (of new_operation (operator_first_at 0 ∷ operator_second_at 0 ∷ no_tree ∷ tree_at 1 ∷ [])) (only no_tree))
+row_of Production.RightFold = plain (a_pair taken (of new_operation (operator_first_at 0 ∷ operator_second_at 0 ∷ tree_at 1 ∷ no_tree ∷ [])) (only no_tree))
 row_of Production.Braces = plain (a_pair taken (only (list_at 0)) (only no_tree))
 row_of Production.Step = plain (a_pair (letter_or_taken 0) (only (tree_at 1)) (only no_tree))
+row_of Production.New = plain (a_pair taken (only (tree_at 0)) (of new_operation (fixed 110 ∷ fixed 95 ∷ tree_at 1 ∷ tree_at 2 ∷ [])))
 row_of Production.Conditional = plain (a_pair taken (only (tree_at 0)) (of new_operation (fixed 113 ∷ fixed 58 ∷ tree_at 1 ∷ tree_at 2 ∷ [])))
+row_of Production.Requires = plain (a_pair taken (only no_tree) (only no_tree))
+row_of Production.RequiresOf = plain (a_pair taken (only no_tree) (only no_tree))
 row_of Production.ExpandExpression = with_own_packs (goes nothing under_it ∷ []) quiet (makes (of new_expansion (tree_at 0 ∷ [])) listed)
 row_of Production.PackSize = with_own_packs (goes nothing under_it ∷ []) quiet (a_pair taken (of new_expansion (tree_at 0 ∷ [])) (only no_tree))
 row_of Production.Unresolved = plain (handed 0)
@@ -206,6 +215,12 @@ row_of Production.ExpressionT = plain (own by_letters 1)
 row_of Production.ParameterExpression = after_steps (quiet ∷ tests false false ∷ []) quiet (a_name unlisted)
 row_of Production.AddressedLiteral = plain (handed 0)
 row_of Production.Expressions = plain (own elements 2)
+row_of Production.FoldOperatorL = plain (a_piece (of new_operator (taken ∷ letter_at 0 ∷ [])))
+row_of Production.FoldOperand = plain (makes (of new_operation (fixed 40 ∷ fixed 41 ∷ tree_at 0 ∷ no_tree ∷ [])) listed)
+row_of Production.FoldPack = with_own_packs (goes nothing under_it ∷ []) quiet (makes (of new_expansion (tree_at 0 ∷ [])) listed)
+row_of Production.Placed = plain (makes (of new_operation (fixed 110 ∷ fixed 40 ∷ tree_at 0 ∷ no_tree ∷ [])) listed)
+row_of Production.Initializer = plain (own by_letters 1)
+row_of Production.BracedInitializer = plain (own by_letters 1)
 row_of Production.This = plain (makes (of new_operation (fixed 102 ∷ fixed 84 ∷ no_tree ∷ no_tree ∷ [])) listed)
 row_of Production.ParameterNumber = plain (makes (of new_function_parameter (digits_at 0 ∷ [])) listed)
 row_of Production.ConvertedDecltype = gains (finished 0) (type_of 0)
@@ -215,6 +230,13 @@ row_of Production.ConvertedReference = gains (own reference 1) itself
 row_of Production.ConvertedType = gains (finished 0) (type_of 0)
 row_of Production.UnresolvedInType = after_steps (quiet ∷ goes (type_of 0) as_before ∷ []) quiet (makes (of new_operation (fixed 115 ∷ fixed 114 ∷ tree_at 0 ∷ tree_at 1 ∷ [])) listed)
 row_of Production.Levels = plain (makes (of new_operation (fixed 115 ∷ fixed 114 ∷ tree_at 0 ∷ tree_at 1 ∷ [])) listed)
+row_of Production.DestroyedType = gains (finished 0) (type_of 0)
+row_of Production.ExpressionRequirement = plain the_byte
+row_of Production.TypeRequirement = plain the_byte
+row_of Production.NestedRequirement = plain the_byte
+row_of Production.ResultRequirement = plain the_byte
+row_of Production.NoexceptRequirement = plain the_byte
+row_of Production.RequiredType = plain (handed 1)
 row_of Production.LevelsEnd = plain (handed 0)
 row_of Production.UnresolvedOperator = plain (handed 0)
 row_of Production.AnyArray = plain (handed 0)

@@ -55,6 +55,15 @@ operator_or_literal first v = v
 
 -- ## Expressions
 
+-- the letters of an operator
+unfoldable pub first_letter : Term → ℕ
+first_letter (operator first second) = first
+first_letter _ = 0
+
+unfoldable pub second_letter : Term → ℕ
+second_letter (operator first second) = second
+second_letter _ = 0
+
 unfoldable pub is_code : (a b first second : ℕ) → Bool
 is_code a b first second = nat_eq first a && nat_eq second b
 

@@ -187,91 +187,121 @@ const ARGUMENT: Sym = Sym::Kind(87);
 
 const ARGUMENT_AFTER_T: Sym = Sym::Kind(88);
 
-const ONE_ARGUMENT: Sym = Sym::Kind(89);
+const LEVELED_PARAMETER: Sym = Sym::Kind(89);
 
-const DECLARATION_AFTER_T: Sym = Sym::Kind(90);
+const ONE_ARGUMENT: Sym = Sym::Kind(90);
 
-const DECLARATIONS: Sym = Sym::Kind(91);
+const DECLARATION_AFTER_T: Sym = Sym::Kind(91);
 
-const CONCEPT: Sym = Sym::Kind(92);
+const DECLARATIONS: Sym = Sym::Kind(92);
 
-const SOLID_BUT_T: Sym = Sym::Kind(93);
+const CONCEPT: Sym = Sym::Kind(93);
 
-const EXPRESSION: Sym = Sym::Kind(94);
+const SOLID_BUT_T: Sym = Sym::Kind(94);
 
-const ADDRESSED_EXPRESSION: Sym = Sym::Kind(95);
+const EXPRESSION: Sym = Sym::Kind(95);
 
-const ADDRESSED_LITERAL: Sym = Sym::Kind(96);
+const ADDRESSED_EXPRESSION: Sym = Sym::Kind(96);
 
-const EXPRESSION_AFTER_A: Sym = Sym::Kind(97);
+const ADDRESSED_LITERAL: Sym = Sym::Kind(97);
 
-const EXPRESSION_AFTER_C: Sym = Sym::Kind(98);
+const EXPRESSION_AFTER_A: Sym = Sym::Kind(98);
 
-const EXPRESSION_AFTER_D: Sym = Sym::Kind(99);
+const EXPRESSION_AFTER_C: Sym = Sym::Kind(99);
 
-const EXPRESSION_AFTER_E: Sym = Sym::Kind(100);
+const EXPRESSION_AFTER_D: Sym = Sym::Kind(100);
 
-const EXPRESSION_AFTER_F: Sym = Sym::Kind(101);
+const EXPRESSION_AFTER_E: Sym = Sym::Kind(101);
 
-const EXPRESSION_AFTER_G: Sym = Sym::Kind(102);
+const EXPRESSION_AFTER_F: Sym = Sym::Kind(102);
 
-const EXPRESSION_AFTER_I: Sym = Sym::Kind(103);
+const EXPRESSION_AFTER_G: Sym = Sym::Kind(103);
 
-const EXPRESSION_AFTER_L: Sym = Sym::Kind(104);
+const EXPRESSION_AFTER_I: Sym = Sym::Kind(104);
 
-const EXPRESSION_AFTER_M: Sym = Sym::Kind(105);
+const EXPRESSION_AFTER_L: Sym = Sym::Kind(105);
 
-const EXPRESSION_AFTER_N: Sym = Sym::Kind(106);
+const EXPRESSION_AFTER_M: Sym = Sym::Kind(106);
 
-const EXPRESSION_AFTER_O: Sym = Sym::Kind(107);
+const EXPRESSION_AFTER_N: Sym = Sym::Kind(107);
 
-const EXPRESSION_AFTER_P: Sym = Sym::Kind(108);
+const EXPRESSION_AFTER_O: Sym = Sym::Kind(108);
 
-const EXPRESSION_AFTER_Q: Sym = Sym::Kind(109);
+const EXPRESSION_AFTER_P: Sym = Sym::Kind(109);
 
-const EXPRESSION_AFTER_R: Sym = Sym::Kind(110);
+const EXPRESSION_AFTER_Q: Sym = Sym::Kind(110);
 
-const EXPRESSION_AFTER_S: Sym = Sym::Kind(111);
+const EXPRESSION_AFTER_R: Sym = Sym::Kind(111);
 
-const EXPRESSION_AFTER_T: Sym = Sym::Kind(112);
+const EXPRESSION_AFTER_S: Sym = Sym::Kind(112);
 
-const EXPRESSIONS: Sym = Sym::Kind(113);
+const EXPRESSION_AFTER_T: Sym = Sym::Kind(113);
 
-const MAYBE_BEFORE: Sym = Sym::Kind(114);
+const EXPRESSIONS: Sym = Sym::Kind(114);
 
-const OUTER_REST: Sym = Sym::Kind(115);
+const MAYBE_BEFORE: Sym = Sym::Kind(115);
 
-const PARAMETER_NUMBER: Sym = Sym::Kind(116);
+const FOLD_OPERATOR: Sym = Sym::Kind(116);
 
-const CONVERTED_TYPE: Sym = Sym::Kind(117);
+const FOLD_OPERATOR_AFTER_L: Sym = Sym::Kind(117);
 
-const CONVERTED_SOLID: Sym = Sym::Kind(118);
+const FOLD_OPERAND: Sym = Sym::Kind(118);
 
-const DECLTYPE_AFTER_D: Sym = Sym::Kind(119);
+const FOLD_PACK: Sym = Sym::Kind(119);
 
-const CONVERT_REST: Sym = Sym::Kind(120);
+const PLACEMENT: Sym = Sym::Kind(120);
 
-const UNRESOLVED: Sym = Sym::Kind(121);
+const SOME_EXPRESSIONS: Sym = Sym::Kind(121);
 
-const UNRESOLVED_TYPE: Sym = Sym::Kind(122);
+const INITIALIZER: Sym = Sym::Kind(122);
 
-const LEVEL: Sym = Sym::Kind(123);
+const INITIALIZER_AFTER_P: Sym = Sym::Kind(123);
 
-const MORE_LEVELS: Sym = Sym::Kind(124);
+const INITIALIZER_AFTER_I: Sym = Sym::Kind(124);
 
-const UNRESOLVED_NAME: Sym = Sym::Kind(125);
+const OUTER_REST: Sym = Sym::Kind(125);
 
-const OPERATOR_NAME: Sym = Sym::Kind(126);
+const PARAMETER_NUMBER: Sym = Sym::Kind(126);
 
-const ANY_ARRAY: Sym = Sym::Kind(127);
+const CONVERTED_TYPE: Sym = Sym::Kind(127);
 
-const ARRAY_REST: Sym = Sym::Kind(128);
+const CONVERTED_SOLID: Sym = Sym::Kind(128);
 
-const BOUND: Sym = Sym::Kind(129);
+const DECLTYPE_AFTER_D: Sym = Sym::Kind(129);
 
-const NEST_MORE_OR_END: Sym = Sym::Kind(130);
+const CONVERT_REST: Sym = Sym::Kind(130);
 
-const TAGGED_SOURCE: Sym = Sym::Kind(131);
+const UNRESOLVED: Sym = Sym::Kind(131);
+
+const UNRESOLVED_TYPE: Sym = Sym::Kind(132);
+
+const DESTRUCTOR_NAME: Sym = Sym::Kind(133);
+
+const REQUIREMENTS: Sym = Sym::Kind(134);
+
+const AFTER_EXPRESSION: Sym = Sym::Kind(135);
+
+const AFTER_NOEXCEPT: Sym = Sym::Kind(136);
+
+const REQUIRED_TYPES: Sym = Sym::Kind(137);
+
+const LEVEL: Sym = Sym::Kind(138);
+
+const MORE_LEVELS: Sym = Sym::Kind(139);
+
+const UNRESOLVED_NAME: Sym = Sym::Kind(140);
+
+const OPERATOR_NAME: Sym = Sym::Kind(141);
+
+const ANY_ARRAY: Sym = Sym::Kind(142);
+
+const ARRAY_REST: Sym = Sym::Kind(143);
+
+const BOUND: Sym = Sym::Kind(144);
+
+const NEST_MORE_OR_END: Sym = Sym::Kind(145);
+
+const TAGGED_SOURCE: Sym = Sym::Kind(146);
 
 const NAME: Sym = Sym::Name;
 
@@ -285,7 +315,7 @@ const DIGITS: Sym = Sym::Number(NumberKind::Digits);
 pub const FIRST_LETTER: u8 = b'!';
 
 // For each kind a row: for each byte from `$` to `z` the letter of the production that the kind takes there.
-static LETTERS: [[u8; 87]; 132] = [
+static LETTERS: [[u8; 87]; 147] = [
     // $%&'()*+,-./0123456789:;<=>?@ABCDEFGHIJKLMNOPQRSTUVWXYZ[\]^_`abcdefghijklmnopqrstuvwxyz
     *b"                                                           *                           ", // Symbol
     *b"          +                                                                            ", // MaybeSuffix
@@ -307,40 +337,40 @@ static LETTERS: [[u8; 87]; 132] = [
     *b"            GGGGGGGGGG         GG    F  G        G           G GGG G G  GGGGG GG       ", // NestRest
     *b"            GGGGGGGGGG         GGI      G        G           G GGG G G  GGGGG GG       ", // NestTail
     *b"            $$$$$$$$$$         JK       \"        #           M LMM M M  MMMMM MM       ", // Component
-    *b"             PPP                                                                       ", // ConstructorAfterC
+    *b"             QQQ                                                                       ", // ConstructorAfterC
     *b"             !!!                                                                       ", // ConstructorDigit
     *b"             !! !!                                                                     ", // InheritedDigit
     *b"            !!!                                                                        ", // DestructorDigit
-    *b"            RRRRRRRRRR       RRRRRRRRRRRRRRRRRRRRRRRRRR    R QQ Q    Q     Q   Q       ", // Abbreviation
-    *b"            $$$$$$$$$$                  \" )      #                             T       ", // Entity
-    *b"            $$$$$$$$$$                  \" S      #                                     ", // TypeEntity
-    *b"                                                           W                           ", // MaybeDiscriminator
-    *b"            XXXXXXXXXX                                     Y                           ", // DiscriminatorRest
-    *b"                                                                        Z       [      ", // Anonymous
-    *b"            ``````````       ` `a `    ^ ``_` _```]   `      `````````` ````  \\````````", // Type
-    *b"            cccccccccc       c cb c      cc_c _ccc    c      cccccccccc cccc   cccccccc", // Plain
-    *b"            ``````````       ` `d `    ^ ``_` _```]   `      `````````` ````  \\````````", // Item
-    *b"            ``````````       ` `d `    ^ `` `  ```]   `      `````````` ````  \\````````", // ItemButRef
-    *b"                                                             f f     f    ffe  f ff    ", // ItemAfterD
-    *b"                                                             g g     g    gi   g gh    ", // AfterD
-    *b"            $$$$$$$$$$       t v  u      nS m  po#    q      rrrrrrrrrr rrrr   rrsrrrrr", // Solid
+    *b"            SSSSSSSSSS       SSSSSSSSSSSSSSSSSSSSSSSSSS    S RR R    R     R   R       ", // Abbreviation
+    *b"            $$$$$$$$$$                  \" )      #                             U       ", // Entity
+    *b"            $$$$$$$$$$                  \" T      #                                     ", // TypeEntity
+    *b"                                                           X                           ", // MaybeDiscriminator
+    *b"            YYYYYYYYYY                                     Z                           ", // DiscriminatorRest
+    *b"                                                                        [       \\      ", // Anonymous
+    *b"            aaaaaaaaaa       a ab a    _ aa`a `aaa^   a      aaaaaaaaaa aaaa  ]aaaaaaaa", // Type
+    *b"            dddddddddd       d dc d      dd`d `ddd    d      dddddddddd dddd   dddddddd", // Plain
+    *b"            aaaaaaaaaa       a ae a    _ aa`a `aaa^   a      aaaaaaaaaa aaaa  ]aaaaaaaa", // Item
+    *b"            aaaaaaaaaa       a ae a    _ aa a  aaa^   a      aaaaaaaaaa aaaa  ]aaaaaaaa", // ItemButRef
+    *b"                                                             g g     g    ggf  g gg    ", // ItemAfterD
+    *b"                                                             h h     h    hj   h hi    ", // AfterD
+    *b"            $$$$$$$$$$       u w  v      oT n  qp#    r      ssssssssss ssss   sstsssss", // Solid
     *b"                                                     !                                 ", // MaybeCLinkage
-    *b"            xxxxxxxxxx       xxxxxxxxxxxxxxxxxxxxxxxxxx    x xx x    x     x   xw      ", // TypeAfterS
+    *b"            yyyyyyyyyy       yyyyyyyyyyyyyyyyyyyyyyyyyy    y yy y    y     y   yx      ", // TypeAfterS
     *b"            ((((((((((                  &        '                                     ", // SourceOrLocal
-    *b"            ||||||||||       | ||y|    | ||{| z||||   |      |||||||||| ||||  |||||||||", // FunctionRest
-    *b"            ~~~~~~~~~~       ~ ~~}~    ~ ~~~~ ~~~~~   ~      ~~~~~~~~~~ ~~~~  ~~~~~~~~~", // AfterR
-    *b"            \x7f\x7f\x7f\x7f\x7f\x7f\x7f\x7f\x7f\x7f       \x7f \x7f\x7f}\x7f    \x7f \x7f\x7f\x7f\x7f \x7f\x7f\x7f\x7f\x7f   \x7f      \x7f\x7f\x7f\x7f\x7f\x7f\x7f\x7f\x7f\x7f \x7f\x7f\x7f\x7f  \x7f\x7f\x7f\x7f\x7f\x7f\x7f\x7f\x7f", // AfterO
-    *b"            \x80\x80\x80\x80\x80\x80\x80\x80\x80\x80       \x80 \x80\x80 \x80    \x80 \x80\x80\x80\x80 \x80\x80\x80\x80\x80   \x80      \x80\x80\x80\x80\x80\x80\x80\x80\x80\x80 \x80\x80\x80\x80  \x80\x80\x80\x80\x80\x80\x80\x80\x80", // Items
-    *b"                                     \x81                                                 ", // MaybeArguments
-    *b"                                     \x81                                                 ", // Arguments
-    *b"            \x85\x85\x85\x85\x85\x85\x85\x85\x85\x85       \x85 \x85\x85 \x85   \x83\x85\x84\x85\x85\x85\x85 \x85\x85\x85\x85\x85 \x85 \x85      \x85\x85\x85\x85\x85\x85\x85\x85\x85\x85 \x85\x85\x85\x85  \x85\x85\x85\x85\x85\x85\x85\x85\x85", // ArgumentList
-    *b"            \x87\x87\x87\x87\x87\x87\x87\x87\x87\x87       \x87 \x87\x87 \x87    \x87\x86\x87\x87\x87\x87 \x87\x87\x87\x87\x87 \x87 \x87      \x87\x87\x87\x87\x87\x87\x87\x87\x87\x87 \x87\x87\x87\x87  \x87\x87\x87\x87\x87\x87\x87\x87\x87", // PackList
-    *b"            \x8b\x8b\x8b\x8b\x8b\x8b\x8b\x8b\x8b\x8b          \x8a        \x8b\x8b \x8b  \x8b\x8b\x8b    \x8b    \x88 \x8b\x89\x8b    \x8b\x8b\x8b \x8b\x8b\x8b\x8b   \x8b\x8b  \x8b\x8b\x8b ", // Literal
+    *b"            }}}}}}}}}}       } }}z}    } }}|} {}}}}   }      }}}}}}}}}} }}}}  }}}}}}}}}", // FunctionRest
+    *b"            \x7f\x7f\x7f\x7f\x7f\x7f\x7f\x7f\x7f\x7f       \x7f \x7f\x7f~\x7f    \x7f \x7f\x7f\x7f\x7f \x7f\x7f\x7f\x7f\x7f   \x7f      \x7f\x7f\x7f\x7f\x7f\x7f\x7f\x7f\x7f\x7f \x7f\x7f\x7f\x7f  \x7f\x7f\x7f\x7f\x7f\x7f\x7f\x7f\x7f", // AfterR
+    *b"            \x80\x80\x80\x80\x80\x80\x80\x80\x80\x80       \x80 \x80\x80~\x80    \x80 \x80\x80\x80\x80 \x80\x80\x80\x80\x80   \x80      \x80\x80\x80\x80\x80\x80\x80\x80\x80\x80 \x80\x80\x80\x80  \x80\x80\x80\x80\x80\x80\x80\x80\x80", // AfterO
+    *b"            \x82\x82\x82\x82\x82\x82\x82\x82\x82\x82       \x82 \x82\x82 \x82    \x82 \x82\x82\x82\x82 \x82\x82\x82\x82\x82   \x82      \x82\x82\x82\x82\x82\x82\x82\x82\x82\x82 \x82\x82\x82\x82  \x82\x82\x82\x82\x82\x82\x82\x82\x82", // Items
+    *b"                                     \x83                                                 ", // MaybeArguments
+    *b"                                     \x83                                                 ", // Arguments
+    *b"            \x87\x87\x87\x87\x87\x87\x87\x87\x87\x87       \x87 \x87\x87 \x87   \x85\x87\x86\x87\x87\x87\x87 \x87\x87\x87\x87\x87 \x87 \x87      \x87\x87\x87\x87\x87\x87\x87\x87\x87\x87 \x87\x87\x87\x87  \x87\x87\x87\x87\x87\x87\x87\x87\x87", // ArgumentList
+    *b"            \x89\x89\x89\x89\x89\x89\x89\x89\x89\x89       \x89 \x89\x89 \x89    \x89\x88\x89\x89\x89\x89 \x89\x89\x89\x89\x89 \x89 \x89      \x89\x89\x89\x89\x89\x89\x89\x89\x89\x89 \x89\x89\x89\x89  \x89\x89\x89\x89\x89\x89\x89\x89\x89", // PackList
+    *b"            \x8d\x8d\x8d\x8d\x8d\x8d\x8d\x8d\x8d\x8d          \x8c        \x8d\x8d \x8d  \x8d\x8d\x8d    \x8d    \x8a \x8d\x8b\x8d    \x8d\x8d\x8d \x8d\x8d\x8d\x8d   \x8d\x8d  \x8d\x8d\x8d ", // Literal
     *b"            !!                                                                         ", // Bit
-    *b"                                                                     \x8d    \x8c    \x8d \x8d     ", // LiteralAfterD
+    *b"                                                                     \x8f    \x8e    \x8f \x8f     ", // LiteralAfterD
     *b"            !                                                                          ", // MaybeZero
-    *b"            $$$$$$$$$$                   nS m  po#    q      r r    rrr rrrr   rr  rrr ", // LiteralType
-    *b"                                                             \x90 \x92\x8f\x96 \x9a \x99  \x97\x93\x8e\x95\x91 \x94\x98       ", // Operator
+    *b"            $$$$$$$$$$                   oT n  qp#    r      s s    sss ssss   ss  sss ", // LiteralType
+    *b"                                                             \x92 \x94\x91\x98 \x9c \x9b  \x99\x95\x90\x97\x93 \x96\x9a       ", // Operator
     *b"                                                             !   ! !            !  !   ", // OperatorAfterN
     *b"                                                  !          !   !      !         !    ", // OperatorAfterD
     *b"                                          !    !             !  !         !        !   ", // OperatorAfterA
@@ -350,75 +380,90 @@ static LETTERS: [[u8; 87]; 132] = [
     *b"                                         !     !                         !     !       ", // OperatorAfterR
     *b"                                              !                            !  !        ", // OperatorAfterO
     *b"                                           !                               ! !         ", // OperatorAfterE
-    *b"                                               !                 !   \x9b         !!      ", // OperatorAfterL
+    *b"                                               !                 !   \x9d         !!      ", // OperatorAfterL
     *b"                                                                               !       ", // OperatorAfterS
     *b"                                                                                    !  ", // OperatorAfterI
     *b"                                                                 !              !      ", // OperatorAfterG
-    *b"            GGGGGGGGGG         GG    \x9c  G        G           G GGG G G  GGGGG GG       ", // NestRestOrEnd
-    *b"                                     \x81                                                 ", // ArgumentsAlone
+    *b"            GGGGGGGGGG         GG    \x9e  G        G           G GGG G G  GGGGG GG       ", // NestRestOrEnd
+    *b"                                     \x83                                                 ", // ArgumentsAlone
     *b"            GGGGGGGGGG         GG    F  G        G           G GGG G G  GGGGG GG       ", // NestRestAlone
     *b"                                         !                                             ", // HolderMark
     *b"            $$$$$$$$$$         JK       \"        #           M LMM M M  MMMMM MM       ", // HeldComponent
     *b"                                                           !  !                     !  ", // FloatEnd
-    *b"                                                                        \x9e\x9e \x9e           ", // ComponentAfterC
-    *b"                                                             \x90  \x8f\x96 \x9a \x99  \x97\x93\x8e\x95\x91 \x94\x98       ", // OtherOperator
-    *b"            \xa2\xa2\xa2\xa2\xa2\xa2\xa2\xa2\xa2\xa2                    \xa0    \xa1      q                                ", // BaseClass
-    *b"            xxxxxxxxxx       xxxxxxxxxxxxxxxxxxxxxxxxxx    x xx x    x     x   x\xa3      ", // BaseAfterS
-    *b"                                     \xa4                                                 ", // BaseArguments
-    *b"                                     \x9f                                                 ", // OwnArguments
-    *b"            \x85\x85\x85\x85\x85\x85\x85\x85\x85\x85       \x85 \x85\x85 \x85   \x83\x85\x84\x85\x85\x85\x85 \x85\x85\x85\x85\x85 \x85 \x85      \x85\x85\x85\x85\x85\x85\x85\x85\x85\x85 \x85\x85\x85\x85  \x85\x85\x85\x85\x85\x85\x85\x85\x85", // ArgumentsFirst
+    *b"                                                                        \xa0\xa0 \xa0           ", // ComponentAfterC
+    *b"                                                             \x92  \x91\x98 \x9c \x9b  \x99\x95\x90\x97\x93 \x96\x9a       ", // OtherOperator
+    *b"            \xa4\xa4\xa4\xa4\xa4\xa4\xa4\xa4\xa4\xa4                    \xa2    \xa3      r                                ", // BaseClass
+    *b"            yyyyyyyyyy       yyyyyyyyyyyyyyyyyyyyyyyyyy    y yy y    y     y   y\xa5      ", // BaseAfterS
+    *b"                                     \xa6                                                 ", // BaseArguments
+    *b"                                     \xa1                                                 ", // OwnArguments
+    *b"            \x87\x87\x87\x87\x87\x87\x87\x87\x87\x87       \x87 \x87\x87 \x87   \x85\x87\x86\x87\x87\x87\x87 \x87\x87\x87\x87\x87 \x87 \x87      \x87\x87\x87\x87\x87\x87\x87\x87\x87\x87 \x87\x87\x87\x87  \x87\x87\x87\x87\x87\x87\x87\x87\x87", // ArgumentsFirst
     *b"            $$$$$$$$$$                  \" )      #                                     ", // PlainEntity
-    *b"            $$$$$$$$$$                  \" S      #                                     ", // PlainTypeEntity
+    *b"            $$$$$$$$$$                  \" T      #                                     ", // PlainTypeEntity
     *b"                                   !                                                   ", // SpecialMark
     *b"                                                  4                                    ", // SpecialAfterG
     *b"                                                                          !     !      ", // CloneLetter
-    *b"                                                                                \xa6      ", // TypeInStd
+    *b"                                                                                \xa8      ", // TypeInStd
     *b"                                                                                       ", // MaybeTags
-    *b"            \xaa\xaa\xaa\xaa\xaa\xaa\xaa\xaa\xaa\xaa       \xaa \xaad \xaa    ^ \xaa\xaa_\xaa _\xaa\xa9\xaa] \xa8 \xaa      \xaa\xaa\xaa\xaa\xaa\xaa\xaa\xaa\xaa\xaa \xaa\xaa\xaa\xaa  \\\xaa\xaa\xaa\xaa\xaa\xaa\xaa\xaa", // Argument
-    *b"            \xac\xac\xac\xac\xac\xac\xac\xac\xac\xac                                     \xac                           ", // ArgumentAfterT
-    *b"            \xaa\xaa\xaa\xaa\xaa\xaa\xaa\xaa\xaa\xaa       \xaa \xaad \xaa   \xae^\xad\xaa\xaa_\xaa _\xaa\xa9\xaa] \xa8 \xaa      \xaa\xaa\xaa\xaa\xaa\xaa\xaa\xaa\xaa\xaa \xaa\xaa\xaa\xaa  \\\xaa\xaa\xaa\xaa\xaa\xaa\xaa\xaa", // OneArgument
-    *b"                                                                       \xb1  \xb0 \xb3   \xb2    \xaf ", // DeclarationAfterT
-    *b"                                                \xb4                                      ", // Declarations
-    *b"            $$$$$$$$$$                    S    p                                       ", // Concept
-    *b"            $$$$$$$$$$       t v  u      nS m  p #    q      rrrrrrrrrr rrrr   rrsrrrrr", // SolidButT
-    *b"                                                             \xc7                         ", // Expression
-    *b"                                        \xd8                                              ", // AddressedExpression
-    *b"                                                           \x88                           ", // AddressedLiteral
-    *b"                                                                \xb9                      ", // ExpressionAfterA
-    *b"                                                               \xb5        \xbd\xba \xbb      \xbe    ", // ExpressionAfterC
-    *b"                                                  \xba            \xb5 \xbb             \xba\xba \xba    ", // ExpressionAfterD
-    *b"                                           \xba                               \xba \xba         ", // ExpressionAfterE
-    *b"                                        \xbf                                   \xb8          ", // ExpressionAfterF
-    *b"                                                                 \xba              \xba      ", // ExpressionAfterG
-    *b"                                                                        \xc0           \xba  ", // ExpressionAfterI
-    *b"                                               \xba                 \xba             \xba\xba      ", // ExpressionAfterL
-    *b"                                     \xba  \xba                            \xba  \xba\xc1             ", // ExpressionAfterM
-    *b"                                                                 \xba \xbb            \xbb   \xbb  ", // ExpressionAfterN
-    *b"                                              \xba                           \xb6\xba  \xba        ", // ExpressionAfterO
-    *b"                                        \xba                               \xba\xba  \xc1  \xbb\xba      ", // ExpressionAfterP
-    *b"                                                                                 \xc2     ", // ExpressionAfterQ
-    *b"                                         \xba     \xba               \xb5         \xba     \xba       ", // ExpressionAfterR
-    *b"                                                      \xc4        \xb5            \xc3 \xc5\xba\xbc     \xbb", // ExpressionAfterS
-    *b"                                                                 \xbb   \xbc  \xc6              ", // ExpressionAfterT
-    *b"                                                             \xd9                         ", // Expressions
+    *b"            \xac\xac\xac\xac\xac\xac\xac\xac\xac\xac       \xac \xace \xac    _ \xac\xac`\xac `\xac\xab\xac^ \xaa \xac      \xac\xac\xac\xac\xac\xac\xac\xac\xac\xac \xac\xac\xac\xac  ]\xac\xac\xac\xac\xac\xac\xac\xac", // Argument
+    *b"            \xad\xad\xad\xad\xad\xad\xad\xad\xad\xad                                     \xad                           ", // ArgumentAfterT
+    *b"            \xad\xad\xad\xad\xad\xad\xad\xad\xad\xad                                     \xad                           ", // LeveledParameter
+    *b"            \xac\xac\xac\xac\xac\xac\xac\xac\xac\xac       \xac \xace \xac   \xb1_\xb0\xac\xac`\xac `\xac\xab\xac^ \xaa \xac      \xac\xac\xac\xac\xac\xac\xac\xac\xac\xac \xac\xac\xac\xac  ]\xac\xac\xac\xac\xac\xac\xac\xac", // OneArgument
+    *b"                                                                       \xb4  \xb3 \xb6   \xb5    \xb2 ", // DeclarationAfterT
+    *b"                                                \xb7                                      ", // Declarations
+    *b"            $$$$$$$$$$                    T    q                                       ", // Concept
+    *b"            $$$$$$$$$$       u w  v      oT n  q #    r      ssssssssss ssss   sstsssss", // SolidButT
+    *b"                                                             \xd0                         ", // Expression
+    *b"                                        \xe1                                              ", // AddressedExpression
+    *b"                                                           \x8a                           ", // AddressedLiteral
+    *b"                                                                \xbc                      ", // ExpressionAfterA
+    *b"                                                               \xb8        \xc0\xbd \xbe\xc0     \xc1    ", // ExpressionAfterC
+    *b"                                                  \xbd          \xbe \xb8 \xbe      \xbe \xc2    \xbd\xbd \xbd    ", // ExpressionAfterD
+    *b"                                           \xbd                               \xbd \xbd         ", // ExpressionAfterE
+    *b"                                        \xc3                               \xc4   \xbb \xc5        ", // ExpressionAfterF
+    *b"                                                                 \xbd             \xbe\xbd      ", // ExpressionAfterG
+    *b"                                                                        \xc6           \xbd  ", // ExpressionAfterI
+    *b"                                               \xbd                 \xbd             \xbd\xbd      ", // ExpressionAfterL
+    *b"                                     \xbd  \xbd                            \xbd  \xbd\xc7             ", // ExpressionAfterM
+    *b"                                                             \xc8   \xbd \xbe            \xbe  \xc8\xbe  ", // ExpressionAfterN
+    *b"                                              \xbd                           \xb9\xbd  \xbd        ", // ExpressionAfterO
+    *b"                                        \xbd                               \xbd\xbd  \xc7  \xbe\xbd      ", // ExpressionAfterP
+    *b"                                                                                 \xc9     ", // ExpressionAfterQ
+    *b"                                         \xbd   \xcb \xbd               \xb8         \xbd   \xca \xbd       ", // ExpressionAfterR
+    *b"                                                      \xcd        \xb8            \xcc \xce\xbd\xbf     \xbe", // ExpressionAfterS
+    *b"                                                                 \xbe   \xbf  \xcf          \xbe   ", // ExpressionAfterT
+    *b"                                                             \xe2                         ", // Expressions
     *b"                                                           !                           ", // MaybeBefore
-    *b"                                                                            \xb8          ", // OuterRest
-    *b"            \xdb\xdb\xdb\xdb\xdb\xdb\xdb\xdb\xdb\xdb                          \xda          \xdb                           ", // ParameterNumber
-    *b"            \xe0\xe0\xe0\xe0\xe0\xe0\xe0\xe0\xe0\xe0          \xdc \xe0    \xdd  \xe0\xdf\xde \xdf\xe0\xe0\xe0           \xe0\xe0\xe0\xe0\xe0\xe0\xe0\xe0\xe0\xe0 \xe0\xe0\xe0\xe0   \xe0\xe0 \xe0\xe0\xe0\xe0\xe0", // ConvertedType
-    *b"            $$$$$$$$$$            u       S    po#           rrrrrrrrrr rrrr   rr rrrrr", // ConvertedSolid
-    *b"                                                l                               l      ", // DecltypeAfterD
-    *b"            \xb7\xb7\xb7\xb7\xb7\xb7\xb7\xb7\xb7\xb7                  \xad       \xd7          \xc0 \xc7 \xc8\xc9\xca\xcb\xcc \xcd  \xce\xcf\xd0\xd1\xd2\xd3\xd4\xd5\xd6      ", // ConvertRest
-    *b"            \xe2\xe2\xe2\xe2\xe2\xe2\xe2\xe2\xe2\xe2          \xe1         \xe1    \xe1\xe1                                      ", // Unresolved
-    *b"                                \xdc         S    po                                      ", // UnresolvedType
-    *b"            \xb7\xb7\xb7\xb7\xb7\xb7\xb7\xb7\xb7\xb7                                                                 ", // Level
-    *b"            \xe2\xe2\xe2\xe2\xe2\xe2\xe2\xe2\xe2\xe2           \xe3                                                     ", // MoreLevels
-    *b"            \xb7\xb7\xb7\xb7\xb7\xb7\xb7\xb7\xb7\xb7                                                     \xe4           ", // UnresolvedName
-    *b"                                                                          \xb6            ", // OperatorName
-    *b"                             \xe5                                                         ", // AnyArray
-    *b"            \xe7\xe7\xe7\xe7\xe7\xe7\xe7\xe7\xe7\xe7                                     \xe7                           ", // ArrayRest
-    *b"                                        \xad       \xd7            \xc7 \xc8\xc9\xca\xcb\xcc \xcd  \xce\xcf\xd0\xd1\xd2\xd3\xd4\xd5\xd6      ", // Bound
+    *b"                                                             \x92 \x94\x91\x98 \x9c \x9b  \xe3\x95\x90\x97\x93 \x96\x9a       ", // FoldOperator
+    *b"                                               !                 !             !!      ", // FoldOperatorAfterL
+    *b"                                                             \xe4                         ", // FoldOperand
+    *b"                                                             \xe5                         ", // FoldPack
+    *b"                                                           ! \xe6                         ", // Placement
+    *b"                                                             \xe2                         ", // SomeExpressions
+    *b"                                 ~                                   \xe8      \xe7          ", // Initializer
+    *b"                                                                     \xc6                 ", // InitializerAfterP
+    *b"                                                                        \xc6              ", // InitializerAfterI
+    *b"                                                                            \xbb          ", // OuterRest
+    *b"            \xea\xea\xea\xea\xea\xea\xea\xea\xea\xea                          \xe9          \xea                           ", // ParameterNumber
+    *b"            \xef\xef\xef\xef\xef\xef\xef\xef\xef\xef          \xeb \xef    \xec  \xef\xee\xed \xee\xef\xef\xef           \xef\xef\xef\xef\xef\xef\xef\xef\xef\xef \xef\xef\xef\xef   \xef\xef \xef\xef\xef\xef\xef", // ConvertedType
+    *b"            $$$$$$$$$$            v       T    qp#           ssssssssss ssss   ss sssss", // ConvertedSolid
+    *b"                                                m                               m      ", // DecltypeAfterD
+    *b"            \xba\xba\xba\xba\xba\xba\xba\xba\xba\xba                  \xb0       \xe0          \xc6 \xd0 \xd1\xd2\xd3\xd4\xd5 \xd6  \xd7\xd8\xd9\xda\xdb\xdc\xdd\xde\xdf      ", // ConvertRest
+    *b"            \xf1\xf1\xf1\xf1\xf1\xf1\xf1\xf1\xf1\xf1          \xf0         \xf0    \xf0\xf0                                      ", // Unresolved
+    *b"                                \xeb         T    qp                                      ", // UnresolvedType
+    *b"            \xba\xba\xba\xba\xba\xba\xba\xba\xba\xba          \xf2         \xf2    \xf2\xf2                                      ", // DestructorName
+    *b"                                             \xf5  \xf4   \xf3                                  ", // Requirements
+    *b"                                          \xf7  \xf5\xf6 \xf4   \xf3                                  ", // AfterExpression
+    *b"                                             \xf5\xf6 \xf4   \xf3                                  ", // AfterNoexcept
+    *b"            \xf8\xf8\xf8\xf8\xf8\xf8\xf8\xf8\xf8\xf8          \xf8 \xf8    \xf8  \xf8\xf8\xf8 \xf8\xf8\xf8\xf8         \xca \xf8\xf8\xf8\xf8\xf8\xf8\xf8\xf8\xf8\xf8 \xf8\xf8\xf8\xf8   \xf8\xf8 \xf8\xf8\xf8\xf8\xf8", // RequiredTypes
+    *b"            \xba\xba\xba\xba\xba\xba\xba\xba\xba\xba                                                                 ", // Level
+    *b"            \xf1\xf1\xf1\xf1\xf1\xf1\xf1\xf1\xf1\xf1           \xf9                                                     ", // MoreLevels
+    *b"            \xba\xba\xba\xba\xba\xba\xba\xba\xba\xba                                                     \xfa           ", // UnresolvedName
+    *b"                                                                          \xb9            ", // OperatorName
+    *b"                             \xfb                                                         ", // AnyArray
+    *b"            \xfd\xfd\xfd\xfd\xfd\xfd\xfd\xfd\xfd\xfd                                     \xfd                           ", // ArrayRest
+    *b"                                        \xb0       \xe0            \xd0 \xd1\xd2\xd3\xd4\xd5 \xd6  \xd7\xd8\xd9\xda\xdb\xdc\xdd\xde\xdf      ", // Bound
     *b"            GGGGGGGGGG         GG       G        G           G GGG G G  GGGGG GG       ", // NestMoreOrEnd
-    *b"            \xe8\xe8\xe8\xe8\xe8\xe8\xe8\xe8\xe8\xe8                                                                 ", // TaggedSource
+    *b"            \xfe\xfe\xfe\xfe\xfe\xfe\xfe\xfe\xfe\xfe                                                                 ", // TaggedSource
 ];
 
 /// A rule without its number and its symbols.
@@ -448,7 +493,7 @@ macro_rules! chains {
 }
 
 // The rules of the productions, in the order of their numbers.
-pub static HEADS: [Head; 200] = [
+pub static HEADS: [Head; 222] = [
     takes!(0), // ! Mark
     takes!(2), // \" InternalName
     takes!(2), // # LocalTypeName
@@ -495,164 +540,186 @@ pub static HEADS: [Head; 200] = [
     takes!(1), // L ComponentWithC
     chains!(2), // M OtherOperatorName
     chains!(2), // N Holder
-    takes!(2), // O Inheriting
-    chains!(2), // P Constructor
-    takes!(0), // Q Abbreviation
-    chains!(1), // R Substitution
-    takes!(1), // S NestedType
-    takes!(0), // T StringLiteral
-    takes!(2), // U DefaultEntity
-    takes!(2), // V DefaultTypeEntity
-    takes!(1), // W Discriminator
-    takes!(0), // X OneDigit
-    takes!(2), // Y ManyDigits
-    takes!(4), // Z Lambda
-    takes!(1), // [ Unnamed
-    takes!(3), // \\ RestrictType
-    takes!(2), // ] VolatileType
-    takes!(1), // ^ ConstType
-    takes!(1), // _ ReferenceType
-    chains!(1), // ` PlainType
-    takes!(1), // a TypeWithD
-    takes!(1), // b PlainWithD
-    chains!(1), // c QualifiedPlain
-    takes!(1), // d ItemWithD
-    takes!(1), // e Expansion
-    chains!(1), // f ItemIsType
-    takes!(0), // g BuiltinWithD
-    takes!(3), // h Vector
-    takes!(4), // i NoexceptFunction
-    takes!(2), // j SizedFloat
-    takes!(1), // k ConstrainedAuto
-    takes!(2), // l Decltype
-    takes!(1), // m Pointer
-    takes!(2), // n MemberPointer
-    takes!(2), // o Parameter
-    takes!(2), // p TypeWithS
-    takes!(4), // q LocalType
-    takes!(0), // r Builtin
-    takes!(1), // s Vendor
-    chains!(1), // t ArrayType
-    takes!(3), // u Function
-    takes!(1), // v Complex
-    chains!(1), // w TypeInStd
-    chains!(1), // x AbbreviatedType
-    takes!(0), // y RestEnd
-    takes!(1), // z RestLvalue
-    takes!(1), // { RestRvalue
-    chains!(2), // | RestItem
-    takes!(0), // } RefEnd
-    chains!(2), // ~ LvalueItem
-    chains!(2), // \x7f RvalueItem
-    chains!(2), // \x80 Items
-    takes!(2), // \x81 Arguments
-    takes!(2), // \x82 Tag
-    takes!(3), // \x83 PackArgument
-    takes!(3), // \x84 LiteralArgument
-    chains!(2), // \x85 AnyArgument
-    takes!(3), // \x86 LiteralElement
-    chains!(2), // \x87 AnyElement
-    takes!(2), // \x88 EncodingLiteral
-    takes!(1), // \x89 BoolLiteral
-    takes!(1), // \x8a LiteralWithD
-    chains!(2), // \x8b IntegerLiteral
-    takes!(1), // \x8c NullLiteral
-    takes!(1), // \x8d CharLiteral
-    takes!(1), // \x8e OperatorN
-    takes!(1), // \x8f OperatorD
-    takes!(1), // \x90 OperatorA
-    takes!(1), // \x91 OperatorP
-    takes!(1), // \x92 OperatorC
-    takes!(1), // \x93 OperatorM
-    takes!(1), // \x94 OperatorR
-    takes!(1), // \x95 OperatorO
-    takes!(1), // \x96 OperatorE
-    takes!(1), // \x97 OperatorL
-    takes!(1), // \x98 OperatorS
-    takes!(1), // \x99 OperatorI
-    takes!(1), // \x9a OperatorG
-    takes!(1), // \x9b LiteralOperator
-    takes!(3), // \x9c NestInstance
-    takes!(1), // \x9d Conversion
-    chains!(2), // \x9e OperatorNameWithC
-    takes!(2), // \x9f OwnArguments
-    takes!(2), // \xa0 NestedBase
-    takes!(1), // \xa1 BaseWithS
-    chains!(2), // \xa2 SourceBase
-    chains!(2), // \xa3 BaseInStd
-    takes!(3), // \xa4 BaseArguments
-    takes!(2), // \xa5 Clone
-    takes!(2), // \xa6 TaggedStdType
-    takes!(2), // \xa7 TypeTag
-    takes!(2), // \xa8 Expression
-    takes!(1), // \xa9 ArgumentWithT
-    chains!(1), // \xaa PlainArgument
-    chains!(2), // \xab DeclaredArgument
-    chains!(2), // \xac ParameterArgument
-    takes!(2), // \xad OneLiteral
-    takes!(2), // \xae OnePack
-    takes!(0), // \xaf AnyType
-    takes!(1), // \xb0 ValueOf
-    takes!(1), // \xb1 OfConcept
-    takes!(2), // \xb2 TemplateOf
-    takes!(2), // \xb3 PackOf
-    takes!(2), // \xb4 Declarations
-    takes!(2), // \xb5 Cast
-    takes!(2), // \xb6 OperatorReference
-    chains!(2), // \xb7 SimpleId
-    takes!(4), // \xb8 FunctionParameter
-    takes!(1), // \xb9 AddressExpression
-    takes!(2), // \xba Binary
-    takes!(1), // \xbb Unary
-    takes!(1), // \xbc OfType
-    takes!(3), // \xbd Call
-    takes!(2), // \xbe Convert
-    takes!(2), // \xbf OuterParameter
-    takes!(2), // \xc0 Braces
-    takes!(2), // \xc1 Step
-    takes!(3), // \xc2 Conditional
-    takes!(1), // \xc3 ExpandExpression
-    takes!(1), // \xc4 PackSize
-    takes!(1), // \xc5 Unresolved
-    takes!(3), // \xc6 TypedBraces
-    takes!(1), // \xc7 ExpressionA
-    takes!(1), // \xc8 ExpressionC
-    takes!(1), // \xc9 ExpressionD
-    takes!(1), // \xca ExpressionE
-    takes!(1), // \xcb ExpressionF
-    takes!(1), // \xcc ExpressionG
-    takes!(1), // \xcd ExpressionI
-    takes!(1), // \xce ExpressionL
-    takes!(1), // \xcf ExpressionM
-    takes!(1), // \xd0 ExpressionN
-    takes!(1), // \xd1 ExpressionO
-    takes!(1), // \xd2 ExpressionP
-    takes!(1), // \xd3 ExpressionQ
-    takes!(1), // \xd4 ExpressionR
-    takes!(1), // \xd5 ExpressionS
-    takes!(1), // \xd6 ExpressionT
-    takes!(2), // \xd7 ParameterExpression
-    takes!(2), // \xd8 AddressedLiteral
-    chains!(2), // \xd9 Expressions
-    takes!(0), // \xda This
-    chains!(1), // \xdb ParameterNumber
-    takes!(1), // \xdc ConvertedDecltype
-    takes!(1), // \xdd ConvertedConst
-    takes!(1), // \xde ConvertedPointer
-    takes!(1), // \xdf ConvertedReference
-    chains!(1), // \xe0 ConvertedType
-    chains!(2), // \xe1 UnresolvedInType
-    chains!(2), // \xe2 Levels
-    takes!(1), // \xe3 LevelsEnd
-    takes!(1), // \xe4 UnresolvedOperator
-    takes!(1), // \xe5 AnyArray
-    chains!(3), // \xe6 BoundedArray
-    chains!(2), // \xe7 LengthArray
-    chains!(2), // \xe8 TaggedSource
+    takes!(2), // O Friend
+    takes!(2), // P Inheriting
+    chains!(2), // Q Constructor
+    takes!(0), // R Abbreviation
+    chains!(1), // S Substitution
+    takes!(1), // T NestedType
+    takes!(0), // U StringLiteral
+    takes!(2), // V DefaultEntity
+    takes!(2), // W DefaultTypeEntity
+    takes!(1), // X Discriminator
+    takes!(0), // Y OneDigit
+    takes!(2), // Z ManyDigits
+    takes!(4), // [ Lambda
+    takes!(1), // \\ Unnamed
+    takes!(3), // ] RestrictType
+    takes!(2), // ^ VolatileType
+    takes!(1), // _ ConstType
+    takes!(1), // ` ReferenceType
+    chains!(1), // a PlainType
+    takes!(1), // b TypeWithD
+    takes!(1), // c PlainWithD
+    chains!(1), // d QualifiedPlain
+    takes!(1), // e ItemWithD
+    takes!(1), // f Expansion
+    chains!(1), // g ItemIsType
+    takes!(0), // h BuiltinWithD
+    takes!(3), // i Vector
+    takes!(4), // j NoexceptFunction
+    takes!(2), // k SizedFloat
+    takes!(1), // l ConstrainedAuto
+    takes!(2), // m Decltype
+    takes!(1), // n Pointer
+    takes!(2), // o MemberPointer
+    takes!(2), // p Parameter
+    takes!(2), // q TypeWithS
+    takes!(4), // r LocalType
+    takes!(0), // s Builtin
+    takes!(1), // t Vendor
+    chains!(1), // u ArrayType
+    takes!(3), // v Function
+    takes!(1), // w Complex
+    chains!(1), // x TypeInStd
+    chains!(1), // y AbbreviatedType
+    takes!(0), // z RestEnd
+    takes!(1), // { RestLvalue
+    takes!(1), // | RestRvalue
+    chains!(2), // } RestItem
+    takes!(0), // ~ RefEnd
+    chains!(2), // \x7f LvalueItem
+    chains!(2), // \x80 RvalueItem
+    takes!(1), // \x81 Constraint
+    chains!(2), // \x82 Items
+    takes!(2), // \x83 Arguments
+    takes!(2), // \x84 Tag
+    takes!(3), // \x85 PackArgument
+    takes!(3), // \x86 LiteralArgument
+    chains!(2), // \x87 AnyArgument
+    takes!(3), // \x88 LiteralElement
+    chains!(2), // \x89 AnyElement
+    takes!(2), // \x8a EncodingLiteral
+    takes!(1), // \x8b BoolLiteral
+    takes!(1), // \x8c LiteralWithD
+    chains!(2), // \x8d IntegerLiteral
+    takes!(1), // \x8e NullLiteral
+    takes!(1), // \x8f CharLiteral
+    takes!(1), // \x90 OperatorN
+    takes!(1), // \x91 OperatorD
+    takes!(1), // \x92 OperatorA
+    takes!(1), // \x93 OperatorP
+    takes!(1), // \x94 OperatorC
+    takes!(1), // \x95 OperatorM
+    takes!(1), // \x96 OperatorR
+    takes!(1), // \x97 OperatorO
+    takes!(1), // \x98 OperatorE
+    takes!(1), // \x99 OperatorL
+    takes!(1), // \x9a OperatorS
+    takes!(1), // \x9b OperatorI
+    takes!(1), // \x9c OperatorG
+    takes!(1), // \x9d LiteralOperator
+    takes!(3), // \x9e NestInstance
+    takes!(1), // \x9f Conversion
+    chains!(2), // \xa0 OperatorNameWithC
+    takes!(2), // \xa1 OwnArguments
+    takes!(2), // \xa2 NestedBase
+    takes!(1), // \xa3 BaseWithS
+    chains!(2), // \xa4 SourceBase
+    chains!(2), // \xa5 BaseInStd
+    takes!(3), // \xa6 BaseArguments
+    takes!(2), // \xa7 Clone
+    takes!(2), // \xa8 TaggedStdType
+    takes!(2), // \xa9 TypeTag
+    takes!(2), // \xaa Expression
+    takes!(1), // \xab ArgumentWithT
+    chains!(1), // \xac PlainArgument
+    chains!(2), // \xad ParameterArgument
+    chains!(2), // \xae DeclaredArgument
+    takes!(2), // \xaf LeveledParameter
+    takes!(2), // \xb0 OneLiteral
+    takes!(2), // \xb1 OnePack
+    takes!(0), // \xb2 AnyType
+    takes!(1), // \xb3 ValueOf
+    takes!(1), // \xb4 OfConcept
+    takes!(2), // \xb5 TemplateOf
+    takes!(2), // \xb6 PackOf
+    takes!(2), // \xb7 Declarations
+    takes!(2), // \xb8 Cast
+    takes!(2), // \xb9 OperatorReference
+    chains!(2), // \xba SimpleId
+    takes!(4), // \xbb FunctionParameter
+    takes!(1), // \xbc AddressExpression
+    takes!(2), // \xbd Binary
+    takes!(1), // \xbe Unary
+    takes!(1), // \xbf OfType
+    takes!(3), // \xc0 Call
+    takes!(2), // \xc1 Convert
+    takes!(1), // \xc2 DestructorName
+    takes!(2), // \xc3 OuterParameter
+    takes!(2), // \xc4 LeftFold
+    takes!(2), // \xc5 RightFold
+    takes!(2), // \xc6 Braces
+    takes!(2), // \xc7 Step
+    takes!(3), // \xc8 New
+    takes!(3), // \xc9 Conditional
+    takes!(2), // \xca Requires
+    takes!(1), // \xcb RequiresOf
+    takes!(1), // \xcc ExpandExpression
+    takes!(1), // \xcd PackSize
+    takes!(1), // \xce Unresolved
+    takes!(3), // \xcf TypedBraces
+    takes!(1), // \xd0 ExpressionA
+    takes!(1), // \xd1 ExpressionC
+    takes!(1), // \xd2 ExpressionD
+    takes!(1), // \xd3 ExpressionE
+    takes!(1), // \xd4 ExpressionF
+    takes!(1), // \xd5 ExpressionG
+    takes!(1), // \xd6 ExpressionI
+    takes!(1), // \xd7 ExpressionL
+    takes!(1), // \xd8 ExpressionM
+    takes!(1), // \xd9 ExpressionN
+    takes!(1), // \xda ExpressionO
+    takes!(1), // \xdb ExpressionP
+    takes!(1), // \xdc ExpressionQ
+    takes!(1), // \xdd ExpressionR
+    takes!(1), // \xde ExpressionS
+    takes!(1), // \xdf ExpressionT
+    takes!(2), // \xe0 ParameterExpression
+    takes!(2), // \xe1 AddressedLiteral
+    chains!(2), // \xe2 Expressions
+    takes!(1), // \xe3 FoldOperatorL
+    chains!(1), // \xe4 FoldOperand
+    chains!(1), // \xe5 FoldPack
+    chains!(2), // \xe6 Placed
+    takes!(1), // \xe7 Initializer
+    takes!(1), // \xe8 BracedInitializer
+    takes!(0), // \xe9 This
+    chains!(1), // \xea ParameterNumber
+    takes!(1), // \xeb ConvertedDecltype
+    takes!(1), // \xec ConvertedConst
+    takes!(1), // \xed ConvertedPointer
+    takes!(1), // \xee ConvertedReference
+    chains!(1), // \xef ConvertedType
+    chains!(2), // \xf0 UnresolvedInType
+    chains!(2), // \xf1 Levels
+    chains!(1), // \xf2 DestroyedType
+    takes!(2), // \xf3 ExpressionRequirement
+    takes!(2), // \xf4 TypeRequirement
+    takes!(2), // \xf5 NestedRequirement
+    takes!(2), // \xf6 ResultRequirement
+    takes!(1), // \xf7 NoexceptRequirement
+    chains!(2), // \xf8 RequiredType
+    takes!(1), // \xf9 LevelsEnd
+    takes!(1), // \xfa UnresolvedOperator
+    takes!(1), // \xfb AnyArray
+    chains!(3), // \xfc BoundedArray
+    chains!(2), // \xfd LengthArray
+    chains!(2), // \xfe TaggedSource
 ];
 
 // The symbols of the rules, in the same order.
-pub static SYMBOLS: [Sym; 1206] = symbols_listed! {
+pub static SYMBOLS: [Sym; 1338] = symbols_listed! {
     [NONE, NONE, NONE, NONE, NONE], // ! Mark
     [NAME, MAYBE_ARGUMENTS, NONE, NONE, NONE], // \" InternalName
     [ANONYMOUS, MAYBE_ARGUMENTS, NONE, NONE, NONE], // # LocalTypeName
@@ -699,167 +766,189 @@ pub static SYMBOLS: [Sym; 1206] = symbols_listed! {
     [COMPONENT_AFTER_C, NONE, NONE, NONE, NONE], // L ComponentWithC
     [OTHER_OPERATOR, MAYBE_ARGUMENTS, NONE, NONE, NONE], // M OtherOperatorName
     [HOLDER_MARK, HELD_COMPONENT, NONE, NONE, NONE], // N Holder
-    [INHERITED_DIGIT, BASE_CLASS, NONE, NONE, NONE], // O Inheriting
-    [CONSTRUCTOR_DIGIT, MAYBE_ARGUMENTS, NONE, NONE, NONE], // P Constructor
-    [NONE, NONE, NONE, NONE, NONE], // Q Abbreviation
-    [SEQ36, NONE, NONE, NONE, NONE], // R Substitution
-    [NEST, NONE, NONE, NONE, NONE], // S NestedType
-    [NONE, NONE, NONE, NONE, NONE], // T StringLiteral
-    [DECIMAL, PLAIN_ENTITY, NONE, NONE, NONE], // U DefaultEntity
-    [DECIMAL, PLAIN_TYPE_ENTITY, NONE, NONE, NONE], // V DefaultTypeEntity
-    [DISCRIMINATOR_REST, NONE, NONE, NONE, NONE], // W Discriminator
-    [NONE, NONE, NONE, NONE, NONE], // X OneDigit
-    [DIGITS, Sym::Byte(b'_'), NONE, NONE, NONE], // Y ManyDigits
-    [ITEM, ITEMS, Sym::Byte(b'E'), DECIMAL, NONE], // Z Lambda
-    [DECIMAL, NONE, NONE, NONE, NONE], // [ Unnamed
-    [MAYBE_VOLATILE, MAYBE_CONST, PLAIN, NONE, NONE], // \\ RestrictType
-    [MAYBE_CONST, PLAIN, NONE, NONE, NONE], // ] VolatileType
-    [PLAIN, NONE, NONE, NONE, NONE], // ^ ConstType
-    [TYPE, NONE, NONE, NONE, NONE], // _ ReferenceType
-    [SOLID, NONE, NONE, NONE, NONE], // ` PlainType
-    [AFTER_D, NONE, NONE, NONE, NONE], // a TypeWithD
-    [AFTER_D, NONE, NONE, NONE, NONE], // b PlainWithD
-    [SOLID, NONE, NONE, NONE, NONE], // c QualifiedPlain
-    [ITEM_AFTER_D, NONE, NONE, NONE, NONE], // d ItemWithD
-    [TYPE, NONE, NONE, NONE, NONE], // e Expansion
-    [AFTER_D, NONE, NONE, NONE, NONE], // f ItemIsType
-    [NONE, NONE, NONE, NONE, NONE], // g BuiltinWithD
-    [DIGITS, Sym::Byte(b'_'), TYPE, NONE, NONE], // h Vector
-    [Sym::Byte(b'F'), MAYBE_C_LINKAGE, TYPE, FUNCTION_REST, NONE], // i NoexceptFunction
-    [DIGITS, FLOAT_END, NONE, NONE, NONE], // j SizedFloat
-    [CONCEPT, NONE, NONE, NONE, NONE], // k ConstrainedAuto
-    [EXPRESSION, Sym::Byte(b'E'), NONE, NONE, NONE], // l Decltype
-    [TYPE, NONE, NONE, NONE, NONE], // m Pointer
-    [TYPE, TYPE, NONE, NONE, NONE], // n MemberPointer
-    [DECIMAL, ARGUMENTS_ALONE, NONE, NONE, NONE], // o Parameter
-    [TYPE_AFTER_S, ARGUMENTS_ALONE, NONE, NONE, NONE], // p TypeWithS
-    [ENCODING, Sym::Byte(b'E'), TYPE_ENTITY, MAYBE_DISCRIMINATOR, NONE], // q LocalType
-    [NONE, NONE, NONE, NONE, NONE], // r Builtin
-    [NAME, NONE, NONE, NONE, NONE], // s Vendor
-    [ANY_ARRAY, NONE, NONE, NONE, NONE], // t ArrayType
-    [MAYBE_C_LINKAGE, TYPE, FUNCTION_REST, NONE, NONE], // u Function
-    [TYPE, NONE, NONE, NONE, NONE], // v Complex
-    [TYPE_IN_STD, NONE, NONE, NONE, NONE], // w TypeInStd
-    [ABBREVIATION, NONE, NONE, NONE, NONE], // x AbbreviatedType
-    [NONE, NONE, NONE, NONE, NONE], // y RestEnd
-    [AFTER_R, NONE, NONE, NONE, NONE], // z RestLvalue
-    [AFTER_O, NONE, NONE, NONE, NONE], // { RestRvalue
-    [ITEM_BUT_REF, FUNCTION_REST, NONE, NONE, NONE], // | RestItem
-    [NONE, NONE, NONE, NONE, NONE], // } RefEnd
-    [TYPE, FUNCTION_REST, NONE, NONE, NONE], // ~ LvalueItem
-    [TYPE, FUNCTION_REST, NONE, NONE, NONE], // \x7f RvalueItem
-    [ITEM, ITEMS, NONE, NONE, NONE], // \x80 Items
-    [ARGUMENTS_FIRST, Sym::Byte(b'E'), NONE, NONE, NONE], // \x81 Arguments
-    [NAME, MAYBE_ARGUMENTS, NONE, NONE, NONE], // \x82 Tag
-    [PACK_LIST, Sym::Byte(b'E'), ARGUMENT_LIST, NONE, NONE], // \x83 PackArgument
-    [LITERAL, Sym::Byte(b'E'), ARGUMENT_LIST, NONE, NONE], // \x84 LiteralArgument
-    [ARGUMENT, ARGUMENT_LIST, NONE, NONE, NONE], // \x85 AnyArgument
-    [LITERAL, Sym::Byte(b'E'), PACK_LIST, NONE, NONE], // \x86 LiteralElement
-    [ARGUMENT, PACK_LIST, NONE, NONE, NONE], // \x87 AnyElement
-    [Sym::Byte(b'Z'), ENCODING, NONE, NONE, NONE], // \x88 EncodingLiteral
-    [BIT, NONE, NONE, NONE, NONE], // \x89 BoolLiteral
-    [LITERAL_AFTER_D, NONE, NONE, NONE, NONE], // \x8a LiteralWithD
-    [LITERAL_TYPE, INTEGER, NONE, NONE, NONE], // \x8b IntegerLiteral
-    [MAYBE_ZERO, NONE, NONE, NONE, NONE], // \x8c NullLiteral
-    [INTEGER, NONE, NONE, NONE, NONE], // \x8d CharLiteral
-    [OPERATOR_AFTER_N, NONE, NONE, NONE, NONE], // \x8e OperatorN
-    [OPERATOR_AFTER_D, NONE, NONE, NONE, NONE], // \x8f OperatorD
-    [OPERATOR_AFTER_A, NONE, NONE, NONE, NONE], // \x90 OperatorA
-    [OPERATOR_AFTER_P, NONE, NONE, NONE, NONE], // \x91 OperatorP
-    [OPERATOR_AFTER_C, NONE, NONE, NONE, NONE], // \x92 OperatorC
-    [OPERATOR_AFTER_M, NONE, NONE, NONE, NONE], // \x93 OperatorM
-    [OPERATOR_AFTER_R, NONE, NONE, NONE, NONE], // \x94 OperatorR
-    [OPERATOR_AFTER_O, NONE, NONE, NONE, NONE], // \x95 OperatorO
-    [OPERATOR_AFTER_E, NONE, NONE, NONE, NONE], // \x96 OperatorE
-    [OPERATOR_AFTER_L, NONE, NONE, NONE, NONE], // \x97 OperatorL
-    [OPERATOR_AFTER_S, NONE, NONE, NONE, NONE], // \x98 OperatorS
-    [OPERATOR_AFTER_I, NONE, NONE, NONE, NONE], // \x99 OperatorI
-    [OPERATOR_AFTER_G, NONE, NONE, NONE, NONE], // \x9a OperatorG
-    [NAME, NONE, NONE, NONE, NONE], // \x9b LiteralOperator
-    [ARGUMENTS_FIRST, Sym::Byte(b'E'), NEST_MORE_OR_END, NONE, NONE], // \x9c NestInstance
-    [TYPE, NONE, NONE, NONE, NONE], // \x9d Conversion
-    [OPERATOR_AFTER_C, MAYBE_ARGUMENTS, NONE, NONE, NONE], // \x9e OperatorNameWithC
-    [ARGUMENTS_FIRST, Sym::Byte(b'E'), NONE, NONE, NONE], // \x9f OwnArguments
-    [NEST, OWN_ARGUMENTS, NONE, NONE, NONE], // \xa0 NestedBase
-    [BASE_AFTER_S, NONE, NONE, NONE, NONE], // \xa1 BaseWithS
-    [TAGGED_SOURCE, BASE_ARGUMENTS, NONE, NONE, NONE], // \xa2 SourceBase
-    [TYPE_IN_STD, BASE_ARGUMENTS, NONE, NONE, NONE], // \xa3 BaseInStd
-    [ARGUMENTS_FIRST, Sym::Byte(b'E'), OWN_ARGUMENTS, NONE, NONE], // \xa4 BaseArguments
-    [CLONE_LETTER, ENCODING, NONE, NONE, NONE], // \xa5 Clone
-    [SOURCE_OR_LOCAL, MAYBE_TAGS, NONE, NONE, NONE], // \xa6 TaggedStdType
-    [NAME, MAYBE_TAGS, NONE, NONE, NONE], // \xa7 TypeTag
-    [EXPRESSION, Sym::Byte(b'E'), NONE, NONE, NONE], // \xa8 Expression
-    [ARGUMENT_AFTER_T, NONE, NONE, NONE, NONE], // \xa9 ArgumentWithT
-    [SOLID_BUT_T, NONE, NONE, NONE, NONE], // \xaa PlainArgument
-    [DECLARATION_AFTER_T, ONE_ARGUMENT, NONE, NONE, NONE], // \xab DeclaredArgument
-    [DECIMAL, ARGUMENTS_ALONE, NONE, NONE, NONE], // \xac ParameterArgument
-    [LITERAL, Sym::Byte(b'E'), NONE, NONE, NONE], // \xad OneLiteral
-    [PACK_LIST, Sym::Byte(b'E'), NONE, NONE, NONE], // \xae OnePack
-    [NONE, NONE, NONE, NONE, NONE], // \xaf AnyType
-    [TYPE, NONE, NONE, NONE, NONE], // \xb0 ValueOf
-    [CONCEPT, NONE, NONE, NONE, NONE], // \xb1 OfConcept
-    [DECLARATIONS, Sym::Byte(b'E'), NONE, NONE, NONE], // \xb2 TemplateOf
-    [Sym::Byte(b'T'), DECLARATION_AFTER_T, NONE, NONE, NONE], // \xb3 PackOf
-    [DECLARATION_AFTER_T, DECLARATIONS, NONE, NONE, NONE], // \xb4 Declarations
-    [TYPE, EXPRESSION, NONE, NONE, NONE], // \xb5 Cast
-    [OPERATOR, ARGUMENTS_ALONE, NONE, NONE, NONE], // \xb6 OperatorReference
-    [NAME, ARGUMENTS_ALONE, NONE, NONE, NONE], // \xb7 SimpleId
-    [MAYBE_RESTRICT, MAYBE_VOLATILE, MAYBE_CONST, PARAMETER_NUMBER, NONE], // \xb8 FunctionParameter
-    [ADDRESSED_EXPRESSION, NONE, NONE, NONE, NONE], // \xb9 AddressExpression
-    [EXPRESSION, EXPRESSION, NONE, NONE, NONE], // \xba Binary
-    [EXPRESSION, NONE, NONE, NONE, NONE], // \xbb Unary
-    [CONVERTED_TYPE, NONE, NONE, NONE, NONE], // \xbc OfType
-    [EXPRESSION, EXPRESSIONS, Sym::Byte(b'E'), NONE, NONE], // \xbd Call
-    [CONVERTED_TYPE, CONVERT_REST, NONE, NONE, NONE], // \xbe Convert
-    [DIGITS, OUTER_REST, NONE, NONE, NONE], // \xbf OuterParameter
-    [EXPRESSIONS, Sym::Byte(b'E'), NONE, NONE, NONE], // \xc0 Braces
-    [MAYBE_BEFORE, EXPRESSION, NONE, NONE, NONE], // \xc1 Step
-    [EXPRESSION, EXPRESSION, EXPRESSION, NONE, NONE], // \xc2 Conditional
-    [EXPRESSION, NONE, NONE, NONE, NONE], // \xc3 ExpandExpression
-    [EXPRESSION, NONE, NONE, NONE, NONE], // \xc4 PackSize
-    [UNRESOLVED, NONE, NONE, NONE, NONE], // \xc5 Unresolved
-    [TYPE, EXPRESSIONS, Sym::Byte(b'E'), NONE, NONE], // \xc6 TypedBraces
-    [EXPRESSION_AFTER_A, NONE, NONE, NONE, NONE], // \xc7 ExpressionA
-    [EXPRESSION_AFTER_C, NONE, NONE, NONE, NONE], // \xc8 ExpressionC
-    [EXPRESSION_AFTER_D, NONE, NONE, NONE, NONE], // \xc9 ExpressionD
-    [EXPRESSION_AFTER_E, NONE, NONE, NONE, NONE], // \xca ExpressionE
-    [EXPRESSION_AFTER_F, NONE, NONE, NONE, NONE], // \xcb ExpressionF
-    [EXPRESSION_AFTER_G, NONE, NONE, NONE, NONE], // \xcc ExpressionG
-    [EXPRESSION_AFTER_I, NONE, NONE, NONE, NONE], // \xcd ExpressionI
-    [EXPRESSION_AFTER_L, NONE, NONE, NONE, NONE], // \xce ExpressionL
-    [EXPRESSION_AFTER_M, NONE, NONE, NONE, NONE], // \xcf ExpressionM
-    [EXPRESSION_AFTER_N, NONE, NONE, NONE, NONE], // \xd0 ExpressionN
-    [EXPRESSION_AFTER_O, NONE, NONE, NONE, NONE], // \xd1 ExpressionO
-    [EXPRESSION_AFTER_P, NONE, NONE, NONE, NONE], // \xd2 ExpressionP
-    [EXPRESSION_AFTER_Q, NONE, NONE, NONE, NONE], // \xd3 ExpressionQ
-    [EXPRESSION_AFTER_R, NONE, NONE, NONE, NONE], // \xd4 ExpressionR
-    [EXPRESSION_AFTER_S, NONE, NONE, NONE, NONE], // \xd5 ExpressionS
-    [EXPRESSION_AFTER_T, NONE, NONE, NONE, NONE], // \xd6 ExpressionT
-    [DECIMAL, ARGUMENTS_ALONE, NONE, NONE, NONE], // \xd7 ParameterExpression
-    [ADDRESSED_LITERAL, Sym::Byte(b'E'), NONE, NONE, NONE], // \xd8 AddressedLiteral
-    [EXPRESSION, EXPRESSIONS, NONE, NONE, NONE], // \xd9 Expressions
-    [NONE, NONE, NONE, NONE, NONE], // \xda This
-    [DECIMAL, NONE, NONE, NONE, NONE], // \xdb ParameterNumber
-    [DECLTYPE_AFTER_D, NONE, NONE, NONE, NONE], // \xdc ConvertedDecltype
-    [CONVERTED_TYPE, NONE, NONE, NONE, NONE], // \xdd ConvertedConst
-    [CONVERTED_TYPE, NONE, NONE, NONE, NONE], // \xde ConvertedPointer
-    [CONVERTED_TYPE, NONE, NONE, NONE, NONE], // \xdf ConvertedReference
-    [CONVERTED_SOLID, NONE, NONE, NONE, NONE], // \xe0 ConvertedType
-    [UNRESOLVED_TYPE, UNRESOLVED_NAME, NONE, NONE, NONE], // \xe1 UnresolvedInType
-    [LEVEL, MORE_LEVELS, NONE, NONE, NONE], // \xe2 Levels
-    [UNRESOLVED_NAME, NONE, NONE, NONE, NONE], // \xe3 LevelsEnd
-    [OPERATOR_NAME, NONE, NONE, NONE, NONE], // \xe4 UnresolvedOperator
-    [ARRAY_REST, NONE, NONE, NONE, NONE], // \xe5 AnyArray
-    [BOUND, Sym::Byte(b'_'), TYPE, NONE, NONE], // \xe6 BoundedArray
-    [DECIMAL, TYPE, NONE, NONE, NONE], // \xe7 LengthArray
-    [NAME, MAYBE_TAGS, NONE, NONE, NONE], // \xe8 TaggedSource
+    [UNQUALIFIED, MAYBE_ARGUMENTS, NONE, NONE, NONE], // O Friend
+    [INHERITED_DIGIT, BASE_CLASS, NONE, NONE, NONE], // P Inheriting
+    [CONSTRUCTOR_DIGIT, MAYBE_ARGUMENTS, NONE, NONE, NONE], // Q Constructor
+    [NONE, NONE, NONE, NONE, NONE], // R Abbreviation
+    [SEQ36, NONE, NONE, NONE, NONE], // S Substitution
+    [NEST, NONE, NONE, NONE, NONE], // T NestedType
+    [NONE, NONE, NONE, NONE, NONE], // U StringLiteral
+    [DECIMAL, PLAIN_ENTITY, NONE, NONE, NONE], // V DefaultEntity
+    [DECIMAL, PLAIN_TYPE_ENTITY, NONE, NONE, NONE], // W DefaultTypeEntity
+    [DISCRIMINATOR_REST, NONE, NONE, NONE, NONE], // X Discriminator
+    [NONE, NONE, NONE, NONE, NONE], // Y OneDigit
+    [DIGITS, Sym::Byte(b'_'), NONE, NONE, NONE], // Z ManyDigits
+    [ITEM, ITEMS, Sym::Byte(b'E'), DECIMAL, NONE], // [ Lambda
+    [DECIMAL, NONE, NONE, NONE, NONE], // \\ Unnamed
+    [MAYBE_VOLATILE, MAYBE_CONST, PLAIN, NONE, NONE], // ] RestrictType
+    [MAYBE_CONST, PLAIN, NONE, NONE, NONE], // ^ VolatileType
+    [PLAIN, NONE, NONE, NONE, NONE], // _ ConstType
+    [TYPE, NONE, NONE, NONE, NONE], // ` ReferenceType
+    [SOLID, NONE, NONE, NONE, NONE], // a PlainType
+    [AFTER_D, NONE, NONE, NONE, NONE], // b TypeWithD
+    [AFTER_D, NONE, NONE, NONE, NONE], // c PlainWithD
+    [SOLID, NONE, NONE, NONE, NONE], // d QualifiedPlain
+    [ITEM_AFTER_D, NONE, NONE, NONE, NONE], // e ItemWithD
+    [TYPE, NONE, NONE, NONE, NONE], // f Expansion
+    [AFTER_D, NONE, NONE, NONE, NONE], // g ItemIsType
+    [NONE, NONE, NONE, NONE, NONE], // h BuiltinWithD
+    [DIGITS, Sym::Byte(b'_'), TYPE, NONE, NONE], // i Vector
+    [Sym::Byte(b'F'), MAYBE_C_LINKAGE, TYPE, FUNCTION_REST, NONE], // j NoexceptFunction
+    [DIGITS, FLOAT_END, NONE, NONE, NONE], // k SizedFloat
+    [CONCEPT, NONE, NONE, NONE, NONE], // l ConstrainedAuto
+    [EXPRESSION, Sym::Byte(b'E'), NONE, NONE, NONE], // m Decltype
+    [TYPE, NONE, NONE, NONE, NONE], // n Pointer
+    [TYPE, TYPE, NONE, NONE, NONE], // o MemberPointer
+    [DECIMAL, ARGUMENTS_ALONE, NONE, NONE, NONE], // p Parameter
+    [TYPE_AFTER_S, ARGUMENTS_ALONE, NONE, NONE, NONE], // q TypeWithS
+    [ENCODING, Sym::Byte(b'E'), TYPE_ENTITY, MAYBE_DISCRIMINATOR, NONE], // r LocalType
+    [NONE, NONE, NONE, NONE, NONE], // s Builtin
+    [NAME, NONE, NONE, NONE, NONE], // t Vendor
+    [ANY_ARRAY, NONE, NONE, NONE, NONE], // u ArrayType
+    [MAYBE_C_LINKAGE, TYPE, FUNCTION_REST, NONE, NONE], // v Function
+    [TYPE, NONE, NONE, NONE, NONE], // w Complex
+    [TYPE_IN_STD, NONE, NONE, NONE, NONE], // x TypeInStd
+    [ABBREVIATION, NONE, NONE, NONE, NONE], // y AbbreviatedType
+    [NONE, NONE, NONE, NONE, NONE], // z RestEnd
+    [AFTER_R, NONE, NONE, NONE, NONE], // { RestLvalue
+    [AFTER_O, NONE, NONE, NONE, NONE], // | RestRvalue
+    [ITEM_BUT_REF, FUNCTION_REST, NONE, NONE, NONE], // } RestItem
+    [NONE, NONE, NONE, NONE, NONE], // ~ RefEnd
+    [TYPE, FUNCTION_REST, NONE, NONE, NONE], // \x7f LvalueItem
+    [TYPE, FUNCTION_REST, NONE, NONE, NONE], // \x80 RvalueItem
+    [EXPRESSION, NONE, NONE, NONE, NONE], // \x81 Constraint
+    [ITEM, ITEMS, NONE, NONE, NONE], // \x82 Items
+    [ARGUMENTS_FIRST, Sym::Byte(b'E'), NONE, NONE, NONE], // \x83 Arguments
+    [NAME, MAYBE_ARGUMENTS, NONE, NONE, NONE], // \x84 Tag
+    [PACK_LIST, Sym::Byte(b'E'), ARGUMENT_LIST, NONE, NONE], // \x85 PackArgument
+    [LITERAL, Sym::Byte(b'E'), ARGUMENT_LIST, NONE, NONE], // \x86 LiteralArgument
+    [ARGUMENT, ARGUMENT_LIST, NONE, NONE, NONE], // \x87 AnyArgument
+    [LITERAL, Sym::Byte(b'E'), PACK_LIST, NONE, NONE], // \x88 LiteralElement
+    [ARGUMENT, PACK_LIST, NONE, NONE, NONE], // \x89 AnyElement
+    [Sym::Byte(b'Z'), ENCODING, NONE, NONE, NONE], // \x8a EncodingLiteral
+    [BIT, NONE, NONE, NONE, NONE], // \x8b BoolLiteral
+    [LITERAL_AFTER_D, NONE, NONE, NONE, NONE], // \x8c LiteralWithD
+    [LITERAL_TYPE, INTEGER, NONE, NONE, NONE], // \x8d IntegerLiteral
+    [MAYBE_ZERO, NONE, NONE, NONE, NONE], // \x8e NullLiteral
+    [INTEGER, NONE, NONE, NONE, NONE], // \x8f CharLiteral
+    [OPERATOR_AFTER_N, NONE, NONE, NONE, NONE], // \x90 OperatorN
+    [OPERATOR_AFTER_D, NONE, NONE, NONE, NONE], // \x91 OperatorD
+    [OPERATOR_AFTER_A, NONE, NONE, NONE, NONE], // \x92 OperatorA
+    [OPERATOR_AFTER_P, NONE, NONE, NONE, NONE], // \x93 OperatorP
+    [OPERATOR_AFTER_C, NONE, NONE, NONE, NONE], // \x94 OperatorC
+    [OPERATOR_AFTER_M, NONE, NONE, NONE, NONE], // \x95 OperatorM
+    [OPERATOR_AFTER_R, NONE, NONE, NONE, NONE], // \x96 OperatorR
+    [OPERATOR_AFTER_O, NONE, NONE, NONE, NONE], // \x97 OperatorO
+    [OPERATOR_AFTER_E, NONE, NONE, NONE, NONE], // \x98 OperatorE
+    [OPERATOR_AFTER_L, NONE, NONE, NONE, NONE], // \x99 OperatorL
+    [OPERATOR_AFTER_S, NONE, NONE, NONE, NONE], // \x9a OperatorS
+    [OPERATOR_AFTER_I, NONE, NONE, NONE, NONE], // \x9b OperatorI
+    [OPERATOR_AFTER_G, NONE, NONE, NONE, NONE], // \x9c OperatorG
+    [NAME, NONE, NONE, NONE, NONE], // \x9d LiteralOperator
+    [ARGUMENTS_FIRST, Sym::Byte(b'E'), NEST_MORE_OR_END, NONE, NONE], // \x9e NestInstance
+    [TYPE, NONE, NONE, NONE, NONE], // \x9f Conversion
+    [OPERATOR_AFTER_C, MAYBE_ARGUMENTS, NONE, NONE, NONE], // \xa0 OperatorNameWithC
+    [ARGUMENTS_FIRST, Sym::Byte(b'E'), NONE, NONE, NONE], // \xa1 OwnArguments
+    [NEST, OWN_ARGUMENTS, NONE, NONE, NONE], // \xa2 NestedBase
+    [BASE_AFTER_S, NONE, NONE, NONE, NONE], // \xa3 BaseWithS
+    [TAGGED_SOURCE, BASE_ARGUMENTS, NONE, NONE, NONE], // \xa4 SourceBase
+    [TYPE_IN_STD, BASE_ARGUMENTS, NONE, NONE, NONE], // \xa5 BaseInStd
+    [ARGUMENTS_FIRST, Sym::Byte(b'E'), OWN_ARGUMENTS, NONE, NONE], // \xa6 BaseArguments
+    [CLONE_LETTER, ENCODING, NONE, NONE, NONE], // \xa7 Clone
+    [SOURCE_OR_LOCAL, MAYBE_TAGS, NONE, NONE, NONE], // \xa8 TaggedStdType
+    [NAME, MAYBE_TAGS, NONE, NONE, NONE], // \xa9 TypeTag
+    [EXPRESSION, Sym::Byte(b'E'), NONE, NONE, NONE], // \xaa Expression
+    [ARGUMENT_AFTER_T, NONE, NONE, NONE, NONE], // \xab ArgumentWithT
+    [SOLID_BUT_T, NONE, NONE, NONE, NONE], // \xac PlainArgument
+    [DECIMAL, ARGUMENTS_ALONE, NONE, NONE, NONE], // \xad ParameterArgument
+    [DECLARATION_AFTER_T, ONE_ARGUMENT, NONE, NONE, NONE], // \xae DeclaredArgument
+    [DECIMAL, LEVELED_PARAMETER, NONE, NONE, NONE], // \xaf LeveledParameter
+    [LITERAL, Sym::Byte(b'E'), NONE, NONE, NONE], // \xb0 OneLiteral
+    [PACK_LIST, Sym::Byte(b'E'), NONE, NONE, NONE], // \xb1 OnePack
+    [NONE, NONE, NONE, NONE, NONE], // \xb2 AnyType
+    [TYPE, NONE, NONE, NONE, NONE], // \xb3 ValueOf
+    [CONCEPT, NONE, NONE, NONE, NONE], // \xb4 OfConcept
+    [DECLARATIONS, Sym::Byte(b'E'), NONE, NONE, NONE], // \xb5 TemplateOf
+    [Sym::Byte(b'T'), DECLARATION_AFTER_T, NONE, NONE, NONE], // \xb6 PackOf
+    [DECLARATION_AFTER_T, DECLARATIONS, NONE, NONE, NONE], // \xb7 Declarations
+    [TYPE, EXPRESSION, NONE, NONE, NONE], // \xb8 Cast
+    [OPERATOR, ARGUMENTS_ALONE, NONE, NONE, NONE], // \xb9 OperatorReference
+    [NAME, ARGUMENTS_ALONE, NONE, NONE, NONE], // \xba SimpleId
+    [MAYBE_RESTRICT, MAYBE_VOLATILE, MAYBE_CONST, PARAMETER_NUMBER, NONE], // \xbb FunctionParameter
+    [ADDRESSED_EXPRESSION, NONE, NONE, NONE, NONE], // \xbc AddressExpression
+    [EXPRESSION, EXPRESSION, NONE, NONE, NONE], // \xbd Binary
+    [EXPRESSION, NONE, NONE, NONE, NONE], // \xbe Unary
+    [CONVERTED_TYPE, NONE, NONE, NONE, NONE], // \xbf OfType
+    [EXPRESSION, EXPRESSIONS, Sym::Byte(b'E'), NONE, NONE], // \xc0 Call
+    [CONVERTED_TYPE, CONVERT_REST, NONE, NONE, NONE], // \xc1 Convert
+    [DESTRUCTOR_NAME, NONE, NONE, NONE, NONE], // \xc2 DestructorName
+    [DIGITS, OUTER_REST, NONE, NONE, NONE], // \xc3 OuterParameter
+    [FOLD_OPERATOR, FOLD_OPERAND, NONE, NONE, NONE], // \xc4 LeftFold
+    [FOLD_OPERATOR, FOLD_OPERAND, NONE, NONE, NONE], // \xc5 RightFold
+    [EXPRESSIONS, Sym::Byte(b'E'), NONE, NONE, NONE], // \xc6 Braces
+    [MAYBE_BEFORE, EXPRESSION, NONE, NONE, NONE], // \xc7 Step
+    [PLACEMENT, TYPE, INITIALIZER, NONE, NONE], // \xc8 New
+    [EXPRESSION, EXPRESSION, EXPRESSION, NONE, NONE], // \xc9 Conditional
+    [REQUIREMENTS, Sym::Byte(b'E'), NONE, NONE, NONE], // \xca Requires
+    [REQUIRED_TYPES, NONE, NONE, NONE, NONE], // \xcb RequiresOf
+    [EXPRESSION, NONE, NONE, NONE, NONE], // \xcc ExpandExpression
+    [EXPRESSION, NONE, NONE, NONE, NONE], // \xcd PackSize
+    [UNRESOLVED, NONE, NONE, NONE, NONE], // \xce Unresolved
+    [TYPE, EXPRESSIONS, Sym::Byte(b'E'), NONE, NONE], // \xcf TypedBraces
+    [EXPRESSION_AFTER_A, NONE, NONE, NONE, NONE], // \xd0 ExpressionA
+    [EXPRESSION_AFTER_C, NONE, NONE, NONE, NONE], // \xd1 ExpressionC
+    [EXPRESSION_AFTER_D, NONE, NONE, NONE, NONE], // \xd2 ExpressionD
+    [EXPRESSION_AFTER_E, NONE, NONE, NONE, NONE], // \xd3 ExpressionE
+    [EXPRESSION_AFTER_F, NONE, NONE, NONE, NONE], // \xd4 ExpressionF
+    [EXPRESSION_AFTER_G, NONE, NONE, NONE, NONE], // \xd5 ExpressionG
+    [EXPRESSION_AFTER_I, NONE, NONE, NONE, NONE], // \xd6 ExpressionI
+    [EXPRESSION_AFTER_L, NONE, NONE, NONE, NONE], // \xd7 ExpressionL
+    [EXPRESSION_AFTER_M, NONE, NONE, NONE, NONE], // \xd8 ExpressionM
+    [EXPRESSION_AFTER_N, NONE, NONE, NONE, NONE], // \xd9 ExpressionN
+    [EXPRESSION_AFTER_O, NONE, NONE, NONE, NONE], // \xda ExpressionO
+    [EXPRESSION_AFTER_P, NONE, NONE, NONE, NONE], // \xdb ExpressionP
+    [EXPRESSION_AFTER_Q, NONE, NONE, NONE, NONE], // \xdc ExpressionQ
+    [EXPRESSION_AFTER_R, NONE, NONE, NONE, NONE], // \xdd ExpressionR
+    [EXPRESSION_AFTER_S, NONE, NONE, NONE, NONE], // \xde ExpressionS
+    [EXPRESSION_AFTER_T, NONE, NONE, NONE, NONE], // \xdf ExpressionT
+    [DECIMAL, ARGUMENTS_ALONE, NONE, NONE, NONE], // \xe0 ParameterExpression
+    [ADDRESSED_LITERAL, Sym::Byte(b'E'), NONE, NONE, NONE], // \xe1 AddressedLiteral
+    [EXPRESSION, EXPRESSIONS, NONE, NONE, NONE], // \xe2 Expressions
+    [FOLD_OPERATOR_AFTER_L, NONE, NONE, NONE, NONE], // \xe3 FoldOperatorL
+    [FOLD_PACK, NONE, NONE, NONE, NONE], // \xe4 FoldOperand
+    [EXPRESSION, NONE, NONE, NONE, NONE], // \xe5 FoldPack
+    [SOME_EXPRESSIONS, Sym::Byte(b'_'), NONE, NONE, NONE], // \xe6 Placed
+    [INITIALIZER_AFTER_P, NONE, NONE, NONE, NONE], // \xe7 Initializer
+    [INITIALIZER_AFTER_I, NONE, NONE, NONE, NONE], // \xe8 BracedInitializer
+    [NONE, NONE, NONE, NONE, NONE], // \xe9 This
+    [DECIMAL, NONE, NONE, NONE, NONE], // \xea ParameterNumber
+    [DECLTYPE_AFTER_D, NONE, NONE, NONE, NONE], // \xeb ConvertedDecltype
+    [CONVERTED_TYPE, NONE, NONE, NONE, NONE], // \xec ConvertedConst
+    [CONVERTED_TYPE, NONE, NONE, NONE, NONE], // \xed ConvertedPointer
+    [CONVERTED_TYPE, NONE, NONE, NONE, NONE], // \xee ConvertedReference
+    [CONVERTED_SOLID, NONE, NONE, NONE, NONE], // \xef ConvertedType
+    [UNRESOLVED_TYPE, UNRESOLVED_NAME, NONE, NONE, NONE], // \xf0 UnresolvedInType
+    [LEVEL, MORE_LEVELS, NONE, NONE, NONE], // \xf1 Levels
+    [UNRESOLVED_TYPE, NONE, NONE, NONE, NONE], // \xf2 DestroyedType
+    [EXPRESSION, AFTER_EXPRESSION, NONE, NONE, NONE], // \xf3 ExpressionRequirement
+    [TYPE, REQUIREMENTS, NONE, NONE, NONE], // \xf4 TypeRequirement
+    [EXPRESSION, REQUIREMENTS, NONE, NONE, NONE], // \xf5 NestedRequirement
+    [CONCEPT, REQUIREMENTS, NONE, NONE, NONE], // \xf6 ResultRequirement
+    [AFTER_NOEXCEPT, NONE, NONE, NONE, NONE], // \xf7 NoexceptRequirement
+    [CONVERTED_TYPE, REQUIRED_TYPES, NONE, NONE, NONE], // \xf8 RequiredType
+    [UNRESOLVED_NAME, NONE, NONE, NONE, NONE], // \xf9 LevelsEnd
+    [OPERATOR_NAME, NONE, NONE, NONE, NONE], // \xfa UnresolvedOperator
+    [ARRAY_REST, NONE, NONE, NONE, NONE], // \xfb AnyArray
+    [BOUND, Sym::Byte(b'_'), TYPE, NONE, NONE], // \xfc BoundedArray
+    [DECIMAL, TYPE, NONE, NONE, NONE], // \xfd LengthArray
+    [NAME, MAYBE_TAGS, NONE, NONE, NONE], // \xfe TaggedSource
 };
 
 /// The number of the rule that a kind takes at a byte, if it takes one.
 #[inline]
 fn number(kind: u16, byte: u8) -> Option<usize>
     requires { kind < abi.kinds }
-    ensures few { IfSome result (λ number. number < 200) }
+    ensures few { IfSome result (λ number. number < 222) }
     ensures rule { (head : Head) → MatchOption result (abi.rule kind byte ≡ None) (λ number. abi.rule kind byte ≡ Some (listed_rule head number)) }
 {
     match letter_in(&LETTERS[kind as usize], byte) {

@@ -8,7 +8,7 @@ use crate::table::{FIRST_LETTER, HEADS, SYMBOLS};
 use sym_shape::{Rule, letter_in, place_of, symbols_from};
 
 // For each kind a row: for each byte from `$` to `z` the letter of the production that the kind takes there.
-static WIDE_LETTERS: [[u8; 87]; 132] = [
+static WIDE_LETTERS: [[u8; 87]; 147] = [
     // $%&'()*+,-./0123456789:;<=>?@ABCDEFGHIJKLMNOPQRSTUVWXYZ[\]^_`abcdefghijklmnopqrstuvwxyz
     *b"                                                           *                           ", // Symbol
     *b"          +                                                                            ", // MaybeSuffix
@@ -27,43 +27,43 @@ static WIDE_LETTERS: [[u8; 87]; 132] = [
     *b"            ((((((((((                  &        '           > >>> > >  >>>>> >>       ", // Unqualified
     *b"            CCCCCCCCCC                  A      ?@B                                     ", // Nest
     *b"            EEEEEEEEEE       EEEEEEEEEEEEEEEEEEEEEEEEEE    E EE E    E     E   ED      ", // NestAfterS
-    *b"            GGGGGGGGGG        HGG    F  GG       G           G GGG G G  GGGGG GG       ", // NestRest
-    *b"            GGGGGGGGGG         GGI      GG       G           G GGG G G  GGGGG GG       ", // NestTail
-    *b"            $$$$$$$$$$         JK       \"N       #           M LMM M M  MMMMM MM       ", // Component
-    *b"             PPPPP                   O                                                 ", // ConstructorAfterC
+    *b"            GGGGGGGGGG        HGG G  F  GG       G           G GGG G G  GGGGG GG       ", // NestRest
+    *b"            GGGGGGGGGG         GGIG     GG       G           G GGG G G  GGGGG GG       ", // NestTail
+    *b"            $$$$$$$$$$         JK O     \"N       #           M LMM M M  MMMMM MM       ", // Component
+    *b"             QQQQQ                   P                                                 ", // ConstructorAfterC
     *b"             !!!!!                                                                     ", // ConstructorDigit
     *b"             !! !!                                                                     ", // InheritedDigit
     *b"            !!! !!                                                                     ", // DestructorDigit
-    *b"            RRRRRRRRRR       RRRRRRRRRRRRRRRRRRRRRRRRRR    R QQ Q    Q     Q   Q       ", // Abbreviation
-    *b"            $$$$$$$$$$                  \" )      #              U              T       ", // Entity
-    *b"            $$$$$$$$$$                  \" S      #              V                      ", // TypeEntity
-    *b"                                                           W                           ", // MaybeDiscriminator
-    *b"            XXXXXXXXXX                                     Y                           ", // DiscriminatorRest
-    *b"                                                                        Z       [      ", // Anonymous
-    *b"            ``````````       ` `a `    ^ ``_` _```]   `      `````````` ````  \\````````", // Type
-    *b"            cccccccccc       c cb c      cc_c _ccc    c      cccccccccc cccc   cccccccc", // Plain
-    *b"            ``````````       ` `d `    ^ ``_` _```]   `      `````````` ````  \\````````", // Item
-    *b"            ``````````       ` `d `    ^ `` `  ```]   `      `````````` ````  \\````````", // ItemButRef
-    *b"                                  f    f        f            f ffff ff f  ffe  ffff    ", // ItemAfterD
-    *b"                                  j    k        l            g gggg gg k  gi   glgh    ", // AfterD
-    *b"            $$$$$$$$$$       t v  u      nS m  po#    q      rrrrrrrrrr rrrr   rrsrrrrr", // Solid
+    *b"            SSSSSSSSSS       SSSSSSSSSSSSSSSSSSSSSSSSSS    S RR R    R     R   R       ", // Abbreviation
+    *b"            $$$$$$$$$$                  \" )      #              V              U       ", // Entity
+    *b"            $$$$$$$$$$                  \" T      #              W                      ", // TypeEntity
+    *b"                                                           X                           ", // MaybeDiscriminator
+    *b"            YYYYYYYYYY                                     Z                           ", // DiscriminatorRest
+    *b"                                                                        [       \\      ", // Anonymous
+    *b"            aaaaaaaaaa       a ab a    _ aa`a `aaa^   a      aaaaaaaaaa aaaa  ]aaaaaaaa", // Type
+    *b"            dddddddddd       d dc d      dd`d `ddd    d      dddddddddd dddd   dddddddd", // Plain
+    *b"            aaaaaaaaaa       a ae a    _ aa`a `aaa^   a      aaaaaaaaaa aaaa  ]aaaaaaaa", // Item
+    *b"            aaaaaaaaaa       a ae a    _ aa a  aaa^   a      aaaaaaaaaa aaaa  ]aaaaaaaa", // ItemButRef
+    *b"                                  g    g        g            g gggg gg g  ggf  gggg    ", // ItemAfterD
+    *b"                                  k    l        m            h hhhh hh l  hj   hmhi    ", // AfterD
+    *b"            $$$$$$$$$$       u w  v      oT n  qp#    r      ssssssssss ssss   sstsssss", // Solid
     *b"                                                     !                                 ", // MaybeCLinkage
-    *b"            xxxxxxxxxx       xxxxxxxxxxxxxxxxxxxxxxxxxx    x xx x    x     x   xw      ", // TypeAfterS
+    *b"            yyyyyyyyyy       yyyyyyyyyyyyyyyyyyyyyyyyyy    y yy y    y     y   yx      ", // TypeAfterS
     *b"            ((((((((((                  &        '                                     ", // SourceOrLocal
-    *b"            ||||||||||       | ||y|    | ||{| z||||   |      |||||||||| ||||  |||||||||", // FunctionRest
-    *b"            ~~~~~~~~~~       ~ ~~}~    ~ ~~~~ ~~~~~   ~      ~~~~~~~~~~ ~~~~  ~~~~~~~~~", // AfterR
-    *b"            \x7f\x7f\x7f\x7f\x7f\x7f\x7f\x7f\x7f\x7f       \x7f \x7f\x7f}\x7f    \x7f \x7f\x7f\x7f\x7f \x7f\x7f\x7f\x7f\x7f   \x7f      \x7f\x7f\x7f\x7f\x7f\x7f\x7f\x7f\x7f\x7f \x7f\x7f\x7f\x7f  \x7f\x7f\x7f\x7f\x7f\x7f\x7f\x7f\x7f", // AfterO
-    *b"            \x80\x80\x80\x80\x80\x80\x80\x80\x80\x80       \x80 \x80\x80 \x80    \x80 \x80\x80\x80\x80 \x80\x80\x80\x80\x80   \x80      \x80\x80\x80\x80\x80\x80\x80\x80\x80\x80 \x80\x80\x80\x80  \x80\x80\x80\x80\x80\x80\x80\x80\x80", // Items
-    *b"                              \x82      \x81                                                 ", // MaybeArguments
-    *b"                                     \x81                                                 ", // Arguments
-    *b"            \x85\x85\x85\x85\x85\x85\x85\x85\x85\x85       \x85 \x85\x85 \x85   \x83\x85\x84\x85\x85\x85\x85 \x85\x85\x85\x85\x85 \x85 \x85      \x85\x85\x85\x85\x85\x85\x85\x85\x85\x85 \x85\x85\x85\x85  \x85\x85\x85\x85\x85\x85\x85\x85\x85", // ArgumentList
-    *b"            \x87\x87\x87\x87\x87\x87\x87\x87\x87\x87       \x87 \x87\x87 \x87    \x87\x86\x87\x87\x87\x87 \x87\x87\x87\x87\x87 \x87 \x87      \x87\x87\x87\x87\x87\x87\x87\x87\x87\x87 \x87\x87\x87\x87  \x87\x87\x87\x87\x87\x87\x87\x87\x87", // PackList
-    *b"            \x8b\x8b\x8b\x8b\x8b\x8b\x8b\x8b\x8b\x8b          \x8a        \x8b\x8b \x8b  \x8b\x8b\x8b    \x8b    \x88 \x8b\x89\x8b    \x8b\x8b\x8b \x8b\x8b\x8b\x8b   \x8b\x8b  \x8b\x8b\x8b ", // Literal
+    *b"            }}}}}}}}}}       } }}z}    } }}|} {}}}}   }      }}}}}}}}}} }}}}  }}}}}}}}}", // FunctionRest
+    *b"            \x7f\x7f\x7f\x7f\x7f\x7f\x7f\x7f\x7f\x7f       \x7f \x7f\x7f~\x7f    \x7f \x7f\x7f\x7f\x7f \x7f\x7f\x7f\x7f\x7f   \x7f      \x7f\x7f\x7f\x7f\x7f\x7f\x7f\x7f\x7f\x7f \x7f\x7f\x7f\x7f  \x7f\x7f\x7f\x7f\x7f\x7f\x7f\x7f\x7f", // AfterR
+    *b"            \x80\x80\x80\x80\x80\x80\x80\x80\x80\x80       \x80 \x80\x80~\x80    \x80 \x80\x80\x80\x80 \x80\x80\x80\x80\x80   \x80      \x80\x80\x80\x80\x80\x80\x80\x80\x80\x80 \x80\x80\x80\x80  \x80\x80\x80\x80\x80\x80\x80\x80\x80", // AfterO
+    *b"            \x82\x82\x82\x82\x82\x82\x82\x82\x82\x82       \x82 \x82\x82 \x82    \x82 \x82\x82\x82\x82\x81\x82\x82\x82\x82\x82   \x82      \x82\x82\x82\x82\x82\x82\x82\x82\x82\x82 \x82\x82\x82\x82  \x82\x82\x82\x82\x82\x82\x82\x82\x82", // Items
+    *b"                              \x84      \x83                                                 ", // MaybeArguments
+    *b"                                     \x83                                                 ", // Arguments
+    *b"            \x87\x87\x87\x87\x87\x87\x87\x87\x87\x87       \x87 \x87\x87 \x87   \x85\x87\x86\x87\x87\x87\x87\x81\x87\x87\x87\x87\x87 \x87 \x87      \x87\x87\x87\x87\x87\x87\x87\x87\x87\x87 \x87\x87\x87\x87  \x87\x87\x87\x87\x87\x87\x87\x87\x87", // ArgumentList
+    *b"            \x89\x89\x89\x89\x89\x89\x89\x89\x89\x89       \x89 \x89\x89 \x89    \x89\x88\x89\x89\x89\x89 \x89\x89\x89\x89\x89 \x89 \x89      \x89\x89\x89\x89\x89\x89\x89\x89\x89\x89 \x89\x89\x89\x89  \x89\x89\x89\x89\x89\x89\x89\x89\x89", // PackList
+    *b"            \x8d\x8d\x8d\x8d\x8d\x8d\x8d\x8d\x8d\x8d          \x8c        \x8d\x8d \x8d  \x8d\x8d\x8d    \x8d    \x8a \x8d\x8b\x8d    \x8d\x8d\x8d \x8d\x8d\x8d\x8d   \x8d\x8d  \x8d\x8d\x8d ", // Literal
     *b"            !!                                                                         ", // Bit
-    *b"                                                                     \x8d    \x8c    \x8d \x8d     ", // LiteralAfterD
+    *b"                                                                     \x8f    \x8e    \x8f \x8f     ", // LiteralAfterD
     *b"            !                                                                          ", // MaybeZero
-    *b"            $$$$$$$$$$                   nS m  po#    q      r r    rrr rrrr   rr  rrr ", // LiteralType
-    *b"                                                             \x90 \x92\x8f\x96 \x9a \x99  \x97\x93\x8e\x95\x91 \x94\x98       ", // Operator
+    *b"            $$$$$$$$$$                   oT n  qp#    r      s s    sss ssss   ss  sss ", // LiteralType
+    *b"                                                             \x92 \x94\x91\x98 \x9c \x9b  \x99\x95\x90\x97\x93 \x96\x9a       ", // Operator
     *b"                                                             !   ! !            !  !   ", // OperatorAfterN
     *b"                                                  !          !   !      !         !    ", // OperatorAfterD
     *b"                                          !    !             !  !         !        !   ", // OperatorAfterA
@@ -73,82 +73,97 @@ static WIDE_LETTERS: [[u8; 87]; 132] = [
     *b"                                         !     !                         !     !       ", // OperatorAfterR
     *b"                                              !                            !  !        ", // OperatorAfterO
     *b"                                           !                               ! !         ", // OperatorAfterE
-    *b"                                               !                 !   \x9b         !!      ", // OperatorAfterL
+    *b"                                               !                 !   \x9d         !!      ", // OperatorAfterL
     *b"                                                                               !       ", // OperatorAfterS
     *b"                                                                                    !  ", // OperatorAfterI
     *b"                                                                 !              !      ", // OperatorAfterG
-    *b"            GGGGGGGGGG         GG    \x9c  GG       G           G GGG G G  GGGGG GG       ", // NestRestOrEnd
-    *b"                                     \x81                                                 ", // ArgumentsAlone
-    *b"            GGGGGGGGGG         GG    F  GG       G           G GGG G G  GGGGG GG       ", // NestRestAlone
+    *b"            GGGGGGGGGG         GG G  \x9e  GG       G           G GGG G G  GGGGG GG       ", // NestRestOrEnd
+    *b"                                     \x83                                                 ", // ArgumentsAlone
+    *b"            GGGGGGGGGG         GG G  F  GG       G           G GGG G G  GGGGG GG       ", // NestRestAlone
     *b"                                         !                                             ", // HolderMark
     *b"            $$$$$$$$$$         JK       \"        #           M LMM M M  MMMMM MM       ", // HeldComponent
     *b"                                                           !  !                     !  ", // FloatEnd
-    *b"                                                                        \x9e\x9e \x9e      \x9d    ", // ComponentAfterC
-    *b"                                                             \x90  \x8f\x96 \x9a \x99  \x97\x93\x8e\x95\x91 \x94\x98       ", // OtherOperator
-    *b"            \xa2\xa2\xa2\xa2\xa2\xa2\xa2\xa2\xa2\xa2                    \xa0    \xa1      q                                ", // BaseClass
-    *b"            xxxxxxxxxx       xxxxxxxxxxxxxxxxxxxxxxxxxx    x xx x    x     x   x\xa3      ", // BaseAfterS
-    *b"                                     \xa4                                                 ", // BaseArguments
-    *b"                                     \x9f                                                 ", // OwnArguments
-    *b"            \x85\x85\x85\x85\x85\x85\x85\x85\x85\x85       \x85 \x85\x85 \x85  \x83\x83\x85\x84\x85\x85\x85\x85 \x85\x85\x85\x85\x85 \x85 \x85      \x85\x85\x85\x85\x85\x85\x85\x85\x85\x85 \x85\x85\x85\x85  \x85\x85\x85\x85\x85\x85\x85\x85\x85", // ArgumentsFirst
+    *b"                                                                        \xa0\xa0 \xa0      \x9f    ", // ComponentAfterC
+    *b"                                                             \x92  \x91\x98 \x9c \x9b  \x99\x95\x90\x97\x93 \x96\x9a       ", // OtherOperator
+    *b"            \xa4\xa4\xa4\xa4\xa4\xa4\xa4\xa4\xa4\xa4                    \xa2    \xa3      r                                ", // BaseClass
+    *b"            yyyyyyyyyy       yyyyyyyyyyyyyyyyyyyyyyyyyy    y yy y    y     y   y\xa5      ", // BaseAfterS
+    *b"                                     \xa6                                                 ", // BaseArguments
+    *b"                                     \xa1                                                 ", // OwnArguments
+    *b"            \x87\x87\x87\x87\x87\x87\x87\x87\x87\x87       \x87 \x87\x87 \x87  \x85\x85\x87\x86\x87\x87\x87\x87\x81\x87\x87\x87\x87\x87 \x87 \x87      \x87\x87\x87\x87\x87\x87\x87\x87\x87\x87 \x87\x87\x87\x87  \x87\x87\x87\x87\x87\x87\x87\x87\x87", // ArgumentsFirst
     *b"            $$$$$$$$$$                  \" )      #                                     ", // PlainEntity
-    *b"            $$$$$$$$$$                  \" S      #                                     ", // PlainTypeEntity
+    *b"            $$$$$$$$$$                  \" T      #                                     ", // PlainTypeEntity
     *b"                                   !                                                   ", // SpecialMark
-    *b"                                                \xa5 4                                    ", // SpecialAfterG
+    *b"                                                \xa7 4                                    ", // SpecialAfterG
     *b"                                                                          !     !      ", // CloneLetter
-    *b"                                                                                \xa6      ", // TypeInStd
-    *b"                              \xa7                                                        ", // MaybeTags
-    *b"            \xaa\xaa\xaa\xaa\xaa\xaa\xaa\xaa\xaa\xaa       \xaa \xaad \xaa    ^ \xaa\xaa_\xaa _\xaa\xa9\xaa] \xa8 \xaa      \xaa\xaa\xaa\xaa\xaa\xaa\xaa\xaa\xaa\xaa \xaa\xaa\xaa\xaa  \\\xaa\xaa\xaa\xaa\xaa\xaa\xaa\xaa", // Argument
-    *b"            \xac\xac\xac\xac\xac\xac\xac\xac\xac\xac                                     \xac           \xab  \xab \xab   \xab    \xab ", // ArgumentAfterT
-    *b"            \xaa\xaa\xaa\xaa\xaa\xaa\xaa\xaa\xaa\xaa       \xaa \xaad \xaa   \xae^\xad\xaa\xaa_\xaa _\xaa\xa9\xaa] \xa8 \xaa      \xaa\xaa\xaa\xaa\xaa\xaa\xaa\xaa\xaa\xaa \xaa\xaa\xaa\xaa  \\\xaa\xaa\xaa\xaa\xaa\xaa\xaa\xaa", // OneArgument
-    *b"                                                                       \xb1  \xb0 \xb3   \xb2    \xaf ", // DeclarationAfterT
-    *b"                                                \xb4                                      ", // Declarations
-    *b"            $$$$$$$$$$                    S    p                                       ", // Concept
-    *b"            $$$$$$$$$$       t v  u      nS m  p #    q      rrrrrrrrrr rrrr   rrsrrrrr", // SolidButT
-    *b"            \xb7\xb7\xb7\xb7\xb7\xb7\xb7\xb7\xb7\xb7                  \xad       \xd7            \xc7 \xc8\xc9\xca\xcb\xcc \xcd  \xce\xcf\xd0\xd1\xd2\xd3\xd4\xd5\xd6      ", // Expression
-    *b"            \xb7\xb7\xb7\xb7\xb7\xb7\xb7\xb7\xb7\xb7                  \xd8       \xd7            \xc7 \xc8\xc9\xca\xcb\xcc \xcd  \xce\xcf\xd0\xd1\xd2\xd3\xd4\xd5\xd6      ", // AddressedExpression
-    *b"            \x8b\x8b\x8b\x8b\x8b\x8b\x8b\x8b\x8b\x8b          \x8a        \x8b\x8b \x8b  \x8b\x8b\x8b    \x8b    \x88 \x8b\x89\x8b    \x8b\x8b\x8b \x8b\x8b\x8b\x8b   \x8b\x8b  \x8b\x8b\x8b ", // AddressedLiteral
-    *b"                                          \xba    \xba             \xba  \xb9         \xba     \xbc  \xbb  \xbb", // ExpressionAfterA
-    *b"                                                               \xb5        \xbd\xba \xbb      \xbe    ", // ExpressionAfterC
-    *b"                                                  \xba            \xb5 \xbb             \xba\xba \xba    ", // ExpressionAfterD
-    *b"                                           \xba                               \xba \xba         ", // ExpressionAfterE
-    *b"                                        \xbf                                   \xb8          ", // ExpressionAfterF
-    *b"                                                                 \xba              \xba      ", // ExpressionAfterG
-    *b"                                                                        \xc0           \xba  ", // ExpressionAfterI
-    *b"                                               \xba                 \xba             \xba\xba      ", // ExpressionAfterL
-    *b"                                     \xba  \xba                            \xba  \xba\xc1             ", // ExpressionAfterM
-    *b"                                                                 \xba \xbb            \xbb   \xbb  ", // ExpressionAfterN
-    *b"                                              \xba                           \xb6\xba  \xba        ", // ExpressionAfterO
-    *b"                                        \xba                               \xba\xba  \xc1  \xbb\xba      ", // ExpressionAfterP
-    *b"                                                                                 \xc2     ", // ExpressionAfterQ
-    *b"                                         \xba     \xba               \xb5         \xba     \xba       ", // ExpressionAfterR
-    *b"                                                      \xc4        \xb5            \xc3 \xc5\xba\xbc     \xbb", // ExpressionAfterS
-    *b"                                                                 \xbb   \xbc  \xc6              ", // ExpressionAfterT
-    *b"            \xd9\xd9\xd9\xd9\xd9\xd9\xd9\xd9\xd9\xd9                  \xd9       \xd9            \xd9 \xd9\xd9\xd9\xd9\xd9 \xd9  \xd9\xd9\xd9\xd9\xd9\xd9\xd9\xd9\xd9      ", // Expressions
+    *b"                                                                                \xa8      ", // TypeInStd
+    *b"                              \xa9                                                        ", // MaybeTags
+    *b"            \xac\xac\xac\xac\xac\xac\xac\xac\xac\xac       \xac \xace \xac    _ \xac\xac`\xac `\xac\xab\xac^ \xaa \xac      \xac\xac\xac\xac\xac\xac\xac\xac\xac\xac \xac\xac\xac\xac  ]\xac\xac\xac\xac\xac\xac\xac\xac", // Argument
+    *b"            \xad\xad\xad\xad\xad\xad\xad\xad\xad\xad                  \xaf                  \xad           \xae  \xae \xae   \xae    \xae ", // ArgumentAfterT
+    *b"            \xad\xad\xad\xad\xad\xad\xad\xad\xad\xad                                     \xad                           ", // LeveledParameter
+    *b"            \xac\xac\xac\xac\xac\xac\xac\xac\xac\xac       \xac \xace \xac   \xb1_\xb0\xac\xac`\xac `\xac\xab\xac^ \xaa \xac      \xac\xac\xac\xac\xac\xac\xac\xac\xac\xac \xac\xac\xac\xac  ]\xac\xac\xac\xac\xac\xac\xac\xac", // OneArgument
+    *b"                                                                       \xb4  \xb3 \xb6   \xb5    \xb2 ", // DeclarationAfterT
+    *b"                                                \xb7                                      ", // Declarations
+    *b"            $$$$$$$$$$                    T    q                                       ", // Concept
+    *b"            $$$$$$$$$$       u w  v      oT n  q #    r      ssssssssss ssss   sstsssss", // SolidButT
+    *b"            \xba\xba\xba\xba\xba\xba\xba\xba\xba\xba                  \xb0       \xe0            \xd0 \xd1\xd2\xd3\xd4\xd5 \xd6  \xd7\xd8\xd9\xda\xdb\xdc\xdd\xde\xdf      ", // Expression
+    *b"            \xba\xba\xba\xba\xba\xba\xba\xba\xba\xba                  \xe1       \xe0            \xd0 \xd1\xd2\xd3\xd4\xd5 \xd6  \xd7\xd8\xd9\xda\xdb\xdc\xdd\xde\xdf      ", // AddressedExpression
+    *b"            \x8d\x8d\x8d\x8d\x8d\x8d\x8d\x8d\x8d\x8d          \x8c        \x8d\x8d \x8d  \x8d\x8d\x8d    \x8d    \x8a \x8d\x8b\x8d    \x8d\x8d\x8d \x8d\x8d\x8d\x8d   \x8d\x8d  \x8d\x8d\x8d ", // AddressedLiteral
+    *b"                                          \xbd    \xbd             \xbd  \xbc         \xbd     \xbf  \xbe  \xbe", // ExpressionAfterA
+    *b"                                                               \xb8        \xc0\xbd \xbe\xc0     \xc1    ", // ExpressionAfterC
+    *b"                                                  \xbd          \xbe \xb8 \xbe      \xbe \xc2    \xbd\xbd \xbd    ", // ExpressionAfterD
+    *b"                                           \xbd                               \xbd \xbd         ", // ExpressionAfterE
+    *b"                                        \xc3                               \xc4   \xbb \xc5        ", // ExpressionAfterF
+    *b"                                                                 \xbd             \xbe\xbd      ", // ExpressionAfterG
+    *b"                                                                        \xc6           \xbd  ", // ExpressionAfterI
+    *b"                                               \xbd                 \xbd             \xbd\xbd      ", // ExpressionAfterL
+    *b"                                     \xbd  \xbd                            \xbd  \xbd\xc7             ", // ExpressionAfterM
+    *b"                                                             \xc8   \xbd \xbe            \xbe  \xc8\xbe  ", // ExpressionAfterN
+    *b"                                              \xbd                           \xb9\xbd  \xbd        ", // ExpressionAfterO
+    *b"                                        \xbd                               \xbd\xbd  \xc7  \xbe\xbd      ", // ExpressionAfterP
+    *b"                                                                                 \xc9     ", // ExpressionAfterQ
+    *b"                                         \xbd   \xcb \xbd               \xb8         \xbd   \xca \xbd       ", // ExpressionAfterR
+    *b"                                                      \xcd        \xb8            \xcc \xce\xbd\xbf     \xbe", // ExpressionAfterS
+    *b"                                                                 \xbe   \xbf  \xcf          \xbe   ", // ExpressionAfterT
+    *b"            \xe2\xe2\xe2\xe2\xe2\xe2\xe2\xe2\xe2\xe2                  \xe2       \xe2            \xe2 \xe2\xe2\xe2\xe2\xe2 \xe2  \xe2\xe2\xe2\xe2\xe2\xe2\xe2\xe2\xe2      ", // Expressions
     *b"                                                           !                           ", // MaybeBefore
-    *b"                                                                            \xb8          ", // OuterRest
-    *b"            \xdb\xdb\xdb\xdb\xdb\xdb\xdb\xdb\xdb\xdb                          \xda          \xdb                           ", // ParameterNumber
-    *b"            \xe0\xe0\xe0\xe0\xe0\xe0\xe0\xe0\xe0\xe0          \xdc \xe0    \xdd  \xe0\xdf\xde \xdf\xe0\xe0\xe0           \xe0\xe0\xe0\xe0\xe0\xe0\xe0\xe0\xe0\xe0 \xe0\xe0\xe0\xe0   \xe0\xe0 \xe0\xe0\xe0\xe0\xe0", // ConvertedType
-    *b"            $$$$$$$$$$            u       S    po#           rrrrrrrrrr rrrr   rr rrrrr", // ConvertedSolid
-    *b"                                                l                               l      ", // DecltypeAfterD
-    *b"            \xb7\xb7\xb7\xb7\xb7\xb7\xb7\xb7\xb7\xb7                  \xad       \xd7          \xc0 \xc7 \xc8\xc9\xca\xcb\xcc \xcd  \xce\xcf\xd0\xd1\xd2\xd3\xd4\xd5\xd6      ", // ConvertRest
-    *b"            \xe2\xe2\xe2\xe2\xe2\xe2\xe2\xe2\xe2\xe2          \xe1         \xe1    \xe1\xe1                                      ", // Unresolved
-    *b"                                \xdc         S    po                                      ", // UnresolvedType
-    *b"            \xb7\xb7\xb7\xb7\xb7\xb7\xb7\xb7\xb7\xb7                                                                 ", // Level
-    *b"            \xe2\xe2\xe2\xe2\xe2\xe2\xe2\xe2\xe2\xe2           \xe3                                                     ", // MoreLevels
-    *b"            \xb7\xb7\xb7\xb7\xb7\xb7\xb7\xb7\xb7\xb7                                                     \xe4           ", // UnresolvedName
-    *b"                                                                          \xb6            ", // OperatorName
-    *b"                             \xe5                                                         ", // AnyArray
-    *b"            \xe7\xe7\xe7\xe7\xe7\xe7\xe7\xe7\xe7\xe7                  \xe6       \xe6          \xe7 \xe6 \xe6\xe6\xe6\xe6\xe6 \xe6  \xe6\xe6\xe6\xe6\xe6\xe6\xe6\xe6\xe6      ", // ArrayRest
-    *b"                                        \xad       \xd7            \xc7 \xc8\xc9\xca\xcb\xcc \xcd  \xce\xcf\xd0\xd1\xd2\xd3\xd4\xd5\xd6      ", // Bound
-    *b"            GGGGGGGGGG         GGI      GG       G           G GGG G G  GGGGG GG       ", // NestMoreOrEnd
-    *b"            \xe8\xe8\xe8\xe8\xe8\xe8\xe8\xe8\xe8\xe8                                                                 ", // TaggedSource
+    *b"                                                             \x92 \x94\x91\x98 \x9c \x9b  \xe3\x95\x90\x97\x93 \x96\x9a       ", // FoldOperator
+    *b"                                               !                 !             !!      ", // FoldOperatorAfterL
+    *b"            \xe4\xe4\xe4\xe4\xe4\xe4\xe4\xe4\xe4\xe4                  \xe4       \xe4            \xe4 \xe4\xe4\xe4\xe4\xe4 \xe4  \xe4\xe4\xe4\xe4\xe4\xe4\xe4\xe4\xe4      ", // FoldOperand
+    *b"            \xe5\xe5\xe5\xe5\xe5\xe5\xe5\xe5\xe5\xe5                  \xe5       \xe5            \xe5 \xe5\xe5\xe5\xe5\xe5 \xe5  \xe5\xe5\xe5\xe5\xe5\xe5\xe5\xe5\xe5      ", // FoldPack
+    *b"            \xe6\xe6\xe6\xe6\xe6\xe6\xe6\xe6\xe6\xe6                  \xe6       \xe6          ! \xe6 \xe6\xe6\xe6\xe6\xe6 \xe6  \xe6\xe6\xe6\xe6\xe6\xe6\xe6\xe6\xe6      ", // Placement
+    *b"            \xe2\xe2\xe2\xe2\xe2\xe2\xe2\xe2\xe2\xe2                  \xe2       \xe2            \xe2 \xe2\xe2\xe2\xe2\xe2 \xe2  \xe2\xe2\xe2\xe2\xe2\xe2\xe2\xe2\xe2      ", // SomeExpressions
+    *b"                                 ~                                   \xe8      \xe7          ", // Initializer
+    *b"                                                                     \xc6                 ", // InitializerAfterP
+    *b"                                                                        \xc6              ", // InitializerAfterI
+    *b"                                                                            \xbb          ", // OuterRest
+    *b"            \xea\xea\xea\xea\xea\xea\xea\xea\xea\xea                          \xe9          \xea                           ", // ParameterNumber
+    *b"            \xef\xef\xef\xef\xef\xef\xef\xef\xef\xef          \xeb \xef    \xec  \xef\xee\xed \xee\xef\xef\xef           \xef\xef\xef\xef\xef\xef\xef\xef\xef\xef \xef\xef\xef\xef   \xef\xef \xef\xef\xef\xef\xef", // ConvertedType
+    *b"            $$$$$$$$$$            v       T    qp#           ssssssssss ssss   ss sssss", // ConvertedSolid
+    *b"                                                m                               m      ", // DecltypeAfterD
+    *b"            \xba\xba\xba\xba\xba\xba\xba\xba\xba\xba                  \xb0       \xe0          \xc6 \xd0 \xd1\xd2\xd3\xd4\xd5 \xd6  \xd7\xd8\xd9\xda\xdb\xdc\xdd\xde\xdf      ", // ConvertRest
+    *b"            \xf1\xf1\xf1\xf1\xf1\xf1\xf1\xf1\xf1\xf1          \xf0         \xf0    \xf0\xf0                                      ", // Unresolved
+    *b"                                \xeb         T    qp                                      ", // UnresolvedType
+    *b"            \xba\xba\xba\xba\xba\xba\xba\xba\xba\xba          \xf2         \xf2    \xf2\xf2                                      ", // DestructorName
+    *b"                                             \xf5  \xf4   \xf3                                  ", // Requirements
+    *b"                                          \xf7  \xf5\xf6 \xf4   \xf3                                  ", // AfterExpression
+    *b"                                             \xf5\xf6 \xf4   \xf3                                  ", // AfterNoexcept
+    *b"            \xf8\xf8\xf8\xf8\xf8\xf8\xf8\xf8\xf8\xf8          \xf8 \xf8    \xf8  \xf8\xf8\xf8 \xf8\xf8\xf8\xf8         \xca \xf8\xf8\xf8\xf8\xf8\xf8\xf8\xf8\xf8\xf8 \xf8\xf8\xf8\xf8   \xf8\xf8 \xf8\xf8\xf8\xf8\xf8", // RequiredTypes
+    *b"            \xba\xba\xba\xba\xba\xba\xba\xba\xba\xba                                                                 ", // Level
+    *b"            \xf1\xf1\xf1\xf1\xf1\xf1\xf1\xf1\xf1\xf1           \xf9                                                     ", // MoreLevels
+    *b"            \xba\xba\xba\xba\xba\xba\xba\xba\xba\xba                                                     \xfa           ", // UnresolvedName
+    *b"                                                                          \xb9            ", // OperatorName
+    *b"                             \xfb                                                         ", // AnyArray
+    *b"            \xfd\xfd\xfd\xfd\xfd\xfd\xfd\xfd\xfd\xfd                  \xfc       \xfc          \xfd \xfc \xfc\xfc\xfc\xfc\xfc \xfc  \xfc\xfc\xfc\xfc\xfc\xfc\xfc\xfc\xfc      ", // ArrayRest
+    *b"                                        \xb0       \xe0            \xd0 \xd1\xd2\xd3\xd4\xd5 \xd6  \xd7\xd8\xd9\xda\xdb\xdc\xdd\xde\xdf      ", // Bound
+    *b"            GGGGGGGGGG         GGIG     GG       G           G GGG G G  GGGGG GG       ", // NestMoreOrEnd
+    *b"            \xfe\xfe\xfe\xfe\xfe\xfe\xfe\xfe\xfe\xfe                                                                 ", // TaggedSource
 ];
 
 /// The number of the rule that a kind takes at a byte, if it takes one.
 #[inline]
 fn number(kind: u16, byte: u8) -> Option<usize>
     requires { kind < wide.kinds }
-    ensures few { IfSome result (λ number. number < 200) }
+    ensures few { IfSome result (λ number. number < 222) }
     ensures rule { (head : Head) → MatchOption result (wide.rule kind byte ≡ None) (λ number. wide.rule kind byte ≡ Some (listed_rule head number)) }
 {
     match letter_in(&WIDE_LETTERS[kind as usize], byte) {

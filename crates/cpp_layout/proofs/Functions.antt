@@ -1,12 +1,11 @@
 -- The parts of encodings.
 use Rattle.std.proofs.Common.{Option, None, Some, zero, suc, ◌≡◌, ℕ, ◌<◌, ◌≤◌, ◌+◌, List, [], ◌∷◌, ◌++◌, length, Bool, true, false, if◌then◌else◌, nat_eq, refl, sym, ap, subst, ◌∙◌, arith, append-nil, append_assoc}
 use Rattle.std.specs.Prelude.{codes}
-use Rattle.sym_print.specs.declared.detail.Detail.{Detail}
 use Rattle.sym_print.specs.Unfold.{PartOf, text}
 use Rattle.cpp_grammar.specs.Items as heads
 use Rattle.cpp_term.specs.Items as items
 use Rattle.cpp_grammar.specs.Parts.{encoding_text, qualifier_text, is_below, clone_text}
-use Rattle.cpp_term.specs.Parts.{as_item, list_part, text_part, function_bare, function_full, full_parts, bare_parts, root_parts, expand_parts, expand_rest, comma_before, at_index, types_of, function_right, qualified_right, right_parts, expansion_parts, first_parts, more_parts}
+use Rattle.cpp_term.specs.Parts.{as_item, list_part, text_part, function_bare, function_full, root_parts, expand_parts, expand_rest, comma_before, at_index, types_of, function_right, qualified_right, expansion_parts}
 use Rattle.cpp_term.specs.Term as term
 use Rattle.cpp_grammar.specs.Term as values
 use Rattle.cpp_term.specs.Term.{Term}
@@ -16,7 +15,6 @@ use Rattle.cpp_tree.specs.Nodes.{tree_of, is_again}
 use Rattle.cpp_tree.specs.declared.node.Node.{Node}
 use Rattle.cpp_tree.specs.declared.node.Mark.{Mark}
 use Rattle.cpp_tree.specs.declared.node.Qualifiers.{Qualifiers}
-use Rattle.sym_core.specs.declared.Span.{Span}
 use Rattle.cpp_tree.specs.declared.node.Thunk.{Thunk}
 use Rattle.cpp_layout.specs.Texts.{fixed_text, suffix_of}
 use Rattle.cpp_layout.specs.declared.texts.TheConstants.{BLANK, BLANK_LEFT, CLONE, OTHER_CLONE, COMMA, DOTS, LEFT, RIGHT}
@@ -60,25 +58,6 @@ other-node s us ts given c q _ flat other = refl
 pub qualified-other : (s : List ℕ) (us : List Thunk) (ts : List Term) (given : Option Term) (c : items.Context) (q : values.Qualifiers) (k : Node) (flat : is_again k ≡ false) (t : Term) → t ≡ reargued given (tree_of s us ts k) → ((l n : Bool) (m : Mark) (r p : ℕ) → k ≡ Node.FunctionType l n m r p → ⊥) → as_item heads.right c t ∷ [] ≡ qualified_right c q t
 qualified-other s us ts given c q k flat t e other = subst (λ u. as_item heads.right c u ∷ [] ≡ qualified_right c q u) (sym e) (other-node s us ts given c q k flat other)
 
-right-none-of : (s : List ℕ) (us : List Thunk) (ts : List Term) (given : Option Term) (c : items.Context) (n : Node) (flat : is_again n ≡ false) → ((t : ℕ) → n ≡ Node.Pointer t → ⊥) → ((t : ℕ) → n ≡ Node.Lvalue t → ⊥) → ((t : ℕ) → n ≡ Node.Rvalue t → ⊥) → ((k : ℕ) (t : ℕ) → n ≡ Node.MemberPointer k t → ⊥) → ((g : Span) (t : ℕ) → n ≡ Node.Array g t → ⊥) → ((q : Qualifiers) (t : ℕ) → n ≡ Node.Qualified q t → ⊥) → ((g : Span) (t : ℕ) → n ≡ Node.Vector g t → ⊥) → ((t : ℕ) → n ≡ Node.Complex t → ⊥) → ((k : ℕ) (a : ℕ) → n ≡ Node.Parameter k a → ⊥) → ((l : Bool) (e : Bool) (m : Mark) (r : ℕ) (p : ℕ) → n ≡ Node.FunctionType l e m r p → ⊥) → ((b : ℕ) (t : ℕ) → n ≡ Node.Bounded b t → ⊥) → [] ≡ right_parts c (reargued given (tree_of s us ts n))
-unfolding tree_of right_parts reargued is_again
-right-none-of s us ts given c (Node.Pointer t) flat h0 h1 h2 h3 h4 h5 h6 h7 h8 h9 h10 = absurd (h0 t refl)
-right-none-of s us ts given c (Node.Lvalue t) flat h0 h1 h2 h3 h4 h5 h6 h7 h8 h9 h10 = absurd (h1 t refl)
-right-none-of s us ts given c (Node.Rvalue t) flat h0 h1 h2 h3 h4 h5 h6 h7 h8 h9 h10 = absurd (h2 t refl)
-right-none-of s us ts given c (Node.MemberPointer k t) flat h0 h1 h2 h3 h4 h5 h6 h7 h8 h9 h10 = absurd (h3 k t refl)
-right-none-of s us ts given c (Node.Array g t) flat h0 h1 h2 h3 h4 h5 h6 h7 h8 h9 h10 = absurd (h4 g t refl)
-right-none-of s us ts given c (Node.Qualified q t) flat h0 h1 h2 h3 h4 h5 h6 h7 h8 h9 h10 = absurd (h5 q t refl)
-right-none-of s us ts given c (Node.Vector g t) flat h0 h1 h2 h3 h4 h5 h6 h7 h8 h9 h10 = absurd (h6 g t refl)
-right-none-of s us ts given c (Node.Complex t) flat h0 h1 h2 h3 h4 h5 h6 h7 h8 h9 h10 = absurd (h7 t refl)
-right-none-of s us ts given c (Node.Parameter k a) flat h0 h1 h2 h3 h4 h5 h6 h7 h8 h9 h10 = absurd (h8 k a refl)
-right-none-of s us ts given c (Node.FunctionType l e m r p) flat h0 h1 h2 h3 h4 h5 h6 h7 h8 h9 h10 = absurd (h9 l e m r p refl)
-right-none-of s us ts given c (Node.Reargued x z) flat h0 h1 h2 h3 h4 h5 h6 h7 h8 h9 h10 = absurd (true≢false flat)
-right-none-of s us ts given c (Node.Bounded b t) flat h0 h1 h2 h3 h4 h5 h6 h7 h8 h9 h10 = absurd (h10 b t refl)
-right-none-of s us ts given c _ flat h0 h1 h2 h3 h4 h5 h6 h7 h8 h9 h10 = refl
-
-pub right-none : (s : List ℕ) (us : List Thunk) (ts : List Term) (given : Option Term) (c : items.Context) (n : Node) (flat : is_again n ≡ false) (t : Term) → t ≡ reargued given (tree_of s us ts n) → ((t : ℕ) → n ≡ Node.Pointer t → ⊥) → ((t : ℕ) → n ≡ Node.Lvalue t → ⊥) → ((t : ℕ) → n ≡ Node.Rvalue t → ⊥) → ((k : ℕ) (t : ℕ) → n ≡ Node.MemberPointer k t → ⊥) → ((g : Span) (t : ℕ) → n ≡ Node.Array g t → ⊥) → ((q : Qualifiers) (t : ℕ) → n ≡ Node.Qualified q t → ⊥) → ((g : Span) (t : ℕ) → n ≡ Node.Vector g t → ⊥) → ((t : ℕ) → n ≡ Node.Complex t → ⊥) → ((k : ℕ) (a : ℕ) → n ≡ Node.Parameter k a → ⊥) → ((l : Bool) (e : Bool) (m : Mark) (r : ℕ) (p : ℕ) → n ≡ Node.FunctionType l e m r p → ⊥) → ((b : ℕ) (t : ℕ) → n ≡ Node.Bounded b t → ⊥) → [] ≡ right_parts c t
-right-none s us ts given c n flat t is h0 h1 h2 h3 h4 h5 h6 h7 h8 h9 h10 = right-none-of s us ts given c n flat h0 h1 h2 h3 h4 h5 h6 h7 h8 h9 h10 ∙ ap (λ u. right_parts c u) (sym is)
-
 -- ## Expansions
 
 module _ (c : items.Context) (p : Term) (o : Option ℕ) where
@@ -96,24 +75,6 @@ module _ (c : items.Context) (p : Term) (o : Option ℕ) where
   expansion-more (suc m) more e = rw e refl
 
 -- ## No lists
-
-first-other-of : (s : List ℕ) (us : List Thunk) (ts : List Term) (given : Option Term) (c : items.Context) (n : Node) (flat : is_again n ≡ false) → ((e r : ℕ) → n ≡ Node.Cell e r → ⊥) → [] ≡ first_parts c (reargued given (tree_of s us ts n))
-unfolding tree_of first_parts reargued is_again
-first-other-of s us ts given c (Node.Cell e r) flat other = absurd (other e r refl)
-first-other-of s us ts given c (Node.Reargued x z) flat other = absurd (true≢false flat)
-first-other-of s us ts given c _ flat other = refl
-
-pub first-other : (s : List ℕ) (us : List Thunk) (ts : List Term) (given : Option Term) (c : items.Context) (n : Node) (flat : is_again n ≡ false) (t : Term) → t ≡ reargued given (tree_of s us ts n) → ((e r : ℕ) → n ≡ Node.Cell e r → ⊥) → [] ≡ first_parts c t
-first-other s us ts given c n flat t is other = first-other-of s us ts given c n flat other ∙ ap (λ u. first_parts c u) (sym is)
-
-more-other-of : (s : List ℕ) (us : List Thunk) (ts : List Term) (given : Option Term) (c : items.Context) (n : Node) (flat : is_again n ≡ false) → ((e r : ℕ) → n ≡ Node.Cell e r → ⊥) → [] ≡ more_parts c (reargued given (tree_of s us ts n))
-unfolding tree_of more_parts reargued is_again
-more-other-of s us ts given c (Node.Cell e r) flat other = absurd (other e r refl)
-more-other-of s us ts given c (Node.Reargued x z) flat other = absurd (true≢false flat)
-more-other-of s us ts given c _ flat other = refl
-
-pub more-other : (s : List ℕ) (us : List Thunk) (ts : List Term) (given : Option Term) (c : items.Context) (n : Node) (flat : is_again n ≡ false) (t : Term) → t ≡ reargued given (tree_of s us ts n) → ((e r : ℕ) → n ≡ Node.Cell e r → ⊥) → [] ≡ more_parts c t
-more-other s us ts given c n flat t is other = more-other-of s us ts given c n flat other ∙ ap (λ u. more_parts c u) (sym is)
 
 -- ## Encodings
 
@@ -156,32 +117,6 @@ clone-whole letter i = by (nat_eq letter 116)
     by true = refl
     by false = refl
 
-pub full-none : (d : Detail) (s : List ℕ) (us : List Thunk) (ts : List Term) (given : Option Term) (n : Node) (flat : is_again n ≡ false) (t : Term) → t ≡ reargued given (tree_of s us ts n) → ((a : ℕ) (q : Qualifiers) (m : Mark) (r p u : ℕ) → n ≡ Node.Function a q m r p u → ⊥) → ((a : ℕ) (q : Qualifiers) (m : Mark) → n ≡ Node.Object a q m → ⊥) → ((k a : ℕ) → n ≡ Node.Special k a → ⊥)
-    → ((k a : ℕ) → n ≡ Node.Thunk k a → ⊥) → ((k a : ℕ) (q : Qualifiers) (m : Mark) → n ≡ Node.OfName k a q m → ⊥) → ((a : ℕ) (g : Span) (b : ℕ) → n ≡ Node.Construction a g b → ⊥) → ((k a : ℕ) → n ≡ Node.CloneOf k a → ⊥) → [] ≡ full_parts d t
-unfolding tree_of full_parts reargued is_again
-full-none d s us ts given n flat t is h1 h2 h3 h4 h5 h6 h7 = by n flat h1 h2 h3 h4 h5 h6 h7 ∙ ap (full_parts d) (sym is)
-  where
-    by : (n : Node) → is_again n ≡ false → ((a : ℕ) (q : Qualifiers) (m : Mark) (r p u : ℕ) → n ≡ Node.Function a q m r p u → ⊥) → ((a : ℕ) (q : Qualifiers) (m : Mark) → n ≡ Node.Object a q m → ⊥) → ((k a : ℕ) → n ≡ Node.Special k a → ⊥)
-        → ((k a : ℕ) → n ≡ Node.Thunk k a → ⊥) → ((k a : ℕ) (q : Qualifiers) (m : Mark) → n ≡ Node.OfName k a q m → ⊥) → ((a : ℕ) (g : Span) (b : ℕ) → n ≡ Node.Construction a g b → ⊥) → ((k a : ℕ) → n ≡ Node.CloneOf k a → ⊥) → [] ≡ full_parts d (reargued given (tree_of s us ts n))
-    by (Node.Function a q m r p u) flat h1 h2 h3 h4 h5 h6 h7 = absurd (h1 a q m r p u refl)
-    by (Node.Object a q m) flat h1 h2 h3 h4 h5 h6 h7 = absurd (h2 a q m refl)
-    by (Node.Special k a) flat h1 h2 h3 h4 h5 h6 h7 = absurd (h3 k a refl)
-    by (Node.Thunk k a) flat h1 h2 h3 h4 h5 h6 h7 = absurd (h4 k a refl)
-    by (Node.OfName k a q m) flat h1 h2 h3 h4 h5 h6 h7 = absurd (h5 k a q m refl)
-    by (Node.Construction a g b) flat h1 h2 h3 h4 h5 h6 h7 = absurd (h6 a g b refl)
-    by (Node.CloneOf k a) flat h1 h2 h3 h4 h5 h6 h7 = absurd (h7 k a refl)
-    by (Node.Reargued x z) flat h1 h2 h3 h4 h5 h6 h7 = absurd (true≢false flat)
-    by _ flat h1 h2 h3 h4 h5 h6 h7 = refl
-
-pub bare-other : (d : Detail) (s : List ℕ) (us : List Thunk) (ts : List Term) (given : Option Term) (n : Node) (flat : is_again n ≡ false) (t : Term) → t ≡ reargued given (tree_of s us ts n) → ((a : ℕ) (q : Qualifiers) (m : Mark) (r p u : ℕ) → n ≡ Node.Function a q m r p u → ⊥) → full_parts d t ≡ bare_parts d t
-unfolding tree_of bare_parts reargued is_again
-bare-other d s us ts given n flat t is other = ap (full_parts d) is ∙ by n flat other ∙ ap (bare_parts d) (sym is)
-  where
-    by : (n : Node) → is_again n ≡ false → ((a : ℕ) (q : Qualifiers) (m : Mark) (r p u : ℕ) → n ≡ Node.Function a q m r p u → ⊥) → full_parts d (reargued given (tree_of s us ts n)) ≡ bare_parts d (reargued given (tree_of s us ts n))
-    by (Node.Function a q m r p u) flat h = absurd (h a q m r p u refl)
-    by (Node.Reargued x z) flat h = absurd (true≢false flat)
-    by _ flat h = refl
-
 pub root-whole : (e : Term) (suffix : List ℕ) → as_item heads.full items.closed e ∷ (clone_suffix suffix ++ []) ≡ root_parts (term.symbol e suffix)
 unfolding root_parts
 root-whole e [] = refl
@@ -193,15 +128,6 @@ no-clone suffix others is = rw is refl
 pub some-clone : (suffix : List ℕ) (others : List (PartOf items.Item)) → 0 < length suffix → text (fixed_text BLANK_LEFT) ∷ text suffix ∷ text (fixed_text RIGHT) ∷ others ≡ clone_suffix suffix ++ others
 some-clone [] others some = absurd (omega (arith, some))
 some-clone (b ∷ bs) others some = refl
-
-pub root-none : (s : List ℕ) (us : List Thunk) (ts : List Term) (given : Option Term) (n : Node) (flat : is_again n ≡ false) (t : Term) → t ≡ reargued given (tree_of s us ts n) → ((e : ℕ) (b : Span) → n ≡ Node.Whole e b → ⊥) → [] ≡ root_parts t
-unfolding tree_of root_parts reargued is_again
-root-none s us ts given n flat t is other = by n flat other ∙ ap root_parts (sym is)
-  where
-    by : (n : Node) → is_again n ≡ false → ((e : ℕ) (b : Span) → n ≡ Node.Whole e b → ⊥) → [] ≡ root_parts (reargued given (tree_of s us ts n))
-    by (Node.Whole e b) flat h = absurd (h e b refl)
-    by (Node.Reargued x z) flat h = absurd (true≢false flat)
-    by _ flat h = refl
 
 -- ## Elements of an expansion
 

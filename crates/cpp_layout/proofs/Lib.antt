@@ -1,4 +1,5 @@
 pub mod Growing
+pub mod Others
 pub mod Suffixes
 pub mod Functions
 pub mod CodeLetters

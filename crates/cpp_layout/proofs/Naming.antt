@@ -20,7 +20,6 @@ use Rattle.std.proofs.lemmas.Bool.{true≢false}
 use Rattle.cpp_tree.specs.Nodes.{tree_at, tree_of, piece_of, is_again}
 use Rattle.cpp_layout.specs.Texts.{fixed_text}
 use Rattle.cpp_layout.specs.declared.texts.TheConstants.{ANONYMOUS, BLANK_LESS, BRACE, COLONS, CONVERSION, GREATER, LAMBDA, LESS, LITERAL, RIGHT_NUMBER, UNNAMED}
-use Rattle.cpp_tree.specs.Nodes.{is_encoding}
 use Rattle.cpp_layout.specs.Layout.{IsNoSource}
 
 pub begins : (xs ys : List ℕ) → begins_with xs ys ≡ starts_with nat_eq ys xs
@@ -139,37 +138,6 @@ base-other s ts given c prefix _ h1 h3 h2 = refl
 
 -- ## Prefixes
 
-pub prefix-encoding : (s : List ℕ) (us : List Thunk) (ts : List Term) (given : Option Term) (c : items.Context) (n : Node) (flat : is_again n ≡ false) (own t : Term) → own ≡ tree_of s us ts n → t ≡ reargued given (tree_of s us ts n) → is_encoding n ≡ true → as_item heads.bare items.closed own ≡ prefix_item c t
-unfolding tree_of prefix_item is_encoding reargued is_again
-prefix-encoding s us ts given c n flat own t plain is e = ap (λ u. as_item heads.bare items.closed u) plain ∙ by n flat e ∙ ap (λ u. prefix_item c u) (sym is)
-  where
-    by : (n : Node) → is_again n ≡ false → is_encoding n ≡ true → as_item heads.bare items.closed (tree_of s us ts n) ≡ prefix_item c (reargued given (tree_of s us ts n))
-    by (Node.Function a q m b d u) flat e = refl
-    by (Node.Object a q m) flat e = refl
-    by (Node.Special k a) flat e = refl
-    by (Node.Thunk k a) flat e = refl
-    by (Node.OfName k a q m) flat e = refl
-    by (Node.Construction a g b) flat e = refl
-    by (Node.CloneOf k a) flat e = refl
-    by (Node.Reargued x z) flat e = absurd (true≢false flat)
-    by _ flat e = cc e
-
-pub prefix-other : (s : List ℕ) (us : List Thunk) (ts : List Term) (given : Option Term) (c : items.Context) (n : Node) (flat : is_again n ≡ false) (t : Term) → t ≡ reargued given (tree_of s us ts n) → is_encoding n ≡ false → ((a : ℕ) → n ≡ Node.Holder a → ⊥) → as_item heads.left c t ≡ prefix_item c t
-unfolding tree_of prefix_item is_encoding reargued is_again
-prefix-other s us ts given c n flat t is e other = subst (λ u. as_item heads.left c u ≡ prefix_item c u) (sym is) (by n flat e other)
-  where
-    by : (n : Node) → is_again n ≡ false → is_encoding n ≡ false → ((a : ℕ) → n ≡ Node.Holder a → ⊥) → as_item heads.left c (reargued given (tree_of s us ts n)) ≡ prefix_item c (reargued given (tree_of s us ts n))
-    by (Node.Function a q m b d u) flat e other = cc e
-    by (Node.Object a q m) flat e other = cc e
-    by (Node.Special k a) flat e other = cc e
-    by (Node.Thunk k a) flat e other = cc e
-    by (Node.OfName k a q m) flat e other = cc e
-    by (Node.Construction a g b) flat e other = cc e
-    by (Node.CloneOf k a) flat e other = cc e
-    by (Node.Holder a) flat e other = absurd (other a refl)
-    by (Node.Reargued x z) flat e other = absurd (true≢false flat)
-    by _ flat e other = refl
-
 pub prefix-held : (s : List ℕ) (us : List Thunk) (ts : List Term) (given : Option Term) (c : items.Context) (n : Node) (flat : is_again n ≡ false) (t : Term) (a : ℕ) → t ≡ reargued given (tree_of s us ts n) → n ≡ Node.Holder a → as_item heads.left c (reargued given (tree_at ts a)) ≡ prefix_item c t
 unfolding tree_of prefix_item reargued is_again
 prefix-held s us ts given c n flat t a is held = ap (λ m. prefix_item c (reargued given (tree_of s us ts m))) (sym held) ∙ ap (λ u. prefix_item c u) (sym is)
@@ -208,20 +176,6 @@ unfoldable pub layers : Term → ℕ
 layers (term.local encoding entity discriminator) = suc (layers entity)
 layers (term.of_default digits entity) = suc (layers entity)
 layers _ = zero
-
-pub last-none : (s : List ℕ) (us : List Thunk) (ts : List Term) (given : Option Term) (n : Node) (flat : is_again n ≡ false) (t : Term) → t ≡ reargued given (tree_of s us ts n)
-    → ((p : Piece) → n ≡ Node.Alone p → ⊥) → ((p : Piece) → n ≡ Node.InStd p → ⊥) → ((a : ℕ) (p : Piece) → n ≡ Node.Within a p → ⊥) → ((e a : ℕ) (d : Option Span) → n ≡ Node.Local e a d → ⊥) → ((g : Span) (a : ℕ) → n ≡ Node.OfDefault g a → ⊥) → fixed_text LESS ≡ opening_text (last_piece t)
-unfolding tree_of last_piece opening_text reargued is_again
-last-none s us ts given n flat t is h1 h2 h3 h4 h5 = other n flat h1 h2 h3 h4 h5 ∙ ap (λ u. opening_text (last_piece u)) (sym is)
-  where
-    other : (n : Node) → is_again n ≡ false → ((p : Piece) → n ≡ Node.Alone p → ⊥) → ((p : Piece) → n ≡ Node.InStd p → ⊥) → ((a : ℕ) (p : Piece) → n ≡ Node.Within a p → ⊥) → ((e a : ℕ) (d : Option Span) → n ≡ Node.Local e a d → ⊥) → ((g : Span) (a : ℕ) → n ≡ Node.OfDefault g a → ⊥) → fixed_text LESS ≡ opening_text (last_piece (reargued given (tree_of s us ts n)))
-    other (Node.Alone p) flat h1 h2 h3 h4 h5 = absurd (h1 p refl)
-    other (Node.InStd p) flat h1 h2 h3 h4 h5 = absurd (h2 p refl)
-    other (Node.Within a p) flat h1 h2 h3 h4 h5 = absurd (h3 a p refl)
-    other (Node.Local e a d) flat h1 h2 h3 h4 h5 = absurd (h4 e a d refl)
-    other (Node.OfDefault g a) flat h1 h2 h3 h4 h5 = absurd (h5 g a refl)
-    other (Node.Reargued x z) flat h1 h2 h3 h4 h5 = absurd (true≢false flat)
-    other _ flat h1 h2 h3 h4 h5 = refl
 
 pub instance-whole : (c : items.Context) (t a : Term) (n : ℕ) → fixed_text n ≡ opening_text (last_piece t) → as_item heads.left c t ∷ text (fixed_text n) ∷ (list_part heads.first c a ++ (text (fixed_text GREATER) ∷ [])) ≡ instance_parts true c t a
 unfolding instance_parts

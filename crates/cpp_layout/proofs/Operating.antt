@@ -13,7 +13,7 @@ use Rattle.cpp_layout.specs.declared.operation_rows.Operand.{Operand}
 use Rattle.cpp_layout.specs.Operations.{IsOperation, operand_of, most_parts, most_of, text_parts}
 use Rattle.cpp_layout.proofs.Coding.{same_bytes_sound}
 use Rattle.cpp_layout.proofs.Functions.{part-none}
-use Rattle.sym_print.specs.Unfold.{PartOf, text}
+use Rattle.sym_print.specs.Unfold.{PartOf}
 use Rattle.cpp_term.specs.Items as items
 use Rattle.cpp_term.specs.Term.{Term, operation}
 use Rattle.cpp_term.specs.Reargued.{reargued}

@@ -1,9 +1,7 @@
 -- The parts of types and of other template arguments.
 use Rattle.std.proofs.Common.{◌≡◌, refl, sym, ◌∙◌, ap, subst, arith, ℕ, ◌+◌, ◌*◌, ◌<◌, ◌≤◌, List, [], ◌∷◌, ◌++◌, length, Bool, true, false, cond, codes, if◌then◌else◌, append-nil, Option}
 use Prim.Native.String.{String}
-use Rattle.sym_core.specs.declared.Span.{Span}
 use Rattle.sym_print.specs.Unfold.{PartOf, text}
-use Rattle.sym_print.specs.declared.detail.Detail.{Detail}
 use Rattle.cpp_grammar.specs.Parts.{qualifier_text, ref_text, encoding_text, blank_last}
 use Rattle.cpp_grammar.specs.Items as heads
 use Rattle.cpp_grammar.specs.Term as values
@@ -11,8 +9,7 @@ use Rattle.cpp_grammar.specs.Texts.{look_up, literal_endings, builtin_texts, ope
 use Rattle.cpp_term.specs.Term as term
 use Rattle.cpp_term.specs.Term.{Term}
 use Rattle.cpp_term.specs.Items as items
-use Rattle.cpp_term.specs.Parts.{as_item, text_part, says, qualified_left, reference_parts, marked_parts, sign_part, is_plain_integer, builtin_code, integer_parts, left_parts, low_parts, base_parts, own_piece, piece_parts}
-use Rattle.cpp_tree.specs.declared.node.Piece.{Piece}
+use Rattle.cpp_term.specs.Parts.{as_item, text_part, says, qualified_left, reference_parts, marked_parts, sign_part, is_plain_integer, builtin_code, integer_parts}
 use Rattle.cpp_tree.specs.declared.node.Node.{Node}
 use Rattle.cpp_tree.specs.declared.node.Thunk.{Thunk}
 use Rattle.cpp_tree.specs.declared.node.Mark.{Mark}
@@ -24,7 +21,7 @@ use Rattle.cpp_tree.specs.Nodes.{tree_of, signed_of, qualifiers_of, is_again}
 use Rattle.cpp_tree.specs.Fields.{bit, qualifiers_number}
 use Rattle.cpp_layout.specs.Texts.{fixed_text, suffix_of}
 use Rattle.cpp_layout.specs.declared.texts.TheConstants.{BLANKED, FALSE, LEFT, MINUS, RIGHT, TRUE}
-use Rattle.cpp_layout.specs.Layout.{marked, referred, text_if, qualifiers_behind, IsNoName, IsNoType}
+use Rattle.cpp_layout.specs.Layout.{marked, referred, text_if, qualifiers_behind, IsNoType}
 
 -- ## Qualifiers
 
@@ -151,134 +148,7 @@ boolean-whole false = refl
 
 -- ## What has no parts
 
-pub no-name : (n : Node) → is_again n ≡ false → ((p : Piece) → n ≡ Node.Alone p → ⊥) → ((p : Piece) → n ≡ Node.InStd p → ⊥) → ((a : ℕ) (p : Piece) → n ≡ Node.Within a p → ⊥) → ((a b : ℕ) → n ≡ Node.Instance a b → ⊥) → ((e a : ℕ) (d : Option Span) → n ≡ Node.Local e a d → ⊥)
-    → ((b : Bool) (a : ℕ) (g : Span) → n ≡ Node.Tagged b a g → ⊥) → ((k : ℕ) → n ≡ Node.Abbreviation k → ⊥) → ((k a : ℕ) → n ≡ Node.Parameter k a → ⊥) → ((a : ℕ) → n ≡ Node.Holder a → ⊥) → IsNoName n
-unfolding is_again
-no-name (Node.Alone p) flat h1 h2 h3 h4 h5 h0 h6 h7 h8 = absurd (h1 p refl)
-no-name (Node.InStd p) flat h1 h2 h3 h4 h5 h0 h6 h7 h8 = absurd (h2 p refl)
-no-name (Node.Within a p) flat h1 h2 h3 h4 h5 h0 h6 h7 h8 = absurd (h3 a p refl)
-no-name (Node.Instance a b) flat h1 h2 h3 h4 h5 h0 h6 h7 h8 = absurd (h4 a b refl)
-no-name (Node.Local e a d) flat h1 h2 h3 h4 h5 h0 h6 h7 h8 = absurd (h5 e a d refl)
-no-name (Node.Holder a) flat h1 h2 h3 h4 h5 h0 h6 h7 h8 = absurd (h8 a refl)
-no-name (Node.Tagged b a g) flat h1 h2 h3 h4 h5 h0 h6 h7 h8 = absurd (h0 b a g refl)
-no-name (Node.Abbreviation k) flat h1 h2 h3 h4 h5 h0 h6 h7 h8 = absurd (h6 k refl)
-no-name (Node.Parameter k a) flat h1 h2 h3 h4 h5 h0 h6 h7 h8 = absurd (h7 k a refl)
-no-name (Node.Reargued x z) flat h1 h2 h3 h4 h5 h0 h6 h7 h8 = absurd (true≢false flat)
-no-name _ flat h1 h2 h3 h4 h5 h0 h6 h7 h8 = tt
-
-pub no-type : (n : Node) → IsNoName n → ((k : ℕ) → n ≡ Node.Builtin k → ⊥) → ((k : ℕ) → n ≡ Node.BuiltinWithD k → ⊥) → ((b : Span) → n ≡ Node.Vendor b → ⊥) → ((t : ℕ) → n ≡ Node.Pointer t → ⊥) → ((t : ℕ) → n ≡ Node.Lvalue t → ⊥) → ((t : ℕ) → n ≡ Node.Rvalue t → ⊥) → ((g : Span) (t : ℕ) → n ≡ Node.Array g t → ⊥)
-    → ((l e : Bool) (m : Mark) (r p : ℕ) → n ≡ Node.FunctionType l e m r p → ⊥) → ((k t : ℕ) → n ≡ Node.MemberPointer k t → ⊥) → ((q : Qualifiers) (t : ℕ) → n ≡ Node.Qualified q t → ⊥) → ((g : Span) (t : ℕ) → n ≡ Node.Vector g t → ⊥) → ((t : ℕ) → n ≡ Node.Complex t → ⊥) → ((g : Span) (k : ℕ) → n ≡ Node.SizedFloat g k → ⊥) → ((a b : ℕ) → n ≡ Node.Bounded a b → ⊥) → ((l t : ℕ) → n ≡ Node.Constrained l t → ⊥) → IsNoType n
-no-type (Node.Alone p) k h1 h0 h2 h3 h4 h5 h6 h7 h8 h9 h10 h11 h12 h13 h14 = elim k [ ]
-no-type (Node.InStd p) k h1 h0 h2 h3 h4 h5 h6 h7 h8 h9 h10 h11 h12 h13 h14 = elim k [ ]
-no-type (Node.Within a p) k h1 h0 h2 h3 h4 h5 h6 h7 h8 h9 h10 h11 h12 h13 h14 = elim k [ ]
-no-type (Node.Instance a b) k h1 h0 h2 h3 h4 h5 h6 h7 h8 h9 h10 h11 h12 h13 h14 = elim k [ ]
-no-type (Node.Local e a d) k h1 h0 h2 h3 h4 h5 h6 h7 h8 h9 h10 h11 h12 h13 h14 = elim k [ ]
-no-type (Node.Holder a) k h1 h0 h2 h3 h4 h5 h6 h7 h8 h9 h10 h11 h12 h13 h14 = elim k [ ]
-no-type (Node.Tagged s a g) k h1 h0 h2 h3 h4 h5 h6 h7 h8 h9 h10 h11 h12 h13 h14 = elim k [ ]
-no-type (Node.Abbreviation a) k h1 h0 h2 h3 h4 h5 h6 h7 h8 h9 h10 h11 h12 h13 h14 = elim k [ ]
-no-type (Node.Parameter a b) k h1 h0 h2 h3 h4 h5 h6 h7 h8 h9 h10 h11 h12 h13 h14 = elim k [ ]
-no-type (Node.Builtin a) k h1 h0 h2 h3 h4 h5 h6 h7 h8 h9 h10 h11 h12 h13 h14 = absurd (h1 a refl)
-no-type (Node.BuiltinWithD a) k h1 h0 h2 h3 h4 h5 h6 h7 h8 h9 h10 h11 h12 h13 h14 = absurd (h0 a refl)
-no-type (Node.Vendor a) k h1 h0 h2 h3 h4 h5 h6 h7 h8 h9 h10 h11 h12 h13 h14 = absurd (h2 a refl)
-no-type (Node.Pointer a) k h1 h0 h2 h3 h4 h5 h6 h7 h8 h9 h10 h11 h12 h13 h14 = absurd (h3 a refl)
-no-type (Node.Lvalue a) k h1 h0 h2 h3 h4 h5 h6 h7 h8 h9 h10 h11 h12 h13 h14 = absurd (h4 a refl)
-no-type (Node.Rvalue a) k h1 h0 h2 h3 h4 h5 h6 h7 h8 h9 h10 h11 h12 h13 h14 = absurd (h5 a refl)
-no-type (Node.Array a b) k h1 h0 h2 h3 h4 h5 h6 h7 h8 h9 h10 h11 h12 h13 h14 = absurd (h6 a b refl)
-no-type (Node.FunctionType l e m r p) k h1 h0 h2 h3 h4 h5 h6 h7 h8 h9 h10 h11 h12 h13 h14 = absurd (h7 l e m r p refl)
-no-type (Node.MemberPointer a b) k h1 h0 h2 h3 h4 h5 h6 h7 h8 h9 h10 h11 h12 h13 h14 = absurd (h8 a b refl)
-no-type (Node.Qualified a b) k h1 h0 h2 h3 h4 h5 h6 h7 h8 h9 h10 h11 h12 h13 h14 = absurd (h9 a b refl)
-no-type (Node.Vector a b) k h1 h0 h2 h3 h4 h5 h6 h7 h8 h9 h10 h11 h12 h13 h14 = absurd (h10 a b refl)
-no-type (Node.Complex a) k h1 h0 h2 h3 h4 h5 h6 h7 h8 h9 h10 h11 h12 h13 h14 = absurd (h11 a refl)
-no-type (Node.SizedFloat a b) k h1 h0 h2 h3 h4 h5 h6 h7 h8 h9 h10 h11 h12 h13 h14 = absurd (h12 a b refl)
-no-type (Node.Reargued x z) k h1 h0 h2 h3 h4 h5 h6 h7 h8 h9 h10 h11 h12 h13 h14 = elim k [ ]
-no-type (Node.Bounded a b) k h1 h0 h2 h3 h4 h5 h6 h7 h8 h9 h10 h11 h12 h13 h14 = absurd (h13 a b refl)
-no-type (Node.Constrained a b) k h1 h0 h2 h3 h4 h5 h6 h7 h8 h9 h10 h11 h12 h13 h14 = absurd (h14 a b refl)
-no-type _ k h1 h0 h2 h3 h4 h5 h6 h7 h8 h9 h10 h11 h12 h13 h14 = tt
-
 pub no-type-flat : (n : Node) → IsNoType n → is_again n ≡ false
 unfolding is_again
 no-type-flat (Node.Reargued t a) k = elim k [ ]
 no-type-flat _ k = refl
-
-pub left-none : (s : List ℕ) (us : List Thunk) (ts : List Term) (given : Option Term) (d : Detail) (c : items.Context) (n : Node) (flat : is_again n ≡ false) → IsNoType n → ((t : ℕ) → n ≡ Node.Expansion t → ⊥) → ((t : ℕ) → n ≡ Node.Pack t → ⊥) → ((t : ℕ) (v : Signed) → n ≡ Node.Integer t v → ⊥) → ((b : Bool) → n ≡ Node.Boolean b → ⊥)
-    → (n ≡ Node.NullPointer → ⊥) → ((e : ℕ) → n ≡ Node.EncodingLiteral e → ⊥) → ((e : ℕ) → n ≡ Node.AddressOf e → ⊥) → ((e : ℕ) → n ≡ Node.Decltype e → ⊥) → ((a b x y : ℕ) → n ≡ Node.Operation a b x y → ⊥) → ((g : Span) → n ≡ Node.FunctionParameter g → ⊥) → [] ≡ left_parts d c (reargued given (tree_of s us ts n))
-unfolding tree_of left_parts reargued is_again
-left-none s us ts given d c (Node.Alone p) flat k h1 h2 h3 h4 h5 h6 h7 h8 h9 h10 = elim k [ ]
-left-none s us ts given d c (Node.InStd p) flat k h1 h2 h3 h4 h5 h6 h7 h8 h9 h10 = elim k [ ]
-left-none s us ts given d c (Node.Within a p) flat k h1 h2 h3 h4 h5 h6 h7 h8 h9 h10 = elim k [ ]
-left-none s us ts given d c (Node.Instance a b) flat k h1 h2 h3 h4 h5 h6 h7 h8 h9 h10 = elim k [ ]
-left-none s us ts given d c (Node.Local e a o) flat k h1 h2 h3 h4 h5 h6 h7 h8 h9 h10 = elim k [ ]
-left-none s us ts given d c (Node.Holder a) flat k h1 h2 h3 h4 h5 h6 h7 h8 h9 h10 = elim k [ ]
-left-none s us ts given d c (Node.Tagged b a g) flat k h1 h2 h3 h4 h5 h6 h7 h8 h9 h10 = elim k [ ]
-left-none s us ts given d c (Node.Abbreviation a) flat k h1 h2 h3 h4 h5 h6 h7 h8 h9 h10 = elim k [ ]
-left-none s us ts given d c (Node.Parameter a b) flat k h1 h2 h3 h4 h5 h6 h7 h8 h9 h10 = elim k [ ]
-left-none s us ts given d c (Node.Builtin a) flat k h1 h2 h3 h4 h5 h6 h7 h8 h9 h10 = elim k [ ]
-left-none s us ts given d c (Node.BuiltinWithD a) flat k h1 h2 h3 h4 h5 h6 h7 h8 h9 h10 = elim k [ ]
-left-none s us ts given d c (Node.Vendor a) flat k h1 h2 h3 h4 h5 h6 h7 h8 h9 h10 = elim k [ ]
-left-none s us ts given d c (Node.Pointer a) flat k h1 h2 h3 h4 h5 h6 h7 h8 h9 h10 = elim k [ ]
-left-none s us ts given d c (Node.Lvalue a) flat k h1 h2 h3 h4 h5 h6 h7 h8 h9 h10 = elim k [ ]
-left-none s us ts given d c (Node.Rvalue a) flat k h1 h2 h3 h4 h5 h6 h7 h8 h9 h10 = elim k [ ]
-left-none s us ts given d c (Node.Array a b) flat k h1 h2 h3 h4 h5 h6 h7 h8 h9 h10 = elim k [ ]
-left-none s us ts given d c (Node.FunctionType l e m r p) flat k h1 h2 h3 h4 h5 h6 h7 h8 h9 h10 = elim k [ ]
-left-none s us ts given d c (Node.MemberPointer a b) flat k h1 h2 h3 h4 h5 h6 h7 h8 h9 h10 = elim k [ ]
-left-none s us ts given d c (Node.Qualified a b) flat k h1 h2 h3 h4 h5 h6 h7 h8 h9 h10 = elim k [ ]
-left-none s us ts given d c (Node.Vector a b) flat k h1 h2 h3 h4 h5 h6 h7 h8 h9 h10 = elim k [ ]
-left-none s us ts given d c (Node.Complex a) flat k h1 h2 h3 h4 h5 h6 h7 h8 h9 h10 = elim k [ ]
-left-none s us ts given d c (Node.SizedFloat a b) flat k h1 h2 h3 h4 h5 h6 h7 h8 h9 h10 = elim k [ ]
-left-none s us ts given d c (Node.Bounded a b) flat k h1 h2 h3 h4 h5 h6 h7 h8 h9 h10 = elim k [ ]
-left-none s us ts given d c (Node.Constrained a b) flat k h1 h2 h3 h4 h5 h6 h7 h8 h9 h10 = elim k [ ]
-left-none s us ts given d c (Node.Expansion t) flat k h1 h2 h3 h4 h5 h6 h7 h8 h9 h10 = absurd (h1 t refl)
-left-none s us ts given d c (Node.Pack t) flat k h1 h2 h3 h4 h5 h6 h7 h8 h9 h10 = absurd (h2 t refl)
-left-none s us ts given d c (Node.Integer t v) flat k h1 h2 h3 h4 h5 h6 h7 h8 h9 h10 = absurd (h3 t v refl)
-left-none s us ts given d c (Node.Boolean b) flat k h1 h2 h3 h4 h5 h6 h7 h8 h9 h10 = absurd (h4 b refl)
-left-none s us ts given d c Node.NullPointer flat k h1 h2 h3 h4 h5 h6 h7 h8 h9 h10 = absurd (h5 refl)
-left-none s us ts given d c (Node.EncodingLiteral e) flat k h1 h2 h3 h4 h5 h6 h7 h8 h9 h10 = absurd (h6 e refl)
-left-none s us ts given d c (Node.AddressOf e) flat k h1 h2 h3 h4 h5 h6 h7 h8 h9 h10 = absurd (h7 e refl)
-left-none s us ts given d c (Node.Decltype e) flat k h1 h2 h3 h4 h5 h6 h7 h8 h9 h10 = absurd (h8 e refl)
-left-none s us ts given d c (Node.Operation a b x y) flat k h1 h2 h3 h4 h5 h6 h7 h8 h9 h10 = absurd (h9 a b x y refl)
-left-none s us ts given d c (Node.FunctionParameter g) flat k h1 h2 h3 h4 h5 h6 h7 h8 h9 h10 = absurd (h10 g refl)
-left-none s us ts given d c (Node.Reargued x z) flat k h1 h2 h3 h4 h5 h6 h7 h8 h9 h10 = absurd (true≢false flat)
-left-none s us ts given d c _ flat k h1 h2 h3 h4 h5 h6 h7 h8 h9 h10 = refl
-
-pub own-none : (s : List ℕ) (us : List Thunk) (ts : List Term) (given : Option Term) (c : items.Context) (n : Node) (flat : is_again n ≡ false) (t : Term) → t ≡ reargued given (tree_of s us ts n) → ((p : Piece) → n ≡ Node.Alone p → ⊥) → ((p : Piece) → n ≡ Node.InStd p → ⊥) → ((a : ℕ) (p : Piece) → n ≡ Node.Within a p → ⊥) → [] ≡ piece_parts c (own_piece t)
-unfolding tree_of own_piece piece_parts reargued is_again
-own-none s us ts given c n flat t is h1 h2 h3 = other n flat h1 h2 h3 ∙ ap (λ u. piece_parts c (own_piece u)) (sym is)
-  where
-    other : (n : Node) → is_again n ≡ false → ((p : Piece) → n ≡ Node.Alone p → ⊥) → ((p : Piece) → n ≡ Node.InStd p → ⊥) → ((a : ℕ) (p : Piece) → n ≡ Node.Within a p → ⊥) → [] ≡ piece_parts c (own_piece (reargued given (tree_of s us ts n)))
-    other (Node.Alone p) flat h1 h2 h3 = absurd (h1 p refl)
-    other (Node.InStd p) flat h1 h2 h3 = absurd (h2 p refl)
-    other (Node.Within a p) flat h1 h2 h3 = absurd (h3 a p refl)
-    other (Node.Reargued x z) flat h1 h2 h3 = absurd (true≢false flat)
-    other _ flat h1 h2 h3 = refl
-
-pub low-other : (s : List ℕ) (us : List Thunk) (ts : List Term) (given : Option Term) (d : Detail) (c : items.Context) (n : Node) (flat : is_again n ≡ false) (t : Term) → t ≡ reargued given (tree_of s us ts n) → ((a : ℕ) → n ≡ Node.Lvalue a → ⊥) → ((a : ℕ) → n ≡ Node.Rvalue a → ⊥) → ((q : Qualifiers) (a : ℕ) → n ≡ Node.Qualified q a → ⊥) → ((k a : ℕ) → n ≡ Node.Parameter k a → ⊥)
-    → left_parts d c t ≡ low_parts d c t
-unfolding tree_of low_parts reargued is_again
-low-other s us ts given d c n flat t is h1 h2 h3 h4 = ap (left_parts d c) is ∙ other n flat h1 h2 h3 h4 ∙ ap (low_parts d c) (sym is)
-  where
-    other : (n : Node) → is_again n ≡ false → ((a : ℕ) → n ≡ Node.Lvalue a → ⊥) → ((a : ℕ) → n ≡ Node.Rvalue a → ⊥) → ((q : Qualifiers) (a : ℕ) → n ≡ Node.Qualified q a → ⊥) → ((k a : ℕ) → n ≡ Node.Parameter k a → ⊥) → left_parts d c (reargued given (tree_of s us ts n)) ≡ low_parts d c (reargued given (tree_of s us ts n))
-    other (Node.Lvalue a) flat h1 h2 h3 h4 = absurd (h1 a refl)
-    other (Node.Rvalue a) flat h1 h2 h3 h4 = absurd (h2 a refl)
-    other (Node.Qualified q a) flat h1 h2 h3 h4 = absurd (h3 q a refl)
-    other (Node.Parameter k a) flat h1 h2 h3 h4 = absurd (h4 k a refl)
-    other (Node.Reargued x z) flat h1 h2 h3 h4 = absurd (true≢false flat)
-    other _ flat h1 h2 h3 h4 = refl
-
-pub base-other-node : (s : List ℕ) (us : List Thunk) (ts : List Term) (given : Option Term) (d : Detail) (c : items.Context) (n : Node) (flat : is_again n ≡ false) (t : Term) → t ≡ reargued given (tree_of s us ts n) → ((p : Piece) → n ≡ Node.Alone p → ⊥) → ((p : Piece) → n ≡ Node.InStd p → ⊥) → ((a : ℕ) (p : Piece) → n ≡ Node.Within a p → ⊥)
-    → ((a b : ℕ) → n ≡ Node.Instance a b → ⊥) → ((e a : ℕ) (o : Option Span) → n ≡ Node.Local e a o → ⊥) → ((b : Bool) (a : ℕ) (g : Span) → n ≡ Node.Tagged b a g → ⊥) → ((k : ℕ) → n ≡ Node.Abbreviation k → ⊥) → ((k a : ℕ) → n ≡ Node.Parameter k a → ⊥) → ((a : ℕ) → n ≡ Node.Holder a → ⊥) → left_parts d c t ≡ base_parts d c t
-unfolding tree_of base_parts reargued is_again
-base-other-node s us ts given d c n flat t is h1 h2 h3 h4 h5 h0 h6 h7 h8 = ap (left_parts d c) is ∙ other n flat h1 h2 h3 h4 h5 h0 h6 h7 h8 ∙ ap (base_parts d c) (sym is)
-  where
-    other : (n : Node) → is_again n ≡ false → ((p : Piece) → n ≡ Node.Alone p → ⊥) → ((p : Piece) → n ≡ Node.InStd p → ⊥) → ((a : ℕ) (p : Piece) → n ≡ Node.Within a p → ⊥)
-        → ((a b : ℕ) → n ≡ Node.Instance a b → ⊥) → ((e a : ℕ) (o : Option Span) → n ≡ Node.Local e a o → ⊥) → ((b : Bool) (a : ℕ) (g : Span) → n ≡ Node.Tagged b a g → ⊥) → ((k : ℕ) → n ≡ Node.Abbreviation k → ⊥) → ((k a : ℕ) → n ≡ Node.Parameter k a → ⊥) → ((a : ℕ) → n ≡ Node.Holder a → ⊥) → left_parts d c (reargued given (tree_of s us ts n)) ≡ base_parts d c (reargued given (tree_of s us ts n))
-    other (Node.Alone p) flat h1 h2 h3 h4 h5 h0 h6 h7 h8 = absurd (h1 p refl)
-    other (Node.InStd p) flat h1 h2 h3 h4 h5 h0 h6 h7 h8 = absurd (h2 p refl)
-    other (Node.Within a p) flat h1 h2 h3 h4 h5 h0 h6 h7 h8 = absurd (h3 a p refl)
-    other (Node.Instance a b) flat h1 h2 h3 h4 h5 h0 h6 h7 h8 = absurd (h4 a b refl)
-    other (Node.Local e a o) flat h1 h2 h3 h4 h5 h0 h6 h7 h8 = absurd (h5 e a o refl)
-    other (Node.Holder a) flat h1 h2 h3 h4 h5 h0 h6 h7 h8 = absurd (h8 a refl)
-    other (Node.Tagged b a g) flat h1 h2 h3 h4 h5 h0 h6 h7 h8 = absurd (h0 b a g refl)
-    other (Node.Abbreviation k) flat h1 h2 h3 h4 h5 h0 h6 h7 h8 = absurd (h6 k refl)
-    other (Node.Parameter k a) flat h1 h2 h3 h4 h5 h0 h6 h7 h8 = absurd (h7 k a refl)
-    other (Node.Reargued x z) flat h1 h2 h3 h4 h5 h0 h6 h7 h8 = absurd (true≢false flat)
-    other _ flat h1 h2 h3 h4 h5 h0 h6 h7 h8 = refl

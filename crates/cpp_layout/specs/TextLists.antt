@@ -128,6 +128,10 @@ operation_texts =
     codes "~" ∷
     codes "!" ∷
     codes "co_await " ∷
+    codes "delete " ∷
+    codes "delete[] " ∷
+    codes "throw " ∷
+    codes "::" ∷
     codes "++" ∷
     codes "--" ∷
     codes ".*" ∷
@@ -184,5 +188,11 @@ operation_texts =
     codes "alignof (" ∷
     codes "noexcept (" ∷
     codes "sizeof...(" ∷
-    codes "::" ∷
-    codes "this" ∷ []
+    codes "this" ∷
+    codes "new" ∷
+    codes " " ∷
+    codes "new[]" ∷
+    codes "(..." ∷
+    codes "...)" ∷
+    codes "requires {...}" ∷
+    codes "requires (...) {...}" ∷ []

@@ -10,7 +10,7 @@ use sym_print::Detail;
 
 /// An index into packs, how much is shown, and what free parameters have here in place of their own arguments, if there is something:
 /// an argument, or a list with one for each.
-#[derive(Clone, Copy, Debug)]
+#[derive(Clone, Copy, Debug, PartialEq, Eq)]
 pub struct Context {
     pub index: Option<u32>,
     pub detail: Detail,

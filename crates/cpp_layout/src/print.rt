@@ -160,6 +160,24 @@ impl Layout for Symbol {
         self.fill_form(stack, item.node, item.form, item.at, item.ctx);
     }
 
+    /// Instances of templates are noted: they come again as arguments, and their texts are long.
+    #[inline(always)]
+    fn is_noted(&self, item: Item<Context>) -> bool
+        requires may_come { MayBeAsked self.now (Part.Sub item) }
+    {
+        item.form == form::LEFT && self.is_instance(item.node) && item.ctx.detail.has_arguments()
+    }
+
+    #[inline(always)]
+    fn is_same(&self, one: &Item<Context>, other: &Item<Context>) -> bool
+        ensures { result ≡ true → one.now ≡ other.now }
+    {
+        one.node == other.node
+            && one.form == other.form
+            && one.at == other.at
+            && one.ctx == other.ctx
+    }
+
     #[inline(always)]
     fn bytes<'a>(&'a self, part: &'a Part<Context>) -> &'a [u8] {
         match part {

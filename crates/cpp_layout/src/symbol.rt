@@ -131,6 +131,17 @@ impl Symbol {
         }
     }
 
+    /// Whether a node is an instance of a template.
+    #[inline(always)]
+    pub(crate) fn is_instance(&self, node: u32) -> bool
+        requires { node < length self.now.table.nodes }
+    {
+        match self.nodes.entry(node).node {
+            Node::Instance { .. } => true,
+            _ => false,
+        }
+    }
+
     /// A node as it is stored, which is made of earlier ones.
     #[inline(always)]
     pub(crate) fn stored(&self, node: u32, ctx: Context) -> Node

@@ -9,7 +9,7 @@ use Rattle.sym_shape.specs.declared.rule.Sym.{Sym}
 use Rattle.sym_shape.specs.declared.rule.Sym.TheVariants.{Kind as OfKind, Name, Number, Byte}
 use Rattle.sym_link.specs.Reading.{Found}
 use Rattle.cpp_grammar.specs.declared.production.Production.{Production}
-use Rattle.cpp_grammar.specs.KindNumbers.{INTEGER, ANONYMOUS, OPERATOR, OTHER_OPERATOR, OPERATOR_AFTER_C, CONSTRUCTOR_DIGIT, DESTRUCTOR_DIGIT, SOURCE_OR_LOCAL, NEST, NEST_AFTER_S, AFTER_D, ITEM_AFTER_D, SOLID, SOLID_BUT_T, ARGUMENT_AFTER_T, ANY_ARRAY, ARRAY_REST, LITERAL_TYPE, CONVERTED_SOLID, DECLTYPE_AFTER_D, UNRESOLVED_TYPE, UNRESOLVED_NAME, UNQUALIFIED, NEST_REST, NEST_REST_OR_END, NEST_REST_ALONE, NEST_TAIL, NEST_MORE_OR_END, COMPONENT, COMPONENT_AFTER_C, CONSTRUCTOR_AFTER_C, HOLDER_MARK, HELD_COMPONENT, ABBREVIATION, TYPE_AFTER_S, TYPE_IN_STD, TAGGED_SOURCE, MAYBE_ARGUMENTS, MAYBE_TAGS, ARGUMENTS, ARGUMENTS_ALONE, ARGUMENTS_FIRST, BASE_ARGUMENTS, OWN_ARGUMENTS}
+use Rattle.cpp_grammar.specs.KindNumbers.{INTEGER, ANONYMOUS, OPERATOR, OTHER_OPERATOR, OPERATOR_AFTER_C, CONSTRUCTOR_DIGIT, DESTRUCTOR_DIGIT, SOURCE_OR_LOCAL, NEST, NEST_AFTER_S, AFTER_D, ITEM_AFTER_D, SOLID, SOLID_BUT_T, ARGUMENT_AFTER_T, LEVELED_PARAMETER, ANY_ARRAY, ARRAY_REST, LITERAL_TYPE, CONVERTED_SOLID, DECLTYPE_AFTER_D, UNRESOLVED_TYPE, UNRESOLVED_NAME, UNQUALIFIED, NEST_REST, NEST_REST_OR_END, NEST_REST_ALONE, NEST_TAIL, NEST_MORE_OR_END, COMPONENT, COMPONENT_AFTER_C, CONSTRUCTOR_AFTER_C, HOLDER_MARK, HELD_COMPONENT, ABBREVIATION, TYPE_AFTER_S, TYPE_IN_STD, TAGGED_SOURCE, MAYBE_ARGUMENTS, MAYBE_TAGS, ARGUMENTS, ARGUMENTS_ALONE, ARGUMENTS_FIRST, BASE_ARGUMENTS, OWN_ARGUMENTS}
 use Rattle.cpp_grammar.specs.Grammar.{parts_of, number_of_kind}
 use Rattle.cpp_grammar.specs.Row.{Made, unlisted, unless_there, Form, handed, finished, either, a_name, as_before, after_part, Gain, nothing, type_of, unqualified_of, itself, Before, quiet, goes, becomes, tests, Row, before_part}
 use Rattle.cpp_grammar.specs.Rows.{row_of}
@@ -177,6 +177,18 @@ handed-flow leave around place x none few = λ state next e. came (going [] arou
   few = omega arith;
   later = λ v. record { now = pending x v; few = omega (arith, none around v); goes = λ byte began state. omega (arith, few v) };
 })
+
+-- where that of the second is, after a number
+second-flow : (leave : Left) (around : Around) (place : ℕ) (x : Sym) → Untaken x → ((v : Value) → leave v ≤ pending x v) → RowFlow (plain (handed 1) nothing) leave around place (Number Decimal ∷ x ∷ []) [] 0
+unfolding before_part done state_after gained meant nodes_before nodes_at_end part pending pending_around
+second-flow leave around place x none few = λ state next e. came (going [] around state) next e (none-appended (going [] around state) (omega arith) (λ v. refl) begun)
+  where
+    begun : (v : Value) → RowFlow (plain (handed 1) nothing) leave around place (x ∷ []) (v ∷ []) 0
+    begun v = λ state next e. came (going (v ∷ []) around state) next e (record {
+      over = 0;
+      few = omega arith;
+      later = λ w. record { now = pending x w; few = omega (arith, none around w); goes = λ byte began state. omega (arith, few w) };
+    })
 
 -- where it becomes a candidate
 typed-flow : (leave : Left) (around : Around) (place : ℕ) (x : Sym) → Untaken x → ((v : Value) → pending x v ≡ few_.unlisted v) → ((v : Value) → leave (listed_value v) ≡ 0)
@@ -490,6 +502,7 @@ flows Production.SourceName around place = made_name Production.SourceName refl 
 flows Production.LocalTypeName around place = made_name Production.LocalTypeName refl around place _ _ (OfKind ANONYMOUS) MAYBE_ARGUMENTS refl (λ vs. refl) (λ vs. refl) (λ a v. refl) maybe-arguments
 flows Production.OperatorName around place = made_name Production.OperatorName refl around place _ _ (OfKind OPERATOR) MAYBE_ARGUMENTS refl (λ vs. refl) (λ vs. refl) (λ a v. refl) maybe-arguments
 flows Production.OtherOperatorName around place = made_name Production.OtherOperatorName refl around place _ _ (OfKind OTHER_OPERATOR) MAYBE_ARGUMENTS refl (λ vs. refl) (λ vs. refl) (λ a v. refl) maybe-arguments
+flows Production.Friend around place = made_name Production.Friend refl around place _ _ (OfKind UNQUALIFIED) MAYBE_ARGUMENTS refl (λ vs. refl) (λ vs. refl) (λ a v. refl) maybe-arguments
 flows Production.OperatorNameWithC around place = made_name Production.OperatorNameWithC refl around place _ _ (OfKind OPERATOR_AFTER_C) MAYBE_ARGUMENTS refl (λ vs. refl) (λ vs. refl) (λ a v. refl) maybe-arguments
 flows Production.Constructor around place = made_name Production.Constructor refl around place _ _ (OfKind CONSTRUCTOR_DIGIT) MAYBE_ARGUMENTS refl (λ vs. refl) (λ vs. refl) (λ a v. refl) maybe-arguments
 flows Production.Destructor around place = made_name Production.Destructor refl around place _ _ (OfKind DESTRUCTOR_DIGIT) MAYBE_ARGUMENTS refl (λ vs. refl) (λ vs. refl) (λ a v. refl) maybe-arguments
@@ -521,6 +534,7 @@ flows Production.PlainArgument around place = typed Production.PlainArgument ref
 flows Production.ArgumentWithT around place = typed Production.ArgumentWithT refl around place (OfKind ARGUMENT_AFTER_T) refl (λ a v. refl) (λ v. refl) (λ v. refl)
 flows Production.ConvertedType around place = typed Production.ConvertedType refl around place (OfKind CONVERTED_SOLID) refl (λ a v. refl) (λ v. refl) (λ v. refl)
 flows Production.ConvertedDecltype around place = typed Production.ConvertedDecltype refl around place (OfKind DECLTYPE_AFTER_D) refl (λ a v. refl) (λ v. refl) (λ v. refl)
+flows Production.DestroyedType around place = typed Production.DestroyedType refl around place (OfKind UNRESOLVED_TYPE) refl (λ a v. refl) (λ v. refl) (λ v. refl)
 flows Production.QualifiedPlain around place = unqualified Production.QualifiedPlain refl around place (OfKind SOLID) refl (λ a v. refl) (λ v. refl) (λ v. refl)
 flows Production.PlainWithD around place = unqualified Production.PlainWithD refl around place (OfKind AFTER_D) refl (λ a v. refl) (λ v. refl) (λ v. refl)
 flows Production.IntegerLiteral around place = of_type Production.IntegerLiteral refl around place _ (OfKind LITERAL_TYPE) (OfKind INTEGER) refl (λ a v. refl) (λ a v. refl) (λ v. refl) (λ v. refl)
@@ -536,6 +550,8 @@ flows Production.Parameter around place = of-row Production.Parameter refl aroun
 flows Production.ParameterArgument around place = of-row Production.ParameterArgument refl around place (parts_of Production.ParameterArgument) [] 0 (parameter-flow true around place)
 flows Production.ParameterExpression around place = of-row Production.ParameterExpression refl around place (parts_of Production.ParameterExpression) [] 0 (expression-parameter around place)
 flows Production.TypeWithS around place = of-row Production.TypeWithS refl around place (parts_of Production.TypeWithS) [] 0 (with-s-type around place)
+flows Production.LeveledParameter around place =
+    of-row Production.LeveledParameter refl around place (parts_of Production.LeveledParameter) [] 0 (second-flow few_.unlisted around place (OfKind LEVELED_PARAMETER) (λ a v. refl) (λ v. omega arith))
 flows Production.NestTemplate around place = of-row Production.NestTemplate refl around place (parts_of Production.NestTemplate) [] 0 (nest-template around place)
 flows Production.NestParameter around place = of-row Production.NestParameter refl around place (parts_of Production.NestParameter) [] 0 (nest-parameter around place)
 flows Production.NestStd around place = of-row Production.NestStd refl around place (parts_of Production.NestStd) [] 0 (nest-std around place)

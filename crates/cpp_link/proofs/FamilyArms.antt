@@ -51,6 +51,7 @@ pub applied_name : (p : Production) → family_of p ≡ Family.AppliedName
     → (p ≡ Production.LocalTypeName → ⊥)
     → (p ≡ Production.OperatorName → ⊥)
     → (p ≡ Production.OtherOperatorName → ⊥)
+    → (p ≡ Production.Friend → ⊥)
     → (p ≡ Production.OperatorNameWithC → ⊥)
     → (p ≡ Production.Constructor → ⊥)
     → (p ≡ Production.Destructor → ⊥)
@@ -58,18 +59,19 @@ pub applied_name : (p : Production) → family_of p ≡ Family.AppliedName
     → (p ≡ Production.AbbreviatedName → ⊥)
     → ⊥
 unfolding family_of
-applied_name Production.Tag is n0 n1 n2 n3 n4 n5 n6 n7 n8 n9 n10 = n0 refl
-applied_name Production.TypeTag is n0 n1 n2 n3 n4 n5 n6 n7 n8 n9 n10 = n1 refl
-applied_name Production.InternalName is n0 n1 n2 n3 n4 n5 n6 n7 n8 n9 n10 = n2 refl
-applied_name Production.LocalTypeName is n0 n1 n2 n3 n4 n5 n6 n7 n8 n9 n10 = n3 refl
-applied_name Production.OperatorName is n0 n1 n2 n3 n4 n5 n6 n7 n8 n9 n10 = n4 refl
-applied_name Production.OtherOperatorName is n0 n1 n2 n3 n4 n5 n6 n7 n8 n9 n10 = n5 refl
-applied_name Production.OperatorNameWithC is n0 n1 n2 n3 n4 n5 n6 n7 n8 n9 n10 = n6 refl
-applied_name Production.Constructor is n0 n1 n2 n3 n4 n5 n6 n7 n8 n9 n10 = n7 refl
-applied_name Production.Destructor is n0 n1 n2 n3 n4 n5 n6 n7 n8 n9 n10 = n8 refl
-applied_name Production.StdName is n0 n1 n2 n3 n4 n5 n6 n7 n8 n9 n10 = n9 refl
-applied_name Production.AbbreviatedName is n0 n1 n2 n3 n4 n5 n6 n7 n8 n9 n10 = n10 refl
-applied_name _ is n0 n1 n2 n3 n4 n5 n6 n7 n8 n9 n10 = subst IsAppliedName (sym is) tt
+applied_name Production.Tag is n0 n1 n2 n3 n4 n5 n6 n7 n8 n9 n10 n11 = n0 refl
+applied_name Production.TypeTag is n0 n1 n2 n3 n4 n5 n6 n7 n8 n9 n10 n11 = n1 refl
+applied_name Production.InternalName is n0 n1 n2 n3 n4 n5 n6 n7 n8 n9 n10 n11 = n2 refl
+applied_name Production.LocalTypeName is n0 n1 n2 n3 n4 n5 n6 n7 n8 n9 n10 n11 = n3 refl
+applied_name Production.OperatorName is n0 n1 n2 n3 n4 n5 n6 n7 n8 n9 n10 n11 = n4 refl
+applied_name Production.OtherOperatorName is n0 n1 n2 n3 n4 n5 n6 n7 n8 n9 n10 n11 = n5 refl
+applied_name Production.Friend is n0 n1 n2 n3 n4 n5 n6 n7 n8 n9 n10 n11 = n6 refl
+applied_name Production.OperatorNameWithC is n0 n1 n2 n3 n4 n5 n6 n7 n8 n9 n10 n11 = n7 refl
+applied_name Production.Constructor is n0 n1 n2 n3 n4 n5 n6 n7 n8 n9 n10 n11 = n8 refl
+applied_name Production.Destructor is n0 n1 n2 n3 n4 n5 n6 n7 n8 n9 n10 n11 = n9 refl
+applied_name Production.StdName is n0 n1 n2 n3 n4 n5 n6 n7 n8 n9 n10 n11 = n10 refl
+applied_name Production.AbbreviatedName is n0 n1 n2 n3 n4 n5 n6 n7 n8 n9 n10 n11 = n11 refl
+applied_name _ is n0 n1 n2 n3 n4 n5 n6 n7 n8 n9 n10 n11 = subst IsAppliedName (sym is) tt
 
 abbrev IsPiece : Family → Type 0
 IsPiece Family.Piece = Unit {0}
@@ -89,6 +91,7 @@ pub piece : (p : Production) → family_of p ≡ Family.Piece
     → (p ≡ Production.OperatorS → ⊥)
     → (p ≡ Production.OperatorI → ⊥)
     → (p ≡ Production.OperatorG → ⊥)
+    → (p ≡ Production.FoldOperatorL → ⊥)
     → (p ≡ Production.OperatorL → ⊥)
     → (p ≡ Production.LiteralOperator → ⊥)
     → (p ≡ Production.Conversion → ⊥)
@@ -96,25 +99,26 @@ pub piece : (p : Production) → family_of p ≡ Family.Piece
     → (p ≡ Production.Unnamed → ⊥)
     → ⊥
 unfolding family_of
-piece Production.InternalPiece is n0 n1 n2 n3 n4 n5 n6 n7 n8 n9 n10 n11 n12 n13 n14 n15 n16 n17 = n0 refl
-piece Production.OperatorN is n0 n1 n2 n3 n4 n5 n6 n7 n8 n9 n10 n11 n12 n13 n14 n15 n16 n17 = n1 refl
-piece Production.OperatorD is n0 n1 n2 n3 n4 n5 n6 n7 n8 n9 n10 n11 n12 n13 n14 n15 n16 n17 = n2 refl
-piece Production.OperatorA is n0 n1 n2 n3 n4 n5 n6 n7 n8 n9 n10 n11 n12 n13 n14 n15 n16 n17 = n3 refl
-piece Production.OperatorP is n0 n1 n2 n3 n4 n5 n6 n7 n8 n9 n10 n11 n12 n13 n14 n15 n16 n17 = n4 refl
-piece Production.OperatorC is n0 n1 n2 n3 n4 n5 n6 n7 n8 n9 n10 n11 n12 n13 n14 n15 n16 n17 = n5 refl
-piece Production.OperatorM is n0 n1 n2 n3 n4 n5 n6 n7 n8 n9 n10 n11 n12 n13 n14 n15 n16 n17 = n6 refl
-piece Production.OperatorR is n0 n1 n2 n3 n4 n5 n6 n7 n8 n9 n10 n11 n12 n13 n14 n15 n16 n17 = n7 refl
-piece Production.OperatorO is n0 n1 n2 n3 n4 n5 n6 n7 n8 n9 n10 n11 n12 n13 n14 n15 n16 n17 = n8 refl
-piece Production.OperatorE is n0 n1 n2 n3 n4 n5 n6 n7 n8 n9 n10 n11 n12 n13 n14 n15 n16 n17 = n9 refl
-piece Production.OperatorS is n0 n1 n2 n3 n4 n5 n6 n7 n8 n9 n10 n11 n12 n13 n14 n15 n16 n17 = n10 refl
-piece Production.OperatorI is n0 n1 n2 n3 n4 n5 n6 n7 n8 n9 n10 n11 n12 n13 n14 n15 n16 n17 = n11 refl
-piece Production.OperatorG is n0 n1 n2 n3 n4 n5 n6 n7 n8 n9 n10 n11 n12 n13 n14 n15 n16 n17 = n12 refl
-piece Production.OperatorL is n0 n1 n2 n3 n4 n5 n6 n7 n8 n9 n10 n11 n12 n13 n14 n15 n16 n17 = n13 refl
-piece Production.LiteralOperator is n0 n1 n2 n3 n4 n5 n6 n7 n8 n9 n10 n11 n12 n13 n14 n15 n16 n17 = n14 refl
-piece Production.Conversion is n0 n1 n2 n3 n4 n5 n6 n7 n8 n9 n10 n11 n12 n13 n14 n15 n16 n17 = n15 refl
-piece Production.Lambda is n0 n1 n2 n3 n4 n5 n6 n7 n8 n9 n10 n11 n12 n13 n14 n15 n16 n17 = n16 refl
-piece Production.Unnamed is n0 n1 n2 n3 n4 n5 n6 n7 n8 n9 n10 n11 n12 n13 n14 n15 n16 n17 = n17 refl
-piece _ is n0 n1 n2 n3 n4 n5 n6 n7 n8 n9 n10 n11 n12 n13 n14 n15 n16 n17 = subst IsPiece (sym is) tt
+piece Production.InternalPiece is n0 n1 n2 n3 n4 n5 n6 n7 n8 n9 n10 n11 n12 n13 n14 n15 n16 n17 n18 = n0 refl
+piece Production.OperatorN is n0 n1 n2 n3 n4 n5 n6 n7 n8 n9 n10 n11 n12 n13 n14 n15 n16 n17 n18 = n1 refl
+piece Production.OperatorD is n0 n1 n2 n3 n4 n5 n6 n7 n8 n9 n10 n11 n12 n13 n14 n15 n16 n17 n18 = n2 refl
+piece Production.OperatorA is n0 n1 n2 n3 n4 n5 n6 n7 n8 n9 n10 n11 n12 n13 n14 n15 n16 n17 n18 = n3 refl
+piece Production.OperatorP is n0 n1 n2 n3 n4 n5 n6 n7 n8 n9 n10 n11 n12 n13 n14 n15 n16 n17 n18 = n4 refl
+piece Production.OperatorC is n0 n1 n2 n3 n4 n5 n6 n7 n8 n9 n10 n11 n12 n13 n14 n15 n16 n17 n18 = n5 refl
+piece Production.OperatorM is n0 n1 n2 n3 n4 n5 n6 n7 n8 n9 n10 n11 n12 n13 n14 n15 n16 n17 n18 = n6 refl
+piece Production.OperatorR is n0 n1 n2 n3 n4 n5 n6 n7 n8 n9 n10 n11 n12 n13 n14 n15 n16 n17 n18 = n7 refl
+piece Production.OperatorO is n0 n1 n2 n3 n4 n5 n6 n7 n8 n9 n10 n11 n12 n13 n14 n15 n16 n17 n18 = n8 refl
+piece Production.OperatorE is n0 n1 n2 n3 n4 n5 n6 n7 n8 n9 n10 n11 n12 n13 n14 n15 n16 n17 n18 = n9 refl
+piece Production.OperatorS is n0 n1 n2 n3 n4 n5 n6 n7 n8 n9 n10 n11 n12 n13 n14 n15 n16 n17 n18 = n10 refl
+piece Production.OperatorI is n0 n1 n2 n3 n4 n5 n6 n7 n8 n9 n10 n11 n12 n13 n14 n15 n16 n17 n18 = n11 refl
+piece Production.OperatorG is n0 n1 n2 n3 n4 n5 n6 n7 n8 n9 n10 n11 n12 n13 n14 n15 n16 n17 n18 = n12 refl
+piece Production.FoldOperatorL is n0 n1 n2 n3 n4 n5 n6 n7 n8 n9 n10 n11 n12 n13 n14 n15 n16 n17 n18 = n13 refl
+piece Production.OperatorL is n0 n1 n2 n3 n4 n5 n6 n7 n8 n9 n10 n11 n12 n13 n14 n15 n16 n17 n18 = n14 refl
+piece Production.LiteralOperator is n0 n1 n2 n3 n4 n5 n6 n7 n8 n9 n10 n11 n12 n13 n14 n15 n16 n17 n18 = n15 refl
+piece Production.Conversion is n0 n1 n2 n3 n4 n5 n6 n7 n8 n9 n10 n11 n12 n13 n14 n15 n16 n17 n18 = n16 refl
+piece Production.Lambda is n0 n1 n2 n3 n4 n5 n6 n7 n8 n9 n10 n11 n12 n13 n14 n15 n16 n17 n18 = n17 refl
+piece Production.Unnamed is n0 n1 n2 n3 n4 n5 n6 n7 n8 n9 n10 n11 n12 n13 n14 n15 n16 n17 n18 = n18 refl
+piece _ is n0 n1 n2 n3 n4 n5 n6 n7 n8 n9 n10 n11 n12 n13 n14 n15 n16 n17 n18 = subst IsPiece (sym is) tt
 
 abbrev IsLocalName : Family → Type 0
 IsLocalName Family.LocalName = Unit {0}
@@ -238,23 +242,25 @@ pub plain_type : (p : Production) → family_of p ≡ Family.PlainType
     → (p ≡ Production.Decltype → ⊥)
     → (p ≡ Production.Expansion → ⊥)
     → (p ≡ Production.ConvertedDecltype → ⊥)
+    → (p ≡ Production.DestroyedType → ⊥)
     → (p ≡ Production.ConvertedType → ⊥)
     → ⊥
 unfolding family_of
-plain_type Production.TypeWithD is n0 n1 n2 n3 n4 n5 n6 n7 n8 n9 n10 n11 n12 = n0 refl
-plain_type Production.PlainWithD is n0 n1 n2 n3 n4 n5 n6 n7 n8 n9 n10 n11 n12 = n1 refl
-plain_type Production.ItemWithD is n0 n1 n2 n3 n4 n5 n6 n7 n8 n9 n10 n11 n12 = n2 refl
-plain_type Production.ItemIsType is n0 n1 n2 n3 n4 n5 n6 n7 n8 n9 n10 n11 n12 = n3 refl
-plain_type Production.Abbreviation is n0 n1 n2 n3 n4 n5 n6 n7 n8 n9 n10 n11 n12 = n4 refl
-plain_type Production.BuiltinWithD is n0 n1 n2 n3 n4 n5 n6 n7 n8 n9 n10 n11 n12 = n5 refl
-plain_type Production.SizedFloat is n0 n1 n2 n3 n4 n5 n6 n7 n8 n9 n10 n11 n12 = n6 refl
-plain_type Production.ConstrainedAuto is n0 n1 n2 n3 n4 n5 n6 n7 n8 n9 n10 n11 n12 = n7 refl
-plain_type Production.Vendor is n0 n1 n2 n3 n4 n5 n6 n7 n8 n9 n10 n11 n12 = n8 refl
-plain_type Production.Decltype is n0 n1 n2 n3 n4 n5 n6 n7 n8 n9 n10 n11 n12 = n9 refl
-plain_type Production.Expansion is n0 n1 n2 n3 n4 n5 n6 n7 n8 n9 n10 n11 n12 = n10 refl
-plain_type Production.ConvertedDecltype is n0 n1 n2 n3 n4 n5 n6 n7 n8 n9 n10 n11 n12 = n11 refl
-plain_type Production.ConvertedType is n0 n1 n2 n3 n4 n5 n6 n7 n8 n9 n10 n11 n12 = n12 refl
-plain_type _ is n0 n1 n2 n3 n4 n5 n6 n7 n8 n9 n10 n11 n12 = subst IsPlainType (sym is) tt
+plain_type Production.TypeWithD is n0 n1 n2 n3 n4 n5 n6 n7 n8 n9 n10 n11 n12 n13 = n0 refl
+plain_type Production.PlainWithD is n0 n1 n2 n3 n4 n5 n6 n7 n8 n9 n10 n11 n12 n13 = n1 refl
+plain_type Production.ItemWithD is n0 n1 n2 n3 n4 n5 n6 n7 n8 n9 n10 n11 n12 n13 = n2 refl
+plain_type Production.ItemIsType is n0 n1 n2 n3 n4 n5 n6 n7 n8 n9 n10 n11 n12 n13 = n3 refl
+plain_type Production.Abbreviation is n0 n1 n2 n3 n4 n5 n6 n7 n8 n9 n10 n11 n12 n13 = n4 refl
+plain_type Production.BuiltinWithD is n0 n1 n2 n3 n4 n5 n6 n7 n8 n9 n10 n11 n12 n13 = n5 refl
+plain_type Production.SizedFloat is n0 n1 n2 n3 n4 n5 n6 n7 n8 n9 n10 n11 n12 n13 = n6 refl
+plain_type Production.ConstrainedAuto is n0 n1 n2 n3 n4 n5 n6 n7 n8 n9 n10 n11 n12 n13 = n7 refl
+plain_type Production.Vendor is n0 n1 n2 n3 n4 n5 n6 n7 n8 n9 n10 n11 n12 n13 = n8 refl
+plain_type Production.Decltype is n0 n1 n2 n3 n4 n5 n6 n7 n8 n9 n10 n11 n12 n13 = n9 refl
+plain_type Production.Expansion is n0 n1 n2 n3 n4 n5 n6 n7 n8 n9 n10 n11 n12 n13 = n10 refl
+plain_type Production.ConvertedDecltype is n0 n1 n2 n3 n4 n5 n6 n7 n8 n9 n10 n11 n12 n13 = n11 refl
+plain_type Production.DestroyedType is n0 n1 n2 n3 n4 n5 n6 n7 n8 n9 n10 n11 n12 n13 = n12 refl
+plain_type Production.ConvertedType is n0 n1 n2 n3 n4 n5 n6 n7 n8 n9 n10 n11 n12 n13 = n13 refl
+plain_type _ is n0 n1 n2 n3 n4 n5 n6 n7 n8 n9 n10 n11 n12 n13 = subst IsPlainType (sym is) tt
 
 abbrev IsCompoundType : Family → Type 0
 IsCompoundType Family.CompoundType = Unit {0}
@@ -297,6 +303,7 @@ pub function_type : (p : Production) → family_of p ≡ Family.FunctionType
     → (p ≡ Production.Function → ⊥)
     → (p ≡ Production.NoexceptFunction → ⊥)
     → (p ≡ Production.RefEnd → ⊥)
+    → (p ≡ Production.Constraint → ⊥)
     → (p ≡ Production.RestEnd → ⊥)
     → (p ≡ Production.LvalueItem → ⊥)
     → (p ≡ Production.RvalueItem → ⊥)
@@ -305,16 +312,17 @@ pub function_type : (p : Production) → family_of p ≡ Family.FunctionType
     → (p ≡ Production.RestRvalue → ⊥)
     → ⊥
 unfolding family_of
-function_type Production.Function is n0 n1 n2 n3 n4 n5 n6 n7 n8 = n0 refl
-function_type Production.NoexceptFunction is n0 n1 n2 n3 n4 n5 n6 n7 n8 = n1 refl
-function_type Production.RefEnd is n0 n1 n2 n3 n4 n5 n6 n7 n8 = n2 refl
-function_type Production.RestEnd is n0 n1 n2 n3 n4 n5 n6 n7 n8 = n3 refl
-function_type Production.LvalueItem is n0 n1 n2 n3 n4 n5 n6 n7 n8 = n4 refl
-function_type Production.RvalueItem is n0 n1 n2 n3 n4 n5 n6 n7 n8 = n5 refl
-function_type Production.RestItem is n0 n1 n2 n3 n4 n5 n6 n7 n8 = n6 refl
-function_type Production.RestLvalue is n0 n1 n2 n3 n4 n5 n6 n7 n8 = n7 refl
-function_type Production.RestRvalue is n0 n1 n2 n3 n4 n5 n6 n7 n8 = n8 refl
-function_type _ is n0 n1 n2 n3 n4 n5 n6 n7 n8 = subst IsFunctionType (sym is) tt
+function_type Production.Function is n0 n1 n2 n3 n4 n5 n6 n7 n8 n9 = n0 refl
+function_type Production.NoexceptFunction is n0 n1 n2 n3 n4 n5 n6 n7 n8 n9 = n1 refl
+function_type Production.RefEnd is n0 n1 n2 n3 n4 n5 n6 n7 n8 n9 = n2 refl
+function_type Production.Constraint is n0 n1 n2 n3 n4 n5 n6 n7 n8 n9 = n3 refl
+function_type Production.RestEnd is n0 n1 n2 n3 n4 n5 n6 n7 n8 n9 = n4 refl
+function_type Production.LvalueItem is n0 n1 n2 n3 n4 n5 n6 n7 n8 n9 = n5 refl
+function_type Production.RvalueItem is n0 n1 n2 n3 n4 n5 n6 n7 n8 n9 = n6 refl
+function_type Production.RestItem is n0 n1 n2 n3 n4 n5 n6 n7 n8 n9 = n7 refl
+function_type Production.RestLvalue is n0 n1 n2 n3 n4 n5 n6 n7 n8 n9 = n8 refl
+function_type Production.RestRvalue is n0 n1 n2 n3 n4 n5 n6 n7 n8 n9 = n9 refl
+function_type _ is n0 n1 n2 n3 n4 n5 n6 n7 n8 n9 = subst IsFunctionType (sym is) tt
 
 abbrev IsArgument : Family → Type 0
 IsArgument Family.Argument = Unit {0}
@@ -329,6 +337,7 @@ pub argument : (p : Production) → family_of p ≡ Family.Argument
     → (p ≡ Production.AnyElement → ⊥)
     → (p ≡ Production.ArgumentWithT → ⊥)
     → (p ≡ Production.DeclaredArgument → ⊥)
+    → (p ≡ Production.LeveledParameter → ⊥)
     → (p ≡ Production.OneLiteral → ⊥)
     → (p ≡ Production.OnePack → ⊥)
     → (p ≡ Production.AnyType → ⊥)
@@ -339,23 +348,24 @@ pub argument : (p : Production) → family_of p ≡ Family.Argument
     → (p ≡ Production.Declarations → ⊥)
     → ⊥
 unfolding family_of
-argument Production.Parameter is n0 n1 n2 n3 n4 n5 n6 n7 n8 n9 n10 n11 n12 n13 n14 n15 = n0 refl
-argument Production.ParameterArgument is n0 n1 n2 n3 n4 n5 n6 n7 n8 n9 n10 n11 n12 n13 n14 n15 = n1 refl
-argument Production.PackArgument is n0 n1 n2 n3 n4 n5 n6 n7 n8 n9 n10 n11 n12 n13 n14 n15 = n2 refl
-argument Production.LiteralArgument is n0 n1 n2 n3 n4 n5 n6 n7 n8 n9 n10 n11 n12 n13 n14 n15 = n3 refl
-argument Production.LiteralElement is n0 n1 n2 n3 n4 n5 n6 n7 n8 n9 n10 n11 n12 n13 n14 n15 = n4 refl
-argument Production.AnyElement is n0 n1 n2 n3 n4 n5 n6 n7 n8 n9 n10 n11 n12 n13 n14 n15 = n5 refl
-argument Production.ArgumentWithT is n0 n1 n2 n3 n4 n5 n6 n7 n8 n9 n10 n11 n12 n13 n14 n15 = n6 refl
-argument Production.DeclaredArgument is n0 n1 n2 n3 n4 n5 n6 n7 n8 n9 n10 n11 n12 n13 n14 n15 = n7 refl
-argument Production.OneLiteral is n0 n1 n2 n3 n4 n5 n6 n7 n8 n9 n10 n11 n12 n13 n14 n15 = n8 refl
-argument Production.OnePack is n0 n1 n2 n3 n4 n5 n6 n7 n8 n9 n10 n11 n12 n13 n14 n15 = n9 refl
-argument Production.AnyType is n0 n1 n2 n3 n4 n5 n6 n7 n8 n9 n10 n11 n12 n13 n14 n15 = n10 refl
-argument Production.ValueOf is n0 n1 n2 n3 n4 n5 n6 n7 n8 n9 n10 n11 n12 n13 n14 n15 = n11 refl
-argument Production.OfConcept is n0 n1 n2 n3 n4 n5 n6 n7 n8 n9 n10 n11 n12 n13 n14 n15 = n12 refl
-argument Production.TemplateOf is n0 n1 n2 n3 n4 n5 n6 n7 n8 n9 n10 n11 n12 n13 n14 n15 = n13 refl
-argument Production.PackOf is n0 n1 n2 n3 n4 n5 n6 n7 n8 n9 n10 n11 n12 n13 n14 n15 = n14 refl
-argument Production.Declarations is n0 n1 n2 n3 n4 n5 n6 n7 n8 n9 n10 n11 n12 n13 n14 n15 = n15 refl
-argument _ is n0 n1 n2 n3 n4 n5 n6 n7 n8 n9 n10 n11 n12 n13 n14 n15 = subst IsArgument (sym is) tt
+argument Production.Parameter is n0 n1 n2 n3 n4 n5 n6 n7 n8 n9 n10 n11 n12 n13 n14 n15 n16 = n0 refl
+argument Production.ParameterArgument is n0 n1 n2 n3 n4 n5 n6 n7 n8 n9 n10 n11 n12 n13 n14 n15 n16 = n1 refl
+argument Production.PackArgument is n0 n1 n2 n3 n4 n5 n6 n7 n8 n9 n10 n11 n12 n13 n14 n15 n16 = n2 refl
+argument Production.LiteralArgument is n0 n1 n2 n3 n4 n5 n6 n7 n8 n9 n10 n11 n12 n13 n14 n15 n16 = n3 refl
+argument Production.LiteralElement is n0 n1 n2 n3 n4 n5 n6 n7 n8 n9 n10 n11 n12 n13 n14 n15 n16 = n4 refl
+argument Production.AnyElement is n0 n1 n2 n3 n4 n5 n6 n7 n8 n9 n10 n11 n12 n13 n14 n15 n16 = n5 refl
+argument Production.ArgumentWithT is n0 n1 n2 n3 n4 n5 n6 n7 n8 n9 n10 n11 n12 n13 n14 n15 n16 = n6 refl
+argument Production.DeclaredArgument is n0 n1 n2 n3 n4 n5 n6 n7 n8 n9 n10 n11 n12 n13 n14 n15 n16 = n7 refl
+argument Production.LeveledParameter is n0 n1 n2 n3 n4 n5 n6 n7 n8 n9 n10 n11 n12 n13 n14 n15 n16 = n8 refl
+argument Production.OneLiteral is n0 n1 n2 n3 n4 n5 n6 n7 n8 n9 n10 n11 n12 n13 n14 n15 n16 = n9 refl
+argument Production.OnePack is n0 n1 n2 n3 n4 n5 n6 n7 n8 n9 n10 n11 n12 n13 n14 n15 n16 = n10 refl
+argument Production.AnyType is n0 n1 n2 n3 n4 n5 n6 n7 n8 n9 n10 n11 n12 n13 n14 n15 n16 = n11 refl
+argument Production.ValueOf is n0 n1 n2 n3 n4 n5 n6 n7 n8 n9 n10 n11 n12 n13 n14 n15 n16 = n12 refl
+argument Production.OfConcept is n0 n1 n2 n3 n4 n5 n6 n7 n8 n9 n10 n11 n12 n13 n14 n15 n16 = n13 refl
+argument Production.TemplateOf is n0 n1 n2 n3 n4 n5 n6 n7 n8 n9 n10 n11 n12 n13 n14 n15 n16 = n14 refl
+argument Production.PackOf is n0 n1 n2 n3 n4 n5 n6 n7 n8 n9 n10 n11 n12 n13 n14 n15 n16 = n15 refl
+argument Production.Declarations is n0 n1 n2 n3 n4 n5 n6 n7 n8 n9 n10 n11 n12 n13 n14 n15 n16 = n16 refl
+argument _ is n0 n1 n2 n3 n4 n5 n6 n7 n8 n9 n10 n11 n12 n13 n14 n15 n16 = subst IsArgument (sym is) tt
 
 abbrev IsOperation : Family → Type 0
 IsOperation Family.Operation = Unit {0}
@@ -378,25 +388,29 @@ pub operation : (p : Production) → family_of p ≡ Family.Operation
     → (p ≡ Production.ExpressionR → ⊥)
     → (p ≡ Production.ExpressionS → ⊥)
     → (p ≡ Production.ExpressionT → ⊥)
+    → (p ≡ Production.Initializer → ⊥)
+    → (p ≡ Production.BracedInitializer → ⊥)
     → ⊥
 unfolding family_of
-operation Production.ExpressionA is n0 n1 n2 n3 n4 n5 n6 n7 n8 n9 n10 n11 n12 n13 n14 n15 = n0 refl
-operation Production.ExpressionC is n0 n1 n2 n3 n4 n5 n6 n7 n8 n9 n10 n11 n12 n13 n14 n15 = n1 refl
-operation Production.ExpressionD is n0 n1 n2 n3 n4 n5 n6 n7 n8 n9 n10 n11 n12 n13 n14 n15 = n2 refl
-operation Production.ExpressionE is n0 n1 n2 n3 n4 n5 n6 n7 n8 n9 n10 n11 n12 n13 n14 n15 = n3 refl
-operation Production.ExpressionF is n0 n1 n2 n3 n4 n5 n6 n7 n8 n9 n10 n11 n12 n13 n14 n15 = n4 refl
-operation Production.ExpressionG is n0 n1 n2 n3 n4 n5 n6 n7 n8 n9 n10 n11 n12 n13 n14 n15 = n5 refl
-operation Production.ExpressionI is n0 n1 n2 n3 n4 n5 n6 n7 n8 n9 n10 n11 n12 n13 n14 n15 = n6 refl
-operation Production.ExpressionL is n0 n1 n2 n3 n4 n5 n6 n7 n8 n9 n10 n11 n12 n13 n14 n15 = n7 refl
-operation Production.ExpressionM is n0 n1 n2 n3 n4 n5 n6 n7 n8 n9 n10 n11 n12 n13 n14 n15 = n8 refl
-operation Production.ExpressionN is n0 n1 n2 n3 n4 n5 n6 n7 n8 n9 n10 n11 n12 n13 n14 n15 = n9 refl
-operation Production.ExpressionO is n0 n1 n2 n3 n4 n5 n6 n7 n8 n9 n10 n11 n12 n13 n14 n15 = n10 refl
-operation Production.ExpressionP is n0 n1 n2 n3 n4 n5 n6 n7 n8 n9 n10 n11 n12 n13 n14 n15 = n11 refl
-operation Production.ExpressionQ is n0 n1 n2 n3 n4 n5 n6 n7 n8 n9 n10 n11 n12 n13 n14 n15 = n12 refl
-operation Production.ExpressionR is n0 n1 n2 n3 n4 n5 n6 n7 n8 n9 n10 n11 n12 n13 n14 n15 = n13 refl
-operation Production.ExpressionS is n0 n1 n2 n3 n4 n5 n6 n7 n8 n9 n10 n11 n12 n13 n14 n15 = n14 refl
-operation Production.ExpressionT is n0 n1 n2 n3 n4 n5 n6 n7 n8 n9 n10 n11 n12 n13 n14 n15 = n15 refl
-operation _ is n0 n1 n2 n3 n4 n5 n6 n7 n8 n9 n10 n11 n12 n13 n14 n15 = subst IsOperation (sym is) tt
+operation Production.ExpressionA is n0 n1 n2 n3 n4 n5 n6 n7 n8 n9 n10 n11 n12 n13 n14 n15 n16 n17 = n0 refl
+operation Production.ExpressionC is n0 n1 n2 n3 n4 n5 n6 n7 n8 n9 n10 n11 n12 n13 n14 n15 n16 n17 = n1 refl
+operation Production.ExpressionD is n0 n1 n2 n3 n4 n5 n6 n7 n8 n9 n10 n11 n12 n13 n14 n15 n16 n17 = n2 refl
+operation Production.ExpressionE is n0 n1 n2 n3 n4 n5 n6 n7 n8 n9 n10 n11 n12 n13 n14 n15 n16 n17 = n3 refl
+operation Production.ExpressionF is n0 n1 n2 n3 n4 n5 n6 n7 n8 n9 n10 n11 n12 n13 n14 n15 n16 n17 = n4 refl
+operation Production.ExpressionG is n0 n1 n2 n3 n4 n5 n6 n7 n8 n9 n10 n11 n12 n13 n14 n15 n16 n17 = n5 refl
+operation Production.ExpressionI is n0 n1 n2 n3 n4 n5 n6 n7 n8 n9 n10 n11 n12 n13 n14 n15 n16 n17 = n6 refl
+operation Production.ExpressionL is n0 n1 n2 n3 n4 n5 n6 n7 n8 n9 n10 n11 n12 n13 n14 n15 n16 n17 = n7 refl
+operation Production.ExpressionM is n0 n1 n2 n3 n4 n5 n6 n7 n8 n9 n10 n11 n12 n13 n14 n15 n16 n17 = n8 refl
+operation Production.ExpressionN is n0 n1 n2 n3 n4 n5 n6 n7 n8 n9 n10 n11 n12 n13 n14 n15 n16 n17 = n9 refl
+operation Production.ExpressionO is n0 n1 n2 n3 n4 n5 n6 n7 n8 n9 n10 n11 n12 n13 n14 n15 n16 n17 = n10 refl
+operation Production.ExpressionP is n0 n1 n2 n3 n4 n5 n6 n7 n8 n9 n10 n11 n12 n13 n14 n15 n16 n17 = n11 refl
+operation Production.ExpressionQ is n0 n1 n2 n3 n4 n5 n6 n7 n8 n9 n10 n11 n12 n13 n14 n15 n16 n17 = n12 refl
+operation Production.ExpressionR is n0 n1 n2 n3 n4 n5 n6 n7 n8 n9 n10 n11 n12 n13 n14 n15 n16 n17 = n13 refl
+operation Production.ExpressionS is n0 n1 n2 n3 n4 n5 n6 n7 n8 n9 n10 n11 n12 n13 n14 n15 n16 n17 = n14 refl
+operation Production.ExpressionT is n0 n1 n2 n3 n4 n5 n6 n7 n8 n9 n10 n11 n12 n13 n14 n15 n16 n17 = n15 refl
+operation Production.Initializer is n0 n1 n2 n3 n4 n5 n6 n7 n8 n9 n10 n11 n12 n13 n14 n15 n16 n17 = n16 refl
+operation Production.BracedInitializer is n0 n1 n2 n3 n4 n5 n6 n7 n8 n9 n10 n11 n12 n13 n14 n15 n16 n17 = n17 refl
+operation _ is n0 n1 n2 n3 n4 n5 n6 n7 n8 n9 n10 n11 n12 n13 n14 n15 n16 n17 = subst IsOperation (sym is) tt
 
 abbrev IsOperands : Family → Type 0
 IsOperands Family.Operands = Unit {0}
@@ -408,6 +422,7 @@ pub operands : (p : Production) → family_of p ≡ Family.Operands
     → (p ≡ Production.Unary → ⊥)
     → (p ≡ Production.AddressExpression → ⊥)
     → (p ≡ Production.OfType → ⊥)
+    → (p ≡ Production.DestructorName → ⊥)
     → (p ≡ Production.Braces → ⊥)
     → (p ≡ Production.Step → ⊥)
     → (p ≡ Production.Binary → ⊥)
@@ -416,26 +431,55 @@ pub operands : (p : Production) → family_of p ≡ Family.Operands
     → (p ≡ Production.Call → ⊥)
     → (p ≡ Production.TypedBraces → ⊥)
     → (p ≡ Production.Conditional → ⊥)
+    → (p ≡ Production.New → ⊥)
+    → (p ≡ Production.Placed → ⊥)
+    → (p ≡ Production.LeftFold → ⊥)
+    → (p ≡ Production.RightFold → ⊥)
+    → (p ≡ Production.FoldOperand → ⊥)
+    → (p ≡ Production.FoldPack → ⊥)
+    → (p ≡ Production.Requires → ⊥)
+    → (p ≡ Production.RequiresOf → ⊥)
+    → (p ≡ Production.RequiredType → ⊥)
+    → (p ≡ Production.ExpressionRequirement → ⊥)
+    → (p ≡ Production.NoexceptRequirement → ⊥)
+    → (p ≡ Production.ResultRequirement → ⊥)
+    → (p ≡ Production.TypeRequirement → ⊥)
+    → (p ≡ Production.NestedRequirement → ⊥)
     → (p ≡ Production.PackSize → ⊥)
     → (p ≡ Production.ExpandExpression → ⊥)
     → ⊥
 unfolding family_of
-operands Production.Expression is n0 n1 n2 n3 n4 n5 n6 n7 n8 n9 n10 n11 n12 n13 n14 = n0 refl
-operands Production.Expressions is n0 n1 n2 n3 n4 n5 n6 n7 n8 n9 n10 n11 n12 n13 n14 = n1 refl
-operands Production.Unary is n0 n1 n2 n3 n4 n5 n6 n7 n8 n9 n10 n11 n12 n13 n14 = n2 refl
-operands Production.AddressExpression is n0 n1 n2 n3 n4 n5 n6 n7 n8 n9 n10 n11 n12 n13 n14 = n3 refl
-operands Production.OfType is n0 n1 n2 n3 n4 n5 n6 n7 n8 n9 n10 n11 n12 n13 n14 = n4 refl
-operands Production.Braces is n0 n1 n2 n3 n4 n5 n6 n7 n8 n9 n10 n11 n12 n13 n14 = n5 refl
-operands Production.Step is n0 n1 n2 n3 n4 n5 n6 n7 n8 n9 n10 n11 n12 n13 n14 = n6 refl
-operands Production.Binary is n0 n1 n2 n3 n4 n5 n6 n7 n8 n9 n10 n11 n12 n13 n14 = n7 refl
-operands Production.Cast is n0 n1 n2 n3 n4 n5 n6 n7 n8 n9 n10 n11 n12 n13 n14 = n8 refl
-operands Production.Convert is n0 n1 n2 n3 n4 n5 n6 n7 n8 n9 n10 n11 n12 n13 n14 = n9 refl
-operands Production.Call is n0 n1 n2 n3 n4 n5 n6 n7 n8 n9 n10 n11 n12 n13 n14 = n10 refl
-operands Production.TypedBraces is n0 n1 n2 n3 n4 n5 n6 n7 n8 n9 n10 n11 n12 n13 n14 = n11 refl
-operands Production.Conditional is n0 n1 n2 n3 n4 n5 n6 n7 n8 n9 n10 n11 n12 n13 n14 = n12 refl
-operands Production.PackSize is n0 n1 n2 n3 n4 n5 n6 n7 n8 n9 n10 n11 n12 n13 n14 = n13 refl
-operands Production.ExpandExpression is n0 n1 n2 n3 n4 n5 n6 n7 n8 n9 n10 n11 n12 n13 n14 = n14 refl
-operands _ is n0 n1 n2 n3 n4 n5 n6 n7 n8 n9 n10 n11 n12 n13 n14 = subst IsOperands (sym is) tt
+operands Production.Expression is n0 n1 n2 n3 n4 n5 n6 n7 n8 n9 n10 n11 n12 n13 n14 n15 n16 n17 n18 n19 n20 n21 n22 n23 n24 n25 n26 n27 n28 n29 = n0 refl
+operands Production.Expressions is n0 n1 n2 n3 n4 n5 n6 n7 n8 n9 n10 n11 n12 n13 n14 n15 n16 n17 n18 n19 n20 n21 n22 n23 n24 n25 n26 n27 n28 n29 = n1 refl
+operands Production.Unary is n0 n1 n2 n3 n4 n5 n6 n7 n8 n9 n10 n11 n12 n13 n14 n15 n16 n17 n18 n19 n20 n21 n22 n23 n24 n25 n26 n27 n28 n29 = n2 refl
+operands Production.AddressExpression is n0 n1 n2 n3 n4 n5 n6 n7 n8 n9 n10 n11 n12 n13 n14 n15 n16 n17 n18 n19 n20 n21 n22 n23 n24 n25 n26 n27 n28 n29 = n3 refl
+operands Production.OfType is n0 n1 n2 n3 n4 n5 n6 n7 n8 n9 n10 n11 n12 n13 n14 n15 n16 n17 n18 n19 n20 n21 n22 n23 n24 n25 n26 n27 n28 n29 = n4 refl
+operands Production.DestructorName is n0 n1 n2 n3 n4 n5 n6 n7 n8 n9 n10 n11 n12 n13 n14 n15 n16 n17 n18 n19 n20 n21 n22 n23 n24 n25 n26 n27 n28 n29 = n5 refl
+operands Production.Braces is n0 n1 n2 n3 n4 n5 n6 n7 n8 n9 n10 n11 n12 n13 n14 n15 n16 n17 n18 n19 n20 n21 n22 n23 n24 n25 n26 n27 n28 n29 = n6 refl
+operands Production.Step is n0 n1 n2 n3 n4 n5 n6 n7 n8 n9 n10 n11 n12 n13 n14 n15 n16 n17 n18 n19 n20 n21 n22 n23 n24 n25 n26 n27 n28 n29 = n7 refl
+operands Production.Binary is n0 n1 n2 n3 n4 n5 n6 n7 n8 n9 n10 n11 n12 n13 n14 n15 n16 n17 n18 n19 n20 n21 n22 n23 n24 n25 n26 n27 n28 n29 = n8 refl
+operands Production.Cast is n0 n1 n2 n3 n4 n5 n6 n7 n8 n9 n10 n11 n12 n13 n14 n15 n16 n17 n18 n19 n20 n21 n22 n23 n24 n25 n26 n27 n28 n29 = n9 refl
+operands Production.Convert is n0 n1 n2 n3 n4 n5 n6 n7 n8 n9 n10 n11 n12 n13 n14 n15 n16 n17 n18 n19 n20 n21 n22 n23 n24 n25 n26 n27 n28 n29 = n10 refl
+operands Production.Call is n0 n1 n2 n3 n4 n5 n6 n7 n8 n9 n10 n11 n12 n13 n14 n15 n16 n17 n18 n19 n20 n21 n22 n23 n24 n25 n26 n27 n28 n29 = n11 refl
+operands Production.TypedBraces is n0 n1 n2 n3 n4 n5 n6 n7 n8 n9 n10 n11 n12 n13 n14 n15 n16 n17 n18 n19 n20 n21 n22 n23 n24 n25 n26 n27 n28 n29 = n12 refl
+operands Production.Conditional is n0 n1 n2 n3 n4 n5 n6 n7 n8 n9 n10 n11 n12 n13 n14 n15 n16 n17 n18 n19 n20 n21 n22 n23 n24 n25 n26 n27 n28 n29 = n13 refl
+operands Production.New is n0 n1 n2 n3 n4 n5 n6 n7 n8 n9 n10 n11 n12 n13 n14 n15 n16 n17 n18 n19 n20 n21 n22 n23 n24 n25 n26 n27 n28 n29 = n14 refl
+operands Production.Placed is n0 n1 n2 n3 n4 n5 n6 n7 n8 n9 n10 n11 n12 n13 n14 n15 n16 n17 n18 n19 n20 n21 n22 n23 n24 n25 n26 n27 n28 n29 = n15 refl
+operands Production.LeftFold is n0 n1 n2 n3 n4 n5 n6 n7 n8 n9 n10 n11 n12 n13 n14 n15 n16 n17 n18 n19 n20 n21 n22 n23 n24 n25 n26 n27 n28 n29 = n16 refl
+operands Production.RightFold is n0 n1 n2 n3 n4 n5 n6 n7 n8 n9 n10 n11 n12 n13 n14 n15 n16 n17 n18 n19 n20 n21 n22 n23 n24 n25 n26 n27 n28 n29 = n17 refl
+operands Production.FoldOperand is n0 n1 n2 n3 n4 n5 n6 n7 n8 n9 n10 n11 n12 n13 n14 n15 n16 n17 n18 n19 n20 n21 n22 n23 n24 n25 n26 n27 n28 n29 = n18 refl
+operands Production.FoldPack is n0 n1 n2 n3 n4 n5 n6 n7 n8 n9 n10 n11 n12 n13 n14 n15 n16 n17 n18 n19 n20 n21 n22 n23 n24 n25 n26 n27 n28 n29 = n19 refl
+operands Production.Requires is n0 n1 n2 n3 n4 n5 n6 n7 n8 n9 n10 n11 n12 n13 n14 n15 n16 n17 n18 n19 n20 n21 n22 n23 n24 n25 n26 n27 n28 n29 = n20 refl
+operands Production.RequiresOf is n0 n1 n2 n3 n4 n5 n6 n7 n8 n9 n10 n11 n12 n13 n14 n15 n16 n17 n18 n19 n20 n21 n22 n23 n24 n25 n26 n27 n28 n29 = n21 refl
+operands Production.RequiredType is n0 n1 n2 n3 n4 n5 n6 n7 n8 n9 n10 n11 n12 n13 n14 n15 n16 n17 n18 n19 n20 n21 n22 n23 n24 n25 n26 n27 n28 n29 = n22 refl
+operands Production.ExpressionRequirement is n0 n1 n2 n3 n4 n5 n6 n7 n8 n9 n10 n11 n12 n13 n14 n15 n16 n17 n18 n19 n20 n21 n22 n23 n24 n25 n26 n27 n28 n29 = n23 refl
+operands Production.NoexceptRequirement is n0 n1 n2 n3 n4 n5 n6 n7 n8 n9 n10 n11 n12 n13 n14 n15 n16 n17 n18 n19 n20 n21 n22 n23 n24 n25 n26 n27 n28 n29 = n24 refl
+operands Production.ResultRequirement is n0 n1 n2 n3 n4 n5 n6 n7 n8 n9 n10 n11 n12 n13 n14 n15 n16 n17 n18 n19 n20 n21 n22 n23 n24 n25 n26 n27 n28 n29 = n25 refl
+operands Production.TypeRequirement is n0 n1 n2 n3 n4 n5 n6 n7 n8 n9 n10 n11 n12 n13 n14 n15 n16 n17 n18 n19 n20 n21 n22 n23 n24 n25 n26 n27 n28 n29 = n26 refl
+operands Production.NestedRequirement is n0 n1 n2 n3 n4 n5 n6 n7 n8 n9 n10 n11 n12 n13 n14 n15 n16 n17 n18 n19 n20 n21 n22 n23 n24 n25 n26 n27 n28 n29 = n27 refl
+operands Production.PackSize is n0 n1 n2 n3 n4 n5 n6 n7 n8 n9 n10 n11 n12 n13 n14 n15 n16 n17 n18 n19 n20 n21 n22 n23 n24 n25 n26 n27 n28 n29 = n28 refl
+operands Production.ExpandExpression is n0 n1 n2 n3 n4 n5 n6 n7 n8 n9 n10 n11 n12 n13 n14 n15 n16 n17 n18 n19 n20 n21 n22 n23 n24 n25 n26 n27 n28 n29 = n29 refl
+operands _ is n0 n1 n2 n3 n4 n5 n6 n7 n8 n9 n10 n11 n12 n13 n14 n15 n16 n17 n18 n19 n20 n21 n22 n23 n24 n25 n26 n27 n28 n29 = subst IsOperands (sym is) tt
 
 abbrev IsUnresolved : Family → Type 0
 IsUnresolved Family.Unresolved = Unit {0}

@@ -18,10 +18,11 @@ is_mark rule = nat_eq rule (number_of Production.Mark)
 unfoldable pub is_list : ℕ → Bool
 is_list rule = nat_eq rule (number_of Production.Arguments) || nat_eq rule (number_of Production.Tag)
 
--- one of some arguments, of which none is a list by itself
+-- one of some arguments, of which none is a list by itself, or what is asked of them
 unfoldable pub is_argument : ℕ → Bool
 is_argument rule =
     nat_eq rule (number_of Production.PackArgument) || nat_eq rule (number_of Production.LiteralArgument) || nat_eq rule (number_of Production.AnyArgument)
+    || nat_eq rule (number_of Production.Constraint)
 
 -- one of a pack's elements
 unfoldable pub is_element : ℕ → Bool

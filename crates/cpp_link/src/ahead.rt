@@ -48,7 +48,7 @@ fn is_list(rule: u16) -> bool
     rule == Production::Arguments as u16 || rule == Production::Tag as u16
 }
 
-/// Whether the rule begins with an argument.
+/// Whether the rule begins with an argument, or is what is asked of arguments.
 #[tactic(auto, unfolding(crate::specs::Next::is_argument, cpp_grammar::specs::Grammar::number_of))]
 fn is_argument(rule: u16) -> bool
     ensures { result ≡ is_argument rule }
@@ -56,6 +56,7 @@ fn is_argument(rule: u16) -> bool
     rule == Production::PackArgument as u16
         || rule == Production::LiteralArgument as u16
         || rule == Production::AnyArgument as u16
+        || rule == Production::Constraint as u16
 }
 
 /// Whether the rule begins with an element of a pack.

@@ -50,7 +50,7 @@ fn candidate_if(is_candidate: bool, node: u32) -> Option<u32>
 /// Before how many parts of a production nothing is done. These are most, so that is asked by the rule's number before anything
 /// else is looked at.
 #[inline(always)]
-fn quiet_parts(number: u16) -> usize
+pub(crate) fn quiet_parts(number: u16) -> usize
     ensures { result ≡ quiet_parts (production_at number) }
 {
     match QUIET_PARTS.get(number as usize) {

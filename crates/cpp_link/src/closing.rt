@@ -53,79 +53,35 @@ impl Linked {
         ensures there { IsThereBelow (length self.now.nodes.nodes) result.candidate }
     {
         match production {
-            Production::RestrictType => AfterRule {
+            Production::RestrictType
+            | Production::VolatileType
+            | Production::ConstType
+            | Production::ReferenceType
+            | Production::ConvertedConst
+            | Production::ConvertedPointer
+            | Production::ConvertedReference => AfterRule {
                 candidate: Some(self.node(symbol, made)),
                 packs: self.packs,
             },
-            Production::VolatileType => AfterRule {
-                candidate: Some(self.node(symbol, made)),
-                packs: self.packs,
-            },
-            Production::ConstType => AfterRule {
-                candidate: Some(self.node(symbol, made)),
-                packs: self.packs,
-            },
-            Production::ReferenceType => AfterRule {
-                candidate: Some(self.node(symbol, made)),
-                packs: self.packs,
-            },
-            Production::PlainType => AfterRule {
+            Production::PlainType
+            | Production::PlainArgument
+            | Production::ArgumentWithT
+            | Production::TypeWithD
+            | Production::ItemWithD
+            | Production::ConvertedType
+            | Production::ConvertedDecltype
+            | Production::DestroyedType => AfterRule {
                 candidate: self.type_candidate(symbol, kept, self.given(symbol, parts, 0)),
                 packs: self.packs,
             },
-            Production::PlainArgument => AfterRule {
-                candidate: self.type_candidate(symbol, kept, self.given(symbol, parts, 0)),
-                packs: self.packs,
-            },
-            Production::ArgumentWithT => AfterRule {
-                candidate: self.type_candidate(symbol, kept, self.given(symbol, parts, 0)),
-                packs: self.packs,
-            },
-            Production::TypeWithD => AfterRule {
-                candidate: self.type_candidate(symbol, kept, self.given(symbol, parts, 0)),
-                packs: self.packs,
-            },
-            Production::ItemWithD => AfterRule {
-                candidate: self.type_candidate(symbol, kept, self.given(symbol, parts, 0)),
-                packs: self.packs,
-            },
-            Production::QualifiedPlain => AfterRule {
+            Production::QualifiedPlain | Production::PlainWithD => AfterRule {
                 candidate: self.unqualified_candidate(symbol, kept, self.given(symbol, parts, 0)),
                 packs: self.packs,
             },
-            Production::PlainWithD => AfterRule {
-                candidate: self.unqualified_candidate(symbol, kept, self.given(symbol, parts, 0)),
-                packs: self.packs,
-            },
-            Production::ConvertedConst => AfterRule {
-                candidate: Some(self.node(symbol, made)),
-                packs: self.packs,
-            },
-            Production::ConvertedPointer => AfterRule {
-                candidate: Some(self.node(symbol, made)),
-                packs: self.packs,
-            },
-            Production::ConvertedReference => AfterRule {
-                candidate: Some(self.node(symbol, made)),
-                packs: self.packs,
-            },
-            Production::ConvertedType => AfterRule {
-                candidate: self.type_candidate(symbol, kept, self.given(symbol, parts, 0)),
-                packs: self.packs,
-            },
-            Production::ConvertedDecltype => AfterRule {
-                candidate: self.type_candidate(symbol, kept, self.given(symbol, parts, 0)),
-                packs: self.packs,
-            },
-            Production::Expansion => AfterRule {
-                candidate: None,
-                packs: kept.packs(),
-            },
-            Production::ExpandExpression => AfterRule {
-                candidate: None,
-                packs: kept.packs(),
-            },
-            Production::PackSize => AfterRule {
+            Production::Expansion
+            | Production::ExpandExpression
+            | Production::PackSize
+            | Production::FoldPack => AfterRule {
                 candidate: None,
                 packs: kept.packs(),
             },

@@ -62,6 +62,9 @@ impl Linked {
             Production::ExpressionR => self.operation_by(symbol, byte, parts),
             Production::ExpressionS => self.operation_by(symbol, byte, parts),
             Production::ExpressionT => self.operation_by(symbol, byte, parts),
+            // <initializer> ::= pi <expression>* E | il <expression>* E
+            Production::Initializer => self.operation_by(symbol, byte, parts),
+            Production::BracedInitializer => self.operation_by(symbol, byte, parts),
             _ => unreachable!(),
         }
     }
@@ -100,6 +103,7 @@ impl Linked {
                 self.operand(symbol, byte, self.tree(symbol, parts, 0))
             }
             Production::OfType => self.operand(symbol, byte, self.tree(symbol, parts, 0)),
+            Production::DestructorName => self.operand(symbol, byte, self.tree(symbol, parts, 0)),
             Production::Braces => self.operand(symbol, byte, self.list(symbol, parts, 0)),
             Production::Step => self.operand(
                 symbol,
@@ -132,7 +136,42 @@ impl Linked {
                 self.list(symbol, parts, 1),
             ),
             // <expression> ::= qu <expression> <expression> <expression>, after the q
-            Production::Conditional => self.conditional(symbol, byte, parts),
+            Production::Conditional => self.operands(symbol, byte, b'q', b':', parts),
+            // <expression> ::= nw <expression>* _ <type> <initializer> | na .., after the n
+            Production::New => self.operands(symbol, byte, b'n', b'_', parts),
+            // <expression>* of nw and na
+            Production::Placed => made(
+                Node::Operation {
+                    first: b'n',
+                    second: b'(',
+                    left: self.tree(symbol, parts, 0),
+                    right: ABSENT,
+                },
+                true,
+            ),
+            // <fold-expr> ::= fl <operator-name> <expression> | fr <operator-name> <expression>, after the f
+            Production::LeftFold => self.left_fold(symbol, byte, parts),
+            Production::RightFold => self.right_fold(symbol, byte, parts),
+            Production::FoldOperand => made(
+                Node::Operation {
+                    first: b'(',
+                    second: b')',
+                    left: self.tree(symbol, parts, 0),
+                    right: ABSENT,
+                },
+                true,
+            ),
+            Production::FoldPack => made(Node::Expansion(self.tree(symbol, parts, 0)), true),
+            // <expression> ::= rq <requirement>+ E | rQ <bare-function-type> _ <requirement>+ E, after the r
+            Production::Requires => pair(byte, ABSENT, ABSENT),
+            Production::RequiresOf => pair(byte, ABSENT, ABSENT),
+            Production::RequiredType => Outcome::Given(self.given(symbol, parts, 1)),
+            // <requirement>
+            Production::ExpressionRequirement => Outcome::Given(Part::Letter(byte)),
+            Production::NoexceptRequirement => Outcome::Given(Part::Letter(byte)),
+            Production::ResultRequirement => Outcome::Given(Part::Letter(byte)),
+            Production::TypeRequirement => Outcome::Given(Part::Letter(byte)),
+            Production::NestedRequirement => Outcome::Given(Part::Letter(byte)),
             // <expression> ::= sZ <template-param> | sZ <function-param>, after the s
             Production::PackSize => self.pack_size(symbol, byte, parts),
             // <expression> ::= sp <expression>, after the s

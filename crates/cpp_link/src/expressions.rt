@@ -5,9 +5,9 @@ ghost use Rattle.cpp_grammar.specs.Standing.{is_code};
 ghost use Rattle.cpp_term.specs.Term as term;
 ghost use Rattle.cpp_term.specs.Term.{Term};
 ghost use Rattle.cpp_term.specs.Values as values;
-ghost use Rattle.cpp_term.specs.Values.{tree_of, letter_of, part};
+ghost use Rattle.cpp_term.specs.Values.{tree_of, piece_of, letter_of, part};
 ghost use Rattle.cpp_term.specs.Between.{no_items};
-ghost use Rattle.cpp_term.specs.Meaning.{operation_or_address, operation_by, in_parentheses, is_comma, ends_arguments, enclosed_argument, enclosed_element};
+ghost use Rattle.cpp_term.specs.Meaning.{operation_or_address, operation_by, first_letter, second_letter, in_parentheses, is_comma, ends_arguments, enclosed_argument, enclosed_element};
 ghost use Rattle.cpp_tree.specs.declared.node.Thunk as thunks;
 ghost use Rattle.cpp_tree.specs.Nodes as nodes;
 ghost use Rattle.cpp_tree.specs.Nodes.{over, tree_at, IsThereBelow, IsBelow, IsTable};
@@ -22,7 +22,7 @@ use crate::linked::Linked;
 use crate::meaning::made;
 use crate::part::{Outcome, Part};
 use cpp_references::again::opened;
-use cpp_tree::node::Node;
+use cpp_tree::node::{Node, Piece};
 use cpp_tree::nodes::ABSENT;
 
 /// An expression in parentheses.
@@ -70,6 +70,28 @@ fn ends_arguments(node: Node) -> bool
                 || is_code(b'r', b's', first, second)
         }
         _ => false,
+    }
+}
+
+/// The letters of an operator.
+#[tactic(auto, unfolding(cpp_term::specs::Meaning::first_letter, cpp_tree::specs::Nodes::piece_of))]
+fn first_letter(piece: Piece) -> u8
+    ensures { (s : List ℕ) (ts : List Term) → result ≡ first_letter (nodes.piece_of s ts piece) }
+{
+    match piece {
+        Piece::Operator(first, _) => first,
+        _ => 0,
+    }
+}
+
+/// The second of them.
+#[tactic(auto, unfolding(cpp_term::specs::Meaning::second_letter, cpp_tree::specs::Nodes::piece_of))]
+fn second_letter(piece: Piece) -> u8
+    ensures { (s : List ℕ) (ts : List Term) → result ≡ second_letter (nodes.piece_of s ts piece) }
+{
+    match piece {
+        Piece::Operator(_, second) => second,
+        _ => 0,
     }
 }
 
@@ -229,13 +251,20 @@ impl Linked {
         pair(letter, operand, ABSENT)
     }
 
-    /// The second letter and the operands of the conditional operator, of which the last two are an operation by themselves.
+    /// The second letter and the operands of an operator, of which the last two are an operation with these letters by themselves.
     #[tactic(auto, unfolding(crate::specs::Parts::outcome_value, cpp_tree::specs::Nodes::tree_of, crate::specs::Making::nodes_of_outcome))]
-    pub(crate) fn conditional(&self, symbol: &[u8], letter: u8, parts: &[Part]) -> Outcome
+    pub(crate) fn operands(
+        &self,
+        symbol: &[u8],
+        letter: u8,
+        first: u8,
+        second: u8,
+        parts: &[Part],
+    ) -> Outcome
         requires table { IsTable (over symbol.now self.now.nodes) }
         requires there { AreThere symbol.now (length self.now.nodes.nodes) parts.now }
         ensures is { outcome_value symbol.now self.now.nodes result
-            ≡ values.pair letter (tree_of (part (values_in symbol.now self.now.nodes parts.now) 0)) (term.operation 113 58 (tree_of (part (values_in symbol.now self.now.nodes parts.now) 1)) (tree_of (part (values_in symbol.now self.now.nodes parts.now) 2))) }
+            ≡ values.pair letter (tree_of (part (values_in symbol.now self.now.nodes parts.now) 0)) (term.operation first second (tree_of (part (values_in symbol.now self.now.nodes parts.now) 1)) (tree_of (part (values_in symbol.now self.now.nodes parts.now) 2))) }
         ensures there { IsOutcomeThere symbol.now (length self.now.nodes.thunks) (length self.now.nodes.nodes) result }
         ensures nodes { nodes_of_outcome result ≡ 1 }
     {
@@ -243,10 +272,58 @@ impl Linked {
             letter,
             left: Some(self.tree(symbol, parts, 0)),
             node: Node::Operation {
-                first: b'q',
-                second: b':',
+                first,
+                second,
                 left: self.tree(symbol, parts, 1),
                 right: self.tree(symbol, parts, 2),
+            },
+        }
+    }
+
+    /// The second letter of a fold from the left, and the operation of its operator, which has only the right operand.
+    #[tactic(auto, unfolding(crate::specs::Parts::outcome_value, cpp_tree::specs::Nodes::tree_of, crate::specs::Making::nodes_of_outcome))]
+    pub(crate) fn left_fold(&self, symbol: &[u8], letter: u8, parts: &[Part]) -> Outcome
+        requires table { IsTable (over symbol.now self.now.nodes) }
+        requires there { AreThere symbol.now (length self.now.nodes.nodes) parts.now }
+        ensures is { outcome_value symbol.now self.now.nodes result
+            ≡ values.pair letter (term.operation (first_letter (piece_of (part (values_in symbol.now self.now.nodes parts.now) 0))) (second_letter (piece_of (part (values_in symbol.now self.now.nodes parts.now) 0)))
+            term.absent (tree_of (part (values_in symbol.now self.now.nodes parts.now) 1))) term.absent }
+        ensures there { IsOutcomeThere symbol.now (length self.now.nodes.thunks) (length self.now.nodes.nodes) result }
+        ensures nodes { nodes_of_outcome result ≡ 1 }
+    {
+        let operator = self.piece(symbol, parts, 0);
+        Outcome::MadeOperand {
+            letter,
+            left: None,
+            node: Node::Operation {
+                first: first_letter(operator),
+                second: second_letter(operator),
+                left: ABSENT,
+                right: self.tree(symbol, parts, 1),
+            },
+        }
+    }
+
+    /// The second letter of a fold from the right, and the operation of its operator, which has only the left operand.
+    #[tactic(auto, unfolding(crate::specs::Parts::outcome_value, cpp_tree::specs::Nodes::tree_of, crate::specs::Making::nodes_of_outcome))]
+    pub(crate) fn right_fold(&self, symbol: &[u8], letter: u8, parts: &[Part]) -> Outcome
+        requires table { IsTable (over symbol.now self.now.nodes) }
+        requires there { AreThere symbol.now (length self.now.nodes.nodes) parts.now }
+        ensures is { outcome_value symbol.now self.now.nodes result
+            ≡ values.pair letter (term.operation (first_letter (piece_of (part (values_in symbol.now self.now.nodes parts.now) 0))) (second_letter (piece_of (part (values_in symbol.now self.now.nodes parts.now) 0)))
+            (tree_of (part (values_in symbol.now self.now.nodes parts.now) 1)) term.absent) term.absent }
+        ensures there { IsOutcomeThere symbol.now (length self.now.nodes.thunks) (length self.now.nodes.nodes) result }
+        ensures nodes { nodes_of_outcome result ≡ 1 }
+    {
+        let operator = self.piece(symbol, parts, 0);
+        Outcome::MadeOperand {
+            letter,
+            left: None,
+            node: Node::Operation {
+                first: first_letter(operator),
+                second: second_letter(operator),
+                left: self.tree(symbol, parts, 1),
+                right: ABSENT,
             },
         }
     }

@@ -138,17 +138,21 @@ impl Linked {
         let byte = symbol[place as usize];
         match production {
             // <prefix> ::= <substitution>
-            Production::NestWithS => Outcome::Given(self.given(symbol, parts, 0)),
-            // <prefix> ::= <source-name>
-            Production::NestSource => Outcome::Given(self.given(symbol, parts, 1)),
-            // <prefix> ::= <substitution>, and what is within it, or <template-prefix> ::= <substitution>, and its arguments
-            Production::NestTemplate => Outcome::Given(self.given(symbol, parts, 1)),
-            // <prefix> ::= <prefix> <unqualified-name>
-            Production::NestNext => Outcome::Given(self.given(symbol, parts, 1)),
+            Production::NestWithS
             // <class-enum-type> ::= <nested-name>
-            Production::NestedType => Outcome::Given(self.given(symbol, parts, 0)),
+            | Production::NestedType
             // <type> ::= <substitution>
-            Production::AbbreviatedType => Outcome::Given(self.given(symbol, parts, 0)),
+            | Production::AbbreviatedType
+            // <unscoped-name> ::= St <unqualified-name>, as a type
+            | Production::TypeInStd
+            // <encoding> ::= <special-name>
+            | Production::Special => Outcome::Given(self.given(symbol, parts, 0)),
+            // <prefix> ::= <source-name>
+            Production::NestSource
+            // <prefix> ::= <substitution>, and what is within it, or <template-prefix> ::= <substitution>, and its arguments
+            | Production::NestTemplate
+            // <prefix> ::= <prefix> <unqualified-name>
+            | Production::NestNext => Outcome::Given(self.given(symbol, parts, 1)),
             // <mangled-name> ::= _Z <encoding> [. <vendor-specific suffix>]
             Production::Symbol => made(
                 Node::Whole {
@@ -158,21 +162,17 @@ impl Linked {
                 true,
             ),
             // <type> ::= <class-enum-type> | .., without qualifiers
-            Production::PlainType => tree(self.tree(symbol, parts, 0), true),
+            Production::PlainType
             // <template-arg> ::= <type>, where the type is no parameter
-            Production::PlainArgument => tree(self.tree(symbol, parts, 0), true),
+            | Production::PlainArgument
+            // <qualified-type> ::= <qualifiers> <type>
+            | Production::QualifiedPlain => tree(self.tree(symbol, parts, 0), true),
             // <builtin-type> ::= v | w | b | c | ..
             Production::Builtin => made(Node::Builtin(byte), true),
             // <bare-function-type> ::= <signature type>+
-            Production::Items => made(
-                Node::Cell {
-                    first: self.tree(symbol, parts, 0),
-                    rest: self.list(symbol, parts, 1),
-                },
-                true,
-            ),
+            Production::Items
             // <template-arg> ::= <type> | X <expression> E | <template-param-decl> <template-arg>, read by itself
-            Production::AnyArgument => made(
+            | Production::AnyArgument => made(
                 Node::Cell {
                     first: self.tree(symbol, parts, 0),
                     rest: self.list(symbol, parts, 1),
@@ -182,7 +182,9 @@ impl Linked {
             // <template-args> ::= I <template-arg>* E
             Production::Arguments => tree(self.list(symbol, parts, 0), true),
             // <unqualified-name> ::= <source-name>, perhaps with <template-args>
-            Production::SourceName => self.applied(symbol, parts, false),
+            Production::SourceName
+            // <unscoped-name> ::= St <unqualified-name>, as a type, perhaps with <abi-tags>
+            | Production::TaggedStdType => self.applied(symbol, parts, false),
             // <type> ::= <substitution> [<template-args>]
             Production::TypeWithS => self.applied(symbol, parts, self.listed(symbol, parts, 0)),
             // <nested-name> ::= N [<CV-qualifiers>] [<ref-qualifier>] <prefix> <unqualified-name> E
@@ -205,20 +207,12 @@ impl Linked {
             Production::Pointer => made(Node::Pointer(self.tree(symbol, parts, 0)), false),
             // <CV-qualifiers> ::= K
             Production::ConstType => qualified(false, false, true, self.tree(symbol, parts, 0)),
-            // <qualified-type> ::= <qualifiers> <type>
-            Production::QualifiedPlain => tree(self.tree(symbol, parts, 0), true),
             Production::Mark => Outcome::Given(Part::Letter(byte)),
             // <unqualified-name> ::= <source-name>
             Production::SourcePiece => piece(Piece::Source {
                 internal: false,
                 bytes: self.text(symbol, parts, 0),
             }),
-            // <unscoped-name> ::= St <unqualified-name>, as a type
-            Production::TypeInStd => Outcome::Given(self.given(symbol, parts, 0)),
-            // <unscoped-name> ::= St <unqualified-name>, as a type, perhaps with <abi-tags>
-            Production::TaggedStdType => self.applied(symbol, parts, false),
-            // <encoding> ::= <special-name>
-            Production::Special => Outcome::Given(self.given(symbol, parts, 0)),
             // <substitution> ::= S_ | S <seq-id> _
             Production::Substitution => Outcome::Given(Part::Nothing),
             _ => unreachable!(),

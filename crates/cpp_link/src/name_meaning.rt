@@ -107,6 +107,8 @@ impl Linked {
             Production::OperatorName => self.applied(symbol, parts, false),
             // <unqualified-name> ::= <operator-name>, within a nested name, without a c in front and after one
             Production::OtherOperatorName => self.applied(symbol, parts, false),
+            // <unqualified-name> ::= F <source-name> | F <operator-name>
+            Production::Friend => self.applied(symbol, parts, false),
             Production::OperatorNameWithC => self.applied(symbol, parts, false),
             // <ctor-dtor-name> ::= C1 | C2 | C3, after the C
             Production::Constructor => self.applied(symbol, parts, false),
@@ -162,6 +164,10 @@ impl Linked {
             Production::OperatorS => piece(Piece::Operator(byte, self.letter(symbol, parts, 0))),
             Production::OperatorI => piece(Piece::Operator(byte, self.letter(symbol, parts, 0))),
             Production::OperatorG => piece(Piece::Operator(byte, self.letter(symbol, parts, 0))),
+            // <operator-name> of a fold, which is no literal operator
+            Production::FoldOperatorL => {
+                piece(Piece::Operator(byte, self.letter(symbol, parts, 0)))
+            }
             // <operator-name> ::= ls | le | .. | li <source-name>
             Production::OperatorL => self.operator_or_literal(
                 symbol,

@@ -170,6 +170,7 @@ impl Linked {
             Production::Lambda => self.go(self.in_signature(kept)),
             Production::ValueOf => self.go(self.in_signature(kept)),
             Production::OfConcept => self.go(self.in_signature(kept)),
+            Production::Constraint => self.go(self.in_signature(kept)),
             Production::Expansion => Step::Go {
                 candidate: None,
                 then: self.under_expansion(kept),
@@ -181,6 +182,11 @@ impl Linked {
                 packs: None,
             },
             Production::PackSize => Step::Go {
+                candidate: None,
+                then: self.under_expansion(kept),
+                packs: None,
+            },
+            Production::FoldPack => Step::Go {
                 candidate: None,
                 then: self.under_expansion(kept),
                 packs: None,
@@ -322,10 +328,11 @@ impl Linked {
         }
     }
 
-    /// What is done before the second part, where nothing is done but that a name is made of the first part.
+    /// What is done before the second part, where nothing is done but that a piece of a name, which the first part is, comes after
+    /// the name so far.
     #[tactic(auto, unfolding(cpp_term::specs::Between::between, cpp_term::specs::Between::in_name, cpp_term::specs::Between::in_types, cpp_term::specs::Between::in_signature, cpp_term::specs::Between::under_expansion, cpp_term::specs::Between::after, cpp_term::specs::Between::inside, cpp_term::specs::Between::applied, cpp_term::specs::Between::named_so_far, cpp_term::specs::Between::listed_so_far, cpp_term::specs::Values::tree_of, crate::specs::Parts::around_of, crate::specs::Parts::prefix_of, cpp_tree::specs::Nodes::tree_if_there, cpp_tree::specs::Nodes::tree_of, cpp_tree::specs::Nodes::piece_of, crate::specs::Reads::goes_on, crate::specs::Reads::behind_first, crate::specs::Reads::named_if, crate::specs::Reads::appended_if, crate::specs::Reads::with_candidate, crate::specs::Owed::made_before, crate::specs::NodeCount::makes_before, crate::specs::Owed::made_before, crate::specs::NodeCount::std_before, crate::specs::NodeCount::one_if_there, crate::specs::NodeCount::pack_before))]
     #[inline(always)]
-    fn step_second_of_name(
+    fn step_second_of_piece(
         &self,
         symbol: &[u8],
         production: Production,
@@ -347,6 +354,7 @@ impl Linked {
         requires lambda { production ≡ productions.Lambda → ⊥ }
         requires value_of { production ≡ productions.ValueOf → ⊥ }
         requires of_concept { production ≡ productions.OfConcept → ⊥ }
+        requires constraint { production ≡ productions.Constraint → ⊥ }
         requires expansion { production ≡ productions.Expansion → ⊥ }
         requires encoding { production ≡ productions.Encoding → ⊥ }
         requires local_name { production ≡ productions.LocalName → ⊥ }
@@ -361,6 +369,16 @@ impl Linked {
         requires rvalue_item { production ≡ productions.RvalueItem → ⊥ }
         requires unresolved_in_type { production ≡ productions.UnresolvedInType → ⊥ }
         requires integer_literal { production ≡ productions.IntegerLiteral → ⊥ }
+        requires abbreviated_name { production ≡ productions.AbbreviatedName → ⊥ }
+        requires nest_template { production ≡ productions.NestTemplate → ⊥ }
+        requires nest_tag { production ≡ productions.NestTag → ⊥ }
+        requires tag { production ≡ productions.Tag → ⊥ }
+        requires type_tag { production ≡ productions.TypeTag → ⊥ }
+        requires std_name { production ≡ productions.StdName → ⊥ }
+        requires tagged_std_type { production ≡ productions.TaggedStdType → ⊥ }
+        requires nest_std { production ≡ productions.NestStd → ⊥ }
+        requires simple_id { production ≡ productions.SimpleId → ⊥ }
+        requires operator_reference { production ≡ productions.OperatorReference → ⊥ }
         ensures is { (cs : List values.Candidate) → between production (around_of (trees_in symbol.now self.now.nodes) kept) place (value_in symbol.now self.now.nodes first ∷ []) (record { candidates = cs; packs = self.now.packs }) ≡ goes_on symbol.now self.now.nodes kept (value_in symbol.now self.now.nodes first ∷ []) cs self.now.packs result }
         ensures there { IsStepThere symbol.now (length self.now.nodes.thunks) (length self.now.nodes.nodes) result }
         ensures of { IsStepOf production 1 result }
@@ -423,6 +441,11 @@ impl Linked {
                 kept.prefix(),
                 self.piece_in(symbol, first),
             )),
+            Production::Friend => self.named(self.extended(
+                symbol,
+                kept.prefix(),
+                self.piece_in(symbol, first),
+            )),
             Production::OperatorNameWithC => self.named(self.extended(
                 symbol,
                 kept.prefix(),
@@ -443,6 +466,56 @@ impl Linked {
                 kept.prefix(),
                 Piece::Destructor(letter_of(first)),
             )),
+            _ => self.go(kept),
+        }
+    }
+
+    /// What is done before the second part, where nothing is done but that a name is made.
+    #[tactic(auto, unfolding(cpp_term::specs::Between::between, cpp_term::specs::Between::in_name, cpp_term::specs::Between::in_types, cpp_term::specs::Between::in_signature, cpp_term::specs::Between::under_expansion, cpp_term::specs::Between::after, cpp_term::specs::Between::inside, cpp_term::specs::Between::applied, cpp_term::specs::Between::named_so_far, cpp_term::specs::Between::listed_so_far, cpp_term::specs::Values::tree_of, crate::specs::Parts::around_of, crate::specs::Parts::prefix_of, cpp_tree::specs::Nodes::tree_if_there, cpp_tree::specs::Nodes::tree_of, cpp_tree::specs::Nodes::piece_of, crate::specs::Reads::goes_on, crate::specs::Reads::behind_first, crate::specs::Reads::named_if, crate::specs::Reads::appended_if, crate::specs::Reads::with_candidate, crate::specs::Owed::made_before, crate::specs::NodeCount::makes_before, crate::specs::Owed::made_before, crate::specs::NodeCount::std_before, crate::specs::NodeCount::one_if_there, crate::specs::NodeCount::pack_before))]
+    #[inline(always)]
+    fn step_second_of_name(
+        &self,
+        symbol: &[u8],
+        production: Production,
+        place: u32,
+        kept: Surroundings,
+        first: Part,
+    ) -> Step
+        requires table { IsTable (over symbol.now self.now.nodes) }
+        requires kept { IsKeptThere (length self.now.nodes.nodes) kept }
+        requires first { IsThere symbol.now (length self.now.nodes.nodes) first }
+        requires parameter { production ≡ productions.Parameter → ⊥ }
+        requires nest { production ≡ productions.NestParameter → ⊥ }
+        requires argument { production ≡ productions.ParameterArgument → ⊥ }
+        requires expression { production ≡ productions.ParameterExpression → ⊥ }
+        requires pack { production ≡ productions.PackArgument → ⊥ }
+        requires holder { production ≡ productions.Holder → ⊥ }
+        requires special { production ≡ productions.Special → ⊥ }
+        requires other_special { production ≡ productions.OtherSpecial → ⊥ }
+        requires lambda { production ≡ productions.Lambda → ⊥ }
+        requires value_of { production ≡ productions.ValueOf → ⊥ }
+        requires of_concept { production ≡ productions.OfConcept → ⊥ }
+        requires constraint { production ≡ productions.Constraint → ⊥ }
+        requires expansion { production ≡ productions.Expansion → ⊥ }
+        requires encoding { production ≡ productions.Encoding → ⊥ }
+        requires local_name { production ≡ productions.LocalName → ⊥ }
+        requires local_type { production ≡ productions.LocalType → ⊥ }
+        requires inheriting { production ≡ productions.Inheriting → ⊥ }
+        requires nested_base { production ≡ productions.NestedBase → ⊥ }
+        requires source_base { production ≡ productions.SourceBase → ⊥ }
+        requires base_in_std { production ≡ productions.BaseInStd → ⊥ }
+        requires nest_next { production ≡ productions.NestNext → ⊥ }
+        requires type_with_s { production ≡ productions.TypeWithS → ⊥ }
+        requires lvalue_item { production ≡ productions.LvalueItem → ⊥ }
+        requires rvalue_item { production ≡ productions.RvalueItem → ⊥ }
+        requires unresolved_in_type { production ≡ productions.UnresolvedInType → ⊥ }
+        requires integer_literal { production ≡ productions.IntegerLiteral → ⊥ }
+        ensures is { (cs : List values.Candidate) → between production (around_of (trees_in symbol.now self.now.nodes) kept) place (value_in symbol.now self.now.nodes first ∷ []) (record { candidates = cs; packs = self.now.packs }) ≡ goes_on symbol.now self.now.nodes kept (value_in symbol.now self.now.nodes first ∷ []) cs self.now.packs result }
+        ensures there { IsStepThere symbol.now (length self.now.nodes.thunks) (length self.now.nodes.nodes) result }
+        ensures of { IsStepOf production 1 result }
+        ensures makes { nodes_of_step result ≡ makes_before production (value_in symbol.now self.now.nodes first ∷ []) }
+    {
+        match production {
             Production::StdName => self.named(Node::InStd(self.piece_in(symbol, first))),
             Production::TaggedStdType => self.named(Node::InStd(self.piece_in(symbol, first))),
             Production::NestStd => self.named(Node::InStd(self.piece_in(symbol, first))),
@@ -480,7 +553,7 @@ impl Linked {
                 kept.prefix(),
                 self.piece_in(symbol, first),
             )),
-            _ => self.go(kept),
+            _ => self.step_second_of_piece(symbol, production, place, kept, first),
         }
     }
 
@@ -514,6 +587,7 @@ impl Linked {
             Production::Lambda => self.go(self.in_signature(kept)),
             Production::ValueOf => self.go(self.in_signature(kept)),
             Production::OfConcept => self.go(self.in_signature(kept)),
+            Production::Constraint => self.go(self.in_signature(kept)),
             Production::Expansion => Step::Go {
                 candidate: None,
                 then: self.under_expansion(kept),
@@ -613,6 +687,7 @@ impl Linked {
             Production::Lambda => self.go(self.in_signature(kept)),
             Production::ValueOf => self.go(self.in_signature(kept)),
             Production::OfConcept => self.go(self.in_signature(kept)),
+            Production::Constraint => self.go(self.in_signature(kept)),
             Production::Expansion => Step::Go {
                 candidate: None,
                 then: self.under_expansion(kept),
@@ -687,6 +762,7 @@ impl Linked {
             Production::Lambda => self.go(self.in_signature(kept)),
             Production::ValueOf => self.go(self.in_signature(kept)),
             Production::OfConcept => self.go(self.in_signature(kept)),
+            Production::Constraint => self.go(self.in_signature(kept)),
             Production::Expansion => Step::Go {
                 candidate: None,
                 then: self.under_expansion(kept),
@@ -739,6 +815,7 @@ impl Linked {
             Production::Lambda => self.go(self.in_signature(kept)),
             Production::ValueOf => self.go(self.in_signature(kept)),
             Production::OfConcept => self.go(self.in_signature(kept)),
+            Production::Constraint => self.go(self.in_signature(kept)),
             Production::Expansion => Step::Go {
                 candidate: None,
                 then: self.under_expansion(kept),

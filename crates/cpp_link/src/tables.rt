@@ -3,7 +3,7 @@
 use cpp_grammar::production::Production;
 
 /// The productions.
-pub(crate) const PRODUCTIONS: [Production; 200] = [
+pub(crate) const PRODUCTIONS: [Production; 222] = [
     Production::Mark,
     Production::InternalName,
     Production::LocalTypeName,
@@ -50,6 +50,7 @@ pub(crate) const PRODUCTIONS: [Production; 200] = [
     Production::ComponentWithC,
     Production::OtherOperatorName,
     Production::Holder,
+    Production::Friend,
     Production::Inheriting,
     Production::Constructor,
     Production::Abbreviation,
@@ -99,6 +100,7 @@ pub(crate) const PRODUCTIONS: [Production; 200] = [
     Production::RefEnd,
     Production::LvalueItem,
     Production::RvalueItem,
+    Production::Constraint,
     Production::Items,
     Production::Arguments,
     Production::Tag,
@@ -142,8 +144,9 @@ pub(crate) const PRODUCTIONS: [Production; 200] = [
     Production::Expression,
     Production::ArgumentWithT,
     Production::PlainArgument,
-    Production::DeclaredArgument,
     Production::ParameterArgument,
+    Production::DeclaredArgument,
+    Production::LeveledParameter,
     Production::OneLiteral,
     Production::OnePack,
     Production::AnyType,
@@ -162,10 +165,16 @@ pub(crate) const PRODUCTIONS: [Production; 200] = [
     Production::OfType,
     Production::Call,
     Production::Convert,
+    Production::DestructorName,
     Production::OuterParameter,
+    Production::LeftFold,
+    Production::RightFold,
     Production::Braces,
     Production::Step,
+    Production::New,
     Production::Conditional,
+    Production::Requires,
+    Production::RequiresOf,
     Production::ExpandExpression,
     Production::PackSize,
     Production::Unresolved,
@@ -189,6 +198,12 @@ pub(crate) const PRODUCTIONS: [Production; 200] = [
     Production::ParameterExpression,
     Production::AddressedLiteral,
     Production::Expressions,
+    Production::FoldOperatorL,
+    Production::FoldOperand,
+    Production::FoldPack,
+    Production::Placed,
+    Production::Initializer,
+    Production::BracedInitializer,
     Production::This,
     Production::ParameterNumber,
     Production::ConvertedDecltype,
@@ -198,6 +213,13 @@ pub(crate) const PRODUCTIONS: [Production; 200] = [
     Production::ConvertedType,
     Production::UnresolvedInType,
     Production::Levels,
+    Production::DestroyedType,
+    Production::ExpressionRequirement,
+    Production::TypeRequirement,
+    Production::NestedRequirement,
+    Production::ResultRequirement,
+    Production::NoexceptRequirement,
+    Production::RequiredType,
     Production::LevelsEnd,
     Production::UnresolvedOperator,
     Production::AnyArray,
@@ -207,7 +229,7 @@ pub(crate) const PRODUCTIONS: [Production; 200] = [
 ];
 
 /// How many parts each has.
-pub(crate) const PART_COUNTS: [u8; 200] = [
+pub(crate) const PART_COUNTS: [u8; 222] = [
     0, // Mark
     2, // InternalName
     2, // LocalTypeName
@@ -254,6 +276,7 @@ pub(crate) const PART_COUNTS: [u8; 200] = [
     1, // ComponentWithC
     2, // OtherOperatorName
     2, // Holder
+    2, // Friend
     2, // Inheriting
     2, // Constructor
     0, // Abbreviation
@@ -303,6 +326,7 @@ pub(crate) const PART_COUNTS: [u8; 200] = [
     0, // RefEnd
     2, // LvalueItem
     2, // RvalueItem
+    1, // Constraint
     2, // Items
     2, // Arguments
     2, // Tag
@@ -346,8 +370,9 @@ pub(crate) const PART_COUNTS: [u8; 200] = [
     2, // Expression
     1, // ArgumentWithT
     1, // PlainArgument
-    2, // DeclaredArgument
     2, // ParameterArgument
+    2, // DeclaredArgument
+    2, // LeveledParameter
     2, // OneLiteral
     2, // OnePack
     0, // AnyType
@@ -366,10 +391,16 @@ pub(crate) const PART_COUNTS: [u8; 200] = [
     1, // OfType
     3, // Call
     2, // Convert
+    1, // DestructorName
     2, // OuterParameter
+    2, // LeftFold
+    2, // RightFold
     2, // Braces
     2, // Step
+    3, // New
     3, // Conditional
+    2, // Requires
+    1, // RequiresOf
     1, // ExpandExpression
     1, // PackSize
     1, // Unresolved
@@ -393,6 +424,12 @@ pub(crate) const PART_COUNTS: [u8; 200] = [
     2, // ParameterExpression
     2, // AddressedLiteral
     2, // Expressions
+    1, // FoldOperatorL
+    1, // FoldOperand
+    1, // FoldPack
+    2, // Placed
+    1, // Initializer
+    1, // BracedInitializer
     0, // This
     1, // ParameterNumber
     1, // ConvertedDecltype
@@ -402,6 +439,13 @@ pub(crate) const PART_COUNTS: [u8; 200] = [
     1, // ConvertedType
     2, // UnresolvedInType
     2, // Levels
+    1, // DestroyedType
+    2, // ExpressionRequirement
+    2, // TypeRequirement
+    2, // NestedRequirement
+    2, // ResultRequirement
+    1, // NoexceptRequirement
+    2, // RequiredType
     1, // LevelsEnd
     1, // UnresolvedOperator
     1, // AnyArray
@@ -411,7 +455,7 @@ pub(crate) const PART_COUNTS: [u8; 200] = [
 ];
 
 /// Whether parts without a row may be between those of each.
-pub(crate) const SKIPS_PARTS: [bool; 200] = [
+pub(crate) const SKIPS_PARTS: [bool; 222] = [
     false, // Mark
     false, // InternalName
     false, // LocalTypeName
@@ -458,6 +502,7 @@ pub(crate) const SKIPS_PARTS: [bool; 200] = [
     false, // ComponentWithC
     false, // OtherOperatorName
     false, // Holder
+    false, // Friend
     false, // Inheriting
     false, // Constructor
     false, // Abbreviation
@@ -507,6 +552,7 @@ pub(crate) const SKIPS_PARTS: [bool; 200] = [
     false, // RefEnd
     false, // LvalueItem
     false, // RvalueItem
+    false, // Constraint
     false, // Items
     false, // Arguments
     false, // Tag
@@ -550,8 +596,9 @@ pub(crate) const SKIPS_PARTS: [bool; 200] = [
     false, // Expression
     false, // ArgumentWithT
     false, // PlainArgument
-    false, // DeclaredArgument
     false, // ParameterArgument
+    false, // DeclaredArgument
+    false, // LeveledParameter
     false, // OneLiteral
     false, // OnePack
     false, // AnyType
@@ -570,10 +617,16 @@ pub(crate) const SKIPS_PARTS: [bool; 200] = [
     false, // OfType
     false, // Call
     false, // Convert
+    false, // DestructorName
     false, // OuterParameter
+    false, // LeftFold
+    false, // RightFold
     false, // Braces
     true, // Step
+    false, // New
     false, // Conditional
+    false, // Requires
+    false, // RequiresOf
     false, // ExpandExpression
     false, // PackSize
     false, // Unresolved
@@ -597,6 +650,12 @@ pub(crate) const SKIPS_PARTS: [bool; 200] = [
     false, // ParameterExpression
     false, // AddressedLiteral
     false, // Expressions
+    false, // FoldOperatorL
+    false, // FoldOperand
+    false, // FoldPack
+    false, // Placed
+    false, // Initializer
+    false, // BracedInitializer
     false, // This
     false, // ParameterNumber
     false, // ConvertedDecltype
@@ -606,6 +665,13 @@ pub(crate) const SKIPS_PARTS: [bool; 200] = [
     false, // ConvertedType
     false, // UnresolvedInType
     false, // Levels
+    false, // DestroyedType
+    false, // ExpressionRequirement
+    false, // TypeRequirement
+    false, // NestedRequirement
+    false, // ResultRequirement
+    false, // NoexceptRequirement
+    false, // RequiredType
     false, // LevelsEnd
     false, // UnresolvedOperator
     false, // AnyArray
@@ -615,7 +681,7 @@ pub(crate) const SKIPS_PARTS: [bool; 200] = [
 ];
 
 /// Before how many of its parts nothing is done in each: before none, the first, or all, which are five at most.
-pub(crate) const QUIET_PARTS: [u8; 200] = [
+pub(crate) const QUIET_PARTS: [u8; 222] = [
     5, // Mark
     1, // InternalName
     1, // LocalTypeName
@@ -662,6 +728,7 @@ pub(crate) const QUIET_PARTS: [u8; 200] = [
     5, // ComponentWithC
     1, // OtherOperatorName
     1, // Holder
+    1, // Friend
     1, // Inheriting
     1, // Constructor
     5, // Abbreviation
@@ -711,6 +778,7 @@ pub(crate) const QUIET_PARTS: [u8; 200] = [
     5, // RefEnd
     1, // LvalueItem
     1, // RvalueItem
+    0, // Constraint
     5, // Items
     0, // Arguments
     1, // Tag
@@ -754,8 +822,9 @@ pub(crate) const QUIET_PARTS: [u8; 200] = [
     5, // Expression
     5, // ArgumentWithT
     5, // PlainArgument
-    5, // DeclaredArgument
     1, // ParameterArgument
+    5, // DeclaredArgument
+    5, // LeveledParameter
     5, // OneLiteral
     5, // OnePack
     5, // AnyType
@@ -774,10 +843,16 @@ pub(crate) const QUIET_PARTS: [u8; 200] = [
     5, // OfType
     5, // Call
     5, // Convert
+    5, // DestructorName
     5, // OuterParameter
+    5, // LeftFold
+    5, // RightFold
     5, // Braces
     5, // Step
+    5, // New
     5, // Conditional
+    5, // Requires
+    5, // RequiresOf
     0, // ExpandExpression
     0, // PackSize
     5, // Unresolved
@@ -801,6 +876,12 @@ pub(crate) const QUIET_PARTS: [u8; 200] = [
     1, // ParameterExpression
     5, // AddressedLiteral
     5, // Expressions
+    5, // FoldOperatorL
+    5, // FoldOperand
+    0, // FoldPack
+    5, // Placed
+    5, // Initializer
+    5, // BracedInitializer
     5, // This
     5, // ParameterNumber
     5, // ConvertedDecltype
@@ -810,6 +891,13 @@ pub(crate) const QUIET_PARTS: [u8; 200] = [
     5, // ConvertedType
     1, // UnresolvedInType
     5, // Levels
+    5, // DestroyedType
+    5, // ExpressionRequirement
+    5, // TypeRequirement
+    5, // NestedRequirement
+    5, // ResultRequirement
+    5, // NoexceptRequirement
+    5, // RequiredType
     5, // LevelsEnd
     5, // UnresolvedOperator
     5, // AnyArray

@@ -91,6 +91,7 @@ impl Linked {
             Production::Expansion => made(Node::Expansion(self.tree(symbol, parts, 0)), false),
             // <type> after st, ti, at and cv
             Production::ConvertedDecltype => tree(self.tree(symbol, parts, 0), true),
+            Production::DestroyedType => tree(self.tree(symbol, parts, 0), true),
             Production::ConvertedType => tree(self.tree(symbol, parts, 0), true),
             _ => unreachable!(),
         }
@@ -232,6 +233,8 @@ impl Linked {
             ),
             // <ref-qualifier> ::= R | O, before the E of a function type
             Production::RefEnd => Outcome::Given(Part::Nothing),
+            // Q <constraint-expression>
+            Production::Constraint => Outcome::Given(Part::Nothing),
             // <function-type> ::= F .. E, without a <ref-qualifier>
             Production::RestEnd => Outcome::Given(Part::Signature {
                 list: NIL,
@@ -335,6 +338,8 @@ impl Linked {
             Production::ArgumentWithT => tree(self.tree(symbol, parts, 0), true),
             // <template-arg> ::= <template-param-decl> <template-arg>, after the T
             Production::DeclaredArgument => tree(self.tree(symbol, parts, 1), true),
+            // <template-param> ::= TL <level> _ _ | TL <level> _ <parameter number> _, after the T
+            Production::LeveledParameter => Outcome::Given(self.given(symbol, parts, 1)),
             // <template-arg> ::= <expr-primary>
             Production::OneLiteral => Outcome::Given(self.given(symbol, parts, 0)),
             // <template-arg> ::= J <template-arg>* E, after a <template-param-decl>

@@ -15,6 +15,7 @@ ghost use Rattle.cpp_link.specs.LinkRescoping.{names_generic, names_holder, coun
 ghost use Rattle.cpp_link.specs.RescopingLaws.{wide_laws, wide_threads};
 ghost use Rattle.cpp_link.specs.declared.rescoping.Rescoping.{Rescoping};
 
+use crate::between::quiet_parts;
 use crate::dispatch::production_of;
 use crate::holders::{is_holder, is_inheriting, is_own_arguments};
 use crate::language::OUTSIDE;
@@ -47,31 +48,14 @@ fn counts_base(production: Production, held: usize) -> bool
     is_own_arguments(production) && held == 0
 }
 
-impl Threading for Rescoping {
-    type Part = Part;
-
-    type Kept = Surroundings;
-
-    ghost Value = { Value };
-
-    ghost State = { Tally State };
-
-    ghost Context = { Around };
-
-    ghost view = { wide_counted };
-
-    ghost surrounds = { λ s l. Surrounds s l.linked };
-
-    ghost absent = { variants.Nothing };
-
-    fn nothing(&self) -> Part
-        ensures is { result ≡ variants.Nothing }
-        ensures stands { (s : List ℕ) → AreAll ((wide_counted s).IsPart self.now) (result ∷ []) (wide_counted s).reading.rowless }
-    {
-        Part::Nothing
-    }
-
-    fn between(
+impl Rescoping {
+    /// What is done before the next part of the frame's rule where something is, and what surrounds that part.
+    ///
+    /// # Errors
+    ///
+    /// Those of `before_part`.
+    #[inline(never)]
+    fn between_by_step(
         &mut self,
         symbol: &[u8],
         frame: &Frame<Surroundings>,
@@ -100,6 +84,55 @@ impl Threading for Rescoping {
             return self.linked.before_own_arguments(symbol, frame);
         }
         self.linked.before_part(symbol, frame, parts)
+    }
+}
+
+impl Threading for Rescoping {
+    type Part = Part;
+
+    type Kept = Surroundings;
+
+    ghost Value = { Value };
+
+    ghost State = { Tally State };
+
+    ghost Context = { Around };
+
+    ghost view = { wide_counted };
+
+    ghost surrounds = { λ s l. Surrounds s l.linked };
+
+    ghost absent = { variants.Nothing };
+
+    fn nothing(&self) -> Part
+        ensures is { result ≡ variants.Nothing }
+        ensures stands { (s : List ℕ) → AreAll ((wide_counted s).IsPart self.now) (result ∷ []) (wide_counted s).reading.rowless }
+    {
+        Part::Nothing
+    }
+
+    #[inline(always)]
+    fn between(
+        &mut self,
+        symbol: &[u8],
+        frame: &Frame<Surroundings>,
+        parts: &mut Vec<Part>,
+    ) -> Result<Surroundings, Refusal>
+        requires room { HasRoom (wide_counted symbol.now) symbol.now self.old (owed_behind (wide_counted symbol.now) frame.now parts.old.items) }
+        requires open { IsOpenAt (wide_counted symbol.now) symbol.now self.old frame.now parts.old.items }
+        requires base { frame.now.base ≤ length parts.old.items }
+        ensures goes { GoesOn (wide_counted symbol.now) symbol.now (λ l. Surrounds symbol.now l.linked) self.old self.new frame.now parts.old.items parts.new.items result }
+        ensures adds { OnOk result (Adds (wide_counted symbol.now) self.old self.new (owed_behind (wide_counted symbol.now) frame.now parts.old.items) (owed_next (wide_counted symbol.now) frame.now parts.new.items)) }
+        ensures few { AddsBefore (wide_counted symbol.now) self.old self.new frame.now parts.old.items (drop frame.now.base parts.new.items ++ variants.Nothing ∷ []) result }
+        ensures pays { OnOk result ((at : ℕ) → Pays (wide_counted symbol.now) self.old self.new at at) }
+        ensures count { OnOk result (length parts.new.items ≡ length parts.old.items) }
+        ensures keeps { KeepsRoom (wide_counted symbol.now) self.old self.new parts.old parts.new }
+        ensures full { NeedsRoom (wide_counted symbol.now) self.old self.new parts.old parts.new result }
+    {
+        if parts.len() - frame.base < quiet_parts(frame.rule) {
+            return self.linked.before_part(symbol, frame, parts);
+        }
+        self.between_by_step(symbol, frame, parts)
     }
 
     fn begin(

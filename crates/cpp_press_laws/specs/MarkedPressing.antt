@@ -123,12 +123,7 @@ ways_of n (symbol e suffix) = record no_ways { as_encoding = says "_Z" and (ways
 ways_of n (function name q ref returned parameters) =
     encoding_ways (λ here. (ways_of here name).as_name (name_letters q ref) and (ways_of here returned).as_type and (ways_of here parameters).as_parameters)
 ways_of n (object name q ref) = encoding_ways (λ here. (ways_of here name).as_name (name_letters q ref))
-ways_of n (special l type) = encoding_ways (λ here. text (codes "T" ++ l ∷ []) and (ways_of here type).as_type)
-ways_of n (thunk kind e) = encoding_ways (λ here. text (thunk_text kind) and (ways_of here e).as_encoding)
 ways_of n (of_name l name q ref) = encoding_ways (λ here. text (special_code l) and (ways_of here name).as_name (name_letters q ref))
-ways_of n (construction derived digits parent) =
-    encoding_ways (λ here. says "TC" and (ways_of here derived).as_type and text (digits ++ codes "_") and (ways_of here parent).as_type)
-ways_of n (clone letter e) = encoding_ways (λ here. says "GT" and text (letter ∷ []) and (ways_of here e).as_encoding)
 ways_of n (alone p) =
     let spelling = (ways_of n p).as_piece in
     name_ways n (alone p) spelling spelling spelling spelling (λ in_type arguments. template_before n (alone p) false spelling arguments)
@@ -149,10 +144,24 @@ ways_of n (instance template arguments) =
 ways_of n (local e entity discriminator) =
     let spelling = local_text (ways_of n e).as_encoding entity (ways_of n entity).between_N_and_E discriminator in
     record (type_ways (component n (local e entity discriminator) (spelling []))) { as_name = spelling }
+ways_of n (function_type c_linkage noexcept ref returned parameters) =
+    let spelling = function_text c_linkage noexcept ref (ways_of n returned).as_type (ways_of n parameters).as_parameters in
+    record (type_ways (component n (function_type c_linkage noexcept ref returned parameters) spelling)) { under_qualifiers = spelling }
+ways_of n nil = record no_ways { as_parameters = says "v" }
+ways_of n (list first rest) =
+    let f = ways_of n first in
+    let r = ways_of n rest in
+    let more = f.as_type and r.as_more_parameters in
+    record no_ways { as_parameters = more; as_more_parameters = more; as_elements = f.as_argument and r.as_elements }
+-- The others, each as its row of SPELLED. What the wide grammar alone reads isn't pressed: local entities of default
+-- arguments, constructors that are inherited, lambdas with parameters of their own, arrays whose length is an expression, placeholders of which a
+-- concept is asked, and expressions
+ways_of n (special l type) = encoding_ways (λ here. text (codes "T" ++ l ∷ []) and (ways_of here type).as_type)
+ways_of n (thunk kind e) = encoding_ways (λ here. text (thunk_text kind) and (ways_of here e).as_encoding)
+ways_of n (construction derived digits parent) = encoding_ways (λ here. says "TC" and (ways_of here derived).as_type and text (digits ++ codes "_") and (ways_of here parent).as_type)
+ways_of n (clone letter e) = encoding_ways (λ here. says "GT" and text (letter ∷ []) and (ways_of here e).as_encoding)
 ways_of n (holder name) = record no_ways { as_prefix = (ways_of n name).as_prefix and says "M" }
-ways_of n (tagged of_structor name tag) =
-    type_ways (component n (tagged of_structor name tag) ((ways_of n name).as_type and text (codes "B" ++ counted tag)))
--- local entities of default arguments are read by the wide grammar alone, and aren't pressed
+ways_of n (tagged of_structor name tag) = type_ways (component n (tagged of_structor name tag) ((ways_of n name).as_type and text (codes "B" ++ counted tag)))
 ways_of n (of_default digits entity) = no_ways
 ways_of n (abbreviation l) = type_ways (text (codes "S" ++ l ∷ []))
 ways_of n (parameter k) = type_ways (component n (parameter k) (text (codes "T" ++ ordinal k)))
@@ -161,46 +170,33 @@ ways_of n (operator a b) = piece_ways (text (a ∷ b ∷ []))
 ways_of n (literal_operator name) = piece_ways (text (codes "li" ++ counted name))
 ways_of n (constructor digit) = piece_ways (text (codes "C" ++ digit ∷ []))
 ways_of n (destructor digit) = piece_ways (text (codes "D" ++ digit ∷ []))
--- nor are constructors that are inherited
 ways_of n (inheriting digit class) = no_ways
 ways_of n (lambda parameters k) = piece_ways (says "Ul" and (ways_of n parameters).as_parameters and text (codes "E" ++ ordinal (k - 1)))
--- nor are lambdas with parameters of their own
 ways_of n (generic_lambda parameters number) = no_ways
 ways_of n (unnamed k) = piece_ways (text (codes "Ut" ++ ordinal (k - 1)))
 ways_of n string_literal = piece_ways (says "s")
 ways_of n (conversion type) = piece_ways (says "cv" and (ways_of n type).as_type)
 ways_of n (builtin code) = type_ways (text code)
 ways_of n (sized_float digits end) = type_ways (says "DF" and text digits and text (end ∷ []))
--- arrays whose length is an expression, placeholders of which a concept is asked, and expressions aren't pressed, either
-ways_of n (bounded bound type) = no_ways
 ways_of n (constrained letter concept) = no_ways
-ways_of n (decltype operand) = no_ways
-ways_of n (operation one two u w) = no_ways
-ways_of n (function_parameter digits) = no_ways
 ways_of n (vendor name) = type_ways (component n (vendor name) (text (codes "u" ++ counted name)))
 ways_of n (pointer type) = type_ways (component n (pointer type) (says "P" and (ways_of n type).as_type))
 ways_of n (lvalue type) = type_ways (component n (lvalue type) (says "R" and (ways_of n type).as_type))
 ways_of n (rvalue type) = type_ways (component n (rvalue type) (says "O" and (ways_of n type).as_type))
 ways_of n (array digits type) = type_ways (component n (array digits type) (text (codes "A" ++ digits ++ codes "_") and (ways_of n type).as_type))
-ways_of n (member_pointer class member) =
-    type_ways (component n (member_pointer class member) (says "M" and (ways_of n class).as_type and (ways_of n member).as_type))
-ways_of n (function_type c_linkage noexcept ref returned parameters) =
-    let spelling = function_text c_linkage noexcept ref (ways_of n returned).as_type (ways_of n parameters).as_parameters in
-    record (type_ways (component n (function_type c_linkage noexcept ref returned parameters) spelling)) { under_qualifiers = spelling }
+ways_of n (bounded bound type) = no_ways
+ways_of n (member_pointer class member) = type_ways (component n (member_pointer class member) (says "M" and (ways_of n class).as_type and (ways_of n member).as_type))
 ways_of n (qualified q type) = type_ways (component n (qualified q type) (text (qualifier_letters q) and (ways_of n type).under_qualifiers))
 ways_of n (vector digits type) = type_ways (component n (vector digits type) (text (codes "Dv" ++ digits ++ codes "_") and (ways_of n type).as_type))
 ways_of n (complex type) = type_ways (component n (complex type) (says "C" and (ways_of n type).as_type))
+ways_of n (decltype operand) = no_ways
 ways_of n (expansion pattern) = type_ways (component n (expansion pattern) (says "Dp" and (ways_of n pattern).as_type))
 ways_of n (integer type value) = argument_ways (says "L" and (ways_of n type).as_type and text (signed_text value ++ codes "E"))
 ways_of n (boolean truth) = argument_ways (text (cond truth (codes "Lb1E") (codes "Lb0E")))
 ways_of n null_pointer = argument_ways (says "LDnE")
 ways_of n (encoding_literal e) = argument_ways (says "L_Z" and (ways_of n e).as_encoding and says "E")
 ways_of n (address_of e) = argument_ways (says "XadL_Z" and (ways_of n e).as_encoding and says "EE")
+ways_of n (operation one two u w) = no_ways
+ways_of n (function_parameter digits) = no_ways
 ways_of n (pack elements) = argument_ways (says "J" and (ways_of n elements).as_elements and says "E")
-ways_of n nil = record no_ways { as_parameters = says "v" }
-ways_of n (list first rest) =
-    let f = ways_of n first in
-    let r = ways_of n rest in
-    let more = f.as_type and r.as_more_parameters in
-    record no_ways { as_parameters = more; as_more_parameters = more; as_elements = f.as_argument and r.as_elements }
 ways_of n absent = no_ways

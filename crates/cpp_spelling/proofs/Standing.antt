@@ -3,7 +3,8 @@ use Rattle.std.proofs.Common.{◌≡◌, ℕ, Bool, true, false, Option, Some, N
 use Rattle.cpp_grammar.specs.Term.{Term}
 use Rattle.cpp_spelling.specs.declared.steps.Standing.{Standing}
 use Rattle.cpp_spelling.specs.declared.task.Way.{Way}
-use Rattle.cpp_spelling.specs.Spelled.{is_compared, is_name}
+use Rattle.cpp_spelling.specs.Spelled.{is_compared}
+use Rattle.cpp_press_laws.specs.Pressing.{is_name}
 use Rattle.cpp_spelling.specs.Standings.{compared, standing_of, template_standing_of}
 
 abbrev standing_by : Bool → Option ℕ → Standing

@@ -5,9 +5,9 @@ use Rattle.sym_spell.specs.Pressing.{◌and◌, text, nothing}
 use Rattle.sym_spell.proofs.Spellings.{and-assoc, nothing-and}
 use Rattle.cpp_grammar.specs.Term.{Term, alone, in_std, within, instance}
 use Rattle.cpp_press_laws.specs.Components.{Component, Spelling, first_equal, component, spelled_out, referred, reference, ended}
-use Rattle.cpp_press_laws.specs.Pressing.{ways_of, no_ways, type_ways, name_ways, piece_ways, argument_ways, encoding_ways, in_N_and_E, template_before, is_operator}
+use Rattle.cpp_press_laws.specs.Pressing.{ways_of, no_ways, type_ways, name_ways, piece_ways, argument_ways, encoding_ways, in_N_and_E, template_before, is_operator, is_name}
 use Rattle.cpp_spelling.specs.Tasks.{◌onto◌, written, in_way, before, bracketed, ending}
-use Rattle.cpp_spelling.specs.Spelled.{arguments_onto, is_name}
+use Rattle.cpp_spelling.specs.Spelled.{arguments_onto}
 use Rattle.cpp_spelling.specs.Standings.{needs_N, is_instance, template_onto}
 use Rattle.cpp_spelling.proofs.Ways.{under, three, arguments-is}
 

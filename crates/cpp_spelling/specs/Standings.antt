@@ -2,11 +2,11 @@
 use Rattle.std.specs.Prelude.{ℕ, Bool, true, false, ◌&&◌, codes, Option, Some, None}
 use Rattle.cpp_grammar.specs.Term.{Term, in_std, within, instance}
 use Rattle.cpp_press_laws.specs.Components.{Spelling}
-use Rattle.cpp_press_laws.specs.Pressing.{is_operator}
+use Rattle.cpp_press_laws.specs.Pressing.{is_operator, is_name}
 use Rattle.cpp_spelling.specs.declared.steps.Standing.{Standing}
 use Rattle.cpp_spelling.specs.declared.task.Way.{Way}
 use Rattle.cpp_spelling.specs.Tasks.{◌onto◌, written, in_way, ending}
-use Rattle.cpp_spelling.specs.Spelled.{is_compared, is_name, arguments_onto}
+use Rattle.cpp_spelling.specs.Spelled.{is_compared, arguments_onto}
 
 -- of a tree that is compared, by the number of the first component that is equal to it
 unfoldable pub compared : Option ℕ → Standing

@@ -3,13 +3,13 @@
 
 ghost use Rattle.std.specs.Prelude.{◌≡◌, ◌≤◌, ◌<◌, ◌+◌, ◌-◌, ◌++◌, length, codes, false};
 ghost use Rattle.cpp_press_laws.specs.Texts.{ordinal};
-ghost use Rattle.cpp_press_laws.specs.Pressing.{is_operator, is_encoding, is_one_piece};
+ghost use Rattle.cpp_press_laws.specs.Pressing.{is_operator, is_encoding, is_one_piece, is_name};
 ghost use Rattle.cpp_tree.specs.Nodes.{qualifiers_of, mark_of, discriminator_of, is_again, IsSpan, IsTable};
 ghost use Rattle.cpp_layout.specs.Layout.{ReadSymbol, table_of};
 ghost use Rattle.cpp_spelling.specs.Bytes.{text_bytes, IsThere};
 ghost use Rattle.cpp_spelling.specs.Weight.{weight};
 ghost use Rattle.cpp_spelling.specs.Tasks.{◌onto◌, written, in_way, plain_at, node_tree, piece_tree, IsMade, IsPieceMade, press_tasks, AreTasks, HasRoom, TakesRoom, tasks_weight};
-ghost use Rattle.cpp_spelling.specs.Spelled.{piece_onto, in_std_onto, within_onto, nested_onto, between_onto, prefix_onto, has_letters, plain_name_onto, lettered_onto, local_onto, is_name, is_prefix, name_onto, is_piece_behind};
+ghost use Rattle.cpp_spelling.specs.Spelled.{piece_onto, in_std_onto, within_onto, nested_onto, between_onto, prefix_onto, has_letters, plain_name_onto, lettered_onto, local_onto, is_prefix, name_onto, is_piece_behind};
 
 use crate::stored::stored;
 use crate::task::{
@@ -324,7 +324,7 @@ pub fn then_local(
 }
 
 /// Whether a node is a name that isn't local.
-#[tactic(auto, unfolding(crate::specs::Spelled::is_name, cpp_term::specs::Erased::erase, cpp_tree::specs::Nodes::tree_of, cpp_tree::specs::Nodes::is_again))]
+#[tactic(auto, unfolding(cpp_press_laws::specs::Pressing::is_name, cpp_term::specs::Erased::erase, cpp_tree::specs::Nodes::tree_of, cpp_tree::specs::Nodes::is_again))]
 pub fn is_name(node: Node) -> bool
     requires own { is_again node ≡ false }
     ensures { (y : ReadSymbol) → result ≡ is_name (node_tree y node) }

@@ -229,6 +229,7 @@ between_noted own Production.OtherSpecial around place vs x y stays packs = absu
 between_noted own Production.Lambda around place vs x y stays packs = signature_goes own (parts_place own Production.Lambda around) around x y vs (signature_place own around) packs
 between_noted own Production.ValueOf around place vs x y stays packs = signature_goes own (parts_place own Production.ValueOf around) around x y vs (signature_place own around) packs
 between_noted own Production.OfConcept around place vs x y stays packs = signature_goes own (parts_place own Production.OfConcept around) around x y vs (signature_place own around) packs
+between_noted own Production.Constraint around place vs x y stays packs = signature_goes own (parts_place own Production.Constraint around) around x y vs (signature_place own around) packs
 between_noted own p around place vs x y stays packs = row_noted own (row_of p) around place vs x y refl packs
 
 -- ## After a production
@@ -452,4 +453,5 @@ wide_close_noted Production.Inheriting byte around place began first vs x y h se
 }
 wide_close_noted Production.ValueOf byte around place began first vs x y h settled same e = record { value = refl; moves = moves_none true around x x y y refl refl same.packs }
 wide_close_noted Production.OfConcept byte around place began first vs x y h settled same e = record { value = refl; moves = moves_none true around x x y y refl refl same.packs }
+wide_close_noted Production.Constraint byte around place began first vs x y h settled same e = record { value = refl; moves = moves_none true around x x y y refl refl same.packs }
 wide_close_noted production byte around place began first vs x y h settled same e = made_close true production byte around began first vs x y h same e

@@ -160,6 +160,7 @@ unfolding in_special has_signature
 special_apart Production.Lambda h = absurd (false≢true h)
 special_apart Production.ValueOf h = absurd (false≢true h)
 special_apart Production.OfConcept h = absurd (false≢true h)
+special_apart Production.Constraint h = absurd (false≢true h)
 special_apart _ h = refl
 
 abbrev Encodings : List Sym → List Value → Type 0

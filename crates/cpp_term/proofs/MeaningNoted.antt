@@ -2,7 +2,7 @@
 use Rattle.std.proofs.Common.{◌≡◌, refl, ap, sym, ◌∙◌, ℕ, zero, suc, List, [], ◌∷◌, Bool, true, false, not, ◌&&◌, cond, nat_eq, Option, Some, None}
 use Rattle.std.proofs.lemmas.Bool.{true≢false, false≢true}
 use Rattle.cpp_grammar.specs.declared.production.Production.{Production}
-use Rattle.cpp_grammar.specs.Term.{RefQualifier, any_value, lvalue_only, rvalue_only, non_virtual, by_table, adjusting, covariant, Term, function, within, instance, local, tagged, of_default, constructor, destructor, inheriting, builtin, lvalue, rvalue, encoding_literal, operation, nil, list, absent, lambda}
+use Rattle.cpp_grammar.specs.Term.{RefQualifier, any_value, lvalue_only, rvalue_only, non_virtual, by_table, adjusting, covariant, Term, function, within, instance, local, tagged, of_default, constructor, destructor, inheriting, operator, builtin, lvalue, rvalue, encoding_literal, operation, nil, list, absent, lambda}
 use Rattle.cpp_grammar.specs.Scope.{arguments_of, before_arguments, is_structor, has_return_type, is_open}
 use Rattle.cpp_grammar.specs.Values as leaf_
 use Rattle.cpp_grammar.specs.Values.{Around, Prefix, prefix_tree, prefix_listed, Value, unqualified, tree_of, piece_of, is_listed, qualifiers_of, ref_of, letter_of, is_there, mark_of, text_of, signed_of, adjustment_of, normal, signed_digits, local_number, part}
@@ -536,13 +536,27 @@ built_noted s new_operation xs h = four term_.operation (number_there s xs 0) (n
 built_noted s new_function_parameter xs h = ap term_.function_parameter (bytes_there s xs 0)
 built_noted s new_pack xs h = ap term_.pack (tree_there s xs 0)
 
+-- the letters of an operator
+first_noted : (s : Place) (p : Term) → noted_.first_letter (annotate s p) ≡ meaning_.first_letter p
+unfolding noted_.first_letter meaning_.first_letter annotate
+first_noted s (operator first second) = refl
+first_noted s _ = refl
+
+second_noted : (s : Place) (p : Term) → noted_.second_letter (annotate s p) ≡ meaning_.second_letter p
+unfolding noted_.second_letter meaning_.second_letter annotate
+second_noted s (operator first second) = refl
+second_noted s _ = refl
+
+piece_part : (s : Place) (vs : List Value) (k : ℕ) → value_.piece_of (value_.part (noted_values s vs) k) ≡ annotate s (piece_of (part vs k))
+piece_part s vs k = ap value_.piece_of (part_noted s vs k) ∙ piece_noted s (part vs k)
+
 given_noted : (own : Bool) (byte : ℕ) (around : Around) (vs : List Value) (source : Source) →
     meant_.given byte (noted_around own around) (noted_values (around_place own around) vs) source ≡ noted_argument (around_place own around) (given byte around vs source)
 unfolding meant_.given given noted_around noted_argument annotate
 given_noted own byte around vs (row_.tree_at k) = ap builder_.a_tree (tree_part (around_place own around) vs k)
 given_noted own byte around vs (row_.list_at k) = ap builder_.a_tree (items_part (around_place own around) vs k)
 given_noted own byte around vs (row_.parameters_at k) = ap builder_.a_tree (parameters_part (around_place own around) vs k)
-given_noted own byte around vs (row_.piece_at k) = ap (λ v. builder_.a_tree (value_.piece_of v)) (part_noted (around_place own around) vs k) ∙ ap builder_.a_tree (piece_noted (around_place own around) (part vs k))
+given_noted own byte around vs (row_.piece_at k) = ap builder_.a_tree (piece_part (around_place own around) vs k)
 given_noted own byte around vs row_.no_tree = refl
 given_noted own byte around vs row_.the_name = ap builder_.a_tree (prefix_tree_noted (around_place own around) around.prefix)
 given_noted own byte around vs (row_.text_at k) = ap builder_.some_bytes (text_part_ (around_place own around) vs k)
@@ -552,6 +566,10 @@ given_noted own byte around vs row_.taken = refl
 given_noted own byte around vs (row_.fixed n) = refl
 given_noted own byte around vs (row_.letter_at k) = ap builder_.a_number (letter_part (around_place own around) vs k)
 given_noted own byte around vs (row_.letter_or_taken k) = ap (λ x. builder_.a_number (cond (nat_eq x 0) byte x)) (letter_part (around_place own around) vs k)
+given_noted own byte around vs (row_.operator_first_at k) =
+    ap (λ p. builder_.a_number (noted_.first_letter p)) (piece_part (around_place own around) vs k) ∙ ap builder_.a_number (first_noted (around_place own around) (piece_of (part vs k)))
+given_noted own byte around vs (row_.operator_second_at k) =
+    ap (λ p. builder_.a_number (noted_.second_letter p)) (piece_part (around_place own around) vs k) ∙ ap builder_.a_number (second_noted (around_place own around) (piece_of (part vs k)))
 given_noted own byte around vs (row_.number_at k) = ap (λ x. builder_.a_number (local_number x)) (text_part_ (around_place own around) vs k)
 given_noted own byte around vs row_.yes = refl
 given_noted own byte around vs row_.no = refl

@@ -58,6 +58,15 @@ operator_or_literal first v = v
 
 -- ## Expressions
 
+-- the letters of an operator
+unfoldable pub first_letter : Term → ℕ
+first_letter (operator first second) = first
+first_letter _ = 0
+
+unfoldable pub second_letter : Term → ℕ
+second_letter (operator first second) = second
+second_letter _ = 0
+
 -- the address of an encoding is a tree of its own
 unfoldable pub operation_or_address : (is_address : Bool) → (first second : ℕ) → (left right : Term) → Term
 operation_or_address true first second (encoding_literal e) right = address_of e

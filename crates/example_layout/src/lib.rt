@@ -1,7 +1,7 @@
 //! A table of nodes that share their parts, printed as the tree that it stands for.
 #![tactic(auto)]
 
-ghost use Rattle.std.specs.Prelude.{◌≡◌, ◌+◌, ◌<◌, ◌≤◌, length, vec_len, vec_capacity, [], IfOk, IfErr};
+ghost use Rattle.std.specs.Prelude.{◌≡◌, ◌+◌, ◌<◌, ◌≤◌, length, vec_len, vec_capacity, [], true, IfOk, IfErr};
 ghost use Rattle.std.specs.List.{All};
 ghost use Rattle.example_layout.specs.Dag.{IsLinked, doubled};
 ghost use Rattle.sym_core.specs.declared.Refusal.{Refusal};
@@ -100,6 +100,21 @@ impl Layout for Dag {
         let mut parts = ArrayVec::new();
         self.fill(item, &mut parts);
         push_reversed(stack, parts.as_slice());
+    }
+
+    fn is_noted(&self, item: Item<bool>) -> bool
+        requires may_come { IsLinked 0 self.now.nodes.items × MayCome self.now.nodes.items (Part.Sub item) }
+    {
+        item.node > 0
+    }
+
+    fn is_same(&self, one: &Item<bool>, other: &Item<bool>) -> bool
+        ensures { result ≡ true → one.now ≡ other.now }
+    {
+        one.node == other.node
+            && one.form == other.form
+            && one.at == other.at
+            && one.ctx == other.ctx
     }
 
     fn bytes<'a>(&'a self, part: &'a Part<bool>) -> &'a [u8] {

@@ -1,14 +1,17 @@
 -- What was written of a symbol is its answer.
 use Rattle.std.proofs.Common.{◌≡◌, ℕ, ◌≤◌, ◌/◌, length, List, Bool, true, false, Ok, ap, sym, ◌∙◌, arith}
 use Rattle.sym_print.specs.declared.detail.Detail.{Detail}
+use Rattle.std.specs.Prelude.{Option, Some, None}
+use Rattle.std.specs.Option.{OnSome}
+use Rattle.sym_print.specs.declared.detail.Detail.TheVariants.{Full, Brief, NoParameters, BriefNoParameters}
 use Rattle.sym_print.specs.Answer.{text_within}
 use Rattle.sym_print.proofs.Answering.{text_within-ok}
 use Rattle.sym_demangle.specs.Mangled.{IsAnswer, StandsFor, shaped, answer_of_symbol}
 use Rattle.cpp_grammar.specs.Answer.{shown, root_item}
 use Rattle.cpp_grammar.specs.Mangled.{cpp_mangled, wide_mangled}
 use Rattle.cpp_grammar.specs.Term.{Term}
-use Rattle.cpp_direct.specs.WriterInvariant.{IsWhole}
-use Rattle.cpp_direct.specs.Symbol.{detail_by, mangled_by, symbol_by}
+use Rattle.cpp_direct.specs.WriterInvariant.{IsShown}
+use Rattle.cpp_direct.specs.Symbol.{Symbol, detail_by, mangled_by, symbol_as, symbol_by}
 
 -- what a symbol stands for is answered by its text, if that is short enough
 answer_by : (wide : Bool) (d : Detail) (s text : List ℕ) (t : Term) (limit : ℕ) → StandsFor (mangled_by wide) s (Ok t)
@@ -16,10 +19,27 @@ answer_by : (wide : Bool) (d : Detail) (s text : List ℕ) (t : Term) (limit : �
 answer_by true d s text t limit stands is = shaped stands.0 stands.1 stands.2 (is ∙ ap (λ r. answer_of_symbol wide_mangled d limit r) stands.3)
 answer_by false d s text t limit stands is = shaped stands.0 stands.1 stands.2 (is ∙ ap (λ r. answer_of_symbol cpp_mangled d limit r) stands.3)
 
--- the text of a whole symbol that is short enough is its answer
-pub whole_answer : (wide bare : Bool) (s text : List ℕ) (limit most : ℕ) → IsWhole (symbol_by wide bare s) text → length text ≤ most → most ≤ limit / 4
-    → IsAnswer (mangled_by wide) (detail_by bare) s limit (Ok text)
-whole_answer wide bare s text limit most whole within short =
-    let parts = shown (detail_by bare) (root_item whole.whole) in
-    answer_by wide (detail_by bare) s text whole.whole limit whole.stands
-    (sym (text_within-ok limit parts text (sym whole.text_is) (omega (arith, whole.cost, within, short))))
+-- what shows a symbol is its answer if it is short enough
+answer_shown : (wide bare brief : Bool) (s text : List ℕ) (limit most : ℕ) → IsShown (symbol_by wide bare brief s) most text → most ≤ limit / 4
+    → IsAnswer (mangled_by wide) (detail_by bare brief) s limit (Ok text)
+answer_shown wide bare brief s text limit most p short =
+    let parts = shown (detail_by bare brief) (root_item p.whole) in
+    answer_by wide (detail_by bare brief) s text p.whole limit p.stands
+    (sym (text_within-ok limit parts text (sym p.text_is) (omega (arith, p.cost, short))))
+
+-- the same by how much is shown
+pub shown_answer : (wide : Bool) (d : Detail) (s text : List ℕ) (limit most : ℕ) → IsShown (symbol_as wide d s) most text → most ≤ limit / 4
+    → IsAnswer (mangled_by wide) d s limit (Ok text)
+shown_answer wide Full s text limit most p short = answer_shown wide false false s text limit most p short
+shown_answer wide Brief s text limit most p short = answer_shown wide false true s text limit most p short
+shown_answer wide NoParameters s text limit most p short = answer_shown wide true false s text limit most p short
+shown_answer wide BriefNoParameters s text limit most p short = answer_shown wide true true s text limit most p short
+
+-- it may cost more
+pub shown_within : (s : Symbol) (few most : ℕ) (text : List ℕ) → IsShown s few text → few ≤ most → IsShown s most text
+shown_within s few most text p less = record { whole = p.whole; stands = p.stands; text_is = p.text_is; cost = omega (arith, p.cost, less) }
+
+pub shown_within-some : {T : Type 0} (r : Option T) (s : Symbol) (few most : ℕ) (text : List ℕ) → OnSome r (IsShown s few text) → few ≤ most
+    → OnSome r (IsShown s most text)
+shown_within-some None s few most text p less = tt
+shown_within-some (Some x) s few most text p less = shown_within s few most text p less

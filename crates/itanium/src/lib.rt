@@ -14,7 +14,7 @@ pub use cpp_layout::{
 };
 pub use demangling::{demangle, demangle_as, read, read_fed};
 pub use grammar::{Abi, Wide};
-pub use short_way::write_names;
+pub use short_way::write_less;
 pub use sym_core::Counts;
 pub use sym_demangle::{each_has_an_answer, each_refusal_has_a_reason, one_answer, read_answers};
 pub use sym_shape::Reader;

@@ -156,7 +156,7 @@ impl Mangling for Abi {
         requires { FitsSymbol symbol.now }
         ensures { result ≡ true → IsAnswer details.Full symbol.now limit (Ok direct.new.text.list.items) }
     {
-        write(direct, symbol, limit, false, false)
+        write(direct, symbol, limit, false, Detail::Full)
     }
 
     #[inline(always)]

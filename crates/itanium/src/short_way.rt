@@ -2,16 +2,17 @@
 
 ghost use Rattle.std.specs.Prelude.{◌≡◌, ◌≤◌, ◌+◌, ◌*◌, length, true, false, Ok};
 ghost use Rattle.sym_core.specs.Number.{FitsSymbol};
-ghost use Rattle.sym_print.specs.declared.detail.Detail.TheVariants as details;
 ghost use Rattle.sym_demangle.specs.Mangled.{IsAnswer};
-ghost use Rattle.cpp_direct.specs.WriterInvariant.{IsWhole};
-ghost use Rattle.cpp_direct.specs.Symbol.{detail_by, mangled_by, symbol_by};
+ghost use Rattle.cpp_direct.specs.WriterInvariant.{IsShown, IsWhole};
+ghost use Rattle.cpp_direct.specs.Symbol.{mangled_by, symbol_as, symbol_by};
 ghost use Rattle.cpp_direct.specs.MidStep.{IsFresh};
 
-use cpp_direct::{Abi, BareAbi, BareWide, Direct, Grammar, Step, Wide, are_name_bytes};
+use cpp_direct::{Direct, Grammar, Shown, Step, are_name_bytes};
+use sym_print::Detail;
 
-/// The longest symbol that is written so, in bytes: the lists stay small, and real symbols are shorter.
-const LONGEST: usize = 4_096;
+/// The longest symbol that is written so, in bytes: with its lists, which take some 70 bytes for each at most, a thread keeps 5 MB. The
+/// filter has no longer words.
+const LONGEST: usize = 65_536;
 
 /// The most bytes of text that are written for each byte of a symbol, and those that are written anyway. Of 725,558 real symbols 70
 /// have longer texts.
@@ -22,19 +23,19 @@ const BYTES_ANYWAY: usize = 1_024;
 /// The most steps that are taken for each byte of a symbol: each reads a byte, or ends what was read.
 const ROUNDS_A_BYTE: usize = 8;
 
-/// Writes the text of a symbol, by the wide grammar or by the default, in full or with functions by their names alone, if the symbol is
-/// one that can be read so and the text costs at most a limit, and answers whether it did. Where it didn't, nothing is known of the
-/// symbol.
+/// Writes the text of a symbol, by the wide grammar or by the default, as much of it as is asked for, if the symbol is one that can be
+/// read so and the text costs at most a limit, and answers whether it did. Where it didn't, nothing is known of the symbol.
 ///
 /// Whatever is answered, at most eight bytes for each of the symbol's and a kilobyte are written, at most eight steps for each
 /// byte are taken, and no list has more entries than the symbol has bytes: no list has room for more. Text and candidates only
 /// grow, up to the end of a function: of an instance of a function template what was written up to its return type is taken away,
-/// and of one that is shown by its name what was written after that.
+/// and of one that is shown by its name what was written after that. Arguments that aren't shown are written, too, and left out
+/// at the end.
 // at each call, which knows what is written and mostly the grammar, so that the others' steps aren't there
 #[inline(always)]
-pub fn write(direct: &mut Direct, s: &[u8], limit: u32, is_wide: bool, is_bare: bool) -> bool
+pub fn write(direct: &mut Direct, s: &[u8], limit: u32, is_wide: bool, detail: Detail) -> bool
     requires { FitsSymbol s.now }
-    ensures answer { result ≡ true → IsAnswer (mangled_by is_wide) (detail_by is_bare) s.now limit (Ok direct.new.text.list.items) }
+    ensures answer { result ≡ true → IsAnswer (mangled_by is_wide) detail s.now limit (Ok direct.new.text.list.items) }
     ensures bytes { length direct.new.text.list.items ≤ 8 * length s.now + 1024 }
     ensures candidates { length direct.new.candidates.list.items ≤ length s.now }
     ensures waiting { length direct.new.waiting.list.items ≤ length s.now }
@@ -44,7 +45,7 @@ pub fn write(direct: &mut Direct, s: &[u8], limit: u32, is_wide: bool, is_bare: 
     let most = bytes.min(limit as usize / 4) as u32;
     direct.restart(s, most);
     let mut rounds = 0;
-    if run_by(direct, s, most, is_wide, is_bare, &mut rounds) {
+    if run_by(direct, s, most, is_wide, detail, &mut rounds) {
         direct.forget(rounds);
         return true;
     }
@@ -53,13 +54,13 @@ pub fn write(direct: &mut Direct, s: &[u8], limit: u32, is_wide: bool, is_bare: 
     false
 }
 
-/// Writes the text of a symbol without parameters, as `write` does.
+/// Writes the text of a symbol of which less is shown than all of it, as `write` does.
 #[inline(never)]
-pub fn write_names(direct: &mut Direct, s: &[u8], limit: u32, is_wide: bool) -> bool
+pub fn write_less(direct: &mut Direct, s: &[u8], limit: u32, is_wide: bool, detail: Detail) -> bool
     requires { FitsSymbol s.now }
-    ensures { result ≡ true → IsAnswer (mangled_by is_wide) details.NoParameters s.now limit (Ok direct.new.text.list.items) }
+    ensures { result ≡ true → IsAnswer (mangled_by is_wide) detail s.now limit (Ok direct.new.text.list.items) }
 {
-    write(direct, s, limit, is_wide, true)
+    write(direct, s, limit, is_wide, detail)
 }
 
 /// Takes steps up to the end of a symbol, and counts them.
@@ -69,60 +70,52 @@ fn run_by(
     s: &[u8],
     most: u32,
     is_wide: bool,
-    is_bare: bool,
+    detail: Detail,
     rounds: &mut usize,
 ) -> bool
     requires fits { FitsSymbol s.now }
     requires fresh { IsFresh direct.old }
     requires none { rounds.old ≡ 0 }
-    ensures whole { result ≡ true → IsWhole (symbol_by is_wide is_bare s.now) direct.new.text.list.items }
-    ensures within { result ≡ true → length direct.new.text.list.items ≤ most }
-    ensures rounds { rounds.new ≤ 8 * length s.now }
-{
-    if is_bare {
-        return run_bare(direct, s, most, is_wide, rounds);
-    }
-    run_whole(direct, s, most, is_wide, rounds)
-}
-
-/// The same by the wide grammar or by that of the ABI, in full.
-#[inline(always)]
-fn run_whole(direct: &mut Direct, s: &[u8], most: u32, is_wide: bool, rounds: &mut usize) -> bool
-    requires fits { FitsSymbol s.now }
-    requires fresh { IsFresh direct.old }
-    requires none { rounds.old ≡ 0 }
-    ensures whole { result ≡ true → IsWhole (symbol_by is_wide false s.now) direct.new.text.list.items }
+    ensures shown { result ≡ true → IsShown (symbol_as is_wide detail s.now) most direct.new.text.list.items }
     ensures within { result ≡ true → length direct.new.text.list.items ≤ most }
     ensures rounds { rounds.new ≤ 8 * length s.now }
 {
     if is_wide {
-        return run::<Wide>(direct, s, most, rounds);
+        return run_as::<true>(direct, s, most, detail, rounds);
     }
-    run::<Abi>(direct, s, most, rounds)
+    run_as::<false>(direct, s, most, detail, rounds)
 }
 
-/// The same with functions by their names alone.
+/// The same by the wide grammar or by that of the ABI.
 #[inline(always)]
-fn run_bare(direct: &mut Direct, s: &[u8], most: u32, is_wide: bool, rounds: &mut usize) -> bool
+fn run_as<const WIDE: bool>(
+    direct: &mut Direct,
+    s: &[u8],
+    most: u32,
+    detail: Detail,
+    rounds: &mut usize,
+) -> bool
     requires fits { FitsSymbol s.now }
     requires fresh { IsFresh direct.old }
     requires none { rounds.old ≡ 0 }
-    ensures whole { result ≡ true → IsWhole (symbol_by is_wide true s.now) direct.new.text.list.items }
+    ensures shown { result ≡ true → IsShown (symbol_as WIDE detail s.now) most direct.new.text.list.items }
     ensures within { result ≡ true → length direct.new.text.list.items ≤ most }
     ensures rounds { rounds.new ≤ 8 * length s.now }
 {
-    if is_wide {
-        return run::<BareWide>(direct, s, most, rounds);
+    match detail {
+        Detail::Full => run::<Shown<WIDE, false, false>>(direct, s, most, rounds),
+        Detail::NoParameters => run::<Shown<WIDE, true, false>>(direct, s, most, rounds),
+        Detail::Brief => run::<Shown<WIDE, false, true>>(direct, s, most, rounds),
+        Detail::BriefNoParameters => run::<Shown<WIDE, true, true>>(direct, s, most, rounds),
     }
-    run::<BareAbi>(direct, s, most, rounds)
 }
 
-/// Takes steps up to the end of a symbol by a grammar, and counts them. Its text has at most so many bytes.
+/// Takes steps up to the end of a symbol by a grammar, and counts them. So many bytes at most are written.
 fn run<G: Grammar>(direct: &mut Direct, s: &[u8], most: u32, rounds: &mut usize) -> bool
     requires fits { FitsSymbol s.now }
     requires fresh { IsFresh direct.old }
     requires none { rounds.old ≡ 0 }
-    ensures whole { result ≡ true → IsWhole (symbol_by G.IS_WIDE G.IS_BARE s.now) direct.new.text.list.items }
+    ensures shown { result ≡ true → IsShown (symbol_by G.IS_WIDE G.IS_BARE G.IS_BRIEF s.now) most direct.new.text.list.items }
     ensures within { result ≡ true → length direct.new.text.list.items ≤ most }
     ensures rounds { rounds.new ≤ 8 * length s.now }
 {
@@ -137,7 +130,7 @@ fn run<G: Grammar>(direct: &mut Direct, s: &[u8], most: u32, rounds: &mut usize)
     'steps: while *rounds < last {
         *rounds += 1;
         if let Step::Ended = step {
-            return direct.text().len() <= most as usize;
+            return end::<G>(direct, s, most);
         }
         match direct.take::<G>(s, step) {
             Some(next) => step = next,
@@ -145,4 +138,20 @@ fn run<G: Grammar>(direct: &mut Direct, s: &[u8], most: u32, rounds: &mut usize)
         }
     }
     false
+}
+
+/// Leaves what is shown of what was written of a symbol, if at most so many bytes were.
+#[inline(always)]
+fn end<G: Grammar>(direct: &mut Direct, s: &[u8], most: u32) -> bool
+    requires { IsWhole (symbol_by G.IS_WIDE G.IS_BARE G.IS_BRIEF s.now) direct.old.text.list.items }
+    ensures shown { result ≡ true → IsShown (symbol_by G.IS_WIDE G.IS_BARE G.IS_BRIEF s.now) most direct.new.text.list.items }
+    ensures within { result ≡ true → length direct.new.text.list.items ≤ most }
+{
+    if direct.text().len() > most as usize {
+        return false;
+    }
+    match direct.show::<G>(s) {
+        Some(()) => true,
+        None => false,
+    }
 }

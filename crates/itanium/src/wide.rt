@@ -122,7 +122,7 @@ impl Mangling for Wide {
         requires { FitsSymbol symbol.now }
         ensures { result ≡ true → IsAnswer wide_mangled details.Full symbol.now limit (Ok direct.new.text.list.items) }
     {
-        write(direct, symbol, limit, true, false)
+        write(direct, symbol, limit, true, Detail::Full)
     }
 
     #[inline(always)]

@@ -1,7 +1,7 @@
 // A symbol that was read by the wide grammar.
 #![tactic(auto)]
 
-ghost use Rattle.std.specs.Prelude.{◌≡◌, ◌+◌, ◌*◌, ◌<◌, ◌≤◌, [], length, slice_get, vec_len, vec_capacity, Some, Err, IfOk, IfErr, OnOk, ◌⊎◌};
+ghost use Rattle.std.specs.Prelude.{◌≡◌, ◌+◌, ◌*◌, ◌<◌, ◌≤◌, [], length, slice_get, vec_len, vec_capacity, Some, true, Err, IfOk, IfErr, OnOk, ◌⊎◌};
 ghost use Rattle.std.specs.List.{All};
 ghost use Rattle.sym_core.specs.declared.Refusal.{Refusal};
 ghost use Rattle.sym_print.specs.declared.layout.Part.{Part};
@@ -186,6 +186,20 @@ impl Layout for WideSymbol {
         ensures capacity { vec_capacity stack.new ≡ vec_capacity stack.old }
     {
         self.symbol.push_parts(item, stack);
+    }
+
+    #[inline(always)]
+    fn is_noted(&self, item: Item<Context>) -> bool
+        requires may_come { MayBeAsked self.now (Part.Sub item) }
+    {
+        self.symbol.is_noted(item)
+    }
+
+    #[inline(always)]
+    fn is_same(&self, one: &Item<Context>, other: &Item<Context>) -> bool
+        ensures { result ≡ true → one.now ≡ other.now }
+    {
+        self.symbol.is_same(one, other)
     }
 
     #[inline(always)]

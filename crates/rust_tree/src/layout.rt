@@ -1,7 +1,7 @@
 // A symbol as a layout, and its text.
 #![tactic(auto)]
 
-ghost use Rattle.std.specs.Prelude.{◌≡◌, ◌+◌, ◌<◌, ◌≤◌, [], vec_len, vec_capacity, IfOk, IfErr, OnOk, ◌⊎◌, Err};
+ghost use Rattle.std.specs.Prelude.{◌≡◌, ◌+◌, ◌<◌, ◌≤◌, [], true, vec_len, vec_capacity, IfOk, IfErr, OnOk, ◌⊎◌, Err};
 ghost use Rattle.std.specs.List.{All};
 ghost use Rattle.sym_core.specs.declared.Refusal.{Refusal};
 ghost use Rattle.sym_print.specs.declared.layout.Part.{Part};
@@ -50,6 +50,21 @@ impl Layout for Symbol {
         ensures capacity { vec_capacity stack.new ≡ vec_capacity stack.old }
     {
         self.add_parts(stack, item);
+    }
+
+    /// Nothing is: a part of a Rust symbol that comes again is mostly short.
+    #[inline(always)]
+    fn is_noted(&self, _item: Item<Context>) -> bool
+        requires may_come { MayCome self.now (Part.Sub _item) }
+    {
+        false
+    }
+
+    #[inline(always)]
+    fn is_same(&self, _one: &Item<Context>, _other: &Item<Context>) -> bool
+        ensures { result ≡ true → _one.now ≡ _other.now }
+    {
+        false
     }
 
     #[inline(always)]

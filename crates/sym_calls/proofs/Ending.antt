@@ -12,14 +12,13 @@ use Rattle.sym_demangle.proofs.Answering.{is_answer}
 use Rattle.sym_filter.specs.Demangled.{IsAppended}
 use Rattle.sym_filter.specs.declared.kinds.Kind.{Kind}
 use Rattle.sym_filter.specs.Kinds.{symbol_of}
-use Rattle.rust_legacy.specs.Text.{legacy_answer}
-use Rattle.sym_languages.specs.Languages.{answer_of, language_answer_by, wide_answer_of, legacy_answer_of, legacy_wide_answer_of, pressed_of, AreCountsOf, AreWideCountsOf}
+use Rattle.sym_languages.specs.Languages.{answer_of, answers_by, cpp_by, wide_answer_of, pressed_of, AreCountsOf, AreWideCountsOf}
 use Rattle.sym_filter.specs.Runs.{Answering, filtered_at, tally_at}
 use Rattle.sym_calls.specs.declared.counting.SymbolCounts.{SymbolCounts}
 use Rattle.sym_calls.specs.declared.flags.Asked.{Asked}
 use Rattle.sym_calls.specs.declared.filtering.TextTally.{TextTally}
 use Rattle.sym_calls.specs.declared.outcome.Outcome.{Outcome}
-use Rattle.sym_calls.specs.Calls.{CountingEndsAs, CountingEndsBy, Ending, EndsAs, IsCounted, IsTallied, IsTextWritten, NameCounted, Tallied, answered, answers_at, answers_by, filter_told, ending_of, named, name_told, numbers_of, press_told, refused, status_alone, text_told, told_of, written}
+use Rattle.sym_calls.specs.Calls.{CountingEndsAs, CountingEndsBy, Ending, EndsAs, IsCounted, IsTallied, IsTextWritten, NameCounted, Tallied, answered, answers_at, filter_told, ending_of, named, name_told, numbers_of, press_told, refused, status_alone, text_told, told_of, written}
 
 -- what follows so many bytes, as a slice
 pub rest-of : (at : ℕ) (bytes : List ℕ) → take (length bytes - at) (drop at bytes) ≡ drop at bytes
@@ -152,42 +151,17 @@ counting-ends option asked kind name wide old new found is same known ends =
 pub no-filter-ends : (bytes buffer : List ℕ) (found : Ending) → found ≡ status_alone 5 buffer → EndsAs (written bytes buffer) buffer found
 no-filter-ends bytes buffer found told = inr (written-low bytes buffer, told)
 
--- what is answered at a limit and a detail that are those asked for
-by-choice : {A : Type 0} → (P : Answering → A → Type 0) (answers : Answering) (choice : ℕ → Detail → Answering) (asked : Asked) (limit of_languages : ℕ) (detail : Detail) (found : A)
-    → answers ≡ choice limit asked.detail → of_languages ≡ limit → detail ≡ asked.detail → P (choice of_languages detail) found → P answers found
-by-choice P answers choice asked limit of_languages detail found is same_limit same_detail given =
-    subst (λ a. P a found) (sym is)
-    (subst (λ n. P (choice n asked.detail) found) same_limit (subst (λ d. P (choice of_languages d) found) same_detail given))
+-- what is answered at a limit and a detail that are those asked for, where it is known whether legacy Rust names are paths
+pub by-legacy : {A W : Type 0} → (P : Answering → A → Type 0) (cpp : Mangled W) (asked : Asked) (legacy : Bool) (limit of_languages : ℕ) (detail : Detail) (found : A) → asked.legacy ≡ legacy → of_languages ≡ limit → detail ≡ asked.detail
+    → P (answers_by cpp legacy of_languages detail) found → P (answers_by cpp asked.legacy limit asked.detail) found
+by-legacy P cpp asked legacy limit of_languages detail found is same_limit same_detail given =
+    subst (λ b. P (answers_by cpp b limit asked.detail) found) (sym is)
+    (subst (λ n. P (answers_by cpp legacy n asked.detail) found) same_limit (subst (λ d. P (answers_by cpp legacy of_languages d) found) same_detail given))
 
--- with a grammar of C++, where legacy Rust names are paths and where they aren't
-pub by-legacy : {A W : Type 0} → (P : Answering → A → Type 0) (cpp : Mangled W) (asked : Asked) (limit of_languages : ℕ) (detail : Detail) (found : A) → asked.legacy ≡ true → of_languages ≡ limit → detail ≡ asked.detail
-    → P (λ kind symbol. legacy_answer of_languages symbol (language_answer_by cpp of_languages detail kind.lang symbol)) found → P (answers_by cpp asked limit) found
-by-legacy P cpp asked limit of_languages detail found legacy =
-    let paths : ℕ → Detail → Answering = λ n d kind symbol. legacy_answer n symbol (language_answer_by cpp n d kind.lang symbol) in
-    let others : Answering = λ kind symbol. language_answer_by cpp limit asked.detail kind.lang symbol in
-    by-choice P (answers_by cpp asked limit) paths asked limit of_languages detail found (ap (λ (b : Bool). cond b (paths limit asked.detail) others) legacy)
-
-pub by-languages : {A W : Type 0} → (P : Answering → A → Type 0) (cpp : Mangled W) (asked : Asked) (limit of_languages : ℕ) (detail : Detail) (found : A) → asked.legacy ≡ false → of_languages ≡ limit → detail ≡ asked.detail
-    → P (λ kind symbol. language_answer_by cpp of_languages detail kind.lang symbol) found → P (answers_by cpp asked limit) found
-by-languages P cpp asked limit of_languages detail found not_legacy =
-    let paths : Answering = λ kind symbol. legacy_answer limit symbol (language_answer_by cpp limit asked.detail kind.lang symbol) in
-    let others : ℕ → Detail → Answering = λ n d kind symbol. language_answer_by cpp n d kind.lang symbol in
-    by-choice P (answers_by cpp asked limit) others asked limit of_languages detail found (ap (λ (b : Bool). cond b paths (others limit asked.detail)) not_legacy)
-
--- with each grammar
-by-width : {A : Type 0} → (P : Answering → A → Type 0) (asked : Asked) (wide : Bool) (limit : ℕ) (found : A) → asked.wide ≡ wide
-    → P (cond asked.legacy (cond wide (legacy_wide_answer_of limit asked.detail) (legacy_answer_of limit asked.detail)) (cond wide (wide_answer_of limit asked.detail) (answer_of limit asked.detail))) found
-    → P (answers_at asked limit) found
-by-width P asked wide limit found is given =
-    subst (λ b. P (cond asked.legacy (cond b (legacy_wide_answer_of limit asked.detail) (legacy_answer_of limit asked.detail)) (cond b (wide_answer_of limit asked.detail) (answer_of limit asked.detail))) found) (sym is) given
-
-pub by-wide : {A : Type 0} → (P : Answering → A → Type 0) (asked : Asked) (limit : ℕ) (found : A) → asked.wide ≡ true
-    → P (cond asked.legacy (legacy_wide_answer_of limit asked.detail) (wide_answer_of limit asked.detail)) found → P (answers_at asked limit) found
-by-wide P asked limit found is given = by-width P asked true limit found is given
-
-pub by-abi : {A : Type 0} → (P : Answering → A → Type 0) (asked : Asked) (limit : ℕ) (found : A) → asked.wide ≡ false
-    → P (cond asked.legacy (legacy_answer_of limit asked.detail) (answer_of limit asked.detail)) found → P (answers_at asked limit) found
-by-abi P asked limit found is given = by-width P asked false limit found is given
+-- where it is known which grammar reads C++
+pub by-width : {A : Type 0} → (P : Answering → A → Type 0) (asked : Asked) (wide : Bool) (limit : ℕ) (found : A) → asked.wide ≡ wide
+    → P (answers_by (cpp_by wide) asked.legacy limit asked.detail) found → P (answers_at asked limit) found
+by-width P asked wide limit found is given = subst (λ b. P (answers_by (cpp_by b) asked.legacy limit asked.detail) found) (sym is) given
 
 -- a symbol that isn't read
 pub refusal-counts : (refusal : Refusal) (answer : Result (List ℕ) Refusal) (are_counts : Counts → Type 0) (skip : ℕ) (counts : SymbolCounts) (found : Ending)

@@ -9,9 +9,7 @@ use Rattle.sym_filter.specs.declared.kinds.Kind.{Kind}
 use Rattle.sym_filter.specs.declared.kinds.Letters.{Letters}
 use Rattle.sym_filter.specs.declared.words.Tally.{Tally}
 use Rattle.sym_filter.specs.Kinds.{kind_by_beginning, symbol_of}
-use Rattle.sym_demangle.specs.Mangled.{Mangled}
-use Rattle.rust_legacy.specs.Text.{legacy_answer}
-use Rattle.sym_languages.specs.Languages.{answer_of, language_answer_by, wide_answer_of, legacy_answer_of, legacy_wide_answer_of, AreCountsOf, AreWideCountsOf, pressed_of}
+use Rattle.sym_languages.specs.Languages.{answer_of, answers_by, cpp_by, wide_answer_of, AreCountsOf, AreWideCountsOf, pressed_of}
 use Rattle.sym_filter.specs.Runs.{Answering, filtered_at, tally_at}
 use Rattle.sym_calls.specs.declared.flags.Asked.{Asked}
 use Rattle.sym_calls.specs.declared.outcome.Outcome.{Outcome}
@@ -41,15 +39,7 @@ asked_of flags =
 
 -- what is answered for symbols then
 abbrev pub answers_at : Asked → (limit : ℕ) → Answering
-answers_at asked limit =
-    if asked.legacy then (if asked.wide then legacy_wide_answer_of limit asked.detail else legacy_answer_of limit asked.detail)
-    else (if asked.wide then wide_answer_of limit asked.detail else answer_of limit asked.detail)
-
--- with a grammar of C++
-abbrev pub answers_by : {W : Type 0} → Mangled W → Asked → (limit : ℕ) → Answering
-answers_by cpp asked limit =
-    if asked.legacy then (λ kind symbol. legacy_answer limit symbol (language_answer_by cpp limit asked.detail kind.lang symbol))
-    else (λ kind symbol. language_answer_by cpp limit asked.detail kind.lang symbol)
+answers_at asked limit = answers_by (cpp_by asked.wide) asked.legacy limit asked.detail
 
 -- The kind of a name whose symbol is read, by how it begins; or the status of one that names none (11), also where there is an
 -- underscore before its symbol that isn't asked for, or whose symbol has too many bytes (7).

@@ -1,7 +1,8 @@
 // A text with the texts of all symbols in it.
 ghost use Rattle.std.specs.Prelude.{◌≡◌};
 ghost use Rattle.sym_filter.specs.Runs.{filtered_at, tally_at};
-ghost use Rattle.sym_calls.specs.Calls.{EndsAs, IsTallied, Tallied, answers_by, asked_of, ending_of, filter_told, written};
+ghost use Rattle.sym_languages.specs.Languages.{answers_by};
+ghost use Rattle.sym_calls.specs.Calls.{EndsAs, IsTallied, Tallied, asked_of, ending_of, filter_told, written};
 
 use crate::flags::{Asked, asked_of};
 use crate::outcome::{FLAGS, OK, Outcome, alone, no_memory, write};
@@ -63,8 +64,8 @@ fn filter_in<C: Cpp>(
     buffer: &mut [u8],
     tally: &mut TextTally,
 ) -> Outcome
-    ensures ending { EndsAs (written (filtered_at asked.letters (answers_by C.mangled asked limit) text.now) buffer.old) buffer.old (ending_of result buffer.new) }
-    ensures tally { Tallied (tally_at asked.letters (answers_by C.mangled asked limit) text.now) tally.old tally.new result.status }
+    ensures ending { EndsAs (written (filtered_at asked.letters (answers_by C.mangled asked.legacy limit asked.detail) text.now) buffer.old) buffer.old (ending_of result buffer.new) }
+    ensures tally { Tallied (tally_at asked.letters (answers_by C.mangled asked.legacy limit asked.detail) text.now) tally.old tally.new result.status }
 {
     if asked.legacy {
         let legacy = asked.with_legacy(limit, cpp);

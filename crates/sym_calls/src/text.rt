@@ -2,10 +2,10 @@
 ghost use Rattle.std.specs.Prelude.{◌≡◌, None};
 ghost use Rattle.std.specs.Option.{IfSome};
 ghost use Rattle.sym_core.specs.Number.{FitsSymbol};
-ghost use Rattle.sym_print.specs.declared.detail.Detail.TheVariants.{Full, NoParameters};
+ghost use Rattle.sym_print.specs.declared.detail.Detail.TheVariants.{Full};
 ghost use Rattle.sym_demangle.specs.Mangled.{answer};
-ghost use Rattle.sym_languages.specs.Languages.{language_answer_by};
-ghost use Rattle.sym_calls.specs.Calls.{EndsAs, IsTextWritten, answered, answers_by, asked_of, ending_of, name_told, press_told, text_told};
+ghost use Rattle.sym_languages.specs.Languages.{answers_by, language_answer_by};
+ghost use Rattle.sym_calls.specs.Calls.{EndsAs, IsTextWritten, answered, asked_of, ending_of, name_told, press_told, text_told};
 
 use crate::flags::{Asked, asked_of};
 use crate::outcome::{FLAGS, Outcome, alone, no_memory, of_refusal, write};
@@ -99,26 +99,27 @@ fn write_short<M: Mangling>(
     Some(write(M::text(&direct), buffer))
 }
 
-/// The same of a C++ symbol without parameters.
-fn write_names<C: Cpp>(
+/// The same of a C++ symbol of which less is shown than all of it.
+fn write_less<C: Cpp>(
     alloc: Global,
     symbol: &[u8],
     limit: u32,
+    detail: Detail,
     buffer: &mut [u8],
 ) -> Option<Outcome>
     requires { FitsSymbol symbol.now }
-    ensures told { IfSome result (λ outcome. IsTextWritten (answer C.mangled NoParameters symbol.now limit) buffer.old (ending_of outcome buffer.new)) }
+    ensures told { IfSome result (λ outcome. IsTextWritten (answer C.mangled detail symbol.now limit) buffer.old (ending_of outcome buffer.new)) }
     ensures same { result ≡ None → buffer.new ≡ buffer.old }
 {
     let mut direct = C::direct(alloc);
-    if !C::write_names(&mut direct, symbol, limit) {
+    if !C::write_less(&mut direct, symbol, limit, detail) {
         return None;
     }
     Some(write(C::text(&direct), buffer))
 }
 
-/// The same in its language, where a short way writes what is asked for: a C++ symbol in full or without parameters, or a Rust symbol
-/// with its arguments, since it has no parameters.
+/// The same in its language, where a short way writes what is asked for: a C++ symbol, or a Rust symbol with its arguments, since it
+/// has no parameters.
 fn short_once<C: Cpp>(
     alloc: Global,
     languages: &Languages<C>,
@@ -133,8 +134,7 @@ fn short_once<C: Cpp>(
     match kind.lang {
         Lang::Cpp => match languages.detail {
             Detail::Full => write_short::<C>(alloc, symbol, languages.limit, buffer),
-            Detail::NoParameters => write_names::<C>(alloc, symbol, languages.limit, buffer),
-            _ => None,
+            _ => write_less::<C>(alloc, symbol, languages.limit, languages.detail, buffer),
         },
         Lang::Rust => {
             if !languages.detail.has_arguments() {
@@ -198,7 +198,7 @@ fn text_in<C: Cpp>(
     name: &[u8],
     buffer: &mut [u8],
 ) -> Outcome
-    ensures { EndsAs (name_told (answers_by C.mangled asked limit) asked name.now buffer.old) buffer.old (ending_of result buffer.new) }
+    ensures { EndsAs (name_told (answers_by C.mangled asked.legacy limit asked.detail) asked name.now buffer.old) buffer.old (ending_of result buffer.new) }
 {
     if asked.legacy {
         return name_by(alloc, &asked.with_legacy(limit, cpp), asked, name, buffer);

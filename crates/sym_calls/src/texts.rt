@@ -1,6 +1,7 @@
 // The texts of many names, with one set of lists for all of them.
 ghost use Rattle.std.specs.Prelude.{◌≡◌, ◌≤◌, length, true};
-ghost use Rattle.sym_calls.specs.Calls.{answers_by, asked_of};
+ghost use Rattle.sym_languages.specs.Languages.{answers_by};
+ghost use Rattle.sym_calls.specs.Calls.{asked_of};
 ghost use Rattle.sym_calls.specs.Texts.{AreTold, IsTold, TextsEndAs, are_ends, placed};
 
 use crate::flags::{Asked, asked_of};
@@ -100,7 +101,7 @@ fn tell_in<C: Cpp>(
 ) -> u32
     requires ends { are_ends 0 (length names.now) ends.now ≡ true }
     requires outcomes { length outcomes.old ≡ length ends.now }
-    ensures told { AreTold (answers_by C.mangled asked limit) asked names.now 0 ends.now buffer.old buffer.new outcomes.new }
+    ensures told { AreTold (answers_by C.mangled asked.legacy limit asked.detail) asked names.now 0 ends.now buffer.old buffer.new outcomes.new }
     ensures status { result ≡ 0 }
 {
     if asked.legacy {

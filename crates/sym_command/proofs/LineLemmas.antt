@@ -10,6 +10,7 @@ use Rattle.sym_core.specs.declared.refusal.Refusal.{Refusal}
 use Rattle.sym_filter.specs.declared.kinds.Kind.{Kind}
 use Rattle.sym_filter.specs.Kinds.{kind_of, symbol_of}
 use Rattle.sym_filter.specs.Runs.{Answering, is_read, text_for}
+use Rattle.sym_filter.specs.Streams.{BeginsWith}
 use Rattle.sym_core.specs.declared.refusal.Refusal.TheVariants.{Malformed, BadReference, BadValue, TooLong, Memory}
 use Rattle.sym_core.specs.declared.counts.Counts.{Counts}
 use Rattle.sym_command.specs.Lines.{answer_for, is_read_word, line_of, counts_text, complaint_about, complaint_of, status_of, Counting, AreCountsFor, IsCountsLine, IsBehindLine, AreLines}
@@ -21,6 +22,10 @@ answer_for-named answers word kind answer h is = rw (h, is) refl
 pub answer_for-unnamed : (answers : Answering) (word : List ℕ) → kind_of word ≡ None → answer_for answers word ≡ None
 unfolding answer_for
 answer_for-unnamed answers word h = rw h refl
+
+-- what was appended to, once and again
+pub begins-then : (first middle last : List ℕ) → BeginsWith middle first → BeginsWith last middle → BeginsWith last first
+begins-then first middle last a b = (a.0 ++ b.0, b.1 ∙ ap (λ (t : List ℕ). t ++ b.0) a.1 ∙ append_assoc first a.0 b.0)
 
 -- the line of a word that has a text
 pub text-line : (answers : Answering) (word out mid new text : List ℕ) → text_for answers word ≡ Some text → mid ≡ out ++ text → new ≡ mid ++ 10 ∷ [] → new ≡ out ++ line_of answers word

@@ -1,7 +1,8 @@
 // Lists that grow up to a bound.
 
-ghost use Rattle.std.specs.Prelude.{◌≡◌, ◌+◌, ◌-◌, ◌≤◌, ◌∷◌, ◌++◌, ◌<◌, ◌^◌, [], length, take, drop, slice_set, vec_capacity};
-ghost use Rattle.std.specs.Option.{OnSome, option_to_list};
+ghost use Rattle.std.specs.Prelude.{ℕ, get_or, ◌≡◌, ◌+◌, ◌-◌, ◌≤◌, ◌∷◌, ◌++◌, ◌<◌, ◌^◌, [], length, take, drop, slice_set, vec_capacity};
+ghost use Rattle.std.specs.Option.{OnSome, IfSome, option_to_list};
+ghost use Rattle.sym_direct.specs.Marked.{visible, HasNoZero};
 
 use std::alloc::Global;
 
@@ -10,6 +11,12 @@ use std::alloc::Global;
 const ENTRIES_AT_ONCE: usize = 16;
 
 const BYTES_AT_ONCE: usize = 128;
+
+/// The mark before what is to be left out of a text.
+pub const OPENS: u8 = 1;
+
+/// The mark after it.
+pub const CLOSES: u8 = 2;
 
 /// A list that has at most so many entries at any time.
 #[derive(Drop)]
@@ -158,6 +165,18 @@ impl Bounded<u8> {
         copy_to_end(&mut self.list, from, to)
     }
 
+    /// Leaves out what is between marks, and the marks. Bytes with a 0 among them are given up.
+    pub fn leave_out_marked(&mut self) -> Option<()>
+        ensures items { OnSome result (self.new.list.items ≡ visible 0 self.old.list.items) }
+        ensures plain { OnSome result (HasNoZero self.new.list.items) }
+        ensures most { length self.new.list.items ≤ length self.old.list.items }
+        ensures room { self.new.room ≡ self.old.room }
+    {
+        let kept = close_up(&mut self.list)?;
+        self.list.truncate(kept);
+        Some(())
+    }
+
     /// Takes its first bytes away.
     // `rotate_left` would clear kilobytes of the stack for the bytes that go to the end.
     pub fn drop_first(&mut self, count: usize)
@@ -185,4 +204,45 @@ fn copy_to_end(bytes: &mut Vec<u8>, from: usize, to: usize) -> Option<()>
     let (written, copied) = bytes.split_at_mut(end);
     copied.copy_from_slice(&written[from..to]);
     Some(())
+}
+
+/// How many bytes are before the first that is a mark or 0.
+fn front_size(bytes: &[u8]) -> usize
+    ensures within { result ≤ length bytes.now }
+    ensures each { (k : ℕ) → k < result → 2 < get_or bytes.now k 0 }
+{
+    let mut at = 0;
+    'front: while at < bytes.len() && bytes[at] > CLOSES {
+        at += 1;
+    }
+    at
+}
+
+/// Moves what isn't between marks to the front, and answers how much it is, unless a 0 is among the bytes.
+fn close_up(bytes: &mut [u8]) -> Option<usize>
+    ensures size { IfSome result (λ kept. kept ≤ length bytes.old) }
+    ensures front { IfSome result (λ kept. take kept bytes.new ≡ visible 0 bytes.old) }
+    ensures plain { IfSome result (λ kept. HasNoZero (take kept bytes.new)) }
+    ensures length { length bytes.new ≡ length bytes.old }
+{
+    let mut at = front_size(bytes);
+    let mut kept = at;
+    let mut depth: usize = 0;
+    'bytes: while at < bytes.len() {
+        let byte = bytes[at];
+        if byte > CLOSES {
+            if depth == 0 {
+                bytes[kept] = byte;
+                kept += 1;
+            }
+        } else if byte == CLOSES {
+            depth = depth.saturating_sub(1);
+        } else if byte == OPENS {
+            depth += 1;
+        } else {
+            return None;
+        }
+        at += 1;
+    }
+    Some(kept)
 }

@@ -5,5 +5,5 @@
 mod bounded;
 mod bytes;
 
-pub use bounded::Bounded;
+pub use bounded::{Bounded, CLOSES, OPENS};
 pub use bytes::byte_at;

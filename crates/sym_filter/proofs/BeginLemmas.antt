@@ -9,7 +9,7 @@ use Rattle.sym_filter.specs.declared.places.Place.{Place}
 use Rattle.sym_filter.specs.Bytes.{is_byte_of}
 use Rattle.sym_filter.specs.Kinds.{kind_of}
 use Rattle.sym_filter.specs.Places.{START, begins_within, from_word, in_stretch, is_divider, may_begin, place_after, with_word}
-use Rattle.sym_filter.specs.Runs.{Answering, answers_at, changed, filtered_at, first_run, fits, is_begun, is_named, later_runs, named_in, named_words, replaced, replaced_at, with_later_runs, within, word_in, word_of, word_or_text, dots_behind}
+use Rattle.sym_filter.specs.Runs.{Answering, answers_at, changed, filtered_at, first_run, fits, is_begun, is_named, later_runs, named_in, named_words, replaced, replaced_at, with_later_runs, within, word_in, word_of, word_or_text, dots_after}
 use Rattle.sym_filter.specs.Words.{named_of, rest_of}
 use Rattle.sym_filter.proofs.PlainLemmas.{may_begin-after}
 use Rattle.sym_filter.proofs.RunLemmas.{kind_of-other, replaced-unnamed, word_of-word}
@@ -61,7 +61,7 @@ first_run-all letters (byte ∷ text) = step (is_byte_of letters byte) refl (fir
     step true h more = and_from _ _ h more
     step false h more = refl
 
--- where words are runs none begins behind a byte of a run
+-- where words are runs none begins after a byte of a run
 closed-after : (letters : Letters) (place : Place) (byte : ℕ) → begins_within letters ≡ false → in_stretch letters byte ≡ true → may_begin letters (place_after letters place byte) ≡ false
 closed-after letters place byte runs h = may_begin-after letters place byte ∙ ap₂ (λ (a b : Bool). not (a && not (b && is_divider byte))) h runs
 
@@ -97,14 +97,14 @@ run-replaced letters answers runs same are (byte ∷ run) h = step (eqb byte 95)
         replaced-unnamed answers (byte ∷ run) (kind_of-other byte run (other_byte byte e))
         ∙ ap (λ (t : List ℕ). byte ∷ t) (sym (closed-stays letters (changed letters answers) (place_after letters START byte) runs same (closed-after letters START byte runs (same byte ∙ parts.0)) run parts.1))
 
-replaced-is : (answers : Answering) (run : List ℕ) → replaced answers run ≡ word_or_text answers (word_of run) ++ dots_behind run
+replaced-is : (answers : Answering) (run : List ℕ) → replaced answers run ≡ word_or_text answers (word_of run) ++ dots_after run
 unfolding replaced
 replaced-is answers run = refl
 
 changed-any : (answers : Answering) (run : List ℕ) → replaced answers run ≡ changed Any answers START run
 changed-any answers run = step (fits (word_of run)) refl
   where
-    step : (b : Bool) → fits (word_of run) ≡ b → replaced answers run ≡ cond b (word_or_text answers (word_of run) ++ dots_behind run) run
+    step : (b : Bool) → fits (word_of run) ≡ b → replaced answers run ≡ cond b (word_or_text answers (word_of run) ++ dots_after run) run
     step true e = replaced-is answers run
     step false e = replaced-unnamed answers run (too_long (word_of run) e)
 

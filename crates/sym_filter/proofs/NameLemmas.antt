@@ -6,33 +6,33 @@ use Rattle.std.proofs.lemmas.List.{drop_more, length-drop}
 use Rattle.std.proofs.Math.Seq.{drop-drop}
 use Rattle.sym_filter.specs.declared.kinds.Letters.TheVariants.{Within}
 use Rattle.sym_filter.specs.declared.places.Place.{Place}
-use Rattle.sym_filter.specs.Marks.{before_mark, behind_front, from_mark, front_length, is_mark}
+use Rattle.sym_filter.specs.Marks.{before_mark, after_front, from_mark, front_length, is_mark}
 use Rattle.sym_filter.specs.Places.{place_after}
 use Rattle.sym_filter.specs.Runs.{word_of}
 use Rattle.sym_filter.proofs.RunLemmas.{is_dot}
 use Rattle.sym_filter.proofs.WordLemmas.{slice_from}
 
 -- what comes after a front
-pub behind-at : (word : List ℕ) (at front : ℕ) → front ≡ front_length (take (length word - at) (drop at word)) → drop (at + front) word ≡ behind_front (drop at word)
-behind-at word at front is = sym (drop-drop front at word) ∙ ap (λ n. drop n (drop at word)) (is ∙ ap front_length (slice_from word at))
+pub after_front-at : (word : List ℕ) (at front : ℕ) → front ≡ front_length (take (length word - at) (drop at word)) → drop (at + front) word ≡ after_front (drop at word)
+after_front-at word at front is = sym (drop-drop front at word) ∙ ap (λ n. drop n (drop at word)) (is ∙ ap front_length (slice_from word at))
 
-mark-at : (place : Place) (word : List ℕ) (at front : ℕ) (b : Bool) → front ≡ front_length (take (length word - at) (drop at word)) → b ≡ is_mark place (take (length word - (at + front)) (drop (at + front) word)) → is_mark place (behind_front (drop at word)) ≡ b
-mark-at place word at front b is marks = ap (is_mark place) (sym (slice_from word (at + front) ∙ behind-at word at front is)) ∙ sym marks
+mark-at : (place : Place) (word : List ℕ) (at front : ℕ) (b : Bool) → front ≡ front_length (take (length word - at) (drop at word)) → b ≡ is_mark place (take (length word - (at + front)) (drop (at + front) word)) → is_mark place (after_front (drop at word)) ≡ b
+mark-at place word at front b is marks = ap (is_mark place) (sym (slice_from word (at + front) ∙ after_front-at word at front is)) ∙ sym marks
 
 -- a byte before the name
 pub byte_before : (place : Place) (word : List ℕ) (at front : ℕ) (b : Bool) → at < length word → front ≡ front_length (take (length word - at) (drop at word)) → b ≡ is_mark place (take (length word - (at + front)) (drop (at + front) word)) → b ≡ false
     → from_mark place (drop at word) ≡ from_mark (place_after Within place (get_or word at 0)) (drop (at + 1) word)
 byte_before place word at front b inside is marks no_name =
     let next = drop_more word at 0 inside in
-    ap (from_mark place) next ∙ cond-false (is_mark place (behind_front (get_or word at 0 ∷ drop (at + 1) word))) _ _ (ap (λ (t : List ℕ). is_mark place (behind_front t)) (sym next) ∙ mark-at place word at front b is marks ∙ no_name)
+    ap (from_mark place) next ∙ cond-false (is_mark place (after_front (get_or word at 0 ∷ drop (at + 1) word))) _ _ (ap (λ (t : List ℕ). is_mark place (after_front t)) (sym next) ∙ mark-at place word at front b is marks ∙ no_name)
 
 -- the name begins
 pub name_there : (place : Place) (word : List ℕ) (at front : ℕ) (b : Bool) → at < length word → front ≡ front_length (take (length word - at) (drop at word)) → b ≡ is_mark place (take (length word - (at + front)) (drop (at + front) word)) → b ≡ true
     → from_mark place (drop at word) ≡ drop (at + front) word
 name_there place word at front b inside is marks a_name =
     let next = drop_more word at 0 inside in
-    ap (from_mark place) next ∙ cond-true (is_mark place (behind_front (get_or word at 0 ∷ drop (at + 1) word))) _ _ (ap (λ (t : List ℕ). is_mark place (behind_front t)) (sym next) ∙ mark-at place word at front b is marks ∙ a_name)
-    ∙ ap behind_front (sym next) ∙ sym (behind-at word at front is)
+    ap (from_mark place) next ∙ cond-true (is_mark place (after_front (get_or word at 0 ∷ drop (at + 1) word))) _ _ (ap (λ (t : List ℕ). is_mark place (after_front t)) (sym next) ∙ mark-at place word at front b is marks ∙ a_name)
+    ∙ ap after_front (sym next) ∙ sym (after_front-at word at front is)
 
 nothing_left : (place : Place) (rest : List ℕ) → length rest ≡ 0 → from_mark place rest ≡ rest
 nothing_left place [] h = refl

@@ -9,7 +9,7 @@ use Rattle.std.proofs.lemmas.List.{append-nil, length-drop}
 use Rattle.std.proofs.Math.Seq.{drop-append_seam}
 use Rattle.std.proofs.Math.Bool.{and-true}
 use Rattle.sym_filter.specs.Bytes.{is_run_byte, is_byte_of}
-use Rattle.sym_filter.specs.Runs.{Answering, first_run, later_runs, with_later_runs, with_runs, replaced, is_named, text_for, word_or_text, word_of, dots_behind}
+use Rattle.sym_filter.specs.Runs.{Answering, first_run, later_runs, with_later_runs, with_runs, replaced, is_named, text_for, word_or_text, word_of, dots_after}
 use Rattle.sym_filter.specs.declared.kinds.Kind.{Kind}
 use Rattle.sym_filter.specs.declared.kinds.Letters.{Letters}
 use Rattle.sym_filter.specs.declared.kinds.Letters.TheVariants.{Any, Ascii, Within}
@@ -71,11 +71,11 @@ word_of-append_dots (byte ∷ word) dots h =
     let same : list_all is_dot ((byte ∷ word) ++ dots) ≡ list_all is_dot (byte ∷ word) = list_all-append is_dot (byte ∷ word) dots ∙ ap (λ b. list_all is_dot (byte ∷ word) && b) h ∙ and-true (list_all is_dot (byte ∷ word)) in
     ap₂ (λ (b : Bool) (t : List ℕ). cond b [] (byte ∷ t)) same (word_of-append_dots word dots h)
 
-word_of-step : (byte : ℕ) (bytes : List ℕ) (b : Bool) → word_of bytes ++ dots_behind bytes ≡ bytes → cond b [] (byte ∷ word_of bytes) ++ drop (length (cond b [] (byte ∷ word_of bytes))) (byte ∷ bytes) ≡ byte ∷ bytes
+word_of-step : (byte : ℕ) (bytes : List ℕ) (b : Bool) → word_of bytes ++ dots_after bytes ≡ bytes → cond b [] (byte ∷ word_of bytes) ++ drop (length (cond b [] (byte ∷ word_of bytes))) (byte ∷ bytes) ≡ byte ∷ bytes
 word_of-step byte bytes true h = refl
 word_of-step byte bytes false h = ap (λ (t : List ℕ). byte ∷ t) h
 
-pub word_of-splits : (run : List ℕ) → word_of run ++ dots_behind run ≡ run
+pub word_of-splits : (run : List ℕ) → word_of run ++ dots_after run ≡ run
 word_of-splits [] = refl
 word_of-splits (byte ∷ bytes) = word_of-step byte bytes (list_all is_dot (byte ∷ bytes)) (word_of-splits bytes)
 
@@ -86,7 +86,7 @@ word_or_text-unnamed answers word h = rw h refl
 
 pub replaced-unnamed : (answers : Answering) (run : List ℕ) → kind_of (word_of run) ≡ None → replaced answers run ≡ run
 unfolding replaced
-replaced-unnamed answers run h = ap (λ t. t ++ dots_behind run) (word_or_text-unnamed answers (word_of run) h) ∙ word_of-splits run
+replaced-unnamed answers run h = ap (λ t. t ++ dots_after run) (word_or_text-unnamed answers (word_of run) h) ∙ word_of-splits run
 
 -- what is held of a run, and the dots after it
 pub list_all-dots : (n : ℕ) → list_all is_dot (replicate n 46) ≡ true
@@ -109,8 +109,8 @@ word_of-held held dots h = word_of-append_dots held (replicate dots 46) (list_al
 pub list_all-held : (letters : Letters) (held : List ℕ) (dots : ℕ) → list_all (is_byte_of letters) held ≡ true → list_all (is_byte_of letters) (held ++ replicate dots 46) ≡ true
 list_all-held letters held dots h = list_all-append (is_byte_of letters) held (replicate dots 46) ∙ and_from _ _ h (list_all-run_dots letters dots)
 
-pub behind-held : (held : List ℕ) (dots : ℕ) → word_of held ≡ held → dots_behind (held ++ replicate dots 46) ≡ replicate dots 46
-behind-held held dots h =
+pub after-held : (held : List ℕ) (dots : ℕ) → word_of held ≡ held → dots_after (held ++ replicate dots 46) ≡ replicate dots 46
+after-held held dots h =
     ap (λ (w : List ℕ). drop (length w) (held ++ replicate dots 46)) (word_of-held held dots h) ∙ drop-append_seam held (replicate dots 46)
 
 -- a part that is not dots alone stays after a run, up to its last byte that is no dot
@@ -139,13 +139,13 @@ pub word_of-word : (run : List ℕ) → word_of (word_of run) ≡ word_of run
 word_of-word [] = refl
 word_of-word (byte ∷ bytes) = word_of-word_step byte bytes (list_all is_dot (byte ∷ bytes)) refl (word_of-word bytes)
 
-behind-step : (byte : ℕ) (bytes : List ℕ) (b : Bool) → list_all is_dot (byte ∷ bytes) ≡ b → list_all is_dot (dots_behind bytes) ≡ true → list_all is_dot (drop (length (cond b [] (byte ∷ word_of bytes))) (byte ∷ bytes)) ≡ true
-behind-step byte bytes true h dots = h
-behind-step byte bytes false h dots = dots
+after-step : (byte : ℕ) (bytes : List ℕ) (b : Bool) → list_all is_dot (byte ∷ bytes) ≡ b → list_all is_dot (dots_after bytes) ≡ true → list_all is_dot (drop (length (cond b [] (byte ∷ word_of bytes))) (byte ∷ bytes)) ≡ true
+after-step byte bytes true h dots = h
+after-step byte bytes false h dots = dots
 
-dots_behind-dots : (run : List ℕ) → list_all is_dot (dots_behind run) ≡ true
-dots_behind-dots [] = refl
-dots_behind-dots (byte ∷ bytes) = behind-step byte bytes (list_all is_dot (byte ∷ bytes)) refl (dots_behind-dots bytes)
+dots_after-dots : (run : List ℕ) → list_all is_dot (dots_after run) ≡ true
+dots_after-dots [] = refl
+dots_after-dots (byte ∷ bytes) = after-step byte bytes (list_all is_dot (byte ∷ bytes)) refl (dots_after-dots bytes)
 
 all_dots : (dots : List ℕ) → list_all is_dot dots ≡ true → dots ≡ replicate (length dots) 46
 all_dots [] h = refl
@@ -156,7 +156,7 @@ all_dots (byte ∷ bytes) h =
 -- a run is its word and dots
 pub word_and_dots : (run : List ℕ) → run ≡ word_of run ++ replicate (length run - length (word_of run)) 46
 word_and_dots run =
-    let dots : dots_behind run ≡ replicate (length (dots_behind run)) 46 = all_dots (dots_behind run) (dots_behind-dots run) in
+    let dots : dots_after run ≡ replicate (length (dots_after run)) 46 = all_dots (dots_after run) (dots_after-dots run) in
     sym (word_of-splits run) ∙ ap (λ (t : List ℕ). word_of run ++ t) (dots ∙ ap (λ (n : ℕ). replicate n 46) (length-drop (length (word_of run)) run))
 
 -- a word grows with its run
@@ -188,8 +188,6 @@ pub kind_of-other : (byte : ℕ) (more : List ℕ) → (byte ≡ 95 → ⊥) →
 kind_of-other byte more other = kind_of-step byte (word_of more) (list_all is_dot (byte ∷ more)) other
 
 -- a run that is passed on
-pub with_runs-append : (letters : Letters) (change : List ℕ → List ℕ) (run more : List ℕ) → list_all (is_byte_of letters) run ≡ true → with_runs letters change (run ++ more) ≡ change (run ++ first_run letters more) ++ with_later_runs letters change more
-with_runs-append letters change run more h = ap₂ (λ (a b : List ℕ). change a ++ b) (first_run-append letters run more h) (with_later_runs-append letters change run more h)
 
 -- the text of a word is its symbol's
 pub text_for-named : (answers : Answering) (word : List ℕ) (kind : Kind) (answer : Result (List ℕ) Refusal) → kind_of word ≡ Some kind → answers kind (symbol_of kind word) ≡ answer → text_for answers word ≡ result_ok answer

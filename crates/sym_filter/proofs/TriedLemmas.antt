@@ -5,14 +5,14 @@ use Rattle.std.specs.Prelude.{is_some, sum_by, unwrap_or}
 use Rattle.std.proofs.lemmas.List.Sums.{sum_by-append}
 use Rattle.sym_filter.specs.declared.kinds.Letters.TheVariants.{Ascii}
 use Rattle.sym_filter.specs.Bytes.{is_byte_of, is_wide}
-use Rattle.sym_filter.specs.Runs.{Agree, Answering, TriesAreFew, TriesDecide, dots_behind, either, first_run, followed_by, has_text, later_runs, replaced, runs_of, text_for, text_of_parts, text_of_tries, tried, trimmed, with_later_runs, with_runs, word_of}
+use Rattle.sym_filter.specs.Runs.{Agree, Answering, TriesAreFew, TriesDecide, dots_after, either, first_run, followed_by, has_text, later_runs, replaced, runs_of, text_for, text_of_parts, text_of_tries, tried, trimmed, with_later_runs, with_runs, word_of}
 use Rattle.sym_filter.proofs.TryLemmas.{is_left_out}
 
 -- ## What they depend on
 
 replaced-same : (answers other : Answering) (run : List ℕ) → text_for answers (word_of run) ≡ text_for other (word_of run) → replaced answers run ≡ replaced other run
 unfolding replaced
-replaced-same answers other run h = ap (λ (o : Option (List ℕ)). unwrap_or o (word_of run) ++ dots_behind run) h
+replaced-same answers other run h = ap (λ (o : Option (List ℕ)). unwrap_or o (word_of run) ++ dots_after run) h
 
 any-same : (answers other : Answering) (runs : List (List ℕ)) → Agree answers other (map word_of runs) → list_any (has_text answers) runs ≡ list_any (has_text other) runs
 any-same answers other [] h = refl

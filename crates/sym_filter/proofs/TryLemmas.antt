@@ -12,7 +12,7 @@ use Rattle.sym_filter.specs.declared.kinds.Letters.TheVariants.{Ascii}
 use Rattle.sym_filter.specs.declared.kinds.TheConstants.{LONGEST_WORD}
 use Rattle.sym_filter.specs.Kinds.{kind_of, symbol_of, underscore_of}
 use Rattle.sym_filter.specs.Bytes.{is_byte_of, is_wide}
-use Rattle.sym_filter.specs.Runs.{Answering, either, first_run, followed_by, has_text, later_runs, or_answer, replaced, runs_of, text_for, text_of_front, text_of_parts, text_of_tries, trimmed, with_runs, within, word_of, word_or_text, dots_behind}
+use Rattle.sym_filter.specs.Runs.{Answering, either, first_run, followed_by, has_text, later_runs, or_answer, replaced, runs_of, text_for, text_of_front, text_of_parts, text_of_tries, trimmed, with_runs, within, word_of, word_or_text, dots_after}
 use Rattle.sym_filter.proofs.RunLemmas.{first_run-append, later_runs-append, replaced-unnamed, text_for-named, text_for-unnamed, with_runs-ends, with_runs-run, word_of-splits}
 
 -- ## A word is its symbol, and an underscore before it or none
@@ -148,12 +148,12 @@ some-kept : (front : List ℕ) (byte : ℕ) (rest : List ℕ) → is_left_out by
 some-kept [] byte rest other = and_left (is_left_out byte) (list_all is_left_out rest) other
 some-kept (first ∷ front) byte rest other = ap (λ (b : Bool). is_left_out first && b) (some-kept front byte rest other) ∙ and-none (is_left_out first)
 
-trimmed-behind : (front rest : List ℕ) → list_all is_left_out rest ≡ true → (byte : ℕ) → is_left_out byte ≡ false → trimmed ((front ++ (byte ∷ [])) ++ rest) ≡ front ++ (byte ∷ [])
-trimmed-behind [] rest h byte other =
+trimmed-after : (front rest : List ℕ) → list_all is_left_out rest ≡ true → (byte : ℕ) → is_left_out byte ≡ false → trimmed ((front ++ (byte ∷ [])) ++ rest) ≡ front ++ (byte ∷ [])
+trimmed-after [] rest h byte other =
     cond-false (list_all is_left_out (byte ∷ rest)) _ _ (and_left (is_left_out byte) (list_all is_left_out rest) other) ∙ ap (λ (t : List ℕ). byte ∷ t) (trimmed-none rest h)
-trimmed-behind (first ∷ front) rest h byte other =
+trimmed-after (first ∷ front) rest h byte other =
     let stops : list_all is_left_out (first ∷ ((front ++ (byte ∷ [])) ++ rest)) ≡ false = some-kept (first ∷ front) byte rest other in
-    cond-false (list_all is_left_out (first ∷ ((front ++ (byte ∷ [])) ++ rest))) _ _ stops ∙ ap (λ (t : List ℕ). first ∷ t) (trimmed-behind front rest h byte other)
+    cond-false (list_all is_left_out (first ∷ ((front ++ (byte ∷ [])) ++ rest))) _ _ stops ∙ ap (λ (t : List ℕ). first ∷ t) (trimmed-after front rest h byte other)
 
 kept : (byte : ℕ) → (byte ≡ 46 → ⊥) → byte < 128 → is_left_out byte ≡ false
 kept byte no_dot ascii = ap₂ (λ (a b : Bool). a || b) (ne_eqb byte 46 no_dot) (lt-leb 128 byte ascii)
@@ -164,7 +164,7 @@ trimmed-last word end some inside left no_dot ascii =
     let last = get_or word (end - 1) 0 in
     let front : take end word ≡ take (end - 1) word ++ (last ∷ []) = ap (λ n. take n word) (sym place) ∙ take_more word (end - 1) 0 (omega arith) in
     let whole : (take (end - 1) word ++ (last ∷ [])) ++ drop end word ≡ word = ap (λ (t : List ℕ). t ++ drop end word) (sym front) ∙ take-append-drop end word in
-    front ∙ sym (ap trimmed (sym whole) ∙ trimmed-behind (take (end - 1) word) (drop end word) left last (kept last no_dot ascii))
+    front ∙ sym (ap trimmed (sym whole) ∙ trimmed-after (take (end - 1) word) (drop end word) left last (kept last no_dot ascii))
 
 pub trimmed-all : (word : List ℕ) (end : ℕ) → end ≡ 0 → list_all is_left_out (drop end word) ≡ true → [] ≡ trimmed word
 trimmed-all word end none left = sym (trimmed-none word (ap (λ (n : ℕ). list_all is_left_out (drop n word)) (sym none) ∙ left))
@@ -182,7 +182,7 @@ pub run-unread : (answers : Answering) (run word : List ℕ) → word ≡ word_o
 unfolding replaced
 run-unread answers run word is h =
     let none : text_for answers (word_of run) ≡ None = ap (text_for answers) (sym is) ∙ nothing_there (text_for answers word) h in
-    ap (λ (o : Option (List ℕ)). unwrap_or o (word_of run) ++ dots_behind run) none ∙ word_of-splits run
+    ap (λ (o : Option (List ℕ)). unwrap_or o (word_of run) ++ dots_after run) none ∙ word_of-splits run
 
 runs_of-ends : (run : List ℕ) (byte : ℕ) (more : List ℕ) → list_all (is_byte_of Ascii) run ≡ true → is_byte_of Ascii byte ≡ false → runs_of Ascii (run ++ (byte ∷ more)) ≡ run ∷ runs_of Ascii more
 runs_of-ends run byte more h other =
@@ -284,7 +284,7 @@ texts-more answers word rest at count some here so_far is next =
     so_far ∙ ap (λ (b : Bool). some || b) (ap (λ (t : List ℕ). list_any (has_text answers) (runs_of Ascii t)) (sym is) ∙ next ∙ ap (λ (t : List ℕ). here || list_any (has_text answers) (runs_of Ascii t)) left)
     ∙ or-more some here (list_any (has_text answers) (runs_of Ascii (drop (at + count) word)))
 
--- all parts are behind
+-- all parts were passed
 pub parts-end : (answers : Answering) (word : List ℕ) (at : ℕ) (bytes : List ℕ) → at ≡ length word → with_runs Ascii (replaced answers) word ≡ bytes ++ with_runs Ascii (replaced answers) (drop at word) → with_runs Ascii (replaced answers) word ≡ bytes
 parts-end answers word at bytes e so_far =
     so_far ∙ ap (λ (t : List ℕ). bytes ++ t) (ap (with_runs Ascii (replaced answers)) (drop-whole word at e) ∙ no_runs answers) ∙ append-nil bytes

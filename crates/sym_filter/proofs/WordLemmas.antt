@@ -17,10 +17,10 @@ use Rattle.sym_filter.specs.Kinds.{kind_of}
 use Rattle.sym_filter.specs.Held.{IsHeld}
 use Rattle.sym_filter.specs.Places.{START, from_word, may_begin, place_after, place_of, with_word}
 use Rattle.sym_filter.specs.Runs.{Answering, IsTally, answers_at, changed, filtered_at, first_run, fits, is_begun, is_named, later_runs, name_in, named_in, named_words, replaced_at, tally_at, tally_counted, tally_with, tally_with_word, text_for, with_later_runs, word_in, word_of, written}
-use Rattle.sym_filter.specs.Words.{held_of, rest_of, named_of, rest_after, tally_after, behind, Takes}
+use Rattle.sym_filter.specs.Words.{held_of, rest_of, named_of, rest_after, tally_after, following, Takes}
 use Rattle.sym_filter.specs.Plain.{is_plain}
 use Rattle.sym_filter.proofs.TallyLemmas.{tally_with-append, tally_with_word-named, tally_with_word-unnamed}
-use Rattle.sym_filter.proofs.RunLemmas.{is_dot, behind-held, filter-front, first_run-append, later_runs-append, with_later_runs-append, list_all-held, word_of-held, word_of-longer, word_of-part, word_of-word, list_all-word_of, word_and_dots}
+use Rattle.sym_filter.proofs.RunLemmas.{is_dot, after-held, filter-front, first_run-append, later_runs-append, with_later_runs-append, list_all-held, word_of-held, word_of-longer, word_of-part, word_of-word, list_all-word_of, word_and_dots}
 use Rattle.sym_filter.proofs.BeginLemmas.{begun-more, from_word-begun, named-byte, named-first, named_of-start, plain-byte, rest_of-start, with_word-begun}
 use Rattle.sym_filter.proofs.MarkLemmas.{changed-nothing, name-nothing, named-nothing, written-nothing}
 use Rattle.sym_filter.specs.declared.kinds.TheConstants.{LONGEST_WORD}
@@ -113,7 +113,7 @@ held-changed : (letters : Letters) (answers : Answering) (held : List ℕ) (dots
 held-changed letters answers held dots place h short =
     let word = word_of-held held dots h in
     cond-true (fits (word_of (held ++ replicate dots 46))) _ _ (ap fits word ∙ le-leb (length held) LONGEST_WORD short)
-    ∙ ap₂ (λ (w d : List ℕ). written letters answers place w ++ d) word (behind-held held dots h)
+    ∙ ap₂ (λ (w d : List ℕ). written letters answers place w ++ d) word (after-held held dots h)
 
 held-named : (letters : Letters) (held : List ℕ) (dots : ℕ) (place : Place) → word_of held ≡ held → length held ≤ LONGEST_WORD → named_in letters place (held ++ replicate dots 46) ≡ name_in letters place held
 held-named letters held dots place h short =
@@ -355,13 +355,13 @@ held_of-part held part dots end word within =
     ∙ ap (λ (t : List ℕ). front ++ t) (ap₂ (λ (t : List ℕ) (n : ℕ). t ++ replicate (length part - n) 46) word (sym size) ∙ sym (word_and_dots part))
 
 pub IsHeld-part : (letters : Letters) (held : List ℕ) (dots dots' : ℕ) (part : List ℕ) (end : ℕ) (past : Bool) (place : Place) → IsHeld letters held dots past place → list_all (is_byte_of letters) part ≡ true → take end part ≡ word_of part → (end ≡ 0 → ⊥) → end ≤ length part → length held + dots + end ≤ LONGEST_WORD → past ≡ false → may_begin letters place ≡ true → dots' ≡ length part - end → is_begun ((held ++ replicate dots 46) ++ part) ≡ true → IsHeld letters (held ++ replicate dots 46 ++ take end part) dots' past place
-IsHeld-part letters held dots dots' part end past place h in_run word some within short not_past begins behind begun =
+IsHeld-part letters held dots dots' part end past place h in_run word some within short not_past begins dots_are begun =
     let front = held ++ replicate dots 46 in
     let other : list_all is_dot (take end part) ≡ false = ap (list_all is_dot) word ∙ list_all-word_of part ∙ not_dots part end word some within in record {
       of_run = list_all-append (is_byte_of letters) front (take end part) ∙ and_from _ _ (list_all-held letters held dots h.of_run) (front_in_run letters part end in_run word);
       is_word = word_of-part front (take end part) other ∙ ap (λ (t : List ℕ). front ++ t) (ap word_of word ∙ word_of-word part ∙ sym word);
       fits = omega (arith, length-append front (take end part), length-append held (replicate dots 46), length-replicate {A = ℕ} dots 46, length-take end part);
-      begins = ap (λ (n : ℕ). is_begun ((held ++ replicate dots 46 ++ take end part) ++ replicate n 46)) behind ∙ ap is_begun (held_of-part held part dots end word within) ∙ begun;
+      begins = ap (λ (n : ℕ). is_begun ((held ++ replicate dots 46 ++ take end part) ++ replicate n 46)) dots_are ∙ ap is_begun (held_of-part held part dots end word within) ∙ begun;
       past_holds_nothing = λ e. absurd (true≢false (sym e ∙ not_past));
       closed_holds_nothing = λ e. absurd (true≢false (sym begins ∙ e));
     }
@@ -374,10 +374,10 @@ held_of-dots held part dots end word none =
     ap (λ (t : List ℕ). held ++ t) (sym (replicate-append-replicate dots (length part) 46)) ∙ sym (append_assoc held (replicate dots 46) (replicate (length part) 46)) ∙ ap (λ (t : List ℕ). (held ++ replicate dots 46) ++ t) (sym part_is)
 
 pub IsHeld-dots : (letters : Letters) (held : List ℕ) (dots dots' : ℕ) (part : List ℕ) (end : ℕ) (past : Bool) (place : Place) → IsHeld letters held dots past place → take end part ≡ word_of part → end ≡ 0 → past ≡ false → may_begin letters place ≡ true → dots' ≡ dots + length part → is_begun ((held ++ replicate dots 46) ++ part) ≡ true → IsHeld letters held dots' past place
-IsHeld-dots letters held dots dots' part end past place h word none not_past begins behind begun = record {
+IsHeld-dots letters held dots dots' part end past place h word none not_past begins dots_are begun = record {
   of_run = h.of_run;
   is_word = h.is_word;
-  begins = ap (λ (n : ℕ). is_begun (held ++ replicate n 46)) behind ∙ ap is_begun (held_of-dots held part dots end word none) ∙ begun;
+  begins = ap (λ (n : ℕ). is_begun (held ++ replicate n 46)) dots_are ∙ ap is_begun (held_of-dots held part dots end word none) ∙ begun;
   fits = h.fits;
   past_holds_nothing = λ e. absurd (true≢false (sym e ∙ not_past));
   closed_holds_nothing = λ e. absurd (true≢false (sym begins ∙ e));
@@ -398,18 +398,18 @@ Takes-first answers old new text count dots letters some none other same counted
     (subst (λ (t : List ℕ). Takes answers old new t (written old.letters answers old.place old.held.items ++ (replicate old.dots 46 ++ t))) (sym first) (Takes-ends answers old new (get_or text 0 0) letters ends counted nothing no_dots past holds))
 
 -- a part of a run is held, or the run is passed on from it on
-pub Takes-hold : (answers : Answering) (old new : Words) (text out out' : List ℕ) (count : ℕ) (taken : Taken) (b : Bool) → new.letters ≡ old.letters → taken.stay ≡ b → count ≤ length text → list_all (is_byte_of old.letters) (take count text) ≡ true → is_begun (held_of old ++ take count text) ≡ true → old.past ≡ false → may_begin old.letters old.place ≡ true → new.place ≡ old.place → new.tally ≡ old.tally → new.dots ≤ old.dots + length (take count text) → taken.count ≡ length (take count text) → (taken.stay ≡ false → (new.past ≡ false) × (taken.dots ≡ 0) × (held_of new ≡ held_of old ++ take count text) × (out' ≡ out)) → (taken.stay ≡ true → (new.past ≡ true) × (taken.dots ≡ old.dots) × (out' ≡ out ++ old.held.items) × (LONGEST_WORD < length (word_of (held_of old ++ take count text)))) → (bytes : List ℕ) × (out' ≡ out ++ bytes) × Takes answers old new (take taken.count text) (bytes ++ behind taken (take taken.count text))
+pub Takes-hold : (answers : Answering) (old new : Words) (text out out' : List ℕ) (count : ℕ) (taken : Taken) (b : Bool) → new.letters ≡ old.letters → taken.stay ≡ b → count ≤ length text → list_all (is_byte_of old.letters) (take count text) ≡ true → is_begun (held_of old ++ take count text) ≡ true → old.past ≡ false → may_begin old.letters old.place ≡ true → new.place ≡ old.place → new.tally ≡ old.tally → new.dots ≤ old.dots + length (take count text) → taken.count ≡ length (take count text) → (taken.stay ≡ false → (new.past ≡ false) × (taken.dots ≡ 0) × (held_of new ≡ held_of old ++ take count text) × (out' ≡ out)) → (taken.stay ≡ true → (new.past ≡ true) × (taken.dots ≡ old.dots) × (out' ≡ out ++ old.held.items) × (LONGEST_WORD < length (word_of (held_of old ++ take count text)))) → (bytes : List ℕ) × (out' ≡ out ++ bytes) × Takes answers old new (take taken.count text) (bytes ++ following taken (take taken.count text))
 Takes-hold answers old new text out out' count taken false letters stay within in_run begun past begins place counted dots count_is held passes =
     let h = held stay in
     let part = take count text in
     let whole : take taken.count text ≡ part = ap (λ n. take n text) (count_is ∙ omega (arith, length-take count text)) in
-    let nothing : behind taken (take taken.count text) ≡ [] = ap₂ (λ (n : ℕ) (b : Bool). replicate n 46 ++ cond b (take taken.count text) []) h.1 stay in
+    let nothing : following taken (take taken.count text) ≡ [] = ap₂ (λ (n : ℕ) (b : Bool). replicate n 46 ++ cond b (take taken.count text) []) h.1 stay in
     ([], h.3 ∙ sym (append-nil out), subst (λ (t : List ℕ). Takes answers old new (take taken.count text) t) (sym nothing) (subst (λ (t : List ℕ). Takes answers old new t []) (sym whole) (Takes-held answers old new part letters past h.0 place h.2 counted dots)))
 Takes-hold answers old new text out out' count taken true letters stay within in_run begun past begins place counted dots count_is held passes =
     let h = passes stay in
     let part = take count text in
     let whole : take taken.count text ≡ part = ap (λ n. take n text) (count_is ∙ omega (arith, length-take count text)) in
-    let follows : behind taken (take taken.count text) ≡ replicate old.dots 46 ++ part = ap₂ (λ (n : ℕ) (b : Bool). replicate n 46 ++ cond b (take taken.count text) []) h.1 stay ∙ ap (λ (t : List ℕ). replicate old.dots 46 ++ t) whole in
+    let follows : following taken (take taken.count text) ≡ replicate old.dots 46 ++ part = ap₂ (λ (n : ℕ) (b : Bool). replicate n 46 ++ cond b (take taken.count text) []) h.1 stay ∙ ap (λ (t : List ℕ). replicate old.dots 46 ++ t) whole in
     (old.held.items, h.2, subst (λ (t : List ℕ). Takes answers old new (take taken.count text) (old.held.items ++ t)) (sym follows) (subst (λ (t : List ℕ). Takes answers old new t (old.held.items ++ (replicate old.dots 46 ++ part))) (sym whole) (Takes-passes answers old new part letters past begins h.0 in_run begun h.3 counted dots)))
 
 -- where something is held, no run is passed on, and a word may begin at its place

@@ -22,8 +22,8 @@ front_length word =
     else (if starts_with nat_eq word (codes "_GLOBAL__D_") then 11
     else 0))))
 
-abbrev pub behind_front : List ℕ → List ℕ
-behind_front word = drop (front_length word) word
+abbrev pub after_front : List ℕ → List ℕ
+after_front word = drop (front_length word) word
 
 -- the bytes after `_Z` with which a name, a number or a special name begins, and those after `_R` with which a path does
 abbrev pub begins_name : Lang → ℕ → Bool
@@ -48,7 +48,7 @@ is_mark place rest = is_kind_taken place (kind_by_beginning rest) rest
 abbrev pub from_mark : Place → List ℕ → List ℕ
 from_mark place [] = []
 from_mark place (byte ∷ word) =
-    if is_mark place (behind_front (byte ∷ word)) then behind_front (byte ∷ word) else from_mark (place_after Within place byte) word
+    if is_mark place (after_front (byte ∷ word)) then after_front (byte ∷ word) else from_mark (place_after Within place byte) word
 
 -- and what comes before it
 abbrev pub before_mark : Place → List ℕ → List ℕ

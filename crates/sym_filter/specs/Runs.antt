@@ -47,8 +47,8 @@ word_of [] = []
 word_of (byte ∷ bytes) = if list_all (λ other. other == 46) (byte ∷ bytes) then [] else byte ∷ word_of bytes
 
 -- the dots after the word of a run
-abbrev pub dots_behind : List ℕ → List ℕ
-dots_behind run = drop (length (word_of run)) run
+abbrev pub dots_after : List ℕ → List ℕ
+dots_after run = drop (length (word_of run)) run
 
 -- what is answered for the symbols of words of each kind: a text, or why there is none
 abbrev pub Answering : Type 0
@@ -70,7 +70,7 @@ word_or_text answers word = unwrap_or (text_for answers word) word
 
 -- a run with its word replaced by the text that stands for it, if there is one
 unfoldable pub replaced : Answering → List ℕ → List ℕ
-replaced answers run = word_or_text answers (word_of run) ++ dots_behind run
+replaced answers run = word_or_text answers (word_of run) ++ dots_after run
 
 -- whether a run's word has a text
 abbrev pub has_text : Answering → List ℕ → Bool
@@ -97,7 +97,7 @@ abbrev pub followed_by : List ℕ → Option (List ℕ) → Option (List ℕ)
 followed_by rest None = None
 followed_by rest (Some text) = Some (text ++ rest)
 
--- The first try: the text for the word without what isn't ASCII at its end, and behind that what was left out.
+-- The first try: the text for the word without what isn't ASCII at its end, and after that what was left out.
 abbrev pub text_of_front : Answering → List ℕ → Option (List ℕ)
 text_of_front answers word = followed_by (drop (length (trimmed word)) word) (text_for answers (trimmed word))
 
@@ -161,7 +161,7 @@ name_in Within place word = from_mark place word
 
 -- what is written for a run from a place on, if it isn't too long: dots at its end stay
 abbrev pub changed : Letters → Answering → Place → List ℕ → List ℕ
-changed letters answers place run = if fits (word_of run) then written letters answers place (word_of run) ++ dots_behind run else run
+changed letters answers place run = if fits (word_of run) then written letters answers place (word_of run) ++ dots_after run else run
 
 -- the part of it that names a symbol, if it does
 abbrev pub named_in : Letters → Place → List ℕ → List ℕ

@@ -35,8 +35,8 @@ tally_after answers words more =
     tally_with (answers_at words.letters answers) words.tally (named_of words.letters (held_of words) words.past words.place more)
 
 -- what follows on the bytes that were appended for the bytes that were taken: dots, and the bytes themselves where they stay
-abbrev pub behind : Taken → List ℕ → List ℕ
-behind taken bytes = replicate taken.dots 46 ++ (if taken.stay then bytes else [])
+abbrev pub following : Taken → List ℕ → List ℕ
+following taken bytes = replicate taken.dots 46 ++ (if taken.stay then bytes else [])
 
 -- a filter takes a piece and gives bytes for it: whatever follows, these bytes and what is still to come are the whole,
 -- and the tally in the end is the same

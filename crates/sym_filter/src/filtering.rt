@@ -1,7 +1,7 @@
 // The filter: words of a text that are symbols are replaced by their texts.
 ghost use Rattle.std.specs.Prelude.{◌≡◌, ◌≢◌, ◌+◌, ◌-◌, ◌^◌, ◌<◌, ℕ, List, [], length, vec_len, replicate, IfOk, OnOk, OnErr, IfErr};
 ghost use Rattle.sym_filter.specs.Streams.{reader_faults, writer_faults, Puts, PutsFront, FiltersAll, FiltersAllAt, FiltersFront, FiltersFrontAt};
-ghost use Rattle.sym_filter.specs.Words.{rest_after, tally_after, behind, Takes};
+ghost use Rattle.sym_filter.specs.Words.{rest_after, tally_after, following, Takes};
 ghost use Rattle.sym_filter.specs.declared.filtering.TheConstants.{READ_SIZE};
 
 use crate::demangler::Demangler;
@@ -100,7 +100,7 @@ fn take_piece<W: Sink, D: Demangler>(
     while at < piece.len() {
         let rest = &piece[at..];
         let taken = words.take(demangler, lists, rest, out)?;
-        put_behind(writer, out, taken, &rest[..taken.count])?;
+        put_after(writer, out, taken, &rest[..taken.count])?;
         at += taken.count;
     }
     words.read_ahead(demangler, lists);
@@ -133,7 +133,7 @@ fn end_text<W: Sink, D: Demangler>(
 
 /// Puts what follows on taken bytes after the bytes that wait to be written: dots, and the bytes where they stay.
 #[inline(always)]
-fn put_behind<W: Sink>(
+fn put_after<W: Sink>(
     writer: &mut W,
     out: &mut Vec<u8>,
     taken: Taken,
@@ -141,9 +141,9 @@ fn put_behind<W: Sink>(
 ) -> Result<(), FilterFault>
     requires failures { W.failure_count writer.old < 2 ^ 64 - 1 }
     ensures ok { OnOk result (Puts (W.taken writer.old) (W.taken writer.new) out.old.items out.new.items
-        (behind taken bytes.now)) }
+        (following taken bytes.now)) }
     ensures err { IfErr result (λ fault. (fault ≢ FilterFault.Read)
-        × PutsFront (W.taken writer.old) (W.taken writer.new) out.old.items (behind taken bytes.now)) }
+        × PutsFront (W.taken writer.old) (W.taken writer.new) out.old.items (following taken bytes.now)) }
     ensures failures { W.failure_count writer.new ≡ W.failure_count writer.old + writer_faults result }
 {
     write_dots(writer, out, taken.dots)?;

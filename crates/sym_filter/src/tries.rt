@@ -134,14 +134,14 @@ fn append_parts<D: Demangler>(
     Ok(false)
 }
 
-/// A part of a word in ASCII with the byte behind it, and whether the part has a text.
+/// A part of a word in ASCII with the byte after it, and whether the part has a text.
 #[derive(Clone, Copy, Debug, PartialEq, Eq)]
 struct Part {
     length: usize,
     has_text: bool,
 }
 
-/// Appends the part of a word in ASCII at the front of a rest of it, replaced where it has a text, and the byte behind it.
+/// Appends the part of a word in ASCII at the front of a rest of it, replaced where it has a text, and the byte after it.
 fn push_part<D: Demangler>(
     demangler: &D,
     lists: &mut D::Lists,

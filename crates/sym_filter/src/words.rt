@@ -141,7 +141,7 @@ pub struct Words {
 }
 
 impl Words {
-    ghost use Rattle.sym_filter.specs.Words.{held_of, behind, Takes};
+    ghost use Rattle.sym_filter.specs.Words.{held_of, following, Takes};
     ghost use Rattle.sym_filter.specs.Runs.{Answering, tally_with_word};
 
     /// A text's beginning, whose words have these letters.
@@ -195,7 +195,7 @@ impl Words {
         ensures within { IfOk result (λ taken. (0 < taken.count) × (taken.count ≤ length text.now)) }
         ensures takes { IfOk result (λ taken. (bytes : List ℕ) × (out.new.items ≡ out.old.items ++ bytes)
             × Takes (D.answer demangler.now) self.old self.new (take taken.count text.now)
-            (bytes ++ behind taken (take taken.count text.now))) }
+            (bytes ++ following taken (take taken.count text.now))) }
     {
         if self.held.is_empty() && self.dots == 0 {
             if self.past {
@@ -231,7 +231,7 @@ impl Words {
         requires past { self.old.past ≡ true }
         ensures within { (0 < result.count) × (result.count ≤ length text.now) }
         ensures takes { (answers : Answering) → Takes answers self.old self.new (take result.count text.now)
-            (behind result (take result.count text.now)) }
+            (following result (take result.count text.now)) }
     {
         let count = run_front(self.letters, text);
         if count == 0 {
@@ -251,7 +251,7 @@ impl Words {
     }
 
     /// Holds a part of a run, or passes the run on where it is too long for a word that names a symbol.
-    // As a call of its own this and `put_behind` took 1 % of the filter's instructions over a list of symbols.
+    // As a call of its own this and `put_after` took 1 % of the filter's instructions over a list of symbols.
     #[inline(always)]
     fn hold(&mut self, part: &[u8], out: &mut Vec<u8>) -> Result<Taken, AllocError>
         requires in_run { list_all (is_byte_of self.old.letters) part.now ≡ true }

@@ -15,7 +15,7 @@ use Rattle.sym_demangle.specs.Standing.{AreStepsInAll, AreNodesOf}
 use Rattle.sym_demangle.proofs.Answering.{is_answer, reading_answered}
 use Rattle.rust_grammar.specs.Mangled.{v0_mangled}
 use Rattle.sym_filter.specs.Demangled.{IsAppended, IsDemangled}
-use Rattle.sym_languages.specs.Languages.{behind_front, Readings, AreCounts, language_answer_by}
+use Rattle.sym_languages.specs.Languages.{with_front, Readings, AreCounts, language_answer_by}
 use Rattle.sym_filter.specs.declared.demangler.Demangled.{Demangled}
 use Rattle.sym_filter.specs.declared.kinds.Lang.{Lang}
 use Rattle.sym_filter.specs.declared.kinds.Lang.TheVariants.{Rust}
@@ -105,20 +105,13 @@ rust_answered cpp limit detail shown lang symbol bytes is same =
 -- a symbol that isn't read
 pub unread_pressed : {W : Type 0} (m : Mangled W) (answer : List ℕ → Result (List ℕ) Refusal) (front symbol : List ℕ) (refusal : Refusal)
     → (IsReading m symbol (Err refusal) → answer symbol ≡ Err refusal) → refusal ≢ TooLong → (refusal ≡ Memory) ⊎ IsReading m symbol (Err refusal)
-    → refusal ≢ Memory → (behind_front front (answer symbol) ≡ Err refusal) × (refusal ≢ TooLong)
+    → refusal ≢ Memory → (with_front front (answer symbol) ≡ Err refusal) × (refusal ≢ TooLong)
 unread_pressed m answer front symbol refusal law short (inl memory) other = absurd (other memory)
-unread_pressed m answer front symbol refusal law short (inr is) other = (ap (behind_front front) (law is), short)
+unread_pressed m answer front symbol refusal law short (inr is) other = (ap (with_front front) (law is), short)
 
 -- one that is read, whose pressed spelling was appended
 pub pressed_given : (front old new bytes spelling : List ℕ) (answer : Result (List ℕ) Refusal) → answer ≡ Ok spelling → bytes ≡ spelling → new ≡ old ++ (front ++ bytes)
-    → (text : List ℕ) × (behind_front front answer ≡ Ok text) × (new ≡ old ++ text)
+    → (text : List ℕ) × (with_front front answer ≡ Ok text) × (new ≡ old ++ text)
 pressed_given front old new bytes spelling answer law is pushed =
     let answered : List ℕ → Result (List ℕ) Refusal = λ text. Ok text in
-    (front ++ bytes, ap (behind_front front) (law ∙ ap answered (sym is)), pushed)
-
--- a text that was written without parameters, and appended
-pub names_given : {W : Type 0} (m : Mangled W) (limit : ℕ) (detail : Detail) (symbol : List ℕ) → AreBytes symbol → (written shown old new : List ℕ) → detail ≡ NoParameters
-    → IsAnswer m NoParameters symbol limit (Ok written) → shown ≡ written → new ≡ old ++ shown
-    → (text : List ℕ) × (answer m detail symbol limit ≡ Ok text) × (new ≡ old ++ text)
-names_given m limit detail symbol bytes written shown old new is given same appended =
-    written_given m limit detail symbol bytes written shown old new (subst (λ d. IsAnswer m d symbol limit (Ok written)) (sym is) given) same appended
+    (front ++ bytes, ap (with_front front) (law ∙ ap answered (sym is)), pushed)

@@ -1,5 +1,5 @@
 -- What is answered for a symbol of each mangling.
-use Rattle.std.specs.Prelude.{◌≡◌, ℕ, ◌+◌, ◌*◌, ◌≤◌, List, ◌++◌, length, Result, Ok, Err}
+use Rattle.std.specs.Prelude.{◌≡◌, ℕ, ◌+◌, ◌*◌, ◌≤◌, List, ◌++◌, length, Bool, if◌then◌else◌, Result, Ok, Err}
 use Rattle.sym_core.specs.declared.refusal.Refusal.{Refusal}
 use Rattle.sym_print.specs.declared.detail.Detail.{Detail}
 use Rattle.sym_shape.specs.declared.rule.Row.{Row}
@@ -22,6 +22,7 @@ use Rattle.sym_core.specs.declared.counts.Counts.{Counts}
 use Rattle.cpp_press_laws.specs.Pressing as cpp_spelling
 use Rattle.rust_press.specs.Pressing as rust_spelling
 use Rattle.sym_filter.specs.Kinds.{underscore_of}
+use Rattle.sym_filter.specs.Runs.{Answering}
 use Rattle.sym_languages.specs.Pressed.{pressed_answer}
 use Rattle.sym_filter.specs.declared.kinds.Kind.{Kind}
 use Rattle.sym_filter.specs.declared.kinds.Lang.{Lang}
@@ -43,17 +44,20 @@ answer_of limit detail kind symbol = language_answer limit detail kind.lang symb
 abbrev pub wide_answer_of : ℕ → Detail → Kind → List ℕ → Result (List ℕ) Refusal
 wide_answer_of limit detail kind symbol = language_answer_by wide_mangled limit detail kind.lang symbol
 
--- where legacy Rust names, each of which is a C++ symbol, are the paths that they stand for
-abbrev pub legacy_answer_of : ℕ → Detail → Kind → List ℕ → Result (List ℕ) Refusal
-legacy_answer_of limit detail kind symbol = legacy_answer limit symbol (answer_of limit detail kind symbol)
+-- with this grammar of C++; legacy Rust names, each of which is a C++ symbol, are answered as these or as the paths that they stand for
+abbrev pub answers_by : {W : Type 0} → Mangled W → (legacy : Bool) → (limit : ℕ) → Detail → Answering
+answers_by cpp legacy limit detail =
+    if legacy then (λ kind symbol. legacy_answer limit symbol (language_answer_by cpp limit detail kind.lang symbol))
+    else (λ kind symbol. language_answer_by cpp limit detail kind.lang symbol)
 
-abbrev pub legacy_wide_answer_of : ℕ → Detail → Kind → List ℕ → Result (List ℕ) Refusal
-legacy_wide_answer_of limit detail kind symbol = legacy_answer limit symbol (wide_answer_of limit detail kind symbol)
+-- the wide grammar of C++ or the other
+abbrev pub cpp_by : (wide : Bool) → Mangled Term
+cpp_by wide = if wide then wide_mangled else cpp_mangled
 
 -- what comes before an answer that isn't a refusal
-abbrev pub behind_front : List ℕ → Result (List ℕ) Refusal → Result (List ℕ) Refusal
-behind_front front (Ok text) = Ok (front ++ text)
-behind_front front (Err refusal) = Err refusal
+abbrev pub with_front : List ℕ → Result (List ℕ) Refusal → Result (List ℕ) Refusal
+with_front front (Ok text) = Ok (front ++ text)
+with_front front (Err refusal) = Err refusal
 
 -- where symbols are pressed
 abbrev pub pressed_language : Lang → List ℕ → Result (List ℕ) Refusal
@@ -62,7 +66,7 @@ pressed_language Rust symbol = pressed_answer v0_mangled rust_spelling.pressed s
 
 -- the pressed spelling comes after the underscore that was dropped
 abbrev pub pressed_of : Kind → List ℕ → Result (List ℕ) Refusal
-pressed_of kind symbol = behind_front (underscore_of kind.skip) (pressed_language kind.lang symbol)
+pressed_of kind symbol = with_front (underscore_of kind.skip) (pressed_language kind.lang symbol)
 
 -- The symbols of a mangling that are read: W are the trees that they stand for, R what is kept of them.
 pub record Readings (W R : Type 0) : Type 1 where

@@ -3,13 +3,12 @@ ghost use Rattle.std.specs.Prelude.{◌≡◌, Ok, true};
 ghost use Rattle.sym_core.specs.Number.{FitsSymbol};
 ghost use Rattle.sym_print.specs.Details.{has_arguments};
 ghost use Rattle.sym_demangle.specs.Mangled.{IsAnswer, answer};
-ghost use Rattle.sym_print.specs.declared.detail.Detail.TheVariants as details;
 ghost use Rattle.sym_filter.specs.Demangled.{IsAppended, IsDemangled};
 ghost use Rattle.sym_languages.specs.Languages.{AreCounts, AreCountsBy, language_answer_by};
 
 use crate::counted::Counted;
 use cpp_direct::Direct;
-use itanium::{Abi, Wide, write_names};
+use itanium::{Abi, Wide, write_less};
 use rust_v0::V0;
 use std::alloc::{AllocError, Global};
 use sym_core::Refusal;
@@ -19,22 +18,22 @@ use sym_print::Detail;
 
 /// A grammar of C++ symbols.
 pub trait Cpp: Counted {
-    /// Writes the text of a symbol without parameters, if the symbol is one that goes the short way and its text costs at most the
-    /// limit, and answers whether it did. Where it didn't, nothing is known of the symbol.
-    fn write_names(direct: &mut Self::Direct, symbol: &[u8], limit: u32) -> bool
+    /// Writes the text of a symbol of which less is shown than all of it, if the symbol is one that goes the short way and its text
+    /// costs at most the limit, and answers whether it did. Where it didn't, nothing is known of the symbol.
+    fn write_less(direct: &mut Self::Direct, symbol: &[u8], limit: u32, detail: Detail) -> bool
         requires { FitsSymbol symbol.now }
-        ensures { result ≡ true → IsAnswer Self.mangled details.NoParameters symbol.now limit (Ok (Self.written direct.new)) };
+        ensures { result ≡ true → IsAnswer Self.mangled detail symbol.now limit (Ok (Self.written direct.new)) };
 }
 
 impl Cpp for Abi {
-    fn write_names(direct: &mut Direct, symbol: &[u8], limit: u32) -> bool {
-        write_names(direct, symbol, limit, false)
+    fn write_less(direct: &mut Direct, symbol: &[u8], limit: u32, detail: Detail) -> bool {
+        write_less(direct, symbol, limit, false, detail)
     }
 }
 
 impl Cpp for Wide {
-    fn write_names(direct: &mut Direct, symbol: &[u8], limit: u32) -> bool {
-        write_names(direct, symbol, limit, true)
+    fn write_less(direct: &mut Direct, symbol: &[u8], limit: u32, detail: Detail) -> bool {
+        write_less(direct, symbol, limit, true, detail)
     }
 }
 
@@ -51,8 +50,8 @@ pub struct Languages<C: Cpp> {
 pub struct Lists<C: Cpp> {
     pub cpp: Workspace<C>,
     pub rust: Workspace<V0>,
-    // those of the short way without parameters
-    names: C::Direct,
+    // those of the short way where less than all is shown
+    less: C::Direct,
 }
 
 impl<C: Cpp> Lists<C> {
@@ -60,7 +59,7 @@ impl<C: Cpp> Lists<C> {
         Lists {
             cpp: Workspace::new(alloc),
             rust: Workspace::new(alloc),
-            names: C::direct(alloc),
+            less: C::direct(alloc),
         }
     }
 
@@ -132,7 +131,7 @@ fn with_parameters(detail: Detail) -> Detail
     }
 }
 
-/// Appends the text of a C++ symbol, where it has one: without parameters by a short way as well, if the symbol goes that.
+/// Appends the text of a C++ symbol, where it has one: where less than all is shown by a short way as well, if the symbol goes that.
 fn append_cpp<C: Cpp>(
     lists: &mut Lists<C>,
     symbol: &[u8],
@@ -143,10 +142,8 @@ fn append_cpp<C: Cpp>(
     requires { FitsSymbol symbol.now }
     ensures { IsAppended (answer C.mangled detail symbol.now limit) out.old.items out.new.items result }
 {
-    if let Detail::NoParameters = detail
-        && C::write_names(&mut lists.names, symbol, limit)
-    {
-        out.extend_from_slice(C::text(&lists.names))?;
+    if detail != Detail::Full && C::write_less(&mut lists.less, symbol, limit, detail) {
+        out.extend_from_slice(C::text(&lists.less))?;
         return Ok(());
     }
     append_in(&mut lists.cpp, symbol, limit, detail, out)

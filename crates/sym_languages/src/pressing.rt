@@ -6,7 +6,7 @@ ghost use Rattle.sym_core.specs.Number.{FitsSymbol};
 ghost use Rattle.sym_shape.specs.Decided.{AreBytes};
 ghost use Rattle.sym_demangle.specs.Mangled.{IsReading};
 ghost use Rattle.sym_filter.specs.Demangled.{IsDemangled};
-ghost use Rattle.sym_languages.specs.Languages.{AreCounts, AreCountsOf, behind_front, pressed_of};
+ghost use Rattle.sym_languages.specs.Languages.{AreCounts, AreCountsOf, with_front, pressed_of};
 ghost use Rattle.sym_filter.specs.Kinds.{underscore_of};
 
 use crate::counted::Counted;
@@ -136,7 +136,7 @@ fn press_into<M: Pressable>(
     out: &mut Vec<u8>,
 ) -> Demangled
     requires { FitsSymbol symbol.now }
-    ensures { IsDemangled (behind_front (underscore_of skip) (M.answer symbol.now))
+    ensures { IsDemangled (with_front (underscore_of skip) (M.answer symbol.now))
         (AreCounts (record { mangled = M.mangled; IsRead = M.is_read; bytes_of = M.bytes_of; whole_of = M.whole_of; are_nodes = M.are_nodes; nodes_a_byte = M.nodes_a_byte }) symbol.now)
         out.old.items out.new.items result }
 {
@@ -150,14 +150,14 @@ fn press_into<M: Pressable>(
     let Ok(pressed) = pressed else {
         return Demangled::Refused(Refusal::Memory);
     };
-    match push_behind_underscore(skip, &pressed, out) {
+    match push_after_underscore(skip, &pressed, out) {
         Ok(()) => Demangled::Text(counts),
         Err(_) => Demangled::Refused(Refusal::Memory),
     }
 }
 
 /// Appends bytes after the underscore that was dropped, or nothing.
-fn push_behind_underscore(skip: u32, bytes: &[u8], out: &mut Vec<u8>) -> Result<(), AllocError>
+fn push_after_underscore(skip: u32, bytes: &[u8], out: &mut Vec<u8>) -> Result<(), AllocError>
     ensures pushed { OnOk result (out.new.items ≡ out.old.items ++ (underscore_of skip ++ bytes.now)) }
     ensures same { OnErr result (out.new.items ≡ out.old.items) }
 {

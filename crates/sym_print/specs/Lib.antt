@@ -3,6 +3,7 @@ pub mod Building
 pub mod Answer
 pub mod Joined
 pub mod Stacked
+pub mod Noted
 pub mod Held
 pub mod Progress
 pub mod Printing

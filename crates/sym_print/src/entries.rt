@@ -1,14 +1,18 @@
 // The work stack: its entries are taken one at a time, and paid for.
 #![tactic(auto)]
 
-ghost use Rattle.std.specs.Prelude.{◌≡◌, ◌+◌, ◌*◌, ◌-◌, ◌<◌, ◌≤◌, ◌++◌, length, take, vec_len, vec_capacity, is_ok, if◌then◌else◌, [], Err, IfErr, OnOk, OnErr, ◌⊎◌};
+ghost use Rattle.std.specs.Prelude.{◌≡◌, ◌+◌, ◌*◌, ◌-◌, ◌<◌, ◌≤◌, ◌++◌, length, take, drop, vec_len, vec_capacity, is_ok, if◌then◌else◌, [], Err, IfErr, OnOk, OnErr, ◌⊎◌};
 ghost use Rattle.std.specs.List.{All};
 ghost use Rattle.sym_print.specs.Joined.{text_of_stack, cost_of_stack, steps_of_stack, IsText, IsNext};
+ghost use Rattle.sym_print.specs.Noted.{IsNote, AreNoted, AreBelow, EndsAt};
+ghost use Rattle.sym_print.specs.Stacked.{Stacked};
+ghost use Rattle.sym_print.specs.Unshared.{text_of};
 ghost use Rattle.sym_print.specs.declared.layout.Part.{Part};
 ghost use Rattle.sym_core.specs.declared.Refusal.{Refusal};
 
 use crate::layout::{Item, Layout, Part};
 use crate::meter::Meter;
+use crate::notes::{Begun, Note, Notes};
 use std::alloc::AllocError;
 use sym_core::Refusal;
 
@@ -134,6 +138,7 @@ pub(crate) fn open_item<Y: Layout>(
     ensures cost { meter.new.spent + cost_of_stack (Y.unshared y.now) (Y.bytes_of y.now) stack.new.items ≡ meter.old.spent + cost_of_stack (Y.unshared y.now) (Y.bytes_of y.now) stack.old.items }
     ensures remaining { meter.new.steps + steps_of_stack (Y.unshared y.now) (Y.bytes_of y.now) stack.new.items ≡ meter.old.steps + steps_of_stack (Y.unshared y.now) (Y.bytes_of y.now) stack.old.items }
     ensures limit { meter.new.limit ≡ meter.old.limit }
+    ensures parts { OnOk result (Stacked (Y.unshared y.now) (Y.bytes_of y.now) (Y.may_come y.now) (take (length stack.old.items - 1) stack.old.items) stack.new.items (Y.unshared y.now item)) }
     ensures spent { OnOk result (meter.new.spent ≡ meter.old.spent + 1) }
     ensures steps { OnOk result (meter.new.steps ≡ meter.old.steps + 1) }
     ensures err { OnErr result ((stack.new.items ≡ stack.old.items) × (meter.new ≡ meter.old)) }
@@ -183,11 +188,160 @@ pub(crate) fn print_text<Y: Layout>(
     Ok(())
 }
 
+/// Adds a copy of some of a text's bytes to its end.
+fn append_again(text: &mut Vec<u8>, from: usize, to: usize) -> Result<(), AllocError>
+    requires from { from ≤ to }
+    requires to { to ≤ length text.old.items }
+    requires fits { length text.old.items + (to - from) ≤ 4294967295 }
+    ensures items { OnOk result (text.new.items ≡ text.old.items ++ take (to - from) (drop from text.old.items)) }
+    ensures same { OnErr result (text.new.items ≡ text.old.items) }
+    ensures capacity { vec_capacity text.old ≤ vec_capacity text.new }
+    ensures full { OnErr result (vec_capacity text.old < vec_len text.old + (to - from)) }
+{
+    let end = text.len();
+    text.resize(end + (to - from), 0)?;
+    let (written, copied) = text.split_at_mut(end);
+    copied.copy_from_slice(&written[from..to]);
+    Ok(())
+}
+
+/// Writes the text of the next entry, an item that is noted, again, and takes it from the stack.
+fn write_again<Y: Layout>(
+    _y: &Y,
+    note: &Note<Y::Ctx>,
+    stack: &mut Vec<Part<Y::Ctx>>,
+    text: &mut Vec<u8>,
+    meter: &mut Meter,
+) -> Result<(), Refusal>
+    requires some { 0 < vec_len stack.old }
+    requires is { IsNote (Y.unshared _y.now) text.old.items note.now }
+    requires paid { vec_len text.old ≤ meter.old.spent }
+    ensures text { OnOk result (text.new.items ≡ text.old.items ++ text_of (Y.unshared _y.now note.now.item)) }
+    ensures items { OnOk result (stack.new.items ≡ take (length stack.old.items - 1) stack.old.items) }
+    ensures len { OnOk result (vec_len stack.new + 1 ≡ vec_len stack.old) }
+    ensures spent { OnOk result (meter.new.spent ≡ meter.old.spent + note.now.cost) }
+    ensures steps { OnOk result (meter.new.steps ≡ meter.old.steps + note.now.steps) }
+    ensures limit { meter.new.limit ≡ meter.old.limit }
+    ensures same_stack { OnErr result (stack.new.items ≡ stack.old.items) }
+    ensures same_text { OnErr result (text.new.items ≡ text.old.items) }
+    ensures same_meter { OnErr result (meter.new ≡ meter.old) }
+    ensures entry_room { vec_capacity stack.old ≤ vec_capacity stack.new }
+    ensures text_room { vec_capacity text.old ≤ vec_capacity text.new }
+    ensures own { IfErr result (λ r. (r ≡ Refusal.TooLong) ⊎ (r ≡ Refusal.Memory)) }
+    ensures too_long { result ≡ Err Refusal.TooLong → meter.old.limit < meter.old.spent + note.now.cost }
+    ensures memory { result ≡ Err Refusal.Memory → vec_capacity text.old < meter.old.limit }
+{
+    if !meter.affords(note.cost as usize) {
+        return Err(Refusal::TooLong);
+    }
+    append_again(text, note.from as usize, note.to as usize)?;
+    meter.pay_steps(note.cost, note.steps);
+    stack.pop();
+    Ok(())
+}
+
+/// Notes the innermost item that is being written, which is whole.
+fn note_whole<Y: Layout>(
+    _y: &Y,
+    _stack: &Vec<Part<Y::Ctx>>,
+    text: &Vec<u8>,
+    notes: &mut Notes<Y::Ctx>,
+    meter: &Meter,
+)
+    requires noted { AreNoted (Y.unshared _y.now) (Y.bytes_of _y.now) notes.old _stack.now.items text.now.items meter.now.spent meter.now.steps }
+    requires whole { EndsAt (length _stack.now.items) notes.old.begun.items }
+    requires paid { vec_len text.now ≤ meter.now.spent }
+    ensures noted { AreNoted (Y.unshared _y.now) (Y.bytes_of _y.now) notes.new _stack.now.items text.now.items meter.now.spent meter.now.steps }
+    ensures fewer { vec_len notes.new.begun + 1 ≡ vec_len notes.old.begun }
+{
+    if let Some(begun) = notes.begun.pop() {
+        notes.add(Note {
+            item: begun.item,
+            from: begun.from,
+            to: text.len() as u32,
+            cost: meter.spent - begun.spent,
+            steps: meter.steps - begun.steps,
+        });
+    }
+}
+
+/// Notes that the next entry, an item, is being written, if it is one to be noted.
+#[inline(always)]
+fn begin_item<Y: Layout>(
+    y: &Y,
+    item: Item<Y::Ctx>,
+    stack: &Vec<Part<Y::Ctx>>,
+    text: &Vec<u8>,
+    notes: &mut Notes<Y::Ctx>,
+    meter: &Meter,
+)
+    requires next { IsNext stack.now.items (Part.Sub item) }
+    requires may_come { All (Y.may_come y.now) stack.now.items }
+    requires noted { AreNoted (Y.unshared y.now) (Y.bytes_of y.now) notes.old stack.now.items text.now.items meter.now.spent meter.now.steps }
+    requires below { AreBelow (length stack.now.items) notes.old.begun.items }
+    requires paid { vec_len text.now ≤ meter.now.spent }
+    ensures noted { AreNoted (Y.unshared y.now) (Y.bytes_of y.now) notes.new stack.now.items text.now.items meter.now.spent meter.now.steps }
+    ensures below { AreBelow (length stack.now.items) notes.new.begun.items }
+    ensures few { vec_len notes.new.begun ≤ vec_len notes.old.begun + 1 }
+{
+    if y.is_noted(item) {
+        notes.begin(Begun {
+            item,
+            below: stack.len() - 1,
+            from: text.len() as u32,
+            spent: meter.spent,
+            steps: meter.steps,
+        });
+    }
+}
+
+/// Takes the next entry, an item: what it prints is written again where that is noted, else its parts take its place.
+#[inline(always)]
+fn print_item<Y: Layout>(
+    y: &Y,
+    item: Item<Y::Ctx>,
+    stack: &mut Vec<Part<Y::Ctx>>,
+    text: &mut Vec<u8>,
+    notes: &mut Notes<Y::Ctx>,
+    meter: &mut Meter,
+) -> Result<(), Refusal>
+    requires next { IsNext stack.old.items (Part.Sub item) }
+    requires may_come { All (Y.may_come y.now) stack.old.items }
+    requires noted { AreNoted (Y.unshared y.now) (Y.bytes_of y.now) notes.old stack.old.items text.old.items meter.old.spent meter.old.steps }
+    requires below { AreBelow (length stack.old.items) notes.old.begun.items }
+    requires paid { vec_len text.old ≤ meter.old.spent }
+    requires stack_paid { vec_len stack.old ≤ 7 * meter.old.spent + 1 }
+    ensures paid { vec_len text.new ≤ meter.new.spent }
+    ensures stack_paid { vec_len stack.new ≤ 7 * meter.new.spent + 1 }
+    ensures may_come { All (Y.may_come y.now) stack.new.items }
+    ensures text { text.new.items ++ text_of_stack (Y.unshared y.now) (Y.bytes_of y.now) stack.new.items ≡ text.old.items ++ text_of_stack (Y.unshared y.now) (Y.bytes_of y.now) stack.old.items }
+    ensures cost { meter.new.spent + cost_of_stack (Y.unshared y.now) (Y.bytes_of y.now) stack.new.items ≡ meter.old.spent + cost_of_stack (Y.unshared y.now) (Y.bytes_of y.now) stack.old.items }
+    ensures remaining { meter.new.steps + steps_of_stack (Y.unshared y.now) (Y.bytes_of y.now) stack.new.items ≡ meter.old.steps + steps_of_stack (Y.unshared y.now) (Y.bytes_of y.now) stack.old.items }
+    ensures limit { meter.new.limit ≡ meter.old.limit }
+    ensures noted { OnOk result (AreNoted (Y.unshared y.now) (Y.bytes_of y.now) notes.new stack.new.items text.new.items meter.new.spent meter.new.steps) }
+    ensures few { OnOk result (vec_len notes.new.begun ≤ vec_len notes.old.begun + 1) }
+    ensures spends { OnOk result (meter.old.spent < meter.new.spent) }
+    ensures entry_room { vec_capacity stack.old ≤ vec_capacity stack.new }
+    ensures text_room { vec_capacity text.old ≤ vec_capacity text.new }
+    ensures own { IfErr result (λ r. (r ≡ Refusal.TooLong) ⊎ (r ≡ Refusal.Memory)) }
+    ensures too_long { result ≡ Err Refusal.TooLong → meter.old.limit < meter.old.spent + cost_of_stack (Y.unshared y.now) (Y.bytes_of y.now) stack.old.items }
+    ensures memory { result ≡ Err Refusal.Memory → (vec_capacity stack.old < 8 * (meter.old.limit + 1)) ⊎ (vec_capacity text.old < meter.old.limit) }
+{
+    if let Some(note) = notes.get(y, item) {
+        write_again(y, note, stack, text, meter)?;
+        return Ok(());
+    }
+    begin_item(y, item, stack, text, notes, meter);
+    open_item(y, item, stack, meter)?;
+    Ok(())
+}
+
 /// Takes entries until none is left.
 pub(crate) fn print_entries<Y: Layout>(
     y: &Y,
     stack: &mut Vec<Part<Y::Ctx>>,
     text: &mut Vec<u8>,
+    notes: &mut Notes<Y::Ctx>,
     meter: &mut Meter,
 ) -> Result<(), Refusal>
     requires may_come { All (Y.may_come y.now) stack.old.items }
@@ -207,11 +361,16 @@ pub(crate) fn print_entries<Y: Layout>(
     ensures too_long { result ≡ Err Refusal.TooLong → meter.old.limit < meter.old.spent + cost_of_stack (Y.unshared y.now) (Y.bytes_of y.now) stack.old.items }
     ensures memory { result ≡ Err Refusal.Memory → (vec_capacity stack.old < 8 * (meter.old.limit + 1)) ⊎ (vec_capacity text.old < meter.old.limit) }
 {
+    notes.clear();
     while let Some(next) = stack.last() {
+        if notes.is_whole(stack.len()) {
+            note_whole(y, stack, text, notes, meter);
+            continue;
+        }
         match next {
             Part::Sub(item) => {
                 let item = *item;
-                open_item(y, item, stack, meter)?;
+                print_item(y, item, stack, text, notes, meter)?;
             }
             _ => {
                 write_text(y, next, text, meter)?;

@@ -1,7 +1,7 @@
 // What a printer can print: items, each with at most eight parts.
 #![tactic(auto)]
 
-ghost use Rattle.std.specs.Prelude.{◌≡◌, ℕ, ◌+◌, ◌<◌, ◌≤◌, length, vec_len, vec_capacity, List, []};
+ghost use Rattle.std.specs.Prelude.{◌≡◌, ℕ, ◌+◌, ◌<◌, ◌≤◌, length, vec_len, vec_capacity, List, [], true};
 ghost use Rattle.std.specs.List.{All};
 
 use arrayvec::ArrayVec;
@@ -100,6 +100,21 @@ pub trait Layout {
         requires is_text { IsText part.now }
         ensures bytes { result.now ≡ bytes_of self.now part.now }
         ensures not_empty { 0 < length result.now };
+
+    /// Whether what an item prints is noted once it is written, and written again from there where the same item comes again.
+    /// Any answer is right: of most items the parts are as fast.
+    fn is_noted(&self, _item: Item<Self::Ctx>) -> bool
+        requires may_come { may_come self.now (Part.Sub _item) }
+    {
+        false
+    }
+
+    /// Whether two items are known to be the same one.
+    fn is_same(&self, _one: &Item<Self::Ctx>, _other: &Item<Self::Ctx>) -> bool
+        ensures { result ≡ true → _one.now ≡ _other.now }
+    {
+        false
+    }
 
     /// The parts of an item, in order.
     final fn parts(&self, item: Item<Self::Ctx>) -> ArrayVec<Part<Self::Ctx>, 8>

@@ -5,6 +5,7 @@ mod detail;
 mod entries;
 mod layout;
 mod meter;
+mod notes;
 mod part_list;
 mod printer;
 

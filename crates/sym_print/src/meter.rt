@@ -49,4 +49,19 @@ impl Meter {
             steps: self.steps + 1,
         };
     }
+
+    /// Spends `cost` in so many steps at once.
+    pub(crate) fn pay_steps(&mut self, cost: u32, steps: u64)
+        requires affords { self.old.spent + cost ≤ self.old.limit }
+        requires paid { steps ≤ cost }
+        ensures spent { self.new.spent ≡ self.old.spent + cost }
+        ensures limit { self.new.limit ≡ self.old.limit }
+        ensures steps { self.new.steps ≡ self.old.steps + steps }
+    {
+        *self = Meter {
+            spent: self.spent + cost,
+            limit: self.limit,
+            steps: self.steps + steps,
+        };
+    }
 }

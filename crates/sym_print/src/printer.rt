@@ -12,6 +12,7 @@ ghost use Rattle.sym_core.specs.declared.Refusal.{Refusal};
 use crate::entries::{open_item, print_entries, print_text};
 use crate::layout::{Item, Layout, Part};
 use crate::meter::Meter;
+use crate::notes::Notes;
 use std::alloc::Global;
 use sym_core::Refusal;
 
@@ -25,6 +26,7 @@ use sym_core::Refusal;
 pub struct Printer<C: Copy> {
     stack: Vec<Part<C>>,
     text: Vec<u8>,
+    notes: Notes<C>,
     meter: Meter,
     refusal: Option<Refusal>,
     ghost text_is_paid: { vec_len text ≤ meter.spent },
@@ -46,6 +48,7 @@ impl<C: Copy> Printer<C> {
         Printer {
             stack: Vec::new(alloc),
             text: Vec::new(alloc),
+            notes: Notes::idle(alloc),
             meter: Meter::new(0),
             refusal: None,
         }
@@ -183,7 +186,13 @@ impl<C: Copy> Printer<C> {
         if let Some(refusal) = self.refusal {
             return Err(refusal);
         }
-        let outcome = print_entries(y, &mut self.stack, &mut self.text, &mut self.meter);
+        let outcome = print_entries(
+            y,
+            &mut self.stack,
+            &mut self.text,
+            &mut self.notes,
+            &mut self.meter,
+        );
         self.refusal = outcome.err();
         outcome
     }
@@ -203,6 +212,7 @@ impl<C: Copy> Printer<C> {
         let Printer {
             stack: _,
             text,
+            notes: _,
             meter: _,
             refusal: _,
         } = self;

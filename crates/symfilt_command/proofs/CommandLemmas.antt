@@ -24,7 +24,8 @@ use Rattle.sym_command.specs.declared.outcome.Run.{Run}
 use Rattle.sym_command.specs.declared.outcome.Run.TheVariants.{Done, Filter}
 use Rattle.sym_command.proofs.CommandLemmas.{faulty}
 use Rattle.sym_command.proofs.PageLemmas.{Took-said, OnErr-anyway}
-use Rattle.symfilt_command.specs.Command.{answers_at, answers_by, answers_of, counting_at, counting_of, filter_answers, AreBegun, IsRunOf, IsRun, IsStopped, Filtered, FilteredFront}
+use Rattle.sym_languages.specs.Languages.{answers_by}
+use Rattle.symfilt_command.specs.Command.{answers_at, answers_of, counting_at, counting_of, filter_answers, AreBegun, IsRunOf, IsRun, IsStopped, Filtered, FilteredFront}
 
 -- ## What is answered
 

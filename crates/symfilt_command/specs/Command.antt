@@ -1,14 +1,12 @@
 -- What the program did, by the words of its command line.
-use Rattle.std.specs.Prelude.{◌≡◌, ◌≢◌, ◌⊎◌, ℕ, List, [], Bool, true, false, if◌then◌else◌, Option}
+use Rattle.std.specs.Prelude.{◌≡◌, ◌≢◌, ◌⊎◌, ℕ, List, [], Bool, if◌then◌else◌, Option}
 use Rattle.std.specs.Io.KnownBytes.{Appends}
 use Rattle.sym_print.specs.declared.detail.Detail.{Detail}
 use Rattle.sym_filter.specs.Runs.{Answering}
 use Rattle.sym_filter.specs.Streams.{FiltersAllAt, FiltersFrontAt}
 use Rattle.sym_filter.specs.declared.words.Tally.{Tally}
-use Rattle.sym_demangle.specs.Mangled.{Mangled}
 use Rattle.cpp_grammar.specs.Mangled.{cpp_mangled, wide_mangled}
-use Rattle.rust_legacy.specs.Text.{legacy_answer}
-use Rattle.sym_languages.specs.Languages.{language_answer_by, pressed_of, AreCountsOf, AreWideCountsOf}
+use Rattle.sym_languages.specs.Languages.{answers_by, pressed_of, AreCountsOf, AreWideCountsOf}
 use Rattle.clap.specs.Words.{Row, Text as Bytes}
 use Rattle.sym_command.specs.CommandLine.{AreGiven, AreRefused, AsksFilter, symbols_of, found_in, faults_in}
 use Rattle.sym_command.specs.Lines.{Counting}
@@ -19,11 +17,6 @@ use Rattle.sym_command.specs.declared.options.Options.{Options}
 use Rattle.sym_command.specs.declared.outcome.Filtering.{Filtering}
 use Rattle.sym_command.specs.declared.outcome.Run.{Run}
 use Rattle.sym_command.specs.declared.outcome.Run.TheVariants.{Done, Filter}
-
--- the texts of symbols at a limit and in a detail, with a grammar of C++, and legacy Rust names as C++ or as paths
-abbrev pub answers_by : {W : Type 0} → Mangled W → (legacy : Bool) → ℕ → Detail → Answering
-answers_by cpp false limit detail = λ kind symbol. language_answer_by cpp limit detail kind.lang symbol
-answers_by cpp true limit detail = λ kind symbol. legacy_answer limit symbol (language_answer_by cpp limit detail kind.lang symbol)
 
 -- what is asked of each symbol: its text, with C++ by either grammar, or its pressed spelling
 abbrev pub answers_at : Asked → (legacy : Bool) → ℕ → Detail → Answering

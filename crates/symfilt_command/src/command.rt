@@ -5,8 +5,8 @@ ghost use Rattle.clap.specs.declared.error.kind.ErrorKind.{ErrorKind as ErrorKin
 ghost use Rattle.sym_filter.specs.Streams.{reader_faults, writer_faults, FiltersAllAt, FiltersFrontAt};
 ghost use Rattle.sym_command.specs.Command.{Took, Says, AnswersWords, AnswersFront};
 ghost use Rattle.sym_command.specs.declared.outcome.Run.{Run as Run-type};
-ghost use Rattle.sym_languages.specs.Languages.{AreCountsBy};
-ghost use Rattle.symfilt_command.specs.Command.{answers_by, answers_of, counting_of, filter_answers, AreBegun, IsRun, IsRunOf, IsStopped, Ends, Stops};
+ghost use Rattle.sym_languages.specs.Languages.{answers_by, AreCountsBy};
+ghost use Rattle.symfilt_command.specs.Command.{answers_of, counting_of, filter_answers, AreBegun, IsRun, IsRunOf, IsStopped, Ends, Stops};
 
 use clap::error::ErrorKind;
 use clap::{ArgMatches, Error};

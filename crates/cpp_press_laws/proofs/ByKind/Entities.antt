@@ -1,16 +1,15 @@
 -- Entities in the scope of an encoding that were read fit, and the names and types that they are.
-use Rattle.std.proofs.Common.{◌≡◌, inl, inr, ℕ, [], ◌∷◌, Bool, true, false, refl, ap, sym, subst, ◌∙◌}
+use Rattle.std.proofs.Common.{◌≡◌, inl, inr, ℕ, [], Bool, true, false, refl, ap, sym, subst, ◌∙◌}
 use Rattle.sym_shape.specs.declared.rule.Sym.TheVariants.{Kind as OfKind}
 use Rattle.cpp_grammar.specs.declared.kind.Kind.{Kind}
 use Rattle.cpp_grammar.specs.declared.production.Production.{Production}
 use Rattle.cpp_grammar.specs.Grammar.{alternatives, number_of_kind, parts_of}
-use Rattle.cpp_grammar.specs.Term.{Qualifiers, RefQualifier, any_value, Term, local, within, string_literal}
+use Rattle.cpp_grammar.specs.Term.{any_value, Term, local, within, string_literal}
 use Rattle.cpp_grammar.specs.Values.{State, outermost, behind, Around, Value, unqualified, tree, tree_of, qualifiers_of, ref_of, mark_of, is_there, is_listed, part}
 use Rattle.cpp_grammar.specs.References.{is_function_type, with_type, with_unqualified}
 use Rattle.cpp_grammar.specs.Between.{after, extended, applied, between}
 use Rattle.cpp_grammar.specs.Meaning.{discriminator_of, meaning}
 use Rattle.cpp_grammar.specs.Unfolding as unfolding_
-use Rattle.cpp_grammar.specs.Unfolding.{byte_of}
 use Rattle.cpp_press_laws.specs.Texts.{qualifier_letters, mark_letter, name_letters}
 use Rattle.cpp_press_laws.specs.Pressing.{no_ways, type_ways, is_encoding, ways_of}
 use Rattle.cpp_press_laws.specs.Fits.{Slot, bare_type, Role, in_type, in_name_with, letters_of, begins_name, names_type, names_entity, names_in, IsSpellableDiscriminator}
@@ -22,7 +21,7 @@ use Rattle.cpp_press_laws.proofs.Fits.Locals.{local-typed, local-own}
 use Rattle.cpp_press_laws.proofs.Fits.Sorts.{KindFits}
 use Rattle.cpp_press_laws.proofs.Fits.Own.{piece-entity}
 use Rattle.cpp_press_laws.proofs.ByKind.Pieces.{string-literal-fits, type-begins, begins-entity}
-use Rattle.cpp_press_laws.proofs.ByKind.Known.{EncodingRead, KindRead, BranchRead, InFront, OpenedRead, opened-read, comes-as, kind-comes}
+use Rattle.cpp_press_laws.proofs.ByKind.Known.{EncodingRead, KindRead, BranchRead, InFront, OpenedRead, opened-read, by-parts}
 use Rattle.cpp_press_laws.proofs.ByKind.Pieced.{PieceRead, renamed, source-comes, internal-comes, local-type-comes}
 
 -- ## Entities and their discriminators
@@ -60,32 +59,20 @@ pub local-name-read : (around : Around) (at : ℕ) (old : State) (v : Value) (ne
     → OpenedRead Kind.CompleteName around at old v new Production.LocalName → KindRead Kind.CompleteName around v old new
 unfolding parts_of between number_of_kind meaning part unfolding_.behind tree_of qualifiers_of ref_of after
 local-name-read around at old v new o outer =
-    let g = o.goes tt in
-    let b = g.onward in
-    let n = b.onward in
-    let d = n.onward in
-    let e = g.read Kind.Encoding refl in
-    let entity = n.read Kind.Entity refl (tree_of g.value) e.is refl in
-    let number = d.read Kind.MaybeDiscriminator refl in
-    kind-comes Kind.CompleteName Production.LocalName tt (byte_of o.taken) around at old (g.value ∷ b.value ∷ n.value ∷ d.value ∷ [])
-    d.after v new d.onward
-    (λ out. local-name around g.value n.value d.value old g.after b.after n.after d.after e b.read.0 entity number.0 number.1) outer
+    by-parts (λ v s. KindRead Kind.CompleteName around v old s) Production.LocalName tt tt o (λ g s one b r end n t entity d u number out.
+    let e = one Kind.Encoding refl in
+    let tested = number Kind.MaybeDiscriminator refl in
+    local-name around g n d old s r t u e end.0 (entity Kind.Entity refl (tree_of g) e.is refl) tested.0 tested.1) outer
 
 pub local-type-solid : (takes : Slot → Bool) (kind : Kind) (around : Around) (at : ℕ) (old : State) (v : Value) (new : State)
     → InFront (OfKind (number_of_kind kind)) around at old → around.prefix ≡ outermost
     → OpenedRead kind around at old v new Production.LocalType → SolidFits takes around v old new
 unfolding parts_of between number_of_kind meaning part unfolding_.behind after
 local-type-solid takes kind around at old v new front outer o =
-    let g = o.goes tt in
-    let b = g.onward in
-    let n = b.onward in
-    let d = n.onward in
-    let e = g.read Kind.Encoding refl in
-    let entity = n.read Kind.TypeEntity refl (tree_of g.value) e.is refl in
-    let number = d.read Kind.MaybeDiscriminator refl in
-    comes-as (λ w s. SolidFits takes around w old s) Production.LocalType tt (byte_of o.taken) around at old
-    (g.value ∷ b.value ∷ n.value ∷ d.value ∷ []) d.after v new d.onward
-    (local-solid takes around g.value n.value d.value old g.after b.after n.after d.after e b.read.0 entity number.0 number.1)
+    by-parts (λ w s. SolidFits takes around w old s) Production.LocalType tt tt o (λ g s one b r end n t entity d u number.
+    let e = one Kind.Encoding refl in
+    let tested = number Kind.MaybeDiscriminator refl in
+    local-solid takes around g n d old s r t u e end.0 (entity Kind.TypeEntity refl (tree_of g) e.is refl) tested.0 tested.1)
 
 -- ## Names between N and E
 
@@ -93,44 +80,27 @@ pub nested-name-read : (around : Around) (at : ℕ) (old : State) (v : Value) (n
     → OpenedRead Kind.CompleteName around at old v new Production.NestedName → KindRead Kind.CompleteName around v old new
 unfolding parts_of between number_of_kind meaning part unfolding_.behind tree_of qualifiers_of ref_of
 nested-name-read around at old v new o outer =
-    let r = o.goes tt in
-    let w = r.onward in
-    let c = w.onward in
-    let m = c.onward in
-    let n = m.onward in
-    let still : m.after ≡ old = m.read Kind.MaybeRef refl ∙ c.read Kind.MaybeConst refl ∙ w.read Kind.MaybeVolatile refl
-    ∙ r.read Kind.MaybeRestrict refl in
-    let q : Qualifiers = record { restrict = is_there r.value; volatile = is_there w.value; const = is_there c.value } in
-    let ref : RefQualifier = mark_of m.value in
-    kind-comes Kind.CompleteName Production.NestedName tt (byte_of o.taken) around at old
-    (r.value ∷ w.value ∷ c.value ∷ m.value ∷ n.value ∷ []) n.after v new n.onward
-    (λ out. subst (λ s. OwnNameFits around (tree_of n.value) q ref s n.after) still ((n.read Kind.Nest refl (inl out)).1.own q ref)) outer
+    by-parts (λ v s. KindRead Kind.CompleteName around v old s) Production.NestedName tt tt o (λ r a restrict w b volatile c d const m e ref n s one out.
+    subst (λ q. OwnNameFits around (tree_of n) (record { restrict = is_there r; volatile = is_there w; const = is_there c }) (mark_of m) q s)
+    (ref Kind.MaybeRef refl ∙ const Kind.MaybeConst refl ∙ volatile Kind.MaybeVolatile refl ∙ restrict Kind.MaybeRestrict refl)
+    ((one Kind.Nest refl (inl out)).1.own (record { restrict = is_there r; volatile = is_there w; const = is_there c }) (mark_of m))) outer
 
 nested-entity-read : (around : Around) (at : ℕ) (old : State) (v : Value) (new : State)
     → OpenedRead Kind.Entity around at old v new Production.NestedName → KindRead Kind.Entity around v old new
 unfolding parts_of between number_of_kind meaning part unfolding_.behind tree_of qualifiers_of ref_of
 nested-entity-read around at old v new o e is scoped =
-    let r = o.goes tt in
-    let w = r.onward in
-    let c = w.onward in
-    let m = c.onward in
-    let n = m.onward in
-    let still : m.after ≡ old = m.read Kind.MaybeRef refl ∙ c.read Kind.MaybeConst refl ∙ w.read Kind.MaybeVolatile refl
-    ∙ r.read Kind.MaybeRestrict refl in
-    let q : Qualifiers = record { restrict = is_there r.value; volatile = is_there w.value; const = is_there c.value } in
-    let ref : RefQualifier = mark_of m.value in
-    kind-comes Kind.Entity Production.NestedName tt (byte_of o.taken) around at old
-    (r.value ∷ w.value ∷ c.value ∷ m.value ∷ n.value ∷ []) n.after v new n.onward
-    (λ f own here. subst (λ s. EntityFits around (tree_of n.value) (in_name_with q ref) s n.after) still
-    ((n.read Kind.Nest refl (inr (f, own, here))).1.entity (in_name_with q ref))) e is scoped
+    by-parts (λ v s. KindRead Kind.Entity around v old s) Production.NestedName tt tt o (λ r a restrict w b volatile c d const m x ref n s one f own here.
+    let role : Role = in_name_with (record { restrict = is_there r; volatile = is_there w; const = is_there c }) (mark_of m) in
+    subst (λ q. EntityFits around (tree_of n) role q s)
+    (ref Kind.MaybeRef refl ∙ const Kind.MaybeConst refl ∙ volatile Kind.MaybeVolatile refl ∙ restrict Kind.MaybeRestrict refl)
+    ((one Kind.Nest refl (inr (f, own, here))).1.entity role)) e is scoped
 
 nested-type-read : (around : Around) (at : ℕ) (old : State) (v : Value) (new : State)
     → OpenedRead Kind.TypeEntity around at old v new Production.NestedType → KindRead Kind.TypeEntity around v old new
 unfolding parts_of between number_of_kind meaning part unfolding_.behind
 nested-type-read around at old v new o e is scoped =
-    let n = o.goes tt in
-    kind-comes Kind.TypeEntity Production.NestedType tt (byte_of o.taken) around at old (n.value ∷ []) n.after v new n.onward
-    (λ f own here. (n.read Kind.Nest refl (inr (f, own, here))).1.entity in_type) e is scoped
+    by-parts (λ v s. KindRead Kind.TypeEntity around v old s) Production.NestedType tt tt o
+    (λ n s one f own here. (one Kind.Nest refl (inr (f, own, here))).1.entity in_type) e is scoped
 
 -- ## String literals
 
@@ -142,7 +112,7 @@ string-read : (around : Around) (at : ℕ) (old : State) (v : Value) (new : Stat
     → OpenedRead Kind.Entity around at old v new Production.StringLiteral → KindRead Kind.Entity around v old new
 unfolding parts_of meaning unfolding_.behind tree_of qualifiers_of ref_of extended letters_of name_letters qualifier_letters mark_letter names_in names_entity
 string-read around at old v new o e is scoped =
-    kind-comes Kind.Entity Production.StringLiteral tt (byte_of o.taken) around at old [] old v new (o.goes tt)
+    by-parts (λ v s. KindRead Kind.Entity around v old s) Production.StringLiteral tt tt o
     (λ f own here. subst (λ prefix. EntityFits around (extended prefix string_literal) plain_name old old) (sym here)
     (local-entity around f string_literal plain_name old old own here refl refl (string-literal-fits around old))) e is scoped
 

@@ -34,7 +34,7 @@ use Rattle.cpp_press_laws.specs.Spellable.{IsSpellableName, IsSpellableNumber}
 use Rattle.cpp_press_laws.proofs.ByKind.Leaves.{name-read}
 use Rattle.cpp_press_laws.proofs.ByKind.LeafKinds.{byte-read, number-read}
 use Rattle.cpp_press_laws.proofs.ByKind.Steps.{lambdas-go}
-use Rattle.cpp_press_laws.proofs.ByKind.Rules.{AllOf, OneOf, Opened, opened, OnGoing, PartGoes, PartsGo}
+use Rattle.cpp_press_laws.proofs.ByKind.Rules.{AllOf, OneOf, picked-one, Opened, opened, OnGoing, PartGoes, PartsGo}
 use Rattle.cpp_press_laws.proofs.Fits.Read.{Wherever}
 use Rattle.cpp_press_laws.proofs.Fits.Types.{TypeFits}
 use Rattle.cpp_press_laws.proofs.Fits.Names.{PrefixFits, PieceFits}
@@ -185,6 +185,11 @@ SymbolRead (OfKind k) around v old new = (kind : Kind) → number_of_kind kind �
 SymbolRead Name around v old new = (new ≡ old) × (v ≡ text (text_of v)) × IsSpellableName (text_of v)
 SymbolRead (Number kind) around v old new = (new ≡ old) × (v ≡ text (text_of v)) × AreDigitsOf kind (text_of v)
 SymbolRead (Byte b) around v old new = (new ≡ old) × (v ≡ nothing_there)
+
+-- what holds unless it was refused
+abbrev pub Unless : Going → (Next Value State Around → Type 0) → Type 0
+Unless (Ok next) G = G next
+Unless (Err e) G = Unit {0}
 
 -- a part that was read in its surroundings, and what follows after its value
 pub record PartRead (x : Sym) (f : Forest) (from : ℕ) (next : Next Value State Around) (rest : Forest → List Value → ℕ → State → Type 0) :
@@ -425,6 +430,24 @@ taken-as j k all around at old v new p o = record {
   goes = o.goes;
 }
 
+-- each of its productions is one of the other's
+pub taken-among : (j k : Kind) → each_below 256 (λ b. same_choice (choose j b) (choose k b)) ≡ true
+    → (around : Around) (at : ℕ) (old : State) (v : Value) (new : State) (some : List Alternative)
+    → OneOf some (OpenedRead j around at old v new) → OneOf (alternatives k) (OpenedRead k around at old v new)
+unfolding choose
+taken-among j k all around at old v new some o = each some o
+  where
+    one : (p : Production) → OpenedRead j around at old v new p → OneOf (alternatives k) (OpenedRead k around at old v new)
+    one p o =
+        let moved = taken-as j k all around at old v new p o in
+        picked-one (alternatives k) moved.byte p (OpenedRead k around at old v new) moved moved.chosen
+
+    each : (some : List Alternative) → OneOf some (OpenedRead j around at old v new) → OneOf (alternatives k) (OpenedRead k around at old v new)
+    each [] o = absurd o
+    each (a ∷ []) o = one a.production o
+    each (a ∷ b ∷ rest) (inl o) = one a.production o
+    each (a ∷ b ∷ rest) (inr o) = each (b ∷ rest) o
+
 -- ## What a production comes to
 
 abbrev IsPlain : Production → Type 0
@@ -448,6 +471,45 @@ comes-as P p plain byte around at old vs mid v new e one =
     subst (λ r. P (Found.value r) (Found.state r))
     (ok_same (found (Meant p byte around vs) (Later p byte around old vs mid)) (found v new)
     (sym (closes-plain p plain byte around at old vs mid) ∙ e)) one
+
+-- what is to be shown of a production where these parts follow
+abbrev pub Parts : Production → Around → (place : ℕ) → (P : List Value → State → Type 0) → List Sym → List Value → State → Type 0
+Parts p around place P [] vs s = P vs s
+Parts p around place P (x ∷ xs) vs s =
+    Unless (between p around place vs s) (λ next.
+    (v : Value) (after : State) → SymbolRead x next.context v next.state after → Parts p around place P xs (next.values ++ v ∷ []) after)
+
+each-part : (p : Production) (byte : ℕ) (around : Around) (place : ℕ) (old : State) (v : Value) (new : State) (R : Value → State → Type 0) → IsPlain p
+    → (xs : List Sym) (f : Forest) (vs : List Value) (from : ℕ) (s : State) → PartsRead p byte around place old v new xs f vs from s
+    → Parts p around place (λ ws t. R (Meant p byte around ws) (Later p byte around old ws t)) xs vs s → R v new
+each-part p byte around place old v new R plain [] f vs from s goes holds = comes-as R p plain byte around place old vs s v new goes holds
+each-part p byte around place old v new R plain (x ∷ xs) f vs from s goes holds =
+    go (between p around place vs s) goes holds (λ g ws later t. each-part p byte around place old v new R plain xs g ws later t)
+  where
+    P : List Value → State → Type 0
+    P ws t = R (Meant p byte around ws) (Later p byte around old ws t)
+
+    go : (g : Going) → OnGoing g (λ next. PartRead x f from next (PartsRead p byte around place old v new xs))
+        → Unless g (λ next. (w : Value) (after : State) → SymbolRead x next.context w next.state after → Parts p around place P xs (next.values ++ w ∷ []) after)
+        → ((g : Forest) (ws : List Value) (later : ℕ) (t : State) → PartsRead p byte around place old v new xs g ws later t
+        → Parts p around place P xs ws t → R v new) → R v new
+    go (Err d) one holds more = absurd one
+    go (Ok next) one holds more =
+        more one.others (next.values ++ one.value ∷ []) (from + length (spell one.shape)) one.after one.onward (holds one.value one.after one.read)
+
+-- what holds of a production's meaning, and the state after it, whatever its parts were read as, holds of what was read as it
+pub by-parts : (R : Value → State → Type 0) (p : Production) → IsPlain p → StaysInside p → {kind : Kind} {around : Around} {at : ℕ} {old : State}
+    {v : Value} {new : State} → (o : OpenedRead kind around at old v new p)
+    → Parts p around at (λ ws t. R (Meant p (byte_of o.taken) around ws) (Later p (byte_of o.taken) around old ws t)) (parts_of p) [] old → R v new
+by-parts R p plain stays {kind} {around} {at} {old} {v} {new} o holds =
+    each-part p (byte_of o.taken) around at old v new R plain (parts_of p) o.parts [] (at + length o.taken) old (o.goes stays) holds
+
+-- of types, lists and arguments
+pub fits-by-parts : (k : Kind) (p : Production) → IsPlain p → StaysInside p → {kind : Kind} {around : Around} {at : ℕ} {old : State} {v : Value}
+    {new : State} → (o : OpenedRead kind around at old v new p)
+    → Parts p around at (λ ws t. KindFits k around (Meant p (byte_of o.taken) around ws) old (Later p (byte_of o.taken) around old ws t)) (parts_of p) [] old
+    → KindFits k around v old new
+fits-by-parts k p plain stays {kind} {around} {at} {old} {v} {new} o holds = by-parts (λ w s. KindFits k around w old s) p plain stays o holds
 
 -- of a kind
 pub kind-comes : (kind : Kind) (p : Production) → IsPlain p → (byte : ℕ) (around : Around) (at : ℕ) (old : State) (vs : List Value)

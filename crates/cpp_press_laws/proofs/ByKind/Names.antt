@@ -6,7 +6,7 @@ use Rattle.cpp_grammar.specs.declared.kind.Kind.{Kind}
 use Rattle.cpp_grammar.specs.declared.production.Production.{Production}
 use Rattle.cpp_grammar.specs.KindNumbers.{ARGUMENTS_ALONE}
 use Rattle.cpp_grammar.specs.Grammar.{alternatives, number_of_kind, parts_of}
-use Rattle.cpp_grammar.specs.Term.{Term, in_std, instance, parameter}
+use Rattle.cpp_grammar.specs.Term.{Term, in_std, parameter}
 use Rattle.cpp_grammar.specs.Values.{State, outermost, Around, prefix_tree, prefix_listed, Value, tree, tree_of, piece_of, is_listed, is_there, qualifiers_of, ref_of, part}
 use Rattle.cpp_grammar.specs.References.{appended, with_prefix, parameter_named}
 use Rattle.cpp_grammar.specs.Between.{after, inside, extended, applied, no_items, named_so_far, listed_so_far, index_of, between, parameter_so_far}
@@ -20,10 +20,10 @@ use Rattle.cpp_press_laws.proofs.Fits.Templates.{std-template}
 use Rattle.cpp_press_laws.proofs.Fits.Nests.{std-nest}
 use Rattle.cpp_press_laws.proofs.Fits.Solids.{ParameterNamed}
 use Rattle.cpp_press_laws.proofs.Fits.Sorts.{NameRead, KindFits}
-use Rattle.cpp_press_laws.proofs.Fits.Typed.{abbreviated-type, name-type, parameter-name, type-with-s, arguments-read}
+use Rattle.cpp_press_laws.proofs.Fits.Typed.{abbreviated-type, name-type, parameter-name}
 use Rattle.cpp_press_laws.proofs.Fits.Own.{piece-solid, piece-own, nest-solid, std-own, named-own}
 use Rattle.cpp_press_laws.proofs.ByKind.Pieces.{type-begins, begins-function}
-use Rattle.cpp_press_laws.proofs.ByKind.Known.{OwnNameRead, InFront, PartRead, PartsRead, OpenedRead, opened-read, comes-as, BranchRead}
+use Rattle.cpp_press_laws.proofs.ByKind.Known.{OwnNameRead, InFront, PartRead, PartsRead, OpenedRead, opened-read, comes-as, by-parts, BranchRead}
 use Rattle.cpp_press_laws.proofs.ByKind.Pieced.{PieceRead, renamed, source-comes, internal-comes, local-type-comes, operator-comes}
 use Rattle.cpp_press_laws.proofs.ByKind.Nests.{parameter-goes}
 
@@ -34,15 +34,11 @@ arguments-come : (kind : Kind) (around : Around) (at : ℕ) (old : State) (v : V
     → OpenedRead kind around at old v new Production.Arguments → (v ≡ tree (tree_of v) true) × KindFits Kind.Arguments around v old new
 unfolding parts_of number_of_kind between inside tree_of meaning part unfolding_.behind
 arguments-come kind around at old v new o =
-    let a = o.goes tt in
-    let b = a.onward in
-    let byte : ℕ = byte_of o.taken in
-    comes-as (λ w s. (w ≡ tree (tree_of w) true) × KindFits Kind.Arguments around w old s) Production.Arguments tt byte around at old
-    (a.value ∷ b.value ∷ []) b.after v new b.onward (
+    by-parts (λ w s. (w ≡ tree (tree_of w) true) × KindFits Kind.Arguments around w old s) Production.Arguments tt tt o (λ w s one x q end. (
       refl,
-      subst (λ s. KindFits Kind.Arguments around (tree (no_items a.value) true) old s) (sym b.read.0)
-          (arguments-read around byte old a.value b.value old a.after (a.read Kind.ArgumentsFirst refl refl)),
-    )
+      subst (λ r. KindFits Kind.Arguments around (tree (no_items w) true) old r) (sym end.0)
+          (one Kind.ArgumentsFirst refl refl),
+    ))
 
 pub arguments-branch : BranchRead Kind.Arguments
 unfolding alternatives
@@ -75,54 +71,29 @@ std-name around p old new names one =
     }
 
 -- no tag comes after it
-std-type : (around : Around) (at : ℕ) (old : State) (v : Value) (new : State)
-    → OpenedRead Kind.TypeInStd around at old v new Production.TaggedStdType → NameRead around v old new
-unfolding parts_of number_of_kind between named_so_far applied is_there tree_of meaning part unfolding_.behind
-std-type around at old v new o =
-    let a = o.goes tt in
-    let b = a.onward in
-    let p : Term = piece_of a.value in
-    let one = a.read Kind.SourceOrLocal refl in
-    let none = b.read Kind.MaybeTags refl in
-    comes-as (λ w s. NameRead around w old s) Production.TaggedStdType tt (byte_of o.taken) around at old
-    (tree (in_std p) false ∷ b.value ∷ []) b.after v new b.onward
-    (subst (λ w. NameRead around (tree (applied (in_std p) w) false) old b.after) (sym none.0)
-    (subst (λ s. NameRead around (tree (in_std p) false) old s) (sym none.1) (std-name around p old a.after (begins-function p one.0) one.1)))
-
 pub type-in-std-branch : BranchRead Kind.TypeInStd
-unfolding alternatives
+unfolding alternatives parts_of number_of_kind between named_so_far applied is_there tree_of meaning part unfolding_.behind
 type-in-std-branch rule taken parts all around at old v new front is e outer =
     let o = opened-read Kind.TypeInStd rule taken parts all around at old v new front is e in
-    std-type around at old v new o
+    by-parts (λ w s. NameRead around w old s) Production.TaggedStdType tt tt o (λ w s read b q tags.
+    let one = read Kind.SourceOrLocal refl in
+    let none = tags Kind.MaybeTags refl in
+    subst (λ u. NameRead around (tree (applied (in_std (piece_of w)) u) false) old q) (sym none.0)
+    (subst (λ r. NameRead around (tree (in_std (piece_of w)) false) old r) (sym none.1)
+    (std-name around (piece_of w) old s (begins-function (piece_of w) one.0) one.1)))
 
 pub maybe-tags-branch : BranchRead Kind.MaybeTags
 unfolding alternatives
 maybe-tags-branch rule taken parts all around at old v new front is e =
     absurd (opened-read Kind.MaybeTags rule taken parts all around at old v new front is e)
 
-in-std : (around : Around) (at : ℕ) (old : State) (v : Value) (new : State) → around.prefix ≡ outermost
-    → OpenedRead Kind.TypeAfterS around at old v new Production.TypeInStd → NameRead around v old new
-unfolding parts_of number_of_kind between meaning part unfolding_.behind
-in-std around at old v new outer o =
-    let a = o.goes tt in
-    comes-as (λ w s. NameRead around w old s) Production.TypeInStd tt (byte_of o.taken) around at old (a.value ∷ []) a.after v new a.onward
-    (a.read Kind.TypeInStd refl outer)
-
-abbreviated : (around : Around) (at : ℕ) (old : State) (v : Value) (new : State)
-    → OpenedRead Kind.TypeAfterS around at old v new Production.AbbreviatedType → NameRead around v old new
-unfolding parts_of number_of_kind between
-abbreviated around at old v new o =
-    let a = o.goes tt in
-    let byte : ℕ = byte_of o.taken in
-    comes-as (λ w s. NameRead around w old s) Production.AbbreviatedType tt byte around at old (a.value ∷ []) a.after v new a.onward
-    (abbreviated-type around byte old a.value old a.after (a.read Kind.Abbreviation refl))
-
 pub type-after-s-branch : BranchRead Kind.TypeAfterS
-unfolding alternatives
+unfolding alternatives parts_of number_of_kind between meaning part unfolding_.behind
 type-after-s-branch rule taken parts all around at old v new front is e outer =
     elim (opened-read Kind.TypeAfterS rule taken parts all around at old v new front is e) [
-      | inl o ↦ in-std around at old v new outer o
-      | inr o ↦ abbreviated around at old v new o
+      | inl o ↦ by-parts (λ w s. NameRead around w old s) Production.TypeInStd tt tt o (λ w s one. one Kind.TypeInStd refl outer)
+      | inr o ↦ by-parts (λ w s. NameRead around w old s) Production.AbbreviatedType tt tt o
+          (λ w s one. abbreviated-type around (byte_of o.taken) old w old s (one Kind.Abbreviation refl))
     ]
 
 -- ## Names as types
@@ -130,15 +101,10 @@ type-after-s-branch rule taken parts all around at old v new front is e outer =
 pub with-s-solid : (takes : Slot → Bool) (kind : Kind) (around : Around) (at : ℕ) (old : State) (v : Value) (new : State)
     → InFront (OfKind (number_of_kind kind)) around at old → around.prefix ≡ outermost
     → OpenedRead kind around at old v new Production.TypeWithS → SolidFits takes around v old new
-unfolding parts_of number_of_kind between
+unfolding parts_of number_of_kind between meaning part unfolding_.behind
 with-s-solid takes kind around at old v new front outer o =
-    let a = o.goes tt in
-    let b = a.onward in
-    let byte : ℕ = byte_of o.taken in
-    comes-as (λ w s. SolidFits takes around w old s) Production.TypeWithS tt byte around at old (a.value ∷ b.value ∷ []) b.after v new
-    b.onward
-    (type-with-s takes around byte old a.value b.value old a.after b.after (a.read Kind.TypeAfterS refl outer)
-    (b.read Kind.ArgumentsAlone refl))
+    by-parts (λ w s. SolidFits takes around w old s) Production.TypeWithS tt tt o (λ w s one b q more.
+    name-type takes around w b old s q (one Kind.TypeAfterS refl outer) (more Kind.ArgumentsAlone refl))
 
 pub parameter-solid : (takes : Slot → Bool) (kind : Kind) (around : Around) (at : ℕ) (old : State) (v : Value) (new : State)
     → InFront (OfKind (number_of_kind kind)) around at old → around.prefix ≡ outermost
@@ -184,10 +150,8 @@ pub nested-solid : (takes : Slot → Bool) (kind : Kind) (around : Around) (at :
     → OpenedRead kind around at old v new Production.NestedType → SolidFits takes around v old new
 unfolding parts_of number_of_kind between meaning part unfolding_.behind
 nested-solid takes kind around at old v new front outer o =
-    let a = o.goes tt in
-    comes-as (λ w s. SolidFits takes around w old s) Production.NestedType tt (byte_of o.taken) around at old (a.value ∷ []) a.after v new
-    a.onward
-    (nest-solid takes around a.value old a.after (a.read Kind.Nest refl (inl outer)))
+    by-parts (λ w s. SolidFits takes around w old s) Production.NestedType tt tt o
+    (λ w s one. nest-solid takes around w old s (one Kind.Nest refl (inl outer)))
 
 -- a name of one piece
 read-solid : (takes : Slot → Bool) (around : Around) (v : Value) (old new : State) → around.prefix ≡ outermost
@@ -252,42 +216,17 @@ pub with-s-own : (around : Around) (at : ℕ) (old : State) (v : Value) (new : S
     → OpenedRead Kind.CompleteName around at old v new Production.NameWithS → OwnNameRead around v old new
 unfolding parts_of number_of_kind between meaning part unfolding_.behind
 with-s-own around at old v new outer o =
-    let a = o.goes tt in
-    comes-as (λ w s. OwnNameRead around w old s) Production.NameWithS tt (byte_of o.taken) around at old (a.value ∷ []) a.after v new
-    a.onward
-    (a.read Kind.NameAfterS refl outer)
-
--- after an S
-std-name-own : (around : Around) (at : ℕ) (old : State) (v : Value) (new : State)
-    → OpenedRead Kind.NameAfterS around at old v new Production.StdName → OwnNameRead around v old new
-unfolding parts_of number_of_kind between named_so_far tree_of qualifiers_of ref_of meaning part unfolding_.behind
-std-name-own around at old v new o =
-    let a = o.goes tt in
-    let b = a.onward in
-    let p : Term = piece_of a.value in
-    let one = a.read Kind.Unqualified refl in
-    comes-as (λ w s. OwnNameRead around w old s) Production.StdName tt (byte_of o.taken) around at old
-    (tree (in_std p) false ∷ b.value ∷ []) b.after v new b.onward
-    (std-own around p b.value old a.after b.after one.0 one.1 (b.read Kind.MaybeArguments refl))
-
-abbreviated-own : (around : Around) (at : ℕ) (old : State) (v : Value) (new : State)
-    → OpenedRead Kind.NameAfterS around at old v new Production.AbbreviatedName → OwnNameRead around v old new
-unfolding parts_of number_of_kind between listed_so_far applied is_there tree_of qualifiers_of ref_of meaning part unfolding_.behind
-abbreviated-own around at old v new o =
-    let a = o.goes tt in
-    let b = a.onward in
-    let behind_ = b.read Kind.Arguments refl in
-    let whole : instance (tree_of a.value) (tree_of b.value) ≡ applied (tree_of a.value) b.value =
-    sym (ap (λ w. applied (tree_of a.value) w) behind_.0) in
-    comes-as (λ w s. OwnNameRead around w old s) Production.AbbreviatedName tt (byte_of o.taken) around at old
-    (tree (tree_of a.value) true ∷ b.value ∷ []) b.after v new b.onward
-    (subst (λ t. OwnNameRead around (tree t false) old b.after) whole
-    (named-own around a.value b.value old a.after b.after (a.read Kind.Abbreviation refl) behind_.1))
+    by-parts (λ w s. OwnNameRead around w old s) Production.NameWithS tt tt o (λ w s one. one Kind.NameAfterS refl outer)
 
 pub name-after-s-branch : BranchRead Kind.NameAfterS
-unfolding alternatives
+unfolding alternatives parts_of number_of_kind between named_so_far listed_so_far applied is_there tree_of qualifiers_of ref_of meaning part unfolding_.behind
 name-after-s-branch rule taken parts all around at old v new front is e outer =
     elim (opened-read Kind.NameAfterS rule taken parts all around at old v new front is e) [
-      | inl o ↦ std-name-own around at old v new o
-      | inr o ↦ abbreviated-own around at old v new o
+      | inl o ↦ by-parts (λ w s. OwnNameRead around w old s) Production.StdName tt tt o (λ w s read b q more.
+          let one = read Kind.Unqualified refl in
+          std-own around (piece_of w) b old s q one.0 one.1 (more Kind.MaybeArguments refl))
+      | inr o ↦ by-parts (λ w s. OwnNameRead around w old s) Production.AbbreviatedName tt tt o (λ w s one b q more.
+          let behind_ = more Kind.Arguments refl in
+          subst (λ t. OwnNameRead around (tree t false) old q) (sym (ap (λ u. applied (tree_of w) u) behind_.0))
+          (named-own around w b old s q (one Kind.Abbreviation refl) behind_.1))
     ]

@@ -25,7 +25,7 @@ use Rattle.cpp_press_laws.proofs.Fits.Rests.{NestRead, SoFarFits, component-read
 use Rattle.cpp_press_laws.proofs.Fits.Firsts.{BeginsName, named-so-far, parameter-so-far, piece-so-far, arguments-so-far}
 use Rattle.cpp_press_laws.proofs.ByKind.Pieces.{type-begins, begins-function, function-member}
 use Rattle.cpp_press_laws.proofs.ByKind.Rules.{OneOf, OnGoing}
-use Rattle.cpp_press_laws.proofs.ByKind.Known.{KindRead, PartRead, PartsRead, OpenedRead, opened-read, comes-as, BranchRead}
+use Rattle.cpp_press_laws.proofs.ByKind.Known.{KindRead, PartRead, PartsRead, OpenedRead, opened-read, comes-as, by-parts, BranchRead}
 use Rattle.cpp_press_laws.proofs.ByKind.Pieced.{PieceRead, renamed, name-piece, source-comes, internal-comes, local-type-comes, other-operator-comes, operator-with-c-comes, constructor-comes, destructor-comes}
 
 -- ## After a name
@@ -35,8 +35,7 @@ nest-end : (outer : Around) (t : Term) (start : State) (at : ℕ) (old : State) 
     → OpenedRead Kind.NestTail (after t false outer) at old v new Production.NestEnd → NestRead outer v start new
 unfolding parts_of after prefix_tree prefix_listed tree_of meaning unfolding_.behind
 nest-end outer t start at old v new nest o =
-    comes-as (λ w s. NestRead outer w start s) Production.NestEnd tt (byte_of o.taken) (after t false outer) at old [] old v new (o.goes tt)
-    (refl, nest)
+    by-parts (λ w s. NestRead outer w start s) Production.NestEnd tt tt o (refl, nest)
 
 -- a further piece after what fits as a prefix
 nest-next : (kind : Kind) (outer : Around) (t : Term) (listed : Bool) (start : State) (at : ℕ) (old : State) (v : Value) (new : State)
@@ -44,12 +43,8 @@ nest-next : (kind : Kind) (outer : Around) (t : Term) (listed : Bool) (start : S
     → OpenedRead kind (after t listed outer) at old v new Production.NestNext → NestRead outer v start new
 unfolding parts_of number_of_kind between after prefix_tree meaning part unfolding_.behind
 nest-next kind outer t listed start at old v new apart prefix o =
-    let c = o.goes tt in
-    let one : NestRead outer c.value start c.after = c.read Kind.Component refl outer t start refl apart prefix in
-    let d = c.onward in
-    let two : NestRead outer d.value start d.after = d.read Kind.NestTail refl outer (tree_of c.value) start refl one.1 in
-    comes-as (λ w s. NestRead outer w start s) Production.NestNext tt (byte_of o.taken) (after t listed outer) at old
-    (c.value ∷ d.value ∷ []) d.after v new d.onward two
+    by-parts (λ w s. NestRead outer w start s) Production.NestNext tt tt o (λ w s one x q two.
+    two Kind.NestTail refl outer (tree_of w) start refl (one Kind.Component refl outer t start refl apart prefix).1)
 
 -- arguments, which end a prefix, and a further piece
 nest-arguments : (kind : Kind) (outer : Around) (t : Term) (listed : Bool) (start : State) (at : ℕ) (old : State) (v : Value) (new : State)
@@ -57,18 +52,12 @@ nest-arguments : (kind : Kind) (outer : Around) (t : Term) (listed : Bool) (star
     → NestRead outer v start new
 unfolding parts_of number_of_kind between listed_so_far after inside prefix_tree is_encoding meaning part unfolding_.behind
 nest-arguments kind outer t listed start at old v new so_far o =
-    let a = o.goes tt in
-    let b = a.onward in
-    let c = b.onward in
-    let d = c.onward in
-    let own : Term = instance t (no_items a.value) in
-    let prefix : PrefixFits outer own start (appended (after t listed outer) own b.after) =
-    subst (λ s. PrefixFits outer own start (appended (after t listed outer) own s)) (sym b.read.0)
-    (arguments-so-far outer t listed a.value start old a.after so_far (a.read Kind.ArgumentsFirst refl refl)) in
-    let one : NestRead outer c.value start c.after = c.read Kind.Component refl outer own start refl (λ n place cs front. refl) prefix in
-    let two : NestRead outer d.value start d.after = d.read Kind.NestTail refl outer (tree_of c.value) start refl one.1 in
-    comes-as (λ w s. NestRead outer w start s) Production.NestArguments tt (byte_of o.taken) (after t listed outer) at old
-    (tree own true ∷ b.value ∷ c.value ∷ d.value ∷ []) d.after v new d.onward two
+    by-parts (λ w s. NestRead outer w start s) Production.NestArguments tt tt o (λ a s given b r end c q one d u two.
+    let own : Term = instance t (no_items a) in
+    let prefix : PrefixFits outer own start (appended (after t listed outer) own r) =
+    subst (λ s. PrefixFits outer own start (appended (after t listed outer) own s)) (sym end.0)
+    (arguments-so-far outer t listed a start old s so_far (given Kind.ArgumentsFirst refl refl)) in
+    two Kind.NestTail refl outer (tree_of c) start refl (one Kind.Component refl outer own start refl (λ n place cs front. refl) prefix).1)
 
 -- arguments of a name that an S stands for, and a further piece
 nest-instance : (outer : Around) (t : Term) (listed : Bool) (start : State) (at : ℕ) (old : State) (v : Value) (new : State)
@@ -76,16 +65,11 @@ nest-instance : (outer : Around) (t : Term) (listed : Bool) (start : State) (at 
     → NestRead outer v start new
 unfolding parts_of number_of_kind between named_so_far after inside prefix_tree prefix_listed with_prefix appended is_encoding meaning part unfolding_.behind
 nest-instance outer t listed start at old v new so_far o =
-    let a = o.goes tt in
-    let b = a.onward in
-    let d = b.onward in
-    let own : Term = instance t (no_items a.value) in
-    let prefix : PrefixFits outer own start (appended (after t listed outer) own b.after) =
-    subst (λ s. PrefixFits outer own start (appended (after t listed outer) own s)) (sym b.read.0)
-    (arguments-so-far outer t listed a.value start old a.after so_far (a.read Kind.ArgumentsFirst refl refl)) in
-    comes-as (λ w s. NestRead outer w start s) Production.NestInstance tt (byte_of o.taken) (after t listed outer) at old
-    (tree own false ∷ b.value ∷ d.value ∷ []) d.after v new d.onward
-    (d.read Kind.NestMoreOrEnd refl outer own start refl (λ n place cs front. refl) prefix)
+    by-parts (λ w s. NestRead outer w start s) Production.NestInstance tt tt o (λ a s given b r end d u more.
+    let own : Term = instance t (no_items a) in
+    more Kind.NestMoreOrEnd refl outer own start refl (λ n place cs front. refl)
+    (subst (λ s. PrefixFits outer own start (appended (after t listed outer) own s)) (sym end.0)
+    (arguments-so-far outer t listed a start old s so_far (given Kind.ArgumentsFirst refl refl))))
 
 pub nest-more-or-end-branch : BranchRead Kind.NestMoreOrEnd
 unfolding alternatives
@@ -139,15 +123,6 @@ component-piece outer t start old v new apart prefix o =
     subst (λ w. NestRead outer w start new) (sym o.value)
     (component-read outer t o.piece o.arguments start old o.mid new apart o.named prefix o.fits o.later)
 
-component-with-c : (outer : Around) (t : Term) (start : State) (at : ℕ) (old : State) (v : Value) (new : State)
-    → Wherever outer start (is_encoding t ≡ false) → PrefixFits outer t start old
-    → OpenedRead Kind.Component (after t true outer) at old v new Production.ComponentWithC → NestRead outer v start new
-unfolding parts_of number_of_kind between meaning part unfolding_.behind
-component-with-c outer t start at old v new apart prefix o =
-    let a = o.goes tt in
-    comes-as (λ w s. NestRead outer w start s) Production.ComponentWithC tt (byte_of o.taken) (after t true outer) at old (a.value ∷ []) a.after v new
-    a.onward (a.read Kind.ComponentAfterC refl outer t start refl apart prefix)
-
 pub component-after-c-branch : BranchRead Kind.ComponentAfterC
 unfolding alternatives
 component-after-c-branch rule taken parts all around at old v new front is e outer t start same apart prefix =
@@ -158,15 +133,6 @@ component-after-c-branch rule taken parts all around at old v new front is e out
   where
     inner : Around
     inner = after t true outer
-
-any-constructor : (outer : Around) (t : Term) (start : State) (at : ℕ) (old : State) (v : Value) (new : State)
-    → Wherever outer start (is_encoding t ≡ false) → PrefixFits outer t start old
-    → OpenedRead Kind.Component (after t true outer) at old v new Production.AnyConstructor → NestRead outer v start new
-unfolding parts_of number_of_kind between meaning part unfolding_.behind
-any-constructor outer t start at old v new apart prefix o =
-    let a = o.goes tt in
-    comes-as (λ w s. NestRead outer w start s) Production.AnyConstructor tt (byte_of o.taken) (after t true outer) at old (a.value ∷ []) a.after v new
-    a.onward (a.read Kind.ConstructorAfterC refl outer t start refl apart prefix)
 
 pub constructor-after-c-branch : BranchRead Kind.ConstructorAfterC
 unfolding alternatives
@@ -179,16 +145,18 @@ constructor-after-c-branch rule taken parts all around at old v new front is e o
     inner = after t true outer
 
 pub component-branch : BranchRead Kind.Component
-unfolding alternatives
+unfolding alternatives parts_of number_of_kind between meaning part unfolding_.behind
 component-branch rule taken parts all around at old v new front is e outer t start same apart prefix =
     elim (subst (λ r. OneOf (alternatives Kind.Component) (OpenedRead Kind.Component r at old v new)) same
     (opened-read Kind.Component rule taken parts all around at old v new front is e)) [
-      | inl o ↦ any-constructor outer t start at old v new apart prefix o
+      | inl o ↦ by-parts (λ w s. NestRead outer w start s) Production.AnyConstructor tt tt o
+          (λ w s one. one Kind.ConstructorAfterC refl outer t start refl apart prefix)
       | inr (inl o) ↦ piece (destructor-comes Kind.Component inner at old v new o)
       | inr (inr (inl o)) ↦ piece (renamed begins_name names_member inner v old new begun (internal-comes Kind.Component inner at old v new o))
       | inr (inr (inr (inl o))) ↦ typed (local-type-comes Kind.Component inner at old v new o)
       | inr (inr (inr (inr (inl o)))) ↦ typed (source-comes Kind.Component inner at old v new o)
-      | inr (inr (inr (inr (inr (inl o))))) ↦ component-with-c outer t start at old v new apart prefix o
+      | inr (inr (inr (inr (inr (inl o))))) ↦ by-parts (λ w s. NestRead outer w start s) Production.ComponentWithC tt tt o
+          (λ w s one. one Kind.ComponentAfterC refl outer t start refl apart prefix)
       | inr (inr (inr (inr (inr (inr o))))) ↦ piece (renamed names_function names_member inner v old new function-member (other-operator-comes Kind.Component inner at old v new o))
     ]
   where
@@ -212,50 +180,6 @@ nest-piece : (around : Around) (p : Term) (old mid : State) (w : Value) (new : S
     → NestRead around w old new
 nest-piece around p old mid w new begins names one rest =
     rest around (extended around.prefix p) false old refl (piece-so-far around p old mid begins names one)
-
-nest-with-s : (around : Around) (at : ℕ) (old : State) (v : Value) (new : State) → BeginsName around
-    → OpenedRead Kind.Nest around at old v new Production.NestWithS → NestRead around v old new
-unfolding parts_of number_of_kind between meaning part unfolding_.behind
-nest-with-s around at old v new begins o =
-    let a = o.goes tt in
-    comes-as (λ w s. NestRead around w old s) Production.NestWithS tt (byte_of o.taken) around at old (a.value ∷ []) a.after v new a.onward
-    (a.read Kind.NestAfterS refl begins)
-
-nest-internal : (around : Around) (at : ℕ) (old : State) (v : Value) (new : State) → BeginsName around
-    → OpenedRead Kind.Nest around at old v new Production.NestInternal → NestRead around v old new
-unfolding parts_of number_of_kind between named_so_far begins_name meaning part unfolding_.behind
-nest-internal around at old v new begins o =
-    let a = o.goes tt in
-    let b = a.onward in
-    let p : Term = source true (text_of a.value) in
-    comes-as (λ w s. NestRead around w old s) Production.NestInternal tt (byte_of o.taken) around at old
-    (tree (extended around.prefix p) false ∷ b.value ∷ []) b.after v new b.onward
-    (nest-piece around p old a.after b.value b.after begins refl (name-piece around true a.value old a.after a.read)
-    (b.read Kind.NestRest refl))
-
-nest-source : (around : Around) (at : ℕ) (old : State) (v : Value) (new : State) → BeginsName around
-    → OpenedRead Kind.Nest around at old v new Production.NestSource → NestRead around v old new
-unfolding parts_of number_of_kind between named_so_far begins_name meaning part unfolding_.behind
-nest-source around at old v new begins o =
-    let a = o.goes tt in
-    let b = a.onward in
-    let p : Term = source false (text_of a.value) in
-    comes-as (λ w s. NestRead around w old s) Production.NestSource tt (byte_of o.taken) around at old
-    (tree (extended around.prefix p) false ∷ b.value ∷ []) b.after v new b.onward
-    (nest-piece around p old a.after b.value b.after begins refl (name-piece around false a.value old a.after a.read)
-    (b.read Kind.NestRest refl))
-
-nest-local-type : (around : Around) (at : ℕ) (old : State) (v : Value) (new : State) → BeginsName around
-    → OpenedRead Kind.Nest around at old v new Production.NestLocalType → NestRead around v old new
-unfolding parts_of number_of_kind between named_so_far meaning part unfolding_.behind
-nest-local-type around at old v new begins o =
-    let a = o.goes tt in
-    let b = a.onward in
-    let p : Term = piece_of a.value in
-    let one = a.read Kind.Anonymous refl in
-    comes-as (λ w s. NestRead around w old s) Production.NestLocalType tt (byte_of o.taken) around at old
-    (tree (extended around.prefix p) false ∷ b.value ∷ []) b.after v new b.onward
-    (nest-piece around p old a.after b.value b.after begins one.1 one.2 (b.read Kind.NestRest refl))
 
 -- what follows after a parameter, which was named
 pub parameter-goes : (around : Around) (at k : ℕ) (state : State) (rest : Next Value State Around → Type 0) (R : Type 0)
@@ -286,48 +210,29 @@ nest-parameter around at old v new bare o =
     a.onward
 
 pub nest-branch : BranchRead Kind.Nest
-unfolding alternatives
+unfolding alternatives parts_of number_of_kind between named_so_far begins_name meaning part unfolding_.behind
 nest-branch rule taken parts all around at old v new front is e begins =
     elim (opened-read Kind.Nest rule taken parts all around at old v new front is e) [
-      | inl o ↦ nest-with-s around at old v new begins o
+      | inl o ↦ by-parts (λ w s. NestRead around w old s) Production.NestWithS tt tt o (λ w s one. one Kind.NestAfterS refl begins)
       | inr (inl o) ↦ nest-parameter around at old v new front.placed.lambda o
-      | inr (inr (inl o)) ↦ nest-internal around at old v new begins o
-      | inr (inr (inr (inl o))) ↦ nest-local-type around at old v new begins o
-      | inr (inr (inr (inr o))) ↦ nest-source around at old v new begins o
+      | inr (inr (inl o)) ↦ by-parts (λ w s. NestRead around w old s) Production.NestInternal tt tt o (λ w s one x q more.
+          nest-piece around (source true (text_of w)) old s x q begins refl (name-piece around true w old s one) (more Kind.NestRest refl))
+      | inr (inr (inr (inl o))) ↦ by-parts (λ w s. NestRead around w old s) Production.NestLocalType tt tt o (λ w s read x q more.
+          let one = read Kind.Anonymous refl in nest-piece around (piece_of w) old s x q begins one.1 one.2 (more Kind.NestRest refl))
+      | inr (inr (inr (inr o))) ↦ by-parts (λ w s. NestRead around w old s) Production.NestSource tt tt o (λ w s one x q more.
+          nest-piece around (source false (text_of w)) old s x q begins refl (name-piece around false w old s one) (more Kind.NestRest refl))
     ]
 
 -- ## After an S
 
-nest-std : (around : Around) (at : ℕ) (old : State) (v : Value) (new : State)
-    → OpenedRead Kind.NestAfterS around at old v new Production.NestStd → NestRead around v old new
-unfolding parts_of number_of_kind between named_so_far tree_of meaning part unfolding_.behind
-nest-std around at old v new o =
-    let a = o.goes tt in
-    let b = a.onward in
-    let c = b.onward in
-    let p : Term = piece_of a.value in
-    let one = a.read Kind.Unqualified refl in
-    let name : Term = applied (in_std p) b.value in
-    comes-as (λ w s. NestRead around w old s) Production.NestStd tt (byte_of o.taken) around at old
-    (tree name false ∷ b.value ∷ c.value ∷ []) c.after v new c.onward
-    (c.read Kind.NestTail refl around name old refl
-    (std-read around p b.value old a.after b.after one.0 one.1 (b.read Kind.MaybeArguments refl)).1)
-
-nest-template : (around : Around) (at : ℕ) (old : State) (v : Value) (new : State)
-    → OpenedRead Kind.NestAfterS around at old v new Production.NestTemplate → NestRead around v old new
-unfolding parts_of number_of_kind between listed_so_far meaning part unfolding_.behind
-nest-template around at old v new o =
-    let a = o.goes tt in
-    let b = a.onward in
-    comes-as (λ w s. NestRead around w old s) Production.NestTemplate tt (byte_of o.taken) around at old
-    (tree (tree_of a.value) true ∷ b.value ∷ []) b.after v new b.onward
-    (b.read Kind.NestRestOrEnd refl around (tree_of a.value) true old refl
-    (named-so-far around a.value old a.after (a.read Kind.Abbreviation refl)))
-
 pub nest-after-s-branch : BranchRead Kind.NestAfterS
-unfolding alternatives
+unfolding alternatives parts_of number_of_kind between named_so_far listed_so_far tree_of meaning part unfolding_.behind
 nest-after-s-branch rule taken parts all around at old v new front is e begins =
     elim (opened-read Kind.NestAfterS rule taken parts all around at old v new front is e) [
-      | inl o ↦ nest-std around at old v new o
-      | inr o ↦ nest-template around at old v new o
+      | inl o ↦ by-parts (λ w s. NestRead around w old s) Production.NestStd tt tt o (λ w s read b q more c u rest.
+          let one = read Kind.Unqualified refl in
+          rest Kind.NestTail refl around (applied (in_std (piece_of w)) b) old refl
+          (std-read around (piece_of w) b old s q one.0 one.1 (more Kind.MaybeArguments refl)).1)
+      | inr o ↦ by-parts (λ w s. NestRead around w old s) Production.NestTemplate tt tt o (λ w s one b q more.
+          more Kind.NestRestOrEnd refl around (tree_of w) true old refl (named-so-far around w old s (one Kind.Abbreviation refl)))
     ]

@@ -1,5 +1,5 @@
 -- The pieces of names that were read, of each kind, and the leaves, as it is known of their kinds.
-use Rattle.std.proofs.Common.{◌≡◌, ℕ, ◌-◌, ◌<◌, inl, inr, List, [], ◌∷◌, Bool, true, false, slice_get, Some, Result, Ok, Err, refl, ap, arith, lit≤, sym, subst, ◌∙◌}
+use Rattle.std.proofs.Common.{◌≡◌, ℕ, ◌+◌, ◌-◌, ◌<◌, inl, inr, length, List, [], ◌∷◌, Bool, true, false, slice_get, Some, Result, Ok, Err, refl, ap, arith, lit≤, sym, subst, ◌∙◌}
 use Rattle.std.specs.Prelude.{nat_lt, ◌^◌}
 use Rattle.std.proofs.lemmas.Bool.{false≢true}
 use Rattle.sym_core.specs.declared.refusal.Refusal.{Refusal}
@@ -26,12 +26,13 @@ use Rattle.cpp_press_laws.specs.Fits.{item_type, begins_name, names_type, names_
 use Rattle.cpp_press_laws.specs.Spellable.{IsOperator}
 use Rattle.cpp_press_laws.proofs.Fits.Lists.{list-fits, parameters-fit}
 use Rattle.cpp_press_laws.proofs.Fits.Names.{PieceFits}
-use Rattle.cpp_press_laws.proofs.ByKind.Rules.{OneOf}
+use Rattle.cpp_press_laws.proofs.ByKind.Rules.{OneOf, OnGoing}
 use Rattle.cpp_press_laws.proofs.ByKind.Leaves.{leaf-same}
 use Rattle.cpp_press_laws.proofs.ByKind.Pieces.{source-fits, operator-fits, literal-operator-fits, unnamed-fits, ShutOrInside, lambda-fits, begins-function}
 use Rattle.cpp_press_laws.proofs.ByKind.LeafKinds.{own-byte, LetterRead, mark-read, letter-read, literal-letter-read, integer-read, offset-read, discriminator-read, discriminator-rest-read, OnlyMarks}
 use Rattle.cpp_grammar.proofs.Growing.{same_choice, each_below}
-use Rattle.cpp_press_laws.proofs.ByKind.Known.{MarkRead, OpenedRead, opened-read, taken-as, comes-as, BranchTo, BranchRead}
+use Rattle.cpp_grammar.proofs.ClosedParts.{StaysInside}
+use Rattle.cpp_press_laws.proofs.ByKind.Known.{KindRead, MarkRead, PartRead, PartsRead, OpenedRead, opened-read, taken-among, comes-as, by-parts, BranchTo, BranchRead}
 
 -- a piece of a name, of the sort that is there
 abbrev PieceAs : (names : Term → Bool) → Around → Value → (old new : State) → Type 0
@@ -43,46 +44,22 @@ internal-piece : (kind : Kind) (around : Around) (at : ℕ) (old : State) (v : V
     → OpenedRead kind around at old v new Production.InternalPiece → PieceAs begins_name around v old new
 unfolding parts_of between meaning part unfolding_.behind piece_of begins_name
 internal-piece kind around at old v new o =
-    let g = o.goes tt in
-    comes-as (λ w s. PieceAs begins_name around w old s) Production.InternalPiece tt (byte_of o.taken) around at old (g.value ∷ [])
-    g.after v new
-    g.onward (
-      refl,
-      subst (PieceFits around (source true (text_of g.value)) old) (sym g.read.0)
-          (source-fits around true (text_of g.value) old g.read.2),
-    )
+    by-parts (λ w s. PieceAs begins_name around w old s) Production.InternalPiece tt tt o (λ w s one.
+    (refl, subst (PieceFits around (source true (text_of w)) old) (sym one.0) (source-fits around true (text_of w) old one.2)))
 
 source-piece : (kind : Kind) (around : Around) (at : ℕ) (old : State) (v : Value) (new : State)
     → OpenedRead kind around at old v new Production.SourcePiece → PieceAs begins_name around v old new
 unfolding parts_of between meaning part unfolding_.behind piece_of begins_name
 source-piece kind around at old v new o =
-    let g = o.goes tt in
-    comes-as (λ w s. PieceAs begins_name around w old s) Production.SourcePiece tt (byte_of o.taken) around at old (g.value ∷ []) g.after
-    v new
-    g.onward (
-      refl,
-      subst (PieceFits around (source false (text_of g.value)) old) (sym g.read.0)
-          (source-fits around false (text_of g.value) old g.read.2),
-    )
+    by-parts (λ w s. PieceAs begins_name around w old s) Production.SourcePiece tt tt o (λ w s one.
+    (refl, subst (PieceFits around (source false (text_of w)) old) (sym one.0) (source-fits around false (text_of w) old one.2)))
 
 local-type-piece : (kind : Kind) (around : Around) (at : ℕ) (old : State) (v : Value) (new : State)
     → OpenedRead kind around at old v new Production.LocalTypePiece → PieceAs begins_name around v old new
 unfolding parts_of between meaning part unfolding_.behind
 local-type-piece kind around at old v new o =
-    let g = o.goes tt in
-    let one = g.read Kind.Anonymous refl in
-    comes-as (λ w s. PieceAs begins_name around w old s) Production.LocalTypePiece tt (byte_of o.taken) around at old (g.value ∷ [])
-    g.after v
-    new g.onward (one.1, one.2)
-
-operator-piece : (kind : Kind) (around : Around) (at : ℕ) (old : State) (v : Value) (new : State)
-    → OpenedRead kind around at old v new Production.OperatorPiece → PieceAs names_function around v old new
-unfolding parts_of between meaning part unfolding_.behind
-operator-piece kind around at old v new o =
-    let g = o.goes tt in
-    comes-as (λ w s. PieceAs names_function around w old s) Production.OperatorPiece tt (byte_of o.taken) around at old (g.value ∷ [])
-    g.after v
-    new g.onward (g.read Kind.Operator refl)
+    by-parts (λ w s. PieceAs begins_name around w old s) Production.LocalTypePiece tt tt o (λ w s one.
+    let read = one Kind.Anonymous refl in (read.1, read.2))
 
 pub source-or-local-branch : BranchRead Kind.SourceOrLocal
 unfolding alternatives
@@ -94,13 +71,14 @@ source-or-local-branch rule taken parts all around at old v new front is e =
     ]
 
 pub unqualified-branch : BranchRead Kind.Unqualified
-unfolding alternatives
+unfolding alternatives parts_of between meaning part unfolding_.behind
 unqualified-branch rule taken parts all around at old v new front is e =
     elim (opened-read Kind.Unqualified rule taken parts all around at old v new front is e) [
       | inl o ↦ named (internal-piece Kind.Unqualified around at old v new o)
       | inr (inl o) ↦ named (local-type-piece Kind.Unqualified around at old v new o)
       | inr (inr (inl o)) ↦ named (source-piece Kind.Unqualified around at old v new o)
-      | inr (inr (inr o)) ↦ operator-piece Kind.Unqualified around at old v new o
+      | inr (inr (inr o)) ↦ by-parts (λ w s. PieceAs names_function around w old s) Production.OperatorPiece tt tt o
+          (λ w s one. one Kind.Operator refl)
     ]
   where
     named : PieceAs begins_name around v old new → PieceAs names_function around v old new
@@ -149,6 +127,18 @@ letters-come p kind two around at old v new o w mid mark e =
     (operator-fits around first second old (omega (arith, eaten, o.small)) mark.2 is) in
     subst (λ r. PieceAs names_function around r.value old r.state) means (refl, fits)
 
+-- where the second is a mark
+letters-read : (p : Production) (kind : Kind) → StaysInside p → TwoLetters p kind → {around : Around} {at : ℕ} {old : State} {v : Value} {new : State}
+    → ((w : Value) (s : State) → KindRead kind around w old s → MarkRead kind w old s)
+    → OpenedRead Kind.Operator around at old v new p → PieceAs names_function around v old new
+letters-read p kind stays two {around} {at} {old} {v} {new} marks o =
+    let rest = PartsRead p (byte_of o.taken) around at old v new [] in
+    let whole : PartsRead p (byte_of o.taken) around at old v new (OfKind (number_of_kind kind) ∷ []) o.parts [] (at + length o.taken) old =
+    subst (λ xs. PartsRead p (byte_of o.taken) around at old v new xs o.parts [] (at + length o.taken) old) two.parts (o.goes stays) in
+    let g : PartRead (OfKind (number_of_kind kind)) o.parts (at + length o.taken) (record { context = around; values = []; state = old }) rest =
+    subst (λ m. OnGoing m (λ n. PartRead (OfKind (number_of_kind kind)) o.parts (at + length o.taken) n rest)) (two.goes around at old) whole in
+    letters-come p kind two around at old v new o g.value g.after (marks g.value g.after (g.read kind refl)) g.onward
+
 -- after an l a literal operator may be
 operator-l : (around : Around) (at : ℕ) (old : State) (v : Value) (new : State)
     → OpenedRead Kind.Operator around at old v new Production.OperatorL
@@ -176,66 +166,30 @@ operator-read : (around : Around) (at : ℕ) (old : State) (v : Value) (new : St
     → OneOf (alternatives Kind.Operator) (OpenedRead Kind.Operator around at old v new) → PieceAs names_function around v old new
 unfolding alternatives kinds parts_of is_chain between opening close meaning part letter_of unfolding_.behind number_of_kind
 operator-read around at old v new (inl o) =
-    let g = o.goes tt in
-    letters-come Production.OperatorN Kind.OperatorAfterN
-    (record { at = refl; parts = refl; own = refl; goes = λ a p s. refl; opens = λ p f s. refl; means = λ x y a p b s. refl })
-    around at old v new o g.value g.after (g.read Kind.OperatorAfterN refl) g.onward
+    letters-read Production.OperatorN Kind.OperatorAfterN tt (record { at = refl; parts = refl; own = refl; goes = λ a p s. refl; opens = λ p f s. refl; means = λ x y a p b s. refl }) (λ w s mark. mark) o
 operator-read around at old v new (inr (inl o)) =
-    let g = o.goes tt in
-    letters-come Production.OperatorD Kind.OperatorAfterD
-    (record { at = refl; parts = refl; own = refl; goes = λ a p s. refl; opens = λ p f s. refl; means = λ x y a p b s. refl })
-    around at old v new o g.value g.after (g.read Kind.OperatorAfterD refl) g.onward
+    letters-read Production.OperatorD Kind.OperatorAfterD tt (record { at = refl; parts = refl; own = refl; goes = λ a p s. refl; opens = λ p f s. refl; means = λ x y a p b s. refl }) (λ w s mark. mark) o
 operator-read around at old v new (inr (inr (inl o))) =
-    let g = o.goes tt in
-    letters-come Production.OperatorA Kind.OperatorAfterA
-    (record { at = refl; parts = refl; own = refl; goes = λ a p s. refl; opens = λ p f s. refl; means = λ x y a p b s. refl })
-    around at old v new o g.value g.after (g.read Kind.OperatorAfterA refl) g.onward
+    letters-read Production.OperatorA Kind.OperatorAfterA tt (record { at = refl; parts = refl; own = refl; goes = λ a p s. refl; opens = λ p f s. refl; means = λ x y a p b s. refl }) (λ w s mark. mark) o
 operator-read around at old v new (inr (inr (inr (inl o)))) =
-    let g = o.goes tt in
-    letters-come Production.OperatorP Kind.OperatorAfterP
-    (record { at = refl; parts = refl; own = refl; goes = λ a p s. refl; opens = λ p f s. refl; means = λ x y a p b s. refl })
-    around at old v new o g.value g.after (g.read Kind.OperatorAfterP refl) g.onward
+    letters-read Production.OperatorP Kind.OperatorAfterP tt (record { at = refl; parts = refl; own = refl; goes = λ a p s. refl; opens = λ p f s. refl; means = λ x y a p b s. refl }) (λ w s mark. mark) o
 operator-read around at old v new (inr (inr (inr (inr (inl o))))) =
-    let g = o.goes tt in
-    letters-come Production.OperatorC Kind.OperatorAfterC
-    (record { at = refl; parts = refl; own = refl; goes = λ a p s. refl; opens = λ p f s. refl; means = λ x y a p b s. refl })
-    around at old v new o g.value g.after (g.read Kind.OperatorAfterC refl) g.onward
+    letters-read Production.OperatorC Kind.OperatorAfterC tt (record { at = refl; parts = refl; own = refl; goes = λ a p s. refl; opens = λ p f s. refl; means = λ x y a p b s. refl }) (λ w s mark. mark) o
 operator-read around at old v new (inr (inr (inr (inr (inr (inl o)))))) =
-    let g = o.goes tt in
-    letters-come Production.OperatorM Kind.OperatorAfterM
-    (record { at = refl; parts = refl; own = refl; goes = λ a p s. refl; opens = λ p f s. refl; means = λ x y a p b s. refl })
-    around at old v new o g.value g.after (g.read Kind.OperatorAfterM refl) g.onward
+    letters-read Production.OperatorM Kind.OperatorAfterM tt (record { at = refl; parts = refl; own = refl; goes = λ a p s. refl; opens = λ p f s. refl; means = λ x y a p b s. refl }) (λ w s mark. mark) o
 operator-read around at old v new (inr (inr (inr (inr (inr (inr (inl o))))))) =
-    let g = o.goes tt in
-    letters-come Production.OperatorR Kind.OperatorAfterR
-    (record { at = refl; parts = refl; own = refl; goes = λ a p s. refl; opens = λ p f s. refl; means = λ x y a p b s. refl })
-    around at old v new o g.value g.after (g.read Kind.OperatorAfterR refl) g.onward
+    letters-read Production.OperatorR Kind.OperatorAfterR tt (record { at = refl; parts = refl; own = refl; goes = λ a p s. refl; opens = λ p f s. refl; means = λ x y a p b s. refl }) (λ w s mark. mark) o
 operator-read around at old v new (inr (inr (inr (inr (inr (inr (inr (inl o)))))))) =
-    let g = o.goes tt in
-    letters-come Production.OperatorO Kind.OperatorAfterO
-    (record { at = refl; parts = refl; own = refl; goes = λ a p s. refl; opens = λ p f s. refl; means = λ x y a p b s. refl })
-    around at old v new o g.value g.after (g.read Kind.OperatorAfterO refl) g.onward
+    letters-read Production.OperatorO Kind.OperatorAfterO tt (record { at = refl; parts = refl; own = refl; goes = λ a p s. refl; opens = λ p f s. refl; means = λ x y a p b s. refl }) (λ w s mark. mark) o
 operator-read around at old v new (inr (inr (inr (inr (inr (inr (inr (inr (inl o))))))))) =
-    let g = o.goes tt in
-    letters-come Production.OperatorE Kind.OperatorAfterE
-    (record { at = refl; parts = refl; own = refl; goes = λ a p s. refl; opens = λ p f s. refl; means = λ x y a p b s. refl })
-    around at old v new o g.value g.after (g.read Kind.OperatorAfterE refl) g.onward
+    letters-read Production.OperatorE Kind.OperatorAfterE tt (record { at = refl; parts = refl; own = refl; goes = λ a p s. refl; opens = λ p f s. refl; means = λ x y a p b s. refl }) (λ w s mark. mark) o
 operator-read around at old v new (inr (inr (inr (inr (inr (inr (inr (inr (inr (inl o)))))))))) = operator-l around at old v new o
 operator-read around at old v new (inr (inr (inr (inr (inr (inr (inr (inr (inr (inr (inl o))))))))))) =
-    let g = o.goes tt in
-    letters-come Production.OperatorS Kind.OperatorAfterS
-    (record { at = refl; parts = refl; own = refl; goes = λ a p s. refl; opens = λ p f s. refl; means = λ x y a p b s. refl })
-    around at old v new o g.value g.after (g.read Kind.OperatorAfterS refl) g.onward
+    letters-read Production.OperatorS Kind.OperatorAfterS tt (record { at = refl; parts = refl; own = refl; goes = λ a p s. refl; opens = λ p f s. refl; means = λ x y a p b s. refl }) (λ w s mark. mark) o
 operator-read around at old v new (inr (inr (inr (inr (inr (inr (inr (inr (inr (inr (inr (inl o)))))))))))) =
-    let g = o.goes tt in
-    letters-come Production.OperatorI Kind.OperatorAfterI
-    (record { at = refl; parts = refl; own = refl; goes = λ a p s. refl; opens = λ p f s. refl; means = λ x y a p b s. refl })
-    around at old v new o g.value g.after (g.read Kind.OperatorAfterI refl) g.onward
+    letters-read Production.OperatorI Kind.OperatorAfterI tt (record { at = refl; parts = refl; own = refl; goes = λ a p s. refl; opens = λ p f s. refl; means = λ x y a p b s. refl }) (λ w s mark. mark) o
 operator-read around at old v new (inr (inr (inr (inr (inr (inr (inr (inr (inr (inr (inr (inr o)))))))))))) =
-    let g = o.goes tt in
-    letters-come Production.OperatorG Kind.OperatorAfterG
-    (record { at = refl; parts = refl; own = refl; goes = λ a p s. refl; opens = λ p f s. refl; means = λ x y a p b s. refl })
-    around at old v new o g.value g.after (g.read Kind.OperatorAfterG refl) g.onward
+    letters-read Production.OperatorG Kind.OperatorAfterG tt (record { at = refl; parts = refl; own = refl; goes = λ a p s. refl; opens = λ p f s. refl; means = λ x y a p b s. refl }) (λ w s mark. mark) o
 
 pub operator-branch : BranchRead Kind.Operator
 operator-branch rule taken parts all around at old v new front is e =
@@ -245,25 +199,9 @@ operator-branch rule taken parts all around at old v new front is e =
 pub other-operator-branch : BranchRead Kind.OtherOperator
 unfolding alternatives choose pick is_in in_ranges among same_choice each_below number_of
 other-operator-branch rule taken parts all around at old v new front is e =
-    operator-read around at old v new (any (opened-read Kind.OtherOperator rule taken parts all around at old v new front is e))
-  where
-    same : (p : Production) → OpenedRead Kind.OtherOperator around at old v new p → OpenedRead Kind.Operator around at old v new p
-    same p o = taken-as Kind.OtherOperator Kind.Operator refl around at old v new p o
-
-    any : OneOf (alternatives Kind.OtherOperator) (OpenedRead Kind.OtherOperator around at old v new)
-        → OneOf (alternatives Kind.Operator) (OpenedRead Kind.Operator around at old v new)
-    any (inl o) = inl (same Production.OperatorN o)
-    any (inr (inl o)) = inr (inl (same Production.OperatorD o))
-    any (inr (inr (inl o))) = inr (inr (inl (same Production.OperatorA o)))
-    any (inr (inr (inr (inl o)))) = inr (inr (inr (inl (same Production.OperatorP o))))
-    any (inr (inr (inr (inr (inl o))))) = inr (inr (inr (inr (inr (inl (same Production.OperatorM o))))))
-    any (inr (inr (inr (inr (inr (inl o)))))) = inr (inr (inr (inr (inr (inr (inl (same Production.OperatorR o)))))))
-    any (inr (inr (inr (inr (inr (inr (inl o))))))) = inr (inr (inr (inr (inr (inr (inr (inl (same Production.OperatorO o))))))))
-    any (inr (inr (inr (inr (inr (inr (inr (inl o)))))))) = inr (inr (inr (inr (inr (inr (inr (inr (inl (same Production.OperatorE o)))))))))
-    any (inr (inr (inr (inr (inr (inr (inr (inr (inl o))))))))) = inr (inr (inr (inr (inr (inr (inr (inr (inr (inl (same Production.OperatorL o))))))))))
-    any (inr (inr (inr (inr (inr (inr (inr (inr (inr (inl o)))))))))) = inr (inr (inr (inr (inr (inr (inr (inr (inr (inr (inl (same Production.OperatorS o)))))))))))
-    any (inr (inr (inr (inr (inr (inr (inr (inr (inr (inr (inl o))))))))))) = inr (inr (inr (inr (inr (inr (inr (inr (inr (inr (inr (inl (same Production.OperatorI o))))))))))))
-    any (inr (inr (inr (inr (inr (inr (inr (inr (inr (inr (inr o))))))))))) = inr (inr (inr (inr (inr (inr (inr (inr (inr (inr (inr (inr (same Production.OperatorG o))))))))))))
+    operator-read around at old v new
+    (taken-among Kind.OtherOperator Kind.Operator refl around at old v new (alternatives Kind.OtherOperator)
+    (opened-read Kind.OtherOperator rule taken parts all around at old v new front is e))
 
 -- two letters of which the first is a c
 pub c-operator-fits : (around : Around) (second : ℕ) (old : State) → second < 256 → choose Kind.OperatorAfterC second ≡ Some Production.Mark

@@ -1,5 +1,5 @@
 -- What is read as a further piece of a name, with or without arguments after it.
-use Rattle.std.proofs.Common.{◌≡◌, ℕ, [], ◌∷◌, Bool, true, false, refl, sym, subst}
+use Rattle.std.proofs.Common.{◌≡◌, ℕ, Bool, true, false, refl, sym, subst}
 use Rattle.sym_shape.specs.declared.rule.Sym.TheVariants.{Name}
 use Rattle.cpp_grammar.specs.declared.kind.Kind.{Kind}
 use Rattle.cpp_grammar.specs.declared.production.Production.{Production}
@@ -9,13 +9,12 @@ use Rattle.cpp_grammar.specs.Values.{State, Around, Value, tree, tree_of, piece_
 use Rattle.cpp_grammar.specs.Between.{after, extended, applied, named_so_far, between}
 use Rattle.cpp_grammar.specs.Meaning.{meaning}
 use Rattle.cpp_grammar.specs.Unfolding as unfolding_
-use Rattle.cpp_grammar.specs.Unfolding.{byte_of}
 use Rattle.cpp_press_laws.specs.Fits.{begins_name, names_type, names_function, names_member}
 use Rattle.cpp_press_laws.proofs.Fits.Names.{PieceFits}
 use Rattle.cpp_press_laws.proofs.Fits.Sorts.{KindFits}
 use Rattle.cpp_press_laws.proofs.ByKind.Pieces.{source-fits, constructor-fits, destructor-fits}
 use Rattle.cpp_press_laws.proofs.ByKind.PieceKinds.{c-operator-fits}
-use Rattle.cpp_press_laws.proofs.ByKind.Known.{SymbolRead, OpenedRead, comes-as}
+use Rattle.cpp_press_laws.proofs.ByKind.Known.{SymbolRead, OpenedRead, by-parts}
 
 -- a piece of this sort after the name so far, and what follows it
 pub record PieceRead (names : Term → Bool) (around : Around) (v : Value) (old new : State) : Type 0 where
@@ -46,161 +45,85 @@ pub name-piece : (around : Around) (internal : Bool) (v : Value) (old new : Stat
 name-piece around internal v old new read =
     subst (λ s. PieceFits around (source internal (text_of v)) old s) (sym read.0) (source-fits around internal (text_of v) old read.2)
 
+-- the piece after the name so far, and what is read after it
+piece-as : (names : Term → Bool) (around : Around) (p : Term) (b : Value) (old mid new : State) → (names p ≡ true) × PieceFits around p old mid
+    → KindFits Kind.MaybeArguments (after (extended around.prefix p) false around) b mid new
+    → PieceRead names around (tree (applied (extended around.prefix p) b) false) old new
+piece-as names around p b old mid new one later = record {
+  piece = p;
+  named = one.0;
+  arguments = b;
+  mid = mid;
+  value = refl;
+  fits = one.1;
+  later = later;
+}
+
 pub source-comes : (kind : Kind) (around : Around) (at : ℕ) (old : State) (v : Value) (new : State)
     → OpenedRead kind around at old v new Production.SourceName → PieceRead names_type around v old new
 unfolding parts_of number_of_kind between named_so_far names_type begins_name tree_of meaning part unfolding_.behind
 source-comes kind around at old v new o =
-    let a = o.goes tt in
-    let b = a.onward in
-    let p : Term = source false (text_of a.value) in
-    comes-as (λ w s. PieceRead names_type around w old s) Production.SourceName tt (byte_of o.taken) around at old
-    (tree (extended around.prefix p) false ∷ b.value ∷ []) b.after v new b.onward
-    (record {
-      piece = p;
-      named = refl;
-      arguments = b.value;
-      mid = a.after;
-      value = refl;
-      fits = name-piece around false a.value old a.after a.read;
-      later = b.read Kind.MaybeArguments refl;
-    })
+    by-parts (λ w s. PieceRead names_type around w old s) Production.SourceName tt tt o (λ w s one b t more.
+    piece-as names_type around (source false (text_of w)) b old s t (refl, name-piece around false w old s one) (more Kind.MaybeArguments refl))
 
 pub internal-comes : (kind : Kind) (around : Around) (at : ℕ) (old : State) (v : Value) (new : State)
     → OpenedRead kind around at old v new Production.InternalName → PieceRead begins_name around v old new
 unfolding parts_of number_of_kind between named_so_far begins_name tree_of meaning part unfolding_.behind
 internal-comes kind around at old v new o =
-    let a = o.goes tt in
-    let b = a.onward in
-    let p : Term = source true (text_of a.value) in
-    comes-as (λ w s. PieceRead begins_name around w old s) Production.InternalName tt (byte_of o.taken) around at old
-    (tree (extended around.prefix p) false ∷ b.value ∷ []) b.after v new b.onward
-    (record {
-      piece = p;
-      named = refl;
-      arguments = b.value;
-      mid = a.after;
-      value = refl;
-      fits = name-piece around true a.value old a.after a.read;
-      later = b.read Kind.MaybeArguments refl;
-    })
+    by-parts (λ w s. PieceRead begins_name around w old s) Production.InternalName tt tt o (λ w s one b t more.
+    piece-as begins_name around (source true (text_of w)) b old s t (refl, name-piece around true w old s one) (more Kind.MaybeArguments refl))
 
 pub local-type-comes : (kind : Kind) (around : Around) (at : ℕ) (old : State) (v : Value) (new : State)
     → OpenedRead kind around at old v new Production.LocalTypeName → PieceRead names_type around v old new
 unfolding parts_of number_of_kind between named_so_far tree_of meaning part unfolding_.behind
 local-type-comes kind around at old v new o =
-    let a = o.goes tt in
-    let b = a.onward in
-    let p : Term = piece_of a.value in
-    comes-as (λ w s. PieceRead names_type around w old s) Production.LocalTypeName tt (byte_of o.taken) around at old
-    (tree (extended around.prefix p) false ∷ b.value ∷ []) b.after v new b.onward
-    (record {
-      piece = p;
-      named = (a.read Kind.Anonymous refl).0;
-      arguments = b.value;
-      mid = a.after;
-      value = refl;
-      fits = (a.read Kind.Anonymous refl).2;
-      later = b.read Kind.MaybeArguments refl;
-    })
+    by-parts (λ w s. PieceRead names_type around w old s) Production.LocalTypeName tt tt o (λ w s one b t more.
+    piece-as names_type around (piece_of w) b old s t ((one Kind.Anonymous refl).0, (one Kind.Anonymous refl).2) (more Kind.MaybeArguments refl))
 
 pub operator-comes : (kind : Kind) (around : Around) (at : ℕ) (old : State) (v : Value) (new : State)
     → OpenedRead kind around at old v new Production.OperatorName → PieceRead names_function around v old new
 unfolding parts_of number_of_kind between named_so_far tree_of meaning part unfolding_.behind
 operator-comes kind around at old v new o =
-    let a = o.goes tt in
-    let b = a.onward in
-    let p : Term = piece_of a.value in
-    comes-as (λ w s. PieceRead names_function around w old s) Production.OperatorName tt (byte_of o.taken) around at old
-    (tree (extended around.prefix p) false ∷ b.value ∷ []) b.after v new b.onward
-    (record {
-      piece = p;
-      named = (a.read Kind.Operator refl).0;
-      arguments = b.value;
-      mid = a.after;
-      value = refl;
-      fits = (a.read Kind.Operator refl).1;
-      later = b.read Kind.MaybeArguments refl;
-    })
+    by-parts (λ w s. PieceRead names_function around w old s) Production.OperatorName tt tt o (λ w s one b t more.
+    piece-as names_function around (piece_of w) b old s t (one Kind.Operator refl) (more Kind.MaybeArguments refl))
 
 pub other-operator-comes : (kind : Kind) (around : Around) (at : ℕ) (old : State) (v : Value) (new : State)
     → OpenedRead kind around at old v new Production.OtherOperatorName → PieceRead names_function around v old new
 unfolding parts_of number_of_kind between named_so_far tree_of meaning part unfolding_.behind
 other-operator-comes kind around at old v new o =
-    let a = o.goes tt in
-    let b = a.onward in
-    let p : Term = piece_of a.value in
-    comes-as (λ w s. PieceRead names_function around w old s) Production.OtherOperatorName tt (byte_of o.taken) around at old
-    (tree (extended around.prefix p) false ∷ b.value ∷ []) b.after v new b.onward
-    (record {
-      piece = p;
-      named = (a.read Kind.OtherOperator refl).0;
-      arguments = b.value;
-      mid = a.after;
-      value = refl;
-      fits = (a.read Kind.OtherOperator refl).1;
-      later = b.read Kind.MaybeArguments refl;
-    })
+    by-parts (λ w s. PieceRead names_function around w old s) Production.OtherOperatorName tt tt o (λ w s one b t more.
+    piece-as names_function around (piece_of w) b old s t (one Kind.OtherOperator refl) (more Kind.MaybeArguments refl))
 
 -- an operator, after its c
 pub operator-with-c-comes : (kind : Kind) (around : Around) (at : ℕ) (old : State) (v : Value) (new : State)
     → OpenedRead kind around at old v new Production.OperatorNameWithC → PieceRead names_function around v old new
 unfolding parts_of number_of_kind between named_so_far names_function tree_of meaning part unfolding_.behind
 operator-with-c-comes kind around at old v new o =
-    let a = o.goes tt in
-    let b = a.onward in
-    let p : Term = operator 99 (letter_of a.value) in
-    comes-as (λ w s. PieceRead names_function around w old s) Production.OperatorNameWithC tt (byte_of o.taken) around at old
-    (tree (extended around.prefix p) false ∷ b.value ∷ []) b.after v new b.onward
-    (record {
-      piece = p;
-      named = refl;
-      arguments = b.value;
-      mid = a.after;
-      value = refl;
-      fits = (
-          let mark = a.read Kind.OperatorAfterC refl in
-          subst (λ s. PieceFits around p old s) (sym mark.0) (c-operator-fits around (letter_of a.value) old mark.2 mark.3));
-      later = b.read Kind.MaybeArguments refl;
-    })
+    by-parts (λ w s. PieceRead names_function around w old s) Production.OperatorNameWithC tt tt o (λ w s one b t more.
+    piece-as names_function around (operator 99 (letter_of w)) b old s t (
+      refl,
+      (let mark = one Kind.OperatorAfterC refl in
+          subst (λ q. PieceFits around (operator 99 (letter_of w)) old q) (sym mark.0) (c-operator-fits around (letter_of w) old mark.2 mark.3)),
+    ) (more Kind.MaybeArguments refl))
 
 pub constructor-comes : (kind : Kind) (around : Around) (at : ℕ) (old : State) (v : Value) (new : State)
     → OpenedRead kind around at old v new Production.Constructor → PieceRead names_member around v old new
 unfolding parts_of number_of_kind between named_so_far names_member tree_of meaning part unfolding_.behind
 constructor-comes kind around at old v new o =
-    let a = o.goes tt in
-    let b = a.onward in
-    let p : Term = constructor (letter_of a.value) in
-    comes-as (λ w s. PieceRead names_member around w old s) Production.Constructor tt (byte_of o.taken) around at old
-    (tree (extended around.prefix p) false ∷ b.value ∷ []) b.after v new b.onward
-    (record {
-      piece = p;
-      named = refl;
-      arguments = b.value;
-      mid = a.after;
-      value = refl;
-      fits = (
-          let mark = a.read Kind.ConstructorDigit refl in
-          subst (λ s. PieceFits around p old s) (sym mark.0) (constructor-fits around (letter_of a.value) old mark.2 mark.3));
-      later = b.read Kind.MaybeArguments refl;
-    })
+    by-parts (λ w s. PieceRead names_member around w old s) Production.Constructor tt tt o (λ w s one b t more.
+    piece-as names_member around (constructor (letter_of w)) b old s t (
+      refl,
+      (let mark = one Kind.ConstructorDigit refl in
+          subst (λ q. PieceFits around (constructor (letter_of w)) old q) (sym mark.0) (constructor-fits around (letter_of w) old mark.2 mark.3)),
+    ) (more Kind.MaybeArguments refl))
 
 pub destructor-comes : (kind : Kind) (around : Around) (at : ℕ) (old : State) (v : Value) (new : State)
     → OpenedRead kind around at old v new Production.Destructor → PieceRead names_member around v old new
 unfolding parts_of number_of_kind between named_so_far names_member tree_of meaning part unfolding_.behind
 destructor-comes kind around at old v new o =
-    let a = o.goes tt in
-    let b = a.onward in
-    let p : Term = destructor (letter_of a.value) in
-    comes-as (λ w s. PieceRead names_member around w old s) Production.Destructor tt (byte_of o.taken) around at old
-    (tree (extended around.prefix p) false ∷ b.value ∷ []) b.after v new b.onward
-    (record {
-      piece = p;
-      named = refl;
-      arguments = b.value;
-      mid = a.after;
-      value = refl;
-      fits = (
-          let mark = a.read Kind.DestructorDigit refl in
-          subst (λ s. PieceFits around p old s) (sym mark.0) (destructor-fits around (letter_of a.value) old mark.2 mark.3));
-      later = b.read Kind.MaybeArguments refl;
-    })
+    by-parts (λ w s. PieceRead names_member around w old s) Production.Destructor tt tt o (λ w s one b t more.
+    piece-as names_member around (destructor (letter_of w)) b old s t (
+      refl,
+      (let mark = one Kind.DestructorDigit refl in
+          subst (λ q. PieceFits around (destructor (letter_of w)) old q) (sym mark.0) (destructor-fits around (letter_of w) old mark.2 mark.3)),
+    ) (more Kind.MaybeArguments refl))

@@ -1,25 +1,32 @@
 -- What every shape of the grammar is read as fits, whatever kind it is read as.
-use Rattle.std.proofs.Common.{◌≡◌, ℕ, inl, inr, List, refl}
+use Rattle.std.proofs.Common.{◌≡◌, ℕ, inl, inr, List, [], ◌∷◌, false, refl, sym, subst}
 use Rattle.std.proofs.lemmas.Bool.{false≢true}
 use Rattle.sym_shape.specs.declared.rule.Rule.{Rule}
 use Rattle.sym_shape.specs.declared.rule.Sym.TheVariants.{Kind as OfKind}
 use Rattle.sym_shape.specs.Tree.{Tree as Shape, Forest, branch}
 use Rattle.cpp_grammar.specs.declared.kind.Kind.{Kind}
 use Rattle.cpp_grammar.specs.declared.production.Production.{Production}
-use Rattle.cpp_grammar.specs.Grammar.{alternatives, choose, pick, is_in, in_ranges, among, number_of_kind, number_of, kinds, may_be_empty}
+use Rattle.cpp_grammar.specs.Grammar.{alternatives, choose, pick, is_in, in_ranges, among, number_of_kind, number_of, kinds, parts_of, may_be_empty}
 use Rattle.cpp_grammar.specs.Term.{Term}
-use Rattle.cpp_grammar.specs.Values.{State, outermost, Around, Value}
+use Rattle.cpp_grammar.specs.Values.{State, outermost, Around, Value, tree_of, ref_of, text_of, is_there, part}
+use Rattle.cpp_grammar.specs.Between.{between}
+use Rattle.cpp_grammar.specs.Meaning.{meaning, parameters}
+use Rattle.cpp_grammar.specs.Unfolding as unfolding_
+use Rattle.cpp_grammar.specs.Unfolding.{byte_of}
 use Rattle.cpp_grammar.proofs.ClosedTrees.{is_encoding as holds_encoding}
 use Rattle.cpp_grammar.proofs.Growing.{same_choice, each_below}
 use Rattle.cpp_grammar.specs.Table.{abi, sheet, sheet_with}
 use Rattle.cpp_press_laws.specs.PressLaws.{IsReadFrom}
-use Rattle.cpp_press_laws.specs.Fits.{takes_all, SymbolFits}
-use Rattle.cpp_press_laws.proofs.Fits.Sorts.{KindFits, takes_literals}
+use Rattle.cpp_press_laws.specs.Fits.{parameter_type, takes_all, SymbolFits}
+use Rattle.cpp_press_laws.proofs.Fits.Sorts.{KindFits, Meant, Later, takes_literals}
+use Rattle.cpp_press_laws.proofs.Fits.Types.{complex-fits}
+use Rattle.cpp_press_laws.proofs.Fits.Lists.{parameters-fit, function-fits}
+use Rattle.cpp_press_laws.proofs.Fits.Solids.{vendor-fits}
 use Rattle.cpp_press_laws.proofs.ByKind.Rules.{AllOf, OneOf, every-shape}
 use Rattle.cpp_press_laws.proofs.ByKind.Suffixes.{suffix-read}
-use Rattle.cpp_press_laws.proofs.ByKind.Known.{InFront, ShapeRead, OpenedRead, opened-read, taken-as, BranchRead}
+use Rattle.cpp_press_laws.proofs.ByKind.Known.{InFront, ShapeRead, OpenedRead, opened-read, taken-among, BranchRead, fits-by-parts}
 use Rattle.cpp_press_laws.proofs.ByKind.Types.{type-branch, plain-branch, item-branch, argument-branch, parameter-branch, item-d-branch, after-d-branch}
-use Rattle.cpp_press_laws.proofs.ByKind.Solids.{builtin-arm, literal-arm, vendor-arm, array-rest-branch, any-array-branch, array-arm, function-arm, complex-arm, pointer-arm, member-arm, function-rest-branch, after-r-branch, after-o-branch, items-branch}
+use Rattle.cpp_press_laws.proofs.ByKind.Solids.{builtin-arm, literal-arm, array-rest-branch, any-array-branch, pointer-arm, member-arm, function-rest-branch, after-r-branch, after-o-branch, items-branch}
 use Rattle.cpp_press_laws.proofs.ByKind.References.{abbreviation-branch}
 use Rattle.cpp_press_laws.proofs.ByKind.Empty.{empty-read}
 use Rattle.cpp_press_laws.proofs.ByKind.Root.{read-fits}
@@ -34,12 +41,21 @@ use Rattle.cpp_press_laws.proofs.ByKind.Entities.{entity-branch, type-entity-bra
 
 solid-read : (around : Around) (at : ℕ) (old : State) (v : Value) (new : State) → InFront (OfKind (number_of_kind Kind.Solid)) around at old
     → around.prefix ≡ outermost → OneOf (alternatives Kind.Solid) (OpenedRead Kind.Solid around at old v new) → KindFits Kind.Solid around v old new
-unfolding alternatives
+unfolding alternatives meaning part unfolding_.behind parts_of between
 solid-read around at old v new front outer (inl o) = builtin-arm around at old v new o
-solid-read around at old v new front outer (inr (inl o)) = vendor-arm around at old v new o
-solid-read around at old v new front outer (inr (inr (inl o))) = array-arm around at old v new outer o
-solid-read around at old v new front outer (inr (inr (inr (inl o)))) = function-arm around at old v new outer o
-solid-read around at old v new front outer (inr (inr (inr (inr (inl o))))) = complex-arm around at old v new outer o
+solid-read around at old v new front outer (inr (inl o)) =
+    fits-by-parts Kind.Solid Production.Vendor tt tt o (λ w s name.
+    subst (λ t. KindFits Kind.Solid around (Meant Production.Vendor (byte_of o.taken) around (w ∷ [])) old
+    (Later Production.Vendor (byte_of o.taken) around old (w ∷ []) t)) (sym name.0) (vendor-fits around (text_of w) old name.2))
+solid-read around at old v new front outer (inr (inr (inl o))) =
+    fits-by-parts Kind.Solid Production.ArrayType tt tt o (λ w s one. one Kind.AnyArray refl outer)
+solid-read around at old v new front outer (inr (inr (inr (inl o)))) =
+    fits-by-parts Kind.Solid Production.Function tt tt o (λ c s linkage w t one x u two.
+    function-fits around (is_there c) false (ref_of x) (tree_of w) (parameters (tree_of x)) old t u
+    (subst (λ q. KindFits Kind.Type around w q t) (linkage Kind.MaybeCLinkage refl) (one Kind.Type refl outer))
+    (let rest = two Kind.FunctionRest refl outer in parameters-fit around parameter_type (tree_of x) t u rest.0 rest.1))
+solid-read around at old v new front outer (inr (inr (inr (inr (inl o))))) =
+    fits-by-parts Kind.Solid Production.Complex tt tt o (λ w s one. complex-fits around (tree_of w) old s (one Kind.Type refl outer))
 solid-read around at old v new front outer (inr (inr (inr (inr (inr (inl o)))))) = pointer-arm takes_all Kind.Solid around at old v new outer o
 solid-read around at old v new front outer (inr (inr (inr (inr (inr (inr (inl o))))))) = member-arm takes_all Kind.Solid around at old v new outer o
 solid-read around at old v new front outer (inr (inr (inr (inr (inr (inr (inr (inl o)))))))) = parameter-solid takes_all Kind.Solid around at old v new front outer o
@@ -66,25 +82,8 @@ solid-but-t-branch : BranchRead Kind.SolidButT
 unfolding alternatives choose pick is_in in_ranges among same_choice each_below number_of
 solid-but-t-branch rule taken parts all around at old v new front is e outer =
     solid-read around at old v new (solid-front around at old front) outer
-    (any (opened-read Kind.SolidButT rule taken parts all around at old v new front is e))
-  where
-    same : (p : Production) → OpenedRead Kind.SolidButT around at old v new p → OpenedRead Kind.Solid around at old v new p
-    same p o = taken-as Kind.SolidButT Kind.Solid refl around at old v new p o
-
-    any : OneOf (alternatives Kind.SolidButT) (OpenedRead Kind.SolidButT around at old v new)
-        → OneOf (alternatives Kind.Solid) (OpenedRead Kind.Solid around at old v new)
-    any (inl o) = inl (same Production.Builtin o)
-    any (inr (inl o)) = inr (inl (same Production.Vendor o))
-    any (inr (inr (inl o))) = inr (inr (inl (same Production.ArrayType o)))
-    any (inr (inr (inr (inl o)))) = inr (inr (inr (inl (same Production.Function o))))
-    any (inr (inr (inr (inr (inl o))))) = inr (inr (inr (inr (inl (same Production.Complex o)))))
-    any (inr (inr (inr (inr (inr (inl o)))))) = inr (inr (inr (inr (inr (inl (same Production.Pointer o))))))
-    any (inr (inr (inr (inr (inr (inr (inl o))))))) = inr (inr (inr (inr (inr (inr (inl (same Production.MemberPointer o)))))))
-    any (inr (inr (inr (inr (inr (inr (inr (inl o)))))))) = inr (inr (inr (inr (inr (inr (inr (inr (inl (same Production.TypeWithS o)))))))))
-    any (inr (inr (inr (inr (inr (inr (inr (inr (inl o))))))))) = inr (inr (inr (inr (inr (inr (inr (inr (inr (inl (same Production.NestedType o))))))))))
-    any (inr (inr (inr (inr (inr (inr (inr (inr (inr (inl o)))))))))) = inr (inr (inr (inr (inr (inr (inr (inr (inr (inr (inl (same Production.LocalType o)))))))))))
-    any (inr (inr (inr (inr (inr (inr (inr (inr (inr (inr (inl o))))))))))) = inr (inr (inr (inr (inr (inr (inr (inr (inr (inr (inr (inl (same Production.LocalTypeName o))))))))))))
-    any (inr (inr (inr (inr (inr (inr (inr (inr (inr (inr (inr o))))))))))) = inr (inr (inr (inr (inr (inr (inr (inr (inr (inr (inr (inr (same Production.SourceName o))))))))))))
+    (taken-among Kind.SolidButT Kind.Solid refl around at old v new (alternatives Kind.SolidButT)
+    (opened-read Kind.SolidButT rule taken parts all around at old v new front is e))
 
 -- the type of a literal
 literal-type-branch : BranchRead Kind.LiteralType

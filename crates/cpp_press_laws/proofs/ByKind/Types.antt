@@ -1,22 +1,25 @@
 -- What is read of types: each production keeps to what is known of its kind.
-use Rattle.std.proofs.Common.{◌≡◌, ℕ, inl, inr, [], ◌∷◌, true, refl, sym, subst, ◌∙◌}
+use Rattle.std.proofs.Common.{◌≡◌, ℕ, inl, inr, [], ◌∷◌, true, false, refl, sym, subst, ◌∙◌}
 use Rattle.cpp_grammar.specs.declared.kind.Kind.{Kind}
 use Rattle.cpp_grammar.specs.declared.production.Production.{Production}
 use Rattle.cpp_grammar.specs.Grammar.{alternatives, number_of_kind, parts_of, is_chain}
 use Rattle.cpp_grammar.specs.Term.{builtin}
-use Rattle.cpp_grammar.specs.Values.{State, outermost, Around, Value, tree, tree_of, text_of, part}
+use Rattle.cpp_grammar.specs.Values.{State, outermost, Around, Value, tree, tree_of, is_there, is_listed, ref_of, text_of, normal, part}
 use Rattle.cpp_grammar.specs.Between.{under_expansion, between}
-use Rattle.cpp_grammar.specs.Meaning.{enclosed_argument, ends_arguments, meaning}
+use Rattle.cpp_grammar.specs.Meaning.{listed_value, reference_to, parameters, enclosed_argument, ends_arguments, meaning}
 use Rattle.cpp_grammar.specs.Unfolding as unfolding_
 use Rattle.cpp_grammar.specs.Unfolding.{byte_of}
-use Rattle.cpp_press_laws.specs.Fits.{Slot, any_type, item_type, parameter_type, takes_all, takes_qualified, takes_expansions}
+use Rattle.cpp_grammar.specs.References.{with_type}
+use Rattle.cpp_press_laws.specs.Fits.{Slot, any_type, item_type, parameter_type, takes_all, takes_qualified, takes_expansions, has_letters}
 use Rattle.cpp_press_laws.proofs.Components.AddedWays.{IsNotBare}
-use Rattle.cpp_press_laws.proofs.Fits.Types.{TypeFits, SolidFits}
+use Rattle.cpp_press_laws.proofs.Fits.Types.{TypeFits, SolidFits, vector-fits, qualified-fits}
 use Rattle.cpp_press_laws.proofs.Fits.Solids.{builtin-with-d}
-use Rattle.cpp_press_laws.proofs.Fits.Sorts.{KindFits, plain-type, plain-argument, argument-with-t, type-with-d, item-with-d, qualified-plain, plain-with-d, item-is-type, expansion-item, const-type, volatile-type, restrict-type, reference-type, reference-plain, solid-vector, solid-noexcept}
+use Rattle.cpp_press_laws.proofs.Fits.Sorts.{KindFits, item-is-type, reference-solid, reference-plain}
+use Rattle.cpp_press_laws.proofs.Fits.Lists.{parameters-fit, function-fits}
+use Rattle.cpp_press_laws.proofs.Fits.Arguments.{expansion-fits}
 use Rattle.cpp_press_laws.proofs.Fits.Typed.{type-as-argument}
 use Rattle.cpp_press_laws.proofs.ByKind.LeafKinds.{own-byte, normal-digits}
-use Rattle.cpp_press_laws.proofs.ByKind.Known.{OpenedRead, opened-read, comes-as, BranchRead}
+use Rattle.cpp_press_laws.proofs.ByKind.Known.{OpenedRead, opened-read, comes-as, by-parts, fits-by-parts, BranchRead}
 
 -- ## Types that become candidates
 
@@ -25,89 +28,63 @@ In around slot old w s = TypeFits around slot (tree_of w) old s
 
 const-arm : (kind : Kind) (slot : Slot) → takes_qualified slot ≡ true → (around : Around) (at : ℕ) (old : State) (v : Value) (new : State)
     → around.prefix ≡ outermost → OpenedRead kind around at old v new Production.ConstType → TypeFits around slot (tree_of v) old new
-unfolding parts_of between
+unfolding parts_of between meaning listed_value tree_of is_there part unfolding_.behind has_letters
 const-arm kind slot take around at old v new outer o =
-    let a = o.goes tt in
-    let byte = byte_of o.taken in
-    comes-as (In around slot old) Production.ConstType tt byte around at old (a.value ∷ []) a.after v new a.onward
-    (const-type around byte old slot take a.value old a.after (a.read Kind.Plain refl outer))
+    by-parts (In around slot old) Production.ConstType tt tt o
+    (λ w s one. qualified-fits around (record { restrict = false; volatile = false; const = true }) (tree_of w) slot old s take refl (one Kind.Plain refl outer))
 
 volatile-arm : (kind : Kind) (slot : Slot) → takes_qualified slot ≡ true
     → (around : Around) (at : ℕ) (old : State) (v : Value) (new : State)
     → around.prefix ≡ outermost → OpenedRead kind around at old v new Production.VolatileType → TypeFits around slot (tree_of v) old new
-unfolding parts_of between
+unfolding parts_of between meaning listed_value tree_of is_there part unfolding_.behind has_letters
 volatile-arm kind slot take around at old v new outer o =
-    let a = o.goes tt in
-    let b = a.onward in
-    let byte = byte_of o.taken in
-    let same : a.after ≡ old = a.read Kind.MaybeConst refl in
-    comes-as (In around slot old) Production.VolatileType tt byte around at old (a.value ∷ b.value ∷ []) b.after v new b.onward
-    (volatile-type around byte old slot take a.value b.value old b.after
-    (subst (λ s. KindFits Kind.Plain around b.value s b.after) same (b.read Kind.Plain refl outer)))
+    by-parts (In around slot old) Production.VolatileType tt tt o
+    (λ c s const x t one. qualified-fits around (record { restrict = false; volatile = true; const = is_there c }) (tree_of x) slot old t take refl
+    (subst (λ q. KindFits Kind.Plain around x q t) (const Kind.MaybeConst refl) (one Kind.Plain refl outer)))
 
 restrict-arm : (kind : Kind) (slot : Slot) → takes_qualified slot ≡ true
     → (around : Around) (at : ℕ) (old : State) (v : Value) (new : State)
     → around.prefix ≡ outermost → OpenedRead kind around at old v new Production.RestrictType → TypeFits around slot (tree_of v) old new
-unfolding parts_of between
+unfolding parts_of between meaning listed_value tree_of is_there part unfolding_.behind has_letters
 restrict-arm kind slot take around at old v new outer o =
-    let a = o.goes tt in
-    let b = a.onward in
-    let c = b.onward in
-    let byte = byte_of o.taken in
-    let one : a.after ≡ old = a.read Kind.MaybeVolatile refl in
-    let two : b.after ≡ a.after = b.read Kind.MaybeConst refl in
-    comes-as (In around slot old) Production.RestrictType tt byte around at old (a.value ∷ b.value ∷ c.value ∷ []) c.after v new c.onward
-    (restrict-type around byte old slot take a.value b.value c.value old c.after
-    (subst (λ s. KindFits Kind.Plain around c.value s c.after) (two ∙ one) (c.read Kind.Plain refl outer)))
+    by-parts (In around slot old) Production.RestrictType tt tt o
+    (λ a s volatile b r const x t one. qualified-fits around (record { restrict = true; volatile = is_there a; const = is_there b }) (tree_of x) slot old t take refl
+    (subst (λ q. KindFits Kind.Plain around x q t) (const Kind.MaybeConst refl ∙ volatile Kind.MaybeVolatile refl) (one Kind.Plain refl outer)))
 
 reference-arm : (kind : Kind) (slot : Slot) → IsNotBare slot → takes_all slot ≡ true → (around : Around) (at : ℕ) (old : State) (v : Value)
     (new : State) → around.prefix ≡ outermost → OpenedRead kind around at old v new Production.ReferenceType
     → TypeFits around slot (tree_of v) old new
-unfolding parts_of between
+unfolding parts_of between meaning listed_value reference_to tree_of is_listed part unfolding_.behind with_type
 reference-arm kind slot other take around at old v new outer o =
-    let a = o.goes tt in
-    let byte = byte_of o.taken in
-    comes-as (In around slot old) Production.ReferenceType tt byte around at old (a.value ∷ []) a.after v new a.onward
-    (reference-type around byte old slot other take a.value old a.after (a.read Kind.Type refl outer))
+    by-parts (In around slot old) Production.ReferenceType tt tt o
+    (λ w s one. (reference-solid around (byte_of o.taken) w old s (one Kind.Type refl outer)).types slot other take)
 
 plain-arm : (kind : Kind) (slot : Slot) → IsNotBare slot → takes_all slot ≡ true → (around : Around) (at : ℕ) (old : State) (v : Value)
     (new : State) → around.prefix ≡ outermost → OpenedRead kind around at old v new Production.PlainType
     → TypeFits around slot (tree_of v) old new
-unfolding parts_of between
+unfolding parts_of between meaning listed_value tree_of part unfolding_.behind
 plain-arm kind slot other take around at old v new outer o =
-    let a = o.goes tt in
-    let byte = byte_of o.taken in
-    comes-as (In around slot old) Production.PlainType tt byte around at old (a.value ∷ []) a.after v new a.onward
-    (plain-type around byte old slot other take a.value old a.after (a.read Kind.Solid refl outer))
+    by-parts (In around slot old) Production.PlainType tt tt o
+    (λ w s one. (one Kind.Solid refl outer).types slot other take)
 
 item-d-arm : (kind : Kind) (slot : Slot) → IsNotBare slot → takes_expansions slot ≡ true
     → (around : Around) (at : ℕ) (old : State) (v : Value)
     (new : State) → around.prefix ≡ outermost → OpenedRead kind around at old v new Production.ItemWithD
     → TypeFits around slot (tree_of v) old new
-unfolding parts_of between
+unfolding parts_of between meaning listed_value tree_of part unfolding_.behind
 item-d-arm kind slot other take around at old v new outer o =
-    let a = o.goes tt in
-    let byte = byte_of o.taken in
-    comes-as (In around slot old) Production.ItemWithD tt byte around at old (a.value ∷ []) a.after v new a.onward
-    (item-with-d around byte old slot other take a.value old a.after (a.read Kind.ItemAfterD refl outer))
-
-type-d-arm : (around : Around) (at : ℕ) (old : State) (v : Value) (new : State) → around.prefix ≡ outermost
-    → OpenedRead Kind.Type around at old v new Production.TypeWithD → TypeFits around any_type (tree_of v) old new
-unfolding parts_of between
-type-d-arm around at old v new outer o =
-    let a = o.goes tt in
-    let byte = byte_of o.taken in
-    comes-as (In around any_type old) Production.TypeWithD tt byte around at old (a.value ∷ []) a.after v new a.onward
-    (type-with-d around byte old a.value old a.after (a.read Kind.AfterD refl outer))
+    by-parts (In around slot old) Production.ItemWithD tt tt o
+    (λ w s one. (one Kind.ItemAfterD refl outer).types slot other take)
 
 pub type-branch : BranchRead Kind.Type
-unfolding alternatives takes_qualified takes_all
+unfolding alternatives takes_qualified takes_all meaning listed_value tree_of part unfolding_.behind parts_of between
 type-branch rule taken parts all around at old v new front is e outer =
     elim (opened-read Kind.Type rule taken parts all around at old v new front is e) [
       | inl o ↦ restrict-arm Kind.Type any_type refl around at old v new outer o
       | inr (inl o) ↦ volatile-arm Kind.Type any_type refl around at old v new outer o
       | inr (inr (inl o)) ↦ const-arm Kind.Type any_type refl around at old v new outer o
-      | inr (inr (inr (inl o))) ↦ type-d-arm around at old v new outer o
+      | inr (inr (inr (inl o))) ↦ by-parts (In around any_type old) Production.TypeWithD tt tt o
+          (λ w s one. (one Kind.AfterD refl outer).types any_type tt refl)
       | inr (inr (inr (inr (inl o)))) ↦ reference-arm Kind.Type any_type tt refl around at old v new outer o
       | inr (inr (inr (inr (inr o)))) ↦ plain-arm Kind.Type any_type tt refl around at old v new outer o
     ]
@@ -126,39 +103,8 @@ item-branch rule taken parts all around at old v new front is e outer =
 
 -- ## Arguments of templates
 
-plain-argument-arm : takes_all item_type ≡ true → (around : Around) (at : ℕ) (old : State) (v : Value) (new : State) → around.prefix ≡ outermost
-    → OpenedRead Kind.Argument around at old v new Production.PlainArgument → TypeFits around item_type (tree_of v) old new
-unfolding parts_of between
-plain-argument-arm take around at old v new outer o =
-    let a = o.goes tt in
-    let byte = byte_of o.taken in
-    comes-as (In around item_type old) Production.PlainArgument tt byte around at old (a.value ∷ []) a.after v new a.onward
-    (plain-argument around byte old item_type tt take a.value old a.after (a.read Kind.SolidButT refl outer))
-
-with-t-arm : takes_all item_type ≡ true → (around : Around) (at : ℕ) (old : State) (v : Value) (new : State) → around.prefix ≡ outermost
-    → OpenedRead Kind.Argument around at old v new Production.ArgumentWithT → TypeFits around item_type (tree_of v) old new
-unfolding parts_of between
-with-t-arm take around at old v new outer o =
-    let a = o.goes tt in
-    let byte = byte_of o.taken in
-    comes-as (In around item_type old) Production.ArgumentWithT tt byte around at old (a.value ∷ []) a.after v new a.onward
-    (argument-with-t around byte old item_type tt take a.value old a.after (a.read Kind.ArgumentAfterT refl outer))
-
--- an address is in no parentheses
-expression-arm : (around : Around) (at : ℕ) (old : State) (v : Value) (new : State) → around.prefix ≡ outermost
-    → OpenedRead Kind.Argument around at old v new Production.Expression → KindFits Kind.Argument around v old new
-unfolding parts_of between meaning part unfolding_.behind number_of_kind enclosed_argument ends_arguments tree_of
-expression-arm around at old v new outer o =
-    let a = o.goes tt in
-    let b = a.onward in
-    let address = a.read Kind.Expression refl outer in
-    comes-as (λ w s. KindFits Kind.Argument around w old s) Production.Expression tt (byte_of o.taken) around at old (a.value ∷ b.value ∷ []) b.after v new
-    b.onward
-    (subst (λ s. KindFits Kind.Argument around (enclosed_argument a.value) old s) (sym b.read.0)
-    (subst (λ w. KindFits Kind.Argument around (enclosed_argument w) old a.after) (sym address.1) address.2))
-
 pub argument-branch : BranchRead Kind.Argument
-unfolding alternatives takes_qualified takes_all takes_expansions
+unfolding alternatives takes_qualified takes_all takes_expansions meaning listed_value part unfolding_.behind number_of_kind enclosed_argument ends_arguments tree_of parts_of between
 argument-branch rule taken parts all around at old v new front is e outer =
     elim (opened-read Kind.Argument rule taken parts all around at old v new front is e) [
       | inl o ↦ typed (restrict-arm Kind.Argument item_type refl around at old v new outer o)
@@ -166,9 +112,14 @@ argument-branch rule taken parts all around at old v new front is e outer =
       | inr (inr (inl o)) ↦ typed (const-arm Kind.Argument item_type refl around at old v new outer o)
       | inr (inr (inr (inl o))) ↦ typed (item-d-arm Kind.Argument item_type tt refl around at old v new outer o)
       | inr (inr (inr (inr (inl o)))) ↦ typed (reference-arm Kind.Argument item_type tt refl around at old v new outer o)
-      | inr (inr (inr (inr (inr (inl o))))) ↦ expression-arm around at old v new outer o
-      | inr (inr (inr (inr (inr (inr (inl o)))))) ↦ typed (with-t-arm refl around at old v new outer o)
-      | inr (inr (inr (inr (inr (inr (inr o)))))) ↦ typed (plain-argument-arm refl around at old v new outer o)
+      | inr (inr (inr (inr (inr (inl o))))) ↦ fits-by-parts Kind.Argument Production.Expression tt tt o (λ w s one x t end.
+          let address = one Kind.Expression refl outer in
+          subst (λ q. KindFits Kind.Argument around (enclosed_argument w) old q) (sym end.0)
+          (subst (λ u. KindFits Kind.Argument around (enclosed_argument u) old s) (sym address.1) address.2))
+      | inr (inr (inr (inr (inr (inr (inl o)))))) ↦ typed (by-parts (In around item_type old) Production.ArgumentWithT tt tt o
+          (λ w s one. (one Kind.ArgumentAfterT refl outer).types item_type tt refl))
+      | inr (inr (inr (inr (inr (inr (inr o)))))) ↦ typed (by-parts (In around item_type old) Production.PlainArgument tt tt o
+          (λ w s one. (one Kind.SolidButT refl outer).types item_type tt refl))
     ]
   where
     typed : TypeFits around item_type (tree_of v) old new → KindFits Kind.Argument around v old new
@@ -188,72 +139,27 @@ parameter-branch rule taken parts all around at old v new front is e outer =
 
 -- ## Right under qualifiers
 
-qualified-arm : (around : Around) (at : ℕ) (old : State) (v : Value) (new : State) → around.prefix ≡ outermost
-    → OpenedRead Kind.Plain around at old v new Production.QualifiedPlain → KindFits Kind.Plain around v old new
-unfolding parts_of between
-qualified-arm around at old v new outer o =
-    let a = o.goes tt in
-    let byte = byte_of o.taken in
-    comes-as (λ w s. KindFits Kind.Plain around w old s) Production.QualifiedPlain tt byte around at old (a.value ∷ []) a.after v new
-    a.onward
-    (qualified-plain around byte old a.value old a.after (a.read Kind.Solid refl outer))
-
-plain-d-arm : (around : Around) (at : ℕ) (old : State) (v : Value) (new : State) → around.prefix ≡ outermost
-    → OpenedRead Kind.Plain around at old v new Production.PlainWithD → KindFits Kind.Plain around v old new
-unfolding parts_of between
-plain-d-arm around at old v new outer o =
-    let a = o.goes tt in
-    let byte = byte_of o.taken in
-    comes-as (λ w s. KindFits Kind.Plain around w old s) Production.PlainWithD tt byte around at old (a.value ∷ []) a.after v new a.onward
-    (plain-with-d around byte old a.value old a.after (a.read Kind.AfterD refl outer))
-
-bare-reference-arm : (around : Around) (at : ℕ) (old : State) (v : Value) (new : State) → around.prefix ≡ outermost
-    → OpenedRead Kind.Plain around at old v new Production.ReferenceType → KindFits Kind.Plain around v old new
-unfolding parts_of between
-bare-reference-arm around at old v new outer o =
-    let a = o.goes tt in
-    let byte = byte_of o.taken in
-    comes-as (λ w s. KindFits Kind.Plain around w old s) Production.ReferenceType tt byte around at old (a.value ∷ []) a.after v new
-    a.onward
-    (reference-plain around byte old a.value old a.after (a.read Kind.Type refl outer))
-
 pub plain-branch : BranchRead Kind.Plain
-unfolding alternatives
+unfolding alternatives meaning listed_value tree_of part unfolding_.behind takes_all parts_of between
 plain-branch rule taken parts all around at old v new front is e outer =
     elim (opened-read Kind.Plain rule taken parts all around at old v new front is e) [
-      | inl o ↦ plain-d-arm around at old v new outer o
-      | inr (inl o) ↦ bare-reference-arm around at old v new outer o
-      | inr (inr o) ↦ qualified-arm around at old v new outer o
+      | inl o ↦ fits-by-parts Kind.Plain Production.PlainWithD tt tt o
+          (λ w s one. (one Kind.AfterD refl outer).bare refl)
+      | inr (inl o) ↦ fits-by-parts Kind.Plain Production.ReferenceType tt tt o
+          (λ w s one. reference-plain around (byte_of o.taken) old w old s (one Kind.Type refl outer))
+      | inr (inr o) ↦ fits-by-parts Kind.Plain Production.QualifiedPlain tt tt o
+          (λ w s one. (one Kind.Solid refl outer).bare refl)
     ]
 
 -- ## After a D
 
-expansion-arm : (around : Around) (at : ℕ) (old : State) (v : Value) (new : State) → around.prefix ≡ outermost
-    → OpenedRead Kind.ItemAfterD around at old v new Production.Expansion → KindFits Kind.ItemAfterD around v old new
-unfolding parts_of between under_expansion
-expansion-arm around at old v new outer o =
-    let a = o.goes tt in
-    let byte = byte_of o.taken in
-    comes-as (λ w s. KindFits Kind.ItemAfterD around w old s) Production.Expansion tt byte around at old (a.value ∷ []) a.after v new
-    a.onward
-    (expansion-item around byte a.value old a.after (a.read Kind.Type refl outer))
-
-item-type-arm : (around : Around) (at : ℕ) (old : State) (v : Value) (new : State) → around.prefix ≡ outermost
-    → OpenedRead Kind.ItemAfterD around at old v new Production.ItemIsType → KindFits Kind.ItemAfterD around v old new
-unfolding parts_of between
-item-type-arm around at old v new outer o =
-    let a = o.goes tt in
-    let byte = byte_of o.taken in
-    comes-as (λ w s. KindFits Kind.ItemAfterD around w old s) Production.ItemIsType tt byte around at old (a.value ∷ []) a.after v new
-    a.onward
-    (item-is-type around byte old a.value old a.after (a.read Kind.AfterD refl outer))
-
 pub item-d-branch : BranchRead Kind.ItemAfterD
-unfolding alternatives
+unfolding alternatives parts_of between meaning part unfolding_.behind under_expansion
 item-d-branch rule taken parts all around at old v new front is e outer =
     elim (opened-read Kind.ItemAfterD rule taken parts all around at old v new front is e) [
-      | inl o ↦ expansion-arm around at old v new outer o
-      | inr o ↦ item-type-arm around at old v new outer o
+      | inl o ↦ fits-by-parts Kind.ItemAfterD Production.Expansion tt tt o (λ w s one. expansion-fits around (tree_of w) old s (one Kind.Type refl outer))
+      | inr o ↦ fits-by-parts Kind.ItemAfterD Production.ItemIsType tt tt o
+          (λ w s one. item-is-type around (byte_of o.taken) old w old s (one Kind.AfterD refl outer))
     ]
 
 builtin-d-arm : (around : Around) (at : ℕ) (old : State) (v : Value) (new : State)
@@ -266,43 +172,16 @@ builtin-d-arm around at old v new o =
     (sym (own-byte Production.BuiltinWithD o.taken o.byte o.takes refl))
     (builtin-with-d around o.byte old o.small o.chosen))
 
-vector-arm : (around : Around) (at : ℕ) (old : State) (v : Value) (new : State) → around.prefix ≡ outermost
-    → OpenedRead Kind.AfterD around at old v new Production.Vector → KindFits Kind.AfterD around v old new
-unfolding parts_of between
-vector-arm around at old v new outer o =
-    let a = o.goes tt in
-    let b = a.onward in
-    let c = b.onward in
-    let byte = byte_of o.taken in
-    let same : b.after ≡ old = b.read.0 ∙ a.read.0 in
-    comes-as (λ w s. KindFits Kind.AfterD around w old s) Production.Vector tt byte around at old (a.value ∷ b.value ∷ c.value ∷ [])
-    c.after v new
-    c.onward
-    (solid-vector around byte old a.value b.value c.value old c.after (normal-digits (text_of a.value) a.read.2)
-    (subst (λ s. KindFits Kind.Type around c.value s c.after) same (c.read Kind.Type refl outer)))
-
-noexcept-arm : (around : Around) (at : ℕ) (old : State) (v : Value) (new : State) → around.prefix ≡ outermost
-    → OpenedRead Kind.AfterD around at old v new Production.NoexceptFunction → KindFits Kind.AfterD around v old new
-unfolding parts_of between
-noexcept-arm around at old v new outer o =
-    let a = o.goes tt in
-    let b = a.onward in
-    let c = b.onward in
-    let d = c.onward in
-    let byte = byte_of o.taken in
-    let one : a.after ≡ old = a.read.0 in
-    let two : b.after ≡ a.after = b.read Kind.MaybeCLinkage refl in
-    comes-as (λ w s. KindFits Kind.AfterD around w old s) Production.NoexceptFunction tt byte around at old
-    (a.value ∷ b.value ∷ c.value ∷ d.value ∷ []) d.after v new d.onward
-    (solid-noexcept around byte old a.value b.value c.value d.value old c.after d.after
-    (subst (λ s. KindFits Kind.Type around c.value s c.after) (two ∙ one) (c.read Kind.Type refl outer))
-    (d.read Kind.FunctionRest refl outer))
-
 pub after-d-branch : BranchRead Kind.AfterD
-unfolding alternatives
+unfolding alternatives meaning part unfolding_.behind parts_of between
 after-d-branch rule taken parts all around at old v new front is e outer =
     elim (opened-read Kind.AfterD rule taken parts all around at old v new front is e) [
       | inl o ↦ builtin-d-arm around at old v new o
-      | inr (inl o) ↦ vector-arm around at old v new outer o
-      | inr (inr o) ↦ noexcept-arm around at old v new outer o
+      | inr (inl o) ↦ fits-by-parts Kind.AfterD Production.Vector tt tt o (λ d s number x r mark w t one.
+          vector-fits around (normal (text_of d)) (tree_of w) old t (normal-digits (text_of d) number.2)
+          (subst (λ q. KindFits Kind.Type around w q t) (mark.0 ∙ number.0) (one Kind.Type refl outer)))
+      | inr (inr o) ↦ fits-by-parts Kind.AfterD Production.NoexceptFunction tt tt o (λ f s letter c r linkage w t one x u two.
+          function-fits around (is_there c) true (ref_of x) (tree_of w) (parameters (tree_of x)) old t u
+          (subst (λ q. KindFits Kind.Type around w q t) (linkage Kind.MaybeCLinkage refl ∙ letter.0) (one Kind.Type refl outer))
+          (let rest = two Kind.FunctionRest refl outer in parameters-fit around parameter_type (tree_of x) t u rest.0 rest.1))
     ]

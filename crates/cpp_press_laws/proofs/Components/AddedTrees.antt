@@ -256,18 +256,6 @@ adds (thunk kind e) =
 adds (of_name l name q ref) =
     encoding-ways-add (of_name l name q ref) _ _ (Inside name) (λ x s. s)
     (λ allowed here cs fits complete. ((adds name).at fit.as_name) q ref (in_name here) allowed (here + 2) cs fits.1 complete)
-adds (construction derived digits parent) = nowhere-ways-add (construction derived digits parent) _
-adds (clone letter e) = nowhere-ways-add (clone letter e) _
-adds (holder name) = nowhere-ways-add (holder name) _
-adds (conversion type) = nowhere-ways-add (conversion type) _
-adds (sized_float digits end) = nowhere-ways-add (sized_float digits end) _
-adds (generic_lambda parameters number) = nowhere-ways-add (generic_lambda parameters number) _
-adds (bounded bound type) = nowhere-ways-add (bounded bound type) _
-adds (constrained letter concept) = nowhere-ways-add (constrained letter concept) _
-adds (inheriting digit class) = nowhere-ways-add (inheriting digit class) _
-adds (decltype operand) = nowhere-ways-add (decltype operand) _
-adds (operation one two u w) = nowhere-ways-add (operation one two u w) _
-adds (function_parameter digits) = nowhere-ways-add (function_parameter digits) _
 adds (alone p) = alone-add p (adds p)
 adds (in_std p) = in-std-add p (adds p)
 adds (within prefix p) = within-add prefix p (adds prefix) (adds p)
@@ -277,27 +265,12 @@ adds (tagged of_structor name tag) = type-ways-add (tagged of_structor name tag)
     (λ slot around allowed place cs fits complete. absurd fits)
 adds (abbreviation l) = abbreviation-add l
 adds (parameter k) = parameter-add k
-adds (source internal name) = leaf-piece-add (source internal name) _ _ (λ x i. i)
-adds (operator a b) = leaf-piece-add (operator a b) _ _ (λ x i. i)
-adds (literal_operator name) = leaf-piece-add (literal_operator name) _ _ (λ x i. i)
-adds (constructor digit) = leaf-piece-add (constructor digit) _ _ (λ x i. i)
-adds (destructor digit) = leaf-piece-add (destructor digit) _ _ (λ x i. i)
 adds (lambda parameters k) =
     piece-ways-add (lambda parameters k) _ _ (λ around allowed place cs fits complete.
     ((adds parameters).at fit.as_parameters) item_type tt (in_signature around) allowed (place + 2) cs fits.0 complete)
-adds (unnamed k) = leaf-piece-add (unnamed k) _ _ (λ x i. i)
-adds string_literal = leaf-piece-add string_literal _ _ (λ x i. i)
 adds (builtin code) = builtin-add code
 adds (vendor name) = type-ways-add (vendor name) _ _ (λ x w. w)
     (λ slot around allowed place cs fits complete. none-added around.encoding cs complete)
-adds (pointer type) = type-ways-add (pointer type) _ _ (λ x w. w)
-    (λ slot around allowed place cs fits complete. ((adds type).at fit.as_type) any_type around allowed (place + 1) cs fits complete)
-adds (lvalue type) = type-ways-add (lvalue type) _ _ (λ x w. w)
-    (λ slot around allowed place cs fits complete. ((adds type).at fit.as_type) any_type around allowed (place + 1) cs fits.1 complete)
-adds (rvalue type) = type-ways-add (rvalue type) _ _ (λ x w. w)
-    (λ slot around allowed place cs fits complete. ((adds type).at fit.as_type) any_type around allowed (place + 1) cs fits.1 complete)
-adds (array digits type) = type-ways-add (array digits type) _ _ (λ x w. w) (λ slot around allowed place cs fits complete.
-    ((adds type).at fit.as_type) any_type around allowed (place + length (codes "A" ++ digits ++ codes "_")) cs fits.2 complete)
 adds (member_pointer class member) = type-ways-add (member_pointer class member) _ _ (λ x w. w)
     (λ slot around allowed place cs fits complete.
     let n : ℕ = around.encoding in
@@ -308,12 +281,6 @@ adds (member_pointer class member) = type-ways-add (member_pointer class member)
     (fits.0, behind-and (text (codes "M")) (ways_of n class).as_type G place cs fits.1) complete)
 adds (function_type c_linkage noexcept ref returned parameters) =
     function-type-add c_linkage noexcept ref returned parameters (adds returned) (adds parameters)
-adds (qualified q type) = type-ways-add (qualified q type) _ _ (λ x w. w) (λ slot around allowed place cs fits complete.
-    ((adds type).at fit.as_type) bare_type around allowed (place + length (qualifier_letters q)) cs fits.2 complete)
-adds (vector digits type) = type-ways-add (vector digits type) _ _ (λ x w. w) (λ slot around allowed place cs fits complete.
-    ((adds type).at fit.as_type) any_type around allowed (place + length (codes "Dv" ++ digits ++ codes "_")) cs fits.2 complete)
-adds (complex type) = type-ways-add (complex type) _ _ (λ x w. w)
-    (λ slot around allowed place cs fits complete. ((adds type).at fit.as_type) any_type around allowed (place + 1) cs fits.1 complete)
 adds (expansion pattern) = type-ways-add (expansion pattern) _ _ (λ x w. w) (λ slot around allowed place cs fits complete.
     ((adds pattern).at fit.as_type) any_type (under_expansion around) fits.1.0 (place + 2) cs fits.1.1 complete)
 adds (integer type value) = argument-ways-add (integer type value) _ _ (no-pieces (integer type value) (λ h. h))
@@ -336,5 +303,32 @@ adds (pack elements) = argument-ways-add (pack elements) _ _ (no-pieces (pack el
     (λ in_pack around allowed place cs fits complete. ((adds elements).at fit.as_elements) true around allowed (place + 1) cs fits.1 complete)
 adds nil = nil-add
 adds (list first rest) = list-add first rest (adds first) (adds rest)
+-- Generated by tools/trees.py. The others, by their spelling
+adds (construction derived digits parent) = nowhere-ways-add (construction derived digits parent) _
+adds (clone letter e) = nowhere-ways-add (clone letter e) _
+adds (holder name) = nowhere-ways-add (holder name) _
 adds (of_default digits entity) = nowhere-ways-add (of_default digits entity) _
+adds (source internal name) = leaf-piece-add (source internal name) _ _ (λ x i. i)
+adds (operator a b) = leaf-piece-add (operator a b) _ _ (λ x i. i)
+adds (literal_operator name) = leaf-piece-add (literal_operator name) _ _ (λ x i. i)
+adds (constructor digit) = leaf-piece-add (constructor digit) _ _ (λ x i. i)
+adds (destructor digit) = leaf-piece-add (destructor digit) _ _ (λ x i. i)
+adds (inheriting digit class) = nowhere-ways-add (inheriting digit class) _
+adds (generic_lambda parameters number) = nowhere-ways-add (generic_lambda parameters number) _
+adds (unnamed k) = leaf-piece-add (unnamed k) _ _ (λ x i. i)
+adds string_literal = leaf-piece-add string_literal _ _ (λ x i. i)
+adds (conversion type) = nowhere-ways-add (conversion type) _
+adds (sized_float digits end) = nowhere-ways-add (sized_float digits end) _
+adds (constrained letter concept) = nowhere-ways-add (constrained letter concept) _
+adds (pointer type) = type-ways-add (pointer type) _ _ (λ x w. w) (λ slot around allowed place cs fits complete. (adds type).at fit.as_type any_type around allowed (place + length (codes "P")) cs fits complete)
+adds (lvalue type) = type-ways-add (lvalue type) _ _ (λ x w. w) (λ slot around allowed place cs fits complete. (adds type).at fit.as_type any_type around allowed (place + length (codes "R")) cs fits.1 complete)
+adds (rvalue type) = type-ways-add (rvalue type) _ _ (λ x w. w) (λ slot around allowed place cs fits complete. (adds type).at fit.as_type any_type around allowed (place + length (codes "O")) cs fits.1 complete)
+adds (array digits type) = type-ways-add (array digits type) _ _ (λ x w. w) (λ slot around allowed place cs fits complete. (adds type).at fit.as_type any_type around allowed (place + length (codes "A" ++ digits ++ codes "_")) cs fits.2 complete)
+adds (bounded bound type) = nowhere-ways-add (bounded bound type) _
+adds (qualified q type) = type-ways-add (qualified q type) _ _ (λ x w. w) (λ slot around allowed place cs fits complete. (adds type).at fit.as_type bare_type around allowed (place + length (qualifier_letters q)) cs fits.2 complete)
+adds (vector digits type) = type-ways-add (vector digits type) _ _ (λ x w. w) (λ slot around allowed place cs fits complete. (adds type).at fit.as_type any_type around allowed (place + length (codes "Dv" ++ digits ++ codes "_")) cs fits.2 complete)
+adds (complex type) = type-ways-add (complex type) _ _ (λ x w. w) (λ slot around allowed place cs fits complete. (adds type).at fit.as_type any_type around allowed (place + length (codes "C")) cs fits.1 complete)
+adds (decltype operand) = nowhere-ways-add (decltype operand) _
+adds (operation one two u w) = nowhere-ways-add (operation one two u w) _
+adds (function_parameter digits) = nowhere-ways-add (function_parameter digits) _
 adds absent = nowhere-ways-add absent _

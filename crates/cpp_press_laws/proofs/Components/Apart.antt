@@ -216,22 +216,9 @@ ways-grow whole (function name q ref returned parameters) in_whole n =
 ways-grow whole (object name q ref) in_whole n =
     encoding-ways-grow whole (object name q ref) (λ here.
     more-grows ((ways-grow whole name (λ x is. in_whole x (inr is)) here way.as_name) (name_letters q ref) (λ x is. in_whole x (inl is))) (omega arith))
-ways-grow whole (special l type) in_whole n =
-    encoding-ways-grow whole (special l type) (λ here.
-    front (codes "T" ++ l ∷ []) (more-grows (ways-grow whole type in_whole here way.as_type) (omega arith)))
-ways-grow whole (thunk kind e) in_whole n =
-    encoding-ways-grow whole (thunk kind e) (λ here.
-    front (thunk_text kind) (more-grows (ways-grow whole e in_whole here way.as_encoding) (omega arith)))
 ways-grow whole (of_name l name q ref) in_whole n =
     encoding-ways-grow whole (of_name l name q ref) (λ here. front (special_code l)
     (more-grows ((ways-grow whole name (λ x is. in_whole x (inr is)) here way.as_name) (name_letters q ref) (λ x is. in_whole x (inl is))) (omega arith)))
-ways-grow whole (clone letter e) in_whole n =
-    encoding-ways-grow whole (clone letter e) (λ here.
-    front (codes "GT") (front (letter ∷ []) (more-grows (ways-grow whole e in_whole here way.as_encoding) (omega arith))))
-ways-grow whole (construction derived digits parent) in_whole n =
-    encoding-ways-grow whole (construction derived digits parent) (λ here.
-    front (codes "TC") (and-grows (more-grows (ways-grow whole derived (λ x is. in_whole x (inl is)) here way.as_type) (omega arith))
-    (front (digits ++ codes "_") (more-grows (ways-grow whole parent (λ x is. in_whole x (inr is)) here way.as_type) (omega arith)))))
 ways-grow whole (alone p) in_whole n =
     let a = (ways-grow whole p in_whole n way.as_piece) in
     name-ways-grow whole n (alone p) a (more-grows a (omega arith)) a (λ never. a)
@@ -270,62 +257,10 @@ ways-grow whole (local e entity discriminator) in_whole n =
     let b = ways-grow whole entity (λ x is. in_whole x (inr (inr is))) n in
     local-ways-grow whole n (local e entity discriminator) _ _ (λ letters. local-grows entity discriminator letters
     (more-grows (a way.as_encoding) (omega arith)) (more-grows (b way.between_N_and_E (λ x is. in_whole x (inl is))) (omega arith)))
-ways-grow whole (holder name) in_whole n =
-    prefix-ways-grow whole (holder name) (back (more-grows (ways-grow whole name in_whole n way.as_prefix) (omega arith)) (codes "M"))
-ways-grow whole (tagged of_structor name tag) in_whole n =
-    typed whole n (tagged of_structor name tag) (back (ways-grow whole name in_whole n way.as_type) (codes "B" ++ counted tag))
-ways-grow whole (abbreviation l) in_whole n = type-ways-grow whole (abbreviation l) (text-grows (codes "S" ++ l ∷ []))
-ways-grow whole (parameter k) in_whole n = typed whole n (parameter k) (text-grows (codes "T" ++ ordinal k))
-ways-grow whole (source internal name) in_whole n =
-    piece-ways-grow whole (source internal name) (text-grows (cond internal (codes "L") [] ++ counted name))
-ways-grow whole (operator a b) in_whole n = piece-ways-grow whole (operator a b) (text-grows (a ∷ b ∷ []))
-ways-grow whole (literal_operator name) in_whole n = piece-ways-grow whole (literal_operator name) (text-grows (codes "li" ++ counted name))
-ways-grow whole (constructor digit) in_whole n = piece-ways-grow whole (constructor digit) (text-grows (codes "C" ++ digit ∷ []))
-ways-grow whole (destructor digit) in_whole n = piece-ways-grow whole (destructor digit) (text-grows (codes "D" ++ digit ∷ []))
-ways-grow whole (lambda parameters k) in_whole n =
-    piece-ways-grow whole (lambda parameters k) (front (codes "Ul")
-    (back (more-grows (ways-grow whole parameters in_whole n way.as_parameters) (omega arith)) (codes "E" ++ ordinal (k - 1))))
-ways-grow whole (unnamed k) in_whole n = piece-ways-grow whole (unnamed k) (text-grows (codes "Ut" ++ ordinal (k - 1)))
-ways-grow whole (conversion type) in_whole n =
-    piece-ways-grow whole (conversion type) (front (codes "cv") (more-grows (ways-grow whole type in_whole n way.as_type) (omega arith)))
-ways-grow whole string_literal in_whole n = piece-ways-grow whole string_literal (text-grows (codes "s"))
-ways-grow whole (builtin code) in_whole n = type-ways-grow whole (builtin code) (text-grows code)
-ways-grow whole (sized_float digits end) in_whole n =
-    type-ways-grow whole (sized_float digits end) (front (codes "DF") (front digits (text-grows (end ∷ []))))
-ways-grow whole (vendor name) in_whole n = typed whole n (vendor name) (text-grows (codes "u" ++ counted name))
-ways-grow whole (pointer type) in_whole n = typed whole n (pointer type) (front (codes "P") (ways-grow whole type in_whole n way.as_type))
-ways-grow whole (lvalue type) in_whole n = typed whole n (lvalue type) (front (codes "R") (ways-grow whole type in_whole n way.as_type))
-ways-grow whole (rvalue type) in_whole n = typed whole n (rvalue type) (front (codes "O") (ways-grow whole type in_whole n way.as_type))
-ways-grow whole (array digits type) in_whole n =
-    typed whole n (array digits type) (front (codes "A" ++ digits ++ codes "_") (ways-grow whole type in_whole n way.as_type))
-ways-grow whole (member_pointer class member) in_whole n =
-    typed whole n (member_pointer class member) (front (codes "M")
-    (and-grows (more-grows (ways-grow whole class (λ x is. in_whole x (inl is)) n way.as_type) (omega arith))
-    (more-grows (ways-grow whole member (λ x is. in_whole x (inr is)) n way.as_type) (omega arith))))
 ways-grow whole (function_type c_linkage noexcept ref returned parameters) in_whole n =
     function-type-ways-grow whole n (function_type c_linkage noexcept ref returned parameters) (function-text-grows c_linkage noexcept ref
     (more-grows (ways-grow whole returned (λ x is. in_whole x (inl is)) n way.as_type) (omega arith))
     (more-grows (ways-grow whole parameters (λ x is. in_whole x (inr is)) n way.as_parameters) (omega arith)))
-ways-grow whole (qualified q type) in_whole n =
-    typed whole n (qualified q type) (front (qualifier_letters q) (ways-grow whole type in_whole n way.under_qualifiers))
-ways-grow whole (vector digits type) in_whole n =
-    typed whole n _ (front (codes "Dv" ++ digits ++ codes "_") (ways-grow whole type in_whole n way.as_type))
-ways-grow whole (complex type) in_whole n = typed whole n (complex type) (front (codes "C") (ways-grow whole type in_whole n way.as_type))
-ways-grow whole (expansion pattern) in_whole n = typed whole n (expansion pattern) (front (codes "Dp") (ways-grow whole pattern in_whole n way.as_type))
-ways-grow whole (integer type value) in_whole n =
-    argument-ways-grow whole (integer type value)
-    (front (codes "L") (back (more-grows (ways-grow whole type in_whole n way.as_type) (omega arith)) (signed_text value ++ codes "E")))
-ways-grow whole (boolean truth) in_whole n = argument-ways-grow whole (boolean truth) (text-grows (cond truth (codes "Lb1E") (codes "Lb0E")))
-ways-grow whole null_pointer in_whole n = argument-ways-grow whole null_pointer (text-grows (codes "LDnE"))
-ways-grow whole (encoding_literal e) in_whole n =
-    argument-ways-grow whole (encoding_literal e)
-    (front (codes "L_Z") (back (more-grows (ways-grow whole e in_whole n way.as_encoding) (omega arith)) (codes "E")))
-ways-grow whole (address_of e) in_whole n =
-    argument-ways-grow whole (address_of e)
-    (front (codes "XadL_Z") (back (more-grows (ways-grow whole e in_whole n way.as_encoding) (omega arith)) (codes "EE")))
-ways-grow whole (pack elements) in_whole n =
-    argument-ways-grow whole (pack elements)
-    (front (codes "J") (back (more-grows (ways-grow whole elements in_whole n way.as_elements) (omega arith)) (codes "E")))
 ways-grow whole nil in_whole n = list-ways-grow whole nil (text-grows (codes "v")) nothing-grows nothing-grows
 ways-grow whole (list first rest) in_whole n =
     let a = ways-grow whole first (λ x is. in_whole x (inl is)) n in
@@ -335,14 +270,50 @@ ways-grow whole (list first rest) in_whole n =
     and-grows (more-grows (a way.as_type) (omega arith)) (more-grows (b way.as_more_parameters) (omega arith)) in
     list-ways-grow whole (list first rest) more more
     (and-grows (more-grows (a way.as_argument) (omega arith)) (more-grows (b way.as_elements) (omega arith)))
+-- Generated by tools/trees.py. The others, by their spelling
+ways-grow whole (special l type) in_whole n = encoding-ways-grow whole (special l type) (λ here. front (codes "T" ++ l ∷ []) (more-grows (ways-grow whole type in_whole here way.as_type) (omega arith)))
+ways-grow whole (thunk kind e) in_whole n = encoding-ways-grow whole (thunk kind e) (λ here. front (thunk_text kind) (more-grows (ways-grow whole e in_whole here way.as_encoding) (omega arith)))
+ways-grow whole (construction derived digits parent) in_whole n = encoding-ways-grow whole (construction derived digits parent) (λ here. front (codes "TC") (and-grows (more-grows (ways-grow whole derived (λ x w. in_whole x (inl w)) here way.as_type) (omega arith)) (front (digits ++ codes "_") (more-grows (ways-grow whole parent (λ x w. in_whole x (inr w)) here way.as_type) (omega arith)))))
+ways-grow whole (clone letter e) in_whole n = encoding-ways-grow whole (clone letter e) (λ here. front (codes "GT") (front (letter ∷ []) (more-grows (ways-grow whole e in_whole here way.as_encoding) (omega arith))))
+ways-grow whole (holder name) in_whole n = prefix-ways-grow whole (holder name) (back (more-grows (ways-grow whole name in_whole n way.as_prefix) (omega arith)) (codes "M"))
+ways-grow whole (tagged of_structor name tag) in_whole n = typed whole n (tagged of_structor name tag) (back (more-grows (ways-grow whole name in_whole n way.as_type) (omega arith)) (codes "B" ++ counted tag))
 ways-grow whole (of_default digits entity) in_whole n = no-ways-grow whole (of_default digits entity)
-ways-grow whole (generic_lambda parameters number) in_whole n = no-ways-grow whole (generic_lambda parameters number)
-ways-grow whole (bounded bound type) in_whole n = no-ways-grow whole (bounded bound type)
-ways-grow whole (constrained letter concept) in_whole n = no-ways-grow whole (constrained letter concept)
+ways-grow whole (abbreviation l) in_whole n = type-ways-grow whole (abbreviation l) (text-grows (codes "S" ++ l ∷ []))
+ways-grow whole (parameter k) in_whole n = typed whole n (parameter k) (text-grows (codes "T" ++ ordinal k))
+ways-grow whole (source internal name) in_whole n = piece-ways-grow whole (source internal name) (text-grows (cond internal (codes "L") [] ++ counted name))
+ways-grow whole (operator a b) in_whole n = piece-ways-grow whole (operator a b) (text-grows (a ∷ b ∷ []))
+ways-grow whole (literal_operator name) in_whole n = piece-ways-grow whole (literal_operator name) (text-grows (codes "li" ++ counted name))
+ways-grow whole (constructor digit) in_whole n = piece-ways-grow whole (constructor digit) (text-grows (codes "C" ++ digit ∷ []))
+ways-grow whole (destructor digit) in_whole n = piece-ways-grow whole (destructor digit) (text-grows (codes "D" ++ digit ∷ []))
 ways-grow whole (inheriting digit class) in_whole n = no-ways-grow whole (inheriting digit class)
+ways-grow whole (lambda parameters k) in_whole n = piece-ways-grow whole (lambda parameters k) (front (codes "Ul") (back (more-grows (ways-grow whole parameters in_whole n way.as_parameters) (omega arith)) (codes "E" ++ ordinal (k - 1))))
+ways-grow whole (generic_lambda parameters number) in_whole n = no-ways-grow whole (generic_lambda parameters number)
+ways-grow whole (unnamed k) in_whole n = piece-ways-grow whole (unnamed k) (text-grows (codes "Ut" ++ ordinal (k - 1)))
+ways-grow whole string_literal in_whole n = piece-ways-grow whole string_literal (text-grows (codes "s"))
+ways-grow whole (conversion type) in_whole n = piece-ways-grow whole (conversion type) (front (codes "cv") (more-grows (ways-grow whole type in_whole n way.as_type) (omega arith)))
+ways-grow whole (builtin code) in_whole n = type-ways-grow whole (builtin code) (text-grows code)
+ways-grow whole (sized_float digits end) in_whole n = type-ways-grow whole (sized_float digits end) (front (codes "DF") (front digits (text-grows (end ∷ []))))
+ways-grow whole (constrained letter concept) in_whole n = no-ways-grow whole (constrained letter concept)
+ways-grow whole (vendor name) in_whole n = typed whole n (vendor name) (text-grows (codes "u" ++ counted name))
+ways-grow whole (pointer type) in_whole n = typed whole n (pointer type) (front (codes "P") (more-grows (ways-grow whole type in_whole n way.as_type) (omega arith)))
+ways-grow whole (lvalue type) in_whole n = typed whole n (lvalue type) (front (codes "R") (more-grows (ways-grow whole type in_whole n way.as_type) (omega arith)))
+ways-grow whole (rvalue type) in_whole n = typed whole n (rvalue type) (front (codes "O") (more-grows (ways-grow whole type in_whole n way.as_type) (omega arith)))
+ways-grow whole (array digits type) in_whole n = typed whole n (array digits type) (front (codes "A" ++ digits ++ codes "_") (more-grows (ways-grow whole type in_whole n way.as_type) (omega arith)))
+ways-grow whole (bounded bound type) in_whole n = no-ways-grow whole (bounded bound type)
+ways-grow whole (member_pointer class member) in_whole n = typed whole n (member_pointer class member) (front (codes "M") (and-grows (more-grows (ways-grow whole class (λ x w. in_whole x (inl w)) n way.as_type) (omega arith)) (more-grows (ways-grow whole member (λ x w. in_whole x (inr w)) n way.as_type) (omega arith))))
+ways-grow whole (qualified q type) in_whole n = typed whole n (qualified q type) (front (qualifier_letters q) (more-grows (ways-grow whole type in_whole n way.under_qualifiers) (omega arith)))
+ways-grow whole (vector digits type) in_whole n = typed whole n (vector digits type) (front (codes "Dv" ++ digits ++ codes "_") (more-grows (ways-grow whole type in_whole n way.as_type) (omega arith)))
+ways-grow whole (complex type) in_whole n = typed whole n (complex type) (front (codes "C") (more-grows (ways-grow whole type in_whole n way.as_type) (omega arith)))
 ways-grow whole (decltype operand) in_whole n = no-ways-grow whole (decltype operand)
+ways-grow whole (expansion pattern) in_whole n = typed whole n (expansion pattern) (front (codes "Dp") (more-grows (ways-grow whole pattern in_whole n way.as_type) (omega arith)))
+ways-grow whole (integer type value) in_whole n = argument-ways-grow whole (integer type value) (front (codes "L") (back (more-grows (ways-grow whole type in_whole n way.as_type) (omega arith)) (signed_text value ++ codes "E")))
+ways-grow whole (boolean truth) in_whole n = argument-ways-grow whole (boolean truth) (text-grows (cond truth (codes "Lb1E") (codes "Lb0E")))
+ways-grow whole null_pointer in_whole n = argument-ways-grow whole null_pointer (text-grows (codes "LDnE"))
+ways-grow whole (encoding_literal e) in_whole n = argument-ways-grow whole (encoding_literal e) (front (codes "L_Z") (back (more-grows (ways-grow whole e in_whole n way.as_encoding) (omega arith)) (codes "E")))
+ways-grow whole (address_of e) in_whole n = argument-ways-grow whole (address_of e) (front (codes "XadL_Z") (back (more-grows (ways-grow whole e in_whole n way.as_encoding) (omega arith)) (codes "EE")))
 ways-grow whole (operation one two u w) in_whole n = no-ways-grow whole (operation one two u w)
 ways-grow whole (function_parameter digits) in_whole n = no-ways-grow whole (function_parameter digits)
+ways-grow whole (pack elements) in_whole n = argument-ways-grow whole (pack elements) (front (codes "J") (back (more-grows (ways-grow whole elements in_whole n way.as_elements) (omega arith)) (codes "E")))
 ways-grow whole absent in_whole n = no-ways-grow whole absent
 
 -- no two components of a tree that are compared and equal are both spelled out

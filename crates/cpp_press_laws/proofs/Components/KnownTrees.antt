@@ -251,29 +251,10 @@ keeps (function name q ref returned parameters) open_ n R =
 keeps (object name q ref) open_ n R =
     encoding-ways-keep open_ n R (object name q ref) _ (Inside name) (λ x s. s) (λ here h. (keeps name ⊥ here (OrOpen R) way.as_name) h
     (name_letters q ref))
-keeps (special l type) open_ n R =
-    encoding-ways-keep open_ n R (special l type) _ (Whole type) (λ x s. s) (λ here h.
-    behind-text-keeps ⊥ here (OrOpen R) (codes "T" ++ l ∷ []) (ways_of here type).as_type ((keeps type ⊥ here (OrOpen R) way.as_type) h))
-keeps (thunk kind e) open_ n R =
-    encoding-ways-keep open_ n R (thunk kind e) _ (λ x. Shut (Inside e x) x) (λ x s. s.1) (λ here h.
-    behind-bytes-keeps ⊥ here (OrOpen R) (thunk_text kind) (ways_of here e).as_encoding (thunk-some kind)
-    ((keeps e ⊥ here (OrOpen R) way.as_encoding) h))
 keeps (of_name l name q ref) open_ n R =
     encoding-ways-keep open_ n R (of_name l name q ref) _ (Inside name) (λ x s. s) (λ here h.
     behind-text-keeps ⊥ here (OrOpen R) (special_code l) ((ways_of here name).as_name (name_letters q ref))
     ((keeps name ⊥ here (OrOpen R) way.as_name) h (name_letters q ref)))
-keeps (clone letter e) open_ n R =
-    encoding-ways-keep open_ n R (clone letter e) _ (λ x. Shut (Inside e x) x) (λ x s. s.1) (λ here h.
-    behind-text-keeps ⊥ here (OrOpen R) (codes "GT") (text (letter ∷ []) and (ways_of here e).as_encoding)
-    (behind-bytes-keeps ⊥ here (OrOpen R) (letter ∷ []) (ways_of here e).as_encoding (omega arith)
-    ((keeps e ⊥ here (OrOpen R) way.as_encoding) h)))
-keeps (construction derived digits parent) open_ n R =
-    encoding-ways-keep open_ n R (construction derived digits parent) _ (λ x. Whole derived x ⊎ Whole parent x) (λ x s. s) (λ here h.
-    behind-text-keeps ⊥ here (OrOpen R) (codes "TC") ((ways_of here derived).as_type and (text (digits ++ codes "_") and (ways_of here parent).as_type))
-    (and-keeps ⊥ here (OrOpen R) (ways_of here derived).as_type (text (digits ++ codes "_") and (ways_of here parent).as_type)
-    ((keeps derived ⊥ here (OrOpen R) way.as_type) (λ x w. h x (inl w)))
-    (behind-text-keeps ⊥ here (OrOpen R) (digits ++ codes "_") (ways_of here parent).as_type
-    ((keeps parent ⊥ here (OrOpen R) way.as_type) (λ x w. h x (inr w))))))
 keeps (alone p) open_ n R =
     let spelling : Spelling = (ways_of n p).as_piece in
     let one : In (Inside p) R → KeepsTo open_ n R spelling = (keeps p open_ n R way.as_piece) in
@@ -328,52 +309,6 @@ keeps (local e entity discriminator) open_ n R =
     (local_text (ways_of n e).as_encoding entity (ways_of n entity).between_N_and_E discriminator) (λ x w. w) (λ x w. w)
     (λ h letters. local-keeps open_ n R (ways_of n e).as_encoding entity (ways_of n entity).between_N_and_E discriminator letters
     ((keeps e open_ n R way.as_encoding) (λ x s. h x (inl s))) ((keeps entity open_ n R way.between_N_and_E) (λ x i. h x (inr i))))
-keeps (holder name) open_ n R =
-    prefix-ways-keep open_ n R (holder name) _ (λ h.
-    and-keeps open_ n R (ways_of n name).as_prefix (text (codes "M")) ((keeps name open_ n R way.as_prefix) (λ x w. h x (inr w))) (text-keeps open_ n R (codes "M")))
-keeps (tagged of_structor name tag) open_ n R =
-    typed-keep open_ n R (tagged of_structor name tag) _ (λ x w. w) (λ x w. w)
-    (λ h. before-text-keeps open_ n R (ways_of n name).as_type (codes "B" ++ counted tag) ((keeps name open_ n R way.as_type) h))
-keeps (abbreviation l) open_ n R = type-ways-keep open_ n R (abbreviation l) _ (λ x w. w) (λ x w. w) (λ h. text-keeps open_ n R
-    (codes "S" ++ l ∷ []))
-keeps (parameter k) open_ n R = typed-keep open_ n R (parameter k) _ (λ x w. w) (λ x w. w) (λ h. text-keeps open_ n R
-    (codes "T" ++ ordinal k))
-keeps (source internal name) open_ n R = piece-ways-keep open_ n R (source internal name) _ (λ h. text-keeps open_ n R _)
-keeps (operator a b) open_ n R = piece-ways-keep open_ n R (operator a b) _ (λ h. text-keeps open_ n R _)
-keeps (literal_operator name) open_ n R = piece-ways-keep open_ n R (literal_operator name) _ (λ h. text-keeps open_ n R _)
-keeps (constructor digit) open_ n R = piece-ways-keep open_ n R (constructor digit) _ (λ h. text-keeps open_ n R _)
-keeps (destructor digit) open_ n R = piece-ways-keep open_ n R (destructor digit) _ (λ h. text-keeps open_ n R _)
-keeps (lambda parameters k) open_ n R =
-    piece-ways-keep open_ n R (lambda parameters k) _ (λ h.
-    between-texts-keep open_ n R (codes "Ul") (ways_of n parameters).as_parameters (codes "E" ++ ordinal (k - 1))
-    ((keeps parameters open_ n R way.as_parameters) h))
-keeps (unnamed k) open_ n R = piece-ways-keep open_ n R (unnamed k) _ (λ h. text-keeps open_ n R _)
-keeps (conversion type) open_ n R =
-    piece-ways-keep open_ n R (conversion type) _ (λ h. behind-text-keeps open_ n R (codes "cv") (ways_of n type).as_type ((keeps type open_ n R way.as_type) h))
-keeps string_literal open_ n R = piece-ways-keep open_ n R string_literal _ (λ h. text-keeps open_ n R _)
-keeps (builtin code) open_ n R = type-ways-keep open_ n R (builtin code) _ (λ x w. w) (λ x w. w) (λ h. text-keeps open_ n R code)
-keeps (sized_float digits end) open_ n R =
-    type-ways-keep open_ n R (sized_float digits end) _ (λ x w. w) (λ x w. w) (λ h.
-    behind-text-keeps open_ n R (codes "DF") (text digits and text (end ∷ []))
-    (behind-text-keeps open_ n R digits (text (end ∷ [])) (text-keeps open_ n R (end ∷ []))))
-keeps (vendor name) open_ n R = typed-keep open_ n R (vendor name) _ (λ x w. w) (λ x w. w) (λ h. text-keeps open_ n R _)
-keeps (pointer type) open_ n R =
-    typed-keep open_ n R (pointer type) _ (λ x w. w) (λ x w. w)
-    (λ h. behind-text-keeps open_ n R (codes "P") (ways_of n type).as_type ((keeps type open_ n R way.as_type) h))
-keeps (lvalue type) open_ n R =
-    typed-keep open_ n R (lvalue type) _ (λ x w. w) (λ x w. w)
-    (λ h. behind-text-keeps open_ n R (codes "R") (ways_of n type).as_type ((keeps type open_ n R way.as_type) h))
-keeps (rvalue type) open_ n R =
-    typed-keep open_ n R (rvalue type) _ (λ x w. w) (λ x w. w)
-    (λ h. behind-text-keeps open_ n R (codes "O") (ways_of n type).as_type ((keeps type open_ n R way.as_type) h))
-keeps (array digits type) open_ n R =
-    typed-keep open_ n R (array digits type) _ (λ x w. w) (λ x w. w)
-    (λ h. behind-text-keeps open_ n R (codes "A" ++ digits ++ codes "_") (ways_of n type).as_type ((keeps type open_ n R way.as_type) h))
-keeps (member_pointer class member) open_ n R =
-    typed-keep open_ n R (member_pointer class member) _ (λ x w. w) (λ x w. w)
-    (λ h. behind-text-keeps open_ n R (codes "M") ((ways_of n class).as_type and (ways_of n member).as_type)
-    (and-keeps open_ n R (ways_of n class).as_type (ways_of n member).as_type ((keeps class open_ n R way.as_type) (λ x w. h x (inl w)))
-    ((keeps member open_ n R way.as_type) (λ x w. h x (inr w)))))
 keeps (function_type c_linkage noexcept ref returned parameters) open_ n R =
     function-type-ways-keep open_ n R (function_type c_linkage noexcept ref returned parameters)
     (function_text c_linkage noexcept ref (ways_of n returned).as_type (ways_of n parameters).as_parameters) (λ x i. i) (λ x w. w)
@@ -383,36 +318,6 @@ keeps (function_type c_linkage noexcept ref returned parameters) open_ n R =
     ((keeps returned open_ n R way.as_type) (λ x w. h x (inl w)))
     (before-text-keeps open_ n R (ways_of n parameters).as_parameters (mark_letter ref ++ codes "E")
     ((keeps parameters open_ n R way.as_parameters) (λ x i. h x (inr i))))))
-keeps (qualified q type) open_ n R =
-    typed-keep open_ n R (qualified q type) _ (λ x w. w) (λ x w. w)
-    (λ h. behind-text-keeps open_ n R (qualifier_letters q) (ways_of n type).under_qualifiers ((keeps type open_ n R way.under_qualifiers) h))
-keeps (vector digits type) open_ n R =
-    typed-keep open_ n R _ _ (λ x w. w) (λ x w. w)
-    (λ h. behind-text-keeps open_ n R (codes "Dv" ++ digits ++ codes "_") (ways_of n type).as_type ((keeps type open_ n R way.as_type) h))
-keeps (complex type) open_ n R =
-    typed-keep open_ n R (complex type) _ (λ x w. w) (λ x w. w)
-    (λ h. behind-text-keeps open_ n R (codes "C") (ways_of n type).as_type ((keeps type open_ n R way.as_type) h))
-keeps (expansion pattern) open_ n R =
-    typed-keep open_ n R (expansion pattern) _ (λ x w. w) (λ x w. w)
-    (λ h. behind-text-keeps open_ n R (codes "Dp") (ways_of n pattern).as_type ((keeps pattern open_ n R way.as_type) h))
-keeps (integer type value) open_ n R =
-    argument-ways-keep open_ n R (integer type value) _
-    (λ h. between-texts-keep open_ n R (codes "L") (ways_of n type).as_type (signed_text value ++ codes "E")
-    ((keeps type open_ n R way.as_type) h))
-keeps (boolean truth) open_ n R =
-    argument-ways-keep open_ n R (boolean truth) _ (λ h. text-keeps open_ n R (cond truth (codes "Lb1E") (codes "Lb0E")))
-keeps null_pointer open_ n R = argument-ways-keep open_ n R null_pointer _ (λ h. text-keeps open_ n R (codes "LDnE"))
-keeps (encoding_literal e) open_ n R =
-    argument-ways-keep open_ n R (encoding_literal e) _
-    (λ h. encoding-between-keeps open_ n R (codes "L_Z") (ways_of n e).as_encoding (codes "E") (omega arith)
-    ((keeps e open_ n R way.as_encoding) h))
-keeps (address_of e) open_ n R =
-    argument-ways-keep open_ n R (address_of e) _
-    (λ h. encoding-between-keeps open_ n R (codes "XadL_Z") (ways_of n e).as_encoding (codes "EE") (omega arith)
-    ((keeps e open_ n R way.as_encoding) h))
-keeps (pack elements) open_ n R =
-    argument-ways-keep open_ n R (pack elements) _
-    (λ h. between-texts-keep open_ n R (codes "J") (ways_of n elements).as_elements (codes "E") ((keeps elements open_ n R way.as_elements) h))
 keeps nil open_ n R =
     list-ways-keep open_ n R nil _ nothing nothing (λ h. text-keeps open_ n R (codes "v")) (λ h. nothing-keeps open_ n R)
     (λ h. nothing-keeps open_ n R)
@@ -425,12 +330,48 @@ keeps (list first rest) open_ n R =
     list-ways-keep open_ n R (list first rest) _ _ _ more more
     (λ h. and-keeps open_ n R (ways_of n first).as_argument (ways_of n rest).as_elements (f way.as_argument (λ x w. h x (inl w)))
     (r way.as_elements (λ x i. h x (inr i))))
+-- Generated by tools/trees.py. The others, by their spelling
+keeps (special l type) open_ n R = encoding-ways-keep open_ n R (special l type) _ (Whole type) (λ x s. s) (λ here h. behind-text-keeps ⊥ here (OrOpen R) (codes "T" ++ l ∷ []) ((ways_of here type).as_type) (keeps type ⊥ here (OrOpen R) way.as_type h))
+keeps (thunk kind e) open_ n R = encoding-ways-keep open_ n R (thunk kind e) _ (λ x. Shut (Inside e x) x) (λ x s. s.1) (λ here h. behind-bytes-keeps ⊥ here (OrOpen R) (thunk_text kind) ((ways_of here e).as_encoding) (thunk-some kind) (keeps e ⊥ here (OrOpen R) way.as_encoding h))
+keeps (construction derived digits parent) open_ n R = encoding-ways-keep open_ n R (construction derived digits parent) _ (λ x. Whole derived x ⊎ Whole parent x) (λ x s. s) (λ here h. behind-text-keeps ⊥ here (OrOpen R) (codes "TC") ((ways_of here derived).as_type and text (digits ++ codes "_") and (ways_of here parent).as_type) (and-keeps ⊥ here (OrOpen R) ((ways_of here derived).as_type) (text (digits ++ codes "_") and (ways_of here parent).as_type) (keeps derived ⊥ here (OrOpen R) way.as_type (λ x w. h x (inl w))) (behind-text-keeps ⊥ here (OrOpen R) (digits ++ codes "_") ((ways_of here parent).as_type) (keeps parent ⊥ here (OrOpen R) way.as_type (λ x w. h x (inr w))))))
+keeps (clone letter e) open_ n R = encoding-ways-keep open_ n R (clone letter e) _ (λ x. Shut (Inside e x) x) (λ x s. s.1) (λ here h. behind-text-keeps ⊥ here (OrOpen R) (codes "GT") (text (letter ∷ []) and (ways_of here e).as_encoding) (behind-bytes-keeps ⊥ here (OrOpen R) (letter ∷ []) ((ways_of here e).as_encoding) (omega arith) (keeps e ⊥ here (OrOpen R) way.as_encoding h)))
+keeps (holder name) open_ n R = prefix-ways-keep open_ n R (holder name) _ (λ h. and-keeps open_ n R ((ways_of n name).as_prefix) (text (codes "M")) (keeps name open_ n R way.as_prefix (λ x w. h x (inr w))) (text-keeps open_ n R (codes "M")))
+keeps (tagged of_structor name tag) open_ n R = typed-keep open_ n R (tagged of_structor name tag) _ (λ x w. w) (λ x w. w) (λ h. and-keeps open_ n R ((ways_of n name).as_type) (text (codes "B" ++ counted tag)) (keeps name open_ n R way.as_type h) (text-keeps open_ n R (codes "B" ++ counted tag)))
 keeps (of_default digits entity) open_ n R = no-ways-keep open_ n R (of_default digits entity)
-keeps (generic_lambda parameters number) open_ n R = no-ways-keep open_ n R (generic_lambda parameters number)
-keeps (bounded bound type) open_ n R = no-ways-keep open_ n R (bounded bound type)
-keeps (constrained letter concept) open_ n R = no-ways-keep open_ n R (constrained letter concept)
+keeps (abbreviation l) open_ n R = type-ways-keep open_ n R (abbreviation l) _ (λ x w. w) (λ x w. w) (λ h. text-keeps open_ n R (codes "S" ++ l ∷ []))
+keeps (parameter k) open_ n R = typed-keep open_ n R (parameter k) _ (λ x w. w) (λ x w. w) (λ h. text-keeps open_ n R (codes "T" ++ ordinal k))
+keeps (source internal name) open_ n R = piece-ways-keep open_ n R (source internal name) _ (λ h. text-keeps open_ n R (cond internal (codes "L") [] ++ counted name))
+keeps (operator a b) open_ n R = piece-ways-keep open_ n R (operator a b) _ (λ h. text-keeps open_ n R (a ∷ b ∷ []))
+keeps (literal_operator name) open_ n R = piece-ways-keep open_ n R (literal_operator name) _ (λ h. text-keeps open_ n R (codes "li" ++ counted name))
+keeps (constructor digit) open_ n R = piece-ways-keep open_ n R (constructor digit) _ (λ h. text-keeps open_ n R (codes "C" ++ digit ∷ []))
+keeps (destructor digit) open_ n R = piece-ways-keep open_ n R (destructor digit) _ (λ h. text-keeps open_ n R (codes "D" ++ digit ∷ []))
 keeps (inheriting digit class) open_ n R = no-ways-keep open_ n R (inheriting digit class)
+keeps (lambda parameters k) open_ n R = piece-ways-keep open_ n R (lambda parameters k) _ (λ h. behind-text-keeps open_ n R (codes "Ul") ((ways_of n parameters).as_parameters and text (codes "E" ++ ordinal (k - 1))) (and-keeps open_ n R ((ways_of n parameters).as_parameters) (text (codes "E" ++ ordinal (k - 1))) (keeps parameters open_ n R way.as_parameters h) (text-keeps open_ n R (codes "E" ++ ordinal (k - 1)))))
+keeps (generic_lambda parameters number) open_ n R = no-ways-keep open_ n R (generic_lambda parameters number)
+keeps (unnamed k) open_ n R = piece-ways-keep open_ n R (unnamed k) _ (λ h. text-keeps open_ n R (codes "Ut" ++ ordinal (k - 1)))
+keeps string_literal open_ n R = piece-ways-keep open_ n R string_literal _ (λ h. text-keeps open_ n R (codes "s"))
+keeps (conversion type) open_ n R = piece-ways-keep open_ n R (conversion type) _ (λ h. behind-text-keeps open_ n R (codes "cv") ((ways_of n type).as_type) (keeps type open_ n R way.as_type h))
+keeps (builtin code) open_ n R = type-ways-keep open_ n R (builtin code) _ (λ x w. w) (λ x w. w) (λ h. text-keeps open_ n R code)
+keeps (sized_float digits end) open_ n R = type-ways-keep open_ n R (sized_float digits end) _ (λ x w. w) (λ x w. w) (λ h. behind-text-keeps open_ n R (codes "DF") (text digits and text (end ∷ [])) (behind-text-keeps open_ n R digits (text (end ∷ [])) (text-keeps open_ n R (end ∷ []))))
+keeps (constrained letter concept) open_ n R = no-ways-keep open_ n R (constrained letter concept)
+keeps (vendor name) open_ n R = typed-keep open_ n R (vendor name) _ (λ x w. w) (λ x w. w) (λ h. text-keeps open_ n R (codes "u" ++ counted name))
+keeps (pointer type) open_ n R = typed-keep open_ n R (pointer type) _ (λ x w. w) (λ x w. w) (λ h. behind-text-keeps open_ n R (codes "P") ((ways_of n type).as_type) (keeps type open_ n R way.as_type h))
+keeps (lvalue type) open_ n R = typed-keep open_ n R (lvalue type) _ (λ x w. w) (λ x w. w) (λ h. behind-text-keeps open_ n R (codes "R") ((ways_of n type).as_type) (keeps type open_ n R way.as_type h))
+keeps (rvalue type) open_ n R = typed-keep open_ n R (rvalue type) _ (λ x w. w) (λ x w. w) (λ h. behind-text-keeps open_ n R (codes "O") ((ways_of n type).as_type) (keeps type open_ n R way.as_type h))
+keeps (array digits type) open_ n R = typed-keep open_ n R (array digits type) _ (λ x w. w) (λ x w. w) (λ h. behind-text-keeps open_ n R (codes "A" ++ digits ++ codes "_") ((ways_of n type).as_type) (keeps type open_ n R way.as_type h))
+keeps (bounded bound type) open_ n R = no-ways-keep open_ n R (bounded bound type)
+keeps (member_pointer class member) open_ n R = typed-keep open_ n R (member_pointer class member) _ (λ x w. w) (λ x w. w) (λ h. behind-text-keeps open_ n R (codes "M") ((ways_of n class).as_type and (ways_of n member).as_type) (and-keeps open_ n R ((ways_of n class).as_type) ((ways_of n member).as_type) (keeps class open_ n R way.as_type (λ x w. h x (inl w))) (keeps member open_ n R way.as_type (λ x w. h x (inr w)))))
+keeps (qualified q type) open_ n R = typed-keep open_ n R (qualified q type) _ (λ x w. w) (λ x w. w) (λ h. behind-text-keeps open_ n R (qualifier_letters q) ((ways_of n type).under_qualifiers) (keeps type open_ n R way.under_qualifiers h))
+keeps (vector digits type) open_ n R = typed-keep open_ n R (vector digits type) _ (λ x w. w) (λ x w. w) (λ h. behind-text-keeps open_ n R (codes "Dv" ++ digits ++ codes "_") ((ways_of n type).as_type) (keeps type open_ n R way.as_type h))
+keeps (complex type) open_ n R = typed-keep open_ n R (complex type) _ (λ x w. w) (λ x w. w) (λ h. behind-text-keeps open_ n R (codes "C") ((ways_of n type).as_type) (keeps type open_ n R way.as_type h))
 keeps (decltype operand) open_ n R = no-ways-keep open_ n R (decltype operand)
+keeps (expansion pattern) open_ n R = typed-keep open_ n R (expansion pattern) _ (λ x w. w) (λ x w. w) (λ h. behind-text-keeps open_ n R (codes "Dp") ((ways_of n pattern).as_type) (keeps pattern open_ n R way.as_type h))
+keeps (integer type value) open_ n R = argument-ways-keep open_ n R (integer type value) _ (λ h. behind-text-keeps open_ n R (codes "L") ((ways_of n type).as_type and text (signed_text value ++ codes "E")) (and-keeps open_ n R ((ways_of n type).as_type) (text (signed_text value ++ codes "E")) (keeps type open_ n R way.as_type h) (text-keeps open_ n R (signed_text value ++ codes "E"))))
+keeps (boolean truth) open_ n R = argument-ways-keep open_ n R (boolean truth) _ (λ h. text-keeps open_ n R (cond truth (codes "Lb1E") (codes "Lb0E")))
+keeps null_pointer open_ n R = argument-ways-keep open_ n R null_pointer _ (λ h. text-keeps open_ n R (codes "LDnE"))
+keeps (encoding_literal e) open_ n R = argument-ways-keep open_ n R (encoding_literal e) _ (λ h. behind-bytes-keeps open_ n R (codes "L_Z") ((ways_of n e).as_encoding and text (codes "E")) (omega arith) (behind-and-keeps open_ n R ((ways_of n e).as_encoding) (text (codes "E")) (keeps e open_ n R way.as_encoding h) (text-keeps open_ n R (codes "E"))))
+keeps (address_of e) open_ n R = argument-ways-keep open_ n R (address_of e) _ (λ h. behind-bytes-keeps open_ n R (codes "XadL_Z") ((ways_of n e).as_encoding and text (codes "EE")) (omega arith) (behind-and-keeps open_ n R ((ways_of n e).as_encoding) (text (codes "EE")) (keeps e open_ n R way.as_encoding h) (text-keeps open_ n R (codes "EE"))))
 keeps (operation one two u w) open_ n R = no-ways-keep open_ n R (operation one two u w)
 keeps (function_parameter digits) open_ n R = no-ways-keep open_ n R (function_parameter digits)
+keeps (pack elements) open_ n R = argument-ways-keep open_ n R (pack elements) _ (λ h. behind-text-keeps open_ n R (codes "J") ((ways_of n elements).as_elements and text (codes "E")) (and-keeps open_ n R ((ways_of n elements).as_elements) (text (codes "E")) (keeps elements open_ n R way.as_elements h) (text-keeps open_ n R (codes "E"))))
 keeps absent open_ n R = no-ways-keep open_ n R absent

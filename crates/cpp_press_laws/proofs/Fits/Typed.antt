@@ -1,25 +1,25 @@
 -- The productions of names as types, of arguments and of literals keep to what is fit.
 use Rattle.std.proofs.Common.{◌≡◌, ℕ, ◌<◌, Some, inl, inr, [], ◌∷◌, Bool, true, false, refl, sym, subst}
-use Rattle.std.specs.Prelude.{◌&&◌, not, nat_eq}
+use Rattle.std.specs.Prelude.{◌&&◌, not}
 use Rattle.std.proofs.lemmas.Bool.{false≢true}
 use Rattle.cpp_grammar.specs.declared.kind.Kind.{Kind}
 use Rattle.cpp_grammar.specs.Grammar.{choose}
 use Rattle.cpp_grammar.specs.declared.production.Production.{Production}
 use Rattle.cpp_grammar.specs.Term.{Term, abbreviation, parameter, instance, lvalue, rvalue, builtin, pack}
-use Rattle.cpp_grammar.specs.Values.{Candidate, State, Around, prefix_listed, Value, nothing_there, tree, tree_of, is_listed, is_there, letter_of, signed_of, part, text_of}
+use Rattle.cpp_grammar.specs.Values.{Candidate, State, Around, prefix_listed, Value, nothing_there, tree, tree_of, is_listed, is_there, signed_of, part}
 use Rattle.cpp_grammar.specs.References.{appended, with_type, with_unqualified, with_prefix}
 use Rattle.cpp_grammar.specs.Between.{after, applied, inside, no_items}
 use Rattle.cpp_grammar.specs.Meaning.{signature_or, meaning, with_item}
 use Rattle.cpp_grammar.specs.Unfolding as unfolding_
 use Rattle.sym_link.specs.Reading.{Found}
 use Rattle.cpp_press_laws.specs.Fits.{Slot, any_type, bare_type, item_type, parameter_type, literal_type, takes_all, IsBuiltin, IsAbbreviation}
-use Rattle.cpp_press_laws.specs.Spellable.{IsSpellableName, IsSpellableNumber}
+use Rattle.cpp_press_laws.specs.Spellable.{IsSpellableNumber}
 use Rattle.cpp_press_laws.proofs.Fits.Types.{TypeFits, SolidFits, lvalue-fits, rvalue-fits}
 use Rattle.cpp_press_laws.proofs.Fits.Lists.{list-fits}
 use Rattle.cpp_press_laws.proofs.Fits.References.{Referred, referred-solid, Substituted}
-use Rattle.cpp_press_laws.proofs.Fits.Solids.{LambdasAreBare, ParameterNamed, abbreviation-fits, abbreviation-before, builtin-fits, parameter-fits, parameter-before, instance-fits, vendor-fits}
+use Rattle.cpp_press_laws.proofs.Fits.Solids.{LambdasAreBare, ParameterNamed, abbreviation-fits, abbreviation-before, builtin-fits, parameter-fits, parameter-before, instance-fits}
 use Rattle.cpp_press_laws.proofs.Fits.Found.{referred-before}
-use Rattle.cpp_press_laws.proofs.Fits.Arguments.{ArgumentsFit, EncodingFits, type-argument, no-arguments-fit, arguments-fit, pack-fits, integer-fits, boolean-fits, null-fits, encoding-literal-fits, address-fits}
+use Rattle.cpp_press_laws.proofs.Fits.Arguments.{ArgumentsFit, type-argument, no-arguments-fit, arguments-fit, pack-fits, integer-fits}
 use Rattle.cpp_press_laws.proofs.Fits.Sorts.{takes_literals, NameRead, KindFits, Meant, Later}
 
 -- ## Names that arguments may follow
@@ -84,13 +84,6 @@ name-type takes around v w old mid new name (inr (there, other)) =
     (subst (λ b. SolidFits takes around (tree (instance (tree_of v) (tree_of w)) b) old new) (sym (and-false (is_listed v)))
     (instance-fits takes around (tree_of v) (tree_of w) old new (name.before (tree_of w) new other)))
 
-pub type-with-s : (takes : Slot → Bool) (around : Around) (byte : ℕ) (began : State) (v w : Value) (old mid new : State)
-    → KindFits Kind.TypeAfterS around v old mid → KindFits Kind.MaybeArguments (after (tree_of v) (is_listed v) around) w mid new
-    → SolidFits takes around (Meant Production.TypeWithS byte around (v ∷ w ∷ [])) old
-    (Later Production.TypeWithS byte around began (v ∷ w ∷ []) new)
-unfolding meaning part unfolding_.behind
-type-with-s takes around byte began v w old mid new name other = name-type takes around v w old mid new name other
-
 -- ## References among parameters
 
 -- a reference among the parameters, which is a candidate before the others
@@ -122,38 +115,6 @@ rvalue-item around byte began t rest old mid new one other = (
 pub type-as-argument : (around : Around) (v : Value) (old new : State) → KindFits Kind.Item around v old new → KindFits Kind.Argument around v old new
 type-as-argument around v old new one in_pack = type-argument (tree_of v) around in_pack old new one
 
-pub any-argument : (around : Around) (byte : ℕ) (began : State) (v rest : Value) (old mid new : State)
-    → KindFits Kind.Argument around v old mid → KindFits Kind.ArgumentList around rest mid new
-    → KindFits Kind.ArgumentList around (Meant Production.AnyArgument byte around (v ∷ rest ∷ [])) old
-    (Later Production.AnyArgument byte around began (v ∷ rest ∷ []) new)
-unfolding meaning no_items tree_of part unfolding_.behind
-any-argument around byte began v rest old mid new one other =
-    arguments-fit around false (tree_of v) (no_items rest) old mid new (one false) other
-
-pub any-element : (around : Around) (byte : ℕ) (began : State) (v rest : Value) (old mid new : State)
-    → KindFits Kind.Argument around v old mid → KindFits Kind.PackList around rest mid new
-    → KindFits Kind.PackList around (Meant Production.AnyElement byte around (v ∷ rest ∷ [])) old
-    (Later Production.AnyElement byte around began (v ∷ rest ∷ []) new)
-unfolding meaning no_items tree_of part unfolding_.behind
-any-element around byte began v rest old mid new one other =
-    arguments-fit around true (tree_of v) (no_items rest) old mid new (one true) other
-
-pub literal-argument : (around : Around) (byte : ℕ) (began : State) (v mark rest : Value) (old mid new : State)
-    → KindFits Kind.Literal around v old mid → KindFits Kind.ArgumentList around rest mid new
-    → KindFits Kind.ArgumentList around (Meant Production.LiteralArgument byte around (v ∷ mark ∷ rest ∷ [])) old
-    (Later Production.LiteralArgument byte around began (v ∷ mark ∷ rest ∷ []) new)
-unfolding meaning no_items tree_of part unfolding_.behind
-literal-argument around byte began v mark rest old mid new one other =
-    arguments-fit around false (tree_of v) (no_items rest) old mid new (one false) other
-
-pub literal-element : (around : Around) (byte : ℕ) (began : State) (v mark rest : Value) (old mid new : State)
-    → KindFits Kind.Literal around v old mid → KindFits Kind.PackList around rest mid new
-    → KindFits Kind.PackList around (Meant Production.LiteralElement byte around (v ∷ mark ∷ rest ∷ [])) old
-    (Later Production.LiteralElement byte around began (v ∷ mark ∷ rest ∷ []) new)
-unfolding meaning no_items tree_of part unfolding_.behind
-literal-element around byte began v mark rest old mid new one other =
-    arguments-fit around true (tree_of v) (no_items rest) old mid new (one true) other
-
 -- the pack is made before the arguments after it
 pub pack-argument : (around : Around) (byte : ℕ) (began : State) (t : Term) (mark rest : Value) (old mid new : State)
     → ArgumentsFit around true t old mid → KindFits Kind.ArgumentList around rest mid new
@@ -167,14 +128,6 @@ pack-argument around byte began t mark rest old mid new one other =
 pub no-arguments : (around : Around) (in_pack : Bool) (state : State) → ArgumentsFit around in_pack (no_items nothing_there) state state
 unfolding no_items
 no-arguments around in_pack state = no-arguments-fit around in_pack state
-
--- with their I and E; the name before them is a candidate before they begin
-pub arguments-read : (around : Around) (byte : ℕ) (began : State) (v mark : Value) (old new : State)
-    → KindFits Kind.ArgumentList (inside around) v (with_prefix around old) new
-    → KindFits Kind.Arguments around (Meant Production.Arguments byte around (v ∷ mark ∷ [])) old
-    (Later Production.Arguments byte around began (v ∷ mark ∷ []) new)
-unfolding meaning tree_of part unfolding_.behind
-arguments-read around byte began v mark old new one = one
 
 -- ## Literals
 
@@ -203,37 +156,6 @@ char-literal around byte began number state known is in_pack =
     literal-slots item_type take = absurd (false≢true take)
     literal-slots parameter_type take = absurd (false≢true take)
 
-pub null-literal : (around : Around) (byte : ℕ) (began : State) (zero_ : Value) (state : State)
-    → KindFits Kind.LiteralAfterD around (Meant Production.NullLiteral byte around (zero_ ∷ [])) state
-    (Later Production.NullLiteral byte around began (zero_ ∷ []) state)
-unfolding meaning tree_of part unfolding_.behind
-null-literal around byte began zero_ state in_pack = null-fits around in_pack state
-
-pub bool-literal : (around : Around) (byte : ℕ) (began : State) (bit : Value) (state : State)
-    → KindFits Kind.Literal around (Meant Production.BoolLiteral byte around (bit ∷ [])) state
-    (Later Production.BoolLiteral byte around began (bit ∷ []) state)
-unfolding meaning tree_of part unfolding_.behind
-bool-literal around byte began bit state in_pack = boolean-fits around in_pack (nat_eq (letter_of bit) 49) state
-
-pub encoding-literal : (around : Around) (byte : ℕ) (began : State) (z e : Value) (old new : State) → EncodingFits around (tree_of e) old new
-    → KindFits Kind.Literal around (Meant Production.EncodingLiteral byte around (z ∷ e ∷ [])) old
-    (Later Production.EncodingLiteral byte around began (z ∷ e ∷ []) new)
-unfolding meaning tree_of part unfolding_.behind
-encoding-literal around byte began z e old new one in_pack = encoding-literal-fits around in_pack (tree_of e) old new one
-
--- as an operand, whose address is taken
-pub addressed-literal : (around : Around) (byte : ℕ) (began : State) (z e : Value) (old new : State) → EncodingFits around (tree_of e) old new
-    → KindFits Kind.AddressedLiteral around (Meant Production.EncodingLiteral byte around (z ∷ e ∷ [])) old
-    (Later Production.EncodingLiteral byte around began (z ∷ e ∷ []) new)
-unfolding meaning tree_of part unfolding_.behind
-addressed-literal around byte began z e old new one = (tree_of e, refl, λ in_pack. address-fits around in_pack (tree_of e) old new one)
-
-pub literal-with-d : (around : Around) (byte : ℕ) (began : State) (v : Value) (old new : State) → KindFits Kind.LiteralAfterD around v old new
-    → KindFits Kind.Literal around (Meant Production.LiteralWithD byte around (v ∷ [])) old
-    (Later Production.LiteralWithD byte around began (v ∷ []) new)
-unfolding meaning part unfolding_.behind
-literal-with-d around byte began v old new one = one
-
 -- the type of a literal by its letter
 pub builtin-literal : (around : Around) (byte : ℕ) (state : State) → byte < 256 → choose Kind.LiteralType byte ≡ Some Production.Builtin
     → KindFits Kind.LiteralType around (tree (builtin (byte ∷ [])) true) state state
@@ -260,9 +182,3 @@ abbreviation-read around byte began state small is = inl (byte, refl, (small, is
 pub substitution-read : (around : Around) (old : State) (r : Found Value State) → Substituted around old r
     → KindFits Kind.Abbreviation around r.value old r.state
 substitution-read around old r named = inr (named.candidate, named.value, named.referred)
-
-pub solid-vendor : (around : Around) (byte : ℕ) (began : State) (name : Value) (state : State) → IsSpellableName (text_of name)
-    → KindFits Kind.Solid around (Meant Production.Vendor byte around (name ∷ [])) state
-    (Later Production.Vendor byte around began (name ∷ []) state)
-unfolding meaning part unfolding_.behind
-solid-vendor around byte began name state is = vendor-fits around (text_of name) state is

@@ -13,7 +13,8 @@ use Rattle.cpp_press_laws.specs.MarkedComponents.{Marked, unmarked}
 use Rattle.cpp_press_laws.specs.Apart.{IsNew, IsApart, AreApartBehind}
 use Rattle.cpp_press_laws.proofs.Components.Sameness.{equal-qualifiers}
 use Rattle.cpp_press_laws.proofs.Components.Parts.{Has, has-before, has-itself, has-closed, same-means}
-use Rattle.cpp_press_laws.proofs.Short.Size.{is_name, size, over, part_of, bare_of, name_of}
+use Rattle.cpp_press_laws.specs.Pressing.{is_name}
+use Rattle.cpp_press_laws.proofs.Short.Size.{size, over, part_of, bare_of, name_of}
 use Rattle.cpp_press_laws.proofs.Short.Worth.{is_among, has-among, among-has, is_again, full, worth, worths}
 use Rattle.cpp_press_laws.proofs.Short.Spelled.{cost, costs}
 

@@ -10,12 +10,12 @@ use Rattle.cpp_grammar.specs.References.{is_function_type}
 use Rattle.cpp_grammar.specs.Meaning.{is_nil}
 use Rattle.cpp_press_laws.specs.Texts.{counted, ordinal, signed_text, qualifier_letters, mark_letter, name_letters, special_code, thunk_text, discriminator_text}
 use Rattle.cpp_press_laws.specs.Components.{Component, first_equal, is_same, seq_id}
-use Rattle.cpp_press_laws.specs.Pressing.{is_operator, is_one_piece, is_encoding}
+use Rattle.cpp_press_laws.specs.Pressing.{is_component, is_name, is_operator, is_one_piece, is_encoding}
 use Rattle.cpp_press_laws.specs.MarkedComponents.{Marked, unmarked, Spelling, ended, reference, referred, component}
 use Rattle.cpp_press_laws.specs.MarkedPressing.{Ways, no_ways, type_ways, function_text, in_N_and_E, with_letters, name_ways, template_before, entity_text, local_text, begun, encoding_ways, piece_ways, argument_ways, ways_of}
 use Rattle.cpp_press_laws.proofs.Ways as way
 use Rattle.cpp_press_laws.proofs.Ways.{Way}
-use Rattle.cpp_press_laws.proofs.Short.Size.{is_component, is_name, part_of, front_of, bare_of, name_of, with_void, lettered, size, over, part, over-least, front-part, name-part}
+use Rattle.cpp_press_laws.proofs.Short.Size.{part_of, front_of, bare_of, name_of, with_void, lettered, size, over, part, over-least, front-part, name-part}
 
 -- ## What components take
 
@@ -444,12 +444,6 @@ function-short c_linkage noexcept ref a b returned parameters one two =
     (and-short a (b + 2) returned (parameters and text last) one
     (before-text b (b + 2) parameters last (omega (arith, ref-short ref)) two))
 
--- a type after bytes
-after-bytes : (n : ℕ) (t a : Term) (bytes : List ℕ) → part t ≡ 8 → bare_of t (size t) ≡ 8 → front_of t (size t) ≡ 8 → length bytes + part a ≤ size t
-    → AllShort a (ways_of n a) → AllShort t (type_ways (component n t (text bytes and (ways_of n a).as_type)))
-after-bytes n t a bytes is bare front le one =
-    typed-all n t (text bytes and (ways_of n a).as_type) is bare front (behind-text (part a) (size t) bytes (ways_of n a).as_type le (one way.as_type))
-
 pub all-short : (t : Term) (n : ℕ) → AllShort t (ways_of n t)
 unfolding ways_of type_ways no_ways size part_of bare_of front_of with_void is_component is_function_type is_encoding is_nil
 all-short (symbol e suffix) n =
@@ -463,94 +457,18 @@ all-short (function name q ref returned parameters) n =
     (all-short returned here way.as_type) (all-short parameters here way.as_parameters)))
 all-short (object name q ref) n =
     encoding-all (object name q ref) _ (λ here. (all-short name here way.as_name) (name_letters q ref))
-all-short (special l type) n =
-    encoding-all (special l type) _ (λ here. behind-text (part type) (2 + part type) (codes "T" ++ l ∷ []) (ways_of here type).as_type (omega arith) (all-short type here way.as_type))
-all-short (thunk kind e) n =
-    encoding-all (thunk kind e) _ (λ here. behind-text (size e) (size (thunk kind e)) (thunk_text kind) (ways_of here e).as_encoding (omega arith) (all-short e here way.as_encoding))
 all-short (of_name l name q ref) n =
     encoding-all (of_name l name q ref) _ (λ here. behind-text (lettered (name_letters q ref) + size name) (size (of_name l name q ref)) (special_code l)
     ((ways_of here name).as_name (name_letters q ref)) (omega arith) ((all-short name here way.as_name) (name_letters q ref)))
-all-short (construction derived digits parent) n =
-    encoding-all (construction derived digits parent) _ (λ here. behind-text (part derived + (length digits + 1 + part parent)) (size (construction derived digits parent)) (codes "TC")
-    ((ways_of here derived).as_type and (text (digits ++ codes "_") and (ways_of here parent).as_type)) (omega arith)
-    (and-short (part derived) (length digits + 1 + part parent) (ways_of here derived).as_type (text (digits ++ codes "_") and (ways_of here parent).as_type)
-    (all-short derived here way.as_type) (behind-text (part parent) (length digits + 1 + part parent) (digits ++ codes "_") (ways_of here parent).as_type
-    (omega (arith, length-append digits (codes "_"))) (all-short parent here way.as_type))))
-all-short (clone letter e) n =
-    encoding-all (clone letter e) _ (λ here. behind-text (1 + size e) (3 + size e) (codes "GT") (text (letter ∷ []) and (ways_of here e).as_encoding) (omega arith)
-    (behind-text (size e) (1 + size e) (letter ∷ []) (ways_of here e).as_encoding (omega arith) (all-short e here way.as_encoding)))
 all-short (alone p) n = alone-all n p (all-short p n)
 all-short (in_std p) n = std-all n p (all-short p n)
 all-short (within prefix p) n = within-all n prefix p (all-short prefix n) (all-short p n)
 all-short (instance template arguments) n = instance-all n template arguments (all-short template n) (all-short arguments n)
 all-short (local e entity discriminator) n = local-all n e entity discriminator (all-short e) (all-short entity n)
-all-short (holder name) n =
-    prefix-all (holder name) ((ways_of n name).as_prefix and text (codes "M"))
-    (before-text (front_of name (size name)) (size (holder name)) (ways_of n name).as_prefix (codes "M") (omega (arith, front-part name (size name))) (all-short name n way.as_prefix))
-all-short (tagged of_structor name tag) n =
-    typed-all n (tagged of_structor name tag) _ refl refl refl (before-text (part name) (size (tagged of_structor name tag)) (ways_of n name).as_type
-    (codes "B" ++ counted tag) (omega arith) (all-short name n way.as_type))
-all-short (abbreviation l) n = spelled-all (abbreviation l) (text (codes "S" ++ l ∷ [])) 2 (text-short (codes "S" ++ l ∷ [])) (omega arith) (omega arith) (omega arith)
-all-short (parameter k) n = typed-all n (parameter k) (text (codes "T" ++ ordinal k)) refl refl refl (bytes-short (size (parameter k)) (codes "T" ++ ordinal k) (omega arith))
-all-short (source internal name) n = piece-all (source internal name) _ (bytes-short (size (source internal name)) _ (internal-short internal name))
-all-short (operator a b) n = piece-all (operator a b) _ (text-short (a ∷ b ∷ []))
-all-short (literal_operator name) n = piece-all (literal_operator name) _ (bytes-short (size (literal_operator name)) (codes "li" ++ counted name) (omega arith))
-all-short (constructor digit) n = piece-all (constructor digit) _ (bytes-short 2 (codes "C" ++ digit ∷ []) (omega arith))
-all-short (destructor digit) n = piece-all (destructor digit) _ (bytes-short 2 (codes "D" ++ digit ∷ []) (omega arith))
-all-short (lambda parameters k) n =
-    let last : List ℕ = codes "E" ++ ordinal (k - 1) in
-    piece-all (lambda parameters k) _ (behind-text (with_void parameters (size parameters) + length last) (size (lambda parameters k)) (codes "Ul")
-    ((ways_of n parameters).as_parameters and text last) (omega arith)
-    (before-text (with_void parameters (size parameters)) (with_void parameters (size parameters) + length last) (ways_of n parameters).as_parameters last (omega arith)
-    (all-short parameters n way.as_parameters)))
-all-short (unnamed k) n = piece-all (unnamed k) _ (bytes-short (size (unnamed k)) (codes "Ut" ++ ordinal (k - 1)) (omega arith))
-all-short string_literal n = piece-all string_literal _ (text-short (codes "s"))
-all-short (conversion type) n =
-    piece-all (conversion type) _ (behind-text (part type) (2 + part type) (codes "cv") (ways_of n type).as_type (omega arith) (all-short type n way.as_type))
-all-short (builtin code) n = spelled-all (builtin code) (text code) (length code) (text-short code) (omega arith) (omega arith) (omega arith)
-all-short (sized_float digits end) n =
-    let s : Spelling = text (codes "DF") and (text digits and text (end ∷ [])) in
-    let one : Short (3 + length digits) s = behind-text (length digits + 1) (3 + length digits) (codes "DF") (text digits and text (end ∷ [])) (omega arith)
-    (before-text (length digits) (length digits + 1) (text digits) (end ∷ []) (omega arith) (text-short digits)) in
-    spelled-all (sized_float digits end) s (3 + length digits) one (omega arith) (omega arith) (omega arith)
-all-short (vendor name) n =
-    typed-all n (vendor name) (text (codes "u" ++ counted name)) refl refl refl (bytes-short (size (vendor name)) (codes "u" ++ counted name) (omega arith))
-all-short (pointer type) n = after-bytes n (pointer type) type (codes "P") refl refl refl (omega arith) (all-short type n)
-all-short (lvalue type) n = after-bytes n (lvalue type) type (codes "R") refl refl refl (omega arith) (all-short type n)
-all-short (rvalue type) n = after-bytes n (rvalue type) type (codes "O") refl refl refl (omega arith) (all-short type n)
-all-short (array digits type) n =
-    after-bytes n (array digits type) type (codes "A" ++ digits ++ codes "_") refl refl refl (omega (arith, length-append digits (codes "_"))) (all-short type n)
-all-short (member_pointer class member) n =
-    typed-all n (member_pointer class member) _ refl refl refl (behind-text (part class + part member) (1 + part class + part member) (codes "M")
-    ((ways_of n class).as_type and (ways_of n member).as_type) (omega arith)
-    (and-short (part class) (part member) (ways_of n class).as_type (ways_of n member).as_type (all-short class n way.as_type) (all-short member n way.as_type)))
 all-short (function_type c_linkage noexcept ref returned parameters) n =
     function-type-all n (function_type c_linkage noexcept ref returned parameters) _ refl refl refl
     (function-short c_linkage noexcept ref (part returned) (with_void parameters (size parameters)) (ways_of n returned).as_type (ways_of n parameters).as_parameters
     (all-short returned n way.as_type) (all-short parameters n way.as_parameters))
-all-short (qualified q type) n =
-    typed-all n (qualified q type) _ refl refl refl (behind-text (bare_of type (size type)) (size (qualified q type)) (qualifier_letters q)
-    (ways_of n type).under_qualifiers (omega arith) (all-short type n way.under_qualifiers))
-all-short (vector digits type) n =
-    after-bytes n (vector digits type) type (codes "Dv" ++ digits ++ codes "_") refl refl refl (omega (arith, length-append digits (codes "_"))) (all-short type n)
-all-short (complex type) n = after-bytes n (complex type) type (codes "C") refl refl refl (omega arith) (all-short type n)
-all-short (expansion pattern) n = after-bytes n (expansion pattern) pattern (codes "Dp") refl refl refl (omega arith) (all-short pattern n)
-all-short (integer type value) n =
-    let last : List ℕ = signed_text value ++ codes "E" in
-    argument-all (integer type value) _ (behind-text (part type + length last) (size (integer type value)) (codes "L") ((ways_of n type).as_type and text last)
-    (omega (arith, length-append (signed_text value) (codes "E")))
-    (before-text (part type) (part type + length last) (ways_of n type).as_type last (omega arith) (all-short type n way.as_type)))
-all-short (boolean truth) n = argument-all (boolean truth) _ (bytes-short 4 _ (truth-short truth))
-all-short null_pointer n = argument-all null_pointer _ (text-short (codes "LDnE"))
-all-short (encoding_literal e) n =
-    argument-all (encoding_literal e) _ (behind-text (size e + 1) (4 + size e) (codes "L_Z") ((ways_of n e).as_encoding and text (codes "E")) (omega arith)
-    (before-text (size e) (size e + 1) (ways_of n e).as_encoding (codes "E") (omega arith) (all-short e n way.as_encoding)))
-all-short (address_of e) n =
-    argument-all (address_of e) _ (behind-text (size e + 2) (8 + size e) (codes "XadL_Z") ((ways_of n e).as_encoding and text (codes "EE")) (omega arith)
-    (before-text (size e) (size e + 2) (ways_of n e).as_encoding (codes "EE") (omega arith) (all-short e n way.as_encoding)))
-all-short (pack elements) n =
-    argument-all (pack elements) _ (behind-text (size elements + 1) (2 + size elements) (codes "J") ((ways_of n elements).as_elements and text (codes "E")) (omega arith)
-    (before-text (size elements) (size elements + 1) (ways_of n elements).as_elements (codes "E") (omega arith) (all-short elements n way.as_elements)))
 all-short nil n =
     list-all nil (text (codes "v")) nothing nothing (text-short (codes "v")) (nothing-short _) (nothing-short _)
 all-short (list first rest) n =
@@ -559,12 +477,48 @@ all-short (list first rest) n =
     (all-short first n way.as_type) (all-short rest n way.as_more_parameters) in
     list-all (list first rest) more more ((ways_of n first).as_argument and (ways_of n rest).as_elements) one one
     (and-short (part first) (size rest) (ways_of n first).as_argument (ways_of n rest).as_elements (all-short first n way.as_argument) (all-short rest n way.as_elements))
+-- Generated by tools/trees.py. The others, by their spelling
+all-short (special l type) n = encoding-all (special l type) _ (λ here. behind-text (part_of type (size type)) (size (special l type)) (codes "T" ++ l ∷ []) ((ways_of here type).as_type) (omega arith) (all-short type here way.as_type))
+all-short (thunk kind e) n = encoding-all (thunk kind e) _ (λ here. behind-text (size e) (size (thunk kind e)) (thunk_text kind) ((ways_of here e).as_encoding) (omega arith) (all-short e here way.as_encoding))
+all-short (construction derived digits parent) n = encoding-all (construction derived digits parent) _ (λ here. behind-text (1 + part_of derived (size derived) + length digits + part_of parent (size parent)) (size (construction derived digits parent)) (codes "TC") ((ways_of here derived).as_type and text (digits ++ codes "_") and (ways_of here parent).as_type) (omega arith) (and-within (part_of derived (size derived)) (1 + length digits + part_of parent (size parent)) (1 + part_of derived (size derived) + length digits + part_of parent (size parent)) (ways_of here derived).as_type (text (digits ++ codes "_") and (ways_of here parent).as_type) (omega arith) (all-short derived here way.as_type) (behind-text (part_of parent (size parent)) (1 + length digits + part_of parent (size parent)) (digits ++ codes "_") ((ways_of here parent).as_type) (omega (arith, length-append digits (codes "_"))) (all-short parent here way.as_type))))
+all-short (clone letter e) n = encoding-all (clone letter e) _ (λ here. behind-text (1 + size e) (size (clone letter e)) (codes "GT") (text (letter ∷ []) and (ways_of here e).as_encoding) (omega arith) (behind-text (size e) (1 + size e) (letter ∷ []) ((ways_of here e).as_encoding) (omega arith) (all-short e here way.as_encoding)))
+all-short (holder name) n = prefix-all (holder name) _ (before-text (front_of name (size name)) (size (holder name)) (ways_of n name).as_prefix (codes "M") (omega (arith, front-part name (size name))) (all-short name n way.as_prefix))
+all-short (tagged of_structor name tag) n = typed-all n (tagged of_structor name tag) _ refl refl refl (before-text (part_of name (size name)) (size (tagged of_structor name tag)) (ways_of n name).as_type (codes "B" ++ counted tag) (omega arith) (all-short name n way.as_type))
 all-short (of_default digits entity) n = none-all (of_default digits entity)
-all-short (generic_lambda parameters number) n = none-all (generic_lambda parameters number)
-all-short (constrained letter concept) n = none-all (constrained letter concept)
+all-short (abbreviation l) n = spelled-all (abbreviation l) (text (codes "S" ++ l ∷ [])) 2 (bytes-short 2 (codes "S" ++ l ∷ []) (omega arith)) (omega arith) (omega arith) (omega arith)
+all-short (parameter k) n = typed-all n (parameter k) _ refl refl refl (bytes-short (size (parameter k)) (codes "T" ++ ordinal k) (omega arith))
+all-short (source internal name) n = piece-all (source internal name) _ (bytes-short (size (source internal name)) (cond internal (codes "L") [] ++ counted name) (omega (arith, internal-short internal name)))
+all-short (operator a b) n = piece-all (operator a b) _ (bytes-short (size (operator a b)) (a ∷ b ∷ []) (omega arith))
+all-short (literal_operator name) n = piece-all (literal_operator name) _ (bytes-short (size (literal_operator name)) (codes "li" ++ counted name) (omega arith))
+all-short (constructor digit) n = piece-all (constructor digit) _ (bytes-short (size (constructor digit)) (codes "C" ++ digit ∷ []) (omega arith))
+all-short (destructor digit) n = piece-all (destructor digit) _ (bytes-short (size (destructor digit)) (codes "D" ++ digit ∷ []) (omega arith))
 all-short (inheriting digit class) n = none-all (inheriting digit class)
+all-short (lambda parameters k) n = piece-all (lambda parameters k) _ (behind-text (1 + with_void parameters (size parameters) + length (ordinal (k - 1))) (size (lambda parameters k)) (codes "Ul") ((ways_of n parameters).as_parameters and text (codes "E" ++ ordinal (k - 1))) (omega arith) (before-text (with_void parameters (size parameters)) (1 + with_void parameters (size parameters) + length (ordinal (k - 1))) (ways_of n parameters).as_parameters (codes "E" ++ ordinal (k - 1)) (omega arith) (all-short parameters n way.as_parameters)))
+all-short (generic_lambda parameters number) n = none-all (generic_lambda parameters number)
+all-short (unnamed k) n = piece-all (unnamed k) _ (bytes-short (size (unnamed k)) (codes "Ut" ++ ordinal (k - 1)) (omega arith))
+all-short string_literal n = piece-all string_literal _ (bytes-short (size string_literal) (codes "s") (omega arith))
+all-short (conversion type) n = piece-all (conversion type) _ (behind-text (part_of type (size type)) (size (conversion type)) (codes "cv") ((ways_of n type).as_type) (omega arith) (all-short type n way.as_type))
+all-short (builtin code) n = spelled-all (builtin code) (text code) (length code) (bytes-short (length code) code (omega arith)) (omega arith) (omega arith) (omega arith)
+all-short (sized_float digits end) n = spelled-all (sized_float digits end) (text (codes "DF") and text digits and text (end ∷ [])) (3 + length digits) (behind-text (1 + length digits) (3 + length digits) (codes "DF") (text digits and text (end ∷ [])) (omega arith) (behind-text 1 (1 + length digits) digits (text (end ∷ [])) (omega arith) (bytes-short 1 (end ∷ []) (omega arith)))) (omega arith) (omega arith) (omega arith)
+all-short (constrained letter concept) n = none-all (constrained letter concept)
+all-short (vendor name) n = typed-all n (vendor name) _ refl refl refl (bytes-short (size (vendor name)) (codes "u" ++ counted name) (omega arith))
+all-short (pointer type) n = typed-all n (pointer type) _ refl refl refl (behind-text (part_of type (size type)) (size (pointer type)) (codes "P") ((ways_of n type).as_type) (omega arith) (all-short type n way.as_type))
+all-short (lvalue type) n = typed-all n (lvalue type) _ refl refl refl (behind-text (part_of type (size type)) (size (lvalue type)) (codes "R") ((ways_of n type).as_type) (omega arith) (all-short type n way.as_type))
+all-short (rvalue type) n = typed-all n (rvalue type) _ refl refl refl (behind-text (part_of type (size type)) (size (rvalue type)) (codes "O") ((ways_of n type).as_type) (omega arith) (all-short type n way.as_type))
+all-short (array digits type) n = typed-all n (array digits type) _ refl refl refl (behind-text (part_of type (size type)) (size (array digits type)) (codes "A" ++ digits ++ codes "_") ((ways_of n type).as_type) (omega (arith, length-append digits (codes "_"))) (all-short type n way.as_type))
+all-short (bounded bound type) n = none-all (bounded bound type)
+all-short (member_pointer class member) n = typed-all n (member_pointer class member) _ refl refl refl (behind-text (part_of class (size class) + part_of member (size member)) (size (member_pointer class member)) (codes "M") ((ways_of n class).as_type and (ways_of n member).as_type) (omega arith) (and-within (part_of class (size class)) (part_of member (size member)) (part_of class (size class) + part_of member (size member)) (ways_of n class).as_type ((ways_of n member).as_type) (omega arith) (all-short class n way.as_type) (all-short member n way.as_type)))
+all-short (qualified q type) n = typed-all n (qualified q type) _ refl refl refl (behind-text (bare_of type (size type)) (size (qualified q type)) (qualifier_letters q) ((ways_of n type).under_qualifiers) (omega arith) (all-short type n way.under_qualifiers))
+all-short (vector digits type) n = typed-all n (vector digits type) _ refl refl refl (behind-text (part_of type (size type)) (size (vector digits type)) (codes "Dv" ++ digits ++ codes "_") ((ways_of n type).as_type) (omega (arith, length-append digits (codes "_"))) (all-short type n way.as_type))
+all-short (complex type) n = typed-all n (complex type) _ refl refl refl (behind-text (part_of type (size type)) (size (complex type)) (codes "C") ((ways_of n type).as_type) (omega arith) (all-short type n way.as_type))
 all-short (decltype operand) n = none-all (decltype operand)
+all-short (expansion pattern) n = typed-all n (expansion pattern) _ refl refl refl (behind-text (part_of pattern (size pattern)) (size (expansion pattern)) (codes "Dp") ((ways_of n pattern).as_type) (omega arith) (all-short pattern n way.as_type))
+all-short (integer type value) n = argument-all (integer type value) _ (behind-text (1 + part_of type (size type) + length (signed_text value)) (size (integer type value)) (codes "L") ((ways_of n type).as_type and text (signed_text value ++ codes "E")) (omega arith) (before-text (part_of type (size type)) (1 + part_of type (size type) + length (signed_text value)) (ways_of n type).as_type (signed_text value ++ codes "E") (omega (arith, length-append (signed_text value) (codes "E"))) (all-short type n way.as_type)))
+all-short (boolean truth) n = argument-all (boolean truth) _ (bytes-short (size (boolean truth)) (cond truth (codes "Lb1E") (codes "Lb0E")) (omega (arith, truth-short truth)))
+all-short null_pointer n = argument-all null_pointer _ (bytes-short (size null_pointer) (codes "LDnE") (omega arith))
+all-short (encoding_literal e) n = argument-all (encoding_literal e) _ (behind-text (1 + size e) (size (encoding_literal e)) (codes "L_Z") ((ways_of n e).as_encoding and text (codes "E")) (omega arith) (before-text (size e) (1 + size e) (ways_of n e).as_encoding (codes "E") (omega arith) (all-short e n way.as_encoding)))
+all-short (address_of e) n = argument-all (address_of e) _ (behind-text (2 + size e) (size (address_of e)) (codes "XadL_Z") ((ways_of n e).as_encoding and text (codes "EE")) (omega arith) (before-text (size e) (2 + size e) (ways_of n e).as_encoding (codes "EE") (omega arith) (all-short e n way.as_encoding)))
 all-short (operation one two u w) n = none-all (operation one two u w)
 all-short (function_parameter digits) n = none-all (function_parameter digits)
-all-short (bounded bound type) n = none-all (bounded bound type)
+all-short (pack elements) n = argument-all (pack elements) _ (behind-text (1 + size elements) (size (pack elements)) (codes "J") ((ways_of n elements).as_elements and text (codes "E")) (omega arith) (before-text (size elements) (1 + size elements) (ways_of n elements).as_elements (codes "E") (omega arith) (all-short elements n way.as_elements)))
 all-short absent n = none-all absent

@@ -35,6 +35,22 @@ pub returns-in-24951-clause-is : goal.returns-in-24951-clause-is
 unfolding printed operation_of_code operations same_bytes builtin_texts operator_texts abbreviation_texts special_texts named_special_texts literal_endings
 returns-in-24951-clause-is c = printed-by c.args.first c.args.second 97 119 c.printed_as-in-24951.result c.ranges.second.fits (lit< tt) (omega (arith, c.in-24951.is)) (rw c.printed_as-in-24951.ensures record { precedence = refl; front = refl; left = refl; between = refl; right = refl; back = refl })
 
+pub returns-in-25708-clause-is : goal.returns-in-25708-clause-is
+unfolding printed operation_of_code operations same_bytes builtin_texts operator_texts abbreviation_texts special_texts named_special_texts literal_endings
+returns-in-25708-clause-is c = printed-by c.args.first c.args.second 100 108 c.printed_as-in-25708.result c.ranges.second.fits (lit< tt) (omega (arith, c.in-25708.is)) (rw c.printed_as-in-25708.ensures record { precedence = refl; front = refl; left = refl; between = refl; right = refl; back = refl })
+
+pub returns-in-25697-clause-is : goal.returns-in-25697-clause-is
+unfolding printed operation_of_code operations same_bytes builtin_texts operator_texts abbreviation_texts special_texts named_special_texts literal_endings
+returns-in-25697-clause-is c = printed-by c.args.first c.args.second 100 97 c.printed_as-in-25697.result c.ranges.second.fits (lit< tt) (omega (arith, c.in-25697.is)) (rw c.printed_as-in-25697.ensures record { precedence = refl; front = refl; left = refl; between = refl; right = refl; back = refl })
+
+pub returns-in-29815-clause-is : goal.returns-in-29815-clause-is
+unfolding printed operation_of_code operations same_bytes builtin_texts operator_texts abbreviation_texts special_texts named_special_texts literal_endings
+returns-in-29815-clause-is c = printed-by c.args.first c.args.second 116 119 c.printed_as-in-29815.result c.ranges.second.fits (lit< tt) (omega (arith, c.in-29815.is)) (rw c.printed_as-in-29815.ensures record { precedence = refl; front = refl; left = refl; between = refl; right = refl; back = refl })
+
+pub returns-in-26483-clause-is : goal.returns-in-26483-clause-is
+unfolding printed operation_of_code operations same_bytes builtin_texts operator_texts abbreviation_texts special_texts named_special_texts literal_endings
+returns-in-26483-clause-is c = printed-by c.args.first c.args.second 103 115 c.printed_as-in-26483.result c.ranges.second.fits (lit< tt) (omega (arith, c.in-26483.is)) (rw c.printed_as-in-26483.ensures record { precedence = refl; front = refl; left = refl; between = refl; right = refl; back = refl })
+
 pub returns-in-28767-clause-is : goal.returns-in-28767-clause-is
 unfolding printed operation_of_code operations same_bytes builtin_texts operator_texts abbreviation_texts special_texts named_special_texts literal_endings
 returns-in-28767-clause-is c = printed-by c.args.first c.args.second 112 95 c.printed_as-in-28767.result c.ranges.second.fits (lit< tt) (omega (arith, c.in-28767.is)) (rw c.printed_as-in-28767.ensures record { precedence = refl; front = refl; left = refl; between = refl; right = refl; back = refl })
@@ -283,6 +299,50 @@ pub returns-in-10281-clause-is : goal.returns-in-10281-clause-is
 unfolding printed operation_of_code operations same_bytes builtin_texts operator_texts abbreviation_texts special_texts named_special_texts literal_endings
 returns-in-10281-clause-is c = printed-by c.args.first c.args.second 40 41 c.printed_as-in-10281.result c.ranges.second.fits (lit< tt) (omega (arith, c.in-10281.is)) (rw c.printed_as-in-10281.ensures record { precedence = refl; front = refl; left = refl; between = refl; right = refl; back = refl })
 
+pub returns-in-25710-clause-is : goal.returns-in-25710-clause-is
+unfolding printed operation_of_code operations same_bytes builtin_texts operator_texts abbreviation_texts special_texts named_special_texts literal_endings
+returns-in-25710-clause-is c = printed-by c.args.first c.args.second 100 110 c.printed_as-in-25710.result c.ranges.second.fits (lit< tt) (omega (arith, c.in-25710.is)) (rw c.printed_as-in-25710.ensures record { precedence = refl; front = refl; left = refl; between = refl; right = refl; back = refl })
+
+pub returns-in-25456-clause-is : goal.returns-in-25456-clause-is
+unfolding printed operation_of_code operations same_bytes builtin_texts operator_texts abbreviation_texts special_texts named_special_texts literal_endings
+returns-in-25456-clause-is c = printed-by c.args.first c.args.second 99 112 c.printed_as-in-25456.result c.ranges.second.fits (lit< tt) (omega (arith, c.in-25456.is)) (rw c.printed_as-in-25456.ensures record { precedence = refl; front = refl; left = refl; between = refl; right = refl; back = refl })
+
+pub returns-in-28279-clause-is : goal.returns-in-28279-clause-is
+unfolding printed operation_of_code operations same_bytes builtin_texts operator_texts abbreviation_texts special_texts named_special_texts literal_endings
+returns-in-28279-clause-is c = printed-by c.args.first c.args.second 110 119 c.printed_as-in-28279.result c.ranges.second.fits (lit< tt) (omega (arith, c.in-28279.is)) (rw c.printed_as-in-28279.ensures record { precedence = refl; front = refl; left = refl; between = refl; right = refl; back = refl })
+
+pub returns-in-28257-clause-is : goal.returns-in-28257-clause-is
+unfolding printed operation_of_code operations same_bytes builtin_texts operator_texts abbreviation_texts special_texts named_special_texts literal_endings
+returns-in-28257-clause-is c = printed-by c.args.first c.args.second 110 97 c.printed_as-in-28257.result c.ranges.second.fits (lit< tt) (omega (arith, c.in-28257.is)) (rw c.printed_as-in-28257.ensures record { precedence = refl; front = refl; left = refl; between = refl; right = refl; back = refl })
+
+pub returns-in-28200-clause-is : goal.returns-in-28200-clause-is
+unfolding printed operation_of_code operations same_bytes builtin_texts operator_texts abbreviation_texts special_texts named_special_texts literal_endings
+returns-in-28200-clause-is c = printed-by c.args.first c.args.second 110 40 c.printed_as-in-28200.result c.ranges.second.fits (lit< tt) (omega (arith, c.in-28200.is)) (rw c.printed_as-in-28200.ensures record { precedence = refl; front = refl; left = refl; between = refl; right = refl; back = refl })
+
+pub returns-in-28255-clause-is : goal.returns-in-28255-clause-is
+unfolding printed operation_of_code operations same_bytes builtin_texts operator_texts abbreviation_texts special_texts named_special_texts literal_endings
+returns-in-28255-clause-is c = printed-by c.args.first c.args.second 110 95 c.printed_as-in-28255.result c.ranges.second.fits (lit< tt) (omega (arith, c.in-28255.is)) (rw c.printed_as-in-28255.ensures record { precedence = refl; front = refl; left = refl; between = refl; right = refl; back = refl })
+
+pub returns-in-28777-clause-is : goal.returns-in-28777-clause-is
+unfolding printed operation_of_code operations same_bytes builtin_texts operator_texts abbreviation_texts special_texts named_special_texts literal_endings
+returns-in-28777-clause-is c = printed-by c.args.first c.args.second 112 105 c.printed_as-in-28777.result c.ranges.second.fits (lit< tt) (omega (arith, c.in-28777.is)) (rw c.printed_as-in-28777.ensures record { precedence = refl; front = refl; left = refl; between = refl; right = refl; back = refl })
+
+pub returns-in-26220-clause-is : goal.returns-in-26220-clause-is
+unfolding printed operation_of_code operations same_bytes builtin_texts operator_texts abbreviation_texts special_texts named_special_texts literal_endings
+returns-in-26220-clause-is c = printed-by c.args.first c.args.second 102 108 c.printed_as-in-26220.result c.ranges.second.fits (lit< tt) (omega (arith, c.in-26220.is)) (rw c.printed_as-in-26220.ensures record { precedence = refl; front = refl; left = refl; between = refl; right = refl; back = refl })
+
+pub returns-in-26226-clause-is : goal.returns-in-26226-clause-is
+unfolding printed operation_of_code operations same_bytes builtin_texts operator_texts abbreviation_texts special_texts named_special_texts literal_endings
+returns-in-26226-clause-is c = printed-by c.args.first c.args.second 102 114 c.printed_as-in-26226.result c.ranges.second.fits (lit< tt) (omega (arith, c.in-26226.is)) (rw c.printed_as-in-26226.ensures record { precedence = refl; front = refl; left = refl; between = refl; right = refl; back = refl })
+
+pub returns-in-29297-clause-is : goal.returns-in-29297-clause-is
+unfolding printed operation_of_code operations same_bytes builtin_texts operator_texts abbreviation_texts special_texts named_special_texts literal_endings
+returns-in-29297-clause-is c = printed-by c.args.first c.args.second 114 113 c.printed_as-in-29297.result c.ranges.second.fits (lit< tt) (omega (arith, c.in-29297.is)) (rw c.printed_as-in-29297.ensures record { precedence = refl; front = refl; left = refl; between = refl; right = refl; back = refl })
+
+pub returns-in-29265-clause-is : goal.returns-in-29265-clause-is
+unfolding printed operation_of_code operations same_bytes builtin_texts operator_texts abbreviation_texts special_texts named_special_texts literal_endings
+returns-in-29265-clause-is c = printed-by c.args.first c.args.second 114 81 c.printed_as-in-29265.result c.ranges.second.fits (lit< tt) (omega (arith, c.in-29265.is)) (rw c.printed_as-in-29265.ensures record { precedence = refl; front = refl; left = refl; between = refl; right = refl; back = refl })
+
 pub returns-in_default-clause-is : goal.returns-in_default-clause-is
 unfolding operations
-returns-in_default-clause-is c = none-printed c.args.first c.args.second c.printed_as-in_default.result (let n : any_number operations (c.args.first * 256 + c.args.second) ≡ false = rw (ne_eqb (c.args.first * 256 + c.args.second) 28787 (omega (arith, c.in_default)), ne_eqb (c.args.first * 256 + c.args.second) 28263 (omega (arith, c.in_default)), ne_eqb (c.args.first * 256 + c.args.second) 24932 (omega (arith, c.in_default)), ne_eqb (c.args.first * 256 + c.args.second) 25701 (omega (arith, c.in_default)), ne_eqb (c.args.first * 256 + c.args.second) 25455 (omega (arith, c.in_default)), ne_eqb (c.args.first * 256 + c.args.second) 28276 (omega (arith, c.in_default)), ne_eqb (c.args.first * 256 + c.args.second) 24951 (omega (arith, c.in_default)), ne_eqb (c.args.first * 256 + c.args.second) 28767 (omega (arith, c.in_default)), ne_eqb (c.args.first * 256 + c.args.second) 27999 (omega (arith, c.in_default)), ne_eqb (c.args.first * 256 + c.args.second) 28784 (omega (arith, c.in_default)), ne_eqb (c.args.first * 256 + c.args.second) 28013 (omega (arith, c.in_default)), ne_eqb (c.args.first * 256 + c.args.second) 25715 (omega (arith, c.in_default)), ne_eqb (c.args.first * 256 + c.args.second) 28781 (omega (arith, c.in_default)), ne_eqb (c.args.first * 256 + c.args.second) 28012 (omega (arith, c.in_default)), ne_eqb (c.args.first * 256 + c.args.second) 25718 (omega (arith, c.in_default)), ne_eqb (c.args.first * 256 + c.args.second) 29293 (omega (arith, c.in_default)), ne_eqb (c.args.first * 256 + c.args.second) 28780 (omega (arith, c.in_default)), ne_eqb (c.args.first * 256 + c.args.second) 28009 (omega (arith, c.in_default)), ne_eqb (c.args.first * 256 + c.args.second) 27763 (omega (arith, c.in_default)), ne_eqb (c.args.first * 256 + c.args.second) 29555 (omega (arith, c.in_default)), ne_eqb (c.args.first * 256 + c.args.second) 27764 (omega (arith, c.in_default)), ne_eqb (c.args.first * 256 + c.args.second) 27749 (omega (arith, c.in_default)), ne_eqb (c.args.first * 256 + c.args.second) 26469 (omega (arith, c.in_default)), ne_eqb (c.args.first * 256 + c.args.second) 25969 (omega (arith, c.in_default)), ne_eqb (c.args.first * 256 + c.args.second) 28261 (omega (arith, c.in_default)), ne_eqb (c.args.first * 256 + c.args.second) 24942 (omega (arith, c.in_default)), ne_eqb (c.args.first * 256 + c.args.second) 25967 (omega (arith, c.in_default)), ne_eqb (c.args.first * 256 + c.args.second) 28530 (omega (arith, c.in_default)), ne_eqb (c.args.first * 256 + c.args.second) 24929 (omega (arith, c.in_default)), ne_eqb (c.args.first * 256 + c.args.second) 28527 (omega (arith, c.in_default)), ne_eqb (c.args.first * 256 + c.args.second) 26484 (omega (arith, c.in_default)), ne_eqb (c.args.first * 256 + c.args.second) 29299 (omega (arith, c.in_default)), ne_eqb (c.args.first * 256 + c.args.second) 25453 (omega (arith, c.in_default)), ne_eqb (c.args.first * 256 + c.args.second) 24915 (omega (arith, c.in_default)), ne_eqb (c.args.first * 256 + c.args.second) 28748 (omega (arith, c.in_default)), ne_eqb (c.args.first * 256 + c.args.second) 27977 (omega (arith, c.in_default)), ne_eqb (c.args.first * 256 + c.args.second) 27980 (omega (arith, c.in_default)), ne_eqb (c.args.first * 256 + c.args.second) 25686 (omega (arith, c.in_default)), ne_eqb (c.args.first * 256 + c.args.second) 29261 (omega (arith, c.in_default)), ne_eqb (c.args.first * 256 + c.args.second) 24910 (omega (arith, c.in_default)), ne_eqb (c.args.first * 256 + c.args.second) 28498 (omega (arith, c.in_default)), ne_eqb (c.args.first * 256 + c.args.second) 25935 (omega (arith, c.in_default)), ne_eqb (c.args.first * 256 + c.args.second) 27731 (omega (arith, c.in_default)), ne_eqb (c.args.first * 256 + c.args.second) 29267 (omega (arith, c.in_default)), ne_eqb (c.args.first * 256 + c.args.second) 27000 (omega (arith, c.in_default)), ne_eqb (c.args.first * 256 + c.args.second) 25716 (omega (arith, c.in_default)), ne_eqb (c.args.first * 256 + c.args.second) 28788 (omega (arith, c.in_default)), ne_eqb (c.args.first * 256 + c.args.second) 29045 (omega (arith, c.in_default)), ne_eqb (c.args.first * 256 + c.args.second) 28986 (omega (arith, c.in_default)), ne_eqb (c.args.first * 256 + c.args.second) 25452 (omega (arith, c.in_default)), ne_eqb (c.args.first * 256 + c.args.second) 25462 (omega (arith, c.in_default)), ne_eqb (c.args.first * 256 + c.args.second) 25439 (omega (arith, c.in_default)), ne_eqb (c.args.first * 256 + c.args.second) 29804 (omega (arith, c.in_default)), ne_eqb (c.args.first * 256 + c.args.second) 26988 (omega (arith, c.in_default)), ne_eqb (c.args.first * 256 + c.args.second) 25699 (omega (arith, c.in_default)), ne_eqb (c.args.first * 256 + c.args.second) 29539 (omega (arith, c.in_default)), ne_eqb (c.args.first * 256 + c.args.second) 25443 (omega (arith, c.in_default)), ne_eqb (c.args.first * 256 + c.args.second) 29283 (omega (arith, c.in_default)), ne_eqb (c.args.first * 256 + c.args.second) 29801 (omega (arith, c.in_default)), ne_eqb (c.args.first * 256 + c.args.second) 29797 (omega (arith, c.in_default)), ne_eqb (c.args.first * 256 + c.args.second) 29556 (omega (arith, c.in_default)), ne_eqb (c.args.first * 256 + c.args.second) 29562 (omega (arith, c.in_default)), ne_eqb (c.args.first * 256 + c.args.second) 24948 (omega (arith, c.in_default)), ne_eqb (c.args.first * 256 + c.args.second) 24954 (omega (arith, c.in_default)), ne_eqb (c.args.first * 256 + c.args.second) 28280 (omega (arith, c.in_default)), ne_eqb (c.args.first * 256 + c.args.second) 29530 (omega (arith, c.in_default)), ne_eqb (c.args.first * 256 + c.args.second) 29554 (omega (arith, c.in_default)), ne_eqb (c.args.first * 256 + c.args.second) 26196 (omega (arith, c.in_default)), ne_eqb (c.args.first * 256 + c.args.second) 10281 (omega (arith, c.in_default))) refl in n) (rw c.printed_as-in_default.ensures record { precedence = refl; front = refl; left = refl; between = refl; right = refl; back = refl })
+returns-in_default-clause-is c = none-printed c.args.first c.args.second c.printed_as-in_default.result (let n : any_number operations (c.args.first * 256 + c.args.second) ≡ false = rw (ne_eqb (c.args.first * 256 + c.args.second) 28787 (omega (arith, c.in_default)), ne_eqb (c.args.first * 256 + c.args.second) 28263 (omega (arith, c.in_default)), ne_eqb (c.args.first * 256 + c.args.second) 24932 (omega (arith, c.in_default)), ne_eqb (c.args.first * 256 + c.args.second) 25701 (omega (arith, c.in_default)), ne_eqb (c.args.first * 256 + c.args.second) 25455 (omega (arith, c.in_default)), ne_eqb (c.args.first * 256 + c.args.second) 28276 (omega (arith, c.in_default)), ne_eqb (c.args.first * 256 + c.args.second) 24951 (omega (arith, c.in_default)), ne_eqb (c.args.first * 256 + c.args.second) 25708 (omega (arith, c.in_default)), ne_eqb (c.args.first * 256 + c.args.second) 25697 (omega (arith, c.in_default)), ne_eqb (c.args.first * 256 + c.args.second) 29815 (omega (arith, c.in_default)), ne_eqb (c.args.first * 256 + c.args.second) 26483 (omega (arith, c.in_default)), ne_eqb (c.args.first * 256 + c.args.second) 28767 (omega (arith, c.in_default)), ne_eqb (c.args.first * 256 + c.args.second) 27999 (omega (arith, c.in_default)), ne_eqb (c.args.first * 256 + c.args.second) 28784 (omega (arith, c.in_default)), ne_eqb (c.args.first * 256 + c.args.second) 28013 (omega (arith, c.in_default)), ne_eqb (c.args.first * 256 + c.args.second) 25715 (omega (arith, c.in_default)), ne_eqb (c.args.first * 256 + c.args.second) 28781 (omega (arith, c.in_default)), ne_eqb (c.args.first * 256 + c.args.second) 28012 (omega (arith, c.in_default)), ne_eqb (c.args.first * 256 + c.args.second) 25718 (omega (arith, c.in_default)), ne_eqb (c.args.first * 256 + c.args.second) 29293 (omega (arith, c.in_default)), ne_eqb (c.args.first * 256 + c.args.second) 28780 (omega (arith, c.in_default)), ne_eqb (c.args.first * 256 + c.args.second) 28009 (omega (arith, c.in_default)), ne_eqb (c.args.first * 256 + c.args.second) 27763 (omega (arith, c.in_default)), ne_eqb (c.args.first * 256 + c.args.second) 29555 (omega (arith, c.in_default)), ne_eqb (c.args.first * 256 + c.args.second) 27764 (omega (arith, c.in_default)), ne_eqb (c.args.first * 256 + c.args.second) 27749 (omega (arith, c.in_default)), ne_eqb (c.args.first * 256 + c.args.second) 26469 (omega (arith, c.in_default)), ne_eqb (c.args.first * 256 + c.args.second) 25969 (omega (arith, c.in_default)), ne_eqb (c.args.first * 256 + c.args.second) 28261 (omega (arith, c.in_default)), ne_eqb (c.args.first * 256 + c.args.second) 24942 (omega (arith, c.in_default)), ne_eqb (c.args.first * 256 + c.args.second) 25967 (omega (arith, c.in_default)), ne_eqb (c.args.first * 256 + c.args.second) 28530 (omega (arith, c.in_default)), ne_eqb (c.args.first * 256 + c.args.second) 24929 (omega (arith, c.in_default)), ne_eqb (c.args.first * 256 + c.args.second) 28527 (omega (arith, c.in_default)), ne_eqb (c.args.first * 256 + c.args.second) 26484 (omega (arith, c.in_default)), ne_eqb (c.args.first * 256 + c.args.second) 29299 (omega (arith, c.in_default)), ne_eqb (c.args.first * 256 + c.args.second) 25453 (omega (arith, c.in_default)), ne_eqb (c.args.first * 256 + c.args.second) 24915 (omega (arith, c.in_default)), ne_eqb (c.args.first * 256 + c.args.second) 28748 (omega (arith, c.in_default)), ne_eqb (c.args.first * 256 + c.args.second) 27977 (omega (arith, c.in_default)), ne_eqb (c.args.first * 256 + c.args.second) 27980 (omega (arith, c.in_default)), ne_eqb (c.args.first * 256 + c.args.second) 25686 (omega (arith, c.in_default)), ne_eqb (c.args.first * 256 + c.args.second) 29261 (omega (arith, c.in_default)), ne_eqb (c.args.first * 256 + c.args.second) 24910 (omega (arith, c.in_default)), ne_eqb (c.args.first * 256 + c.args.second) 28498 (omega (arith, c.in_default)), ne_eqb (c.args.first * 256 + c.args.second) 25935 (omega (arith, c.in_default)), ne_eqb (c.args.first * 256 + c.args.second) 27731 (omega (arith, c.in_default)), ne_eqb (c.args.first * 256 + c.args.second) 29267 (omega (arith, c.in_default)), ne_eqb (c.args.first * 256 + c.args.second) 27000 (omega (arith, c.in_default)), ne_eqb (c.args.first * 256 + c.args.second) 25716 (omega (arith, c.in_default)), ne_eqb (c.args.first * 256 + c.args.second) 28788 (omega (arith, c.in_default)), ne_eqb (c.args.first * 256 + c.args.second) 29045 (omega (arith, c.in_default)), ne_eqb (c.args.first * 256 + c.args.second) 28986 (omega (arith, c.in_default)), ne_eqb (c.args.first * 256 + c.args.second) 25452 (omega (arith, c.in_default)), ne_eqb (c.args.first * 256 + c.args.second) 25462 (omega (arith, c.in_default)), ne_eqb (c.args.first * 256 + c.args.second) 25439 (omega (arith, c.in_default)), ne_eqb (c.args.first * 256 + c.args.second) 29804 (omega (arith, c.in_default)), ne_eqb (c.args.first * 256 + c.args.second) 26988 (omega (arith, c.in_default)), ne_eqb (c.args.first * 256 + c.args.second) 25699 (omega (arith, c.in_default)), ne_eqb (c.args.first * 256 + c.args.second) 29539 (omega (arith, c.in_default)), ne_eqb (c.args.first * 256 + c.args.second) 25443 (omega (arith, c.in_default)), ne_eqb (c.args.first * 256 + c.args.second) 29283 (omega (arith, c.in_default)), ne_eqb (c.args.first * 256 + c.args.second) 29801 (omega (arith, c.in_default)), ne_eqb (c.args.first * 256 + c.args.second) 29797 (omega (arith, c.in_default)), ne_eqb (c.args.first * 256 + c.args.second) 29556 (omega (arith, c.in_default)), ne_eqb (c.args.first * 256 + c.args.second) 29562 (omega (arith, c.in_default)), ne_eqb (c.args.first * 256 + c.args.second) 24948 (omega (arith, c.in_default)), ne_eqb (c.args.first * 256 + c.args.second) 24954 (omega (arith, c.in_default)), ne_eqb (c.args.first * 256 + c.args.second) 28280 (omega (arith, c.in_default)), ne_eqb (c.args.first * 256 + c.args.second) 29530 (omega (arith, c.in_default)), ne_eqb (c.args.first * 256 + c.args.second) 29554 (omega (arith, c.in_default)), ne_eqb (c.args.first * 256 + c.args.second) 26196 (omega (arith, c.in_default)), ne_eqb (c.args.first * 256 + c.args.second) 10281 (omega (arith, c.in_default)), ne_eqb (c.args.first * 256 + c.args.second) 25710 (omega (arith, c.in_default)), ne_eqb (c.args.first * 256 + c.args.second) 25456 (omega (arith, c.in_default)), ne_eqb (c.args.first * 256 + c.args.second) 28279 (omega (arith, c.in_default)), ne_eqb (c.args.first * 256 + c.args.second) 28257 (omega (arith, c.in_default)), ne_eqb (c.args.first * 256 + c.args.second) 28200 (omega (arith, c.in_default)), ne_eqb (c.args.first * 256 + c.args.second) 28255 (omega (arith, c.in_default)), ne_eqb (c.args.first * 256 + c.args.second) 28777 (omega (arith, c.in_default)), ne_eqb (c.args.first * 256 + c.args.second) 26220 (omega (arith, c.in_default)), ne_eqb (c.args.first * 256 + c.args.second) 26226 (omega (arith, c.in_default)), ne_eqb (c.args.first * 256 + c.args.second) 29297 (omega (arith, c.in_default)), ne_eqb (c.args.first * 256 + c.args.second) 29265 (omega (arith, c.in_default))) refl in n) (rw c.printed_as-in_default.ensures record { precedence = refl; front = refl; left = refl; between = refl; right = refl; back = refl })

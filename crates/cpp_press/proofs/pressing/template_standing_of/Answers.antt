@@ -1,7 +1,7 @@
 use Rattle.std.proofs.Common.{ap, sym, ◌∙◌}
 use Rattle.std.specs.BTreeMap.{get}
 use Rattle.cpp_spelling.specs.Tasks.{plain_at}
-use Rattle.cpp_spelling.specs.Spelled.{is_name}
+use Rattle.cpp_press_laws.specs.Pressing.{is_name}
 use Rattle.cpp_spelling.specs.Standings.{compared}
 use Rattle.cpp_press.specs.Places.{likeness_cmp, likeness_of}
 use Rattle.cpp_spelling.proofs.Standing.{compared-name, uncompared-name}

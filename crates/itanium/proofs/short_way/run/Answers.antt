@@ -6,9 +6,9 @@ use Rattle.itanium.proofs.short_way.run.Goals as goal
 pub steps-init : goal.steps-init
 steps-init g c = (c.in-Some.ensures, omega (arith, c.requires.none))
 
-pub returns-in-Ended-clause-whole : goal.returns-in-Ended-clause-whole
-returns-in-Ended-clause-whole g c within =
-    subst (λ k. IsBefore (symbol_by g.G.Grammar.IS_WIDE g.G.Grammar.IS_BARE c.args.s.now) c.steps.direct c.steps.invariant.0.state k) c.in-Ended.is
+pub end-requires : goal.end-requires
+end-requires g c =
+    subst (λ k. IsBefore (symbol_by g.G.Grammar.IS_WIDE g.G.Grammar.IS_BARE g.G.Grammar.IS_BRIEF c.args.s.now) c.steps.direct c.steps.invariant.0.state k) c.in-Ended.is
     c.steps.invariant.0.is_before
 
 pub begin-requires-clause-fits : goal.begin-requires-clause-fits

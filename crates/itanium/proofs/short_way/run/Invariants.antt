@@ -5,7 +5,7 @@ use Rattle.cpp_direct.specs.Symbol.{symbol_by}
 use Rattle.itanium.proofs.short_way.run.Given as goal
 
 abbrev pub invariant-steps : goal.invariant-steps
-invariant-steps g l = IsWriting (symbol_by g.G.Grammar.IS_WIDE g.G.Grammar.IS_BARE l.s) l.direct l.step × (l.rounds ≤ 8 * length l.s)
+invariant-steps g l = IsWriting (symbol_by g.G.Grammar.IS_WIDE g.G.Grammar.IS_BARE g.G.Grammar.IS_BRIEF l.s) l.direct l.step × (l.rounds ≤ 8 * length l.s)
 
 abbrev pub decreases-steps : goal.decreases-steps
 decreases-steps g l = l.last - l.rounds

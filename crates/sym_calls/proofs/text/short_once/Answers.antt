@@ -1,4 +1,4 @@
-use Rattle.std.proofs.Common.{ℕ, List, Result, ap₂, rules, sym, ◌∙◌}
+use Rattle.std.proofs.Common.{ℕ, List, Result, ap, ap₂, rules, sym, ◌∙◌}
 use Rattle.sym_core.specs.declared.refusal.Refusal.{Refusal}
 use Rattle.sym_filter.specs.declared.kinds.Lang.{Lang}
 use Rattle.sym_print.specs.declared.detail.Detail.{Detail}
@@ -14,11 +14,11 @@ returns-in-Full-clause-told g c =
     same-told (answers Lang.Cpp Detail.Full) (answers c.args.kind.lang c.args.languages.now.detail) c.args.buffer.now c.write_short.new.buffer c.write_short.result
     (ap₂ answers (sym c.in-Cpp.is) (sym c.in-Full.is)) c.write_short.ensures.told
 
-pub returns-in-NoParameters-clause-told : goal.returns-in-NoParameters-clause-told
-returns-in-NoParameters-clause-told g c =
-    let answers : Lang → Detail → Result (List ℕ) Refusal = λ lang detail. language_answer_by g.C.Mangling.mangled c.args.languages.now.limit detail lang c.args.symbol.now in
-    same-told (answers Lang.Cpp Detail.NoParameters) (answers c.args.kind.lang c.args.languages.now.detail) c.args.buffer.now c.write_names.new.buffer c.write_names.result
-    (ap₂ answers (sym c.in-Cpp.is) (sym c.in-NoParameters.is)) c.write_names.ensures.told
+pub returns-in_default-clause-told : goal.returns-in_default-clause-told
+returns-in_default-clause-told g c =
+    let answers : Lang → Result (List ℕ) Refusal = λ lang. language_answer_by g.C.Mangling.mangled c.args.languages.now.limit c.args.languages.now.detail lang c.args.symbol.now in
+    same-told (answers Lang.Cpp) (answers c.args.kind.lang) c.args.buffer.now c.write_less.new.buffer c.write_less.result
+    (ap answers (sym c.in-Cpp.is)) c.write_less.ensures.told
 
 pub returns-else-not-has_arguments-clause-told : goal.returns-else-not-has_arguments-clause-told
 returns-else-not-has_arguments-clause-told g c =

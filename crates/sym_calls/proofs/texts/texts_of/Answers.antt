@@ -1,8 +1,8 @@
-use Rattle.std.proofs.Common.{sym, ◌∙◌, length}
+use Rattle.std.proofs.Common.{true, false, sym, ◌∙◌, length}
 use Rattle.std.specs.Prelude.{nat_eq}
 use Rattle.std.proofs.lemmas.Bool.{eq-eqb, ne_eqb}
 use Rattle.sym_calls.specs.Texts.{AreTold, are_ends}
-use Rattle.sym_calls.proofs.Ending.{by-abi, by-wide}
+use Rattle.sym_calls.proofs.Ending.{by-width}
 use Rattle.sym_calls.proofs.Telling.{not-as-many, not-ends, texts-refused, texts-told}
 use Rattle.sym_calls.proofs.texts.texts_of.Goals as goal
 
@@ -22,10 +22,10 @@ pub returns-then-asked : goal.returns-then-asked
 returns-then-asked c =
     texts-told _ c.in-Some.asked c.args.limit c.args.names.now c.args.ends.now c.args.buffer.now c.tell_in.new.buffer c.args.outcomes.now c.tell_in.new.outcomes c.tell_in.result (sym c.asked_of.ensures ∙ c.in-Some.is)
     (eq-eqb (length c.args.outcomes.now) (length c.args.ends.now) c.if-outcomes-ends.false) (sym c.are_ends.ensures ∙ c.if-not-are_ends.false) c.tell_in.ensures.status
-    (by-wide (λ answers told. AreTold answers c.in-Some.asked c.args.names.now 0 c.args.ends.now c.args.buffer.now c.tell_in.new.buffer told) c.in-Some.asked c.args.limit c.tell_in.new.outcomes c.if-asked.true c.tell_in.ensures.told)
+    (by-width (λ answers told. AreTold answers c.in-Some.asked c.args.names.now 0 c.args.ends.now c.args.buffer.now c.tell_in.new.buffer told) c.in-Some.asked true c.args.limit c.tell_in.new.outcomes c.if-asked.true c.tell_in.ensures.told)
 
 pub returns : goal.returns
 returns c =
     texts-told _ c.in-Some.asked c.args.limit c.args.names.now c.args.ends.now c.args.buffer.now c.tell_in-2.new.buffer c.args.outcomes.now c.tell_in-2.new.outcomes c.tell_in-2.result (sym c.asked_of.ensures ∙ c.in-Some.is)
     (eq-eqb (length c.args.outcomes.now) (length c.args.ends.now) c.if-outcomes-ends.false) (sym c.are_ends.ensures ∙ c.if-not-are_ends.false) c.tell_in-2.ensures.status
-    (by-abi (λ answers told. AreTold answers c.in-Some.asked c.args.names.now 0 c.args.ends.now c.args.buffer.now c.tell_in-2.new.buffer told) c.in-Some.asked c.args.limit c.tell_in-2.new.outcomes c.if-asked.false c.tell_in-2.ensures.told)
+    (by-width (λ answers told. AreTold answers c.in-Some.asked c.args.names.now 0 c.args.ends.now c.args.buffer.now c.tell_in-2.new.buffer told) c.in-Some.asked false c.args.limit c.tell_in-2.new.outcomes c.if-asked.false c.tell_in-2.ensures.told)

@@ -1,11 +1,12 @@
-use Rattle.std.proofs.Common.{◌≡◌, ◌++◌, ◌∷◌, ◌∙◌, [], List, ℕ, sym, ap, refl, Ok, Err, Some, true}
+use Rattle.std.proofs.Common.{◌≡◌, subst, ◌++◌, ◌∷◌, ◌∙◌, [], List, ℕ, sym, ap, refl, Ok, Err, Some, true}
 use Rattle.std.specs.Prelude.{is_some}
 use Rattle.std.proofs.lemmas.List.{append-nil}
 use Rattle.sym_core.specs.declared.refusal.Refusal.TheVariants as refusals
 use Rattle.sym_filter.specs.Kinds.{symbol_of}
+use Rattle.sym_filter.specs.Streams.{BeginsWith}
 use Rattle.sym_filter.proofs.RunLemmas.{text_of-symbol}
 use Rattle.sym_command.specs.Lines.{line_of, counts_text}
-use Rattle.sym_command.proofs.LineLemmas.{answer_of-symbol, complaint-line, text-line, word-line, counts-behind, refused-behind}
+use Rattle.sym_command.proofs.LineLemmas.{answer_of-symbol, begins-then, complaint-line, text-line, word-line, counts-behind, refused-behind}
 use Rattle.sym_command.proofs.lines.push_counted.Goals as goal
 
 pub returns-in_ok-push_counts-in-Text-clause-line : goal.returns-in_ok-push_counts-in-Text-clause-line
@@ -116,3 +117,34 @@ returns-in_ok-push_refused-in-Refused-clause-has_text g c =
     let refusal = c.in-Refused.refusal in
     let refused = c.in-Refused.ensures.0 c.in_ok-push_refused-in-Refused.ensures.memory in
     sym (ap is_some (text_of-symbol answers word symbol kind (Err refusal) c.requires.kind same refused.0))
+
+pub returns-in_err-push_counts-in-Text-clause-out : goal.returns-in_err-push_counts-in-Text-clause-out
+returns-in_err-push_counts-in-Text-clause-out g c =
+    let given = c.in-Text.ensures.1 in
+    begins-then c.args.out.now.items c.push.new.self.items c.push_counts.new.out.items
+    (begins-then c.args.out.now.items c.demangle.new.out.items c.push.new.self.items (given.0, given.2) (10 ∷ [], c.in_ok-push-in-Text.ensures.items)) c.push_counts.ensures.out
+
+pub returns-in_ok-push_counts-in-Text-clause-out : goal.returns-in_ok-push_counts-in-Text-clause-out
+returns-in_ok-push_counts-in-Text-clause-out g c =
+    let given = c.in-Text.ensures.1 in
+    begins-then c.args.out.now.items c.push.new.self.items c.push_counts.new.out.items
+    (begins-then c.args.out.now.items c.demangle.new.out.items c.push.new.self.items (given.0, given.2) (10 ∷ [], c.in_ok-push-in-Text.ensures.items)) c.push_counts.ensures.out
+
+pub returns-in_err-push_counts-in-TooLong-clause-out : goal.returns-in_err-push_counts-in-TooLong-clause-out
+returns-in_err-push_counts-in-TooLong-clause-out g c =
+    begins-then c.args.out.now.items c.push_refused.new.out.items c.push_counts-in-TooLong.new.out.items
+    (subst (λ (t : List ℕ). BeginsWith c.push_refused.new.out.items t) c.in-TooLong.ensures.2 c.push_refused.ensures.out) c.push_counts-in-TooLong.ensures.out
+
+pub returns-in_ok-push_counts-in-TooLong-clause-out : goal.returns-in_ok-push_counts-in-TooLong-clause-out
+returns-in_ok-push_counts-in-TooLong-clause-out g c =
+    begins-then c.args.out.now.items c.push_refused.new.out.items c.push_counts-in-TooLong.new.out.items
+    (subst (λ (t : List ℕ). BeginsWith c.push_refused.new.out.items t) c.in-TooLong.ensures.2 c.push_refused.ensures.out) c.push_counts-in-TooLong.ensures.out
+
+pub returns-in_err-push_refused-in-TooLong-clause-out : goal.returns-in_err-push_refused-in-TooLong-clause-out
+returns-in_err-push_refused-in-TooLong-clause-out g c = subst (λ (t : List ℕ). BeginsWith c.push_refused.new.out.items t) c.in-TooLong.ensures.2 c.push_refused.ensures.out
+
+pub returns-in_err-push_refused-in-Refused-clause-out : goal.returns-in_err-push_refused-in-Refused-clause-out
+returns-in_err-push_refused-in-Refused-clause-out g c = subst (λ (t : List ℕ). BeginsWith c.push_refused-in-Refused.new.out.items t) c.in-Refused.ensures.1 c.push_refused-in-Refused.ensures.out
+
+pub returns-in_ok-push_refused-in-Refused-clause-out : goal.returns-in_ok-push_refused-in-Refused-clause-out
+returns-in_ok-push_refused-in-Refused-clause-out g c = subst (λ (t : List ℕ). BeginsWith c.push_refused-in-Refused.new.out.items t) c.in-Refused.ensures.1 c.push_refused-in-Refused.ensures.out

@@ -1,6 +1,6 @@
 use Rattle.std.proofs.Common.{◌≡◌, ◌+◌, ◌-◌, ◌++◌, ◌∙◌, [], List, ℕ, take, drop, length, sym, ap, subst, arith, add-zero, append_assoc}
 use Rattle.std.proofs.lemmas.List.{append-nil, take_all, length-drop}
-use Rattle.sym_filter.specs.Words.{rest_after, behind, Takes}
+use Rattle.sym_filter.specs.Words.{rest_after, following, Takes}
 use Rattle.sym_filter.proofs.WordLemmas.{slice_from, Takes-join}
 use Rattle.sym_filter.proofs.StreamLemmas.{Puts-push, Puts-join, Puts-same, PutsFront-of, PutsFront-more, PutsFront-join, PutsFront-same, rest-bytes, take-part, IfErr-from_and}
 use Rattle.sym_filter.proofs.filtering.take_piece.Goals as goal
@@ -14,12 +14,12 @@ loop-at-preserved g c =
     let rest = take (length piece - at) (drop at piece) in
     let count = c.in_ok-taken.taken.count in
     let takes = c.in_ok-taken.ensures.takes in
-    let follows = behind c.in_ok-taken.taken (take count rest) in
-    let put = c.in_ok-put_behind.ensures in record {
+    let follows = following c.in_ok-taken.taken (take count rest) in
+    let put = c.in_ok-put_after.ensures in record {
       bytes = so_far.bytes ++ (takes.0 ++ follows);
       within = omega (arith, so_far.within, c.in_ok-taken.ensures.within.1, ap length (slice_from piece at), length-drop at piece);
       takes = subst (λ (t : List ℕ). Takes answers c.args.words.now c.take.new.self t (so_far.bytes ++ (takes.0 ++ follows))) (sym (take-part piece at count)) (Takes-join answers _ _ _ (take at piece) (take count rest) so_far.bytes (takes.0 ++ follows) so_far.takes takes.2);
-      puts = Puts-join _ _ _ [] c.loop-at.out.items c.put_behind.new.out.items so_far.bytes (takes.0 ++ follows) so_far.puts (Puts-join _ _ _ c.loop-at.out.items c.take.new.out.items c.put_behind.new.out.items takes.0 follows (Puts-push _ c.loop-at.out.items c.take.new.out.items takes.0 takes.1) put.ok);
+      puts = Puts-join _ _ _ [] c.loop-at.out.items c.put_after.new.out.items so_far.bytes (takes.0 ++ follows) so_far.puts (Puts-join _ _ _ c.loop-at.out.items c.take.new.out.items c.put_after.new.out.items takes.0 follows (Puts-push _ c.loop-at.out.items c.take.new.out.items takes.0 takes.1) put.ok);
       failures = put.failures ∙ add-zero _ ∙ so_far.failures;
     }
 
@@ -32,8 +32,8 @@ returns-in_err-taken-clause-err g c =
     let front = PutsFront-same _ _ [] (so_far.bytes ++ more) (rest_after answers c.args.words.now piece) (sym (rest-bytes answers c.args.words.now c.loop-at.words piece so_far.bytes c.loop-at.at so_far.takes)) (PutsFront-of _ _ [] c.loop-at.out.items so_far.bytes more so_far.puts) in
     IfErr-from_and c.from_residual.result _ _ c.from_residual.ensures.1 (λ fault is_memory. (λ is_read. cc, front))
 
-pub returns-in_err-put_behind-clause-err : goal.returns-in_err-put_behind-clause-err
-returns-in_err-put_behind-clause-err g c =
+pub returns-in_err-put_after-clause-err : goal.returns-in_err-put_after-clause-err
+returns-in_err-put_after-clause-err g c =
     let so_far = c.loop-at.invariant in
     let answers = g.D.Demangler.answer c.args.demangler.now in
     let piece = c.args.piece.now in
@@ -41,8 +41,8 @@ returns-in_err-put_behind-clause-err g c =
     let rest = take (length piece - at) (drop at piece) in
     let count = c.in_ok-taken.taken.count in
     let takes = c.in_ok-taken.ensures.takes in
-    let follows = behind c.in_ok-taken.taken (take count rest) in
-    let wrote = c.in_err-put_behind.ensures.err in
+    let follows = following c.in_ok-taken.taken (take count rest) in
+    let wrote = c.in_err-put_after.ensures.err in
     let old = c.args.words.now in
     let new = c.take.new.self in
     let bytes = so_far.bytes ++ (takes.0 ++ follows) in
@@ -51,7 +51,7 @@ returns-in_err-put_behind-clause-err g c =
     let whole : ((so_far.bytes ++ takes.0) ++ follows) ++ more ≡ rest_after answers old piece = ap (λ (t : List ℕ). t ++ more) (append_assoc so_far.bytes takes.0 follows) ∙ sym (rest-bytes answers old new piece bytes (at + count) joined) in
     let put = Puts-join _ _ _ [] c.loop-at.out.items c.take.new.out.items so_far.bytes takes.0 so_far.puts (Puts-push _ c.loop-at.out.items c.take.new.out.items takes.0 takes.1) in
     let front = PutsFront-same _ _ [] (((so_far.bytes ++ takes.0) ++ follows) ++ more) (rest_after answers old piece) whole (PutsFront-more _ _ [] ((so_far.bytes ++ takes.0) ++ follows) more (PutsFront-join _ _ _ [] c.take.new.out.items (so_far.bytes ++ takes.0) follows put wrote.1)) in
-    IfErr-from_and c.from_residual-in_err-put_behind.result _ _ c.from_residual-in_err-put_behind.ensures.1 (λ fault is_fault. (λ is_read. wrote.0 (sym is_fault ∙ is_read), front))
+    IfErr-from_and c.from_residual-in_err-put_after.result _ _ c.from_residual-in_err-put_after.ensures.1 (λ fault is_fault. (λ is_read. wrote.0 (sym is_fault ∙ is_read), front))
 
 pub returns-in_err-write_out-clause-err : goal.returns-in_err-write_out-clause-err
 returns-in_err-write_out-clause-err g c =

@@ -13,8 +13,8 @@ returns-in-Err g c =
       refl,
     )
 
-pub returns-in-Ok-push_behind_underscore : goal.returns-in-Ok-push_behind_underscore
-returns-in-Ok-push_behind_underscore g c =
+pub returns-in-Ok-push_after_underscore : goal.returns-in-Ok-push_after_underscore
+returns-in-Ok-push_after_underscore g c =
     let symbol = c.args.symbol.now in
     let bytes : AreBytes symbol = λ i. search (rules, c.type_inv.symbol i) in
     let m = g.M.Mangling.mangled in
@@ -24,6 +24,6 @@ returns-in-Ok-push_behind_underscore g c =
       read_counts (record { mangled = m; IsRead = g.M.Counted.is_read; bytes_of = g.M.Mangling.bytes_of; whole_of = g.M.Mangling.whole_of; are_nodes = g.M.Mangling.are_nodes; nodes_a_byte = g.M.Counted.nodes_a_byte })
           symbol read c.counts-counts.result (g.M.Mangling.rows_of read) (g.M.Mangling.steps_of read) (g.M.Mangling.nodes_of read) known.rows known.bytes known.symbol known.steps known.nodes
           counted.is_read counted.rows counted.nodes counted.steps counted.nodes_few counted.steps_few counted.steps_enough,
-      pressed_given (underscore_of c.args.skip) c.args.out.now.items c.push_behind_underscore.new.out.items c.deref.result.now (g.M.Pressable.pressed read) (g.M.Pressable.answer symbol)
-          (g.met.M.Pressable.read symbol read bytes known.symbol) (c.deref.ensures.value ∙ c.in-Ok-pressed.ensures.pressed) c.in-Ok-push_behind_underscore.ensures.pushed,
+      pressed_given (underscore_of c.args.skip) c.args.out.now.items c.push_after_underscore.new.out.items c.deref.result.now (g.M.Pressable.pressed read) (g.M.Pressable.answer symbol)
+          (g.met.M.Pressable.read symbol read bytes known.symbol) (c.deref.ensures.value ∙ c.in-Ok-pressed.ensures.pressed) c.in-Ok-push_after_underscore.ensures.pushed,
     )

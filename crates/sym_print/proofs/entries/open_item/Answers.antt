@@ -44,3 +44,11 @@ returns-clause-remaining g c =
       ap (steps_of_stack (g.Y.Layout.unshared c.args.y.now) (g.Y.Layout.bytes_of c.args.y.now)) (there g c),
       steps_of_visit (g.Y.Layout.unshared c.args.y.now) (g.Y.Layout.bytes_of c.args.y.now) c.args.stack.now.items parts parts c.args.item 0 1 c.requires.next c.push_parts.ensures.parts.joined refl,
     )
+
+pub returns-clause-parts : goal.returns-clause-parts
+returns-clause-parts g c = record {
+  added = c.push_parts.ensures.parts.added;
+  is = there g c;
+  all = c.push_parts.ensures.parts.all;
+  joined = c.push_parts.ensures.parts.joined;
+}

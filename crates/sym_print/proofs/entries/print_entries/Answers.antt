@@ -1,12 +1,13 @@
-use Rattle.std.proofs.Common.{◌≡◌, ◌-◌, ◌++◌, Err, Result, length, take, refl, arith, ap, ◌∙◌, rules}
+use Rattle.std.proofs.Common.{◌≡◌, ◌-◌, ◌++◌, Err, Result, length, take, refl, arith, ap, ◌∙◌, rules, subst}
 use Rattle.std.proofs.lemmas.List.Elements.{All-same, All-take}
 use Rattle.std.proofs.lemmas.Result.{err_from_is_err_and}
 use Rattle.sym_core.specs.declared.Refusal.{Refusal}
 use Rattle.sym_core.specs.declared.Refusal.TheVariants.{TooLong}
-use Rattle.sym_print.specs.declared.layout.Part.TheVariants.{Sub}
 use Rattle.sym_print.specs.declared.meter.Meter.{Meter}
 use Rattle.sym_print.specs.Joined.{IsNext, IsText, text_of_stack, cost_of_stack, steps_of_stack}
 use Rattle.sym_print.proofs.Stack.{without_last, text_of_write, cost_of_next, cost_of_text, steps_of_next, steps_of_text}
+use Rattle.sym_print.specs.Noted.{EndsAt}
+use Rattle.sym_print.proofs.Noting.{noted-unmet, noted-moved, moves-text}
 use Rattle.sym_print.proofs.entries.print_entries.Given as given
 use Rattle.sym_print.proofs.entries.print_entries.Goals as goal
 
@@ -43,21 +44,21 @@ returns-in_err-write_text-in_default-next-clause-too_long g c same =
       c.loop-next.invariant.6,
     )
 
-pub returns-in_err-open_item-in-Sub-clause-too_long : goal.returns-in_err-open_item-in-Sub-clause-too_long
-returns-in_err-open_item-in-Sub-clause-too_long g c same =
+pub returns-in_err-print_item-in-Sub-clause-too_long : goal.returns-in_err-print_item-in-Sub-clause-too_long
+returns-in_err-print_item-in-Sub-clause-too_long g c same =
     let p = err_from_is_err_and c.from_residual.result c.from_residual.ensures.1 in
-    let was : c.in_err-open_item-in-Sub.field-0.0 ≡ TooLong = cc (p.1, p.2) in
+    let was : c.in_err-print_item-in-Sub.field-0.0 ≡ TooLong = cc (p.1, p.2) in
     let refused : Refusal → Result (Unit {0}) Refusal = λ r. Err r in
-    let unshared = g.Y.Layout.unshared c.args.y.now in
-    let bytes_of = g.Y.Layout.bytes_of c.args.y.now in
-    let next : IsNext c.loop-next.stack.items (Sub c.in-Sub.item) = search rules in
-    omega (
-      arith,
-      c.in_err-open_item-in-Sub.ensures.too_long (ap refused was),
-      cost_of_next unshared bytes_of c.loop-next.stack.items (Sub c.in-Sub.item) next,
-      c.loop-next.invariant.2,
-      c.loop-next.invariant.6,
-    )
+    omega (arith, c.in_err-print_item-in-Sub.ensures.too_long (ap refused was), c.loop-next.invariant.2, c.loop-next.invariant.6)
+
+pub note_whole-requires-clause-whole : goal.note_whole-requires-clause-whole
+note_whole-requires-clause-whole g c =
+    subst (λ h. EndsAt h c.loop-next.notes.begun.items) (c.len.ensures ∙ c.loop-next.stack.ok.0) (c.is_whole.ensures.whole c.if-is_whole.true)
+
+pub print_item-requires-clause-below : goal.print_item-requires-clause-below
+print_item-requires-clause-below g c =
+    noted-unmet (g.Y.Layout.unshared c.args.y.now) (g.Y.Layout.bytes_of c.args.y.now) c.loop-next.notes c.loop-next.stack.items c.loop-next.text.items c.loop-next.meter.spent c.loop-next.meter.steps
+    c.len.result c.loop-next.invariant.9 (c.len.ensures ∙ c.loop-next.stack.ok.0) (c.is_whole.ensures.unmet c.if-is_whole.false)
 
 -- what is left on the stack
 left : (g : given.Over) → (c : goal.After-take_last g) → c.take_last.new.self.items ≡ take (length c.loop-next.stack.items - 1) c.loop-next.stack.items
@@ -95,39 +96,46 @@ loop-next-preserved g c =
       omega (arith, c.write_text.ensures.limit, c.loop-next.invariant.6),
       omega (arith, c.take_last.ensures.capacity, c.loop-next.invariant.7),
       omega (arith, c.write_text.ensures.room, c.loop-next.invariant.8),
+      noted-moved unshared bytes_of c.loop-next.notes stack c.take_last.new.self.items c.loop-next.text.items c.write_text.new.text.items
+          c.loop-next.meter.spent c.write_text.new.meter.spent c.loop-next.meter.steps c.write_text.new.meter.steps
+          (moves-text unshared bytes_of stack c.take_last.new.self.items part c.loop-next.text.items c.write_text.new.text.items
+          c.loop-next.meter.spent c.write_text.new.meter.spent c.loop-next.meter.steps c.write_text.new.meter.steps next is_text (left g c)
+          c.in_ok-write_text-in_default-next.ensures.ok c.in_ok-write_text-in_default-next.ensures.spent c.in_ok-write_text-in_default-next.ensures.steps c.write_text.ensures.some)
+          (noted-unmet (g.Y.Layout.unshared c.args.y.now) (g.Y.Layout.bytes_of c.args.y.now) c.loop-next.notes c.loop-next.stack.items c.loop-next.text.items c.loop-next.meter.spent c.loop-next.meter.steps
+          c.len.result c.loop-next.invariant.9 (c.len.ensures ∙ c.loop-next.stack.ok.0) (c.is_whole.ensures.unmet c.if-is_whole.false)) c.loop-next.invariant.9,
     )
 
-pub returns-in_err-open_item-in-Sub-clause-paid : goal.returns-in_err-open_item-in-Sub-clause-paid
-returns-in_err-open_item-in-Sub-clause-paid g c = omega (arith, (ap (λ (m : Meter). m.spent) (c.in_err-open_item-in-Sub.ensures.err).1), c.loop-next.invariant.4)
+pub returns-in_err-print_item-in-Sub-clause-paid : goal.returns-in_err-print_item-in-Sub-clause-paid
+returns-in_err-print_item-in-Sub-clause-paid g c = c.print_item.ensures.paid
 
-pub returns-in_err-open_item-in-Sub-clause-stack_paid : goal.returns-in_err-open_item-in-Sub-clause-stack_paid
-returns-in_err-open_item-in-Sub-clause-stack_paid g c = c.open_item.ensures.paid
+pub returns-in_err-print_item-in-Sub-clause-stack_paid : goal.returns-in_err-print_item-in-Sub-clause-stack_paid
+returns-in_err-print_item-in-Sub-clause-stack_paid g c = c.print_item.ensures.stack_paid
 
-pub returns-in_err-open_item-in-Sub-clause-may_come : goal.returns-in_err-open_item-in-Sub-clause-may_come
-returns-in_err-open_item-in-Sub-clause-may_come g c = c.open_item.ensures.may_come
+pub returns-in_err-print_item-in-Sub-clause-may_come : goal.returns-in_err-print_item-in-Sub-clause-may_come
+returns-in_err-print_item-in-Sub-clause-may_come g c = c.print_item.ensures.may_come
 
-pub returns-in_err-open_item-in-Sub-clause-text : goal.returns-in_err-open_item-in-Sub-clause-text
-returns-in_err-open_item-in-Sub-clause-text g c = ap (λ t. c.loop-next.text.items ++ t) c.open_item.ensures.text ∙ c.loop-next.invariant.1
+pub returns-in_err-print_item-in-Sub-clause-text : goal.returns-in_err-print_item-in-Sub-clause-text
+returns-in_err-print_item-in-Sub-clause-text g c = c.print_item.ensures.text ∙ c.loop-next.invariant.1
 
-pub returns-in_err-open_item-in-Sub-clause-cost : goal.returns-in_err-open_item-in-Sub-clause-cost
-returns-in_err-open_item-in-Sub-clause-cost g c = omega (arith, c.open_item.ensures.cost, c.loop-next.invariant.2)
+pub returns-in_err-print_item-in-Sub-clause-cost : goal.returns-in_err-print_item-in-Sub-clause-cost
+returns-in_err-print_item-in-Sub-clause-cost g c = omega (arith, c.print_item.ensures.cost, c.loop-next.invariant.2)
 
-pub returns-in_err-open_item-in-Sub-clause-steps : goal.returns-in_err-open_item-in-Sub-clause-steps
-returns-in_err-open_item-in-Sub-clause-steps g c = omega (arith, c.open_item.ensures.remaining, c.loop-next.invariant.3)
+pub returns-in_err-print_item-in-Sub-clause-steps : goal.returns-in_err-print_item-in-Sub-clause-steps
+returns-in_err-print_item-in-Sub-clause-steps g c = omega (arith, c.print_item.ensures.remaining, c.loop-next.invariant.3)
 
-pub returns-in_err-open_item-in-Sub-clause-limit : goal.returns-in_err-open_item-in-Sub-clause-limit
-returns-in_err-open_item-in-Sub-clause-limit g c = omega (arith, c.open_item.ensures.limit, c.loop-next.invariant.6)
+pub returns-in_err-print_item-in-Sub-clause-limit : goal.returns-in_err-print_item-in-Sub-clause-limit
+returns-in_err-print_item-in-Sub-clause-limit g c = omega (arith, c.print_item.ensures.limit, c.loop-next.invariant.6)
 
-pub returns-in_err-open_item-in-Sub-clause-entry_room : goal.returns-in_err-open_item-in-Sub-clause-entry_room
-returns-in_err-open_item-in-Sub-clause-entry_room g c = omega (arith, c.open_item.ensures.room, c.loop-next.invariant.7)
+pub returns-in_err-print_item-in-Sub-clause-entry_room : goal.returns-in_err-print_item-in-Sub-clause-entry_room
+returns-in_err-print_item-in-Sub-clause-entry_room g c = omega (arith, c.print_item.ensures.entry_room, c.loop-next.invariant.7)
 
-pub returns-in_err-open_item-in-Sub-clause-text_room : goal.returns-in_err-open_item-in-Sub-clause-text_room
-returns-in_err-open_item-in-Sub-clause-text_room g c = c.loop-next.invariant.8
+pub returns-in_err-print_item-in-Sub-clause-text_room : goal.returns-in_err-print_item-in-Sub-clause-text_room
+returns-in_err-print_item-in-Sub-clause-text_room g c = omega (arith, c.print_item.ensures.text_room, c.loop-next.invariant.8)
 
-pub returns-in_err-open_item-in-Sub-clause-own : goal.returns-in_err-open_item-in-Sub-clause-own
-returns-in_err-open_item-in-Sub-clause-own g c =
+pub returns-in_err-print_item-in-Sub-clause-own : goal.returns-in_err-print_item-in-Sub-clause-own
+returns-in_err-print_item-in-Sub-clause-own g c =
     let p = err_from_is_err_and c.from_residual.result c.from_residual.ensures.1 in
-    rw (p.1, p.2) c.in_err-open_item-in-Sub.ensures.own
+    rw (p.1, p.2) c.in_err-print_item-in-Sub.ensures.own
 
 pub returns-in_err-write_text-in_default-next-clause-paid : goal.returns-in_err-write_text-in_default-next-clause-paid
 returns-in_err-write_text-in_default-next-clause-paid g c = c.write_text.ensures.paid
@@ -184,13 +192,14 @@ returns-clause-own g c = tt
 
 pub loop-next-preserved-in-Continue-1 : goal.loop-next-preserved-in-Continue-1
 loop-next-preserved-in-Continue-1 g c = (
-  c.open_item.ensures.may_come,
-  ap (λ t. c.loop-next.text.items ++ t) c.open_item.ensures.text ∙ c.loop-next.invariant.1,
-  omega (arith, c.open_item.ensures.cost, c.loop-next.invariant.2),
-  omega (arith, c.open_item.ensures.remaining, c.loop-next.invariant.3),
-  omega (arith, c.in_ok-open_item-in-Sub.ensures.spent, c.loop-next.invariant.4),
-  c.open_item.ensures.paid,
-  omega (arith, c.open_item.ensures.limit, c.loop-next.invariant.6),
-  omega (arith, c.open_item.ensures.room, c.loop-next.invariant.7),
-  c.loop-next.invariant.8,
+  c.print_item.ensures.may_come,
+  c.print_item.ensures.text ∙ c.loop-next.invariant.1,
+  omega (arith, c.print_item.ensures.cost, c.loop-next.invariant.2),
+  omega (arith, c.print_item.ensures.remaining, c.loop-next.invariant.3),
+  c.print_item.ensures.paid,
+  c.print_item.ensures.stack_paid,
+  omega (arith, c.print_item.ensures.limit, c.loop-next.invariant.6),
+  omega (arith, c.print_item.ensures.entry_room, c.loop-next.invariant.7),
+  omega (arith, c.print_item.ensures.text_room, c.loop-next.invariant.8),
+  c.in_ok-print_item-in-Sub.ensures.noted,
 )

@@ -1,5 +1,6 @@
 use Rattle.std.proofs.Common.{◌≡◌, ◌+◌, ◌-◌, ◌*◌, ◌≤◌, ◌++◌, vec_len, vec_capacity}
 use Rattle.std.specs.List.{All}
+use Rattle.sym_print.specs.Noted.{AreNoted}
 use Rattle.sym_print.specs.Joined.{text_of_stack, cost_of_stack, steps_of_stack}
 use Rattle.sym_print.proofs.entries.print_entries.Given as goal
 
@@ -14,6 +15,7 @@ invariant-loop-next g l =
     × (l.meter.limit ≡ l.fn.meter.limit)
     × (vec_capacity l.fn.stack ≤ vec_capacity l.stack)
     × (vec_capacity l.fn.text ≤ vec_capacity l.text)
+    × AreNoted (g.Y.Layout.unshared l.y) (g.Y.Layout.bytes_of l.y) l.notes l.stack.items l.text.items l.meter.spent l.meter.steps
 
 abbrev pub decreases-loop-next : goal.decreases-loop-next
-decreases-loop-next g l = l.meter.limit - l.meter.spent
+decreases-loop-next g l = 2 * (l.meter.limit - l.meter.spent) + vec_len l.notes.begun

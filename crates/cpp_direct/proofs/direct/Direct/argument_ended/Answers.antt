@@ -9,14 +9,14 @@ use Rattle.cpp_direct.proofs.direct.Direct.argument_ended.Goals as goal
 pub returns-then-byte-eq76 : goal.returns-then-byte-eq76
 returns-then-byte-eq76 g c =
     let p = c.requires.read in
-    argument-passes (symbol_by g.G.Grammar.IS_WIDE g.G.Grammar.IS_BARE c.args.s.now) c.args.self.now _ c.args.from c.args.number c.args.known c.args.is_reference p
+    argument-passes (symbol_by g.G.Grammar.IS_WIDE g.G.Grammar.IS_BARE g.G.Grammar.IS_BRIEF c.args.s.now) c.args.self.now _ c.args.from c.args.number c.args.known c.args.is_reference p
     (popped c.args.self.now.waiting.list.items c.pop-open.new.self.list.items (p.owner ∷ p.rest)
     (opens.Argument c.args.from c.args.number c.args.known) _ refl p.open_is c.pop-open.ensures.rest) refl refl refl
 
 pub next_argument-requires-clause-awaits : goal.next_argument-requires-clause-awaits
 next_argument-requires-clause-awaits g c =
     let p = c.requires.read in
-    argument-awaits (symbol_by g.G.Grammar.IS_WIDE g.G.Grammar.IS_BARE c.args.s.now) c.args.self.now _ c.args.from c.end-to.result c.args.number c.placed.result c.args.known c.with-more.result
+    argument-awaits (symbol_by g.G.Grammar.IS_WIDE g.G.Grammar.IS_BARE g.G.Grammar.IS_BRIEF c.args.s.now) c.args.self.now _ c.args.from c.end-to.result c.args.number c.placed.result c.args.known c.with-more.result
     c.args.is_reference p
     (popped c.args.self.now.waiting.list.items c.pop-open.new.self.list.items (p.owner ∷ p.rest)
     (opens.Argument c.args.from c.args.number c.args.known) _ refl p.open_is c.pop-open.ensures.rest) refl refl refl c.end-to.ensures c.placed.ensures
@@ -25,7 +25,7 @@ next_argument-requires-clause-awaits g c =
 pub close_list-requires-clause-ended : goal.close_list-requires-clause-ended
 close_list-requires-clause-ended g c =
     let p = c.requires.read in
-    let s = symbol_by g.G.Grammar.IS_WIDE g.G.Grammar.IS_BARE c.args.s.now in
+    let s = symbol_by g.G.Grammar.IS_WIDE g.G.Grammar.IS_BARE g.G.Grammar.IS_BRIEF c.args.s.now in
     let w = c.args.self.now in
     argument-closes s w _ c.args.from c.end-to.result c.args.number c.placed.result c.args.known c.with-more.result c.args.is_reference p
     (subst (λ b. StandsAt s.bytes w.at (b ∷ [])) c.if-byte-ne69.false (c.byte_at-byte.ensures (λ e. omega (arith, e, c.if-byte-ne69.false))))

@@ -11,6 +11,6 @@ returns g c =
       | then-is_pointer w ↦ w.checked_add-is ∙ ap (λ b. if b then 2 else 1) (sym w.if-is_pointer.true)
       | else-is_pointer w ↦ w.checked_add-is ∙ ap (λ b. if b then 2 else 1) (sym w.if-is_pointer.false)
     ] in
-    function-begins (symbol_by g.G.Grammar.IS_WIDE g.G.Grammar.IS_BARE c.args.s.now) old _ c.args.is_pointer c.requires.writing c.requires.letters
+    function-begins (symbol_by g.G.Grammar.IS_WIDE g.G.Grammar.IS_BARE g.G.Grammar.IS_BRIEF c.args.s.now) old _ c.args.is_pointer c.requires.writing c.requires.letters
     (c.takes_element.ensures c.if-not-takes_element.false) c.in_ok-push.ensures.items
     (c.in_ok-self.ensures.1 ∙ ap (λ n. old.at + n) size) refl refl

@@ -6,7 +6,7 @@ use Rattle.cpp_direct.proofs.direct.Direct.begin_in_std.Goals as goal
 
 pub unscoped_named-requires-clause-named : goal.unscoped_named-requires-clause-named
 unscoped_named-requires-clause-named g c =
-    let s = symbol_by g.G.Grammar.IS_WIDE g.G.Grammar.IS_BARE c.args.s.now in
+    let s = symbol_by g.G.Grammar.IS_WIDE g.G.Grammar.IS_BARE g.G.Grammar.IS_BRIEF c.args.s.now in
     let read = c.in_ok-takes.ensures in
     std-operator-unscoped s c.args.self.now c.push.new.self c.operator_name.new.self c.in_ok-self.field-0 c.in_ok-self-2.field-0 read.0 read.1
     c.in_ok-takes.takes c.requires.awaits c.requires.letter c.in_ok-self.ensures.1
@@ -15,7 +15,7 @@ unscoped_named-requires-clause-named g c =
 
 pub unscoped_named-requires-2-clause-named : goal.unscoped_named-requires-2-clause-named
 unscoped_named-requires-2-clause-named g c =
-    let s = symbol_by g.G.Grammar.IS_WIDE g.G.Grammar.IS_BARE c.args.s.now in
+    let s = symbol_by g.G.Grammar.IS_WIDE g.G.Grammar.IS_BARE g.G.Grammar.IS_BRIEF c.args.s.now in
     let read = c.in_ok-name.ensures in
     std-source-unscoped s c.args.self.now c.push.new.self c.name.new.self c.in_ok-self.field-0 c.in_ok-self-2.field-0 read.0
     c.requires.awaits c.requires.letter c.in_ok-self.ensures.1

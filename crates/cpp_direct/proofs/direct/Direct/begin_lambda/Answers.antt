@@ -8,7 +8,7 @@ use Rattle.cpp_direct.proofs.direct.Direct.begin_lambda.Goals as goal
 
 pub returns : goal.returns
 returns g c =
-    let s = symbol_by g.G.Grammar.IS_WIDE g.G.Grammar.IS_BARE c.args.s.now in
+    let s = symbol_by g.G.Grammar.IS_WIDE g.G.Grammar.IS_BARE g.G.Grammar.IS_BRIEF c.args.s.now in
     let w = c.args.self.now in
     let one = c.in_ok-push.ensures in
     lambda-begun s w _ c.args.from c.requires.awaits (c.are_numbers_short.ensures c.if-not-are_numbers_short.false)

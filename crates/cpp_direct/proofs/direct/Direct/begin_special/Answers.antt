@@ -8,7 +8,7 @@ use Rattle.cpp_direct.proofs.direct.Direct.begin_special.Goals as goal
 
 pub returns : goal.returns
 returns g c =
-    let s = symbol_by g.G.Grammar.IS_WIDE g.G.Grammar.IS_BARE c.args.s.now in
+    let s = symbol_by g.G.Grammar.IS_WIDE g.G.Grammar.IS_BARE g.G.Grammar.IS_BRIEF c.args.s.now in
     let letter = c.byte_at.result in
     let text_is = c.special_text-text.ensures in
     let fresh = c.requires.fresh in

@@ -8,21 +8,21 @@ pub repeat-requires-clause-to : goal.repeat-requires-clause-to
 repeat-requires-clause-to g c =
     let is = c.in_ok-argument.ensures.is in
     let known = c.in_ok-argument.ensures.ordered in
-    argument-within (symbol_by g.G.Grammar.IS_WIDE g.G.Grammar.IS_BARE c.args.s.now) _ c.in_ok-named.named c.args.candidate.number c.in_ok-argument.argument c.requires.again.awaits
+    argument-within (symbol_by g.G.Grammar.IS_WIDE g.G.Grammar.IS_BARE g.G.Grammar.IS_BRIEF c.args.s.now) _ c.in_ok-named.named c.args.candidate.number c.in_ok-argument.argument c.requires.again.awaits
     c.in_ok-named.ensures (is ∙ c.at.ensures (subst IsKnown is known)) known
 
 pub repeat-requires-2-clause-from : goal.repeat-requires-2-clause-from
 repeat-requires-2-clause-from g c =
-    (again-inside (symbol_by g.G.Grammar.IS_WIDE g.G.Grammar.IS_BARE c.args.s.now) c.args.self.now c.repeat.new.self c.args.candidate _ c.requires.again c.in_ok-repeat.ensures).0
+    (again-inside (symbol_by g.G.Grammar.IS_WIDE g.G.Grammar.IS_BARE g.G.Grammar.IS_BRIEF c.args.s.now) c.args.self.now c.repeat.new.self c.args.candidate _ c.requires.again c.in_ok-repeat.ensures).0
 
 pub repeat-requires-2-clause-to : goal.repeat-requires-2-clause-to
 repeat-requires-2-clause-to g c =
-    (again-inside (symbol_by g.G.Grammar.IS_WIDE g.G.Grammar.IS_BARE c.args.s.now) c.args.self.now c.repeat.new.self c.args.candidate _ c.requires.again c.in_ok-repeat.ensures).1
+    (again-inside (symbol_by g.G.Grammar.IS_WIDE g.G.Grammar.IS_BARE g.G.Grammar.IS_BRIEF c.args.s.now) c.args.self.now c.repeat.new.self c.args.candidate _ c.requires.again c.in_ok-repeat.ensures).1
 
 pub returns : goal.returns
 returns g c =
     let is = c.in_ok-argument.ensures.is in
     let known = c.in_ok-argument.ensures.ordered in
-    dependent-again (symbol_by g.G.Grammar.IS_WIDE g.G.Grammar.IS_BARE c.args.s.now) c.args.self.now c.repeat.new.self c.repeat-2.new.self c.args.candidate c.in_ok-named.named c.in_ok-argument.argument
+    dependent-again (symbol_by g.G.Grammar.IS_WIDE g.G.Grammar.IS_BARE g.G.Grammar.IS_BRIEF c.args.s.now) c.args.self.now c.repeat.new.self c.repeat-2.new.self c.args.candidate c.in_ok-named.named c.in_ok-argument.argument
     c.end-begins.result c.requires.again c.in_ok-named.ensures c.if-candidate-eq0.false c.if-candidate-named.false (is ∙ c.at.ensures (subst IsKnown is known))
     (known, c.if-argument.false, c.if-argument-2.false) c.in_ok-repeat.ensures c.end-begins.ensures c.in_ok-repeat-2.ensures

@@ -9,14 +9,14 @@ use Rattle.cpp_direct.proofs.direct.Direct.element_ended.Goals as goal
 pub returns-then-byte-eq76 : goal.returns-then-byte-eq76
 returns-then-byte-eq76 g c =
     let p = c.requires.read in
-    element-passes (symbol_by g.G.Grammar.IS_WIDE g.G.Grammar.IS_BARE c.args.s.now) c.args.self.now _ c.args.from c.args.number c.args.known c.args.is_reference p
+    element-passes (symbol_by g.G.Grammar.IS_WIDE g.G.Grammar.IS_BARE g.G.Grammar.IS_BRIEF c.args.s.now) c.args.self.now _ c.args.from c.args.number c.args.known c.args.is_reference p
     (popped c.args.self.now.waiting.list.items c.pop-element.new.self.list.items (opens.Pack ∷ p.owner ∷ p.rest)
     (opens.Element c.args.from c.args.number c.args.known) _ refl p.open_is c.pop-element.ensures.rest) refl refl refl
 
 pub next_element-requires-clause-awaits : goal.next_element-requires-clause-awaits
 next_element-requires-clause-awaits g c =
     let p = c.requires.read in
-    pack-element-awaits (symbol_by g.G.Grammar.IS_WIDE g.G.Grammar.IS_BARE c.args.s.now) c.args.self.now _ c.args.from c.end-to.result c.args.number c.placed.result c.args.known c.with-more.result
+    pack-element-awaits (symbol_by g.G.Grammar.IS_WIDE g.G.Grammar.IS_BARE g.G.Grammar.IS_BRIEF c.args.s.now) c.args.self.now _ c.args.from c.end-to.result c.args.number c.placed.result c.args.known c.with-more.result
     c.args.is_reference p
     (popped c.args.self.now.waiting.list.items c.pop-element.new.self.list.items (opens.Pack ∷ p.owner ∷ p.rest)
     (opens.Element c.args.from c.args.number c.args.known) _ refl p.open_is c.pop-element.ensures.rest) refl refl refl c.end-to.ensures c.placed.ensures
@@ -25,14 +25,14 @@ next_element-requires-clause-awaits g c =
 pub returns-then-byte_at-ne69 : goal.returns-then-byte_at-ne69
 returns-then-byte_at-ne69 g c =
     let p = c.requires.read in
-    element-passes (symbol_by g.G.Grammar.IS_WIDE g.G.Grammar.IS_BARE c.args.s.now) c.args.self.now _ c.args.from c.args.number c.args.known c.args.is_reference p
+    element-passes (symbol_by g.G.Grammar.IS_WIDE g.G.Grammar.IS_BARE g.G.Grammar.IS_BRIEF c.args.s.now) c.args.self.now _ c.args.from c.args.number c.args.known c.args.is_reference p
     (popped c.args.self.now.waiting.list.items c.pop-element.new.self.list.items (opens.Pack ∷ p.owner ∷ p.rest)
     (opens.Element c.args.from c.args.number c.args.known) _ refl p.open_is c.pop-element.ensures.rest) refl refl refl
 
 pub close_list-requires-clause-ended : goal.close_list-requires-clause-ended
 close_list-requires-clause-ended g c =
     let p = c.requires.read in
-    let s = symbol_by g.G.Grammar.IS_WIDE g.G.Grammar.IS_BARE c.args.s.now in
+    let s = symbol_by g.G.Grammar.IS_WIDE g.G.Grammar.IS_BARE g.G.Grammar.IS_BRIEF c.args.s.now in
     let w = c.args.self.now in
     let left = c.pop-element.new.self.list.items in
     pack-closes s w _ c.args.from c.end-to.result c.args.number c.in_ok-elements.elements c.placed.result c.args.known c.with-more.result c.args.is_reference p

@@ -9,7 +9,7 @@ use Rattle.cpp_direct.proofs.direct.Direct.empty_pack.Goals as goal
 
 pub close_list-requires-clause-ended : goal.close_list-requires-clause-ended
 close_list-requires-clause-ended g c =
-    let s = symbol_by g.G.Grammar.IS_WIDE g.G.Grammar.IS_BARE c.args.s.now in
+    let s = symbol_by g.G.Grammar.IS_WIDE g.G.Grammar.IS_BARE g.G.Grammar.IS_BRIEF c.args.s.now in
     let w = c.args.self.now in
     let ended = subst (λ b. StandsAt s.bytes c.in_ok-self.field-0 (b ∷ [])) c.if-byte_at-ne69.false
     (c.byte_at.ensures (λ e. omega (arith, e, c.if-byte_at-ne69.false))) in

@@ -2,6 +2,7 @@ use Rattle.cpp_grammar.specs.Parts.{source_text}
 use Rattle.cpp_grammar.specs.Term.{source}
 use Rattle.std.proofs.Common.{false}
 use Rattle.cpp_direct.specs.Symbol.{symbol_by}
+use Rattle.cpp_direct.proofs.Unmarked.{name-unmarked}
 use Rattle.cpp_direct.proofs.FoundTokens.{some-by}
 use Rattle.cpp_direct.proofs.MovesOfLocals.{source-name-piece}
 use Rattle.cpp_direct.proofs.PrintedNests.{source-opening, source-piece}
@@ -14,7 +15,7 @@ returns g c =
     (λ r. (
       source false r.0,
       source_text r.0,
-      source-name-piece (symbol_by g.G.Grammar.IS_WIDE g.G.Grammar.IS_BARE c.args.s.now) c.args.self.now.at r.0 c.name.new.self.at r.1,
-      piece-prints (source false r.0) (source_text r.0) (source-piece false r.0 r.2) (source-opening false r.0),
+      source-name-piece (symbol_by g.G.Grammar.IS_WIDE g.G.Grammar.IS_BARE g.G.Grammar.IS_BRIEF c.args.s.now) c.args.self.now.at r.0 c.name.new.self.at r.1,
+      piece-prints (source false r.0) (source_text r.0) (source-piece false r.0 r.2 (name-unmarked c.args.s.now c.args.self.now.at r.0 c.name.new.self.at r.1)) (source-opening false r.0),
       r.3,
     ))

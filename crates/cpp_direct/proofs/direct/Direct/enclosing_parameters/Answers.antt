@@ -6,7 +6,7 @@ use Rattle.cpp_direct.proofs.direct.Direct.enclosing_parameters.Goals as goal
 
 pub enclosed-requires-clause-read : goal.enclosed-requires-clause-read
 enclosed-requires-clause-read g c =
-    let s = symbol_by g.G.Grammar.IS_WIDE g.G.Grammar.IS_BARE c.args.s.now in
+    let s = symbol_by g.G.Grammar.IS_WIDE g.G.Grammar.IS_BARE g.G.Grammar.IS_BRIEF c.args.s.now in
     let w = c.args.self.now in
     void-unwritten s w _ c.args.mark c.args.from c.args.argument c.requires.awaits
     (there s.bytes w.at c.byte_at.result 118 c.if-byte_at-eq118.true (omega arith) c.byte_at.ensures)
@@ -14,7 +14,7 @@ enclosed-requires-clause-read g c =
 
 pub enclosing_ended-requires-clause-read : goal.enclosing_ended-requires-clause-read
 enclosing_ended-requires-clause-read g c =
-    let s = symbol_by g.G.Grammar.IS_WIDE g.G.Grammar.IS_BARE c.args.s.now in
+    let s = symbol_by g.G.Grammar.IS_WIDE g.G.Grammar.IS_BARE g.G.Grammar.IS_BRIEF c.args.s.now in
     let w = c.args.self.now in
     void-within s w _ c.push_pair.new.self c.args.mark c.args.from c.args.argument c.requires.awaits
     (there s.bytes w.at c.byte_at.result 118 c.if-byte_at-eq118.true (omega arith) c.byte_at.ensures)
@@ -22,5 +22,5 @@ enclosing_ended-requires-clause-read g c =
 
 pub returns : goal.returns
 returns g c =
-    first-within (symbol_by g.G.Grammar.IS_WIDE g.G.Grammar.IS_BARE c.args.s.now) c.args.self.now c.push_byte.new.self _ c.args.mark c.args.from c.end-to.result c.args.argument c.requires.awaits c.in_ok-push_byte.ensures
+    first-within (symbol_by g.G.Grammar.IS_WIDE g.G.Grammar.IS_BARE g.G.Grammar.IS_BRIEF c.args.s.now) c.args.self.now c.push_byte.new.self _ c.args.mark c.args.from c.end-to.result c.args.argument c.requires.awaits c.in_ok-push_byte.ensures
     refl refl refl c.in_ok-push.ensures.items c.end-to.ensures

@@ -5,4 +5,4 @@ use Rattle.cpp_direct.proofs.direct.Direct.encoded.Goals as goal
 
 pub finish-requires : goal.finish-requires
 finish-requires g c =
-    symbol-ended (symbol_by g.G.Grammar.IS_WIDE g.G.Grammar.IS_BARE c.args.s.now) c.args.self.now c.requires.ended (sym c.is_local.ensures ∙ c.if-is_local.false)
+    symbol-ended (symbol_by g.G.Grammar.IS_WIDE g.G.Grammar.IS_BARE g.G.Grammar.IS_BRIEF c.args.s.now) c.args.self.now c.requires.ended (sym c.is_local.ensures ∙ c.if-is_local.false)

@@ -6,5 +6,5 @@ pub finish-requires : goal.finish-requires
 finish-requires g c =
     let read = c.in_ok-name.ensures in
     let told = c.in_ok-discriminator.ensures in
-    entity-ended (symbol_by g.G.Grammar.IS_WIDE g.G.Grammar.IS_BARE c.args.s.now) c.args.is_internal c.args.self.now c.push_pair.new.self c.name.new.self c.discriminator.new.self c.requires.awaits
+    entity-ended (symbol_by g.G.Grammar.IS_WIDE g.G.Grammar.IS_BARE g.G.Grammar.IS_BRIEF c.args.s.now) c.args.is_internal c.args.self.now c.push_pair.new.self c.name.new.self c.discriminator.new.self c.requires.awaits
     c.in_ok-push_pair.ensures read.0 read.1 read.2 read.3 told.0 told.1 told.2

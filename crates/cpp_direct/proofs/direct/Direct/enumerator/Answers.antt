@@ -20,7 +20,7 @@ returns g c =
       at = old.at;
       rounds = old.rounds;
     } in
-    enumerator-read (symbol_by g.G.Grammar.IS_WIDE g.G.Grammar.IS_BARE c.args.s.now) old w c.push.new.self c.number.new.self c.literal_ended.new.self a
+    enumerator-read (symbol_by g.G.Grammar.IS_WIDE g.G.Grammar.IS_BARE g.G.Grammar.IS_BRIEF c.args.s.now) old w c.push.new.self c.number.new.self c.literal_ended.new.self a
     (record {
       int = subst (λ l. ends_with nat_eq l (codes "(int") ≡ false) c.as_slice.ensures (sym c.ends_with.ensures.value ∙ c.if-ends_with.false);
       blank_int = subst (λ l. ends_with nat_eq l (codes " int") ≡ false) c.as_slice-2.ensures (sym c.ends_with-2.ensures.value ∙ c.if-ends_with-2.false);

@@ -8,7 +8,7 @@ use Rattle.cpp_direct.proofs.direct.Direct.first_parameter.Goals as goal
 
 pub function_ended-requires-clause-ended : goal.function_ended-requires-clause-ended
 function_ended-requires-clause-ended g c =
-    let s = symbol_by g.G.Grammar.IS_WIDE g.G.Grammar.IS_BARE c.args.s.now in
+    let s = symbol_by g.G.Grammar.IS_WIDE g.G.Grammar.IS_BARE g.G.Grammar.IS_BRIEF c.args.s.now in
     let w = c.args.self.now in
     void-closed s w _ c.args.is_pointer c.requires.awaits
     (stands-join s.bytes w.at (118 ∷ []) (69 ∷ []) (there s.bytes w.at c.byte_at.result 118 c.if-byte_at-eq118.true (omega arith) c.byte_at.ensures)

@@ -5,12 +5,12 @@ use Rattle.cpp_direct.proofs.Listed.{first-expected, type-expected}
 use Rattle.cpp_direct.proofs.direct.Direct.first_type.Goals as goal
 
 pub returns-then-not-is_named : goal.returns-then-not-is_named
-returns-then-not-is_named g c = type-expected (symbol_by g.G.Grammar.IS_WIDE g.G.Grammar.IS_BARE c.args.s.now) _ (first-expected (symbol_by g.G.Grammar.IS_WIDE g.G.Grammar.IS_BARE c.args.s.now) c.args.self.now _ true c.requires.writing refl refl)
+returns-then-not-is_named g c = type-expected (symbol_by g.G.Grammar.IS_WIDE g.G.Grammar.IS_BARE g.G.Grammar.IS_BRIEF c.args.s.now) _ (first-expected (symbol_by g.G.Grammar.IS_WIDE g.G.Grammar.IS_BARE g.G.Grammar.IS_BRIEF c.args.s.now) c.args.self.now _ true c.requires.writing refl refl)
 
 pub returns : goal.returns
 returns g c =
-    argument-begins (symbol_by g.G.Grammar.IS_WIDE g.G.Grammar.IS_BARE c.args.s.now) c.args.self.now _ c.end-from.result c.requires.writing (c.is_named.ensures c.if-not-is_named.false)
+    argument-begins (symbol_by g.G.Grammar.IS_WIDE g.G.Grammar.IS_BARE g.G.Grammar.IS_BRIEF c.args.s.now) c.args.self.now _ c.end-from.result c.requires.writing (c.is_named.ensures c.if-not-is_named.false)
     c.end-from.ensures c.in_ok-push.ensures.items refl refl refl
 
 pub returns-then-is_element_at : goal.returns-then-is_element_at
-returns-then-is_element_at g c = type-expected (symbol_by g.G.Grammar.IS_WIDE g.G.Grammar.IS_BARE c.args.s.now) _ (first-expected (symbol_by g.G.Grammar.IS_WIDE g.G.Grammar.IS_BARE c.args.s.now) c.args.self.now _ true c.requires.writing refl refl)
+returns-then-is_element_at g c = type-expected (symbol_by g.G.Grammar.IS_WIDE g.G.Grammar.IS_BARE g.G.Grammar.IS_BRIEF c.args.s.now) _ (first-expected (symbol_by g.G.Grammar.IS_WIDE g.G.Grammar.IS_BARE g.G.Grammar.IS_BRIEF c.args.s.now) c.args.self.now _ true c.requires.writing refl refl)

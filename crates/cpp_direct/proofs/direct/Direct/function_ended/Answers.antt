@@ -5,7 +5,7 @@ use Rattle.cpp_direct.proofs.direct.Direct.function_ended.Goals as goal
 
 pub pass_element-requires-clause-passed : goal.pass_element-requires-clause-passed
 pass_element-requires-clause-passed g c =
-    let s = symbol_by g.G.Grammar.IS_WIDE g.G.Grammar.IS_BARE c.args.s.now in
+    let s = symbol_by g.G.Grammar.IS_WIDE g.G.Grammar.IS_BARE g.G.Grammar.IS_BRIEF c.args.s.now in
     let w = c.args.self.now in
     let p = c.requires.ended in
     function-handed s w _ c.args.is_pointer p

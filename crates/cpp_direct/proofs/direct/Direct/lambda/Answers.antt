@@ -9,7 +9,7 @@ use Rattle.cpp_direct.proofs.direct.Direct.lambda.Goals as goal
 
 pub returns : goal.returns
 returns g c =
-    let s = symbol_by g.G.Grammar.IS_WIDE g.G.Grammar.IS_BARE c.args.s.now in
+    let s = symbol_by g.G.Grammar.IS_WIDE g.G.Grammar.IS_BARE g.G.Grammar.IS_BRIEF c.args.s.now in
     let old = c.args.self.now in
     some-by c.lambda_number.result c.lambda_number.ensures
     (λ r. lambda-told s old c.lambda_number.new.self r.0 r.1

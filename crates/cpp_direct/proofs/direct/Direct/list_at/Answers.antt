@@ -22,37 +22,37 @@ empty_pack-requires-clause-letters g c =
 pub literal-requires-clause-awaits : goal.literal-requires-clause-awaits
 literal-requires-clause-awaits g c = elim c.if-not-is_first.branch [
   | then-not-is_first+in_ok-push_pair w ↦
-      another-expected (symbol_by g.G.Grammar.IS_WIDE g.G.Grammar.IS_BARE c.args.s.now) c.args.self.now w.push_pair.new.self c.if-not-is_first.self c.args.is_first c.requires.writing w.if-not-is_first.true
+      another-expected (symbol_by g.G.Grammar.IS_WIDE g.G.Grammar.IS_BARE g.G.Grammar.IS_BRIEF c.args.s.now) c.args.self.now w.push_pair.new.self c.if-not-is_first.self c.args.is_first c.requires.writing w.if-not-is_first.true
       w.in_ok-push_pair.ensures w.self-is
   | else-not-is_first w ↦
-      first-expected (symbol_by g.G.Grammar.IS_WIDE g.G.Grammar.IS_BARE c.args.s.now) c.args.self.now c.if-not-is_first.self c.args.is_first c.requires.writing w.if-not-is_first.false w.self-is
+      first-expected (symbol_by g.G.Grammar.IS_WIDE g.G.Grammar.IS_BARE g.G.Grammar.IS_BRIEF c.args.s.now) c.args.self.now c.if-not-is_first.self c.args.is_first c.requires.writing w.if-not-is_first.false w.self-is
 ]
 
 pub begin_pack-requires-clause-awaits : goal.begin_pack-requires-clause-awaits
 begin_pack-requires-clause-awaits g c = elim c.if-not-is_first.branch [
   | then-not-is_first+in_ok-push_pair w ↦
-      another-expected (symbol_by g.G.Grammar.IS_WIDE g.G.Grammar.IS_BARE c.args.s.now) c.args.self.now w.push_pair.new.self c.if-not-is_first.self c.args.is_first c.requires.writing w.if-not-is_first.true
+      another-expected (symbol_by g.G.Grammar.IS_WIDE g.G.Grammar.IS_BARE g.G.Grammar.IS_BRIEF c.args.s.now) c.args.self.now w.push_pair.new.self c.if-not-is_first.self c.args.is_first c.requires.writing w.if-not-is_first.true
       w.in_ok-push_pair.ensures w.self-is
   | else-not-is_first w ↦
-      first-expected (symbol_by g.G.Grammar.IS_WIDE g.G.Grammar.IS_BARE c.args.s.now) c.args.self.now c.if-not-is_first.self c.args.is_first c.requires.writing w.if-not-is_first.false w.self-is
+      first-expected (symbol_by g.G.Grammar.IS_WIDE g.G.Grammar.IS_BARE g.G.Grammar.IS_BRIEF c.args.s.now) c.args.self.now c.if-not-is_first.self c.args.is_first c.requires.writing w.if-not-is_first.false w.self-is
 ]
 
 pub returns-else-is_first-2 : goal.returns-else-is_first-2
-returns-else-is_first-2 g c = type-expected (symbol_by g.G.Grammar.IS_WIDE g.G.Grammar.IS_BARE c.args.s.now) c.if-not-is_first.self (elim c.if-not-is_first.branch [
+returns-else-is_first-2 g c = type-expected (symbol_by g.G.Grammar.IS_WIDE g.G.Grammar.IS_BARE g.G.Grammar.IS_BRIEF c.args.s.now) c.if-not-is_first.self (elim c.if-not-is_first.branch [
   | then-not-is_first+in_ok-push_pair w ↦
-      another-expected (symbol_by g.G.Grammar.IS_WIDE g.G.Grammar.IS_BARE c.args.s.now) c.args.self.now w.push_pair.new.self c.if-not-is_first.self c.args.is_first c.requires.writing w.if-not-is_first.true
+      another-expected (symbol_by g.G.Grammar.IS_WIDE g.G.Grammar.IS_BARE g.G.Grammar.IS_BRIEF c.args.s.now) c.args.self.now w.push_pair.new.self c.if-not-is_first.self c.args.is_first c.requires.writing w.if-not-is_first.true
       w.in_ok-push_pair.ensures w.self-is
   | else-not-is_first w ↦
-      first-expected (symbol_by g.G.Grammar.IS_WIDE g.G.Grammar.IS_BARE c.args.s.now) c.args.self.now c.if-not-is_first.self c.args.is_first c.requires.writing w.if-not-is_first.false w.self-is
+      first-expected (symbol_by g.G.Grammar.IS_WIDE g.G.Grammar.IS_BARE g.G.Grammar.IS_BRIEF c.args.s.now) c.args.self.now c.if-not-is_first.self c.args.is_first c.requires.writing w.if-not-is_first.false w.self-is
 ])
 
 pub first_type-requires-clause-writing : goal.first_type-requires-clause-writing
 first_type-requires-clause-writing g c = elim c.if-not-is_first.branch [
   | then-not-is_first+in_ok-push_pair w ↦ absurd (false≢true (sym w.if-not-is_first.true ∙ c.if-is_first-2.true))
   | else-not-is_first w ↦
-      subst (λ d. IsWriting (symbol_by g.G.Grammar.IS_WIDE g.G.Grammar.IS_BARE c.args.s.now) d (steps.List true)) (sym w.self-is)
-      (subst (λ f. IsWriting (symbol_by g.G.Grammar.IS_WIDE g.G.Grammar.IS_BARE c.args.s.now) c.args.self.now (steps.List f)) c.if-is_first-2.true c.requires.writing)
+      subst (λ d. IsWriting (symbol_by g.G.Grammar.IS_WIDE g.G.Grammar.IS_BARE g.G.Grammar.IS_BRIEF c.args.s.now) d (steps.List true)) (sym w.self-is)
+      (subst (λ f. IsWriting (symbol_by g.G.Grammar.IS_WIDE g.G.Grammar.IS_BARE g.G.Grammar.IS_BRIEF c.args.s.now) c.args.self.now (steps.List f)) c.if-is_first-2.true c.requires.writing)
 ]
 
 pub first_pack-requires-clause-writing : goal.first_pack-requires-clause-writing
-first_pack-requires-clause-writing g c = subst (λ f. IsWriting (symbol_by g.G.Grammar.IS_WIDE g.G.Grammar.IS_BARE c.args.s.now) c.args.self.now (steps.List f)) c.if-is_first.true c.requires.writing
+first_pack-requires-clause-writing g c = subst (λ f. IsWriting (symbol_by g.G.Grammar.IS_WIDE g.G.Grammar.IS_BARE g.G.Grammar.IS_BRIEF c.args.s.now) c.args.self.now (steps.List f)) c.if-is_first.true c.requires.writing

@@ -12,8 +12,8 @@ use Rattle.cpp_direct.proofs.direct.Direct.list_ended.Goals as goal
 
 pub close_list-requires-clause-ended : goal.close_list-requires-clause-ended
 close_list-requires-clause-ended g c =
-    subst (λ n. IsListEnded (symbol_by g.G.Grammar.IS_WIDE g.G.Grammar.IS_BARE c.args.s.now) (record c.args.self.now { at = n }) nowhere) (sym c.in_ok-self.ensures.1)
-    (list-ends (symbol_by g.G.Grammar.IS_WIDE g.G.Grammar.IS_BARE c.args.s.now) c.args.self.now c.args.is_first c.in_ok-last.field-0.now c.requires.writing c.requires.letter
+    subst (λ n. IsListEnded (symbol_by g.G.Grammar.IS_WIDE g.G.Grammar.IS_BARE g.G.Grammar.IS_BRIEF c.args.s.now) (record c.args.self.now { at = n }) nowhere) (sym c.in_ok-self.ensures.1)
+    (list-ends (symbol_by g.G.Grammar.IS_WIDE g.G.Grammar.IS_BARE g.G.Grammar.IS_BRIEF c.args.s.now) c.args.self.now c.args.is_first c.in_ok-last.field-0.now c.requires.writing c.requires.letter
     (waits-last _ _ _ _ c.as_slice.ensures c.in_ok-last.ensures.value refl) c.in_default.not-Pack)
 
 pub returns-else-is_first : goal.returns-else-is_first
@@ -28,6 +28,6 @@ returns-else-is_first g c =
       at = c.in_ok-self.field-0;
       rounds = old.rounds;
     } in
-    pack-ends (symbol_by g.G.Grammar.IS_WIDE g.G.Grammar.IS_BARE c.args.s.now) old w (subst (λ f. IsWriting (symbol_by g.G.Grammar.IS_WIDE g.G.Grammar.IS_BARE c.args.s.now) old (steps.List f)) c.if-is_first.false c.requires.writing) c.requires.letter
+    pack-ends (symbol_by g.G.Grammar.IS_WIDE g.G.Grammar.IS_BARE g.G.Grammar.IS_BRIEF c.args.s.now) old w (subst (λ f. IsWriting (symbol_by g.G.Grammar.IS_WIDE g.G.Grammar.IS_BARE g.G.Grammar.IS_BRIEF c.args.s.now) old (steps.List f)) c.if-is_first.false c.requires.writing) c.requires.letter
     (waits-last _ _ _ _ c.as_slice.ensures c.in_ok-last.ensures.value c.in-Pack.is) refl refl c.in_ok-self.ensures.1
     (λ opened is. popped old.waiting.list.items c.pop-open.new.self.list.items opened opens.Pack _ refl is c.pop-open.ensures.rest)

@@ -7,7 +7,7 @@ use Rattle.cpp_direct.proofs.direct.Direct.nest_in_std.Goals as goal
 
 pub nest_named-requires-clause-named : goal.nest_named-requires-clause-named
 nest_named-requires-clause-named g c =
-    let s = symbol_by g.G.Grammar.IS_WIDE g.G.Grammar.IS_BARE c.args.s.now in
+    let s = symbol_by g.G.Grammar.IS_WIDE g.G.Grammar.IS_BARE g.G.Grammar.IS_BRIEF c.args.s.now in
     let old = c.args.self.now in
     let a = c.requires.awaits in
     let wrote = c.in_ok-push.ensures in

@@ -4,14 +4,14 @@ use Rattle.cpp_direct.proofs.Nesting.{named-goes-on, named-opens, byte-there, op
 use Rattle.cpp_direct.proofs.direct.Direct.nest_tagged.Goals as goal
 
 pub returns-then-byte_at-ne73 : goal.returns-then-byte_at-ne73
-returns-then-byte_at-ne73 g c = named-goes-on (symbol_by g.G.Grammar.IS_WIDE g.G.Grammar.IS_BARE c.args.s.now) c.args.self.now c.requires
+returns-then-byte_at-ne73 g c = named-goes-on (symbol_by g.G.Grammar.IS_WIDE g.G.Grammar.IS_BARE g.G.Grammar.IS_BRIEF c.args.s.now) c.args.self.now c.requires
 
 pub returns : goal.returns
 returns g c =
     let added = c.in_ok-add_candidate.ensures in
     let opened = c.open_arguments.ensures in
-    opened-by (symbol_by g.G.Grammar.IS_WIDE g.G.Grammar.IS_BARE c.args.s.now) c.open_arguments.result c.add_candidate.new.self c.open_arguments.new.self (opens.NestArguments c.add_candidate.new.self.nest)
+    opened-by (symbol_by g.G.Grammar.IS_WIDE g.G.Grammar.IS_BARE g.G.Grammar.IS_BRIEF c.args.s.now) c.open_arguments.result c.add_candidate.new.self c.open_arguments.new.self (opens.NestArguments c.add_candidate.new.self.nest)
     opened.step opened.«open» opened.at opened.text opened.candidates
-    (named-opens (symbol_by g.G.Grammar.IS_WIDE g.G.Grammar.IS_BARE c.args.s.now) c.args.self.now c.add_candidate.new.self c.open_arguments.new.self c.requires
+    (named-opens (symbol_by g.G.Grammar.IS_WIDE g.G.Grammar.IS_BARE g.G.Grammar.IS_BRIEF c.args.s.now) c.args.self.now c.add_candidate.new.self c.open_arguments.new.self c.requires
     (byte-there c.args.s.now c.args.self.now.at c.byte_at.result 73 c.if-byte_at-ne73.false (λ e. cc e) c.byte_at.ensures)
     (record { candidates = added.candidates; text = added.text; waiting = added.«open»; nest = added.nest; at = added.at }))

@@ -25,19 +25,19 @@ nest_in_std-requires-clause-awaits g c =
 pub repeat-requires-clause-from : goal.repeat-requires-clause-from
 repeat-requires-clause-from g c =
     let is = c.in_ok-candidate.ensures.is in
-    (candidate-text (symbol_by g.G.Grammar.IS_WIDE g.G.Grammar.IS_BARE c.args.s.now) c.args.self.now c.args.purpose c.requires.awaits (counted_value Seq36 is.0) c.in_ok-candidate.candidate
+    (candidate-text (symbol_by g.G.Grammar.IS_WIDE g.G.Grammar.IS_BARE g.G.Grammar.IS_BRIEF c.args.s.now) c.args.self.now c.args.purpose c.requires.awaits (counted_value Seq36 is.0) c.in_ok-candidate.candidate
     c.in_ok-candidate.ensures.ordered is.2).0
 
 pub repeat-requires-clause-to : goal.repeat-requires-clause-to
 repeat-requires-clause-to g c =
     let is = c.in_ok-candidate.ensures.is in
     subst (λ l. c.in_ok-candidate.candidate.to ≤ length l) (sym (c.in_ok-candidate.ensures.same.text ∙ append-nil c.args.self.now.text.list.items))
-    (candidate-text (symbol_by g.G.Grammar.IS_WIDE g.G.Grammar.IS_BARE c.args.s.now) c.args.self.now c.args.purpose c.requires.awaits (counted_value Seq36 is.0) c.in_ok-candidate.candidate
+    (candidate-text (symbol_by g.G.Grammar.IS_WIDE g.G.Grammar.IS_BARE g.G.Grammar.IS_BRIEF c.args.s.now) c.args.self.now c.args.purpose c.requires.awaits (counted_value Seq36 is.0) c.in_ok-candidate.candidate
     c.in_ok-candidate.ensures.ordered is.2).1
 
 pub nest_known-requires : goal.nest_known-requires
 nest_known-requires g c =
-    let s = symbol_by g.G.Grammar.IS_WIDE g.G.Grammar.IS_BARE c.args.s.now in
+    let s = symbol_by g.G.Grammar.IS_WIDE g.G.Grammar.IS_BARE g.G.Grammar.IS_BRIEF c.args.s.now in
     let old = c.args.self.now in
     let k = c.in_ok-candidate.candidate in
     let is = c.in_ok-candidate.ensures.is in
@@ -56,8 +56,8 @@ nest_known-requires-2 g c =
     let letter = c.byte_at-letter.result in
     let wrote = c.in_ok-push.ensures in
     let text_is = c.abbreviation_text-text.ensures in
-    subst (λ n. IsNestKnown (symbol_by g.G.Grammar.IS_WIDE g.G.Grammar.IS_BARE c.args.s.now) (record c.push.new.self { nest = n })) (sym c.listed_nest-self-2.ensures)
-    (abbreviation-begins (symbol_by g.G.Grammar.IS_WIDE g.G.Grammar.IS_BARE c.args.s.now) old c.push.new.self c.args.purpose letter c.requires.awaits c.requires.letter
+    subst (λ n. IsNestKnown (symbol_by g.G.Grammar.IS_WIDE g.G.Grammar.IS_BARE g.G.Grammar.IS_BRIEF c.args.s.now) (record c.push.new.self { nest = n })) (sym c.listed_nest-self-2.ensures)
+    (abbreviation-begins (symbol_by g.G.Grammar.IS_WIDE g.G.Grammar.IS_BARE g.G.Grammar.IS_BRIEF c.args.s.now) old c.push.new.self c.args.purpose letter c.requires.awaits c.requires.letter
     (λ some. subst (λ n. StandsAt c.args.s.now n (letter ∷ [])) c.in_ok-self.ensures.1 (c.byte_at-letter.ensures some))
     (λ e. absurd (false≢true (c.if-is_empty.ensures ∙ ap (λ l. length l == 0) (text_is ∙ e))))
     (wrote.text ∙ ap (λ l. old.text.list.items ++ l) text_is) wrote.candidates wrote.waiting

@@ -9,7 +9,7 @@ use Rattle.cpp_direct.proofs.direct.Direct.parameter_at.Goals.{then-not-is_first
 
 pub function_ended-requires-clause-ended : goal.function_ended-requires-clause-ended
 function_ended-requires-clause-ended g c =
-    let s = symbol_by g.G.Grammar.IS_WIDE g.G.Grammar.IS_BARE c.args.s.now in
+    let s = symbol_by g.G.Grammar.IS_WIDE g.G.Grammar.IS_BARE g.G.Grammar.IS_BRIEF c.args.s.now in
     let w = c.args.self.now in
     signature-closed s w _ c.args.is_pointer c.args.is_first c.requires.awaits
     (there s.bytes w.at c.byte_at.result 69 c.if-byte_at-eq69.true (omega arith) c.byte_at.ensures)
@@ -19,12 +19,12 @@ function_ended-requires-clause-ended g c =
 pub parameter-requires : goal.parameter-requires
 parameter-requires g c = elim c.if-not-is_first.branch [
   | then-not-is_first+in_ok-push_pair w ↦
-      subst (λ d. AwaitsParameter (symbol_by g.G.Grammar.IS_WIDE g.G.Grammar.IS_BARE c.args.s.now) d c.args.is_pointer) (sym w.self-is)
-      (another-next (symbol_by g.G.Grammar.IS_WIDE g.G.Grammar.IS_BARE c.args.s.now) c.args.self.now w.push_pair.new.self c.args.is_pointer
-      (subst (λ b. AwaitsSignature (symbol_by g.G.Grammar.IS_WIDE g.G.Grammar.IS_BARE c.args.s.now) c.args.self.now c.args.is_pointer b) w.if-not-is_first.true c.requires.awaits)
+      subst (λ d. AwaitsParameter (symbol_by g.G.Grammar.IS_WIDE g.G.Grammar.IS_BARE g.G.Grammar.IS_BRIEF c.args.s.now) d c.args.is_pointer) (sym w.self-is)
+      (another-next (symbol_by g.G.Grammar.IS_WIDE g.G.Grammar.IS_BARE g.G.Grammar.IS_BRIEF c.args.s.now) c.args.self.now w.push_pair.new.self c.args.is_pointer
+      (subst (λ b. AwaitsSignature (symbol_by g.G.Grammar.IS_WIDE g.G.Grammar.IS_BARE g.G.Grammar.IS_BRIEF c.args.s.now) c.args.self.now c.args.is_pointer b) w.if-not-is_first.true c.requires.awaits)
       w.in_ok-push_pair.ensures)
   | else-not-is_first w ↦
-      subst (λ d. AwaitsParameter (symbol_by g.G.Grammar.IS_WIDE g.G.Grammar.IS_BARE c.args.s.now) d c.args.is_pointer) (sym w.self-is)
-      (first-next (symbol_by g.G.Grammar.IS_WIDE g.G.Grammar.IS_BARE c.args.s.now) c.args.self.now c.args.is_pointer
-      (subst (λ b. AwaitsSignature (symbol_by g.G.Grammar.IS_WIDE g.G.Grammar.IS_BARE c.args.s.now) c.args.self.now c.args.is_pointer b) w.if-not-is_first.false c.requires.awaits))
+      subst (λ d. AwaitsParameter (symbol_by g.G.Grammar.IS_WIDE g.G.Grammar.IS_BARE g.G.Grammar.IS_BRIEF c.args.s.now) d c.args.is_pointer) (sym w.self-is)
+      (first-next (symbol_by g.G.Grammar.IS_WIDE g.G.Grammar.IS_BARE g.G.Grammar.IS_BRIEF c.args.s.now) c.args.self.now c.args.is_pointer
+      (subst (λ b. AwaitsSignature (symbol_by g.G.Grammar.IS_WIDE g.G.Grammar.IS_BARE g.G.Grammar.IS_BRIEF c.args.s.now) c.args.self.now c.args.is_pointer b) w.if-not-is_first.false c.requires.awaits))
 ]

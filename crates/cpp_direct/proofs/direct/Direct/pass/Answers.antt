@@ -11,58 +11,58 @@ use Rattle.cpp_direct.proofs.direct.Direct.pass.Goals as goal
 
 pub parameter_ended-requires-clause-ended : goal.parameter_ended-requires-clause-ended
 parameter_ended-requires-clause-ended g c =
-    parameter-read (symbol_by g.G.Grammar.IS_WIDE g.G.Grammar.IS_BARE c.args.s.now) c.args.self.now c.in-Parameters.mark c.in-Parameters.start c.in-Parameters.argument
-    (value-element (symbol_by g.G.Grammar.IS_WIDE g.G.Grammar.IS_BARE c.args.s.now) c.args.self.now c.args.is_reference (opens.Parameters c.in-Parameters.mark c.in-Parameters.start c.in-Parameters.argument) c.requires.writing
+    parameter-read (symbol_by g.G.Grammar.IS_WIDE g.G.Grammar.IS_BARE g.G.Grammar.IS_BRIEF c.args.s.now) c.args.self.now c.in-Parameters.mark c.in-Parameters.start c.in-Parameters.argument
+    (value-element (symbol_by g.G.Grammar.IS_WIDE g.G.Grammar.IS_BARE g.G.Grammar.IS_BRIEF c.args.s.now) c.args.self.now c.args.is_reference (opens.Parameters c.in-Parameters.mark c.in-Parameters.start c.in-Parameters.argument) c.requires.writing
     (waits-last _ _ _ _ c.as_slice.ensures c.in_ok-entry.ensures.value c.in-Parameters.is))
 
 pub front_ended-requires-clause-ended : goal.front_ended-requires-clause-ended
 front_ended-requires-clause-ended g c =
-    value-front (symbol_by g.G.Grammar.IS_WIDE g.G.Grammar.IS_BARE c.args.s.now) c.args.self.now c.args.is_reference c.in-Front.mark c.in-Front.start c.in-Front.argument
+    value-front (symbol_by g.G.Grammar.IS_WIDE g.G.Grammar.IS_BARE g.G.Grammar.IS_BRIEF c.args.s.now) c.args.self.now c.args.is_reference c.in-Front.mark c.in-Front.start c.in-Front.argument
     c.requires.writing (waits-last _ _ _ _ c.as_slice.ensures c.in_ok-entry.ensures.value c.in-Front.is)
 
 pub returned-requires-clause-returned : goal.returned-requires-clause-returned
 returned-requires-clause-returned g c =
-    value-returned (symbol_by g.G.Grammar.IS_WIDE g.G.Grammar.IS_BARE c.args.s.now) c.args.self.now c.args.is_reference c.in-Returned.is_pointer
+    value-returned (symbol_by g.G.Grammar.IS_WIDE g.G.Grammar.IS_BARE g.G.Grammar.IS_BRIEF c.args.s.now) c.args.self.now c.args.is_reference c.in-Returned.is_pointer
     c.requires.writing (waits-last _ _ _ _ c.as_slice.ensures c.in_ok-entry.ensures.value c.in-Returned.is)
 
 pub parameter_at-requires-clause-awaits : goal.parameter_at-requires-clause-awaits
 parameter_at-requires-clause-awaits g c =
-    value-signature (symbol_by g.G.Grammar.IS_WIDE g.G.Grammar.IS_BARE c.args.s.now) c.args.self.now c.args.is_reference c.in-Signature.is_pointer
+    value-signature (symbol_by g.G.Grammar.IS_WIDE g.G.Grammar.IS_BARE g.G.Grammar.IS_BRIEF c.args.s.now) c.args.self.now c.args.is_reference c.in-Signature.is_pointer
     c.requires.writing (waits-last _ _ _ _ c.as_slice.ensures c.in_ok-entry.ensures.value c.in-Signature.is)
 
 pub enclosing_parameter-requires-clause-read : goal.enclosing_parameter-requires-clause-read
 enclosing_parameter-requires-clause-read g c =
-    parameter-read-within (symbol_by g.G.Grammar.IS_WIDE g.G.Grammar.IS_BARE c.args.s.now) c.args.self.now c.in-Enclosing.mark c.in-Enclosing.from c.in-Enclosing.to c.in-Enclosing.argument
-    (value-element (symbol_by g.G.Grammar.IS_WIDE g.G.Grammar.IS_BARE c.args.s.now) c.args.self.now c.args.is_reference (opens.Enclosing c.in-Enclosing.mark c.in-Enclosing.from c.in-Enclosing.to c.in-Enclosing.argument) c.requires.writing
+    parameter-read-within (symbol_by g.G.Grammar.IS_WIDE g.G.Grammar.IS_BARE g.G.Grammar.IS_BRIEF c.args.s.now) c.args.self.now c.in-Enclosing.mark c.in-Enclosing.from c.in-Enclosing.to c.in-Enclosing.argument
+    (value-element (symbol_by g.G.Grammar.IS_WIDE g.G.Grammar.IS_BARE g.G.Grammar.IS_BRIEF c.args.s.now) c.args.self.now c.args.is_reference (opens.Enclosing c.in-Enclosing.mark c.in-Enclosing.from c.in-Enclosing.to c.in-Enclosing.argument) c.requires.writing
     (waits-last _ _ _ _ c.as_slice.ensures c.in_ok-entry.ensures.value c.in-Enclosing.is))
 
 pub lambda_parameter-requires-clause-read : goal.lambda_parameter-requires-clause-read
 lambda_parameter-requires-clause-read g c =
-    lambda-parameter-read (symbol_by g.G.Grammar.IS_WIDE g.G.Grammar.IS_BARE c.args.s.now) c.args.self.now c.in-Lambda.from
-    (value-element (symbol_by g.G.Grammar.IS_WIDE g.G.Grammar.IS_BARE c.args.s.now) c.args.self.now c.args.is_reference (opens.Lambda c.in-Lambda.from) c.requires.writing
+    lambda-parameter-read (symbol_by g.G.Grammar.IS_WIDE g.G.Grammar.IS_BARE g.G.Grammar.IS_BRIEF c.args.s.now) c.args.self.now c.in-Lambda.from
+    (value-element (symbol_by g.G.Grammar.IS_WIDE g.G.Grammar.IS_BARE g.G.Grammar.IS_BRIEF c.args.s.now) c.args.self.now c.args.is_reference (opens.Lambda c.in-Lambda.from) c.requires.writing
     (waits-last _ _ _ _ c.as_slice.ensures c.in_ok-entry.ensures.value c.in-Lambda.is))
 
 pub finish-requires : goal.finish-requires
 finish-requires g c =
-    special-read (symbol_by g.G.Grammar.IS_WIDE g.G.Grammar.IS_BARE c.args.s.now) c.args.self.now
-    (value-element (symbol_by g.G.Grammar.IS_WIDE g.G.Grammar.IS_BARE c.args.s.now) c.args.self.now c.args.is_reference opens.Special c.requires.writing
+    special-read (symbol_by g.G.Grammar.IS_WIDE g.G.Grammar.IS_BARE g.G.Grammar.IS_BRIEF c.args.s.now) c.args.self.now
+    (value-element (symbol_by g.G.Grammar.IS_WIDE g.G.Grammar.IS_BARE g.G.Grammar.IS_BRIEF c.args.s.now) c.args.self.now c.args.is_reference opens.Special c.requires.writing
     (waits-last _ _ _ _ c.as_slice.ensures c.in_ok-entry.ensures.value c.in-Special.is))
 
 pub array_ended-requires-clause-read : goal.array_ended-requires-clause-read
 array_ended-requires-clause-read g c =
-    value-array (symbol_by g.G.Grammar.IS_WIDE g.G.Grammar.IS_BARE c.args.s.now) c.args.self.now c.args.is_reference c.in-Array.access c.in-Array.from c.in-Array.to
+    value-array (symbol_by g.G.Grammar.IS_WIDE g.G.Grammar.IS_BARE g.G.Grammar.IS_BRIEF c.args.s.now) c.args.self.now c.args.is_reference c.in-Array.access c.in-Array.from c.in-Array.to
     c.requires.writing (waits-last _ _ _ _ c.as_slice.ensures c.in_ok-entry.ensures.value c.in-Array.is)
 
 pub enumerator-requires-clause-awaits : goal.enumerator-requires-clause-awaits
 enumerator-requires-clause-awaits g c =
-    value-enumerator (symbol_by g.G.Grammar.IS_WIDE g.G.Grammar.IS_BARE c.args.s.now) c.args.self.now c.args.is_reference
+    value-enumerator (symbol_by g.G.Grammar.IS_WIDE g.G.Grammar.IS_BARE g.G.Grammar.IS_BRIEF c.args.s.now) c.args.self.now c.args.is_reference
     c.requires.writing (waits-last _ _ _ _ c.as_slice.ensures c.in_ok-entry.ensures.value c.in-Enumerator.is)
 
 pub returns-in_default : goal.returns-in_default
 returns-in_default g c =
     let o = c.in_ok-entry.field-0.now in
-    argument-read (symbol_by g.G.Grammar.IS_WIDE g.G.Grammar.IS_BARE c.args.s.now) c.args.self.now o
-    (value-element (symbol_by g.G.Grammar.IS_WIDE g.G.Grammar.IS_BARE c.args.s.now) c.args.self.now c.args.is_reference o c.requires.writing
+    argument-read (symbol_by g.G.Grammar.IS_WIDE g.G.Grammar.IS_BARE g.G.Grammar.IS_BRIEF c.args.s.now) c.args.self.now o
+    (value-element (symbol_by g.G.Grammar.IS_WIDE g.G.Grammar.IS_BARE g.G.Grammar.IS_BRIEF c.args.s.now) c.args.self.now c.args.is_reference o c.requires.writing
     (waits-last _ _ _ _ c.as_slice.ensures c.in_ok-entry.ensures.value refl))
     (takes-elements o c.in_default.not-Pointer c.in_default.not-Lvalue c.in_default.not-Rvalue c.in_default.not-Const
     c.in_default.not-Parameters c.in_default.not-Front c.in_default.not-Returned c.in_default.not-Signature c.in_default.not-Special c.in_default.not-Enumerator
@@ -70,10 +70,10 @@ returns-in_default g c =
 
 pub argument_ended-requires-clause-read : goal.argument_ended-requires-clause-read
 argument_ended-requires-clause-read g c =
-    value-argument (symbol_by g.G.Grammar.IS_WIDE g.G.Grammar.IS_BARE c.args.s.now) c.args.self.now c.args.is_reference c.in-Argument.from c.in-Argument.number c.in-Argument.known
+    value-argument (symbol_by g.G.Grammar.IS_WIDE g.G.Grammar.IS_BARE g.G.Grammar.IS_BRIEF c.args.s.now) c.args.self.now c.args.is_reference c.in-Argument.from c.in-Argument.number c.in-Argument.known
     c.requires.writing (waits-last _ _ _ _ c.as_slice.ensures c.in_ok-entry.ensures.value c.in-Argument.is)
 
 pub element_ended-requires-clause-read : goal.element_ended-requires-clause-read
 element_ended-requires-clause-read g c =
-    value-in-pack (symbol_by g.G.Grammar.IS_WIDE g.G.Grammar.IS_BARE c.args.s.now) c.args.self.now c.args.is_reference c.in-Element.from c.in-Element.number c.in-Element.known
+    value-in-pack (symbol_by g.G.Grammar.IS_WIDE g.G.Grammar.IS_BARE g.G.Grammar.IS_BRIEF c.args.s.now) c.args.self.now c.args.is_reference c.in-Element.from c.in-Element.number c.in-Element.known
     c.requires.writing (waits-last _ _ _ _ c.as_slice.ensures c.in_ok-entry.ensures.value c.in-Element.is)

@@ -10,25 +10,25 @@ use Rattle.cpp_direct.proofs.direct.Direct.pass_to_mark.Goals as goal
 
 pub mark-requires : goal.mark-requires
 mark-requires g c =
-    value-marked (symbol_by g.G.Grammar.IS_WIDE g.G.Grammar.IS_BARE c.args.s.now) c.args.self.now c.args.is_reference false (opens.Pointer c.in-Pointer.from) c.in-Pointer.from pointer (codes "*")
+    value-marked (symbol_by g.G.Grammar.IS_WIDE g.G.Grammar.IS_BARE g.G.Grammar.IS_BRIEF c.args.s.now) c.args.self.now c.args.is_reference false (opens.Pointer c.in-Pointer.from) c.in-Pointer.from pointer (codes "*")
     c.requires.writing (subst (λ o. slice_get c.args.self.now.waiting.list.items (length c.args.self.now.waiting.list.items - 1) ≡ Some o) c.in-Pointer.is c.requires.waits) (λ rest os text h. h)
     (λ t b h. pointer-prints t b c.args.is_reference h)
 
 pub mark-requires-in-Lvalue : goal.mark-requires-in-Lvalue
 mark-requires-in-Lvalue g c =
-    value-marked (symbol_by g.G.Grammar.IS_WIDE g.G.Grammar.IS_BARE c.args.s.now) c.args.self.now c.args.is_reference true (opens.Lvalue c.in-Lvalue.from) c.in-Lvalue.from lvalue (codes "&")
+    value-marked (symbol_by g.G.Grammar.IS_WIDE g.G.Grammar.IS_BARE g.G.Grammar.IS_BRIEF c.args.s.now) c.args.self.now c.args.is_reference true (opens.Lvalue c.in-Lvalue.from) c.in-Lvalue.from lvalue (codes "&")
     c.requires.writing (subst (λ o. slice_get c.args.self.now.waiting.list.items (length c.args.self.now.waiting.list.items - 1) ≡ Some o) c.in-Lvalue.is c.requires.waits) (λ rest os text h. h)
-    (λ t b h. lvalue-prints t b (subst (λ r. Prints (detail_by g.G.Grammar.IS_BARE) t b r) c.if-is_reference.false h))
+    (λ t b h. lvalue-prints t b (subst (λ r. Prints (detail_by g.G.Grammar.IS_BARE g.G.Grammar.IS_BRIEF) t b r) c.if-is_reference.false h))
 
 pub mark-requires-in-Rvalue : goal.mark-requires-in-Rvalue
 mark-requires-in-Rvalue g c =
-    value-marked (symbol_by g.G.Grammar.IS_WIDE g.G.Grammar.IS_BARE c.args.s.now) c.args.self.now c.args.is_reference true (opens.Rvalue c.in-Rvalue.from) c.in-Rvalue.from rvalue (codes "&&")
+    value-marked (symbol_by g.G.Grammar.IS_WIDE g.G.Grammar.IS_BARE g.G.Grammar.IS_BRIEF c.args.s.now) c.args.self.now c.args.is_reference true (opens.Rvalue c.in-Rvalue.from) c.in-Rvalue.from rvalue (codes "&&")
     c.requires.writing (subst (λ o. slice_get c.args.self.now.waiting.list.items (length c.args.self.now.waiting.list.items - 1) ≡ Some o) c.in-Rvalue.is c.requires.waits) (λ rest os text h. h)
-    (λ t b h. rvalue-prints t b (subst (λ r. Prints (detail_by g.G.Grammar.IS_BARE) t b r) c.if-is_reference-2.false h))
+    (λ t b h. rvalue-prints t b (subst (λ r. Prints (detail_by g.G.Grammar.IS_BARE g.G.Grammar.IS_BRIEF) t b r) c.if-is_reference-2.false h))
 
 pub mark-requires-in-Const : goal.mark-requires-in-Const
 mark-requires-in-Const g c =
-    value-marked (symbol_by g.G.Grammar.IS_WIDE g.G.Grammar.IS_BARE c.args.s.now) c.args.self.now c.args.is_reference false (opens.Const c.in-Const.from) c.in-Const.from
+    value-marked (symbol_by g.G.Grammar.IS_WIDE g.G.Grammar.IS_BARE g.G.Grammar.IS_BRIEF c.args.s.now) c.args.self.now c.args.is_reference false (opens.Const c.in-Const.from) c.in-Const.from
     (qualified (qualifiers true)) (codes " const")
     c.requires.writing (subst (λ o. slice_get c.args.self.now.waiting.list.items (length c.args.self.now.waiting.list.items - 1) ≡ Some o) c.in-Const.is c.requires.waits) (λ rest os text h. h)
-    (λ t b h. const-prints t b (subst (λ r. Prints (detail_by g.G.Grammar.IS_BARE) t b r) c.if-is_reference-3.false h))
+    (λ t b h. const-prints t b (subst (λ r. Prints (detail_by g.G.Grammar.IS_BARE g.G.Grammar.IS_BRIEF) t b r) c.if-is_reference-3.false h))

@@ -16,7 +16,7 @@ begin_function-requires-clause-letters g c =
 
 pub returns : goal.returns
 returns g c =
-    pointer-opened (symbol_by g.G.Grammar.IS_WIDE g.G.Grammar.IS_BARE c.args.s.now) c.args.self.now c.open_type.new.self c.open_type.result c.end-from.result
+    pointer-opened (symbol_by g.G.Grammar.IS_WIDE g.G.Grammar.IS_BARE g.G.Grammar.IS_BRIEF c.args.s.now) c.args.self.now c.open_type.new.self c.open_type.result c.end-from.result
     c.requires.awaits c.end-from.ensures
     c.requires.letter
     c.open_type.ensures.step c.open_type.ensures.open c.open_type.ensures.at c.open_type.ensures.text c.open_type.ensures.candidates

@@ -8,7 +8,7 @@ use Rattle.cpp_direct.proofs.direct.Direct.rest_at.Goals as goal
 
 pub returns-then-byte_at-eq73 : goal.returns-then-byte_at-eq73
 returns-then-byte_at-eq73 g c =
-    let s = symbol_by g.G.Grammar.IS_WIDE g.G.Grammar.IS_BARE c.args.s.now in
+    let s = symbol_by g.G.Grammar.IS_WIDE g.G.Grammar.IS_BARE g.G.Grammar.IS_BRIEF c.args.s.now in
     let mid = c.add_unless.new.self in
     let writing = c.requires.writing in
     let added = c.in_ok-add_unless.ensures in
@@ -23,6 +23,6 @@ pub component_at-requires-clause-writing : goal.component_at-requires-clause-wri
 component_at-requires-clause-writing g c =
     let writing = c.requires.writing in
     let added = c.in_ok-add_unless.ensures in
-    component-next (symbol_by g.G.Grammar.IS_WIDE g.G.Grammar.IS_BARE c.args.s.now) writing.is_before.1 c.args.self.now c.add_unless.new.self writing.state writing.is_before.0
+    component-next (symbol_by g.G.Grammar.IS_WIDE g.G.Grammar.IS_BARE g.G.Grammar.IS_BRIEF c.args.s.now) writing.is_before.1 c.args.self.now c.add_unless.new.self writing.state writing.is_before.0
     (first-is-rest writing.is_before.1 writing.is_before.2) writing.candidates writing.is_before.3
     (record { candidates = added.candidates; text = added.text; waiting = added.«open»; nest = added.nest; at = added.at })

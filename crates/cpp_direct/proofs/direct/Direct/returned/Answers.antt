@@ -10,7 +10,7 @@ use Rattle.cpp_direct.proofs.direct.Direct.returned.Goals.{then-is_pointer, else
 
 pub first_parameter-requires-clause-awaits : goal.first_parameter-requires-clause-awaits
 first_parameter-requires-clause-awaits g c =
-    let s = symbol_by g.G.Grammar.IS_WIDE g.G.Grammar.IS_BARE c.args.s.now in
+    let s = symbol_by g.G.Grammar.IS_WIDE g.G.Grammar.IS_BARE g.G.Grammar.IS_BRIEF c.args.s.now in
     let w = c.args.self.now in
     let p = c.requires.returned in
     let entry = opens.Signature c.args.is_pointer in

@@ -9,12 +9,12 @@ use Rattle.cpp_direct.proofs.direct.Direct.template_parameter.Goals as goal
 pub repeat-requires-clause-to : goal.repeat-requires-clause-to
 repeat-requires-clause-to g c =
     let is = c.in_ok-argument.ensures.is in
-    argument-inside (symbol_by g.G.Grammar.IS_WIDE g.G.Grammar.IS_BARE c.args.s.now) c.args.self.now c.in_ok-named.named c.in_ok-read.read.number c.in_ok-argument.argument c.requires.awaits
+    argument-inside (symbol_by g.G.Grammar.IS_WIDE g.G.Grammar.IS_BARE g.G.Grammar.IS_BRIEF c.args.s.now) c.args.self.now c.in_ok-named.named c.in_ok-read.read.number c.in_ok-argument.argument c.requires.awaits
     c.in_ok-named.ensures (is ∙ c.at.ensures (subst IsKnown is c.in_ok-argument.ensures.ordered)) c.in_ok-argument.ensures.ordered
 
 pub returns : goal.returns
 returns g c =
-    let s = symbol_by g.G.Grammar.IS_WIDE g.G.Grammar.IS_BARE c.args.s.now in
+    let s = symbol_by g.G.Grammar.IS_WIDE g.G.Grammar.IS_BARE g.G.Grammar.IS_BRIEF c.args.s.now in
     let k = c.in_ok-read.read.number in
     let is = c.in_ok-argument.ensures.is in
     let known = c.in_ok-argument.ensures.ordered in

@@ -6,19 +6,19 @@ use Rattle.cpp_direct.proofs.direct.Direct.type_at.Goals as goal
 
 pub named_type-requires-clause-awaits : goal.named_type-requires-clause-awaits
 named_type-requires-clause-awaits g c =
-    names-awaited (symbol_by g.G.Grammar.IS_WIDE g.G.Grammar.IS_BARE c.args.s.now) c.args.self.now (awaits-type (symbol_by g.G.Grammar.IS_WIDE g.G.Grammar.IS_BARE c.args.s.now) c.args.self.now c.args.is_plain c.requires.writing)
+    names-awaited (symbol_by g.G.Grammar.IS_WIDE g.G.Grammar.IS_BARE g.G.Grammar.IS_BRIEF c.args.s.now) c.args.self.now (awaits-type (symbol_by g.G.Grammar.IS_WIDE g.G.Grammar.IS_BARE g.G.Grammar.IS_BRIEF c.args.s.now) c.args.self.now c.args.is_plain c.requires.writing)
 
 pub builtin_with_d-requires-clause-awaits : goal.builtin_with_d-requires-clause-awaits
-builtin_with_d-requires-clause-awaits g c = awaits-type (symbol_by g.G.Grammar.IS_WIDE g.G.Grammar.IS_BARE c.args.s.now) c.args.self.now c.args.is_plain c.requires.writing
+builtin_with_d-requires-clause-awaits g c = awaits-type (symbol_by g.G.Grammar.IS_WIDE g.G.Grammar.IS_BARE g.G.Grammar.IS_BRIEF c.args.s.now) c.args.self.now c.args.is_plain c.requires.writing
 
 pub builtin-requires-clause-awaits : goal.builtin-requires-clause-awaits
-builtin-requires-clause-awaits g c = awaits-type (symbol_by g.G.Grammar.IS_WIDE g.G.Grammar.IS_BARE c.args.s.now) c.args.self.now c.args.is_plain c.requires.writing
+builtin-requires-clause-awaits g c = awaits-type (symbol_by g.G.Grammar.IS_WIDE g.G.Grammar.IS_BARE g.G.Grammar.IS_BRIEF c.args.s.now) c.args.self.now c.args.is_plain c.requires.writing
 
 pub returns-else-not-is_plain : goal.returns-else-not-is_plain
 returns-else-not-is_plain g c =
     let called = c.open_type.ensures in
-    lvalue-opened (symbol_by g.G.Grammar.IS_WIDE g.G.Grammar.IS_BARE c.args.s.now) c.args.self.now c.open_type.new.self c.open_type.result c.end-from.result
-    (awaits-type (symbol_by g.G.Grammar.IS_WIDE g.G.Grammar.IS_BARE c.args.s.now) c.args.self.now c.args.is_plain c.requires.writing) c.end-from.ensures
+    lvalue-opened (symbol_by g.G.Grammar.IS_WIDE g.G.Grammar.IS_BARE g.G.Grammar.IS_BRIEF c.args.s.now) c.args.self.now c.open_type.new.self c.open_type.result c.end-from.result
+    (awaits-type (symbol_by g.G.Grammar.IS_WIDE g.G.Grammar.IS_BARE g.G.Grammar.IS_BRIEF c.args.s.now) c.args.self.now c.args.is_plain c.requires.writing) c.end-from.ensures
     (there c.args.s.now c.args.self.now.at c.byte_at.result 82 c.in-82.is (omega arith) c.byte_at.ensures)
     called.step called.open called.at called.text called.candidates
 
@@ -32,21 +32,21 @@ begin_array-requires-clause-letters g c =
 pub returns-in-79 : goal.returns-in-79
 returns-in-79 g c =
     let called = c.open_type-in-79.ensures in
-    rvalue-opened (symbol_by g.G.Grammar.IS_WIDE g.G.Grammar.IS_BARE c.args.s.now) c.args.self.now c.open_type-in-79.new.self c.open_type-in-79.result c.end-from.result
-    (awaits-type (symbol_by g.G.Grammar.IS_WIDE g.G.Grammar.IS_BARE c.args.s.now) c.args.self.now c.args.is_plain c.requires.writing) c.end-from.ensures
+    rvalue-opened (symbol_by g.G.Grammar.IS_WIDE g.G.Grammar.IS_BARE g.G.Grammar.IS_BRIEF c.args.s.now) c.args.self.now c.open_type-in-79.new.self c.open_type-in-79.result c.end-from.result
+    (awaits-type (symbol_by g.G.Grammar.IS_WIDE g.G.Grammar.IS_BARE g.G.Grammar.IS_BRIEF c.args.s.now) c.args.self.now c.args.is_plain c.requires.writing) c.end-from.ensures
     (there c.args.s.now c.args.self.now.at c.byte_at.result 79 c.in-79.is (omega arith) c.byte_at.ensures)
     called.step called.open called.at called.text called.candidates
 
 pub returns-else-is_plain-3 : goal.returns-else-is_plain-3
 returns-else-is_plain-3 g c =
     let called = c.open_type-in-75.ensures in
-    const-opened (symbol_by g.G.Grammar.IS_WIDE g.G.Grammar.IS_BARE c.args.s.now) c.args.self.now c.open_type-in-75.new.self c.open_type-in-75.result c.end-from.result c.args.is_plain
+    const-opened (symbol_by g.G.Grammar.IS_WIDE g.G.Grammar.IS_BARE g.G.Grammar.IS_BRIEF c.args.s.now) c.args.self.now c.open_type-in-75.new.self c.open_type-in-75.result c.end-from.result c.args.is_plain
     c.requires.writing c.if-is_plain-3.false c.end-from.ensures
     (there c.args.s.now c.args.self.now.at c.byte_at.result 75 c.in-75.is (omega arith) c.byte_at.ensures)
     called.step called.open called.at called.text called.candidates
 
 pub template_parameter-requires-clause-awaits : goal.template_parameter-requires-clause-awaits
-template_parameter-requires-clause-awaits g c = awaits-type (symbol_by g.G.Grammar.IS_WIDE g.G.Grammar.IS_BARE c.args.s.now) c.args.self.now c.args.is_plain c.requires.writing
+template_parameter-requires-clause-awaits g c = awaits-type (symbol_by g.G.Grammar.IS_WIDE g.G.Grammar.IS_BARE g.G.Grammar.IS_BRIEF c.args.s.now) c.args.self.now c.args.is_plain c.requires.writing
 
 pub pointer_at-requires-clause-awaits : goal.pointer_at-requires-clause-awaits
-pointer_at-requires-clause-awaits g c = awaits-type (symbol_by g.G.Grammar.IS_WIDE g.G.Grammar.IS_BARE c.args.s.now) c.args.self.now c.args.is_plain c.requires.writing
+pointer_at-requires-clause-awaits g c = awaits-type (symbol_by g.G.Grammar.IS_WIDE g.G.Grammar.IS_BARE g.G.Grammar.IS_BRIEF c.args.s.now) c.args.self.now c.args.is_plain c.requires.writing

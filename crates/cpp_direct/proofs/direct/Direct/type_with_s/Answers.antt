@@ -7,7 +7,7 @@ use Rattle.cpp_direct.proofs.direct.Direct.type_with_s.Goals as goal
 pub type_named-requires : goal.type_named-requires
 type_named-requires g c =
     let got = c.in_ok-name.ensures in
-    std-named (symbol_by g.G.Grammar.IS_WIDE g.G.Grammar.IS_BARE c.args.s.now) c.args.self.now c.push.new.self c.name.new.self c.end-from.result got.0 c.requires.awaits c.requires.letter
+    std-named (symbol_by g.G.Grammar.IS_WIDE g.G.Grammar.IS_BARE g.G.Grammar.IS_BRIEF c.args.s.now) c.args.self.now c.push.new.self c.name.new.self c.end-from.result got.0 c.requires.awaits c.requires.letter
     (there c.args.s.now (c.args.self.now.at + 1) c.byte_at-letter.result 116 c.if-letter-eq116.true (omega arith)
     (subst (λ k. c.byte_at-letter.result ≢ 0 → StandsAt c.args.s.now k (c.byte_at-letter.result ∷ [])) c.in_ok-self.ensures.1
     c.byte_at-letter.ensures))
@@ -17,7 +17,7 @@ type_named-requires g c =
 
 pub type_named-requires-then-not-is_empty : goal.type_named-requires-then-not-is_empty
 type_named-requires-then-not-is_empty g c =
-    abbreviation-named (symbol_by g.G.Grammar.IS_WIDE g.G.Grammar.IS_BARE c.args.s.now) c.args.self.now c.push-then-not-is_empty.new.self c.end-from.result c.byte_at-letter.result c.requires.awaits
+    abbreviation-named (symbol_by g.G.Grammar.IS_WIDE g.G.Grammar.IS_BARE g.G.Grammar.IS_BRIEF c.args.s.now) c.args.self.now c.push-then-not-is_empty.new.self c.end-from.result c.byte_at-letter.result c.requires.awaits
     c.requires.letter
     (subst (λ k. c.byte_at-letter.result ≢ 0 → StandsAt c.args.s.now k (c.byte_at-letter.result ∷ [])) c.in_ok-self.ensures.1
     c.byte_at-letter.ensures)
@@ -31,14 +31,14 @@ pub dependent_again-requires-clause-again : goal.dependent_again-requires-clause
 dependent_again-requires-clause-again g c =
     let got = c.in_ok-candidate.ensures.is in
     let same = c.in_ok-candidate.ensures.same in
-    named-again (symbol_by g.G.Grammar.IS_WIDE g.G.Grammar.IS_BARE c.args.s.now) c.args.self.now c.substitution.new.self got.0 c.in_ok-candidate.candidate c.requires.awaits c.requires.letter
+    named-again (symbol_by g.G.Grammar.IS_WIDE g.G.Grammar.IS_BARE g.G.Grammar.IS_BRIEF c.args.s.now) c.args.self.now c.substitution.new.self got.0 c.in_ok-candidate.candidate c.requires.awaits c.requires.letter
     (subst (λ n. IsSeqAt c.args.s.now n got.0 c.substitution.new.self.at) c.in_ok-self.ensures.1 got.1) c.in_ok-candidate.ensures.ordered got.2
     (same.text ∙ append-nil c.args.self.now.text.list.items) same.candidates same.waiting c.if-candidate.true
 
 pub repeat-requires-clause-from : goal.repeat-requires-clause-from
 repeat-requires-clause-from g c =
     let got = c.in_ok-candidate.ensures.is in
-    (substitution-stands (symbol_by g.G.Grammar.IS_WIDE g.G.Grammar.IS_BARE c.args.s.now) c.args.self.now _ c.in_ok-candidate.candidate c.requires.awaits
+    (substitution-stands (symbol_by g.G.Grammar.IS_WIDE g.G.Grammar.IS_BARE g.G.Grammar.IS_BRIEF c.args.s.now) c.args.self.now _ c.in_ok-candidate.candidate c.requires.awaits
     c.in_ok-candidate.ensures.ordered got.2).0
 
 pub repeat-requires-clause-to : goal.repeat-requires-clause-to
@@ -47,7 +47,7 @@ repeat-requires-clause-to g c =
     let same = c.in_ok-candidate.ensures.same in
     omega (
       arith,
-      (substitution-stands (symbol_by g.G.Grammar.IS_WIDE g.G.Grammar.IS_BARE c.args.s.now) c.args.self.now _ c.in_ok-candidate.candidate c.requires.awaits
+      (substitution-stands (symbol_by g.G.Grammar.IS_WIDE g.G.Grammar.IS_BARE g.G.Grammar.IS_BRIEF c.args.s.now) c.args.self.now _ c.in_ok-candidate.candidate c.requires.awaits
           c.in_ok-candidate.ensures.ordered got.2).1,
       ap length (same.text ∙ append-nil c.args.self.now.text.list.items),
     )
@@ -58,7 +58,7 @@ type_named-requires-2 g c =
     let same = c.in_ok-candidate.ensures.same in
     let wrote = c.in_ok-repeat.ensures in
     let k = c.in_ok-candidate.candidate in
-    substitution-named (symbol_by g.G.Grammar.IS_WIDE g.G.Grammar.IS_BARE c.args.s.now) c.args.self.now c.repeat.new.self c.end-from.result got.0 c.in_ok-candidate.candidate c.requires.awaits
+    substitution-named (symbol_by g.G.Grammar.IS_WIDE g.G.Grammar.IS_BARE g.G.Grammar.IS_BRIEF c.args.s.now) c.args.self.now c.repeat.new.self c.end-from.result got.0 c.in_ok-candidate.candidate c.requires.awaits
     c.requires.letter
     (subst (λ n. IsSeqAt c.args.s.now n got.0 c.repeat.new.self.at) c.in_ok-self.ensures.1
     (subst (λ n. IsSeqAt c.args.s.now c.in_ok-self.field-0 got.0 n) (sym wrote.at) got.1))

@@ -1,4 +1,4 @@
-use Rattle.std.proofs.Common.{arith, sym, subst, ◌++◌, ◌≡◌, ◌∙◌}
+use Rattle.std.proofs.Common.{arith, sym, subst, ◌++◌}
 use Rattle.cpp_term.specs.Parts.{precedence_of}
 use Rattle.cpp_layout.proofs.Operating.{asked-of, closed-from, open-from}
 use Rattle.cpp_layout.specs.Layout.{context_of, tree_shown, Shows}

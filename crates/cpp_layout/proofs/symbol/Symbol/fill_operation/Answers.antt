@@ -1,10 +1,6 @@
-use Rattle.std.proofs.Common.{◌∙◌}
-use Rattle.cpp_term.specs.Parts.{text_part, operand_parts, operation_parts}
 use Rattle.cpp_layout.proofs.Growing.{fills, starts}
-use Rattle.cpp_layout.proofs.Operating.{joined, same-operation}
+use Rattle.cpp_layout.proofs.Operating.{same-operation}
 use Rattle.cpp_layout.specs.Layout.{context_of, tree_shown}
-use Rattle.cpp_layout.specs.Operations.{operand_of}
-use Rattle.cpp_layout.specs.Texts.{fixed_text}
 use Rattle.cpp_layout.proofs.symbol.Symbol.fill_operation.Goals as goal
 
 pub returns-clause-shows : goal.returns-clause-shows

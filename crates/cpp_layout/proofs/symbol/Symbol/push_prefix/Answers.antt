@@ -2,9 +2,10 @@ use Rattle.std.proofs.Common.{ap, sym, ◌∙◌, ◌∷◌}
 use Rattle.cpp_grammar.specs.Items as heads
 use Rattle.cpp_term.specs.Parts.{as_item}
 use Rattle.cpp_layout.proofs.Growing.{fills, told-so}
-use Rattle.cpp_layout.proofs.Naming.{prefix-encoding, prefix-held, prefix-other}
+use Rattle.cpp_layout.proofs.Naming.{prefix-held}
 use Rattle.cpp_layout.specs.Layout.{context_of, table_of, tree_shown}
 use Rattle.cpp_tree.specs.Nodes.{trees}
+use Rattle.cpp_layout.proofs.Others.{prefix-encoding, prefix-other}
 use Rattle.cpp_layout.proofs.symbol.Symbol.push_prefix.Goals as goal
 
 pub returns-then-is_encoding-clause-shows : goal.returns-then-is_encoding-clause-shows

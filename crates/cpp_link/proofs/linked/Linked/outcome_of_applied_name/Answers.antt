@@ -10,6 +10,7 @@ unreachable-requires c = applied_name c.args.production c.requires.family
     c.in_default.not-LocalTypeName
     c.in_default.not-OperatorName
     c.in_default.not-OtherOperatorName
+    c.in_default.not-Friend
     c.in_default.not-OperatorNameWithC
     c.in_default.not-Constructor
     c.in_default.not-Destructor

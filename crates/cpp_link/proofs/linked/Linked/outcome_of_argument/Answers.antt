@@ -12,6 +12,7 @@ unreachable-requires c = argument c.args.production c.requires.family
     c.in_default.not-AnyElement
     c.in_default.not-ArgumentWithT
     c.in_default.not-DeclaredArgument
+    c.in_default.not-LeveledParameter
     c.in_default.not-OneLiteral
     c.in_default.not-OnePack
     c.in_default.not-AnyType

@@ -7,6 +7,7 @@ unreachable-requires c = function_type c.args.production c.requires.family
     c.in_default.not-Function
     c.in_default.not-NoexceptFunction
     c.in_default.not-RefEnd
+    c.in_default.not-Constraint
     c.in_default.not-RestEnd
     c.in_default.not-LvalueItem
     c.in_default.not-RvalueItem

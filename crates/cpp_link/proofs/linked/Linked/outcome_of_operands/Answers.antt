@@ -9,6 +9,7 @@ unreachable-requires c = operands c.args.production c.requires.family
     c.in_default.not-Unary
     c.in_default.not-AddressExpression
     c.in_default.not-OfType
+    c.in_default.not-DestructorName
     c.in_default.not-Braces
     c.in_default.not-Step
     c.in_default.not-Binary
@@ -17,5 +18,19 @@ unreachable-requires c = operands c.args.production c.requires.family
     c.in_default.not-Call
     c.in_default.not-TypedBraces
     c.in_default.not-Conditional
+    c.in_default.not-New
+    c.in_default.not-Placed
+    c.in_default.not-LeftFold
+    c.in_default.not-RightFold
+    c.in_default.not-FoldOperand
+    c.in_default.not-FoldPack
+    c.in_default.not-Requires
+    c.in_default.not-RequiresOf
+    c.in_default.not-RequiredType
+    c.in_default.not-ExpressionRequirement
+    c.in_default.not-NoexceptRequirement
+    c.in_default.not-ResultRequirement
+    c.in_default.not-TypeRequirement
+    c.in_default.not-NestedRequirement
     c.in_default.not-PackSize
     c.in_default.not-ExpandExpression

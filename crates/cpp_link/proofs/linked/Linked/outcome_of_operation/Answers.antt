@@ -20,3 +20,5 @@ unreachable-requires c = operation c.args.production c.requires.family
     c.in_default.not-ExpressionR
     c.in_default.not-ExpressionS
     c.in_default.not-ExpressionT
+    c.in_default.not-Initializer
+    c.in_default.not-BracedInitializer

@@ -17,6 +17,7 @@ unreachable-requires c = piece c.args.production c.requires.family
     c.in_default.not-OperatorS
     c.in_default.not-OperatorI
     c.in_default.not-OperatorG
+    c.in_default.not-FoldOperatorL
     c.in_default.not-OperatorL
     c.in_default.not-LiteralOperator
     c.in_default.not-Conversion

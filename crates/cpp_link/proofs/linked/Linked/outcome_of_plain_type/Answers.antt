@@ -16,4 +16,5 @@ unreachable-requires c = plain_type c.args.production c.requires.family
     c.in_default.not-Decltype
     c.in_default.not-Expansion
     c.in_default.not-ConvertedDecltype
+    c.in_default.not-DestroyedType
     c.in_default.not-ConvertedType

@@ -1,13 +1,13 @@
 use Rattle.sym_filter.specs.Kinds.{underscore_of}
-use Rattle.sym_languages.specs.Languages.{AreCountsOf, behind_front, pressed_language}
+use Rattle.sym_languages.specs.Languages.{AreCountsOf, with_front, pressed_language}
 use Rattle.sym_filter.specs.declared.kinds.Lang.TheVariants.{Cpp, Rust}
 use Rattle.sym_languages.proofs.LanguageLemmas.{demangled_in}
 use Rattle.sym_languages.proofs.pressing.PressingDemangler.demangle.Goals as goal
 
 pub returns-in-Cpp : goal.returns-in-Cpp
 returns-in-Cpp c =
-    demangled_in (λ lang. behind_front (underscore_of c.args.kind.skip) (pressed_language lang c.args.symbol.now)) (λ lang symbol counts. AreCountsOf lang symbol counts) c.args.kind.lang Cpp c.args.symbol.now c.args.out.now.items c.press_into.new.out.items c.press_into.result c.in-Cpp.is c.press_into.ensures
+    demangled_in (λ lang. with_front (underscore_of c.args.kind.skip) (pressed_language lang c.args.symbol.now)) (λ lang symbol counts. AreCountsOf lang symbol counts) c.args.kind.lang Cpp c.args.symbol.now c.args.out.now.items c.press_into.new.out.items c.press_into.result c.in-Cpp.is c.press_into.ensures
 
 pub returns-in-Rust : goal.returns-in-Rust
 returns-in-Rust c =
-    demangled_in (λ lang. behind_front (underscore_of c.args.kind.skip) (pressed_language lang c.args.symbol.now)) (λ lang symbol counts. AreCountsOf lang symbol counts) c.args.kind.lang Rust c.args.symbol.now c.args.out.now.items c.press_into-in-Rust.new.out.items c.press_into-in-Rust.result c.in-Rust.is c.press_into-in-Rust.ensures
+    demangled_in (λ lang. with_front (underscore_of c.args.kind.skip) (pressed_language lang c.args.symbol.now)) (λ lang symbol counts. AreCountsOf lang symbol counts) c.args.kind.lang Rust c.args.symbol.now c.args.out.now.items c.press_into-in-Rust.new.out.items c.press_into-in-Rust.result c.in-Rust.is c.press_into-in-Rust.ensures

@@ -1,5 +1,5 @@
 use Rattle.sym_filter.proofs.StreamLemmas.{PutsFront-of, PutsFront-more, stays-more, stays-front, IfErr-from_and}
-use Rattle.sym_filter.proofs.filtering.put_behind.Goals as goal
+use Rattle.sym_filter.proofs.filtering.put_after.Goals as goal
 use Rattle.std.proofs.Common.{[], cond, sym, ◌∙◌}
 use Rattle.std.proofs.lemmas.Bool.{not-false}
 

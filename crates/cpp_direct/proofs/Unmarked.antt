@@ -1,0 +1,169 @@
+-- Texts that have no marks.
+use Rattle.std.proofs.Common.{◌≡◌, refl, ap, sym, subst, ◌∙◌, ℕ, ◌+◌, List, [], ◌∷◌, ◌++◌, length, Bool, true, false, ◌||◌, nat_eq, nat_le, arith, codes, cond}
+use Rattle.std.proofs.lemmas.Bool.{false≢true, eqb-true, and_parts}
+use Rattle.std.specs.List.{AllByRecursion}
+use Rattle.sym_core.specs.declared.NameClass.TheVariants.{Cpp}
+use Rattle.sym_core.specs.Token.{is_name_byte}
+use Rattle.sym_core.specs.Number.{is_decimal_digit}
+use Rattle.sym_direct.specs.Marked.{opens, closes}
+use Rattle.cpp_grammar.specs.Texts.{Naming, look_up, same_bytes, builtin_texts, operator_texts, abbreviation_texts, special_texts, literal_endings}
+use Rattle.cpp_grammar.specs.Parts.{source_text, begins_with, thunk_text, encoding_text, qualifier_text, ref_text}
+use Rattle.cpp_grammar.specs.Term.{Thunk, adjusting, covariant, non_virtual, by_table, Qualifiers, RefQualifier, any_value, lvalue_only, rvalue_only}
+use Rattle.cpp_direct.specs.Holes.{IsNameAt}
+use Rattle.cpp_direct.specs.HolesOfLists.{IsSuffix}
+use Rattle.cpp_direct.specs.ItemBytes.{is_suffix_byte}
+use Rattle.cpp_direct.specs.Names.{operator_text}
+use Rattle.cpp_direct.specs.WrittenParts.{unmarked_byte, unmarked, is_unmarked, IsUnmarked}
+
+-- the byte is a mark
+abbrev pub is_mark : ℕ → Bool
+is_mark byte = nat_eq byte opens || nat_eq byte closes
+
+first-unmarked : (byte : ℕ) (bytes : List ℕ) → IsUnmarked (byte ∷ bytes) → (is_mark byte ≡ false) × IsUnmarked bytes
+first-unmarked byte bytes plain = go (is_mark byte) refl plain
+  where
+    go : (b : Bool) → is_mark byte ≡ b → elim b [ true ↦ false | false ↦ is_unmarked bytes ] ≡ true → (is_mark byte ≡ false) × IsUnmarked bytes
+    go true is there = absurd (false≢true there)
+    go false is there = (is, there)
+
+pub rest-unmarked : (byte : ℕ) (bytes : List ℕ) → IsUnmarked (byte ∷ bytes) → IsUnmarked bytes
+rest-unmarked byte bytes plain = (first-unmarked byte bytes plain).1
+
+pub more-unmarked : (byte : ℕ) (bytes : List ℕ) → is_mark byte ≡ false → IsUnmarked bytes → IsUnmarked (byte ∷ bytes)
+more-unmarked byte bytes is plain = subst (λ b. elim b [ true ↦ false | false ↦ is_unmarked bytes ] ≡ true) (sym is) plain
+
+byte-same : (shown : Bool) (byte : ℕ) → is_mark byte ≡ false → unmarked_byte shown byte ≡ byte
+byte-same shown byte is = ap (λ b. elim b [ true ↦ elim shown [ true ↦ byte | false ↦ 0 ] | false ↦ byte ]) is
+
+pub unmarked-same : (shown : Bool) (bytes : List ℕ) → IsUnmarked bytes → unmarked shown bytes ≡ bytes
+unmarked-same shown [] plain = refl
+unmarked-same shown (byte ∷ bytes) plain =
+    let parts = first-unmarked byte bytes plain in cc (byte-same shown byte parts.0, unmarked-same shown bytes parts.1)
+
+pub length-unmarked : (shown : Bool) (bytes : List ℕ) → length (unmarked shown bytes) ≡ length bytes
+length-unmarked shown [] = refl
+length-unmarked shown (byte ∷ bytes) = omega (arith, length-unmarked shown bytes)
+
+pub unmarked-append : (xs ys : List ℕ) → IsUnmarked xs → IsUnmarked ys → IsUnmarked (xs ++ ys)
+unmarked-append [] ys plain more = more
+unmarked-append (byte ∷ bytes) ys plain more =
+    let parts = first-unmarked byte bytes plain in more-unmarked byte (bytes ++ ys) parts.0 (unmarked-append bytes ys parts.1 more)
+
+-- ## Names and digits
+
+pub is-no-mark : (byte : ℕ) → (byte ≡ opens → ⊥) → (byte ≡ closes → ⊥) → is_mark byte ≡ false
+is-no-mark byte one two = go (nat_eq byte opens) refl (nat_eq byte closes) refl
+  where
+    go : (b : Bool) → nat_eq byte opens ≡ b → (c : Bool) → nat_eq byte closes ≡ c → (nat_eq byte opens || nat_eq byte closes) ≡ false
+    go true is c other = absurd (one (eqb-true byte opens is))
+    go false is true other = absurd (two (eqb-true byte closes other))
+    go false is false other = rw (is, other) refl
+
+pub each-unmarked : (P : ℕ → Type 0) → ((byte : ℕ) → P byte → is_mark byte ≡ false) → (bytes : List ℕ) → AllByRecursion P bytes → IsUnmarked bytes
+each-unmarked P none [] each = refl
+each-unmarked P none (byte ∷ bytes) each = more-unmarked byte bytes (none byte each.0) (each-unmarked P none bytes each.1)
+
+pub name-byte : (byte : ℕ) → is_name_byte Cpp byte ≡ true → is_mark byte ≡ false
+name-byte byte is = is-no-mark byte (λ e. false≢true (ap (is_name_byte Cpp) (sym e) ∙ is)) (λ e. false≢true (ap (is_name_byte Cpp) (sym e) ∙ is))
+
+digit-byte : (byte : ℕ) → is_decimal_digit byte ≡ true → is_mark byte ≡ false
+digit-byte byte is = is-no-mark byte (λ e. false≢true (ap is_decimal_digit (sym e) ∙ is)) (λ e. false≢true (ap is_decimal_digit (sym e) ∙ is))
+
+-- a name has none
+pub name-unmarked : (s : List ℕ) (at : ℕ) (name : List ℕ) (end : ℕ) → IsNameAt s at name end → IsUnmarked name
+name-unmarked s at name end is =
+    subst IsUnmarked is.own (each-unmarked (λ b. is_name_byte Cpp b ≡ true) name-byte is.token.own is.is_name.each)
+
+-- nor have digits
+pub digits-unmarked : (digits : List ℕ) → AllByRecursion (λ b. is_decimal_digit b ≡ true) digits → IsUnmarked digits
+digits-unmarked digits each = each-unmarked (λ b. is_decimal_digit b ≡ true) digit-byte digits each
+
+suffix-byte : (byte : ℕ) → is_suffix_byte byte ≡ true → is_mark byte ≡ false
+unfolding is_suffix_byte
+suffix-byte byte is = is-no-mark byte (λ e. false≢true (ap is_suffix_byte (sym e) ∙ is)) (λ e. false≢true (ap is_suffix_byte (sym e) ∙ is))
+
+-- nor has a suffix
+pub suffix-unmarked : (suffix : List ℕ) → IsSuffix suffix → IsUnmarked suffix
+suffix-unmarked [] is = absurd is
+suffix-unmarked (d ∷ []) is = absurd is
+suffix-unmarked (d ∷ b ∷ bs) is =
+    more-unmarked d (b ∷ bs) (subst (λ c. is_mark c ≡ false) (sym is.0) refl) (each-unmarked (λ c. is_suffix_byte c ≡ true) suffix-byte (b ∷ bs) is.1)
+
+pub source-unmarked : (name : List ℕ) → IsUnmarked name → IsUnmarked (source_text name)
+unfolding source_text
+source-unmarked name plain = go (begins_with (codes "_GLOBAL__N") name)
+  where
+    go : (anonymous : Bool) → IsUnmarked (elim anonymous [ true ↦ codes "(anonymous namespace)" | false ↦ name ])
+    go true = refl
+    go false = plain
+
+-- ## Texts of tables
+
+abbrev are_unmarked : List Naming → Bool
+are_unmarked [] = true
+are_unmarked (n ∷ ns) = elim (is_unmarked n.text) [ true ↦ are_unmarked ns | false ↦ false ]
+
+looked-up : (table : List Naming) → are_unmarked table ≡ true → (code : List ℕ) → IsUnmarked (look_up code table)
+unfolding look_up
+looked-up [] all code = refl
+looked-up (n ∷ ns) all code = go (λ there. looked-up ns there code) (is_unmarked n.text) refl all (same_bytes code n.code)
+  where
+    go : (are_unmarked ns ≡ true → IsUnmarked (look_up code ns)) → (b : Bool) → is_unmarked n.text ≡ b
+        → elim b [ true ↦ are_unmarked ns | false ↦ false ] ≡ true → (same : Bool)
+        → IsUnmarked (elim same [ true ↦ n.text | false ↦ look_up code ns ])
+    go rest false is there same = absurd (false≢true there)
+    go rest true is there true = is
+    go rest true is there false = rest there
+
+pub builtin-unmarked : (code : List ℕ) → IsUnmarked (look_up code builtin_texts)
+unfolding builtin_texts
+builtin-unmarked code = looked-up builtin_texts refl code
+
+pub abbreviation-unmarked : (code : List ℕ) → IsUnmarked (look_up code abbreviation_texts)
+unfolding abbreviation_texts
+abbreviation-unmarked code = looked-up abbreviation_texts refl code
+
+pub special-unmarked : (code : List ℕ) → IsUnmarked (look_up code special_texts)
+unfolding special_texts
+special-unmarked code = looked-up special_texts refl code
+
+pub ending-unmarked : (code : List ℕ) → IsUnmarked (look_up code literal_endings)
+unfolding literal_endings
+ending-unmarked code = looked-up literal_endings refl code
+
+pub operator-unmarked : (a b : ℕ) → IsUnmarked (operator_text a b)
+unfolding operator_texts
+operator-unmarked a b = unmarked-append (codes "operator") (look_up (a ∷ b ∷ []) operator_texts) refl (looked-up operator_texts refl (a ∷ b ∷ []))
+
+-- ## Texts by what they say
+
+pub thunk-unmarked : (kind : Thunk) → IsUnmarked (thunk_text kind)
+unfolding thunk_text
+thunk-unmarked (adjusting (non_virtual a)) = refl
+thunk-unmarked (adjusting (by_table a b)) = refl
+thunk-unmarked (covariant a b) = refl
+
+pub truth-unmarked : (b : Bool) → IsUnmarked (cond b (codes "true") (codes "false"))
+truth-unmarked true = refl
+truth-unmarked false = refl
+
+if-unmarked : (b : Bool) (text : List ℕ) → IsUnmarked text → IsUnmarked (cond b text [])
+if-unmarked true text plain = plain
+if-unmarked false text plain = refl
+
+ref-unmarked : (ref : RefQualifier) → IsUnmarked (ref_text ref)
+unfolding ref_text
+ref-unmarked any_value = refl
+ref-unmarked lvalue_only = refl
+ref-unmarked rvalue_only = refl
+
+pub qualifiers-unmarked : (q : Qualifiers) (ref : RefQualifier) → IsUnmarked (encoding_text q ref)
+unfolding encoding_text qualifier_text
+qualifiers-unmarked q ref =
+    let const = cond q.const (codes " const") [] in
+    let volatile = cond q.volatile (codes " volatile") [] in
+    let restrict = cond q.restrict (codes " restrict") [] in
+    unmarked-append (const ++ volatile ++ restrict) (ref_text ref)
+    (unmarked-append (const ++ volatile) restrict
+    (unmarked-append const volatile (if-unmarked q.const (codes " const") refl) (if-unmarked q.volatile (codes " volatile") refl))
+    (if-unmarked q.restrict (codes " restrict") refl)) (ref-unmarked ref)

@@ -1,0 +1,358 @@
+-- What is written of a tree is what it shows once what is between marks is left out.
+use Rattle.std.proofs.Common.{◌≡◌, ◌≢◌, ◌⊎◌, inl, inr, refl, ap, sym, subst, ◌∙◌, ℕ, zero, suc, ◌+◌, ◌-◌, ◌*◌, ◌≤◌, ◌<◌, List, [], ◌∷◌, ◌++◌, length, Bool, true, false, ◌||◌, nat_eq, arith, get_or, append-nil, append_assoc, length-append}
+use Rattle.std.specs.Prelude.{Option, Some, None}
+use Rattle.std.specs.Option.{OnSome}
+use Rattle.std.proofs.lemmas.Bool.{false≢true}
+use Rattle.sym_print.specs.declared.detail.Detail.{Detail}
+use Rattle.sym_print.specs.Details.{has_arguments}
+use Rattle.sym_print.specs.Unfold.{PartOf, text, sub, printed_parts, printed_to, printed}
+use Rattle.sym_print.specs.Unshared.{Unshared, text_of, cost_of}
+use Rattle.sym_direct.specs.Marked.{opens, closes, visible, unless_within, HasNoZero}
+use Rattle.cpp_grammar.specs.Answer.{shown, root_item}
+use Rattle.cpp_grammar.specs.Items.{Form, left, low, first, Context, Item}
+use Rattle.cpp_grammar.specs.Parts.{as_item, says, list_part, instance_parts, left_parts, low_parts, parts_in, not_empty, parts}
+use Rattle.cpp_grammar.specs.Ranks.{rank}
+use Rattle.cpp_grammar.specs.Term.{Term, instance}
+use Rattle.cpp_direct.specs.Symbol.{Symbol, detail_by, detail_of}
+use Rattle.cpp_direct.specs.WriterInvariant.{IsWhole, IsShown}
+use Rattle.cpp_direct.specs.WrittenParts.{unmarked_byte, unmarked, unmarked_parts, is_unmarked, IsUnmarked, written_instance, written_in, written_parts, written}
+use Rattle.cpp_direct.proofs.PrintedParts.{list-unmarked}
+use Rattle.cpp_direct.proofs.Unmarked.{is_mark, more-unmarked, unmarked-same, length-unmarked}
+
+-- ## Bytes
+
+no-mark : (byte : ℕ) → is_mark byte ≡ false → (nat_eq byte opens ≡ false) × (nat_eq byte closes ≡ false)
+no-mark byte is = go (nat_eq byte opens) refl is
+  where
+    go : (b : Bool) → nat_eq byte opens ≡ b → (b || nat_eq byte closes) ≡ false → (nat_eq byte opens ≡ false) × (nat_eq byte closes ≡ false)
+    go true e f = absurd (false≢true (sym f))
+    go false e f = (e, f)
+
+-- a byte that is no mark
+visible-byte : (depth byte : ℕ) (bytes : List ℕ) → is_mark byte ≡ false → visible depth (byte ∷ bytes) ≡ unless_within depth byte (visible depth bytes)
+unfolding visible
+visible-byte depth byte bytes is =
+    let none = no-mark byte is in
+    let ended : List ℕ = elim (nat_eq byte closes) [ true ↦ visible (depth - 1) bytes | false ↦ unless_within depth byte (visible depth bytes) ] in
+    ap (λ b. elim b [ true ↦ visible (depth + 1) bytes | false ↦ ended ]) none.0
+    ∙ ap (λ b. elim b [ true ↦ visible (depth - 1) bytes | false ↦ unless_within depth byte (visible depth bytes) ]) none.1
+
+visible-opening : (depth : ℕ) (bytes : List ℕ) → visible depth (opens ∷ bytes) ≡ visible (depth + 1) bytes
+unfolding visible
+visible-opening depth bytes = refl
+
+visible-closing : (depth : ℕ) (bytes : List ℕ) → visible depth (closes ∷ bytes) ≡ visible (depth - 1) bytes
+unfolding visible
+visible-closing depth bytes = refl
+
+-- no byte of a text is a mark where arguments aren't shown
+unmarked-byte : (byte : ℕ) → is_mark (unmarked_byte false byte) ≡ false
+unmarked-byte byte = go (is_mark byte) refl
+  where
+    go : (b : Bool) → is_mark byte ≡ b → is_mark (elim b [ true ↦ 0 | false ↦ byte ]) ≡ false
+    go true is = refl
+    go false is = is
+
+-- such a text is left out in a stretch,
+text-hidden : (depth : ℕ) (bytes rest : List ℕ) → visible (suc depth) (unmarked false bytes ++ rest) ≡ visible (suc depth) rest
+unfolding unless_within
+text-hidden depth [] rest = refl
+text-hidden depth (byte ∷ bytes) rest =
+    visible-byte (suc depth) (unmarked_byte false byte) (unmarked false bytes ++ rest) (unmarked-byte byte) ∙ text-hidden depth bytes rest
+
+-- and seen outside of all
+text-seen : (bytes rest : List ℕ) → visible 0 (unmarked false bytes ++ rest) ≡ unmarked false bytes ++ visible 0 rest
+unfolding unless_within
+text-seen [] rest = refl
+text-seen (byte ∷ bytes) rest =
+    visible-byte 0 (unmarked_byte false byte) (unmarked false bytes ++ rest) (unmarked-byte byte) ∙ ap (λ l. unmarked_byte false byte ∷ l) (text-seen bytes rest)
+
+unmarked-join : (xs ys : List ℕ) → unmarked false (xs ++ ys) ≡ unmarked false xs ++ unmarked false ys
+unmarked-join [] ys = refl
+unmarked-join (x ∷ xs) ys = ap (λ l. unmarked_byte false x ∷ l) (unmarked-join xs ys)
+
+-- ## Parts
+
+-- in a stretch nothing is seen of it
+abbrev IsHidden : Unshared → Type 0
+IsHidden u = (depth : ℕ) (rest : List ℕ) → visible (suc depth) (text_of u ++ rest) ≡ visible (suc depth) rest
+
+-- outside of all the text of the other one is seen
+abbrev IsSeen : (u shown : Unshared) → Type 0
+IsSeen u v = (rest : List ℕ) → visible 0 (text_of u ++ rest) ≡ unmarked false (text_of v) ++ visible 0 rest
+
+parts-hidden : (f : Item → Unshared) → ((i : Item) → IsHidden (f i)) → (ps : List (PartOf Item)) → IsHidden (printed_parts f (not_empty (unmarked_parts false ps)))
+unfolding not_empty
+parts-hidden f each [] depth rest = refl
+parts-hidden f each (text [] ∷ ps) depth rest = parts-hidden f each ps depth rest
+parts-hidden f each (text (b ∷ bs) ∷ ps) depth rest =
+    let more = text_of (printed_parts f (not_empty (unmarked_parts false ps))) in
+    ap (visible (suc depth)) (append_assoc (unmarked false (b ∷ bs)) more rest) ∙ text-hidden depth (b ∷ bs) (more ++ rest) ∙ parts-hidden f each ps depth rest
+parts-hidden f each (sub i ∷ ps) depth rest =
+    let more = text_of (printed_parts f (not_empty (unmarked_parts false ps))) in
+    ap (visible (suc depth)) (append_assoc (text_of (f i)) more rest) ∙ each i depth (more ++ rest) ∙ parts-hidden f each ps depth rest
+
+parts-seen : (f h : Item → Unshared) → ((i : Item) → IsSeen (f i) (h i)) → (ps : List (PartOf Item))
+    → IsSeen (printed_parts f (not_empty (unmarked_parts false ps))) (printed_parts h (not_empty ps))
+unfolding not_empty
+parts-seen f h each [] rest = refl
+parts-seen f h each (text [] ∷ ps) rest = parts-seen f h each ps rest
+parts-seen f h each (text (b ∷ bs) ∷ ps) rest =
+    let own = b ∷ bs in
+    let more = text_of (printed_parts f (not_empty (unmarked_parts false ps))) in
+    let others = text_of (printed_parts h (not_empty ps)) in
+    ap (visible 0) (append_assoc (unmarked false own) more rest) ∙ text-seen own (more ++ rest) ∙ ap (λ l. unmarked false own ++ l) (parts-seen f h each ps rest)
+    ∙ sym (append_assoc (unmarked false own) (unmarked false others) (visible 0 rest)) ∙ ap (λ l. l ++ visible 0 rest) (sym (unmarked-join own others))
+parts-seen f h each (sub i ∷ ps) rest =
+    let own = text_of (h i) in
+    let more = text_of (printed_parts f (not_empty (unmarked_parts false ps))) in
+    let others = text_of (printed_parts h (not_empty ps)) in
+    ap (visible 0) (append_assoc (text_of (f i)) more rest) ∙ each i (more ++ rest) ∙ ap (λ l. unmarked false own ++ l) (parts-seen f h each ps rest)
+    ∙ sym (append_assoc (unmarked false own) (unmarked false others) (visible 0 rest)) ∙ ap (λ l. l ++ visible 0 rest) (sym (unmarked-join own others))
+
+parts-joined : (f : Item → Unshared) (ps qs : List (PartOf Item))
+    → text_of (printed_parts f (not_empty (ps ++ qs))) ≡ text_of (printed_parts f (not_empty ps)) ++ text_of (printed_parts f (not_empty qs))
+unfolding not_empty
+parts-joined f [] qs = refl
+parts-joined f (text [] ∷ ps) qs = parts-joined f ps qs
+parts-joined f (text (b ∷ bs) ∷ ps) qs =
+    ap (λ l. (b ∷ bs) ++ l) (parts-joined f ps qs)
+    ∙ sym (append_assoc (b ∷ bs) (text_of (printed_parts f (not_empty ps))) (text_of (printed_parts f (not_empty qs))))
+parts-joined f (sub i ∷ ps) qs =
+    ap (λ l. text_of (f i) ++ l) (parts-joined f ps qs)
+    ∙ sym (append_assoc (text_of (f i)) (text_of (printed_parts f (not_empty ps))) (text_of (printed_parts f (not_empty qs))))
+
+-- ## Instances
+
+-- the text of an instance's arguments is hidden
+arguments-hidden : (f : Item → Unshared) → ((i : Item) → IsHidden (f i)) → (c : Context) (a : Term) → IsHidden (printed_parts f (not_empty (list_part first c a)))
+arguments-hidden f each c a =
+    subst (λ ps. IsHidden (printed_parts f (not_empty ps))) (list-unmarked false first c a) (parts-hidden f each (list_part first c a))
+
+-- so what follows the name of a template up to the last mark is left out
+abbrev marked_text : (f : Item → Unshared) (c : Context) (a : Term) → List ℕ
+marked_text f c a = text_of (printed_parts f (not_empty (list_part first c a ++ (text (closes ∷ []) ∷ []))))
+
+stretch-left : (f : Item → Unshared) → ((i : Item) → IsHidden (f i)) → (c : Context) (a : Term) (depth : ℕ) (rest : List ℕ)
+    → visible depth (opens ∷ (marked_text f c a ++ rest)) ≡ visible depth rest
+unfolding not_empty
+stretch-left f each c a depth rest =
+    let inner = text_of (printed_parts f (not_empty (list_part first c a))) in
+    let one : depth + 1 ≡ suc depth = omega arith in
+    let back : suc depth - 1 ≡ depth = omega arith in
+    visible-opening depth (marked_text f c a ++ rest)
+    ∙ ap (λ n. visible n (marked_text f c a ++ rest)) one
+    ∙ ap (λ l. visible (suc depth) (l ++ rest)) (parts-joined f (list_part first c a) (text (closes ∷ []) ∷ []))
+    ∙ ap (visible (suc depth)) (append_assoc inner (closes ∷ []) rest)
+    ∙ arguments-hidden f each c a depth (closes ∷ rest)
+    ∙ visible-closing (suc depth) rest
+    ∙ ap (λ n. visible n rest) back
+
+instance-hidden : (f : Item → Unshared) → ((i : Item) → IsHidden (f i)) → (c : Context) (t a : Term)
+    → IsHidden (printed_parts f (not_empty (written_instance false c t a)))
+unfolding not_empty
+instance-hidden f each c t a depth rest =
+    let own = text_of (f (record { tree = t; form = left; context = c })) in
+    ap (visible (suc depth)) (append_assoc own (opens ∷ marked_text f c a) rest)
+    ∙ each (record { tree = t; form = left; context = c }) depth (opens ∷ (marked_text f c a ++ rest))
+    ∙ stretch-left f each c a (suc depth) rest
+
+instance-seen : (f h : Item → Unshared) → ((i : Item) → IsHidden (f i)) → ((i : Item) → IsSeen (f i) (h i)) → (c : Context) (t a : Term)
+    → IsSeen (printed_parts f (not_empty (written_instance false c t a))) (printed_parts h (not_empty (instance_parts false c t a)))
+unfolding not_empty instance_parts
+instance-seen f h hidden each c t a rest =
+    let i : Item = record { tree = t; form = left; context = c } in
+    let own = text_of (f i) in
+    ap (visible 0) (append_assoc own (opens ∷ marked_text f c a) rest)
+    ∙ each i (opens ∷ (marked_text f c a ++ rest))
+    ∙ ap (λ l. unmarked false (text_of (h i)) ++ l) (stretch-left f hidden c a 0 rest)
+    ∙ ap (λ l. unmarked false l ++ visible 0 rest) (sym (append-nil (text_of (h i))))
+
+-- ## Costs
+
+parts-cost : (f h : Item → Unshared) → ((i : Item) → cost_of (h i) ≤ cost_of (f i)) → (ps : List (PartOf Item))
+    → cost_of (printed_parts h (not_empty ps)) ≤ cost_of (printed_parts f (not_empty (unmarked_parts false ps)))
+unfolding not_empty
+parts-cost f h each [] = omega arith
+parts-cost f h each (text [] ∷ ps) = parts-cost f h each ps
+parts-cost f h each (text (b ∷ bs) ∷ ps) = omega (arith, parts-cost f h each ps, length-unmarked false bs)
+parts-cost f h each (sub i ∷ ps) = omega (arith, parts-cost f h each ps, each i)
+
+instance-cost : (f h : Item → Unshared) → ((i : Item) → cost_of (h i) ≤ cost_of (f i)) → (c : Context) (t a : Term)
+    → cost_of (printed_parts h (not_empty (instance_parts false c t a))) ≤ cost_of (printed_parts f (not_empty (written_instance false c t a)))
+unfolding not_empty instance_parts
+instance-cost f h each c t a = omega (arith, each (record { tree = t; form = left; context = c }))
+
+-- ## Items
+
+-- What is written of a tree in a form is what it prints, unless it is an instance.
+abbrev Views : Detail → Context → Form → Term → Type 0
+Views d c form t =
+    (written_in d c form t ≡ unmarked_parts (has_arguments d) (parts_in d c form t))
+    ⊎ ((u : Term) × (a : Term) × (written_in d c form t ≡ written_instance (has_arguments d) c u a)
+    × (parts_in d c form t ≡ instance_parts (has_arguments d) c u a))
+
+left-views : (d : Detail) (c : Context) (t : Term) → Views d c left t
+unfolding parts_in left_parts
+left-views d c (instance u a) = inr (u, a, refl, refl)
+left-views d c t = inl refl
+
+low-views : (d : Detail) (c : Context) (t : Term) → Views d c low t
+unfolding parts_in low_parts left_parts
+low-views d c (instance u a) = inr (u, a, refl, refl)
+low-views d c t = inl refl
+
+views : (d : Detail) (c : Context) (form : Form) (t : Term) → Views d c form t
+views d c left t = left-views d c t
+views d c low t = low-views d c t
+views d c form t = inl refl
+
+-- so much is said of what is written of an item and of what it prints, each down to a depth
+step : (Q : List (PartOf Item) → List (PartOf Item) → Type 0) (d : Detail) → has_arguments d ≡ false
+    → ((ps : List (PartOf Item)) → Q (not_empty (unmarked_parts false ps)) (not_empty ps))
+    → ((c : Context) (t a : Term) → Q (not_empty (written_instance false c t a)) (not_empty (instance_parts false c t a)))
+    → (i : Item) → Q (written_parts d i) (parts d i)
+unfolding written_parts parts
+step Q d brief plain marked i = go (views d i.context i.form i.tree)
+  where
+    go : Views d i.context i.form i.tree → Q (not_empty (written_in d i.context i.form i.tree)) (not_empty (parts_in d i.context i.form i.tree))
+    go (inl is) =
+        subst (λ ps. Q (not_empty ps) (not_empty (parts_in d i.context i.form i.tree)))
+        (sym (is ∙ ap (λ b. unmarked_parts b (parts_in d i.context i.form i.tree)) brief)) (plain (parts_in d i.context i.form i.tree))
+    go (inr (u, a, is, other)) =
+        subst (λ ps. Q (not_empty ps) (not_empty (parts_in d i.context i.form i.tree))) (sym (is ∙ ap (λ b. written_instance b i.context u a) brief))
+        (subst (λ ps. Q (not_empty (written_instance false i.context u a)) (not_empty ps)) (sym (other ∙ ap (λ b. instance_parts b i.context u a) brief))
+        (marked i.context u a))
+
+hidden-to : (d : Detail) → has_arguments d ≡ false → (n : ℕ) (i : Item) → IsHidden (printed_to (written_parts d) n i)
+unfolding printed_to
+hidden-to d brief zero i depth rest = refl
+hidden-to d brief (suc n) i depth rest =
+    let f = printed_to (written_parts d) n in
+    step (λ ps qs. IsHidden (printed_parts f ps)) d brief (λ ps. parts-hidden f (hidden-to d brief n) ps) (λ c t a. instance-hidden f (hidden-to d brief n) c t a) i
+    depth rest
+
+seen-to : (d : Detail) → has_arguments d ≡ false → (n : ℕ) (i : Item) → IsSeen (printed_to (written_parts d) n i) (printed_to (parts d) n i)
+unfolding printed_to
+seen-to d brief zero i rest = refl
+seen-to d brief (suc n) i rest =
+    let f = printed_to (written_parts d) n in
+    let h = printed_to (parts d) n in
+    step (λ ps qs. IsSeen (printed_parts f ps) (printed_parts h qs)) d brief (λ ps. parts-seen f h (seen-to d brief n) ps)
+    (λ c t a. instance-seen f h (hidden-to d brief n) (seen-to d brief n) c t a) i rest
+
+cost-to : (d : Detail) → has_arguments d ≡ false → (n : ℕ) (i : Item) → cost_of (printed_to (parts d) n i) ≤ cost_of (printed_to (written_parts d) n i)
+unfolding printed_to
+cost-to d brief zero i = omega arith
+cost-to d brief (suc n) i =
+    let f = printed_to (written_parts d) n in
+    let h = printed_to (parts d) n in
+    step (λ ps qs. cost_of (printed_parts h qs) ≤ cost_of (printed_parts f ps)) d brief (λ ps. parts-cost f h (cost-to d brief n) ps)
+    (λ c t a. instance-cost f h (cost-to d brief n) c t a) i
+
+-- **What is visible of what is written of an item is what it shows**, where no byte of that is a mark.
+visible-written : (d : Detail) → has_arguments d ≡ false → (i : Item) → visible 0 (text_of (written d i)) ≡ unmarked false (text_of (shown d i))
+unfolding printed visible
+visible-written d brief i =
+    let u = text_of (written d i) in
+    ap (visible 0) (sym (append-nil u)) ∙ seen-to d brief (suc (rank i)) i [] ∙ append-nil (unmarked false (text_of (shown d i)))
+
+-- It costs no more.
+shown-cost : (d : Detail) → has_arguments d ≡ false → (i : Item) → cost_of (shown d i) ≤ cost_of (written d i)
+unfolding printed
+shown-cost d brief i = cost-to d brief (suc (rank i)) i
+
+-- ## Where arguments are shown
+
+same-byte : (byte : ℕ) → unmarked_byte true byte ≡ byte
+same-byte byte = go (is_mark byte)
+  where
+    go : (b : Bool) → elim b [ true ↦ byte | false ↦ byte ] ≡ byte
+    go true = refl
+    go false = refl
+
+same-bytes : (bytes : List ℕ) → unmarked true bytes ≡ bytes
+same-bytes [] = refl
+same-bytes (byte ∷ bytes) = cc (same-byte byte, same-bytes bytes)
+
+same-parts : (ps : List (PartOf Item)) → unmarked_parts true ps ≡ ps
+same-parts [] = refl
+same-parts (text b ∷ ps) = cc (same-bytes b, same-parts ps)
+same-parts (sub i ∷ ps) = ap (λ qs. sub i ∷ qs) (same-parts ps)
+
+whole-parts : (d : Detail) → has_arguments d ≡ true → (i : Item) → written_parts d i ≡ parts d i
+unfolding written_parts parts
+whole-parts d whole i = ap not_empty (go (views d i.context i.form i.tree))
+  where
+    go : Views d i.context i.form i.tree → written_in d i.context i.form i.tree ≡ parts_in d i.context i.form i.tree
+    go (inl is) = is ∙ ap (λ b. unmarked_parts b (parts_in d i.context i.form i.tree)) whole ∙ same-parts (parts_in d i.context i.form i.tree)
+    go (inr (u, a, is, other)) =
+        is ∙ ap (λ b. written_instance b i.context u a) whole ∙ sym (other ∙ ap (λ b. instance_parts b i.context u a) whole)
+
+same-printed : (f h : Item → Unshared) → ((i : Item) → f i ≡ h i) → (ps : List (PartOf Item)) → printed_parts f ps ≡ printed_parts h ps
+same-printed f h same [] = refl
+same-printed f h same (text b ∷ ps) = cc (same-printed f h same ps)
+same-printed f h same (sub i ∷ ps) = cc (same i, same-printed f h same ps)
+
+same-to : (d : Detail) → has_arguments d ≡ true → (n : ℕ) (i : Item) → printed_to (written_parts d) n i ≡ printed_to (parts d) n i
+unfolding printed_to
+same-to d whole zero i = refl
+same-to d whole (suc n) i =
+    same-printed (printed_to (written_parts d) n) (printed_to (parts d) n) (same-to d whole n) (written_parts d i)
+    ∙ ap (λ ps. printed_parts (printed_to (parts d) n) ps) (whole-parts d whole i)
+
+same-written : (d : Detail) → has_arguments d ≡ true → (i : Item) → written d i ≡ shown d i
+unfolding printed
+same-written d whole i = same-to d whole (suc (rank i)) i
+
+-- ## Symbols
+
+-- a text of which no byte is 0 without its marks has none
+none-marked : (bytes : List ℕ) → HasNoZero (unmarked false bytes) → IsUnmarked bytes
+none-marked [] plain = refl
+none-marked (byte ∷ bytes) plain =
+    more-unmarked byte bytes (go (is_mark byte) refl (plain 0 0 (omega arith))) (none-marked bytes (λ k d less. plain (suc k) d (omega (arith, less))))
+  where
+    go : (b : Bool) → is_mark byte ≡ b → ◌≢◌ {A = ℕ} (elim b [ true ↦ 0 | false ↦ byte ]) 0 → is_mark byte ≡ false
+    go true is some = absurd (some refl)
+    go false is some = is
+
+brief-by : (is_bare : Bool) → has_arguments (detail_by is_bare true) ≡ false
+brief-by true = refl
+brief-by false = refl
+
+whole-by : (is_bare : Bool) → has_arguments (detail_by is_bare false) ≡ true
+whole-by true = refl
+whole-by false = refl
+
+-- What is left of what was written of a whole symbol is what it shows,
+pub brief-shown : (s : Symbol) → s.is_brief ≡ true → (old new : List ℕ) → IsWhole s old → new ≡ visible 0 old → HasNoZero new → IsShown s (length old) new
+brief-shown s brief old new p is plain =
+    let d = detail_of s in
+    let none : has_arguments d ≡ false = ap (λ b. has_arguments (detail_by s.is_bare b)) brief ∙ brief-by s.is_bare in
+    let i = root_item p.whole in
+    let left_is : unmarked false (text_of (shown d i)) ≡ new = sym (visible-written d none i) ∙ ap (visible 0) p.text_is ∙ sym is in
+    record {
+      whole = p.whole;
+      stands = p.stands;
+      text_is = sym (unmarked-same false (text_of (shown d i)) (none-marked (text_of (shown d i)) (subst HasNoZero (sym left_is) plain))) ∙ left_is;
+      cost = omega (arith, p.cost, shown-cost d none i);
+    }
+
+-- and where arguments are shown all of it is.
+pub whole-shown : (s : Symbol) → s.is_brief ≡ false → (bytes : List ℕ) → IsWhole s bytes → IsShown s (length bytes) bytes
+whole-shown s whole bytes p =
+    let d = detail_of s in
+    let same = same-written d (ap (λ b. has_arguments (detail_by s.is_bare b)) whole ∙ whole-by s.is_bare) (root_item p.whole) in
+    record {
+      whole = p.whole;
+      stands = p.stands;
+      text_is = ap text_of (sym same) ∙ p.text_is;
+      cost = omega (arith, p.cost, ap cost_of same);
+    }
+
+-- So is what is left where something is.
+pub left-shown : {T : Type 0} (r : Option T) (s : Symbol) → s.is_brief ≡ true → (old new : List ℕ) → IsWhole s old → OnSome r (new ≡ visible 0 old)
+    → OnSome r (HasNoZero new) → OnSome r (IsShown s (length old) new)
+left-shown None s brief old new p is plain = tt
+left-shown (Some x) s brief old new p is plain = brief-shown s brief old new p is plain

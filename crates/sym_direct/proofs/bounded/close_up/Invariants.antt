@@ -1,0 +1,10 @@
+-- The bytes before the place are closed up.
+use Rattle.std.proofs.Common.{length, ◌-◌}
+use Rattle.sym_direct.proofs.Marking.{AreClosedUp}
+use Rattle.sym_direct.proofs.bounded.close_up.Given as goal
+
+abbrev pub invariant-bytes : goal.invariant-bytes
+invariant-bytes l = AreClosedUp l.fn.bytes l.bytes l.kept l.depth l.at
+
+abbrev pub decreases-bytes : goal.decreases-bytes
+decreases-bytes l = length l.bytes - l.at

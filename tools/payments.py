@@ -1,0 +1,56 @@
+"""Of the proofs that a symbol's bytes pay for what is pressed of it (Short of cpp_press_laws): the lists of productions that are shown alike, from the
+clauses that show them, and for each kind which lemma each of its productions has, from the grammar."""
+import re
+import grammar
+
+FOLDER = "cpp_press_laws/proofs/Short"
+# the lists: function, file, the lemma whose clauses are read, and that which is used
+LISTS = [("type_rows", "Types", "type-pays", "type-gains"), ("free_rows", "Lists", "free-pays", "free-gains"), ("idle_rows", "Lists", "idle-pays", "idle-gains"),
+         ("qualified_rows", "Qualified", "qualified-pays", "qualified-gains"), ("name_rows", "Names", "name-pays", "name-gains")]
+# productions whose lemma isn't called as they are, in any kind or in one
+CALLED = {"Destructor": "destructor-name", "Constructor": "constructor-name", "AddressedLiteral": "addressed-gains", "IntegerLiteral": "integer-gains", "ReferenceType": "reference-gains",
+          ("Plain", "ReferenceType"): "bare-reference-gains", ("Arguments", "Arguments"): "given-gains",
+          ("NestTail", "NestNext"): "λ around at old v new b ready small. nest-next around at old v new b (may-end-behind around.prefix ready small) small"}
+
+def dashed(name): return re.sub(r"(?<!^)(?=[A-Z])", "-", name).lower()
+
+def listed(text, function, lemma):
+    """the productions of a list, by class if it has any"""
+    found = {}
+    for class_, production in re.findall(rf"^{lemma} (?:(\w+) )?Production\.(\w+) is =", text, re.M): found.setdefault(class_, []).append(production)
+    lines = [f"{function}{' ' + class_ if class_ else ''} = {''.join(f'Production.{p} ∷ ' for p in productions)}[]" for class_, productions in found.items()]
+    return found, lines + ([f"{function} _ = []"] if "" not in found else [])
+
+def declarations(crates):
+    """path, name, and the lines of its clauses"""
+    texts = {}
+    for file in ("Types", "Lists", "Qualified", "Names", "Gains"):
+        with open(f"{crates}/{FOLDER}/{file}.antt", encoding="utf-8") as f: texts[file] = f.read()
+    rows = []
+    for function, file, lemma, used in LISTS:
+        found, lines = listed(texts[file], function, lemma)
+        rows += [(used, class_, set(productions)) for class_, productions in found.items()]
+        yield f"{FOLDER}/{file}.antt", function, lines
+    signatures = {name: (class_, int(granted or 0)) for text in texts.values()
+                  for name, class_, granted in re.findall(r"^pub ([\w-]+) : (?:Free|Idle) Production\.\w+ (\w+)(?: (\d+))?$", text, re.M)}
+    classes = dict(re.findall(r"^class_of Kind\.(\w+) = (\w+)$", texts["Gains"], re.M))
+    grants = dict(re.findall(r"^grant Kind\.(\w+) = (\d+)$", texts["Gains"], re.M))
+    def lemma(kind, production):
+        of = classes[kind]
+        for used, class_, productions in rows:
+            own = {"type-gains": "type", "name-gains": "name"}.get(used, class_)
+            if production in productions and (own == of or used == "name-gains" and of == "type"):
+                return f"{used}{' ' + class_ if class_ else ''} Production.{production} refl", own, 0
+        name = CALLED.get((kind, production)) or CALLED.get(production) or dashed(production)
+        if name not in signatures and f"{name}-gains" in signatures or re.search(rf"^pub {re.escape(name)}-gains : ", "".join(texts.values()), re.M): name += "-gains"
+        return name, *signatures.get(name, (of, None))
+    def term(kind, production):
+        text, own, granted = lemma(kind, production)
+        given = f"({text})" if " " in text else text
+        if own == "name" and classes[kind] == "type": return f"named {given}"
+        if kind in grants and granted == 0: return f"granting{'-type' if classes[kind] == 'type' else ''} {grants[kind]} {given}"
+        return text
+    def pairs(terms): return "tt" if not terms else terms[0] if len(terms) == 1 else f"({terms[0]}, {pairs(terms[1:])})"
+    grammar.build()
+    lines = [f"arms Kind.{kind} is = {pairs([term(kind, p) for bytes_, p in alternatives])}" for kind, (empty, alternatives) in grammar.K.items() if kind in classes]
+    yield f"{FOLDER}/Every.antt", "arms", [*lines, "arms _ is = absurd (false≢true is)"]

@@ -1,0 +1,255 @@
+"""The clauses of each tree whose spelling is a row of vocabulary.py (SPELLED): its definition, and the laws that are shown spelling by spelling.
+Each is at the end of a declaration of cpp_press_laws or cpp_spelling whose first clauses are by hand: trees.py writes them there."""
+import re
+from vocabulary import FITTING, SPELLED
+
+def rows(trees):
+    """each tree with a row: its pattern, the sort of its spelling, its parts, and whether it fits nowhere"""
+    from trees import pattern
+    for tree in trees:
+        if tree[0] in SPELLED:
+            head, *parts = SPELLED[tree[0]].split(" | ")
+            yield tree, pattern(tree), head.split()[-1], [Part(part) for part in parts], head.startswith("nowhere")
+
+class Part:
+    def __init__(self, text):
+        tree = re.fullmatch(r"(\w+)\.(as_\w+|under_qualifiers)", text)
+        self.text, self.tree, self.way = text, tree and tree.group(1), tree and tree.group(2)
+    def spelled(self, n, says=False):
+        if self.tree: return f"(ways_of {n} {self.tree}).{self.way}"
+        return f"says {self.text[6:]}" if says and re.fullmatch(r'codes "\w+"', self.text) else f"text {braced(self.text)}"
+    def size(self):
+        """a number, and what is added to it"""
+        if self.tree:
+            own = f"(size {self.tree})"
+            return 0, [{"as_type": f"part_of {self.tree} {own}", "as_prefix": f"part_of {self.tree} {own}", "under_qualifiers": f"bare_of {self.tree} {own}",
+                        "as_parameters": f"with_void {self.tree} {own}"}.get(self.way, own[1:-1])]
+        sum_, others = 0, []
+        for term in self.text.split(" ++ "):
+            listed = re.fullmatch(r'codes "(\w+)"|(?:(?:\w+ ∷ )+\[\])|cond \w+ \(codes "(\w+)"\) (?:\[\]|\(.*\))', term)
+            if listed: sum_ += len(listed.group(1) or listed.group(2) or "") or term.count("∷")
+            else: others.append(f"length {braced(term)}")
+        return sum_, others
+    def facts(self):
+        """what arithmetic needs to know of the length of these bytes"""
+        if self.tree: return [f"front-part {self.tree} (size {self.tree})"] if self.way == "as_prefix" else []
+        if self.text.startswith("cond internal"): return ["internal-short internal name"]
+        if self.text.startswith("cond truth"): return ["truth-short truth"]
+        terms = self.text.split(" ++ ")
+        return [f"length-append {braced(term)} {braced(' ++ '.join(terms[i + 1:]))}" for i, term in enumerate(terms[:-1]) if not term.startswith("codes")]
+
+def braced(text): return f"({text})" if " " in text else text
+def spelled(parts, n, says=False): return " and ".join(part.spelled(n, says) for part in parts)
+def total(parts):
+    sizes = [part.size() for part in parts]
+    sum_, others = sum(size[0] for size in sizes), [term for size in sizes for term in size[1]]
+    return " + ".join(([str(sum_)] if sum_ or not others else []) + others)
+def arithmetic(*parts):
+    facts = [fact for part in parts for fact in part.facts()]
+    return f"(omega ({', '.join(['arith', *facts])}))" if facts else "(omega arith)"
+def side(parts, i, of):
+    """the fact of one of the subtrees, from that of either"""
+    trees = [part for part in parts if part.tree]
+    return f"(λ x w. {of} x ({'inl' if parts[i] is trees[0] else 'inr'} w))" if len(trees) > 1 else of
+
+def definitions(trees):
+    for tree, shape, sort, parts, nowhere in rows(trees):
+        text = spelled(parts, "here" if sort == "encoding" else "n", True)
+        own = {"component": f"type_ways (component n {shape} ({text}))", "encoding": f"encoding_ways (λ here. {text})", "prefix": f"record no_ways {{ as_prefix = {text} }}",
+               "none": "no_ways"}.get(sort, f"{sort}_ways ({text})")
+        yield f"ways_of n {shape} = {own}"
+
+def sizes(trees):
+    for tree, shape, sort, parts, nowhere in rows(trees):
+        # a builtin type has one byte at least
+        if sort != "none": yield f"size {shape} = {'1 + ' if tree[0] == 'builtin' else ''}{total(parts)}"
+    yield "size _ = 1"
+
+def keeping(trees):
+    """components stay, and those of a subtree that is closed are kept apart from others"""
+    def law(parts, i, n, known, of):
+        part, rest = parts[i], spelled(parts[i + 1:], n)
+        known_of = f"{known} {braced(spelled([part], n))}" if part.tree else f"{known} {braced(part.text)}"
+        if i + 1 == len(parts): return f"keeps {part.tree} {known} way.{part.way} {side(parts, i, of)}" if part.tree else f"text-keeps {known_of}"
+        after = f"({law(parts, i + 1, n, known, of)})"
+        if part.way == "as_encoding": return f"behind-and-keeps {known_of} ({rest}) (keeps {part.tree} {known} way.{part.way} {of}) {after}"
+        if part.tree: return f"and-keeps {known_of} ({rest}) (keeps {part.tree} {known} way.{part.way} {side(parts, i, of)}) {after}"
+        if parts[i + 1].way != "as_encoding": return f"behind-text-keeps {known_of} ({rest}) {after}"
+        return f"behind-bytes-keeps {known_of} ({rest}) {'(thunk-some kind)' if tree[0] == 'thunk' else '(omega arith)'} {after}"
+    for tree, shape, sort, parts, nowhere in rows(trees):
+        own, subtrees = f"open_ n R {shape}", [part for part in parts if part.tree]
+        if sort == "none": yield f"keeps {shape} open_ n R = no-ways-keep {own}"
+        elif sort == "encoding":
+            raw = [f"{'Whole' if part.way == 'as_type' else 'Inside'} {part.tree}" for part in subtrees]
+            if subtrees[0].way == "as_encoding": raw = f"(λ x. Shut ({raw[0]} x) x) (λ x s. s.1)"
+            else: raw = (f"({raw[0]})" if len(raw) == 1 else f"(λ x. {' ⊎ '.join(fact + ' x' for fact in raw)})") + " (λ x s. s)"
+            yield f"keeps {shape} open_ n R = encoding-ways-keep {own} _ {raw} (λ here h. {law(parts, 0, 'here', '⊥ here (OrOpen R)', 'h')})"
+        else:
+            lemma = {"component": "typed-keep"}.get(sort, f"{sort}-ways-keep")
+            unqualified = " (λ x w. w) (λ x w. w)" if sort in ("component", "type") else ""
+            of = "(λ x w. h x (inr w))" if sort == "prefix" else "h"
+            yield f"keeps {shape} open_ n R = {lemma} {own} _{unqualified} (λ h. {law(parts, 0, 'n', 'open_ n R', of)})"
+
+def growing(trees):
+    def law(parts, i, n):
+        part = parts[i]
+        if not part.tree: return f"text-grows {braced(part.text)}" if i + 1 == len(parts) else f"front {braced(part.text)} ({law(parts, i + 1, n)})"
+        fact = f"more-grows (ways-grow whole {part.tree} {side(parts, i, 'in_whole')} {n} way.{part.way}) (omega arith)"
+        if i + 1 == len(parts): return fact
+        return f"back ({fact}) {braced(parts[i + 1].text)}" if i + 2 == len(parts) and not parts[i + 1].tree else f"and-grows ({fact}) ({law(parts, i + 1, n)})"
+    for tree, shape, sort, parts, nowhere in rows(trees):
+        if sort == "none": law_ = f"no-ways-grow whole {shape}"
+        elif sort == "encoding": law_ = f"encoding-ways-grow whole {shape} (λ here. {law(parts, 0, 'here')})"
+        elif sort == "component": law_ = f"typed whole n {shape} ({law(parts, 0, 'n')})"
+        else: law_ = f"{sort}-ways-grow whole {shape} ({law(parts, 0, 'n')})"
+        yield f"ways-grow whole {shape} in_whole n = {law_}"
+
+def short(trees):
+    def law(parts, i, n, bound):
+        part, rest = parts[i], parts[i + 1:]
+        own, more = part.spelled(n), braced(spelled(rest, n))
+        fact = f"all-short {part.tree} {n} way.{part.way}" if part.tree else ""
+        if part.tree and part.way == "as_prefix": size = f"(front_of {part.tree} (size {part.tree}))"
+        else: size = braced(total([part]))
+        if not rest: return fact or f"bytes-short {bound} {braced(part.text)} {arithmetic(part)}"
+        if part.tree and len(rest) == 1 and not rest[0].tree: return f"before-text {size} {bound} {own} {braced(rest[0].text)} {arithmetic(part, *rest)} ({fact})"
+        after = law(parts, i + 1, n, braced(total(rest)))
+        if part.tree: return f"and-within {size} {braced(total(rest))} {bound} {own} {more} (omega arith) ({fact}) ({after})"
+        return f"behind-text {braced(total(rest))} {bound} {braced(part.text)} {more} {arithmetic(part)} ({after})"
+    for tree, shape, sort, parts, nowhere in rows(trees):
+        if sort == "none": law_ = f"none-all {shape}"
+        elif sort == "encoding": law_ = f"encoding-all {shape} _ (λ here. {law(parts, 0, 'here', f'(size {shape})')})"
+        elif sort == "component": law_ = f"typed-all n {shape} _ refl refl refl ({law(parts, 0, 'n', f'(size {shape})')})"
+        elif sort == "type":
+            bound = braced(total(parts))
+            law_ = f"spelled-all {shape} {braced(spelled(parts, 'n'))} {bound} ({law(parts, 0, 'n', bound)}) (omega arith) (omega arith) (omega arith)"
+        else: law_ = f"{sort}-all {shape} _ ({law(parts, 0, 'n', f'(size {shape})')})"
+        yield f"all-short {shape} n = {law_}"
+
+def needed(tree):
+    """what a tree needs so that it fits, and the slot that the type in it is in"""
+    return list(filter(None, FITTING[tree[0]].split(" | "))), "bare_type" if tree[0] == "qualified" else "any_type"
+
+def fitting(trees):
+    for tree, shape, sort, parts, nowhere in rows(trees):
+        if nowhere: yield f"fits_of {shape} = fits_nowhere"
+        elif tree[0] in FITTING:
+            tests, slot = needed(tree)
+            inner = f"behind_bytes {braced(parts[0].text)} ((fits_of {parts[1].tree}).as_type {slot}) around allowed place cs"
+            yield f"fits_of {shape} = type_fits {shape} (λ slot around allowed place cs. {' × '.join([*(f'({t})' if '≡' in t else t for t in tests), inner])})"
+
+def adding(trees):
+    for tree, shape, sort, parts, nowhere in rows(trees):
+        if nowhere: yield f"adds {shape} = nowhere-ways-add {shape} _"
+        elif tree[0] in FITTING:
+            tests, slot = needed(tree)
+            fits = f"fits.{len(tests)}" if tests else "fits"
+            inner = f"(adds {parts[1].tree}).at fit.as_type {slot} around allowed (place + length {braced(parts[0].text)}) cs {fits} complete"
+            yield f"adds {shape} = type-ways-add {shape} _ _ (λ x w. w) (λ slot around allowed place cs fits complete. {inner})"
+        elif sort == "piece" and len(parts) == 1: yield f"adds {shape} = leaf-piece-add {shape} _ _ (λ x i. i)"
+
+def writing(trees):
+    """an argument has a byte at least"""
+    for tree, shape, sort, parts, nowhere in rows(trees):
+        clause = f"argument-writes {shape} in_pack around allowed place cs h ="
+        if nowhere or not parts or not parts[0].text.startswith("codes"): continue
+        if sort == "component": yield f"{clause} component-writes around.encoding {shape} _ place cs (λ none. omega arith)"
+        elif sort in ("type", "argument"): yield f"{clause} omega arith"
+    yield "argument-writes _ in_pack around allowed place cs h = absurd h"
+
+def typed_arguments(trees):
+    return [f"type-argument {shape} around in_pack old new one = one" for tree, shape, sort, parts, nowhere in rows(trees) if sort in ("component", "type") and not nowhere]
+
+# ## Spelled onto what follows
+
+WAYS = {"as_type": "Type", "under_qualifiers": "UnderQualifiers", "as_prefix": "Prefix", "as_encoding": "Encoding", "as_parameters": "Parameters", "as_elements": "Elements"}
+
+def onto(trees, function, wanted, others):
+    """a tree before what follows it, part by part"""
+    def part(p):
+        if p.tree: return f"in_way n Way.{WAYS[p.way]} {p.tree}"
+        return f"fixed {p.text[6:]}" if re.fullmatch(r'codes "\w+"', p.text) else f"written {braced(p.text)}"
+    for tree, shape, sort, parts, nowhere in rows(trees):
+        if wanted(sort, parts): yield f"{function} n {shape} rest = {' onto '.join(map(part, parts))} onto rest"
+    if others: yield f"{function} n {others}"
+
+def rejoined(trees, clause, wanted, rest, others, here="n"):
+    """a tree's parts, one after the other, are what the tree is with what follows"""
+    for tree, shape, sort, parts, nowhere in rows(trees):
+        if not wanted(sort, parts): continue
+        joined = " ".join([["refl", "two", "three", "four"][len(parts) - 1], *(p.spelled(here) if p.tree else f"({p.spelled(here)})" for p in parts if len(parts) > 1), *([rest] if len(parts) > 1 else [])])
+        if here == "here" and len(parts) > 1: joined = f"ap {{A = Spelling}} (λ (f : Spelling). f here cs) ({joined})"
+        yield f"{clause.format(shape)} = {joined}"
+    if others: yield f"{clause.format('_')} = {others}"
+
+def contents(trees):
+    for tree, shape, sort, parts, nowhere in rows(trees):
+        if sort == "component": yield f"content n {shape} = {spelled(parts, 'n')}"
+    yield "content n _ = nothing"
+
+def of_sort(*sorts): return lambda sort, parts: sort in sorts
+def compound(sort, parts): return sort == "component" and any(p.tree for p in parts)
+def plain(sort, parts): return sort == "type" or sort == "component" and not compound(sort, parts)
+def several(*sorts): return lambda sort, parts: sort in sorts and len(parts) > 1
+
+def declarations_onto(trees):
+    specs, proofs = "cpp_spelling/specs/Spelled.antt", "cpp_spelling/proofs/Ways.antt"
+    yield specs, "piece_onto", onto(trees, "piece_onto", of_sort("piece"), "_ rest = rest")
+    yield specs, "prefix_onto", onto(trees, "prefix_onto", of_sort("prefix"), "t rest = between_onto n t rest")
+    yield specs, "compound_onto", onto(trees, "compound_onto", compound, "_ rest = rest")
+    yield specs, "type_onto", onto(trees, "type_onto", plain, "t rest = class_onto n t rest")
+    yield specs, "argument_onto", onto(trees, "argument_onto", of_sort("argument"), "t rest = type_onto n t rest")
+    yield specs, "encoding_onto", onto(trees, "encoding_onto", of_sort("encoding"), "_ rest = rest")
+    unlike = "first_of (cc, search (nothing-and r))"
+    yield proofs, "piece-is", rejoined(trees, "piece-is n {0} r", of_sort("piece"), "r", "nothing-and r")
+    yield proofs, "content", contents(trees)
+    yield proofs, "content-is", rejoined(trees, "content-is n {0} e is", of_sort("component"), "e", "absurd (true-false (sym is))")
+    yield proofs, "encoding-is", rejoined(trees, "encoding-is n here {0} r cs", of_sort("encoding"), "r", "ap {A = Spelling} (λ (f : Spelling). f here cs) (nothing-and r)", "here")
+    yield proofs, "argument-rest", rejoined(trees, "argument-rest n {0} r is", several("argument", "type"), "r", unlike)
+    for law in ("type-rest", "qualified-rest"): yield proofs, law, rejoined(trees, law + " n {0} r is", several("type"), "r", unlike)
+    yield proofs, "prefix-rest", rejoined(trees, "prefix-rest n {0} r is", several("type", "prefix"), "r", unlike)
+
+# ## Types before which are bytes
+
+TYPED = {"digits": "(digits : List ℕ) ", "q": "(q : Qualifiers) "}
+
+def lemmas(trees):
+    """path, and the lemma of each of them"""
+    for tree, shape, sort, parts, nowhere in rows(trees):
+        if tree[0] not in FITTING: continue
+        front, a = parts
+        tests, slot = needed(tree)
+        own, bytes_ = tree[0].replace("_", "-"), braced(front.text)
+        names = [name for name, sort in tree[1:] if name != a.tree]
+        binders, given = "".join(TYPED[name] for name in names), "".join(name + " " for name in names)
+        h = f"h.{len(tests)}" if tests else "h"
+        long = "(letters-long q h.1)" if tree[0] == "qualified" else "(omega arith)"
+        yield "cpp_press_laws/proofs/Components/FewTrees.antt", [f"pub few-{own} : {binders}(type : Term) → Counts type → Counts {shape}", "unfolding ways_of fits_of",
+            f"few-{own} {given}type r_t =", f"    few-type {shape} (λ n. {spelled(parts, 'n')}) _ (λ slot around allowed place cs h.",
+            f"    few-behind 0 1 {bytes_} {a.spelled('around.encoding')} place cs {long} (r_t.at spot.as_type {slot} around allowed (place + length {bytes_}) cs {h}))"]
+        if not tests or slot != "any_type": continue
+        known = "".join(f"{test} → " for test in tests[1:])
+        facts = ", ".join(["take", *("digit" for test in tests[1:]), "fits"])
+        premises = " × ".join([f"({tests[0]})", *tests[1:], f"(fits_of type).as_type any_type inner allowed (place + length {bytes_}) cs"])
+        yield "cpp_press_laws/proofs/Fits/Types.antt", [
+            f"pub {own}-fits : (around : Around) {binders}(type : Term) (old new : State) → {known}TypeFits around any_type type old new",
+            f"    → SolidFits takes_all around (tree {shape} false) old new",
+            "unfolding fits_of type_fits fits_nowhere ways_of type_ways no_ways is_open pack_length with_type with_unqualified is_function_type tree_of is_listed",
+            f"{own}-fits around {given}type old new {'digit ' if known else ''}one =", f"    one-part takes_all around {shape} type {bytes_} (λ slot inner allowed place cs. {premises}) old new",
+            "    (record {", "      is = tt;", f"      keeps = λ n. bytes-keep n {shape} type {bytes_} (λ x w. inr w);", "      function = tt;",
+            f"      whole = λ slot n allowed place cs. typed-complete {shape} (λ m. refl) slot (pressed_at n around) allowed place cs;",
+            f"    }}) refl (λ arguments. refl) (λ slot take n allowed place cs fits. ({facts})) one"]
+
+def declarations(trees):
+    """path, name, and the lines at its end"""
+    yield from declarations_onto(trees)
+    laws = "cpp_press_laws"
+    yield f"{laws}/specs/Pressing.antt", "ways_of", definitions(trees)
+    yield f"{laws}/specs/Fits.antt", "fits_of", fitting(trees)
+    yield f"{laws}/proofs/Short/Size.antt", "size", sizes(trees)
+    yield f"{laws}/proofs/Short/Spelled.antt", "all-short", short(trees)
+    yield f"{laws}/proofs/Components/KnownTrees.antt", "keeps", keeping(trees)
+    yield f"{laws}/proofs/Components/Apart.antt", "ways-grow", growing(trees)
+    yield f"{laws}/proofs/Components/AddedTrees.antt", "adds", adding(trees)
+    yield f"{laws}/proofs/Components/Counting.antt", "argument-writes", writing(trees)
+    yield f"{laws}/proofs/Fits/Arguments.antt", "type-argument", typed_arguments(trees)
