@@ -1,0 +1,1 @@
+date +%T; grep -a "^rt:" /work/w/gate${1:-1}.log | tail -${2:-4}; for p in $(pgrep -f "bin/rattle"); do echo "  $(readlink /proc/$p/cwd) $(ps -o time=,rss= -p $p)"; done; free -g | sed -n 2p; uptime | sed 's/.*load/load/'; for h in l b w f i r; do echo "$h: $(git -C /work/h/$h log --oneline -1 2>/dev/null)"; done
