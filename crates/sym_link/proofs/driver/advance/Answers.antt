@@ -355,3 +355,14 @@ returns-clause-keeps g c = c.take.ensures.keeps
 
 pub returns-clause-full : goal.returns-clause-full
 returns-clause-full g c is = absurd (never_err (Option ℕ) (Some c.in_ok-behind-2.behind) memory is)
+
+pub returns-in_err-leave-clause-keeps : goal.returns-in_err-leave-clause-keeps
+returns-in_err-leave-clause-keeps g c = (omega arith, c.leave.ensures.keeps)
+
+pub returns-then-frame-next-clause-counts : goal.returns-then-frame-next-clause-counts
+returns-then-frame-next-clause-counts g c =
+    let lower = c.in-Some.ensures.some.0 in
+    let some = sym c.deref.ensures.value ∙ c.in-Some.ensures.some.1 in (
+      omega (arith, ap (λ fs. length fs) (c.take_off.ensures.items ∙ popped c.args.frames.now.items lower c.in-Some.frame.now _ some refl), ap (λ fs. length fs) some, length-append lower (c.in-Some.frame.now ∷ [])),
+      omega arith,
+    )
