@@ -108,23 +108,11 @@ returns-then-next-gt0-clause-few g c = omega arith
 pub returns-then-next-gt0-clause-counts : goal.returns-then-next-gt0-clause-counts
 returns-then-next-gt0-clause-counts g c = tt
 
-pub returns-then-next-gt0-clause-language : goal.returns-then-next-gt0-clause-language
-returns-then-next-gt0-clause-language g c is = refl
-
-pub returns-then-next-gt0-clause-frames : goal.returns-then-next-gt0-clause-frames
-returns-then-next-gt0-clause-frames g c is = refl
-
-pub returns-then-next-gt0-clause-parts : goal.returns-then-next-gt0-clause-parts
-returns-then-next-gt0-clause-parts g c is = refl
+pub returns-then-next-gt0-clause-none : goal.returns-then-next-gt0-clause-none
+returns-then-next-gt0-clause-none g c is = (sym c.deref.ensures.value ∙ c.in_default.ensures.none, c.if-next-gt0.true, refl, refl, refl)
 
 pub returns-then-next-gt0-clause-over : goal.returns-then-next-gt0-clause-over
 returns-then-next-gt0-clause-over g c none more = refl
-
-pub returns-then-next-gt0-clause-closed : goal.returns-then-next-gt0-clause-closed
-returns-then-next-gt0-clause-closed g c is = sym c.deref.ensures.value ∙ c.in_default.ensures.none
-
-pub returns-then-next-gt0-clause-begun : goal.returns-then-next-gt0-clause-begun
-returns-then-next-gt0-clause-begun g c is = c.if-next-gt0.true
 
 pub returns-then-next-gt0-clause-full : goal.returns-then-next-gt0-clause-full
 returns-then-next-gt0-clause-full g c is = absurd (never_err (Option ℕ) None memory is)
@@ -137,28 +125,8 @@ returns-in_err-behind-clause-counts g c =
     let p = err_from_is_err_and c.from_residual.result c.from_residual.ensures.1 in
     rw p.1 (omega (arith, c.begin.ensures.more, c.if-next-gt0.false))
 
-pub returns-in_err-behind-clause-language : goal.returns-in_err-behind-clause-language
-returns-in_err-behind-clause-language g c is =
-    let p = err_from_is_err_and c.from_residual.result c.from_residual.ensures.1 in
-    absurd (never_ok (Option ℕ) p.0 None (sym p.1 ∙ is))
-
-pub returns-in_err-behind-clause-frames : goal.returns-in_err-behind-clause-frames
-returns-in_err-behind-clause-frames g c is =
-    let p = err_from_is_err_and c.from_residual.result c.from_residual.ensures.1 in
-    absurd (never_ok (Option ℕ) p.0 None (sym p.1 ∙ is))
-
-pub returns-in_err-behind-clause-parts : goal.returns-in_err-behind-clause-parts
-returns-in_err-behind-clause-parts g c is =
-    let p = err_from_is_err_and c.from_residual.result c.from_residual.ensures.1 in
-    absurd (never_ok (Option ℕ) p.0 None (sym p.1 ∙ is))
-
-pub returns-in_err-behind-clause-closed : goal.returns-in_err-behind-clause-closed
-returns-in_err-behind-clause-closed g c is =
-    let p = err_from_is_err_and c.from_residual.result c.from_residual.ensures.1 in
-    absurd (never_ok (Option ℕ) p.0 None (sym p.1 ∙ is))
-
-pub returns-in_err-behind-clause-begun : goal.returns-in_err-behind-clause-begun
-returns-in_err-behind-clause-begun g c is =
+pub returns-in_err-behind-clause-none : goal.returns-in_err-behind-clause-none
+returns-in_err-behind-clause-none g c is =
     let p = err_from_is_err_and c.from_residual.result c.from_residual.ensures.1 in
     absurd (never_ok (Option ℕ) p.0 None (sym p.1 ∙ is))
 
@@ -184,20 +152,8 @@ returns-in_default-clause-few g c = c.begin.ensures.few
 pub returns-in_default-clause-counts : goal.returns-in_default-clause-counts
 returns-in_default-clause-counts g c = (omega (arith, c.in_ok-behind.ensures.counts.0, c.if-next-gt0.false), omega (arith, c.in_ok-behind.ensures.counts.1))
 
-pub returns-in_default-clause-language : goal.returns-in_default-clause-language
-returns-in_default-clause-language g c is = absurd (never_some c.in_ok-behind.behind is)
-
-pub returns-in_default-clause-frames : goal.returns-in_default-clause-frames
-returns-in_default-clause-frames g c is = absurd (never_some c.in_ok-behind.behind is)
-
-pub returns-in_default-clause-parts : goal.returns-in_default-clause-parts
-returns-in_default-clause-parts g c is = absurd (never_some c.in_ok-behind.behind is)
-
-pub returns-in_default-clause-closed : goal.returns-in_default-clause-closed
-returns-in_default-clause-closed g c is = absurd (never_some c.in_ok-behind.behind is)
-
-pub returns-in_default-clause-begun : goal.returns-in_default-clause-begun
-returns-in_default-clause-begun g c is = absurd (never_some c.in_ok-behind.behind is)
+pub returns-in_default-clause-none : goal.returns-in_default-clause-none
+returns-in_default-clause-none g c is = absurd (never_some c.in_ok-behind.behind is)
 
 pub returns-in_default-clause-over : goal.returns-in_default-clause-over
 returns-in_default-clause-over g c none more = absurd (omega (arith, more, c.if-next-gt0.false))
@@ -211,28 +167,8 @@ returns-in_default-clause-full g c is = absurd (never_err (Option ℕ) (Some c.i
 pub returns-in_err-leave-clause-few : goal.returns-in_err-leave-clause-few
 returns-in_err-leave-clause-few g c = c.leave.ensures.few
 
-pub returns-in_err-leave-clause-language : goal.returns-in_err-leave-clause-language
-returns-in_err-leave-clause-language g c is =
-    let p = err_from_is_err_and c.from_residual-in_err-leave.result c.from_residual-in_err-leave.ensures.1 in
-    absurd (never_ok (Option ℕ) p.0 None (sym p.1 ∙ is))
-
-pub returns-in_err-leave-clause-frames : goal.returns-in_err-leave-clause-frames
-returns-in_err-leave-clause-frames g c is =
-    let p = err_from_is_err_and c.from_residual-in_err-leave.result c.from_residual-in_err-leave.ensures.1 in
-    absurd (never_ok (Option ℕ) p.0 None (sym p.1 ∙ is))
-
-pub returns-in_err-leave-clause-parts : goal.returns-in_err-leave-clause-parts
-returns-in_err-leave-clause-parts g c is =
-    let p = err_from_is_err_and c.from_residual-in_err-leave.result c.from_residual-in_err-leave.ensures.1 in
-    absurd (never_ok (Option ℕ) p.0 None (sym p.1 ∙ is))
-
-pub returns-in_err-leave-clause-closed : goal.returns-in_err-leave-clause-closed
-returns-in_err-leave-clause-closed g c is =
-    let p = err_from_is_err_and c.from_residual-in_err-leave.result c.from_residual-in_err-leave.ensures.1 in
-    absurd (never_ok (Option ℕ) p.0 None (sym p.1 ∙ is))
-
-pub returns-in_err-leave-clause-begun : goal.returns-in_err-leave-clause-begun
-returns-in_err-leave-clause-begun g c is =
+pub returns-in_err-leave-clause-none : goal.returns-in_err-leave-clause-none
+returns-in_err-leave-clause-none g c is =
     let p = err_from_is_err_and c.from_residual-in_err-leave.result c.from_residual-in_err-leave.ensures.1 in
     absurd (never_ok (Option ℕ) p.0 None (sym p.1 ∙ is))
 
@@ -253,20 +189,8 @@ returns-in_err-leave-clause-full g c =
 pub returns-then-frame-next-clause-few : goal.returns-then-frame-next-clause-few
 returns-then-frame-next-clause-few g c = c.leave.ensures.few
 
-pub returns-then-frame-next-clause-language : goal.returns-then-frame-next-clause-language
-returns-then-frame-next-clause-language g c is = absurd (never_some c.args.next is)
-
-pub returns-then-frame-next-clause-frames : goal.returns-then-frame-next-clause-frames
-returns-then-frame-next-clause-frames g c is = absurd (never_some c.args.next is)
-
-pub returns-then-frame-next-clause-parts : goal.returns-then-frame-next-clause-parts
-returns-then-frame-next-clause-parts g c is = absurd (never_some c.args.next is)
-
-pub returns-then-frame-next-clause-closed : goal.returns-then-frame-next-clause-closed
-returns-then-frame-next-clause-closed g c is = absurd (never_some c.args.next is)
-
-pub returns-then-frame-next-clause-begun : goal.returns-then-frame-next-clause-begun
-returns-then-frame-next-clause-begun g c is = absurd (never_some c.args.next is)
+pub returns-then-frame-next-clause-none : goal.returns-then-frame-next-clause-none
+returns-then-frame-next-clause-none g c is = absurd (never_some c.args.next is)
 
 pub returns-then-frame-next-clause-over : goal.returns-then-frame-next-clause-over
 returns-then-frame-next-clause-over g c none more = absurd (omega (arith, ap (λ fs. length fs) (sym (sym c.deref.ensures.value ∙ c.in-Some.ensures.some.1) ∙ none), length-append c.in-Some.ensures.some.0 (c.in-Some.frame.now ∷ [])))
@@ -285,28 +209,8 @@ returns-in_err-behind-2-clause-counts g c =
     let p = err_from_is_err_and c.from_residual-in_err-behind-2.result c.from_residual-in_err-behind-2.ensures.1 in
     rw p.1 (omega (arith, c.take.ensures.more))
 
-pub returns-in_err-behind-2-clause-language : goal.returns-in_err-behind-2-clause-language
-returns-in_err-behind-2-clause-language g c is =
-    let p = err_from_is_err_and c.from_residual-in_err-behind-2.result c.from_residual-in_err-behind-2.ensures.1 in
-    absurd (never_ok (Option ℕ) p.0 None (sym p.1 ∙ is))
-
-pub returns-in_err-behind-2-clause-frames : goal.returns-in_err-behind-2-clause-frames
-returns-in_err-behind-2-clause-frames g c is =
-    let p = err_from_is_err_and c.from_residual-in_err-behind-2.result c.from_residual-in_err-behind-2.ensures.1 in
-    absurd (never_ok (Option ℕ) p.0 None (sym p.1 ∙ is))
-
-pub returns-in_err-behind-2-clause-parts : goal.returns-in_err-behind-2-clause-parts
-returns-in_err-behind-2-clause-parts g c is =
-    let p = err_from_is_err_and c.from_residual-in_err-behind-2.result c.from_residual-in_err-behind-2.ensures.1 in
-    absurd (never_ok (Option ℕ) p.0 None (sym p.1 ∙ is))
-
-pub returns-in_err-behind-2-clause-closed : goal.returns-in_err-behind-2-clause-closed
-returns-in_err-behind-2-clause-closed g c is =
-    let p = err_from_is_err_and c.from_residual-in_err-behind-2.result c.from_residual-in_err-behind-2.ensures.1 in
-    absurd (never_ok (Option ℕ) p.0 None (sym p.1 ∙ is))
-
-pub returns-in_err-behind-2-clause-begun : goal.returns-in_err-behind-2-clause-begun
-returns-in_err-behind-2-clause-begun g c is =
+pub returns-in_err-behind-2-clause-none : goal.returns-in_err-behind-2-clause-none
+returns-in_err-behind-2-clause-none g c is =
     let p = err_from_is_err_and c.from_residual-in_err-behind-2.result c.from_residual-in_err-behind-2.ensures.1 in
     absurd (never_ok (Option ℕ) p.0 None (sym p.1 ∙ is))
 
@@ -332,20 +236,8 @@ returns-clause-few g c = c.take.ensures.few
 pub returns-clause-counts : goal.returns-clause-counts
 returns-clause-counts g c = c.in_ok-behind-2.ensures.counts
 
-pub returns-clause-language : goal.returns-clause-language
-returns-clause-language g c is = absurd (never_some c.in_ok-behind-2.behind is)
-
-pub returns-clause-frames : goal.returns-clause-frames
-returns-clause-frames g c is = absurd (never_some c.in_ok-behind-2.behind is)
-
-pub returns-clause-parts : goal.returns-clause-parts
-returns-clause-parts g c is = absurd (never_some c.in_ok-behind-2.behind is)
-
-pub returns-clause-closed : goal.returns-clause-closed
-returns-clause-closed g c is = absurd (never_some c.in_ok-behind-2.behind is)
-
-pub returns-clause-begun : goal.returns-clause-begun
-returns-clause-begun g c is = absurd (never_some c.in_ok-behind-2.behind is)
+pub returns-clause-none : goal.returns-clause-none
+returns-clause-none g c is = absurd (never_some c.in_ok-behind-2.behind is)
 
 pub returns-clause-over : goal.returns-clause-over
 returns-clause-over g c none more = absurd (omega (arith, ap (λ fs. length fs) (sym (sym c.deref.ensures.value ∙ c.in-Some.ensures.some.1) ∙ none), length-append c.in-Some.ensures.some.0 (c.in-Some.frame.now ∷ [])))
