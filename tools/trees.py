@@ -672,6 +672,19 @@ UNREAD_IMPORTS = ["use Rattle.std.proofs.Common.{sym, ◌∙◌}", "use Rattle.c
 UNREAD_ANSWER = ["", "pub returns-in-Inheriting-clause-closes : goal.returns-in-Inheriting-clause-closes", "returns-in-Inheriting-clause-closes c =",
     "    inheriting_unread c.args.symbol.now c.args.self.now c.args.self.now c.args.frame.now c.args.parts.now.items c.args.parts.now.items (sym c.production_of-production.ensures ∙ c.in-Inheriting.is)"]
 
+def handed_answers():
+    """what `finish_rule` hands to `finish_as` and `finish_rare`, and what it has from them, passed on"""
+    had = " ".join(f"{clause} = had.{clause};" for clause in ("closes", "adds", "few", "makes", "pays", "roomy")).rstrip(";")
+    given = "; ".join(f"{clause} = c.requires.{clause}" for clause in ("room", "«open»", "base", "place"))
+    lines = []
+    for p in words.COMMON:
+        at = "" if p == words.COMMON[0] else f"-in-{p}"
+        requires, returns = f"finish_as-requires{at}", f"returns-in-{p}"
+        lines += ["", f"pub {requires} : goal.{requires}", f"{requires} c =",
+            f"    record {{ common = tt; numbered = sym c.in-{p}.is ∙ c.production_of-production.ensures; {given} }}",
+            "", f"pub {returns} : goal.{returns}", f"{returns} c =", f"    let had = c.finish_as{at}.ensures in", f"    record {{ {had} }}"]
+    return [*lines, "", "pub returns : goal.returns", "returns c =", "    let had = c.finish_rare.ensures in", f"    record {{ {had} }}"]
+
 def arms(function, productions):
     """the arms of a match that hand these productions to a function, as rt fmt lays them out"""
     for p in productions:
@@ -822,7 +835,7 @@ def files(crates):
     texts = {"cpp_link/specs/Families.antt": family_specs(found), "cpp_link/proofs/FamilyArms.antt": family_laws(found),
              **{f"cpp_link/proofs/linked/Linked/outcome_of_{snake(family)}/Answers.antt": family_answers(family, found[family]) for family in FAMILIES},
              "cpp_tree/proofs/nodes/Nodes/noted/Answers.antt": noted_answers(),
-             "cpp_link/proofs/linked/Linked/finish_rule/Answers.antt": rare_answers("finish_rule", "finish_rare-requires-clause-rare", "", "c.production_of-production.result", "", UNREAD_IMPORTS, UNREAD_ANSWER),
+             "cpp_link/proofs/linked/Linked/finish_rule/Answers.antt": rare_answers("finish_rule", "finish_rare-requires-clause-rare", "", "c.production_of-production.result", "", UNREAD_IMPORTS, [*UNREAD_ANSWER, *handed_answers()]),
              "cpp_link/proofs/linked/Linked/outcome/Answers.antt": rare_answers("outcome", "unreachable-requires", "c.requires.common (", "c.args.production", ")")}
     for path, name, lines in [*declarations(), *payments.declarations(crates)]:
         if path not in texts:
