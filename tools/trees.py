@@ -4,11 +4,13 @@ hand-written file, in a paragraph whose first line says that this script writes 
 of the crates)."""
 import os, re, sys
 sys.path.insert(0, os.path.dirname(os.path.abspath(__file__)))
+import family_code
 import grammar
 import layouts
 import node_code
 import payments
 import spellings
+import step_code
 import vocabulary as words
 from meanings import makers
 from node_code import PIECES, UNDER, nodes
@@ -616,15 +618,14 @@ def rare_answers(function, goal, before, production, after, imports=(), others=(
 
 # ## Families of rare productions
 
-# each with the module in which its function is, `outcome_of_` and its name
-FAMILIES = {family: module for module, families in {"name_meaning": "GivenName AppliedName Piece LocalName Inherited Special Thunk Number",
-    "type_meaning": "PlainType CompoundType FunctionType Argument", "expression_meaning": "Operation Operands Unresolved Literal"}.items() for family in families.split()}
+# those of expressions are by hand: each has a function, `outcome_of_` and its name
+BY_HAND = "Operation Operands Unresolved Literal".split()
 
 def families(crates):
-    """the productions of each family, which are those that its function has an arm for, and those that are common"""
-    found = {}
-    for family, module in FAMILIES.items():
-        with open(f"{crates}/cpp_link/src/{module}.rt", encoding="utf-8") as f: text = f.read()
+    """the productions of each family, and those that are common; of one by hand they are those that its function has an arm for"""
+    found = {family: productions.split() for module in family_code.FAMILIES.values() for family, (says, productions) in module.items()}
+    with open(f"{crates}/cpp_link/src/expression_meaning.rt", encoding="utf-8") as f: text = f.read()
+    for family in BY_HAND:
         start = text.index(f"fn outcome_of_{snake(family)}(")
         found[family] = re.findall(r"^ {12}Production::(\w+) =>", text[start:text.index("_ => unreachable!()", start)], re.M)
     return {**found, "Common": words.COMMON}
@@ -676,6 +677,7 @@ def arms_by_production(found):
     yield "cpp_tree/src/node.rt", "is_encoding", [f"            Node::{node} {{ .. }} => true," for node, tree, args in nodes() if tree in words.ENCODINGS]
     yield "cpp_tree/src/notes.rt", "noted", node_code.noted()
     yield "cpp_tree/src/view.rt", "view_of_own", node_code.seen()
+    yield from step_code.arms()
     compared = [(node, args) for node, tree, args in nodes() if tree in words.COMPONENTS]
     yield "cpp_spelling/src/types.rt", "is_component", [f"        Node::{node}{'(_)' if len(args) == 1 else ' { .. }'} => true," for node, args in compared]
 
@@ -686,6 +688,12 @@ def with_arms(text, function, lines):
     indent = start - text.rindex("\n", 0, start) - 1
     start = text.index("\n", start) + 1
     end = re.compile(rf"^(?: {{{indent}}}_ =>| {{{indent - 4}}}\}})", re.M).search(text, start).start()
+    return text[:start] + "\n".join(lines) + "\n" + text[end:]
+
+def with_requires(text, function, lines):
+    """the text, with these lines as those of a function's contract that come after the line that says so"""
+    start = text.index("\n", text.index(f"// {WRITTEN}", re.search(rf"\bfn {function}\(", text).end())) + 1
+    end = re.compile(r"^ +ensures ", re.M).search(text, start).start()
     return text[:start] + "\n".join(lines) + "\n" + text[end:]
 
 # ## Declarations
@@ -839,7 +847,7 @@ def files(crates):
     """the files that have declarations which are written, by their paths in the folder of the crates, and their texts"""
     found = families(crates)
     texts = {"cpp_link/specs/Families.antt": family_specs(found), "cpp_link/proofs/FamilyArms.antt": family_laws(found),
-             **{f"cpp_link/proofs/linked/Linked/outcome_of_{snake(family)}/Answers.antt": family_answers(family, found[family]) for family in FAMILIES},
+             **{f"cpp_link/proofs/linked/Linked/outcome_of_{snake(family)}/Answers.antt": family_answers(family, found[family]) for family in found if family != "Common"},
              "cpp_tree/proofs/nodes/Nodes/noted/Answers.antt": noted_answers(),
              "cpp_link/proofs/linked/Linked/finish_rule/Answers.antt": rare_answers("finish_rule", "finish_rare-requires-clause-rare", "", "c.production_of-production.result", "", UNREAD_IMPORTS, UNREAD_ANSWER),
              "cpp_link/proofs/linked/Linked/outcome/Answers.antt": rare_answers("outcome", "unreachable-requires", "c.requires.common (", "c.args.production", ")")}
@@ -855,6 +863,8 @@ def files(crates):
     edits += [(path, with_declarations, [["\n".join(lines)]]) for path, lines in [*answers, *spellings.lemmas(named(PRESSED))]]
     edits += [("cpp_layout/specs/Layout.antt", rewritten, [name, by_nodes(name, matched, functions)]) for name, functions in (("IsNoName", layouts.LEFT[:1]), ("IsNoType", layouts.LEFT[:2]))]
     edits += [(path, extended, [name, lines]) for path, name, lines in spellings.declarations(named(PRESSED))]
+    edits.append(("cpp_link/proofs/CandidatesFlow.antt", extended, ["flows", step_code.flows()]))
+    edits += [(path, with_requires, [function, lines]) for path, function, lines in step_code.asked()]
     edits += [(path, with_arms, [function, lines]) for path, function, lines in arms_by_production(found)]
     for path, edit, arguments_ in edits:
         if path not in texts:
