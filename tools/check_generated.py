@@ -6,10 +6,10 @@ since their answers are another implementation's."""
 import os, sys
 HERE = os.path.dirname(os.path.abspath(__file__))
 sys.path.insert(0, HERE)
-import annotated, grammar, marked as marked_ways, rust_grammar, trees
+import annotated, family_code, grammar, marked as marked_ways, printing, rust_grammar, trees
 
 GENERATORS = {"tools/grammar.py": lambda crates: grammar.files(), "tools/annotated.py": annotated.files, "tools/rust_grammar.py": lambda crates: rust_grammar.files(),
-              "tools/marked.py": marked_ways.files}
+              "tools/marked.py": marked_ways.files, "tools/printing.py": printing.files, "tools/family_code.py": lambda crates: family_code.files()}
 
 def first_line(path):
     with open(path, encoding="utf-8", errors="replace") as f: return f.readline()

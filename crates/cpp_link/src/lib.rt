@@ -19,6 +19,7 @@ pub mod numbers;
 pub mod parameters;
 pub mod part;
 pub mod rescoping;
+mod row_steps;
 pub mod settling;
 pub mod shapes;
 pub mod signatures;
