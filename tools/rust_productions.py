@@ -243,6 +243,176 @@ def made_gives(made):
     lines.append(f"    (of_{made.of} (tree.{made.tree} {values}), refl, record {{ parts = {needed}; tree = rw ({facts}) refl }})" + ")" * len(both))
     return "\n".join(lines)
 
+# ## What is read can be spelled
+
+class Good:
+    """what a value of a sort is where it can be spelled, in so many bound lifetimes; what it needs of them, if anything; and why the missing part is so"""
+    def __init__(self, own, need=None, missing=None, second="good.0"): self.own, self.need, self.missing, self.second = own, need, missing, second
+    def whole(self): return f"({self.own} × ({self.need} ≤ b))" if self.need else self.own
+    def spelled(self, fact): return f"{fact}.0" if self.need else fact
+
+GOODS = {
+    "letter": Good("((x < 256) × (in_ranges letters x ≡ true))"), "name": Good("IsSpellableName x"), "identifier": Good("IsSpellableIdentifier x", second="(omega arith, good.0)"),
+    "path": Good("IsSpellable x", "need x"), "type": Good("IsSpellableType x", "need_of_type x"), "constant": Good("IsSpellableConstant x"), "lifetime": Good("(x ≤ most62)", "x"),
+    "truth": Good("Unit {0}"), "abi_value": Good("IsSpellableAbi x"), "bounds": Good("AreSpellableBounds x", "need_of_bounds x"), "types": Good("AreSpellableTypes x", "need_of_types x"),
+    "number": Good("IsGoodNumber p x"), "integer": Good("IsGoodInteger p x"), "disambiguator": Good("(x ≤ greatest_u64)", missing="(omega arith)"),
+    "some_lifetime": Good("(x ≤ most62)", "x", "(omega arith, omega arith)"), "unsafe": Good("Unit {0}", missing="tt"), "minus": Good("Unit {0}", missing="tt"),
+    "abi": Good("IsSpellableAbi x", missing="tt"), "arguments": Good("AreSpellableArguments x", "need_of_arguments x", "(tt, omega arith)"),
+    "bindings": Good("AreSpellableBindings x", "need_of_bindings x", "(tt, omega arith)"),
+}
+# what needs nothing to be spelled
+FREE = ("unsafe", "truth")
+def dashed(name): return name.replace("_", "-")
+
+def good_then(part):
+    good, lemma = GOODS[part.name], f"{dashed(part.name)}-then"
+    lines = [f"-- {WRITTEN}", f"{lemma} : (p : Production) (b : ℕ) (Q : Found Value State → Type 0) (parts : List Value) (f : {part.tree} × List Value → Meaning) → AllGood p b parts",
+        f"    → ((x : {part.tree}) (rest : List Value) → {good.whole()} → AllGood p b rest → Holds Q (f (x, rest))) → Holds Q ({part.name}_part parts >>= f)"]
+    if good.need and "need" in good.need and part.name in ("type", "arguments", "bindings"): lines.append(f"unfolding {good.need.split()[0]}")
+    for front, fact in zip(part.fronts, ["good.0", good.second]):
+        lines.append(f"{lemma} p b Q ({front.valued} ∷ rest) f good more = more {f'({front.tree})' if ' ' in front.tree else front.tree} rest {fact} good.1")
+    last = f"more {part.missing[2]} parts {good.missing}" + " good" if part.missing else "tt"
+    return "\n".join([*lines, f"{lemma} p b Q parts f good more = {last}"])
+
+def made_good(made):
+    lines, rest, good = [f"made rules.{made.production} at parts inner byte good endings ="], "parts", "good"
+    for k, part in enumerate(made.parts):
+        lines.append(f"    {dashed(part.name)}-then rules.{made.production} at.bound _ {rest} _ {good} (λ x{k} r{k} x{k}-is g{k}.")
+        rest, good = f"r{k}", f"g{k}"
+    goods = [(f"x{k}-is", GOODS[part.name]) for k, part in enumerate(made.parts)]
+    spelled = [good.spelled(fact) for (fact, good), part in zip(goods, made.parts) if part.name not in FREE]
+    spelled = "tt" if not spelled else spelled[0] if len(spelled) == 1 else f"({', '.join(spelled)})"
+    needed = ["arith"] + [f"{fact}.1" for fact, good in goods if good.need]
+    own = spelled if made.of == "constant" else f"({spelled}, omega {'arith' if len(needed) == 1 else '(' + ', '.join(needed) + ')'})"
+    ends = f"({spelled}, endings)" if made.of in ("path", "type", "constant") else "endings"
+    return "\n".join([*lines, f"    (λ q. {own}, {ends})" + ")" * len(made.parts)])
+
+# ## What is pressed is read again
+
+class Pressed:
+    """how a part of a sort is called (`@` is its name), pressed, what its values are, and why it is read as them (`GOOD` is why it can be spelled); in which forms its
+    values come, by the argument; what it needs. A type's values are some of two."""
+    def __init__(self, name, press, values, why, sort, forms=None, need=None): self.name, self.press, self.values, self.why, self.sort, self.forms, self.need = name, press, values, why, sort, forms or ["@"], need
+
+def own_values(value): return f"value.{value} @ ∷ []"
+CLOSED = "(omega (arith, need_is))"
+COUNTED = ["zero", "(suc x)"]
+def listed(name, sort, plural, values, forms=None):
+    return Pressed(name, f"press_{plural} @", values, f"{plural}-kept s c fits _ _ @ GOOD {CLOSED}", sort, forms, f"need_of_{plural} @")
+
+PRESSED = {
+    "disambiguator": Pressed("d", "press_disambiguator @", "disambiguator_values @", "disambiguator-presses s c _ _ @ GOOD", "ℕ", COUNTED),
+    "path": Pressed("p", "path_or_reference @ (spell_path @)", own_values("a_path"),
+        f"path-presses s c _ _ 1 @ (spell_path @) fits refl {CLOSED} (path-kept s c fits _ _ 1 paths-1 @ GOOD {CLOSED})", "tree.Path", need="need @"),
+    "type": Pressed("t", "type_or_reference @ (spell_type @)", None, f"type-kept s c fits _ _ @ GOOD {CLOSED}", "tree.Ty", need="need_of_type @"),
+    "identifier": Pressed("i", "press_identifier @", "identifier_values @.disambiguator @.name", "identifier-presses s c _ _ @.disambiguator @.name GOOD.0 GOOD.1", "tree.Identifier", COUNTED),
+    "letter": Pressed("n", "letter @", own_values("letter"), "namespace-presses s c _ _ @ GOOD.0 GOOD.1", "ℕ"),
+    "lifetime": Pressed("l", "press_lifetime @", own_values("a_lifetime"), f"lifetime-presses s c _ _ 14 @ refl GOOD {CLOSED}", "ℕ", need="@"),
+    "some_lifetime": Pressed("l", "some_lifetime @", "lifetime_values @", f"some-lifetime-presses s c _ _ @ GOOD {CLOSED}", "ℕ", COUNTED, "@"),
+    "constant": Pressed("k", "press_constant @", own_values("a_constant"), "constant-kept s c fits _ _ @ GOOD", "tree.Constant"),
+    "arguments": listed("a", "tree.Arguments", "arguments", "arguments_values @", ["tree.no_arguments", "(tree.lifetime_argument x a)", "(tree.constant_argument x a)", "(tree.type_argument x a)"]),
+    "types": listed("ts", "tree.Tys", "types", own_values("some_types")),
+    "bounds": listed("bs", "tree.Bounds", "bounds", own_values("some_bounds")),
+    "bindings": listed("b", "tree.Bindings", "bindings", "bindings_values @", ["tree.no_bindings", "(tree.more_bindings x y b)"]),
+    "name": Pressed("m", "press_name @", own_values("a_name"), "name-at s c _ _ 9 @ refl refl GOOD", "tree.Name"),
+    "binder": Pressed("n", "press_binder @", "binder_values @", "binder-presses s c _ _ @ GOOD", "ℕ", COUNTED),
+    "unsafe": Pressed("u", "mark_if @ 85", "unsafe_values @", "unsafe-presses s _ _ _ @", "Bool", ["true", "false"]),
+    "abi": Pressed("a", "press_abi @", "abi_values @", "abi-presses s _ _ _ @ GOOD", "tree.Abi", ["tree.rust_abi", "tree.c_abi", "(tree.named_abi m)"]),
+}
+VALUES = {"path": "a_path", "arguments": "some_arguments", "type": "a_type", "types": "some_types", "bounds": "some_bounds", "bindings": "some_bindings"}
+KINDS_OF = {"arguments": "ARGUMENTS", "type": "TYPE", "types": "TYPES", "bounds": "BOUNDS", "bindings": "BINDINGS"}
+NUMBERS = list(rust_grammar.KINDS)
+
+class Kept:
+    """the rule of a production that makes a tree, as it is pressed"""
+    def __init__(self, made):
+        self.made, self.letter = made, next(letter for letter, (own, takes, symbols) in rust_grammar.RULES.items() if own == made.production)
+        own, self.takes, self.symbols = rust_grammar.RULES[self.letter]
+        self.names, self.parts = [], [PRESSED[part.name] for part in made.parts]
+        for part in self.parts: self.names.append("q" if part.name in self.names else part.name)
+        self.tree = f"(tree.{made.tree} {' '.join(self.names)})"
+        self.value = f"(value.{VALUES[made.of]} {self.tree})"
+        self.means = f"{dashed(made.tree)}-means"
+        kinds = [f"Byte {ord(symbol[1])}" if symbol[0] == "'" else f"Kind {NUMBERS.index(symbol)}" for symbol in self.symbols]
+        self.kinds = kinds
+        self.rule = f"({'taking' if self.takes else 'chaining'} rules.{made.production} ({''.join(f'{kind} ∷ ' for kind in kinds)}[]))"
+        # the byte at which the rule is taken
+        kind = KINDS_OF.get(made.of, "PATH")
+        letters = rust_grammar.KINDS[kind][0][self.letter]
+        self.kind = "kind" if made.of == "path" else str(NUMBERS.index(kind))
+        self.byte = str(ord(letters[0]))
+    def of(self, text, name): return text.replace("@", name)
+    def press(self, first):
+        """the pressing of the parts from one on"""
+        press = [self.of(part.press, name) for part, name in zip(self.parts, self.names)] + [f"letter {ord(s[1])}" for s in self.symbols if s[0] == "'"]
+        return f"({' and '.join(press[first:])})"
+    def ends(self): return "ends" if self.made.of in ("path", "type") else "plain"
+
+def means(kept):
+    """what the values of the parts mean together, by the forms in which they come"""
+    typed, sorts, values, forms = None, [], [], [[]]
+    for part, name in zip(kept.parts, kept.names):
+        if name == "i":
+            sorts.append("(d : ℕ) (m : tree.Name)"); values.append("identifier_values d m"); choices = [["zero", "m"], ["(suc x)", "m"]]
+        else:
+            sorts.append(f"({name} : {part.sort})"); choices = [[form.replace("@", name)] for form in part.forms]
+            values.append(kept.of(part.values, name) if part.values else "vs")
+        if not part.values: typed = name
+        forms = [form + choice for form in forms for choice in choices]
+    values += ["[]" for symbol in kept.symbols if symbol[0] == "'"]
+    joined = f"({values[0]})"
+    for value in values[1:]: joined = f"({joined} ++ ({value}))"
+    tree = kept.tree.replace(" i)", " (record { disambiguator = d; name = m }))")
+    given = f" (vs : List Value) → IsTypeValue {typed} vs" if typed else ""
+    lines = [f"-- {WRITTEN}", f"pub {kept.means} : {' '.join(sorts)}{given} → (at : At) → meaning rules.{kept.made.production} at {joined} ≡ {kept.ends()} at {kept.value.replace(kept.tree, tree)}"]
+    for form in forms:
+        if typed: lines += [f"{kept.means} {' '.join(form)} vs ({which}) at = rw {fact} refl" for which, fact in (("inl e", "e"), ("inr e", "(e.1, e.2)"))]
+        else: lines.append(f"{kept.means} {' '.join(form)} at = refl")
+    return "\n".join(lines)
+
+def kept_clause(kept):
+    """why what is pressed of such a tree is read as it"""
+    made, rule, byte = kept.made, kept.rule, kept.byte
+    taken = f"({byte} ∷ [])" if kept.takes else "[]"
+    front = "path-kept s c fits inside minus kind has" if made.of == "path" else f"{made.of}-kept s c fits inside minus"
+    at = "λ at there same." if kept.takes else "λ at same."
+    if not kept.takes: whole = f"(λ values. (at : At) → at.bound ≡ c → meaning_of (production_of {rule}.number) at values ≡ plain at {kept.value})"
+    else: whole = f"({'Ends' if kept.ends() == 'ends' else 'Makes'} {rule} {byte} c {kept.value})"
+    needs = [kept.of(part.need, name) for part, name in zip(kept.parts, kept.names) if part.need]
+    need = needs[0] if needs else None
+    for more in needs[1:]: need = f"max ({need}) ({more})" if need.startswith("max") or " " in need else f"max {need} ({more})"
+    lines = [f"  {front} {kept.tree} good closed ="]
+    if need: lines.append(f"      let need_is : {need} ≤ c = closed in")
+    wrapped = made.of == "type"
+    if wrapped: lines.append(f"      own-type-presses s c inside minus {kept.tree} (spell_type {kept.tree}) fits closed")
+    takes = "takes-ends" if kept.ends() == "ends" else "takes-plain" if kept.takes else "chains-plain"
+    what = f"(of_{made.of} {kept.tree})" if kept.ends() == "ends" else kept.value
+    found = f"has.{made.tree}" if made.of == "path" else "refl"
+    lines.append(f"      {'(' if wrapped else ''}{takes} s c inside minus {kept.kind} {byte} {rule} {kept.press(0)} {whole} {what} (omega arith) {found} refl")
+    conditions = [k for k, part in enumerate(made.parts) if part.name not in FREE]
+    known, opened, before = "[]", 0, "      ("
+    call = kept.means
+    for name in kept.names: call += " i.disambiguator i.name" if name == "i" else f" {name}"
+    for k, kind in enumerate(kept.kinds):
+        last = k + 1 == len(kept.kinds)
+        part, name = (kept.parts[k], kept.names[k]) if k < len(kept.parts) else (None, None)
+        values = kept.of(part.values, name) if part and part.values else "[]"
+        fine = "(IsTypeValue t)" if part and not part.values else f"(λ values. values ≡ ({values}))"
+        rest = "" if last else f" ({''.join(f'{other} ∷ ' for other in kept.kinds[k + 1:])}[])"
+        own = f"({kept.of(part.press, name)})" if part else f"(letter {kind.split()[1]})"
+        lines.append(f"{before}{'last-presses' if last else 'and-presses'} s {rule} {taken} c ({kind}){rest} {known} {own}{'' if last else ' ' + kept.press(k + 1)} {fine} {whole}")
+        good = f"good.{conditions.index(k)}" if part and k in conditions and len(conditions) > 1 else "good"
+        lines.append(f"      ({kept.of(part.why, name).replace('GOOD', good)})" if part else f"      (byte-presses s c _ _ {kind.split()[1]})")
+        typed = part and not part.values
+        if typed: call += f" v{k} h{k}"
+        now = f"v{k}" if typed else f"({values})"
+        known = now if known == "[]" else f"({known} ++ {now})"
+        before = f"      (λ v{k} h{k}. (" if typed else f"      (λ v{k} h{k}. rw h{k} ("
+        opened += 2
+    lines.append(before[:-1] + ("" if typed else "(") + f"{at} {call} at" + ")" * (opened + (0 if typed else 1)))
+    lines.append(f"      ({at[:-1]} values r. r {'at there same' if kept.takes else 'at same'})" + (")" if wrapped else ""))
+    return "\n".join(lines)
+
 # ## The files
 
 def whole_files():
@@ -256,15 +426,20 @@ def declarations():
     yield "rust_v0/src/semantics.rt", [[made_in_code(made) for made in NODES]]
     yield "rust_v0/specs/CodeSemantics.antt", [[made_in_specs(made) for made in NODES]]
     yield "rust_v0/proofs/SemanticsLemmas.antt", [[made_gives(made) for made in NODES]]
+    yield "rust_press/proofs/PressRead.antt", [[good_then(part) for part in PARTS.values() if part.name in GOODS],
+        [f"-- {WRITTEN}\n" + "\n".join(made_good(made) for made in NODES if made.production not in ("Function", "Dyn"))]]
+    kept = [Kept(made) for made in NODES if made.of != "constant"]
+    def clauses(of): return [f"  -- {WRITTEN}\n" + "\n".join(kept_clause(one) for one in kept if one.made.of == of and one.made.production not in ("Function", "Dyn"))]
+    yield "rust_press/proofs/PressKept.antt", [[means(one) for one in kept], *[clauses(of) for of in VALUES]]
 
 def with_runs(text, runs):
-    """the text, with these declarations in place of each run of those that say that they are written"""
-    def is_written(paragraph): return WRITTEN in paragraph.split("\n")[0]
+    """the text, with these declarations in place of each run of those that say that they are written; clauses stand at the end of a paragraph"""
     out, left, before = [], list(runs), False
     for paragraph in text.rstrip("\n").split("\n\n"):
-        if is_written(paragraph) and not before: out += left.pop(0)
-        before = is_written(paragraph)
-        if not before: out.append(paragraph)
+        by_hand, mark, written = re.match(rf"(?s)(.*?)(^ *(?:--|//) {re.escape(WRITTEN)}.*|\Z)", paragraph, re.M).group(1, 2, 0)
+        if mark and (by_hand or not before): out.append(by_hand + "\n\n".join(left.pop(0)))
+        elif not mark: out.append(paragraph)
+        before = bool(mark)
     assert not left, "there are fewer runs of written declarations than are written"
     return "\n\n".join(out) + "\n"
 
