@@ -65,6 +65,12 @@ PARTS = {
         ("None", "None", "None", "refl")),
 }
 
+def parts_of(production):
+    """the sorts of the parts of a production, by the symbols of its rule: a token's sort is that which its production takes it for"""
+    symbols = next(symbols for own, takes, symbols in rust_grammar.RULES.values() if own == production)
+    tokens = {"Name": "NAME", "Hex": "Base62" if production == "CharConstant" else "Hex"}
+    return [PARTS[tokens.get(symbol, symbol)] for symbol in symbols if tokens.get(symbol, symbol) in PARTS]
+
 # ## What is read at the front of parts
 
 CODE_HEAD = f"""// {WRITTEN} The operands of a rule's meaning: what is at the front of its parts, and the parts after it.
@@ -173,8 +179,7 @@ class Made:
         self.bare = self.variant.endswith("()")
         self.variant = self.variant.removesuffix("()")
         self.of, self.tree = tree.split(".")
-        symbols = next(symbols for own, takes, symbols in rust_grammar.RULES.values() if own == production)
-        self.parts = [PARTS[symbol] for symbol in symbols if symbol in PARTS]
+        self.parts = parts_of(production)
     def names(self):
         """the names of the parts in definitions"""
         return [field if field == "implemented" else part.own for field, part in zip(self.fields, self.parts)]
@@ -242,6 +247,52 @@ def made_gives(made):
     values = " ".join(f"{name}v" for name, part in both)
     lines.append(f"    (of_{made.of} (tree.{made.tree} {values}), refl, record {{ parts = {needed}; tree = rw ({facts}) refl }})" + ")" * len(both))
     return "\n".join(lines)
+
+# ## Sorts of values
+
+# the sorts, each with its constructor, and which of these have nothing
+SORTS = {"number": "number", "integer": "an_integer", "letter": "letter", "name": "a_name", "identifier": "an_identifier", "disambiguator": "a_disambiguator", "binder": "a_binder",
+         "lifetime": "a_lifetime", "unsafe": "unsafe_mark", "abi": "an_abi", "truth": "a_truth", "minus": "minus_mark", "path": "a_path", "type": "a_type", "constant": "a_constant",
+         "arguments": "some_arguments", "types": "some_types", "bounds": "some_bounds", "bindings": "some_bindings", "suffix": "a_suffix", "suffix_rest": "suffix_rest", "symbol": "a_symbol"}
+BARE = ("unsafe", "minus", "suffix_rest")
+# the sort of the values of a kind where it isn't the kind's name
+KIND_SORTS = {"SUFFIX_BYTE": "suffix_rest", "NAMESPACE": "letter", "ABI_NAME": "abi"}
+
+def slot(part):
+    """what a production asks for where it has such a part"""
+    sort = {"some_lifetime": "lifetime", "other_path": "path"}.get(part.name, part.name)
+    return {"identifier": "an_identifier", "type": "a_type", "abi_value": "an_abi"}.get(part.name, f"{'maybe' if part.missing else 'one'} {sort}")
+
+def production_sort(letter):
+    """the sort of what the rule of a letter makes: that of a kind that has the rule, the narrowest one if it is a name"""
+    kind = next(kind for kind in ("NAME", *rust_grammar.KINDS) if letter in rust_grammar.KINDS[kind][0])
+    return KIND_SORTS.get(kind, kind.lower())
+
+def sorts():
+    """runs of declarations: the sorts, and that of a value; where each is among them; what productions ask for, and what they make"""
+    rules = {production: letter for letter, (production, takes, symbols) in rust_grammar.RULES.items()}
+    asked = {production: " ∷ ".join(slot(part) for part in parts_of(production)) for production in rules}
+    def written(comment, *lines): return "\n".join([f"-- {WRITTEN}{comment}", *lines])
+    yield [written(" One for each constructor of `Value`", "pub data Sort : Type 0 where", *[f"  {sort} : Sort" for sort in SORTS]),
+           written("", "abbrev pub sort_of : Value → Sort", *[f"sort_of value.{own} = {sort}" if sort in BARE else f"sort_of (value.{own} _) = {sort}" for sort, own in SORTS.items()])]
+    yield [written(" Where a sort is in that list", "abbrev place_of : Sort → ℕ", *[f"place_of {sort} = {k}" for k, sort in enumerate(SORTS)])]
+    yield [written("", "abbrev pub slots_of : Production → List Slot", *[f"slots_of rules.{production} = {slots} ∷ []" for production, slots in asked.items() if slots], "slots_of _ = []"),
+           written(" The sort of what a production makes", "abbrev pub made_by : Production → Sort", *[f"made_by rules.{production} = {production_sort(letter)}" for production, letter in rules.items()])]
+
+def slot_then(part):
+    name, tree, own = part.name, part.tree.replace("value.", ""), slot(part)
+    asked = " ".join(f"sorts.{word}" for word in own.split())
+    lines = [f"-- {WRITTEN}", f"{name}_then : (make : Sort) (slots : List Slot) (parts : List Value) (f : {tree} × List Value → Meaning) → Fill ({asked} ∷ slots) parts",
+        f"    → ((found : {tree} × List Value) → Fill slots found.1 → Makes make (f found)) → Makes make ({name}_part parts >>= f)"]
+    lines += [f"{name}_then make slots ({front.valued.replace('value.', '')} ∷ rest) f fill each = each ({front.tree}, rest) (record {{ is = fill.is }})" for front in part.fronts]
+    return "\n".join([*lines, f"{name}_then make slots parts f fill each = " + (f"each ({part.missing[2]}, parts) (record {{ is = fill.is }})" if part.missing else "absurd (false≢true fill.is)")])
+
+def made_of_slots(made):
+    lines, rest = [f"made rules.{made.production} at parts fill ="], "parts"
+    for k, part in enumerate(made.parts):
+        lines.append(f"    {part.name}_then sorts.{made.of} _ {rest} _ fill (λ x{k} fill.")
+        rest = f"x{k}.1"
+    return "\n".join([*lines[:-1], lines[-1] + " refl" + ")" * len(made.parts)])
 
 # ## What is read can be spelled
 
@@ -426,6 +477,9 @@ def declarations():
     yield "rust_v0/src/semantics.rt", [[made_in_code(made) for made in NODES]]
     yield "rust_v0/specs/CodeSemantics.antt", [[made_in_specs(made) for made in NODES]]
     yield "rust_v0/proofs/SemanticsLemmas.antt", [[made_gives(made) for made in NODES]]
+    yield "rust_v0/proofs/Meanings.antt", [[f"-- {WRITTEN}\n" + "\n".join(f"made_gives table at rules.{made.production} ps vs other within fits lists are = {made.function}_gives at.symbol table at ps vs lists are" for made in NODES)]]
+    yield "rust_v0/proofs/Sorts.antt", list(sorts())
+    yield "rust_v0/proofs/SortedParts.antt", [[slot_then(part) for part in PARTS.values()], [f"-- {WRITTEN}\n" + "\n".join(made_of_slots(made) for made in NODES)]]
     yield "rust_press/proofs/PressRead.antt", [[good_then(part) for part in PARTS.values() if part.name in GOODS],
         [f"-- {WRITTEN}\n" + "\n".join(made_good(made) for made in NODES if made.production not in ("Function", "Dyn"))]]
     kept = [Kept(made) for made in NODES if made.of != "constant"]
