@@ -256,7 +256,7 @@ SORTS = {"number": "number", "integer": "an_integer", "letter": "letter", "name"
          "arguments": "some_arguments", "types": "some_types", "bounds": "some_bounds", "bindings": "some_bindings", "suffix": "a_suffix", "suffix_rest": "suffix_rest", "symbol": "a_symbol"}
 BARE = ("unsafe", "minus", "suffix_rest")
 # the sort of the values of a kind where it isn't the kind's name
-KIND_SORTS = {"SUFFIX_BYTE": "suffix_rest", "NAMESPACE": "letter", "ABI_NAME": "abi"}
+KIND_SORTS = {"SOME_LIFETIME": "lifetime", "SUFFIX_BYTE": "suffix_rest", "NAMESPACE": "letter", "ABI_NAME": "abi"}
 
 def slot(part):
     """what a production asks for where it has such a part"""
@@ -379,8 +379,7 @@ class Kept:
     def __init__(self, made):
         self.made, self.letter = made, next(letter for letter, (own, takes, symbols) in rust_grammar.RULES.items() if own == made.production)
         own, self.takes, self.symbols = rust_grammar.RULES[self.letter]
-        self.names, self.parts = [], [PRESSED[part.name] for part in made.parts]
-        for part in self.parts: self.names.append("q" if part.name in self.names else part.name)
+        self.parts, self.names = [PRESSED[part.name] for part in made.parts], names_of([part.name for part in made.parts])
         self.tree = f"(tree.{made.tree} {' '.join(self.names)})"
         self.value = f"(value.{VALUES[made.of]} {self.tree})"
         self.means = f"{dashed(made.tree)}-means"
@@ -464,6 +463,68 @@ def kept_clause(kept):
     lines.append(f"      ({at[:-1]} values r. r {'at there same' if kept.takes else 'at same'})" + (")" if wrapped else ""))
     return "\n".join(lines)
 
+# ## What goes through trees by their arguments alone
+
+# the trees of each family, by constructor, each with the sorts of its arguments; those that no production makes of parts by hand
+FAMILIES = {"path": "Path", "arguments": "Arguments", "type": "Ty", "types": "Tys", "bounds": "Bounds", "bindings": "Bindings", "constant": "Constant"}
+LEAVES = {"arguments": {"no_arguments": []}, "type": {"basic": ["letter"], "path_type": ["path"]}, "types": {"no_types": []}, "bounds": {"no_bounds": []}, "bindings": {"no_bindings": []},
+          "constant": {"integer": ["letter", "truth", "letter"]}}
+TREES = {of: {**LEAVES.get(of, {}), **{made.tree: [part.name for part in made.parts] for made in NODES if made.of == of}} for of in FAMILIES}
+TREES["constant"] |= {"character": ["letter"], "placeholder": []}
+MUTUAL = [of for of in FAMILIES if of != "constant"]
+NUMERIC = ("letter", "lifetime", "some_lifetime", "disambiguator", "binder")
+
+def tree_pattern(constructor, sorts, letter="a"): return f"({constructor} {' '.join(f'{letter}{i}' for i in range(len(sorts)))})" if sorts else constructor
+
+def names_of(parts):
+    """the names of the arguments of a tree, by their sorts"""
+    names = []
+    for part in parts: names.append("q" if part == "path" and "p" in names else PRESSED[part].name)
+    return names
+
+def by_family(families, indent, signature, clauses, others=None):
+    """a declaration for each family: its signature, its clauses by constructor and what is said of others"""
+    for of in families:
+        lines = [f"-- {WRITTEN}", signature(of), *[clauses(of, constructor, sorts) for constructor, sorts in TREES[of].items()], *([others(of)] if others else [])]
+        yield "\n".join(indent + line for own in lines for line in own.split("\n"))
+
+def same(families, indent):
+    def test(sort, i): return f"(a{i} == b{i})" if sort in NUMERIC else f"same_{'truth' if sort == 'unsafe' else sort} a{i} b{i}"
+    def clause(of, constructor, sorts):
+        return f"same_{of} {tree_pattern(constructor, sorts)} {tree_pattern(constructor, sorts, 'b')} = " + (" && ".join(test(sort, i) for i, sort in enumerate(sorts)) or "true")
+    return list(by_family(families, indent, lambda of: f"{'' if indent else 'abbrev '}pub same_{of} : {FAMILIES[of]} → {FAMILIES[of]} → Bool", clause, lambda of: f"same_{of} _ _ = false"))
+
+def equal(families, indent):
+    def fact(i, count):
+        whole = "h"
+        for _ in range(count - 1 - max(i, 1)): whole = f"(both {whole}).0"
+        return whole if count == 1 else f"(both {whole}).{min(i, 1)}"
+    def clause(of, constructor, sorts):
+        front = f"equal-{of} {tree_pattern(constructor, sorts)} {tree_pattern(constructor, sorts, 'b')} h ="
+        lets = [f"    let e{i} : a{i} ≡ b{i} = {'eqb-true' if sort in NUMERIC else 'equal-' + ('truth' if sort == 'unsafe' else sort)} a{i} b{i} {fact(i, len(sorts))} in" for i, sort in enumerate(sorts)]
+        return "\n".join([front, *lets]) + " cc" if lets else front + " refl"
+    return list(by_family(families, indent, lambda of: f"pub equal-{of} : (a b : {FAMILIES[of]}) → same_{of} a b ≡ true → a ≡ b", clause, lambda of: f"equal-{of} _ _ h = cc"))
+
+def itself(families, indent):
+    def clause(of, constructor, sorts):
+        facts = [f"eq-eqb a{i} a{i} refl" if sort in NUMERIC else f"{'truth' if sort == 'unsafe' else sort}-itself a{i}" for i, sort in enumerate(sorts)]
+        whole = facts[0] if facts else "refl"
+        for fact in facts[1:]: whole = f"all ({whole}) ({fact})"
+        return f"{of}-itself {tree_pattern(constructor, sorts)} = {whole}"
+    return list(by_family(families, indent, lambda of: f"pub {of}-itself : (a : {FAMILIES[of]}) → same_{of} a a ≡ true", clause))
+
+def summed(function, public, sum_of):
+    """a number of each tree, by those of its subtrees"""
+    def name(of): return function if of == "path" else f"{function}_of_{of}"
+    def clause(of, constructor, sorts):
+        names = names_of(sorts)
+        pattern = f"(tree.{constructor} {' '.join(names)})" if sorts else f"tree.{constructor}"
+        return f"{name(of)} {pattern} = {sum_of(constructor, [f'{name(sort)} {own}' for own, sort in zip(names, sorts) if sort in MUTUAL], sorts.count('constant'))}"
+    return list(by_family(MUTUAL, "  ", lambda of: f"{public}{name(of)} : tree.{FAMILIES[of]} → ℕ", clause))
+
+def weight(constructor, parts, constants): return " + ".join([str(3 + 3 * constants), *parts])
+def size(constructor, parts, constants): return parts[0] if constructor == "path_type" else " + ".join([str(2 + constants if parts else 1), *parts])
+
 # ## The files
 
 def whole_files():
@@ -482,6 +543,10 @@ def declarations():
     yield "rust_v0/proofs/SortedParts.antt", [[slot_then(part) for part in PARTS.values()], [f"-- {WRITTEN}\n" + "\n".join(made_of_slots(made) for made in NODES)]]
     yield "rust_press/proofs/PressRead.antt", [[good_then(part) for part in PARTS.values() if part.name in GOODS],
         [f"-- {WRITTEN}\n" + "\n".join(made_good(made) for made in NODES if made.production not in ("Function", "Dyn"))]]
+    yield "rust_press/specs/Same.antt", [same(["constant"], ""), same(MUTUAL, "  ")]
+    yield "rust_press/proofs/Sameness.antt", [equal(["constant"], "") + itself(["constant"], ""), equal(MUTUAL, "  "), itself(MUTUAL, "  ")]
+    yield "rust_press/specs/Tasks.antt", [summed("weight", "pub ", weight)]
+    yield "rust_press/proofs/PressApart.antt", [summed("size", "", size)]
     kept = [Kept(made) for made in NODES if made.of != "constant"]
     def clauses(of): return [f"  -- {WRITTEN}\n" + "\n".join(kept_clause(one) for one in kept if one.made.of == of and one.made.production not in ("Function", "Dyn"))]
     yield "rust_press/proofs/PressKept.antt", [[means(one) for one in kept], *[clauses(of) for of in VALUES]]
