@@ -311,6 +311,8 @@ GOODS = {
     "abi": Good("IsSpellableAbi x", missing="tt"), "arguments": Good("AreSpellableArguments x", "need_of_arguments x", "(tt, omega arith)"),
     "bindings": Good("AreSpellableBindings x", "need_of_bindings x", "(tt, omega arith)"),
 }
+# what binds lifetimes is said by hand
+BINDERS = ("Function", "Dyn")
 # what needs nothing to be spelled
 FREE = ("unsafe", "truth")
 def dashed(name): return name.replace("_", "-")
@@ -525,6 +527,80 @@ def summed(function, public, sum_of):
 def weight(constructor, parts, constants): return " + ".join([str(3 + 3 * constants), *parts])
 def size(constructor, parts, constants): return parts[0] if constructor == "path_type" else " + ".join([str(2 + constants if parts else 1), *parts])
 
+# ## What goes through nodes by their arguments alone
+
+# the families whose nodes have texts, and the node of each family
+TEXTUAL = ("path", "type", "bindings")
+NODE_OF = {"path": "Path", "arguments": "Arguments", "type": "Ty", "types": "Types", "bounds": "Bounds", "bindings": "Bindings"}
+SUBTREES = (*MUTUAL, "constant")
+
+def node_pattern(made): return f"({made.sort}.{made.variant} {' '.join('name disambiguator' if part.name == 'identifier' else field for field, part in zip(made.fields, made.parts))})"
+def broken(front, value, indent=""): return f"{front} {value}" if len(f"{indent}{front} {value}") <= 120 else f"{front}\n    {value}"
+
+def by_node(clause, indent="", without=()):
+    """for each family a run of clauses, of those nodes that a production makes"""
+    for of in MUTUAL:
+        lines = [f"-- {WRITTEN}", *[line for made in NODES if made.of == of and made.production not in without for line in clause(of, made).split("\n")]]
+        yield ["\n".join(indent + line for line in lines)]
+
+def node_tree(of, made):
+    own = {"identifier": "(identifier_of s name disambiguator)", "name": "(name_of s name)", "abi": "(abi_of s abi)"}
+    values = [own.get(part.name, f"({part.name}_in (slice_get all {field}))" if part.name in SUBTREES else field) for field, part in zip(made.fields, made.parts)]
+    return broken(f"{of}_of {'s ' if of in TEXTUAL else ''}all {node_pattern(made)} =", f"tree.{made.tree} {' '.join(values)}")
+
+def conditions(made):
+    """the parts of a node of which something has to hold, each with its field, and with the fact that it does where h has those of all"""
+    held = [(part, field) for field, part in zip(made.fields, made.parts) if part.name in (*SUBTREES, "name", "identifier", "abi", "binder")]
+    return [(part, field, f"h.{k}" if len(held) > 1 else "h") for k, (part, field) in enumerate(held)]
+
+def node_parts(of, made):
+    held, names = conditions(made), iter(names_of([part.name for part, field, fact in conditions(made)]))
+    def holds(part, field, name):
+        if part.name in SUBTREES: return f"(({name} : tree.{FAMILIES[part.name]}) × Is{part.name.capitalize()} all {field} {name})"
+        return {"abi": "HasAbi s text abi", "binder": "(binder ≤ most_bound)"}.get(part.name, "HasName s text name")
+    value = " × ".join(holds(part, field, next(names)) for part, field, fact in held)
+    return broken(f"Has{of.capitalize()}Parts {'s text ' if of in TEXTUAL else ''}all {node_pattern(made)} =", value[1:-1] if len(held) == 1 and value[0] == "(" else value)
+
+def node_need(of, made):
+    needed = [f"(need_at nodes {field})" if part.name in MUTUAL else field for field, part in zip(made.fields, made.parts) if part.name in (*MUTUAL, "lifetime", "some_lifetime")]
+    whole = needed[0] if needed else "0"
+    for k, more in enumerate(needed[1:]): whole = f"max {f'({whole})' if k else whole} {more}"
+    return broken(f"{of}_need{'s' if of in ('path', 'type') else ''} nodes {node_pattern(made)} =", whole[1:-1] if len(needed) == 1 and whole[0] == "(" else whole)
+
+def rewritten(facts): return f"rw ({', '.join(facts)}) refl" if facts else "refl"
+def tree_grown(of, made):
+    return f"{of}_of-grown {'s text ' if of in TEXTUAL else ''}{node_pattern(made)} h = " + rewritten([f"{part.name}-same {field} {fact}" for part, field, fact in conditions(made) if part.name in SUBTREES])
+def need_grown(of, made):
+    return f"{of}-needs {node_pattern(made)} h = " + rewritten([f"{part.name}-need {field} {fact}" for part, field, fact in conditions(made) if part.name in MUTUAL])
+def parts_grown(of, made):
+    def grown(part, field, fact):
+        return f"{part.name}-grown all more {field} {fact}" if part.name in SUBTREES else {"abi": f"HasAbi-grown abi {fact}", "binder": fact}.get(part.name, f"HasName-grown name {fact}")
+    held = [grown(*one) for one in conditions(made)]
+    return broken(f"{of}_parts-grown {node_pattern(made)} h =", held[0] if len(held) == 1 else f"({', '.join(held)})", "  ")
+
+def node_view(of, made):
+    """what is seen of a node: its production, its numbers, its name and its parts"""
+    name = next((f for f, part in zip(made.fields, made.parts) if part.name in ("name", "identifier")), None)
+    numbers = ["disambiguator" if part.name == "identifier" else field for field, part in zip(made.fields, made.parts) if part.name in (*NUMERIC, "identifier")]
+    parts = [field for field, part in zip(made.fields, made.parts) if part.name in SUBTREES]
+    own, listed = f"production.{made.tree.upper()}", "".join(f"{part} ∷ " for part in [*parts, "0", "0", "0"][:3])
+    if name: own = f"(named name {own} production.PUNYCODE_{made.tree.upper()})"
+    if not name and len(numbers) < 2: seen = f"seen_by {own} {numbers[0] if numbers else 0} {len(parts)} ({listed}[])"
+    else: seen = f"seen_of {own} ({''.join(f'{n} ∷ ' for n in [*numbers, '0', '0'][:2])}[]) {'name.bytes' if name else 'no_text'} {len(parts)} ({listed}[])"
+    return broken(f"view_of_{of} {node_pattern(made)} =", seen)
+
+def node_seen(of, made):
+    held = conditions(made)
+    parts = [(part, field, fact) for part, field, fact in held if part.name in SUBTREES]
+    named = next((fact for part, field, fact in held if part.name in ("name", "identifier")), None)
+    shown = [f"(type_part-is all bare {field} {fact})" if part.name == "type" else f"({part.name}-part all {field} {fact})" for part, field, fact in parts]
+    count = ["no", "one", "two", "three"][len(parts)]
+    if named and not parts: seen = f"no-parts s all _ _ _ name.bytes (bytes_at s name.bytes) {named}.0 refl"
+    else:
+        lemma = f"{count}-part{'s' if len(parts) > 1 else ''} s all _ _ _ name.bytes" if named else ("three-parts" if len(parts) == 3 else f"plain-{count}") + " s all _ _ _"
+        seen = " ".join([lemma, *[field for part, field, fact in parts], *["_" for _ in parts], *([f"{named}.0"] if named else []), *shown])
+    return broken(f"{of}-seen {node_pattern(made)} h =", seen, "  ")
+
 # ## The files
 
 def whole_files():
@@ -542,13 +618,17 @@ def declarations():
     yield "rust_v0/proofs/Sorts.antt", list(sorts())
     yield "rust_v0/proofs/SortedParts.antt", [[slot_then(part) for part in PARTS.values()], [f"-- {WRITTEN}\n" + "\n".join(made_of_slots(made) for made in NODES)]]
     yield "rust_press/proofs/PressRead.antt", [[good_then(part) for part in PARTS.values() if part.name in GOODS],
-        [f"-- {WRITTEN}\n" + "\n".join(made_good(made) for made in NODES if made.production not in ("Function", "Dyn"))]]
+        [f"-- {WRITTEN}\n" + "\n".join(made_good(made) for made in NODES if made.production not in BINDERS)]]
     yield "rust_press/specs/Same.antt", [same(["constant"], ""), same(MUTUAL, "  ")]
     yield "rust_press/proofs/Sameness.antt", [equal(["constant"], "") + itself(["constant"], ""), equal(MUTUAL, "  "), itself(MUTUAL, "  ")]
     yield "rust_press/specs/Tasks.antt", [summed("weight", "pub ", weight)]
     yield "rust_press/proofs/PressApart.antt", [summed("size", "", size)]
+    yield "rust_tree/specs/Nodes.antt", [*by_node(node_tree), *by_node(node_parts)]
+    yield "rust_tree/specs/Needs.antt", list(by_node(node_need, without=BINDERS))
+    yield "rust_tree/proofs/Trees.antt", [*by_node(tree_grown, "  "), *by_node(parts_grown, "  "), *by_node(need_grown, "  ")]
+    yield "rust_tree/proofs/Viewing.antt", [*by_node(node_view, without=("Function",)), *by_node(node_seen, "  ", ("Function",))]
     kept = [Kept(made) for made in NODES if made.of != "constant"]
-    def clauses(of): return [f"  -- {WRITTEN}\n" + "\n".join(kept_clause(one) for one in kept if one.made.of == of and one.made.production not in ("Function", "Dyn"))]
+    def clauses(of): return [f"  -- {WRITTEN}\n" + "\n".join(kept_clause(one) for one in kept if one.made.of == of and one.made.production not in BINDERS)]
     yield "rust_press/proofs/PressKept.antt", [[means(one) for one in kept], *[clauses(of) for of in VALUES]]
 
 def with_runs(text, runs):
