@@ -601,6 +601,58 @@ def node_seen(of, made):
         seen = " ".join([lemma, *[field for part, field, fact in parts], *["_" for _ in parts], *([f"{named}.0"] if named else []), *shown])
     return broken(f"{of}-seen {node_pattern(made)} h =", seen, "  ")
 
+# ## Views of nodes, by the arms of the code
+
+def view_answers(of):
+    """that each arm of a family's view shows its node: by the call that the arm makes, whose step has the arm's name from its second call on"""
+    own, used = "ty" if of == "type" else of, set()
+    def step(call, arm):
+        name = call if call not in used else f"{call}-in-{arm}"
+        used.add(call)
+        return name
+    arms = [(leaf, []) for leaf in {"path": [], "type": ["Basic"]}.get(of, ["None"])] + [(made.variant, made) for made in NODES if made.of == of]
+    lines, named = [], False
+    for arm, made in arms:
+        parts = [part.name for part in made.parts] if made else []
+        count = sum(part in SUBTREES for part in parts)
+        if arm == "Function": shown = f"type-is s text all _ c.args.{own} _ c.in-{arm}.is (c.view_of_function.ensures.seen s text all bare) h"
+        else:
+            if "name" in parts or "identifier" in parts:
+                named, seen = True, f"(production-by c.{step('view_of', arm)}.ensures c.{step('by_name-by', arm)}.ensures)"
+            else: seen = f"c.{step('view_of' if arm == 'Dyn' else ['leaf', 'one', 'two', 'three'][count], arm)}.ensures"
+            shown = f"{of}-by s text all bare _ c.args.{own} _ c.in-{arm}.is {seen} h"
+        lines += ["", f"pub returns-in-{arm}-clause-seen : goal.returns-in-{arm}-clause-seen", f"returns-in-{arm}-clause-seen c s text all bare h = {shown}"]
+    lemmas = ", ".join([f"{of}-by", *(["type-is"] if of == "type" else []), *(["production-by"] if named else [])])
+    return "\n".join([f"-- {WRITTEN}", f"use Rattle.rust_tree.proofs.Viewing.{{{lemmas}}}", f"use Rattle.rust_tree.proofs.view.view_of_{of}.Goals as goal", *lines]) + "\n"
+
+# ## Lists
+
+# the lists: what separates their items, and whether they are asked for where it has to be fast
+LISTS = {"arguments": (", ", True), "types": (", ", True), "bounds": (" + ", False), "bindings": (", ", False)}
+
+def in_lists(of):
+    separator, fast = LISTS[of]
+    inline, name = ["#[inline(always)]"] if fast else [], PRESSED[{"types": "types"}.get(of, of)].name
+    there = f"({name} : tree.{FAMILIES[of]}) × Is{of.capitalize()} (trees_of self.now) node {name}"
+    arms = [made.variant for made in NODES if made.of == of]
+    yield [f"// {WRITTEN}", f"/// Whether there are {of}.", f"#[tactic(auto, unfolding(crate::specs::Nodes::{of}_of))]", *inline, f"pub(crate) fn any_{of}(&self, node: u32) -> bool",
+        f"    requires {{ {there} }}", f"    ensures {{ result ≡ any_{of} ({of}_in (slice_get (trees_of self.now) node)) }}", "{", f"    match self.{of}(node) {{",
+        f"        {of.capitalize()}::None => false,", *[f"        {of.capitalize()}::{arm} {{ .. }} => true," for arm in arms], "    }", "}"]
+    yield [f"// {WRITTEN}", f"/// Adds the item of {of}, if there are any.", *inline, f"pub(crate) fn push_{of}<S: PartList<Context>>(", "    &self,", "    parts: &mut S,", "    node: u32,", "    first: bool,",
+        "    ctx: Context,", ")", "    requires room { 1 ≤ S.room parts.old }", f"    requires {of} {{ {there} }}",
+        "    ensures shows { (below : Held Context) (so_far : Unshared) → Shows self.now below (S.held parts.old) so_far → HasDepth Form.PlainPath node ctx.bound",
+        f"        → Shows self.now below (S.held parts.new) ({of}_from ctx.detail ctx.bound (if first then [] else codes \"{separator}\") ({of}_in (slice_get (trees_of self.now) node)) perhaps so_far) }}",
+        "    ensures room { S.room parts.old ≤ S.room parts.new + 1 }", "{", f"    let any = self.any_{of}(node);", "    if first {",
+        f"        self.push_item_if(any, parts, node, Form::First{of.capitalize()[:-1]}, ctx);", "    } else {", f"        self.push_item_if(any, parts, node, Form::More{of.capitalize()}, ctx);", "    }", "}"]
+
+def list_answers(of):
+    lines = [f"-- {WRITTEN}", f"use Rattle.rust_tree.proofs.Showing.{{changed, if-true, if-false, list-{of}}}", f"use Rattle.rust_tree.proofs.symbol.Symbol.push_{of}.Goals as goal"]
+    for way, step, fact in (("then", "push_item_if", "(if-true c.args.first _ _ c.if-first.true)"), ("else", "push_item_if-else-first", "(if-false c.args.first _ _ c.if-first.false)")):
+        lines += ["", f"pub returns-{way}-first-clause-shows : goal.returns-{way}-first-clause-shows", f"returns-{way}-first-clause-shows g c below so_far shows deep =",
+            f"    changed c.args.self.now _ _ _ (list-{of} c.args.ctx.detail c.args.ctx.bound _ _ c.any_{of}-any.result _ c.any_{of}-any.ensures {fact} so_far)",
+            f"    (c.{step}.ensures.shows _ _ shows c.requires.{of} deep)"]
+    return "\n".join(lines) + "\n"
+
 # ## The files
 
 def whole_files():
@@ -608,6 +660,8 @@ def whole_files():
     yield "rust_v0/src/operands.rt", "\n".join([CODE_HEAD] + [read_in_code(part) + "\n" for part in parts])
     yield "rust_v0/specs/CodeOperands.antt", "\n".join([SPEC_HEAD] + [read_in_specs(part) + "\n" for part in parts]) + SPEC_TAIL
     yield "rust_v0/proofs/OperandLemmas.antt", "\n".join([LEMMAS_HEAD] + [agrees(part) + "\n" for part in parts])
+    for of in MUTUAL: yield f"rust_tree/proofs/view/view_of_{of}/Answers.antt", view_answers(of)
+    for of in LISTS: yield f"rust_tree/proofs/symbol/Symbol/push_{of}/Answers.antt", list_answers(of)
 
 def declarations():
     """the paths of hand-written files, and the declarations that stand in them one after the other, once for each run of them"""
@@ -623,6 +677,8 @@ def declarations():
     yield "rust_press/proofs/Sameness.antt", [equal(["constant"], "") + itself(["constant"], ""), equal(MUTUAL, "  "), itself(MUTUAL, "  ")]
     yield "rust_press/specs/Tasks.antt", [summed("weight", "pub ", weight)]
     yield "rust_press/proofs/PressApart.antt", [summed("size", "", size)]
+    lists = [list(in_lists(of)) for of in LISTS]
+    yield "rust_tree/src/lists.rt", [["\n".join("    " + line for line in own[k]) for k in (0, 1) for own in lists]]
     yield "rust_tree/specs/Nodes.antt", [*by_node(node_tree), *by_node(node_parts)]
     yield "rust_tree/specs/Needs.antt", list(by_node(node_need, without=BINDERS))
     yield "rust_tree/proofs/Trees.antt", [*by_node(tree_grown, "  "), *by_node(parts_grown, "  "), *by_node(need_grown, "  ")]
