@@ -601,6 +601,23 @@ def node_seen(of, made):
         seen = " ".join([lemma, *[field for part, field, fact in parts], *["_" for _ in parts], *([f"{named}.0"] if named else []), *shown])
     return broken(f"{of}-seen {node_pattern(made)} h =", seen, "  ")
 
+def of_subtrees(lines_of, families):
+    """what is said of a node of each family but types, which may be paths too"""
+    run = []
+    for of in families:
+        name = "c" if of == "constant" else PRESSED[of].name
+        run.append("\n".join("  " + line for line in [f"-- {WRITTEN}", *lines_of(of, f"({name} : tree.{FAMILIES[of]})", lambda all: f"Is{of.capitalize()} {all} k {name}")]))
+    return run
+
+UNTYPED = [of for of in SUBTREES if of != "type"]
+def node_grown(of, given, stands): return [f"{of}-grown : (k : ℕ) → ({given} × {stands('all')}) → {given} × {stands('(all ++ more)')}", f"{of}-grown k h = (h.0, got-grown all more k (of_{of} h.0) h.1)"]
+def node_same(of, given, stands): return [f"{of}-same : (k : ℕ) → ({given} × {stands('all')}) → slice_get (all ++ more) k ≡ slice_get all k", f"{of}-same k h = got-same all more k (of_{of} h.0) h.1"]
+def node_part(of, given, stands): return [f"{of}-part : (k : ℕ) → ({given} × {stands('all')}) → slice_get all k ≡ Some (of_{of} ({of}_in (slice_get all k)))", f"{of}-part k h = rw h.1 refl"]
+def node_needs(of, given, stands):
+    need = "need" if of == "path" else f"need_of_{of}"
+    return [f"{of}-need : (k : ℕ) → ({given} × {stands('(trees s table.nodes)')}) → need_at table.nodes k ≡ {need} ({of}_in (slice_get (trees s table.nodes) k))",
+            "unfolding need_of_tree", f"{of}-need k h = rw h.1 (need-is s table k (of_{of} h.0) is h.1)"]
+
 # ## Views of nodes, by the arms of the code
 
 def view_answers(of):
@@ -632,7 +649,7 @@ LISTS = {"arguments": (", ", True), "types": (", ", True), "bounds": (" + ", Fal
 
 def in_lists(of):
     separator, fast = LISTS[of]
-    inline, name = ["#[inline(always)]"] if fast else [], PRESSED[{"types": "types"}.get(of, of)].name
+    inline, name = ["#[inline(always)]"] if fast else [], PRESSED[of].name
     there = f"({name} : tree.{FAMILIES[of]}) × Is{of.capitalize()} (trees_of self.now) node {name}"
     arms = [made.variant for made in NODES if made.of == of]
     yield [f"// {WRITTEN}", f"/// Whether there are {of}.", f"#[tactic(auto, unfolding(crate::specs::Nodes::{of}_of))]", *inline, f"pub(crate) fn any_{of}(&self, node: u32) -> bool",
@@ -681,8 +698,9 @@ def declarations():
     yield "rust_tree/src/lists.rt", [["\n".join("    " + line for line in own[k]) for k in (0, 1) for own in lists]]
     yield "rust_tree/specs/Nodes.antt", [*by_node(node_tree), *by_node(node_parts)]
     yield "rust_tree/specs/Needs.antt", list(by_node(node_need, without=BINDERS))
-    yield "rust_tree/proofs/Trees.antt", [*by_node(tree_grown, "  "), *by_node(parts_grown, "  "), *by_node(need_grown, "  ")]
-    yield "rust_tree/proofs/Viewing.antt", [*by_node(node_view, without=("Function",)), *by_node(node_seen, "  ", ("Function",))]
+    yield "rust_tree/proofs/Trees.antt", [of_subtrees(node_grown, UNTYPED), of_subtrees(node_same, UNTYPED), *by_node(tree_grown, "  "), *by_node(parts_grown, "  "),
+        of_subtrees(node_needs, UNTYPED[:-1]), *by_node(need_grown, "  ")]
+    yield "rust_tree/proofs/Viewing.antt", [of_subtrees(node_part, UNTYPED), *by_node(node_view, without=("Function",)), *by_node(node_seen, "  ", ("Function",))]
     kept = [Kept(made) for made in NODES if made.of != "constant"]
     def clauses(of): return [f"  -- {WRITTEN}\n" + "\n".join(kept_clause(one) for one in kept if one.made.of == of and one.made.production not in BINDERS)]
     yield "rust_press/proofs/PressKept.antt", [[means(one) for one in kept], *[clauses(of) for of in VALUES]]
