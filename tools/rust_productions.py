@@ -670,6 +670,15 @@ def list_answers(of):
             f"    (c.{step}.ensures.shows _ _ shows c.requires.{of} deep)"]
     return "\n".join(lines) + "\n"
 
+def list_lemmas(of):
+    """that the item of a list is added where it isn't empty; bounds are told apart by their first path"""
+    tree, listed = f"tree.{FAMILIES[of]}", f"{of}_from d b"
+    yield [f"-- {WRITTEN}", f"any-{of} : (d : Detail) (b : ℕ) (sep : List ℕ) (a : {tree}) (rest : Unshared) → item_if (any_{of} a) (parts_in ({listed} sep a)) rest ≡ {listed} sep a perhaps rest",
+        f"unfolding {of}_from", f"any-{of} d b sep tree.no_{of} rest = refl",
+        *([f"any-bounds d b sep (tree.more_bounds {path} x r) rest = refl" for path in ("(tree.generic p a)", "_")] if of == "bounds" else [f"any-{of} d b sep _ rest = refl"])]
+    yield [f"-- {WRITTEN}", f"pub list-{of} : (d : Detail) (b : ℕ) (sep wanted : List ℕ) (any : Bool) (a : {tree}) → any ≡ any_{of} a → wanted ≡ sep → (rest : Unshared)",
+        f"    → item_if any (parts_in ({listed} sep a)) rest ≡ {listed} wanted a perhaps rest", f"list-{of} d b sep wanted any a e w rest = rw (e, w) (any-{of} d b sep a rest)"]
+
 # ## The files
 
 def whole_files():
@@ -696,6 +705,7 @@ def declarations():
     yield "rust_press/proofs/PressApart.antt", [summed("size", "", size)]
     lists = [list(in_lists(of)) for of in LISTS]
     yield "rust_tree/src/lists.rt", [["\n".join("    " + line for line in own[k]) for k in (0, 1) for own in lists]]
+    yield "rust_tree/proofs/Showing.antt", [["\n".join(own) for of in LISTS for own in list_lemmas(of)]]
     yield "rust_tree/specs/Nodes.antt", [*by_node(node_tree), *by_node(node_parts)]
     yield "rust_tree/specs/Needs.antt", list(by_node(node_need, without=BINDERS))
     yield "rust_tree/proofs/Trees.antt", [of_subtrees(node_grown, UNTYPED), of_subtrees(node_same, UNTYPED), *by_node(tree_grown, "  "), *by_node(parts_grown, "  "),

@@ -337,25 +337,11 @@ module _ (s text : List ℕ) (all : List Tree) (seen : NodeView) where
 no-path_type : (s : List ℕ) (all : List Tree) (type : Ty) (path : tree.Path) → type_of s all type ≡ tree.path_type path → ⊥
 unfolding type_of
 no-path_type s all (Ty.Basic letter) path e = cc
-no-path_type s all (Ty.Array element size) path e = cc
-no-path_type s all (Ty.Slice element) path e = cc
-no-path_type s all (Ty.Tuple elements) path e = cc
-no-path_type s all (Ty.SharedReference lifetime referent) path e = cc
-no-path_type s all (Ty.MutableReference lifetime referent) path e = cc
-no-path_type s all (Ty.ConstPointer pointee) path e = cc
-no-path_type s all (Ty.MutPointer pointee) path e = cc
-no-path_type s all (Ty.Function binder is_unsafe abi parameters returned) path e = cc
-no-path_type s all (Ty.Dyn binder given lifetime) path e = cc
+no-path_type s all _ path e = cc
 
 no-path_tree : (s : List ℕ) (all : List Tree) (node : Node) (path : tree.Path) → tree_of s all node ≡ of_type (tree.path_type path) → ⊥
 no-path_tree s all (Node.Ty type) path e = no-path_type s all type path (let same : type_of s all type ≡ tree.path_type path = cc in same)
-no-path_tree s all (Node.Path given) path e = cc
-no-path_tree s all (Node.Arguments given) path e = cc
-no-path_tree s all (Node.Types given) path e = cc
-no-path_tree s all (Node.Bounds given) path e = cc
-no-path_tree s all (Node.Bindings given) path e = cc
-no-path_tree s all (Node.Constant given) path e = cc
-no-path_tree s all (Node.Symbol given) path e = cc
+no-path_tree s all _ path e = cc
 
 table-bare : (s : List ℕ) (table : Table) → IsTable s table → HasNoPathType (trees s table.nodes)
 table-bare s table is k path h =
