@@ -670,6 +670,18 @@ def list_answers(of):
             f"    (c.{step}.ensures.shows _ _ shows c.requires.{of} deep)"]
     return "\n".join(lines) + "\n"
 
+def found_in_code(of):
+    """the list at a node"""
+    own, texts, name = of.capitalize(), ("self.now.bytes ", "self.now.bytes self.now.table.text ") if of in TEXTUAL else ("", ""), PRESSED[of].name
+    return "\n".join("    " + line for line in [f"// {WRITTEN}", f"pub(crate) fn {of}(&self, node: u32) -> {own}", f"    requires {{ ({name} : tree.{FAMILIES[of]}) × Is{own} (trees_of self.now) node {name} }}",
+        f"    ensures tree {{ Is{own} (trees_of self.now) node ({of}_of {texts[0]}(trees_of self.now) result) }}",
+        f"    ensures parts {{ Has{own}Parts {texts[1]}(take node (trees_of self.now)) result }}", "{", "    match self.stored(node) {", f"        Node::{own}(found) => found,",
+        "        _ => unreachable!(),", "    }", "}"])
+
+def found_answers(of):
+    return "\n".join([f"-- {WRITTEN}", "use Rattle.rust_tree.proofs.Reading.{is_within}", f"use Rattle.rust_tree.proofs.symbol.Symbol.{of}.Goals as goal", "",
+        "pub stored-requires : goal.stored-requires", "stored-requires c = is_within c.args.self.now c.args.node _ c.requires.1"]) + "\n"
+
 def list_lemmas(of):
     """that the item of a list is added where it isn't empty; bounds are told apart by their first path"""
     tree, listed = f"tree.{FAMILIES[of]}", f"{of}_from d b"
@@ -687,7 +699,9 @@ def whole_files():
     yield "rust_v0/specs/CodeOperands.antt", "\n".join([SPEC_HEAD] + [read_in_specs(part) + "\n" for part in parts]) + SPEC_TAIL
     yield "rust_v0/proofs/OperandLemmas.antt", "\n".join([LEMMAS_HEAD] + [agrees(part) + "\n" for part in parts])
     for of in MUTUAL: yield f"rust_tree/proofs/view/view_of_{of}/Answers.antt", view_answers(of)
-    for of in LISTS: yield f"rust_tree/proofs/symbol/Symbol/push_{of}/Answers.antt", list_answers(of)
+    for of in LISTS:
+        yield f"rust_tree/proofs/symbol/Symbol/push_{of}/Answers.antt", list_answers(of)
+        yield f"rust_tree/proofs/symbol/Symbol/{of}/Answers.antt", found_answers(of)
 
 def declarations():
     """the paths of hand-written files, and the declarations that stand in them one after the other, once for each run of them"""
@@ -705,6 +719,7 @@ def declarations():
     yield "rust_press/specs/Tasks.antt", [summed("weight", "pub ", weight)]
     yield "rust_press/proofs/PressApart.antt", [summed("size", "", size)]
     lists = [list(in_lists(of)) for of in LISTS]
+    yield "rust_tree/src/symbol.rt", [[found_in_code(of) for of in LISTS]]
     yield "rust_tree/src/lists.rt", [["\n".join("    " + line for line in own[k]) for k in (0, 1) for own in lists]]
     yield "rust_tree/proofs/Showing.antt", [["\n".join(own) for of in LISTS for own in list_lemmas(of)]]
     yield "rust_tree/specs/Nodes.antt", [*by_node(node_tree), *by_node(node_parts)]
