@@ -178,9 +178,7 @@ spelled-constant-grows n tree.placeholder = text-grows n _
 
 constant-grows : (n : ℕ) (constant : tree.Constant) → 2 ≤ n → Grows n (press_constant constant)
 constant-grows n tree.placeholder le = text-grows n _
-constant-grows n (tree.integer t m k) le = more-grows 2 n (press_constant (tree.integer t m k)) le (component-grows (of_constant (tree.integer t m k)) (spell_constant (tree.integer t m k)) (spelled-constant-grows 1 (tree.integer t m k)))
-constant-grows n (tree.boolean b) le = more-grows 2 n (press_constant (tree.boolean b)) le (component-grows (of_constant (tree.boolean b)) (spell_constant (tree.boolean b)) (spelled-constant-grows 1 (tree.boolean b)))
-constant-grows n (tree.character c) le = more-grows 2 n (press_constant (tree.character c)) le (component-grows (of_constant (tree.character c)) (spell_constant (tree.character c)) (spelled-constant-grows 1 (tree.character c)))
+constant-grows n constant le = more-grows 2 n (press_constant constant) le (component-grows (of_constant constant) (spell_constant constant) (spelled-constant-grows 1 constant))
 
 path-part-grows : (n : ℕ) (path : tree.Path) → size path + 1 ≤ n → Grows (size path) (spell_path path) → Grows n (path_or_reference path (spell_path path))
 path-part-grows n path le one = more-grows (size path + 1) n (path_or_reference path (spell_path path)) le (component-grows (of_path path) (spell_path path) one)
@@ -188,15 +186,7 @@ path-part-grows n path le one = more-grows (size path + 1) n (path_or_reference 
 type-part-grows : (n : ℕ) (type : tree.Ty) → size_of_type type + 1 ≤ n → Grows (size_of_type type) (spell_type type) → Grows n (type_or_reference type (spell_type type))
 type-part-grows n (tree.basic b) le one = text-grows n _
 type-part-grows n (tree.path_type p) le one = path-part-grows n p le one
-type-part-grows n (tree.array t k) le one = more-grows (size_of_type (tree.array t k) + 1) n (component (of_type (tree.array t k)) (spell_type (tree.array t k))) le (component-grows (of_type (tree.array t k)) (spell_type (tree.array t k)) one)
-type-part-grows n (tree.slice t) le one = more-grows (size_of_type (tree.slice t) + 1) n (component (of_type (tree.slice t)) (spell_type (tree.slice t))) le (component-grows (of_type (tree.slice t)) (spell_type (tree.slice t)) one)
-type-part-grows n (tree.tuple ts) le one = more-grows (size_of_type (tree.tuple ts) + 1) n (component (of_type (tree.tuple ts)) (spell_type (tree.tuple ts))) le (component-grows (of_type (tree.tuple ts)) (spell_type (tree.tuple ts)) one)
-type-part-grows n (tree.shared_reference l t) le one = more-grows (size_of_type (tree.shared_reference l t) + 1) n (component (of_type (tree.shared_reference l t)) (spell_type (tree.shared_reference l t))) le (component-grows (of_type (tree.shared_reference l t)) (spell_type (tree.shared_reference l t)) one)
-type-part-grows n (tree.mutable_reference l t) le one = more-grows (size_of_type (tree.mutable_reference l t) + 1) n (component (of_type (tree.mutable_reference l t)) (spell_type (tree.mutable_reference l t))) le (component-grows (of_type (tree.mutable_reference l t)) (spell_type (tree.mutable_reference l t)) one)
-type-part-grows n (tree.const_pointer t) le one = more-grows (size_of_type (tree.const_pointer t) + 1) n (component (of_type (tree.const_pointer t)) (spell_type (tree.const_pointer t))) le (component-grows (of_type (tree.const_pointer t)) (spell_type (tree.const_pointer t)) one)
-type-part-grows n (tree.mut_pointer t) le one = more-grows (size_of_type (tree.mut_pointer t) + 1) n (component (of_type (tree.mut_pointer t)) (spell_type (tree.mut_pointer t))) le (component-grows (of_type (tree.mut_pointer t)) (spell_type (tree.mut_pointer t)) one)
-type-part-grows n (tree.function b u a ts t) le one = more-grows (size_of_type (tree.function b u a ts t) + 1) n (component (of_type (tree.function b u a ts t)) (spell_type (tree.function b u a ts t))) le (component-grows (of_type (tree.function b u a ts t)) (spell_type (tree.function b u a ts t)) one)
-type-part-grows n (tree.dyn b bs l) le one = more-grows (size_of_type (tree.dyn b bs l) + 1) n (component (of_type (tree.dyn b bs l)) (spell_type (tree.dyn b bs l))) le (component-grows (of_type (tree.dyn b bs l)) (spell_type (tree.dyn b bs l)) one)
+type-part-grows n type le one = more-grows (size_of_type type + 1) n (component (of_type type) (spell_type type)) le (component-grows (of_type type) (spell_type type) one)
 
 -- ## The induction
 

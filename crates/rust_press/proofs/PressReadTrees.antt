@@ -297,10 +297,6 @@ plain_symbol _ = true
 
 plain-token : (p : Production) (x : Sym) → takes_token p x ≡ true → plain_symbol x ≡ true
 plain-token rules.PlainName (Kind k) h = h
-plain-token rules.PunycodeName (Kind k) h = h
-plain-token rules.SignedConstant (Kind k) h = h
-plain-token rules.UnsignedConstant (Kind k) h = h
-plain-token rules.CharConstant (Kind k) h = h
 plain-token _ (Kind k) h = h
 plain-token p Name h = refl
 plain-token p (Number kind) h = refl
