@@ -1,6 +1,7 @@
 -- The trees of a table's nodes, and what a node that is added changes.
 use Rattle.std.proofs.Common.{◌≡◌, ℕ, zero, suc, ◌+◌, ◌-◌, ◌<◌, ◌≤◌, ◌⊎◌, inl, inr, List, [], ◌∷◌, ◌++◌, length, take, drop, Option, Some, None, slice_get, refl, sym, ap, subst, ◌∙◌, arith, length-append, append-nil, append_assoc}
-use Rattle.std.proofs.lemmas.List.{drop-append-le, length-drop}
+use Rattle.std.proofs.lemmas.List.{drop-append-le, length-drop, take-append-drop, take-append-le}
+use Rattle.std.proofs.Math.Seq.{take-append_seam}
 use Rattle.sym_core.specs.declared.Span.{Span}
 use Rattle.rust_tree.specs.Symbol as tree
 use Rattle.rust_tree.specs.Need.{need, need_of_arguments, need_of_type, need_of_types, need_of_bounds, need_of_bindings}
@@ -50,20 +51,6 @@ got-early zero xs i x h = absurd (let e : None ≡ Some x = h in cc)
 got-early (suc n) [] i x h = absurd (let e : None ≡ Some x = h in cc)
 got-early (suc n) (y ∷ xs) zero x h = (omega arith, h)
 got-early (suc n) (y ∷ xs) (suc i) x h = let r = got-early n xs i x h in (omega (arith, r.0), r.1)
-
-pub take-grown : {A : Type 0} (n : ℕ) (xs ys : List A) → n ≤ length xs → take n (xs ++ ys) ≡ take n xs
-take-grown zero xs ys h = refl
-take-grown (suc n) [] ys h = absurd (omega arith)
-take-grown (suc n) (x ∷ xs) ys h = ap (λ r. x ∷ r) (take-grown n xs ys (omega arith))
-
-take-whole : {A : Type 0} (xs ys : List A) → take (length xs) (xs ++ ys) ≡ xs
-take-whole [] ys = refl
-take-whole (x ∷ xs) ys = ap (λ r. x ∷ r) (take-whole xs ys)
-
-pub take-rest : {A : Type 0} (n : ℕ) (xs : List A) → take n xs ++ drop n xs ≡ xs
-take-rest zero xs = refl
-take-rest (suc n) [] = refl
-take-rest (suc n) (x ∷ xs) = ap (λ r. x ∷ r) (take-rest n xs)
 
 -- the last item, or an earlier one
 got-push : {A : Type 0} (xs : List A) (y : A) (i : ℕ) (x : A) → slice_get (xs ++ y ∷ []) i ≡ Some x → (slice_get xs i ≡ Some x) ⊎ ((i ≡ length xs) × (y ≡ x))
@@ -239,7 +226,7 @@ within-grown text more span h = (h.0, omega (arith, h.1, length-append text more
 pub bytes-grown : (text more : List ℕ) (span : Span) → IsWithin span text → bytes_at (text ++ more) span ≡ bytes_at text span
 bytes-grown text more span h =
     ap (take (span.to - span.from)) (drop-append-le span.from text more (omega (arith, h.0, h.1)))
-    ∙ take-grown (span.to - span.from) (drop span.from text) more (omega (arith, h.0, h.1, length-drop span.from text))
+    ∙ take-append-le (span.to - span.from) (drop span.from text) more (omega (arith, h.0, h.1, length-drop span.from text))
 
 module _ (s text more_text : List ℕ) (all more : List Tree) where
   decoded-grown : (bytes : Span) (decoded : Option Span) → IsDecoded s text bytes decoded → IsDecoded s (text ++ more_text) bytes decoded
@@ -445,8 +432,8 @@ node-kept : (s : List ℕ) (table : Table) (more : List Tree) (more_text : List 
 node-kept s table more more_text new i entry are text node =
     let all = trees s table.nodes in
     let within : i < length all = got-within all i (tree_of s all entry.node) node.tree in
-    let front : take i (all ++ more) ≡ take i all = take-grown i all more (omega arith) in
-    let whole : HasParts s table.text all entry.node = subst (λ a. HasParts s table.text a entry.node) (take-rest i all)
+    let front : take i (all ++ more) ≡ take i all = take-append-le i all more (omega arith) in
+    let whole : HasParts s table.text all entry.node = subst (λ a. HasParts s table.text a entry.node) (take-append-drop i all)
     (subst (λ t. HasParts s t (take i all ++ drop i all) entry.node) (append-nil table.text) (HasParts-grown s table.text [] (take i all) (drop i all) entry.node node.parts)) in
     let same : tree_of s (all ++ more) entry.node ≡ tree_of s all entry.node = tree_of-grown all more s table.text entry.node whole in
     record {
@@ -468,7 +455,7 @@ node-added s table entry parts needed new are text =
       parts = subst (λ t. HasParts s t (take (length table.nodes) (trees s new.nodes)) entry.node) (sym text)
           (subst (λ a. HasParts s table.text (take (length table.nodes) a) entry.node) (sym are)
           (subst (λ n. HasParts s table.text (take n (all ++ made ∷ [])) entry.node) last
-          (subst (λ a. HasParts s table.text a entry.node) (sym (take-whole all (made ∷ []))) parts)));
+          (subst (λ a. HasParts s table.text a entry.node) (sym (take-append_seam all (made ∷ []))) parts)));
       tree = subst (λ a. slice_get a (length table.nodes) ≡ Some (tree_of s a entry.node)) (sym are)
           (subst (λ n. slice_get (all ++ made ∷ []) n ≡ Some (tree_of s (all ++ made ∷ []) entry.node)) last (got-last all made ∙ ap Some (sym same)));
       need = subst (λ a. entry.need ≡ need_of_tree (tree_of s a entry.node)) (sym are) (needed ∙ ap need_of_tree (sym same));

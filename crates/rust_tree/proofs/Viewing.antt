@@ -1,6 +1,7 @@
 -- What is seen of a node.
 use Rattle.std.proofs.Common.{◌≡◌, ℕ, zero, suc, ◌<◌, ◌≤◌, inl, inr, List, [], ◌∷◌, length, take, drop, map, Bool, Option, Some, None, slice_get, get_or, refl, sym, ap, subst, ◌∙◌, arith}
 use Rattle.std.specs.Prelude.{if◌then◌else◌}
+use Rattle.std.proofs.lemmas.List.{take-append-drop}
 use Rattle.std.proofs.lemmas.List.Elements.{All-nil, All-cons}
 use Rattle.sym_core.specs.declared.Span.{Span}
 use Rattle.rust_tree.specs.declared.tree_production.TheConstants as production
@@ -23,7 +24,7 @@ use Rattle.rust_tree.specs.Fields.{Fields, fields, fields_of, tree_from, one_if,
 use Rattle.rust_tree.specs.Views.{IsSeen, HasNoPathType, seen_of, no_text, fields_in, fields_at}
 use Rattle.rust_tree.specs.Layout.{ReadSymbol, trees_of}
 use Rattle.rust_tree.specs.Counts.{IsRead}
-use Rattle.rust_tree.proofs.Trees.{got-there, got-within, got-early, length-trees, take-rest, tree_of-grown}
+use Rattle.rust_tree.proofs.Trees.{got-there, got-within, got-early, length-trees, tree_of-grown}
 use Rattle.rust_tree.proofs.Numerals.{digits-are}
 use Rattle.rust_tree.proofs.Rebuilding.{tree-made}
 
@@ -366,7 +367,7 @@ seen-at now k node seen bare stands parts shows =
     let all = trees_of now in
     let front = take k all in
     let whole : tree_of now.bytes all node ≡ tree_of now.bytes front node =
-    ap (λ a. tree_of now.bytes a node) (sym (take-rest k all)) ∙ tree_of-grown front (drop k all) now.bytes now.table.text node parts in
+    ap (λ a. tree_of now.bytes a node) (sym (take-append-drop k all)) ∙ tree_of-grown front (drop k all) now.bytes now.table.text node parts in
     subst (λ given. IsSeen now.bytes front seen given) (sym (ap fields_in stands ∙ ap fields_of whole))
     (shows now.bytes now.table.text front (front-bare k all bare) parts)
 
