@@ -1,5 +1,6 @@
 -- What is read can be spelled: its numbers, letters and names are in the ranges of the grammar, and what it needs is bound.
 use Rattle.std.proofs.Common.{◌≡◌, ℕ, ◌+◌, ◌<◌, ◌≤◌, inl, inr, List, [], ◌∷◌, Option, Some, None, Bool, true, false, Ok, refl, arith, subst}
+use Rattle.std.proofs.lemmas.Option.{same_Some}
 use Rattle.std.specs.Prelude.{◌==◌, if◌then◌else◌, nat_le, Result, Err}
 use Rattle.std.proofs.lemmas.Bool.{leb-true}
 use Rattle.rust_tree.specs.Symbol as tree
@@ -115,10 +116,7 @@ found-good [] place v good is = cc
 found-good (e ∷ es) place v good is = go (e.place == place) is (found-good es place v good.1)
   where
     go : (b : Bool) → (if b then Some e.value else ended_at es place) ≡ Some v → (ended_at es place ≡ Some v → IsGoodEnding v) → IsGoodEnding v
-    go true is more = subst IsGoodEnding (some-one is) good.0
-      where
-        some-one : {a b : Value} → Some a ≡ Some b → a ≡ b
-        some-one h = cc
+    go true is more = subst IsGoodEnding (same_Some _ _ is) good.0
     go false is more = more is
 
 plus-none : (outer : ℕ) → outer ≡ outer + 0
