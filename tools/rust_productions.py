@@ -377,93 +377,90 @@ KINDS_OF = {"arguments": "ARGUMENTS", "type": "TYPE", "types": "TYPES", "bounds"
 NUMBERS = list(rust_grammar.KINDS)
 
 class Kept:
-    """the rule of a production that makes a tree, as it is pressed"""
+    """the rule of a production that makes a tree, as it is pressed: its parts and their names in the tree, the tree and its value, its kinds (a byte of its own
+    among them), the rule, and the kind and the byte at which it is taken"""
     def __init__(self, made):
-        self.made, self.letter = made, next(letter for letter, (own, takes, symbols) in rust_grammar.RULES.items() if own == made.production)
-        own, self.takes, self.symbols = rust_grammar.RULES[self.letter]
+        self.made, self.ends = made, made.of in ("path", "type")
         self.parts, self.names = [PRESSED[part.name] for part in made.parts], names_of([part.name for part in made.parts])
         self.tree = f"(tree.{made.tree} {' '.join(self.names)})"
         self.value = f"(value.{VALUES[made.of]} {self.tree})"
         self.means = f"{dashed(made.tree)}-means"
-        kinds = [f"Byte {ord(symbol[1])}" if symbol[0] == "'" else f"Kind {NUMBERS.index(symbol)}" for symbol in self.symbols]
-        self.kinds = kinds
-        self.rule = f"({'taking' if self.takes else 'chaining'} rules.{made.production} ({''.join(f'{kind} ∷ ' for kind in kinds)}[]))"
-        # the byte at which the rule is taken
+        letter, self.takes, symbols = next((letter, takes, symbols) for letter, (own, takes, symbols) in rust_grammar.RULES.items() if own == made.production)
+        self.bytes = [ord(symbol[1]) for symbol in symbols if symbol[0] == "'"]
+        self.kinds = [f"Byte {ord(symbol[1])}" if symbol[0] == "'" else f"Kind {NUMBERS.index(symbol)}" for symbol in symbols]
+        self.rule = f"({'taking' if self.takes else 'chaining'} rules.{made.production} {self.kinds_from(0)})"
         kind = KINDS_OF.get(made.of, "PATH")
-        letters = rust_grammar.KINDS[kind][0][self.letter]
-        self.kind = "kind" if made.of == "path" else str(NUMBERS.index(kind))
-        self.byte = str(ord(letters[0]))
-    def of(self, text, name): return text.replace("@", name)
-    def press(self, first):
+        self.kind, self.byte = "kind" if made.of == "path" else str(NUMBERS.index(kind)), str(ord(rust_grammar.KINDS[kind][0][letter][0]))
+    def kinds_from(self, first): return f"({''.join(f'{kind} ∷ ' for kind in self.kinds[first:])}[])"
+    def press_from(self, first):
         """the pressing of the parts from one on"""
-        press = [self.of(part.press, name) for part, name in zip(self.parts, self.names)] + [f"letter {ord(s[1])}" for s in self.symbols if s[0] == "'"]
+        press = [part.press.replace("@", name) for part, name in zip(self.parts, self.names)] + [f"letter {byte}" for byte in self.bytes]
         return f"({' and '.join(press[first:])})"
-    def ends(self): return "ends" if self.made.of in ("path", "type") else "plain"
+    def need(self):
+        """how many lifetimes the tree needs, if its parts need any"""
+        needs = [part.need.replace("@", name) for part, name in zip(self.parts, self.names) if part.need]
+        whole = needs[0] if needs else None
+        for more in needs[1:]: whole = f"max {f'({whole})' if ' ' in whole else whole} ({more})"
+        return whole
+    def fact(self):
+        """what values of the parts have to mean"""
+        if self.takes: return f"({'Ends' if self.ends else 'Makes'} {self.rule} {self.byte} c {self.value})"
+        return f"(λ values. (at : At) → at.bound ≡ c → meaning_of (production_of {self.rule}.number) at values ≡ plain at {self.value})"
 
 def means(kept):
-    """what the values of the parts mean together, by the forms in which they come"""
-    typed, sorts, values, forms = None, [], [], [[]]
+    """what the values of the parts mean together, by the forms in which they come: a type's by which of two they are"""
+    arguments, values, forms, typed = [], [], [[]], None
     for part, name in zip(kept.parts, kept.names):
-        if name == "i":
-            sorts.append("(d : ℕ) (m : tree.Name)"); values.append("identifier_values d m"); choices = [["zero", "m"], ["(suc x)", "m"]]
-        else:
-            sorts.append(f"({name} : {part.sort})"); choices = [[form.replace("@", name)] for form in part.forms]
-            values.append(kept.of(part.values, name) if part.values else "vs")
+        if name == "i": argument, value, choices = "(d : ℕ) (m : tree.Name)", "identifier_values d m", [[count, "m"] for count in COUNTED]
+        else: argument, value, choices = f"({name} : {part.sort})", part.values.replace("@", name) if part.values else "vs", [[form.replace("@", name)] for form in part.forms]
         if not part.values: typed = name
+        arguments.append(argument)
+        values.append(value)
         forms = [form + choice for form in forms for choice in choices]
-    values += ["[]" for symbol in kept.symbols if symbol[0] == "'"]
-    joined = f"({values[0]})"
-    for value in values[1:]: joined = f"({joined} ++ ({value}))"
-    tree = kept.tree.replace(" i)", " (record { disambiguator = d; name = m }))")
+    known = f"({values[0]})"
+    for value in [*values[1:], *["[]" for byte in kept.bytes]]: known = f"({known} ++ ({value}))"
+    made = kept.value.replace(" i)", " (record { disambiguator = d; name = m }))")
     given = f" (vs : List Value) → IsTypeValue {typed} vs" if typed else ""
-    lines = [f"-- {WRITTEN}", f"pub {kept.means} : {' '.join(sorts)}{given} → (at : At) → meaning rules.{kept.made.production} at {joined} ≡ {kept.ends()} at {kept.value.replace(kept.tree, tree)}"]
+    lines = [f"-- {WRITTEN}", f"pub {kept.means} : {' '.join(arguments)}{given} → (at : At) → meaning rules.{kept.made.production} at {known} ≡ {'ends' if kept.ends else 'plain'} at {made}"]
     for form in forms:
         if typed: lines += [f"{kept.means} {' '.join(form)} vs ({which}) at = rw {fact} refl" for which, fact in (("inl e", "e"), ("inr e", "(e.1, e.2)"))]
         else: lines.append(f"{kept.means} {' '.join(form)} at = refl")
     return "\n".join(lines)
 
+def kept_parts(kept):
+    """the parts of a clause, one after the other: each is pressed, is read as its values, and these are known to those after it"""
+    taken, at = ("({} ∷ [])".format(kept.byte), "at there same") if kept.takes else ("[]", "at same")
+    conditions = [k for k, part in enumerate(kept.made.parts) if part.name not in FREE]
+    lines, known, front, facts = [], "[]", "(", ["i.disambiguator i.name" if name == "i" else name for name in kept.names]
+    for k, kind in enumerate(kept.kinds):
+        part = kept.parts[k] if k < len(kept.parts) else Pressed("", f"letter {kept.bytes[-1]}", "[]", f"byte-presses s c _ _ {kept.bytes[-1]}", None)
+        name, last = [*kept.names, ""][k], k + 1 == len(kept.kinds)
+        values = part.values.replace("@", name) if part.values else None
+        good = f"good.{conditions.index(k)}" if k in conditions and len(conditions) > 1 else "good"
+        lemma, rest, after = ("last-presses", "", "") if last else ("and-presses", " " + kept.kinds_from(k + 1), " " + kept.press_from(k + 1))
+        read_as = f"(λ values. values ≡ ({values}))" if values else "(IsTypeValue t)"
+        lines.append(f"{front}{lemma} s {kept.rule} {taken} c ({kind}){rest} {known} ({part.press.replace('@', name)}){after} {read_as} {kept.fact()}")
+        lines.append(f"({part.why.replace('@', name).replace('GOOD', good)})")
+        now = f"({values})" if values else f"v{k}"
+        known = now if known == "[]" else f"({known} ++ {now})"
+        front = f"(λ v{k} h{k}. rw h{k} (" if values else f"(λ v{k} h{k}. ("
+        if not values: facts.append(f"v{k} h{k}")
+    own = f"λ {at}. {kept.means} {' '.join(facts)} at"
+    # each part opens two parentheses, its lemma's and that of what is known after it
+    return [*lines, (front + own + ")" if values else front[:-1] + own) + ")" * (2 * len(kept.kinds)), f"(λ {at} values r. r {at})"]
+
 def kept_clause(kept):
     """why what is pressed of such a tree is read as it"""
-    made, rule, byte = kept.made, kept.rule, kept.byte
-    taken = f"({byte} ∷ [])" if kept.takes else "[]"
-    front = "path-kept s c fits inside minus kind has" if made.of == "path" else f"{made.of}-kept s c fits inside minus"
-    at = "λ at there same." if kept.takes else "λ at same."
-    if not kept.takes: whole = f"(λ values. (at : At) → at.bound ≡ c → meaning_of (production_of {rule}.number) at values ≡ plain at {kept.value})"
-    else: whole = f"({'Ends' if kept.ends() == 'ends' else 'Makes'} {rule} {byte} c {kept.value})"
-    needs = [kept.of(part.need, name) for part, name in zip(kept.parts, kept.names) if part.need]
-    need = needs[0] if needs else None
-    for more in needs[1:]: need = f"max ({need}) ({more})" if need.startswith("max") or " " in need else f"max {need} ({more})"
-    lines = [f"  {front} {kept.tree} good closed ="]
-    if need: lines.append(f"      let need_is : {need} ≤ c = closed in")
-    wrapped = made.of == "type"
-    if wrapped: lines.append(f"      own-type-presses s c inside minus {kept.tree} (spell_type {kept.tree}) fits closed")
-    takes = "takes-ends" if kept.ends() == "ends" else "takes-plain" if kept.takes else "chains-plain"
-    what = f"(of_{made.of} {kept.tree})" if kept.ends() == "ends" else kept.value
+    made, need = kept.made, kept.need()
+    front = f"{made.of}-kept s c fits inside minus{' kind has' if made.of == 'path' else ''} {kept.tree} good closed ="
+    takes = "takes-ends" if kept.ends else "takes-plain" if kept.takes else "chains-plain"
+    own = f"(of_{made.of} {kept.tree})" if kept.ends else kept.value
     found = f"has.{made.tree}" if made.of == "path" else "refl"
-    lines.append(f"      {'(' if wrapped else ''}{takes} s c inside minus {kept.kind} {byte} {rule} {kept.press(0)} {whole} {what} (omega arith) {found} refl")
-    conditions = [k for k, part in enumerate(made.parts) if part.name not in FREE]
-    known, opened, before = "[]", 0, "      ("
-    call = kept.means
-    for name in kept.names: call += " i.disambiguator i.name" if name == "i" else f" {name}"
-    for k, kind in enumerate(kept.kinds):
-        last = k + 1 == len(kept.kinds)
-        part, name = (kept.parts[k], kept.names[k]) if k < len(kept.parts) else (None, None)
-        values = kept.of(part.values, name) if part and part.values else "[]"
-        fine = "(IsTypeValue t)" if part and not part.values else f"(λ values. values ≡ ({values}))"
-        rest = "" if last else f" ({''.join(f'{other} ∷ ' for other in kept.kinds[k + 1:])}[])"
-        own = f"({kept.of(part.press, name)})" if part else f"(letter {kind.split()[1]})"
-        lines.append(f"{before}{'last-presses' if last else 'and-presses'} s {rule} {taken} c ({kind}){rest} {known} {own}{'' if last else ' ' + kept.press(k + 1)} {fine} {whole}")
-        good = f"good.{conditions.index(k)}" if part and k in conditions and len(conditions) > 1 else "good"
-        lines.append(f"      ({kept.of(part.why, name).replace('GOOD', good)})" if part else f"      (byte-presses s c _ _ {kind.split()[1]})")
-        typed = part and not part.values
-        if typed: call += f" v{k} h{k}"
-        now = f"v{k}" if typed else f"({values})"
-        known = now if known == "[]" else f"({known} ++ {now})"
-        before = f"      (λ v{k} h{k}. (" if typed else f"      (λ v{k} h{k}. rw h{k} ("
-        opened += 2
-    lines.append(before[:-1] + ("" if typed else "(") + f"{at} {call} at" + ")" * (opened + (0 if typed else 1)))
-    lines.append(f"      ({at[:-1]} values r. r {'at there same' if kept.takes else 'at same'})" + (")" if wrapped else ""))
-    return "\n".join(lines)
+    lines = [f"let need_is : {need} ≤ c = closed in"] if need else []
+    rule = [f"{takes} s c inside minus {kept.kind} {kept.byte} {kept.rule} {kept.press_from(0)} {kept.fact()} {own} (omega arith) {found} refl", *kept_parts(kept)]
+    # a type may be a reference to an earlier one
+    if made.of == "type": rule = [f"own-type-presses s c inside minus {kept.tree} (spell_type {kept.tree}) fits closed", "(" + rule[0], *rule[1:-1], rule[-1] + ")"]
+    return "\n".join([f"  {front}", *[f"      {line}" for line in lines + rule]])
 
 # ## What goes through trees by their arguments alone
 
