@@ -145,8 +145,10 @@ def adding(trees):
             tests, slot = needed(tree)
             fits = f"fits.{len(tests)}" if tests else "fits"
             inner = f"(adds {parts[1].tree}).at fit.as_type {slot} around allowed (place + length {braced(parts[0].text)}) cs {fits} complete"
-            yield f"adds {shape} = type-ways-add {shape} _ _ (λ x w. w) (λ slot around allowed place cs fits complete. {inner})"
-        elif sort == "piece" and len(parts) == 1: yield f"adds {shape} = leaf-piece-add {shape} _ _ (λ x i. i)"
+            long = "(omega (arith, letters-long q fits.1))" if tree[0] == "qualified" else "(omega arith)"
+            yield f"adds {shape} = type-ways-add {shape} _ _ (λ x w. w) (λ slot around allowed place cs fits complete. after-bytes 0 1 {braced(parts[0].text)} {long} ({inner}))"
+        elif sort == "piece" and len(parts) == 1:
+            yield f"adds {shape} = leaf-piece-add {shape} _ _ {'(source-long internal name)' if tree[0] == 'source' else '(omega arith)'} (λ x i. i)"
 
 def writing(trees):
     """an argument has a byte at least"""
@@ -222,11 +224,6 @@ def lemmas(trees):
         own, bytes_ = tree[0].replace("_", "-"), braced(front.text)
         names = [name for name, sort in tree[1:] if name != a.tree]
         binders, given = "".join(TYPED[name] for name in names), "".join(name + " " for name in names)
-        h = f"h.{len(tests)}" if tests else "h"
-        long = "(letters-long q h.1)" if tree[0] == "qualified" else "(omega arith)"
-        yield "cpp_press_laws/proofs/Components/FewTrees.antt", [f"pub few-{own} : {binders}(type : Term) → Counts type → Counts {shape}", "unfolding ways_of fits_of",
-            f"few-{own} {given}type r_t =", f"    few-type {shape} (λ n. {spelled(parts, 'n')}) _ (λ slot around allowed place cs h.",
-            f"    few-behind 0 1 {bytes_} {a.spelled('around.encoding')} place cs {long} (r_t.at spot.as_type {slot} around allowed (place + length {bytes_}) cs {h}))"]
         if not tests or slot != "any_type": continue
         known = "".join(f"{test} → " for test in tests[1:])
         facts = ", ".join(["take", *("digit" for test in tests[1:]), "fits"])

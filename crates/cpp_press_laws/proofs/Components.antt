@@ -1,9 +1,9 @@
 -- What is spelled out, and what comes before it: the lists of components that pressing builds.
 -- Components are apart (`Apart`, an induction over the ways of each tree, with `Growing` and `Sameness`), and so are kept (`Keeping`);
--- pressing a tree whose components are there adds none (`Known`, `KnownTrees`, `NoneAdded`), a tree that fits adds its own (`Adding`,
--- `AddedWays`, `AddedNames`, `AddedTrees`, with `Parts`, `Encodings`, `Complete` and `Again`); there are few of them (`FewTrees`,
--- `FewComponents`, `FewPressed`, with `Counting`); and one that is spelled again has a reason (`Repeated`). `Steps` has a reader's
--- candidates beside them.
+-- pressing a tree whose components are there adds none (`Known`, `KnownTrees`, `NoneAdded`), a tree that fits adds its own, and no more
+-- than it has bytes (`Adding`, `AddedWays`, `AddedNames`, `AddedTrees`, with `Parts`, `Encodings`, `Complete`, `Counting` and `Again`);
+-- there are no more of them than a reader has candidates (`FewPressed`); and one that is spelled again has a reason (`Repeated`).
+-- `Steps` has a reader's candidates beside them.
 pub mod Sameness
 pub mod Growing
 pub mod Apart
@@ -22,6 +22,4 @@ pub mod AddedTrees
 pub mod Again
 pub mod Keeping
 pub mod Counting
-pub mod FewTrees
-pub mod FewComponents
 pub mod FewPressed

@@ -1,21 +1,21 @@
 -- The components that names add or find, in each of their ways.
-use Rattle.std.proofs.Common.{◌≡◌, ℕ, ◌+◌, ◌⊎◌, inl, inr, length, List, [], ◌∷◌, ◌++◌, Option, Bool, true, false, refl, arith, sym, subst}
+use Rattle.std.proofs.Common.{◌≡◌, ℕ, ◌+◌, ◌⊎◌, ◌≤◌, inl, inr, length, List, [], ◌∷◌, ◌++◌, Option, Bool, true, false, refl, arith, sym, subst}
 use Rattle.std.specs.Prelude.{◌&&◌, codes}
 use Rattle.std.proofs.lemmas.Bool.{true≢false, false≢true}
-use Rattle.sym_spell.specs.Pressing as spell
 use Rattle.sym_spell.specs.Pressing.{◌and◌, text, nothing}
 use Rattle.cpp_grammar.specs.Term.{Term, symbol, alone, in_std, within, instance, local}
 use Rattle.cpp_grammar.specs.Values.{outermost, behind, Around}
 use Rattle.cpp_grammar.specs.Between.{after, inside}
 use Rattle.cpp_press_laws.proofs.Components.Encodings.{encoding-prefix, no-encoding-fits}
-use Rattle.cpp_press_laws.specs.Texts.{name_letters}
+use Rattle.cpp_press_laws.specs.Texts.{name_letters, discriminator_text}
 use Rattle.cpp_press_laws.specs.Components.{Component, Spelling, ended, component}
 use Rattle.cpp_press_laws.specs.Pressing.{no_ways, type_ways, in_N_and_E, with_letters, name_ways, template_before, is_operator, is_encoding, is_one_piece, entity_text, local_text, ways_of}
+use Rattle.cpp_press_laws.specs.Subtrees.{Written}
 use Rattle.cpp_press_laws.proofs.Components.Parts.{PrefixOr, Inside, Whole, prefix-whole}
 use Rattle.cpp_press_laws.proofs.Components.Complete.{Complete}
 use Rattle.cpp_press_laws.specs.Fits.{Standing, Fitting, Behind, as_component, as_template, behind_bytes, one_piece, Slot, names_type, names_function, begins_name, Role, in_type, in_name_with, letters_of, names_in, fits_nowhere, type_fits, piece_fits, argument_fits, encoding_fits, fits_of, names_member, IsSpellableDiscriminator}
 use Rattle.cpp_press_laws.proofs.Fitting as fit
-use Rattle.cpp_press_laws.proofs.Components.Adding.{AddsParts, Adds, Either, both-added, fewer-added, behind-and, at-once, and-adds, whole-adds, letters-add, no-letters-add}
+use Rattle.cpp_press_laws.proofs.Components.Adding.{AddsParts, Adds, Either, both-added, fewer-added, after-bytes, before-bytes, nested-added, fewer-by-one, behind-and, at-once, and-adds, whole-adds, letters-add, no-letters-add}
 use Rattle.cpp_press_laws.proofs.Components.AddedWays.{way_at, AtSlot, WaysAdd, AddsAt, nowhere-ways-add, in-component, reference-adds, found-and-adds, in-template, in-nested-template, component-at}
 
 -- ## Names
@@ -36,11 +36,11 @@ alone-add p a = record {
 }
   where
     spelled : (around : Around) (allowed : Option ℕ) (may : Bool)
-        → Adds around.encoding (Inside p) (one_piece outermost may (fits_of p).as_piece around allowed) (ways_of around.encoding p).as_piece
+        → Adds 1 around.encoding (Inside p) (one_piece outermost may (fits_of p).as_piece around allowed) (ways_of around.encoding p).as_piece
     spelled around allowed may place cs fits complete = (a.at fit.as_piece) around allowed place cs fits.2 complete
 
     whole : (around : Around) (allowed : Option ℕ) (may : Bool)
-        → Adds around.encoding (Whole (alone p)) (as_component (alone p) (one_piece outermost may (fits_of p).as_piece) around allowed)
+        → Adds 0 around.encoding (Whole (alone p)) (as_component (alone p) (one_piece outermost may (fits_of p).as_piece) around allowed)
         (component around.encoding (alone p) (ways_of around.encoding p).as_piece)
     whole around allowed may = in-component around allowed (alone p) (one_piece outermost may (fits_of p).as_piece)
         (ways_of around.encoding p).as_piece (spelled around allowed may)
@@ -80,25 +80,26 @@ in-std-add p a = record {
     typed_spelling : Bool → ℕ → Spelling
     typed_spelling b n = elim b as (λ _. Spelling) [ true ↦ in_N_and_E [] (spelling n) | false ↦ spelling n ]
 
-    spelled : (around : Around) (allowed : Option ℕ) → Adds around.encoding (Inside p) (std around allowed) (spelling around.encoding)
-    spelled around allowed place cs fits complete = (a.at fit.as_piece) around allowed (place + 2) cs fits.1 complete
+    spelled : (around : Around) (allowed : Option ℕ) → Adds 1 around.encoding (Inside p) (std around allowed) (spelling around.encoding)
+    spelled around allowed place cs fits complete =
+        after-bytes 1 1 (codes "St") (omega arith) ((a.at fit.as_piece) around allowed (place + 2) cs fits.1 complete)
 
     typed : (b : Bool) (around : Around) (allowed : Option ℕ)
-        → Adds around.encoding (Inside p) (behind_bytes (elim b [ true ↦ codes "N" | false ↦ [] ]) std around allowed)
+        → Adds 1 around.encoding (Inside p) (behind_bytes (elim b [ true ↦ codes "N" | false ↦ [] ]) std around allowed)
         (typed_spelling b around.encoding)
-    typed true around allowed place cs fits complete = spelled around allowed (place + 1) cs fits complete
+    typed true around allowed place cs fits complete = nested-added [] (spelled around allowed (place + 1) cs fits complete)
     typed false around allowed place cs fits complete = spelled around allowed place cs (at-once (std around allowed) place cs fits) complete
 
-    whole : (around : Around) (allowed : Option ℕ) → Adds around.encoding (Whole (in_std p)) (as_component (in_std p) (behind_bytes
+    whole : (around : Around) (allowed : Option ℕ) → Adds 0 around.encoding (Whole (in_std p)) (as_component (in_std p) (behind_bytes
         (elim (is_operator p) [ true ↦ codes "N" | false ↦ [] ]) std) around allowed)
         (component around.encoding (in_std p) (typed_spelling (is_operator p) around.encoding))
     whole around allowed = in-component around allowed (in_std p) (behind_bytes (elim (is_operator p) [ true ↦ codes "N" | false ↦ [] ]) std)
         (typed_spelling (is_operator p) around.encoding) (typed (is_operator p) around allowed)
 
     bare : (spelled_at : Fitting) (around : Around) (allowed : Option ℕ) (G : Fitting) (arguments : Spelling) (Q : Term → Type 0)
-        → Adds around.encoding (Inside p) (spelled_at around allowed) (spelling around.encoding)
-        → Adds around.encoding Q (G around allowed) arguments
-        → Adds around.encoding (Either (Whole (in_std p)) Q) (as_template (in_std p) spelled_at
+        → Adds 1 around.encoding (Inside p) (spelled_at around allowed) (spelling around.encoding)
+        → Adds 1 around.encoding Q (G around allowed) arguments
+        → Adds 1 around.encoding (Either (Whole (in_std p)) Q) (as_template (in_std p) spelled_at
         (λ n. text [] and spelling n) G around allowed)
         (template_before around.encoding (in_std p) false (spelling around.encoding) arguments)
     bare spelled_at around allowed G arguments Q one more place cs fits complete =
@@ -113,8 +114,8 @@ in-std-add p a = record {
         ) complete
 
     befores : (typed_ b : Bool) (around : Around) (allowed : Option ℕ) (G : Fitting) (arguments : Spelling) (Q : Term → Type 0)
-        → Adds around.encoding Q (G around allowed) arguments
-        → Adds around.encoding (Either (Whole (in_std p)) Q)
+        → Adds 1 around.encoding Q (G around allowed) arguments
+        → Adds 1 around.encoding (Either (Whole (in_std p)) Q)
         (as_template (in_std p) (elim typed_ [ true ↦ behind_bytes (elim b [ true ↦ codes "N" | false ↦ [] ]) std | false ↦ std ])
         (λ n. text (elim (typed_ && b) [ true ↦ codes "N" | false ↦ [] ]) and text (codes "St") and (ways_of n p).as_piece) G around allowed)
         (template_before around.encoding (in_std p) (typed_ && b) (spelling around.encoding) arguments)
@@ -132,8 +133,8 @@ in-std-add p a = record {
     each fit.as_prefix_template = λ around allowed. in-component around allowed (in_std p) std (spelling around.encoding) (spelled around allowed)
     each fit.between = spelled
     each fit.between_template = spelled
-    each fit.as_entity = λ role around allowed place cs fits complete. spelled around allowed (place + length
-        (codes "N" ++ letters_of role)) cs fits complete
+    each fit.as_entity = λ role around allowed place cs fits complete. fewer-by-one (nested-added (letters_of role)
+        (spelled around allowed (place + length (codes "N" ++ letters_of role)) cs fits complete))
     each fit.as_name = λ q ref around allowed. letters-add (name_letters q ref) around.encoding (Inside (in_std p)) around allowed std std
         (spelling around.encoding) (spelling around.encoding) (spelled around allowed) (spelled around allowed)
     each fit.as_argument = λ in_pack around allowed. whole around allowed
@@ -141,14 +142,14 @@ in-std-add p a = record {
 
 -- the one form of an entity or the other
 pub entity-adds : (b : Bool) (n : ℕ) (P : Term → Type 0) (letters : List ℕ) (between : Spelling) (place : ℕ) (cs : List Component)
-    → ((b ≡ true) × AddsParts n P cs (between place cs).components)
-    ⊎ ((b ≡ false) × AddsParts n P cs (between (place + length (codes "N" ++ letters)) cs).components)
-    → AddsParts n P cs ((elim b as (λ _. Spelling) [ true ↦ between | false ↦ in_N_and_E letters between ]) place cs).components
+    → ((b ≡ true) × AddsParts 1 n P cs (between place cs))
+    ⊎ ((b ≡ false) × AddsParts 1 n P cs (between (place + length (codes "N" ++ letters)) cs))
+    → AddsParts 0 n P cs ((elim b as (λ _. Spelling) [ true ↦ between | false ↦ in_N_and_E letters between ]) place cs)
 unfolding in_N_and_E
-entity-adds true n P letters between place cs (inl one) = one.1
+entity-adds true n P letters between place cs (inl one) = fewer-by-one one.1
 entity-adds true n P letters between place cs (inr other) = absurd (true≢false other.0)
 entity-adds false n P letters between place cs (inl one) = absurd (false≢true one.0)
-entity-adds false n P letters between place cs (inr other) = other.1
+entity-adds false n P letters between place cs (inr other) = fewer-by-one (nested-added letters other.1)
 
 pub is-not : (b : Bool) → (b ≡ true → ⊥) → b ≡ false
 is-not true never = absurd (never refl)
@@ -158,11 +159,12 @@ pub at-none : (G : Standing) (place : ℕ) (cs : List Component) → G place cs 
 at-none G place cs fits = let same : place ≡ place + 0 = omega arith in subst (λ p. G p cs) same fits
 
 -- a name that is between N and E with letters or without
-pub nested-letters-add : (letters : List ℕ) (n : ℕ) (P : Term → Type 0) (F : Standing) (between : Spelling) → Adds n P F between
-    → Adds n P (λ place cs. F (place + length (codes "N" ++ letters)) cs) (with_letters letters (in_N_and_E [] between) between)
+pub nested-letters-add : (letters : List ℕ) (n : ℕ) (P : Term → Type 0) (F : Standing) (between : Spelling) → Adds 1 n P F between
+    → Adds 0 n P (λ place cs. F (place + length (codes "N" ++ letters)) cs) (with_letters letters (in_N_and_E [] between) between)
 unfolding with_letters in_N_and_E
-nested-letters-add [] n P F between one place cs fits complete = one (place + 1) cs fits complete
-nested-letters-add (l ∷ ls) n P F between one place cs fits complete = one (place + length (codes "N" ++ l ∷ ls)) cs fits complete
+nested-letters-add [] n P F between one place cs fits complete = fewer-by-one (nested-added [] (one (place + 1) cs fits complete))
+nested-letters-add (l ∷ ls) n P F between one place cs fits complete =
+    fewer-by-one (nested-added (l ∷ ls) (one (place + length (codes "N" ++ l ∷ ls)) cs fits complete))
 
 pub within-add : (prefix p : Term) → WaysAdd prefix (fits_of prefix) (λ n. ways_of n prefix) → WaysAdd p (fits_of p) (λ n. ways_of n p)
     → WaysAdd (within prefix p) (fits_of (within prefix p)) (λ n. ways_of n (within prefix p))
@@ -189,40 +191,35 @@ within-add prefix p a b = record {
     spelling : ℕ → Spelling
     spelling n = (ways_of n prefix).as_prefix and (ways_of n p).as_piece
 
-    joins : (around : Around) (allowed : Option ℕ) → Adds around.encoding (Inside (within prefix p)) (joined around allowed)
+    joins : (around : Around) (allowed : Option ℕ) → Adds 1 around.encoding (Inside (within prefix p)) (joined around allowed)
         (spelling around.encoding)
     joins around allowed place cs fits complete =
-        let f : spell.Pressed Component = (ways_of around.encoding prefix).as_prefix place cs in
-        let later : ℕ = place + length f.bytes in
+        let f : Written = (ways_of around.encoding prefix).as_prefix place cs in
         let one = (a.at fit.as_prefix) around allowed place cs fits.0 complete in
-        fewer-added around.encoding (Either (Whole prefix) (Inside p)) (Inside (within prefix p)) cs
-        (spelling around.encoding place cs).components
+        fewer-added
+        (both-added 0 1 one (b.at fit.as_piece (after prefix true around) allowed (place + length f.bytes) f.components fits.2 one.complete))
         (λ x i. elim i [ inl w ↦ inl (prefix-whole prefix x (Inside prefix x) w) | inr j ↦ inr j ])
-        (both-added around.encoding (Whole prefix) (Inside p) cs f.components (spelling around.encoding place cs).components one
-        (b.at fit.as_piece (after prefix true around) allowed later f.components fits.2 one.complete))
 
     pieces : (may : Bool) (around : Around) (allowed : Option ℕ)
-        → Adds around.encoding (Inside (within prefix p)) (local_piece may around allowed) (spelling around.encoding)
+        → Adds 1 around.encoding (Inside (within prefix p)) (local_piece may around allowed) (spelling around.encoding)
     pieces may around allowed place cs fits complete =
         let n : ℕ = around.encoding in
         let piece : Spelling = (ways_of n p).as_piece in
         let one = (b.at fit.as_piece) around allowed (place + 0) cs (at-none ((fits_of p).as_piece around allowed) place cs fits.1.2) complete in
-        let more = fewer-added n (Inside p) (Inside (within prefix p)) cs (piece (place + 0) cs).components
-        (λ x i. elim i [ inl w ↦ absurd (no-encoding-inside prefix x (Inside prefix x) fits.0 w) | inr j ↦ j ]) one in
-        subst (λ s. AddsParts n (Inside (within prefix p)) cs ((s and piece) place cs).components) (sym
-        (encoding-prefix prefix n fits.0)) more
+        subst (λ s. AddsParts 1 n (Inside (within prefix p)) cs ((s and piece) place cs)) (sym (encoding-prefix prefix n fits.0))
+        (fewer-added one (λ x i. elim i [ inl w ↦ absurd (no-encoding-inside prefix x (Inside prefix x) fits.0 w) | inr j ↦ j ]))
 
-    begins : (around : Around) (allowed : Option ℕ) → Adds around.encoding (Inside (within prefix p)) (begun_ around allowed)
+    begins : (around : Around) (allowed : Option ℕ) → Adds 1 around.encoding (Inside (within prefix p)) (begun_ around allowed)
         (spelling around.encoding)
     begins around allowed place cs (inl one) complete = pieces (begins_name p) around allowed place cs one complete
     begins around allowed place cs (inr other) complete = joins around allowed place cs other complete
 
-    whole : (around : Around) (allowed : Option ℕ) → Adds around.encoding (Whole (within prefix p)) (as_component (within prefix p)
+    whole : (around : Around) (allowed : Option ℕ) → Adds 0 around.encoding (Whole (within prefix p)) (as_component (within prefix p)
         (behind_bytes (codes "N") joined) around allowed) (component around.encoding (within prefix p) (in_N_and_E []
         (spelling around.encoding)))
     whole around allowed =
         in-component around allowed (within prefix p) (behind_bytes (codes "N") joined) (in_N_and_E [] (spelling around.encoding))
-        (λ place cs fits complete. joins around allowed (place + 1) cs fits complete)
+        (λ place cs fits complete. nested-added [] (joins around allowed (place + 1) cs fits complete))
 
     each : AddsAt (within prefix p) (fits_of (within prefix p)) (λ n. ways_of n (within prefix p))
     each fit.as_type = λ slot around allowed. component-at slot around.encoding (within prefix p) (as_component (within prefix p) (behind_bytes
@@ -284,8 +281,9 @@ instance-add template arguments a b = record {
     listed n = text (codes "I") and (ways_of n arguments).as_elements and text (codes "E")
 
     elements-add : (around : Around) (allowed : Option ℕ)
-        → Adds around.encoding (Inside arguments) (elements around allowed) (listed around.encoding)
-    elements-add around allowed place cs fits complete = (b.at fit.as_elements) false (inside around) allowed (place + 1) cs fits complete
+        → Adds 1 around.encoding (Inside arguments) (elements around allowed) (listed around.encoding)
+    elements-add around allowed place cs fits complete =
+        after-bytes 0 1 (codes "I") (omega arith) (before-bytes (codes "E") (b.at fit.as_elements false (inside around) allowed (place + 1) cs fits complete))
 
     joined : Fitting
     joined around allowed place cs =
@@ -295,7 +293,7 @@ instance-add template arguments a b = record {
     spelling : ℕ → Spelling
     spelling n = (ways_of n template).between_N_and_E and ended n template and listed n
 
-    joins : (around : Around) (allowed : Option ℕ) → Adds around.encoding (Inside own) (joined around allowed) (spelling around.encoding)
+    joins : (around : Around) (allowed : Option ℕ) → Adds 1 around.encoding (Inside own) (joined around allowed) (spelling around.encoding)
     joins around allowed place cs fits complete =
         let n : ℕ = around.encoding in
         let between : Spelling = (ways_of n template).between_N_and_E in
@@ -307,7 +305,7 @@ instance-add template arguments a b = record {
     pieces : (around : Around) (allowed : Option ℕ) (place : ℕ) (cs : List Component)
         → (fits_of template).as_entity_template around allowed place cs
         → Behind ((ways_of around.encoding template).between_N_and_E and ended around.encoding template) (elements around allowed) place cs
-        → Complete cs → AddsParts around.encoding (Inside own) cs (spelling around.encoding place cs).components
+        → Complete cs → AddsParts 1 around.encoding (Inside own) cs (spelling around.encoding place cs)
     pieces around allowed place cs fits more complete =
         let n : ℕ = around.encoding in
         let between : Spelling = (ways_of n template).between_N_and_E in
@@ -317,7 +315,7 @@ instance-add template arguments a b = record {
         (behind-and between (ended n template) (elements around allowed) place cs more) complete
 
     befores : (typed : Bool) (around : Around) (allowed : Option ℕ)
-        → Adds around.encoding (Inside own) ((fits_of template).before typed elements around allowed)
+        → Adds 1 around.encoding (Inside own) ((fits_of template).before typed elements around allowed)
         ((ways_of around.encoding template).before typed (listed around.encoding))
     befores typed around allowed =
         a.before typed around allowed elements (listed around.encoding) (Inside arguments) (elements-add around allowed)
@@ -327,14 +325,14 @@ instance-add template arguments a b = record {
         (fits_of template).as_prefix_template around allowed place cs
         × Behind (ways_of around.encoding template).as_prefix (elements around allowed) place cs
 
-    prefixes : (around : Around) (allowed : Option ℕ) → Adds around.encoding (Inside own) (prefixed around allowed)
+    prefixes : (around : Around) (allowed : Option ℕ) → Adds 1 around.encoding (Inside own) (prefixed around allowed)
         ((ways_of around.encoding template).as_prefix and listed around.encoding)
     prefixes around allowed place cs fits complete =
-        and-adds around.encoding (Whole template) (Inside arguments) ((fits_of template).as_prefix_template around allowed)
+        and-adds 0 1 around.encoding (Whole template) (Inside arguments) ((fits_of template).as_prefix_template around allowed)
         (elements around allowed) (ways_of around.encoding template).as_prefix (listed around.encoding)
         (a.at fit.as_prefix_template around allowed) (elements-add around allowed) place cs (fits.0, fits.1) complete
 
-    whole : (around : Around) (allowed : Option ℕ) → Adds around.encoding (Whole own) (as_component own
+    whole : (around : Around) (allowed : Option ℕ) → Adds 0 around.encoding (Whole own) (as_component own
         ((fits_of template).before true elements)
         around allowed) (component around.encoding own ((ways_of around.encoding template).before true (listed around.encoding)))
     whole around allowed = in-component around allowed own ((fits_of template).before true elements)
@@ -390,29 +388,29 @@ local-add e entity discriminator a b = record {
     spelling : Role → ℕ → Spelling
     spelling role n = local_text (ways_of n e).as_encoding entity (ways_of n entity).between_N_and_E discriminator (letters_of role)
 
-    spelled-adds : (role : Role) (around : Around) (allowed : Option ℕ)
-        → Adds around.encoding (Inside own) (spelled role around allowed) (spelling role around.encoding)
-    spelled-adds role around allowed place cs fits complete =
+    spelled-adds : (k : ℕ) → k ≤ 1 → (role : Role) (around : Around) (allowed : Option ℕ)
+        → Adds k around.encoding (Inside own) (spelled role around allowed) (spelling role around.encoding)
+    spelled-adds k le role around allowed place cs fits complete =
         let n : ℕ = around.encoding in
         let scope : Spelling = (ways_of n e).as_encoding in
-        let f : spell.Pressed Component = scope (place + 1) cs in
+        let f : Written = scope (place + 1) cs in
         let inner : Around = after e true around in
         let G : Standing = (fits_of entity).as_entity role inner allowed in
         let later : ℕ = place + 1 + length f.bytes + 1 in
         let one = (a.at fit.as_encoding) allowed n n (place + 1) cs fits.0 complete in
         let behind_ : G later f.components = behind-and scope (text (codes "E")) G (place + 1) cs
         (behind-and (text (codes "Z")) (scope and text (codes "E")) G place cs fits.1) in
-        fewer-added n (Either (Inside e) (Inside entity)) (Inside own) cs (spelling role n place cs).components
+        let other = b.at fit.as_entity role inner allowed later f.components behind_ one.complete in
+        fewer-added (after-bytes 0 k (codes "Z") (omega (arith, le))
+        (both-added 0 0 one (after-bytes 0 0 (codes "E") (omega arith) (before-bytes (discriminator_text discriminator) other))))
         (λ x i. elim i [ inl s ↦ inl s.1 | inr j ↦ inr j ])
-        (both-added n (Inside e) (Inside entity) cs f.components (spelling role n place cs).components one
-        (b.at fit.as_entity role inner allowed later f.components behind_ one.complete))
 
-    whole : (around : Around) (allowed : Option ℕ) → Adds around.encoding (Whole own) (as_component own (spelled in_type) around allowed)
+    whole : (around : Around) (allowed : Option ℕ) → Adds 0 around.encoding (Whole own) (as_component own (spelled in_type) around allowed)
         (component around.encoding own (spelling in_type around.encoding))
     whole around allowed = in-component around allowed own (spelled in_type) (spelling in_type around.encoding)
-        (spelled-adds in_type around allowed)
+        (spelled-adds 1 (omega arith) in_type around allowed)
 
-    component-slots : (slot : Slot) (around : Around) (allowed : Option ℕ) → Adds around.encoding (AtSlot slot own)
+    component-slots : (slot : Slot) (around : Around) (allowed : Option ℕ) → Adds 0 around.encoding (AtSlot slot own)
         (as_component own (spelled in_type) around allowed) (way_at slot (ways_of around.encoding own))
     component-slots slot around allowed = component-at slot around.encoding own (as_component own (spelled in_type) around allowed)
         (ways_of around.encoding own) (λ x w. w) (whole around allowed) (whole around allowed)
@@ -421,6 +419,6 @@ local-add e entity discriminator a b = record {
     each fit.as_type = λ slot around allowed. component-slots slot around allowed
     each fit.as_prefix = λ around allowed. reference-adds around allowed own (spelling in_type around.encoding)
     each fit.as_prefix_template = λ around allowed. reference-adds around allowed own (spelling in_type around.encoding)
-    each fit.as_name = λ q ref around allowed. spelled-adds (in_name_with q ref) around allowed
+    each fit.as_name = λ q ref around allowed. spelled-adds 0 (omega arith) (in_name_with q ref) around allowed
     each fit.as_argument = λ in_pack around allowed. whole around allowed
     each w = (nowhere-ways-add (local e entity discriminator) (λ n. ways_of n (local e entity discriminator))).at w

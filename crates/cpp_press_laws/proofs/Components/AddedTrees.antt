@@ -1,20 +1,23 @@
 -- A tree that fits adds the components in it or finds them, in each of its ways.
-use Rattle.std.proofs.Common.{◌≡◌, ℕ, ◌+◌, inl, inr, length, List, [], ◌∷◌, ◌++◌, Option, Bool, true, false, sym, subst}
+use Rattle.std.proofs.Common.{◌≡◌, ℕ, ◌+◌, ◌-◌, ◌≤◌, inl, inr, length, List, [], ◌∷◌, ◌++◌, Option, None, Bool, true, false, arith, sym, subst}
 use Rattle.std.specs.Prelude.{codes, cond}
 use Rattle.sym_spell.specs.Pressing.{◌and◌, text}
 use Rattle.cpp_grammar.specs.Term.{Qualifiers, RefQualifier, Term, symbol, function, object, special, thunk, of_name, construction, clone, alone, in_std, within, instance, local, holder, tagged, of_default, abbreviation, parameter, source, operator, literal_operator, constructor, destructor, inheriting, lambda, generic_lambda, unnamed, string_literal, conversion, builtin, sized_float, constrained, vendor, pointer, lvalue, rvalue, array, bounded, member_pointer, function_type, qualified, vector, complex, decltype, expansion, integer, boolean, null_pointer, encoding_literal, address_of, operation, function_parameter, pack, nil, list, absent}
 use Rattle.cpp_grammar.specs.Scope.{has_return_type}
 use Rattle.cpp_grammar.specs.Values.{Around}
 use Rattle.cpp_grammar.specs.Between.{in_name, in_types, in_signature, under_expansion}
-use Rattle.cpp_press_laws.specs.Texts.{ordinal, qualifier_letters, name_letters, thunk_text}
+use Rattle.cpp_grammar.specs.Unfolding.{first_around}
+use Rattle.cpp_press_laws.specs.Texts.{counted, ordinal, signed_text, qualifier_letters, mark_letter, name_letters, special_code, thunk_text}
 use Rattle.cpp_press_laws.specs.Components.{Spelling, component}
-use Rattle.cpp_press_laws.specs.Pressing.{no_ways, type_ways, function_text, piece_ways, ways_of}
-use Rattle.cpp_press_laws.proofs.Components.Parts.{IsComponent, Shut, Inside, Whole}
+use Rattle.cpp_press_laws.specs.Pressing.{no_ways, type_ways, function_text, piece_ways, ways_of, pressed}
+use Rattle.cpp_press_laws.specs.Apart.{spelled_components}
+use Rattle.cpp_press_laws.proofs.Components.Counting.{counted-long, letters-long, marks-long}
+use Rattle.cpp_press_laws.proofs.Components.Parts.{IsComponent, Inside, Whole}
 use Rattle.cpp_press_laws.proofs.Components.KnownTrees.{In}
-use Rattle.cpp_press_laws.specs.Fits.{Standing, Fitting, Behind, as_component, either, Slot, any_type, bare_type, item_type, parameter_type, literal_type, nowhere, fits_nowhere, type_fits, piece_fits, fits_of, takes_all, NamesArgument, IsAbbreviation, IsBuiltin}
+use Rattle.cpp_press_laws.specs.Fits.{Standing, Fitting, Behind, as_component, either, Slot, any_type, bare_type, item_type, parameter_type, literal_type, nowhere, fits_nowhere, type_fits, piece_fits, fits_of, takes_all, NamesArgument, IsAbbreviation, IsBuiltin, SymbolFits}
 use Rattle.cpp_press_laws.proofs.Slots.{each-slot}
 use Rattle.cpp_press_laws.proofs.Fitting as fit
-use Rattle.cpp_press_laws.proofs.Components.Adding.{AddsParts, Adds, Either, No, none-added, fewer-added, behind-and, and-adds}
+use Rattle.cpp_press_laws.proofs.Components.Adding.{AddsParts, Adds, Either, No, none-added, fewer-added, after-bytes, before-bytes, fewer-by-one, behind-and, and-adds}
 use Rattle.cpp_press_laws.proofs.Components.AddedWays.{way_at, AtSlot, IsNotBare, WaysAdd, AddsAt, in-component, reference-adds, leaf-adds, no-whole, found-and-adds, component-at, type-ways-add, piece-ways-add, argument-ways-add, encoding-ways-add, nowhere-ways-add}
 use Rattle.cpp_press_laws.proofs.Components.AddedNames.{alone-add, in-std-add, within-add, instance-add, local-add}
 
@@ -24,7 +27,7 @@ parameter-add : (k : ℕ) → WaysAdd (parameter k) (fits_of (parameter k)) (λ 
 unfolding fits_of fits_nowhere type_fits ways_of type_ways no_ways
 parameter-add k = record {
   at = each;
-  before = λ typed around allowed G arguments Q more. and-adds around.encoding (Whole (parameter k)) Q
+  before = λ typed around allowed G arguments Q more. and-adds 0 1 around.encoding (Whole (parameter k)) Q
       (as_component (parameter k) (elim typed [ true ↦ named | false ↦ nowhere ]) around allowed) (G around allowed)
       (component around.encoding (parameter k) (text (codes "T" ++ ordinal k))) arguments
       (whole (elim typed [ true ↦ named | false ↦ nowhere ]) around allowed) more;
@@ -33,10 +36,10 @@ parameter-add k = record {
     named : Fitting
     named around allowed place cs = NamesArgument around allowed k
 
-    whole : (fitting : Fitting) (around : Around) (allowed : Option ℕ) → Adds around.encoding (Whole (parameter k))
+    whole : (fitting : Fitting) (around : Around) (allowed : Option ℕ) → Adds 0 around.encoding (Whole (parameter k))
         (as_component (parameter k) fitting around allowed) (component around.encoding (parameter k) (text (codes "T" ++ ordinal k)))
     whole fitting around allowed = in-component around allowed (parameter k) fitting (text (codes "T" ++ ordinal k))
-        (leaf-adds around.encoding (Inside (parameter k)) (fitting around allowed) (codes "T" ++ ordinal k) (λ x i. i))
+        (leaf-adds 1 around.encoding (Inside (parameter k)) (fitting around allowed) (codes "T" ++ ordinal k) (omega arith) (λ x i. i))
 
     each : AddsAt (parameter k) (fits_of (parameter k)) (λ n. ways_of n (parameter k))
     each fit.as_type = λ slot around allowed. component-at slot around.encoding (parameter k) (as_component (parameter k) named around allowed)
@@ -50,9 +53,9 @@ abbreviation-add : (l : ℕ) → WaysAdd (abbreviation l) (fits_of (abbreviation
 unfolding fits_of fits_nowhere ways_of type_ways no_ways
 abbreviation-add l = record {
   at = each;
-  before = λ typed around allowed G arguments Q more place cs fits complete. fewer-added around.encoding Q (Either (Whole
-      (abbreviation l)) Q) cs
-      (arguments (place + 2) cs).components (λ x i. elim i [ inl w ↦ absurd (none x w) | inr q ↦ q ]) (more (place + 2) cs fits.1 complete);
+  before = λ typed around allowed G arguments Q more place cs fits complete.
+      fewer-added (after-bytes 1 1 (codes "S" ++ l ∷ []) (omega arith) (more (place + 2) cs fits.1 complete))
+      (λ x i. elim i [ inl w ↦ absurd (none x w) | inr q ↦ q ]);
 }
   where
     lettered : Standing
@@ -61,8 +64,8 @@ abbreviation-add l = record {
     none : In (Whole (abbreviation l)) No
     none = no-whole (abbreviation l) (λ h. h) (λ x i. i)
 
-    whole : (n : ℕ) → Adds n (Whole (abbreviation l)) lettered (text (codes "S" ++ l ∷ []))
-    whole n = leaf-adds n (Whole (abbreviation l)) lettered (codes "S" ++ l ∷ []) none
+    whole : (n : ℕ) → Adds 0 n (Whole (abbreviation l)) lettered (text (codes "S" ++ l ∷ []))
+    whole n = leaf-adds 0 n (Whole (abbreviation l)) lettered (codes "S" ++ l ∷ []) (omega arith) none
 
     each : AddsAt (abbreviation l) (fits_of (abbreviation l)) (λ n. ways_of n (abbreviation l))
     each fit.as_type = λ slot around allowed. component-at slot around.encoding (abbreviation l) lettered (ways_of around.encoding (abbreviation l))
@@ -79,8 +82,8 @@ builtin-add code = record {
   before = (nowhere-ways-add (builtin code) (λ n. ways_of n (builtin code))).before;
 }
   where
-    whole : (n : ℕ) (F : Standing) → Adds n (Whole (builtin code)) F (text code)
-    whole n F = leaf-adds n (Whole (builtin code)) F code (no-whole (builtin code) (λ h. h) (λ x i. i))
+    whole : (n : ℕ) (F : Standing) → Adds 0 n (Whole (builtin code)) F (text code)
+    whole n F = leaf-adds 0 n (Whole (builtin code)) F code (omega arith) (no-whole (builtin code) (λ h. h) (λ x i. i))
 
     each : AddsAt (builtin code) (fits_of (builtin code)) (λ n. ways_of n (builtin code))
     each fit.as_type = λ slot around allowed. component-at slot around.encoding (builtin code) (λ place cs. IsBuiltin slot code)
@@ -119,21 +122,24 @@ function-type-add c_linkage noexcept ref returned parameters a b = record {
     spelling n = function_text c_linkage noexcept ref (ways_of n returned).as_type (ways_of n parameters).as_parameters
 
     spelled-adds : (around : Around) (allowed : Option ℕ)
-        → Adds around.encoding (Inside own) (spelled around allowed) (spelling around.encoding)
+        → Adds 1 around.encoding (Inside own) (spelled around allowed) (spelling around.encoding)
     spelled-adds around allowed place cs fits complete =
         let n : ℕ = around.encoding in
         let G : Standing = (fits_of parameters).as_parameters parameter_type around allowed in
-        and-adds n (Whole returned) (Inside parameters) ((fits_of returned).as_type any_type around allowed) G (ways_of n returned).as_type
-        (ways_of n parameters).as_parameters (a.at fit.as_type any_type around allowed) (b.at fit.as_parameters parameter_type tt around allowed)
-        (place + length marks) cs (fits.0, behind-and (text marks) (ways_of n returned).as_type G place cs fits.1) complete
+        let end : List ℕ = mark_letter ref ++ codes "E" in
+        after-bytes 0 1 marks (omega (arith, marks-long c_linkage noexcept)) (and-adds 0 0 n (Whole returned) (Inside parameters)
+        ((fits_of returned).as_type any_type around allowed) G (ways_of n returned).as_type ((ways_of n parameters).as_parameters and text end)
+        (a.at fit.as_type any_type around allowed)
+        (λ at ds h all. before-bytes end (b.at fit.as_parameters parameter_type tt around allowed at ds h all))
+        (place + length marks) cs (fits.0, behind-and (text marks) (ways_of n returned).as_type G place cs fits.1) complete)
 
-    whole : (around : Around) (allowed : Option ℕ) → Adds around.encoding (Whole own) (as_component own spelled around allowed)
+    whole : (around : Around) (allowed : Option ℕ) → Adds 0 around.encoding (Whole own) (as_component own spelled around allowed)
         (component around.encoding own (spelling around.encoding))
     whole around allowed = in-component around allowed own spelled (spelling around.encoding) (spelled-adds around allowed)
 
     types : (slot : Slot) (around : Around) (allowed : Option ℕ)
-        → Adds around.encoding (AtSlot slot own) ((fits_of own).as_type slot around allowed) (way_at slot (ways_of around.encoding own))
-    types = each-slot _ (λ around allowed. whole around allowed) (λ around allowed. spelled-adds around allowed) (λ around allowed. whole around allowed) (λ around allowed. whole around allowed) (λ around allowed. reference-adds around allowed own (spelling around.encoding))
+        → Adds 0 around.encoding (AtSlot slot own) ((fits_of own).as_type slot around allowed) (way_at slot (ways_of around.encoding own))
+    types = each-slot _ (λ around allowed. whole around allowed) (λ around allowed place cs fits complete. fewer-by-one (spelled-adds around allowed place cs fits complete)) (λ around allowed. whole around allowed) (λ around allowed. whole around allowed) (λ around allowed. reference-adds around allowed own (spelling around.encoding))
 
     each : AddsAt (function_type c_linkage noexcept ref returned parameters) (fits_of (function_type c_linkage noexcept ref returned parameters))
         (λ n. ways_of n (function_type c_linkage noexcept ref returned parameters))
@@ -155,7 +161,7 @@ list-add first rest a b = record {
 }
   where
     whole-item : (slot : Slot) → IsNotBare slot → (around : Around) (allowed : Option ℕ)
-        → Adds around.encoding (Whole first) ((fits_of first).as_type slot around allowed) (ways_of around.encoding first).as_type
+        → Adds 0 around.encoding (Whole first) ((fits_of first).as_type slot around allowed) (ways_of around.encoding first).as_type
     whole-item any_type other around allowed = (a.at fit.as_type) any_type around allowed
     whole-item item_type other around allowed = (a.at fit.as_type) item_type around allowed
     whole-item parameter_type other around allowed = (a.at fit.as_type) parameter_type around allowed
@@ -163,10 +169,10 @@ list-add first rest a b = record {
     whole-item bare_type other around allowed = absurd other
 
     items : (slot : Slot) → IsNotBare slot → (around : Around) (allowed : Option ℕ)
-        → Adds around.encoding (Inside (list first rest)) (λ place cs. (fits_of first).as_type slot around allowed place cs
+        → Adds 0 around.encoding (Inside (list first rest)) (λ place cs. (fits_of first).as_type slot around allowed place cs
         × Behind (ways_of around.encoding first).as_type ((fits_of rest).as_more_parameters slot around allowed) place cs)
         ((ways_of around.encoding first).as_type and (ways_of around.encoding rest).as_more_parameters)
-    items slot other around allowed = and-adds around.encoding (Whole first) (Inside rest) ((fits_of first).as_type slot around allowed)
+    items slot other around allowed = and-adds 0 0 around.encoding (Whole first) (Inside rest) ((fits_of first).as_type slot around allowed)
         ((fits_of rest).as_more_parameters slot around allowed) (ways_of around.encoding first).as_type
         (ways_of around.encoding rest).as_more_parameters (whole-item slot other around allowed)
         (b.at fit.as_more_parameters slot other around allowed)
@@ -174,7 +180,7 @@ list-add first rest a b = record {
     each : AddsAt (list first rest) (fits_of (list first rest)) (λ n. ways_of n (list first rest))
     each fit.as_parameters = λ slot other around allowed place cs fits complete. items slot other around allowed place cs fits.1 complete
     each fit.as_more_parameters = items
-    each fit.as_elements = λ in_pack around allowed place cs fits complete. and-adds around.encoding (Whole first) (Inside rest)
+    each fit.as_elements = λ in_pack around allowed place cs fits complete. and-adds 0 0 around.encoding (Whole first) (Inside rest)
         ((fits_of first).as_argument in_pack around allowed) ((fits_of rest).as_elements in_pack around allowed)
         (ways_of around.encoding first).as_argument (ways_of around.encoding rest).as_elements (a.at fit.as_argument in_pack around allowed)
         (b.at fit.as_elements in_pack around allowed) place cs (fits.0, fits.1) complete
@@ -188,23 +194,23 @@ nil-add = record {
 }
   where
     each : AddsAt nil (fits_of nil) (λ n. ways_of n nil)
-    each fit.as_parameters = λ slot other around allowed place cs fits complete. none-added around.encoding cs complete
-    each fit.as_more_parameters = λ slot other around allowed place cs fits complete. none-added around.encoding cs complete
-    each fit.as_elements = λ in_pack around allowed place cs fits complete. none-added around.encoding cs complete
+    each fit.as_parameters = λ slot other around allowed place cs fits complete. none-added 0 (codes "v") (omega arith) complete
+    each fit.as_more_parameters = λ slot other around allowed place cs fits complete. none-added 0 [] (omega arith) complete
+    each fit.as_elements = λ in_pack around allowed place cs fits complete. none-added 0 [] (omega arith) complete
     each w = (nowhere-ways-add nil (λ n. ways_of n nil)).at w
 
 -- ## Encodings
 
 returned-adds : (b : Bool) (returned : Term) (around : Around) (allowed : Option ℕ)
     → WaysAdd returned (fits_of returned) (λ n. ways_of n returned)
-    → Adds around.encoding (Whole returned) (λ place cs. either b ((fits_of returned).as_type item_type around allowed place cs)
+    → Adds 0 around.encoding (Whole returned) (λ place cs. either b ((fits_of returned).as_type item_type around allowed place cs)
     (returned ≡ absent))
     (ways_of around.encoding returned).as_type
 unfolding either ways_of no_ways way_at
 returned-adds true returned around allowed a place cs fits complete = (a.at fit.as_type) item_type around allowed place cs fits complete
 returned-adds false returned around allowed a place cs same complete =
-    subst (λ t. AddsParts around.encoding (Whole t) cs ((ways_of around.encoding t).as_type place cs).components) (sym same)
-    (fewer-added around.encoding No (Whole absent) cs cs (no-whole absent (λ h. h) (λ x i. i)) (none-added around.encoding cs complete))
+    subst (λ t. AddsParts 0 around.encoding (Whole t) cs ((ways_of around.encoding t).as_type place cs)) (sym same)
+    (fewer-added (none-added 0 [] (omega arith) complete) (no-whole absent (λ h. h) (λ x i. i)))
 
 function-add : (name : Term) (q : Qualifiers) (ref : RefQualifier) (returned parameters : Term)
     → WaysAdd name (fits_of name) (λ n. ways_of n name)
@@ -223,9 +229,9 @@ function-add name q ref returned parameters a b c =
     let G : Standing = λ place ds. either (has_return_type name) ((fits_of returned).as_type item_type types allowed place ds)
     (returned ≡ absent) in
     let H : Standing = (fits_of parameters).as_parameters item_type types allowed in
-    and-adds here (Inside name) (Either (Whole returned) (Inside parameters)) ((fits_of name).as_name q ref (in_name here) allowed)
+    and-adds 0 0 here (Inside name) (Either (Whole returned) (Inside parameters)) ((fits_of name).as_name q ref (in_name here) allowed)
     (λ place ds. G place ds × Behind two H place ds) one (two and three) (a.at fit.as_name q ref (in_name here) allowed)
-    (and-adds here (Whole returned) (Inside parameters) G H two three (returned-adds (has_return_type name) returned types allowed b)
+    (and-adds 0 0 here (Whole returned) (Inside parameters) G H two three (returned-adds (has_return_type name) returned types allowed b)
     (c.at fit.as_parameters item_type tt types allowed))
     here cs (fits.0, (fits.1, behind-and one two H here cs fits.2)) complete)
 
@@ -235,10 +241,14 @@ no-pieces : (t : Term) → (IsComponent t → ⊥) → In (Whole t) (Inside t)
 no-pieces t never x (inl same) = absurd (never same.0)
 no-pieces t never x (inr i) = i
 
-leaf-piece-add : (p : Term) (fitting : Fitting) (bytes : List ℕ) → In (Inside p) No
+leaf-piece-add : (p : Term) (fitting : Fitting) (bytes : List ℕ) → 1 ≤ length bytes → In (Inside p) No
     → WaysAdd p (piece_fits fitting) (λ n. piece_ways (text bytes))
-leaf-piece-add p fitting bytes none =
-    piece-ways-add p fitting (λ n. text bytes) (λ around allowed. leaf-adds around.encoding (Inside p) (fitting around allowed) bytes none)
+leaf-piece-add p fitting bytes long none =
+    piece-ways-add p fitting (λ n. text bytes) (λ around allowed. leaf-adds 1 around.encoding (Inside p) (fitting around allowed) bytes long none)
+
+source-long : (internal : Bool) (name : List ℕ) → 1 ≤ length (cond internal (codes "L") [] ++ counted name)
+source-long true name = omega arith
+source-long false name = counted-long name
 
 pub adds : (t : Term) → WaysAdd t (fits_of t) (λ n. ways_of n t)
 unfolding fits_of ways_of in_name in_signature under_expansion way_at
@@ -249,13 +259,16 @@ adds (object name q ref) =
     (λ allowed here cs fits complete. ((adds name).at fit.as_name) q ref (in_name here) allowed here cs fits complete)
 adds (special l type) =
     encoding-ways-add (special l type) _ _ (Whole type) (λ x s. s)
-    (λ allowed here cs fits complete. ((adds type).at fit.as_type) any_type (in_name here) allowed (here + 2) cs fits.2 complete)
+    (λ allowed here cs fits complete. after-bytes 0 0 (codes "T" ++ l ∷ []) (omega arith)
+    ((adds type).at fit.as_type any_type (in_name here) allowed (here + 2) cs fits.2 complete))
 adds (thunk kind e) =
     encoding-ways-add (thunk kind e) _ _ (Inside e) (λ x s. s)
-    (λ allowed here cs fits complete. ((adds e).at fit.as_encoding) allowed here here (here + length (thunk_text kind)) cs fits.1 complete)
+    (λ allowed here cs fits complete. after-bytes 0 0 (thunk_text kind) (omega arith)
+    ((adds e).at fit.as_encoding allowed here here (here + length (thunk_text kind)) cs fits.1 complete))
 adds (of_name l name q ref) =
     encoding-ways-add (of_name l name q ref) _ _ (Inside name) (λ x s. s)
-    (λ allowed here cs fits complete. ((adds name).at fit.as_name) q ref (in_name here) allowed (here + 2) cs fits.1 complete)
+    (λ allowed here cs fits complete. after-bytes 0 0 (special_code l) (omega arith)
+    ((adds name).at fit.as_name q ref (in_name here) allowed (here + 2) cs fits.1 complete))
 adds (alone p) = alone-add p (adds p)
 adds (in_std p) = in-std-add p (adds p)
 adds (within prefix p) = within-add prefix p (adds prefix) (adds p)
@@ -267,40 +280,40 @@ adds (abbreviation l) = abbreviation-add l
 adds (parameter k) = parameter-add k
 adds (lambda parameters k) =
     piece-ways-add (lambda parameters k) _ _ (λ around allowed place cs fits complete.
-    ((adds parameters).at fit.as_parameters) item_type tt (in_signature around) allowed (place + 2) cs fits.0 complete)
+    after-bytes 0 1 (codes "Ul") (omega arith) (before-bytes (codes "E" ++ ordinal (k - 1))
+    ((adds parameters).at fit.as_parameters item_type tt (in_signature around) allowed (place + 2) cs fits.0 complete)))
 adds (builtin code) = builtin-add code
 adds (vendor name) = type-ways-add (vendor name) _ _ (λ x w. w)
-    (λ slot around allowed place cs fits complete. none-added around.encoding cs complete)
+    (λ slot around allowed place cs fits complete. none-added 1 (codes "u" ++ counted name) (omega arith) complete)
 adds (member_pointer class member) = type-ways-add (member_pointer class member) _ _ (λ x w. w)
     (λ slot around allowed place cs fits complete.
     let n : ℕ = around.encoding in
     let G : Standing = (fits_of member).as_type any_type around allowed in
-    and-adds n (Whole class) (Whole member) ((fits_of class).as_type any_type around allowed) G (ways_of n class).as_type
-    (ways_of n member).as_type
+    after-bytes 0 1 (codes "M") (omega arith) (and-adds 0 0 n (Whole class) (Whole member) ((fits_of class).as_type any_type around allowed) G
+    (ways_of n class).as_type (ways_of n member).as_type
     ((adds class).at fit.as_type any_type around allowed) ((adds member).at fit.as_type any_type around allowed) (place + 1) cs
-    (fits.0, behind-and (text (codes "M")) (ways_of n class).as_type G place cs fits.1) complete)
+    (fits.0, behind-and (text (codes "M")) (ways_of n class).as_type G place cs fits.1) complete))
 adds (function_type c_linkage noexcept ref returned parameters) =
     function-type-add c_linkage noexcept ref returned parameters (adds returned) (adds parameters)
 adds (expansion pattern) = type-ways-add (expansion pattern) _ _ (λ x w. w) (λ slot around allowed place cs fits complete.
-    ((adds pattern).at fit.as_type) any_type (under_expansion around) fits.1.0 (place + 2) cs fits.1.1 complete)
+    after-bytes 0 1 (codes "Dp") (omega arith)
+    ((adds pattern).at fit.as_type any_type (under_expansion around) fits.1.0 (place + 2) cs fits.1.1 complete))
 adds (integer type value) = argument-ways-add (integer type value) _ _ (no-pieces (integer type value) (λ h. h))
-    (λ in_pack around allowed place cs fits complete. ((adds type).at fit.as_type) literal_type around allowed (place + 1) cs fits.0 complete)
+    (λ in_pack around allowed place cs fits complete. after-bytes 0 0 (codes "L") (omega arith) (before-bytes (signed_text value ++ codes "E")
+    ((adds type).at fit.as_type literal_type around allowed (place + 1) cs fits.0 complete)))
 adds (boolean truth) = argument-ways-add (boolean truth) _ _ (no-pieces (boolean truth) (λ h. h))
-    (λ in_pack around allowed place cs fits complete. none-added around.encoding cs complete)
+    (λ in_pack around allowed place cs fits complete. none-added 0 (cond truth (codes "Lb1E") (codes "Lb0E")) (omega arith) complete)
 adds null_pointer = argument-ways-add null_pointer _ _ (no-pieces null_pointer (λ h. h))
-    (λ in_pack around allowed place cs fits complete. none-added around.encoding cs complete)
+    (λ in_pack around allowed place cs fits complete. none-added 0 (codes "LDnE") (omega arith) complete)
 adds (encoding_literal e) = argument-ways-add (encoding_literal e) _ _ (no-pieces (encoding_literal e) (λ h. h))
-    (λ in_pack around allowed place cs fits complete.
-    let n : ℕ = around.encoding in
-    fewer-added n (Inside e) (λ x. Shut (Inside e x) x) cs ((ways_of n e).as_encoding (place + 3) cs).components (λ x s. s.1)
-    ((adds e).at fit.as_encoding allowed n n (place + 3) cs fits complete))
+    (λ in_pack around allowed place cs fits complete. after-bytes 0 0 (codes "L_Z") (omega arith) (before-bytes (codes "E")
+    (fewer-added ((adds e).at fit.as_encoding allowed around.encoding around.encoding (place + 3) cs fits complete) (λ x s. s.1))))
 adds (address_of e) = argument-ways-add (address_of e) _ _ (no-pieces (address_of e) (λ h. h))
-    (λ in_pack around allowed place cs fits complete.
-    let n : ℕ = around.encoding in
-    fewer-added n (Inside e) (λ x. Shut (Inside e x) x) cs ((ways_of n e).as_encoding (place + 6) cs).components (λ x s. s.1)
-    ((adds e).at fit.as_encoding allowed n n (place + 6) cs fits complete))
+    (λ in_pack around allowed place cs fits complete. after-bytes 0 0 (codes "XadL_Z") (omega arith) (before-bytes (codes "EE")
+    (fewer-added ((adds e).at fit.as_encoding allowed around.encoding around.encoding (place + 6) cs fits complete) (λ x s. s.1))))
 adds (pack elements) = argument-ways-add (pack elements) _ _ (no-pieces (pack elements) (λ h. h))
-    (λ in_pack around allowed place cs fits complete. ((adds elements).at fit.as_elements) true around allowed (place + 1) cs fits.1 complete)
+    (λ in_pack around allowed place cs fits complete. after-bytes 0 0 (codes "J") (omega arith) (before-bytes (codes "E")
+    ((adds elements).at fit.as_elements true around allowed (place + 1) cs fits.1 complete)))
 adds nil = nil-add
 adds (list first rest) = list-add first rest (adds first) (adds rest)
 -- Generated by tools/trees.py. The others, by their spelling
@@ -308,27 +321,37 @@ adds (construction derived digits parent) = nowhere-ways-add (construction deriv
 adds (clone letter e) = nowhere-ways-add (clone letter e) _
 adds (holder name) = nowhere-ways-add (holder name) _
 adds (of_default digits entity) = nowhere-ways-add (of_default digits entity) _
-adds (source internal name) = leaf-piece-add (source internal name) _ _ (λ x i. i)
-adds (operator a b) = leaf-piece-add (operator a b) _ _ (λ x i. i)
-adds (literal_operator name) = leaf-piece-add (literal_operator name) _ _ (λ x i. i)
-adds (constructor digit) = leaf-piece-add (constructor digit) _ _ (λ x i. i)
-adds (destructor digit) = leaf-piece-add (destructor digit) _ _ (λ x i. i)
+adds (source internal name) = leaf-piece-add (source internal name) _ _ (source-long internal name) (λ x i. i)
+adds (operator a b) = leaf-piece-add (operator a b) _ _ (omega arith) (λ x i. i)
+adds (literal_operator name) = leaf-piece-add (literal_operator name) _ _ (omega arith) (λ x i. i)
+adds (constructor digit) = leaf-piece-add (constructor digit) _ _ (omega arith) (λ x i. i)
+adds (destructor digit) = leaf-piece-add (destructor digit) _ _ (omega arith) (λ x i. i)
 adds (inheriting digit class) = nowhere-ways-add (inheriting digit class) _
 adds (generic_lambda parameters number) = nowhere-ways-add (generic_lambda parameters number) _
-adds (unnamed k) = leaf-piece-add (unnamed k) _ _ (λ x i. i)
-adds string_literal = leaf-piece-add string_literal _ _ (λ x i. i)
+adds (unnamed k) = leaf-piece-add (unnamed k) _ _ (omega arith) (λ x i. i)
+adds string_literal = leaf-piece-add string_literal _ _ (omega arith) (λ x i. i)
 adds (conversion type) = nowhere-ways-add (conversion type) _
 adds (sized_float digits end) = nowhere-ways-add (sized_float digits end) _
 adds (constrained letter concept) = nowhere-ways-add (constrained letter concept) _
-adds (pointer type) = type-ways-add (pointer type) _ _ (λ x w. w) (λ slot around allowed place cs fits complete. (adds type).at fit.as_type any_type around allowed (place + length (codes "P")) cs fits complete)
-adds (lvalue type) = type-ways-add (lvalue type) _ _ (λ x w. w) (λ slot around allowed place cs fits complete. (adds type).at fit.as_type any_type around allowed (place + length (codes "R")) cs fits.1 complete)
-adds (rvalue type) = type-ways-add (rvalue type) _ _ (λ x w. w) (λ slot around allowed place cs fits complete. (adds type).at fit.as_type any_type around allowed (place + length (codes "O")) cs fits.1 complete)
-adds (array digits type) = type-ways-add (array digits type) _ _ (λ x w. w) (λ slot around allowed place cs fits complete. (adds type).at fit.as_type any_type around allowed (place + length (codes "A" ++ digits ++ codes "_")) cs fits.2 complete)
+adds (pointer type) = type-ways-add (pointer type) _ _ (λ x w. w) (λ slot around allowed place cs fits complete. after-bytes 0 1 (codes "P") (omega arith) ((adds type).at fit.as_type any_type around allowed (place + length (codes "P")) cs fits complete))
+adds (lvalue type) = type-ways-add (lvalue type) _ _ (λ x w. w) (λ slot around allowed place cs fits complete. after-bytes 0 1 (codes "R") (omega arith) ((adds type).at fit.as_type any_type around allowed (place + length (codes "R")) cs fits.1 complete))
+adds (rvalue type) = type-ways-add (rvalue type) _ _ (λ x w. w) (λ slot around allowed place cs fits complete. after-bytes 0 1 (codes "O") (omega arith) ((adds type).at fit.as_type any_type around allowed (place + length (codes "O")) cs fits.1 complete))
+adds (array digits type) = type-ways-add (array digits type) _ _ (λ x w. w) (λ slot around allowed place cs fits complete. after-bytes 0 1 (codes "A" ++ digits ++ codes "_") (omega arith) ((adds type).at fit.as_type any_type around allowed (place + length (codes "A" ++ digits ++ codes "_")) cs fits.2 complete))
 adds (bounded bound type) = nowhere-ways-add (bounded bound type) _
-adds (qualified q type) = type-ways-add (qualified q type) _ _ (λ x w. w) (λ slot around allowed place cs fits complete. (adds type).at fit.as_type bare_type around allowed (place + length (qualifier_letters q)) cs fits.2 complete)
-adds (vector digits type) = type-ways-add (vector digits type) _ _ (λ x w. w) (λ slot around allowed place cs fits complete. (adds type).at fit.as_type any_type around allowed (place + length (codes "Dv" ++ digits ++ codes "_")) cs fits.2 complete)
-adds (complex type) = type-ways-add (complex type) _ _ (λ x w. w) (λ slot around allowed place cs fits complete. (adds type).at fit.as_type any_type around allowed (place + length (codes "C")) cs fits.1 complete)
+adds (qualified q type) = type-ways-add (qualified q type) _ _ (λ x w. w) (λ slot around allowed place cs fits complete. after-bytes 0 1 (qualifier_letters q) (omega (arith, letters-long q fits.1)) ((adds type).at fit.as_type bare_type around allowed (place + length (qualifier_letters q)) cs fits.2 complete))
+adds (vector digits type) = type-ways-add (vector digits type) _ _ (λ x w. w) (λ slot around allowed place cs fits complete. after-bytes 0 1 (codes "Dv" ++ digits ++ codes "_") (omega arith) ((adds type).at fit.as_type any_type around allowed (place + length (codes "Dv" ++ digits ++ codes "_")) cs fits.2 complete))
+adds (complex type) = type-ways-add (complex type) _ _ (λ x w. w) (λ slot around allowed place cs fits complete. after-bytes 0 1 (codes "C") (omega arith) ((adds type).at fit.as_type any_type around allowed (place + length (codes "C")) cs fits.1 complete))
 adds (decltype operand) = nowhere-ways-add (decltype operand) _
 adds (operation one two u w) = nowhere-ways-add (operation one two u w) _
 adds (function_parameter digits) = nowhere-ways-add (function_parameter digits) _
 adds absent = nowhere-ways-add absent _
+
+-- the components of a symbol that fits are at most its bytes
+pub fitting-few : (t : Term) → SymbolFits t → length (spelled_components t) ≤ length (pressed t)
+unfolding spelled_components pressed ways_of no_ways first_around
+fitting-few (symbol e suffix) fits =
+    omega (
+      arith,
+      (after-bytes 0 0 (codes "_Z") (omega arith) (before-bytes suffix ((adds e).at fit.as_encoding None 0 0 2 [] fits.0 tt))).few,
+    )
+fitting-few _ fits = absurd fits

@@ -1,20 +1,20 @@
 -- What a tree that fits adds or finds in each of its ways, by sorts of trees.
-use Rattle.std.proofs.Common.{◌≡◌, ℕ, ◌+◌, inl, inr, length, List, [], ◌++◌, Option, Some, None, Bool, true, false, refl}
+use Rattle.std.proofs.Common.{◌≡◌, ℕ, ◌+◌, ◌≤◌, inl, inr, length, List, [], ◌++◌, Option, Some, None, Bool, true, false, refl}
 use Rattle.std.specs.Prelude.{codes}
-use Rattle.sym_spell.specs.Pressing as spell
 use Rattle.sym_spell.specs.Pressing.{◌and◌, text}
 use Rattle.cpp_grammar.specs.Term.{Qualifiers, RefQualifier, Term}
 use Rattle.cpp_grammar.specs.Values.{Around}
 use Rattle.cpp_press_laws.specs.Texts.{name_letters}
-use Rattle.cpp_press_laws.specs.Components.{Component, Spelling, first_equal, reference, ended, spelled_out, component}
+use Rattle.cpp_press_laws.specs.Components.{Component, Spelling, first_equal, seq_id, reference, spelled_out, component}
 use Rattle.cpp_press_laws.specs.Pressing.{Ways, no_ways, type_ways, template_before, entity_text, begun, encoding_ways, piece_ways, argument_ways}
+use Rattle.cpp_press_laws.specs.Subtrees.{Written, written}
 use Rattle.cpp_press_laws.proofs.Components.Parts.{IsComponent, Shut, Inside, Whole, Unqualified}
 use Rattle.cpp_press_laws.proofs.Components.KnownTrees.{In}
 use Rattle.cpp_press_laws.proofs.Components.Complete.{Complete}
 use Rattle.cpp_press_laws.specs.Fits.{Standing, Fitting, as_component, as_reference, as_template, behind_bytes, Slot, any_type, bare_type, item_type, parameter_type, literal_type, Role, letters_of, Fits, nowhere, fits_nowhere, type_fits, piece_fits, argument_fits, encoding_fits}
 use Rattle.cpp_press_laws.proofs.Fitting as fit
 use Rattle.cpp_press_laws.proofs.Fitting.{Fit}
-use Rattle.cpp_press_laws.proofs.Components.Adding.{AddsParts, Adds, Either, No, both-added, fewer-added, tree-found, outside-added, text-adds, component-adds, template-adds, nested-template-adds}
+use Rattle.cpp_press_laws.proofs.Components.Adding.{AddsParts, Adds, Either, No, none-added, both-added, fewer-added, tree-found, outside-added, component-adds, template-adds, nested-template-adds}
 
 -- right under qualifiers a type has a way of its own
 unfoldable pub way_at : Slot → Ways → Spelling
@@ -34,45 +34,45 @@ IsNotBare _ = Unit {0}
 abbrev pub AddAt : Fit → (t : Term) → Fits → (ℕ → Ways) → Type 0
 AddAt fit.as_type t f w =
     (slot : Slot) (around : Around) (allowed : Option ℕ)
-    → Adds around.encoding (AtSlot slot t) (f.as_type slot around allowed) (way_at slot (w around.encoding))
+    → Adds 0 around.encoding (AtSlot slot t) (f.as_type slot around allowed) (way_at slot (w around.encoding))
 AddAt fit.as_prefix t f w =
     (around : Around) (allowed : Option ℕ)
-    → Adds around.encoding (Whole t) (f.as_prefix around allowed) (w around.encoding).as_prefix
+    → Adds 0 around.encoding (Whole t) (f.as_prefix around allowed) (w around.encoding).as_prefix
 AddAt fit.as_prefix_template t f w =
     (around : Around) (allowed : Option ℕ)
-    → Adds around.encoding (Whole t) (f.as_prefix_template around allowed) (w around.encoding).as_prefix
+    → Adds 0 around.encoding (Whole t) (f.as_prefix_template around allowed) (w around.encoding).as_prefix
 AddAt fit.between t f w =
     (around : Around) (allowed : Option ℕ)
-    → Adds around.encoding (Inside t) (f.between around allowed) (w around.encoding).between_N_and_E
+    → Adds 1 around.encoding (Inside t) (f.between around allowed) (w around.encoding).between_N_and_E
 AddAt fit.between_template t f w =
     (around : Around) (allowed : Option ℕ)
-    → Adds around.encoding (Inside t) (f.between_template around allowed) (w around.encoding).between_N_and_E
+    → Adds 1 around.encoding (Inside t) (f.between_template around allowed) (w around.encoding).between_N_and_E
 AddAt fit.as_entity t f w =
     (role : Role) (around : Around) (allowed : Option ℕ)
-    → Adds around.encoding (Inside t) (f.as_entity role around allowed) (entity_text t (letters_of role)
+    → Adds 0 around.encoding (Inside t) (f.as_entity role around allowed) (entity_text t (letters_of role)
     (w around.encoding).between_N_and_E)
 AddAt fit.as_entity_template t f w =
     (around : Around) (allowed : Option ℕ)
-    → Adds around.encoding (Inside t) (f.as_entity_template around allowed) (w around.encoding).between_N_and_E
+    → Adds 1 around.encoding (Inside t) (f.as_entity_template around allowed) (w around.encoding).between_N_and_E
 AddAt fit.as_piece t f w =
     (around : Around) (allowed : Option ℕ)
-    → Adds around.encoding (Inside t) (f.as_piece around allowed) (w around.encoding).as_piece
-AddAt fit.as_encoding t f w = (allowed : Option ℕ) (n m : ℕ) → Adds m (Inside t) (f.as_encoding allowed) (w n).as_encoding
+    → Adds 1 around.encoding (Inside t) (f.as_piece around allowed) (w around.encoding).as_piece
+AddAt fit.as_encoding t f w = (allowed : Option ℕ) (n m : ℕ) → Adds 0 m (Inside t) (f.as_encoding allowed) (w n).as_encoding
 AddAt fit.as_name t f w =
     (q : Qualifiers) (ref : RefQualifier) (around : Around) (allowed : Option ℕ)
-    → Adds around.encoding (Inside t) (f.as_name q ref around allowed) ((w around.encoding).as_name (name_letters q ref))
+    → Adds 0 around.encoding (Inside t) (f.as_name q ref around allowed) ((w around.encoding).as_name (name_letters q ref))
 AddAt fit.as_argument t f w =
     (in_pack : Bool) (around : Around) (allowed : Option ℕ)
-    → Adds around.encoding (Whole t) (f.as_argument in_pack around allowed) (w around.encoding).as_argument
+    → Adds 0 around.encoding (Whole t) (f.as_argument in_pack around allowed) (w around.encoding).as_argument
 AddAt fit.as_parameters t f w =
     (slot : Slot) → IsNotBare slot → (around : Around) (allowed : Option ℕ)
-    → Adds around.encoding (Inside t) (f.as_parameters slot around allowed) (w around.encoding).as_parameters
+    → Adds 0 around.encoding (Inside t) (f.as_parameters slot around allowed) (w around.encoding).as_parameters
 AddAt fit.as_more_parameters t f w =
     (slot : Slot) → IsNotBare slot → (around : Around) (allowed : Option ℕ)
-    → Adds around.encoding (Inside t) (f.as_more_parameters slot around allowed) (w around.encoding).as_more_parameters
+    → Adds 0 around.encoding (Inside t) (f.as_more_parameters slot around allowed) (w around.encoding).as_more_parameters
 AddAt fit.as_elements t f w =
     (in_pack : Bool) (around : Around) (allowed : Option ℕ)
-    → Adds around.encoding (Inside t) (f.as_elements in_pack around allowed) (w around.encoding).as_elements
+    → Adds 0 around.encoding (Inside t) (f.as_elements in_pack around allowed) (w around.encoding).as_elements
 
 abbrev pub AddsAt : (t : Term) → Fits → (ℕ → Ways) → Type 0
 AddsAt t f w = (each : Fit) → AddAt each t f w
@@ -80,73 +80,71 @@ AddsAt t f w = (each : Fit) → AddAt each t f w
 pub record WaysAdd (t : Term) (f : Fits) (w : ℕ → Ways) : Type 1 where
   pub at : AddsAt t f w
   pub before : (typed : Bool) (around : Around) (allowed : Option ℕ) (G : Fitting) (arguments : Spelling) (Q : Term → Type 0)
-      → Adds around.encoding Q (G around allowed) arguments
-      → Adds around.encoding (Either (Whole t) Q) (f.before typed G around allowed) ((w around.encoding).before typed arguments)
+      → Adds 1 around.encoding Q (G around allowed) arguments
+      → Adds 1 around.encoding (Either (Whole t) Q) (f.before typed G around allowed) ((w around.encoding).before typed arguments)
 
 -- ## Parts
 
 -- a component that fits
 pub in-component : (around : Around) (allowed : Option ℕ) (own : Term) (spelled : Fitting) (s : Spelling)
-    → Adds around.encoding (Inside own) (spelled around allowed) s
-    → Adds around.encoding (Whole own) (as_component own spelled around allowed) (component around.encoding own s)
+    → Adds 1 around.encoding (Inside own) (spelled around allowed) s
+    → Adds 0 around.encoding (Whole own) (as_component own spelled around allowed) (component around.encoding own s)
 in-component around allowed own spelled s one place cs fits complete =
     component-adds around.encoding own (spelled around allowed) s one place cs fits.1 complete
 
-pub nowhere-adds : (n : ℕ) (P : Term → Type 0) (s : Spelling) → Adds n P (λ place cs. ⊥) s
-nowhere-adds n P s place cs fits complete = absurd fits
+pub nowhere-adds : (k n : ℕ) (P : Term → Type 0) (s : Spelling) → Adds k n P (λ place cs. ⊥) s
+nowhere-adds k n P s place cs fits complete = absurd fits
 
 pub reference-adds : (around : Around) (allowed : Option ℕ) (own : Term) (s : Spelling)
-    → Adds around.encoding (Whole own) (as_reference own around allowed) (component around.encoding own s)
+    → Adds 0 around.encoding (Whole own) (as_reference own around allowed) (component around.encoding own s)
 reference-adds around allowed own s =
-    in-component around allowed own (λ around allowed place cs. ⊥) s (nowhere-adds around.encoding (Inside own) s)
+    in-component around allowed own (λ around allowed place cs. ⊥) s (nowhere-adds 1 around.encoding (Inside own) s)
 
 -- fewer trees
-pub fewer-adds : (n : ℕ) (P Q : Term → Type 0) (F : Standing) (s : Spelling) → In Q P → Adds n P F s → Adds n Q F s
-fewer-adds n P Q F s more one place cs fits complete = fewer-added n P Q cs (s place cs).components more (one place cs fits complete)
+pub fewer-adds : (k n : ℕ) (P Q : Term → Type 0) (F : Standing) (s : Spelling) → In Q P → Adds k n P F s → Adds k n Q F s
+fewer-adds k n P Q F s more one place cs fits complete = fewer-added (one place cs fits complete) more
 
 -- a spelling that adds nothing of a tree in which nothing is
-pub leaf-adds : (n : ℕ) (P : Term → Type 0) (F : Standing) (bytes : List ℕ) → In P No → Adds n P F (text bytes)
-leaf-adds n P F bytes none = fewer-adds n No P F (text bytes) none (text-adds n F bytes)
+pub leaf-adds : (k n : ℕ) (P : Term → Type 0) (F : Standing) (bytes : List ℕ) → k ≤ length bytes → In P No → Adds k n P F (text bytes)
+leaf-adds k n P F bytes long none place cs fits complete = fewer-added (none-added k bytes long complete) none
 
 pub no-whole : (t : Term) → (IsComponent t → ⊥) → In (Inside t) No → In (Whole t) No
 no-whole t never none x (inl same) = never same.0
 no-whole t never none x (inr i) = none x i
 
-abbrev followed_by : Spelling → (place : ℕ) → spell.Pressed Component → spell.Pressed Component
-followed_by rest place w =
-    let g = rest (place + length w.bytes) w.components in record { bytes = w.bytes ++ g.bytes; components = g.components }
-
 -- a template name that comes before, and its arguments
 pub found-and-adds : (around : Around) (allowed : Option ℕ) (own : Term) (front : ℕ → Spelling) (G : Fitting) (s arguments : Spelling)
-    (Q : Term → Type 0) → Adds around.encoding Q (G around allowed) arguments
-    → Adds around.encoding (Either (Whole own) Q) (as_template own nowhere front G around allowed)
+    (Q : Term → Type 0) → Adds 1 around.encoding Q (G around allowed) arguments
+    → Adds 1 around.encoding (Either (Whole own) Q) (as_template own nowhere front G around allowed)
     (component around.encoding own s and arguments)
-unfolding component reference spelled_out ended
+unfolding component reference
 found-and-adds around allowed own front G s arguments Q more place cs fits complete = go (first_equal around.encoding own 0 cs) refl
   where
     go : (o : Option ℕ) → first_equal around.encoding own 0 cs ≡ o
-        → AddsParts around.encoding (Either (Whole own) Q) cs (followed_by arguments place (elim o as (λ _. spell.Pressed Component)
-        [ Some number ↦ reference number place cs | None ↦ spelled_out around.encoding own s place cs ])).components
+        → (let w = elim o as (λ _. Written) [
+          | Some number ↦ reference number place cs
+          | None ↦ spelled_out around.encoding own s place cs
+        ] in
+        let rest = arguments (place + length w.bytes) w.components in
+        AddsParts 1 around.encoding (Either (Whole own) Q) cs (written (w.bytes ++ rest.bytes) rest.components))
     go (Some number) is =
-        let r : spell.Pressed Component = reference number place cs in
-        both-added around.encoding (Whole own) Q cs cs (arguments (place + length r.bytes) cs).components
-        (tree-found around.encoding number own cs is complete)
-        (more (place + length r.bytes) cs (fits.1 number is) complete)
+        let bytes : List ℕ = codes "S" ++ seq_id number ++ codes "_" in
+        both-added 0 1 (tree-found number bytes is complete) (more (place + length bytes) cs (fits.1 number is) complete)
     go None is = absurd (fits.2 is).0
 
 pub in-template : (around : Around) (allowed : Option ℕ) (own : Term) (spelled : Fitting) (between : ℕ → Spelling) (G : Fitting)
-    (arguments : Spelling) (Q : Term → Type 0) → Adds around.encoding (Inside own) (spelled around allowed) (between around.encoding)
-    → Adds around.encoding Q (G around allowed) arguments
-    → Adds around.encoding (Either (Whole own) Q) (as_template own spelled between G around allowed)
+    (arguments : Spelling) (Q : Term → Type 0) → Adds 1 around.encoding (Inside own) (spelled around allowed) (between around.encoding)
+    → Adds 1 around.encoding Q (G around allowed) arguments
+    → Adds 1 around.encoding (Either (Whole own) Q) (as_template own spelled between G around allowed)
     (template_before around.encoding own false (between around.encoding) arguments)
 in-template around allowed own spelled between G arguments Q one more place cs fits complete =
     template-adds around.encoding own Q (spelled around allowed) (G around allowed) (between around.encoding) arguments one more place cs
     (fits.1, fits.2) complete
 
 pub in-nested-template : (around : Around) (allowed : Option ℕ) (own : Term) (spelled : Fitting) (between : ℕ → Spelling) (G : Fitting)
-    (arguments : Spelling) (Q : Term → Type 0) → Adds around.encoding (Inside own) (spelled around allowed) (between around.encoding)
-    → Adds around.encoding Q (G around allowed) arguments
-    → Adds around.encoding (Either (Whole own) Q) (as_template own (behind_bytes (codes "N") spelled) (λ n. text
+    (arguments : Spelling) (Q : Term → Type 0) → Adds 1 around.encoding (Inside own) (spelled around allowed) (between around.encoding)
+    → Adds 1 around.encoding Q (G around allowed) arguments
+    → Adds 1 around.encoding (Either (Whole own) Q) (as_template own (behind_bytes (codes "N") spelled) (λ n. text
     (codes "N") and between n) G around allowed)
     (template_before around.encoding own true (between around.encoding) arguments)
 in-nested-template around allowed own spelled between G arguments Q one more place cs fits complete =
@@ -156,11 +154,11 @@ in-nested-template around allowed own spelled between G arguments Q one more pla
 
 -- ## The ways of each sort
 
-pub component-at : (slot : Slot) (n : ℕ) (t : Term) (F : Standing) (w : Ways) → In (Unqualified t) (Whole t) → Adds n (Whole t) F w.as_type
-    → Adds n (Whole t) F w.under_qualifiers → Adds n (AtSlot slot t) F (way_at slot w)
+pub component-at : (slot : Slot) (n : ℕ) (t : Term) (F : Standing) (w : Ways) → In (Unqualified t) (Whole t) → Adds 0 n (Whole t) F w.as_type
+    → Adds 0 n (Whole t) F w.under_qualifiers → Adds 0 n (AtSlot slot t) F (way_at slot w)
 unfolding way_at
 component-at any_type n t F w same one other = one
-component-at bare_type n t F w same one other = fewer-adds n (Whole t) (Unqualified t) F w.under_qualifiers same other
+component-at bare_type n t F w same one other = fewer-adds 0 n (Whole t) (Unqualified t) F w.under_qualifiers same other
 component-at item_type n t F w same one other = one
 component-at parameter_type n t F w same one other = one
 component-at literal_type n t F w same one other = one
@@ -191,7 +189,7 @@ nowhere-ways-add t w = record {
 
 pub type-ways-add : (t : Term) (spelled : Slot → Fitting) (s : ℕ → Spelling) → In (Unqualified t) (Whole t)
     → ((slot : Slot) (around : Around) (allowed : Option ℕ)
-    → Adds around.encoding (Inside t) (spelled slot around allowed) (s around.encoding))
+    → Adds 1 around.encoding (Inside t) (spelled slot around allowed) (s around.encoding))
     → WaysAdd t (type_fits t spelled) (λ n. type_ways (component n t (s n)))
 unfolding type_fits fits_nowhere type_ways no_ways
 type-ways-add t spelled s same one = record {
@@ -211,7 +209,7 @@ type-ways-add t spelled s same one = record {
     each w = (nowhere-ways-add t (λ n. type_ways (component n t (s n)))).at w
 
 pub piece-ways-add : (t : Term) (fitting : Fitting) (s : ℕ → Spelling)
-    → ((around : Around) (allowed : Option ℕ) → Adds around.encoding (Inside t) (fitting around allowed) (s around.encoding))
+    → ((around : Around) (allowed : Option ℕ) → Adds 1 around.encoding (Inside t) (fitting around allowed) (s around.encoding))
     → WaysAdd t (piece_fits fitting) (λ n. piece_ways (s n))
 unfolding piece_fits fits_nowhere piece_ways no_ways
 piece-ways-add t fitting s one = record {
@@ -225,7 +223,7 @@ piece-ways-add t fitting s one = record {
 
 pub argument-ways-add : (t : Term) (fitting : Bool → Fitting) (s : ℕ → Spelling) → In (Whole t) (Inside t)
     → ((in_pack : Bool) (around : Around) (allowed : Option ℕ)
-    → Adds around.encoding (Inside t) (fitting in_pack around allowed) (s around.encoding))
+    → Adds 0 around.encoding (Inside t) (fitting in_pack around allowed) (s around.encoding))
     → WaysAdd t (argument_fits fitting) (λ n. argument_ways (s n))
 unfolding argument_fits fits_nowhere argument_ways no_ways
 argument-ways-add t fitting s same one = record {
@@ -234,7 +232,7 @@ argument-ways-add t fitting s same one = record {
 }
   where
     each : AddsAt t (argument_fits fitting) (λ n. argument_ways (s n))
-    each fit.as_argument = λ in_pack around allowed. fewer-adds around.encoding (Inside t) (Whole t) (fitting in_pack around allowed)
+    each fit.as_argument = λ in_pack around allowed. fewer-adds 0 around.encoding (Inside t) (Whole t) (fitting in_pack around allowed)
         (s around.encoding) same
         (one in_pack around allowed)
     each w = (nowhere-ways-add t (λ n. argument_ways (s n))).at w
@@ -242,7 +240,7 @@ argument-ways-add t fitting s same one = record {
 pub encoding-ways-add : (t : Term) (standing : (allowed : Option ℕ) → Standing) (s : (encoding : ℕ) → Spelling) (raw : Term → Type 0)
     → In (Inside t) (λ x. Shut (raw x) x)
     → ((allowed : Option ℕ) (place : ℕ) (cs : List Component) → standing allowed place cs → Complete cs
-    → AddsParts place raw cs (s place place cs).components)
+    → AddsParts 0 place raw cs (s place place cs))
     → WaysAdd t (encoding_fits standing) (λ n. encoding_ways s)
 unfolding encoding_fits fits_nowhere encoding_ways no_ways begun
 encoding-ways-add t standing s raw same one = record {
@@ -251,6 +249,5 @@ encoding-ways-add t standing s raw same one = record {
 }
   where
     each : AddsAt t (encoding_fits standing) (λ n. encoding_ways s)
-    each fit.as_encoding = λ allowed n m place cs fits complete. fewer-added m (λ x. Shut (raw x) x) (Inside t) cs (s place place cs).components same
-        (outside-added place m raw cs (s place place cs).components (one allowed place cs fits complete))
+    each fit.as_encoding = λ allowed n m place cs fits complete. fewer-added (outside-added (one allowed place cs fits complete)) same
     each w = (nowhere-ways-add t (λ n. encoding_ways s)).at w

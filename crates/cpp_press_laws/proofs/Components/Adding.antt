@@ -1,26 +1,31 @@
--- What fits adds the components in it, or finds them.
-use Rattle.std.proofs.Common.{◌≡◌, ℕ, ◌+◌, ◌⊎◌, inl, inr, length, List, [], ◌∷◌, ◌++◌, Option, Some, None, true, false, refl, arith, sym, subst, length-append}
+-- What fits adds the components in it, or finds them, and no more than it has bytes.
+use Rattle.std.proofs.Common.{◌≡◌, ℕ, ◌+◌, ◌⊎◌, inl, inr, ◌≤◌, length, List, [], ◌∷◌, ◌++◌, Option, Some, None, true, false, refl, arith, sym, subst, length-append}
 use Rattle.std.specs.Prelude.{codes}
-use Rattle.sym_spell.specs.Pressing as spell
 use Rattle.sym_spell.specs.Pressing.{◌and◌, text}
 use Rattle.cpp_grammar.specs.Term.{Term}
 use Rattle.cpp_grammar.specs.Values.{Around}
-use Rattle.cpp_press_laws.specs.Components.{Component, Spelling, first_equal, reference, ended, spelled_out, referred, component}
+use Rattle.cpp_press_laws.specs.Components.{Component, Spelling, first_equal, seq_id, reference, ended, spelled_out, referred, component}
 use Rattle.cpp_press_laws.specs.Pressing.{in_N_and_E, with_letters, template_before}
+use Rattle.cpp_press_laws.specs.Subtrees.{Written, written}
 use Rattle.cpp_press_laws.proofs.Components.Parts.{Shut, Inside, Whole, Has, has-before, has-itself, has-closed, found-stands}
 use Rattle.cpp_press_laws.proofs.Components.KnownTrees.{In}
 use Rattle.cpp_press_laws.proofs.Components.Complete.{Complete, complete-ended, complete-has}
 use Rattle.cpp_press_laws.specs.Fits.{Standing, Fitting, Behind, IsWithoutLetters, by_letters}
 
--- from these components to others, among which these trees are
-pub record AddsParts (n : ℕ) (P : Term → Type 0) (cs ds : List Component) : Type 0 where
-  pub complete : Complete ds
-  pub has : (x : Term) → P x → Has n x ds
-  pub keeps : (m : ℕ) (x : Term) → Has m x cs → Has m x ds
+-- so many bytes more than components are added
+abbrev pub FewBy : ℕ → List Component → Written → Type 0
+FewBy k cs w = length w.components + k ≤ length cs + length w.bytes
+
+-- from these components to those after what is written, among which these trees are
+pub record AddsParts (k n : ℕ) (P : Term → Type 0) (cs : List Component) (w : Written) : Type 0 where
+  pub complete : Complete w.components
+  pub has : (x : Term) → P x → Has n x w.components
+  pub keeps : (m : ℕ) (x : Term) → Has m x cs → Has m x w.components
+  pub few : FewBy k cs w
 
 -- a spelling that fits adds these trees or finds them
-abbrev pub Adds : (n : ℕ) → (P : Term → Type 0) → Standing → Spelling → Type 0
-Adds n P F spelling = (place : ℕ) (cs : List Component) → F place cs → Complete cs → AddsParts n P cs (spelling place cs).components
+abbrev pub Adds : (k n : ℕ) → (P : Term → Type 0) → Standing → Spelling → Type 0
+Adds k n P F spelling = (place : ℕ) (cs : List Component) → F place cs → Complete cs → AddsParts k n P cs (spelling place cs)
 
 abbrev pub Either : (P Q : Term → Type 0) → (x : Term) → Type 0
 Either P Q x = P x ⊎ Q x
@@ -30,52 +35,78 @@ No x = ⊥
 
 -- ## Lists
 
-pub none-added : (n : ℕ) (cs : List Component) → Complete cs → AddsParts n No cs cs
-none-added n cs complete = record { complete = complete; has = λ x none. absurd none; keeps = λ m x has. has }
+pub none-added : {n : ℕ} {cs : List Component} (k : ℕ) (bytes : List ℕ) → k ≤ length bytes → Complete cs
+    → AddsParts k n No cs (written bytes cs)
+none-added k bytes le complete = record { complete = complete; has = λ x none. absurd none; keeps = λ m x has. has; few = omega (arith, le) }
 
-pub both-added : (n : ℕ) (P Q : Term → Type 0) (cs ds es : List Component) → AddsParts n P cs ds → AddsParts n Q ds es
-    → AddsParts n (Either P Q) cs es
-both-added n P Q cs ds es a b = record {
+pub both-added : {n : ℕ} {P Q : Term → Type 0} {cs : List Component} {w v : Written} (k m : ℕ) → AddsParts k n P cs w
+    → AddsParts m n Q w.components v → AddsParts (k + m) n (Either P Q) cs (written (w.bytes ++ v.bytes) v.components)
+both-added {n} {P} {Q} {cs} {w} {v} k m a b = record {
   complete = b.complete;
   has = λ x is. elim is [ inl one ↦ b.keeps n x (a.has x one) | inr other ↦ b.has x other ];
-  keeps = λ m x has. b.keeps m x (a.keeps m x has);
+  keeps = λ l x has. b.keeps l x (a.keeps l x has);
+  few = omega (arith, a.few, b.few, length-append w.bytes v.bytes);
 }
 
-pub fewer-added : (n : ℕ) (P Q : Term → Type 0) (cs ds : List Component) → In Q P → AddsParts n P cs ds → AddsParts n Q cs ds
-fewer-added n P Q cs ds more a = record { complete = a.complete; has = λ x is. a.has x (more x is); keeps = a.keeps }
+pub fewer-added : {k n : ℕ} {P Q : Term → Type 0} {cs : List Component} {w : Written} → AddsParts k n P cs w → In Q P → AddsParts k n Q cs w
+fewer-added a more = record { complete = a.complete; has = λ x is. a.has x (more x is); keeps = a.keeps; few = a.few }
 
-pub tree-ended : (n : ℕ) (own : Term) (cs ds : List Component) → AddsParts n (Inside own) cs ds
-    → AddsParts n (Whole own) cs (ds ++ record { tree = own; encoding = n } ∷ [])
-tree-ended n own cs ds a =
+-- after fixed bytes, and before them
+pub after-bytes : {n : ℕ} {P : Term → Type 0} {cs : List Component} {w : Written} (k m : ℕ) (bytes : List ℕ) → m ≤ length bytes + k
+    → AddsParts k n P cs w → AddsParts m n P cs (written (bytes ++ w.bytes) w.components)
+after-bytes {n} {P} {cs} {w} k m bytes le a =
+    record { complete = a.complete; has = a.has; keeps = a.keeps; few = omega (arith, le, a.few, length-append bytes w.bytes) }
+
+pub before-bytes : {k n : ℕ} {P : Term → Type 0} {cs : List Component} {w : Written} (bytes : List ℕ) → AddsParts k n P cs w
+    → AddsParts k n P cs (written (w.bytes ++ bytes) w.components)
+before-bytes {k} {n} {P} {cs} {w} bytes a =
+    record { complete = a.complete; has = a.has; keeps = a.keeps; few = omega (arith, a.few, length-append w.bytes bytes) }
+
+pub nested-added : {n : ℕ} {P : Term → Type 0} {cs : List Component} {w : Written} (letters : List ℕ) → AddsParts 1 n P cs w
+    → AddsParts 1 n P cs (written ((codes "N" ++ letters) ++ (w.bytes ++ codes "E")) w.components)
+nested-added letters a = after-bytes 1 1 (codes "N" ++ letters) (omega arith) (before-bytes (codes "E") a)
+
+pub fewer-by-one : {n : ℕ} {P : Term → Type 0} {cs : List Component} {w : Written} → AddsParts 1 n P cs w → AddsParts 0 n P cs w
+fewer-by-one a = after-bytes 1 0 [] (omega arith) a
+
+-- a tree that is spelled out becomes a component
+pub tree-ended : {n : ℕ} {own : Term} {cs : List Component} {w : Written} (bytes : List ℕ) → length w.bytes ≤ length bytes
+    → AddsParts 1 n (Inside own) cs w
+    → AddsParts 0 n (Whole own) cs (written bytes (w.components ++ record { tree = own; encoding = n } ∷ []))
+tree-ended {n} {own} {cs} {w} bytes le a =
     let one : List Component = record { tree = own; encoding = n } ∷ [] in
     record {
-      complete = complete-ended n own ds a.complete a.has;
+      complete = complete-ended n own w.components a.complete a.has;
       has = λ x is. elim is [
-        | inl same ↦ subst (λ y. Has n y (ds ++ one)) (sym same.1) (has-itself n own ds)
-        | inr i ↦ has-before n x ds one (a.has x i)
+        | inl same ↦ subst (λ y. Has n y (w.components ++ one)) (sym same.1) (has-itself n own w.components)
+        | inr i ↦ has-before n x w.components one (a.has x i)
       ];
-      keeps = λ m x has. has-before m x ds one (a.keeps m x has);
+      keeps = λ m x has. has-before m x w.components one (a.keeps m x has);
+      few = omega (arith, le, a.few, length-append w.components one);
     }
 
-pub tree-found : (n number : ℕ) (own : Term) (cs : List Component) → first_equal n own 0 cs ≡ Some number → Complete cs
-    → AddsParts n (Whole own) cs cs
-tree-found n number own cs is complete = record {
+pub tree-found : {n : ℕ} {own : Term} {cs : List Component} (number : ℕ) (bytes : List ℕ) → first_equal n own 0 cs ≡ Some number → Complete cs
+    → AddsParts 0 n (Whole own) cs (written bytes cs)
+tree-found {n} {own} {cs} number bytes is complete = record {
   complete = complete;
   has = complete-has n own cs complete (found-stands n own 0 number cs is);
   keeps = λ m x has. has;
+  few = omega arith;
 }
 
 -- outside of an encoding, what has no free parameters
-pub outside-added : (n m : ℕ) (P : Term → Type 0) (cs ds : List Component) → AddsParts n P cs ds → AddsParts m (λ x. Shut (P x) x) cs ds
-outside-added n m P cs ds a = record { complete = a.complete; has = λ x s. has-closed n m x ds s.0 (a.has x s.1); keeps = a.keeps }
+pub outside-added : {k n m : ℕ} {P : Term → Type 0} {cs : List Component} {w : Written} → AddsParts k n P cs w
+    → AddsParts k m (λ x. Shut (P x) x) cs w
+outside-added {k} {n} {m} {P} {cs} {w} a =
+    record { complete = a.complete; has = λ x s. has-closed n m x w.components s.0 (a.has x s.1); keeps = a.keeps; few = a.few }
 
 -- ## Places
 
 pub behind-and : (first rest : Spelling) (G : Standing) (place : ℕ) (cs : List Component) → Behind (first and rest) G place cs
     → Behind first (Behind rest G) place cs
 behind-and first rest G place cs fits =
-    let f : spell.Pressed Component = first place cs in
-    let g : spell.Pressed Component = rest (place + length f.bytes) f.components in
+    let f : Written = first place cs in
+    let g : Written = rest (place + length f.bytes) f.components in
     let same : place + length (f.bytes ++ g.bytes) ≡ place + length f.bytes + length g.bytes = omega
     (arith, length-append f.bytes g.bytes) in
     subst (λ p. G p g.components) same fits
@@ -85,99 +116,90 @@ at-once G place cs fits = let same : place + 0 ≡ place = omega arith in subst 
 
 -- ## Spellings
 
-pub text-adds : (n : ℕ) (F : Standing) (bytes : List ℕ) → Adds n No F (text bytes)
-text-adds n F bytes place cs fits complete = none-added n cs complete
-
-pub and-adds : (n : ℕ) (P Q : Term → Type 0) (F G : Standing) (first rest : Spelling) → Adds n P F first → Adds n Q G rest
-    → Adds n (Either P Q) (λ place cs. F place cs × Behind first G place cs) (first and rest)
-and-adds n P Q F G first rest one more place cs (fits, behind) complete =
-    let f : spell.Pressed Component = first place cs in
+pub and-adds : (k m n : ℕ) (P Q : Term → Type 0) (F G : Standing) (first rest : Spelling) → Adds k n P F first → Adds m n Q G rest
+    → Adds (k + m) n (Either P Q) (λ place cs. F place cs × Behind first G place cs) (first and rest)
+and-adds k m n P Q F G first rest one more place cs (fits, behind) complete =
+    let f : Written = first place cs in
     let a = one place cs fits complete in
-    both-added n P Q cs f.components (rest (place + length f.bytes) f.components).components a
-    (more (place + length f.bytes) f.components behind a.complete)
+    both-added k m a (more (place + length f.bytes) f.components behind a.complete)
 
-pub component-adds : (n : ℕ) (own : Term) (F : Standing) (spelling : Spelling) → Adds n (Inside own) F spelling
-    → Adds n (Whole own) (λ place cs. first_equal n own 0 cs ≡ None → F place cs) (component n own spelling)
+pub component-adds : (n : ℕ) (own : Term) (F : Standing) (spelling : Spelling) → Adds 1 n (Inside own) F spelling
+    → Adds 0 n (Whole own) (λ place cs. first_equal n own 0 cs ≡ None → F place cs) (component n own spelling)
 unfolding component reference spelled_out ended
 component-adds n own F spelling one place cs fits complete = go (first_equal n own 0 cs) refl
   where
-    go : (o : Option ℕ) → first_equal n own 0 cs ≡ o → AddsParts n (Whole own) cs (spell.Pressed.components (elim o as
-        (λ _. spell.Pressed Component)
-        [ Some number ↦ reference number place cs | None ↦ spelled_out n own spelling place cs ]))
-    go (Some number) is = tree-found n number own cs is complete
-    go None is = tree-ended n own cs (spelling place cs).components (one place cs (fits is) complete)
+    go : (o : Option ℕ) → first_equal n own 0 cs ≡ o → AddsParts 0 n (Whole own) cs (elim o as (λ _. Written)
+        [ Some number ↦ reference number place cs | None ↦ spelled_out n own spelling place cs ])
+    go (Some number) is = tree-found number (codes "S" ++ seq_id number ++ codes "_") is complete
+    go None is =
+        let w : Written = spelling place cs in
+        tree-ended (w.bytes ++ []) (omega (arith, length-append w.bytes [])) (one place cs (fits is) complete)
 
 -- a template name and its arguments, without an N
-pub whole-adds : (n : ℕ) (own : Term) (Q : Term → Type 0) (F G : Standing) (between arguments : Spelling) → Adds n (Inside own) F between
-    → Adds n Q G arguments → (place : ℕ) (cs : List Component) → F place cs → Behind between (Behind (ended n own) G) place cs → Complete cs
-    → AddsParts n (Either (Whole own) Q) cs ((between and ended n own and arguments) place cs).components
+pub whole-adds : (n : ℕ) (own : Term) (Q : Term → Type 0) (F G : Standing) (between arguments : Spelling) → Adds 1 n (Inside own) F between
+    → Adds 1 n Q G arguments → (place : ℕ) (cs : List Component) → F place cs → Behind between (Behind (ended n own) G) place cs → Complete cs
+    → AddsParts 1 n (Either (Whole own) Q) cs ((between and ended n own and arguments) place cs)
 unfolding ended
 whole-adds n own Q F G between arguments one more place cs fits behind complete =
-    let f : spell.Pressed Component = between place cs in
+    let f : Written = between place cs in
     let now : List Component = f.components ++ record { tree = own; encoding = n } ∷ [] in
-    let a = tree-ended n own cs f.components (one place cs fits complete) in
-    both-added n (Whole own) Q cs now (arguments (place + length f.bytes + 0) now).components a
-    (more (place + length f.bytes + 0) now behind a.complete)
+    let a = tree-ended f.bytes (omega arith) (one place cs fits complete) in
+    both-added 0 1 a (more (place + length f.bytes + 0) now behind a.complete)
 
 abbrev pub TemplateFits : (n : ℕ) → Term → (F : Standing) → (front : Spelling) → (G : Standing) → Standing
 TemplateFits n own F front G place cs =
     ((number : ℕ) → first_equal n own 0 cs ≡ Some number → Behind (reference number) G place cs)
     × (first_equal n own 0 cs ≡ None → F place cs × Behind (front and ended n own) G place cs)
 
-pub template-adds : (n : ℕ) (own : Term) (Q : Term → Type 0) (F G : Standing) (between arguments : Spelling) → Adds n (Inside own) F between
-    → Adds n Q G arguments
-    → Adds n (Either (Whole own) Q) (TemplateFits n own F between G) (template_before n own false between arguments)
-unfolding template_before referred reference
-template-adds n own Q F G between arguments one more place cs (found, new) complete = go (first_equal n own 0 cs) refl
+-- after a reference where the name comes before, or else spelled out
+referred-adds : (n : ℕ) (own : Term) (Q : Term → Type 0) (G : Standing) (arguments other : Spelling) → Adds 1 n Q G arguments
+    → (place : ℕ) (cs : List Component)
+    → ((number : ℕ) → first_equal n own 0 cs ≡ Some number → Behind (reference number) G place cs)
+    → (first_equal n own 0 cs ≡ None → AddsParts 1 n (Either (Whole own) Q) cs (other place cs)) → Complete cs
+    → AddsParts 1 n (Either (Whole own) Q) cs (referred n own arguments other place cs)
+unfolding referred reference
+referred-adds n own Q G arguments other more place cs found new complete = go (first_equal n own 0 cs) refl
   where
-    go : (o : Option ℕ) → first_equal n own 0 cs ≡ o
-        → AddsParts n (Either (Whole own) Q) cs (spell.Pressed.components (elim o as (λ _. spell.Pressed Component) [
-          | Some number ↦ (reference number and arguments) place cs
-          | None ↦ (between and ended n own and arguments) place cs
-        ]))
+    go : (o : Option ℕ) → first_equal n own 0 cs ≡ o → AddsParts 1 n (Either (Whole own) Q) cs (elim o as (λ _. Written)
+        [ Some number ↦ (reference number and arguments) place cs | None ↦ other place cs ])
     go (Some number) is =
-        let r : spell.Pressed Component = reference number place cs in
-        both-added n (Whole own) Q cs cs (arguments (place + length r.bytes) cs).components (tree-found n number own cs is complete)
-        (more (place + length r.bytes) cs (found number is) complete)
-    go None is =
-        whole-adds n own Q F G between arguments one more place cs (new is).0 (behind-and between (ended n own) G place cs
-        (new is).1) complete
+        let bytes : List ℕ = codes "S" ++ seq_id number ++ codes "_" in
+        both-added 0 1 (tree-found number bytes is complete) (more (place + length bytes) cs (found number is) complete)
+    go None is = new is
+
+pub template-adds : (n : ℕ) (own : Term) (Q : Term → Type 0) (F G : Standing) (between arguments : Spelling) → Adds 1 n (Inside own) F between
+    → Adds 1 n Q G arguments
+    → Adds 1 n (Either (Whole own) Q) (TemplateFits n own F between G) (template_before n own false between arguments)
+unfolding template_before
+template-adds n own Q F G between arguments one more place cs (found, new) complete =
+    referred-adds n own Q G arguments (between and ended n own and arguments) more place cs found
+    (λ none. whole-adds n own Q F G between arguments one more place cs (new none).0
+    (behind-and between (ended n own) G place cs (new none).1) complete) complete
 
 -- the same between N and E where the name is spelled out
 pub nested-template-adds : (n : ℕ) (own : Term) (Q : Term → Type 0) (F G : Standing) (between arguments : Spelling)
-    → Adds n (Inside own) F between → Adds n Q G arguments
-    → Adds n (Either (Whole own) Q) (TemplateFits n own (λ place cs. F (place + 1) cs) (text (codes "N") and between) G)
+    → Adds 1 n (Inside own) F between → Adds 1 n Q G arguments
+    → Adds 1 n (Either (Whole own) Q) (TemplateFits n own (λ place cs. F (place + 1) cs) (text (codes "N") and between) G)
     (template_before n own true between arguments)
-unfolding template_before referred reference in_N_and_E
-nested-template-adds n own Q F G between arguments one more place cs (found, new) complete = go (first_equal n own 0 cs) refl
-  where
-    go : (o : Option ℕ) → first_equal n own 0 cs ≡ o
-        → AddsParts n (Either (Whole own) Q) cs (spell.Pressed.components (elim o as (λ _. spell.Pressed Component) [
-          | Some number ↦ (reference number and arguments) place cs
-          | None ↦ (in_N_and_E [] (between and ended n own and arguments)) place cs
-        ]))
-    go (Some number) is =
-        let r : spell.Pressed Component = reference number place cs in
-        both-added n (Whole own) Q cs cs (arguments (place + length r.bytes) cs).components (tree-found n number own cs is complete)
-        (more (place + length r.bytes) cs (found number is) complete)
-    go None is =
-        whole-adds n own Q F G between arguments one more (place + 1) cs (new is).0
-        (behind-and (text (codes "N")) between (Behind (ended n own) G) place cs
-        (behind-and (text (codes "N") and between) (ended n own) G place cs (new is).1)) complete
+unfolding template_before in_N_and_E
+nested-template-adds n own Q F G between arguments one more place cs (found, new) complete =
+    referred-adds n own Q G arguments (in_N_and_E [] (between and ended n own and arguments)) more place cs found
+    (λ none. nested-added [] (whole-adds n own Q F G between arguments one more (place + 1) cs (new none).0
+    (behind-and (text (codes "N")) between (Behind (ended n own) G) place cs
+    (behind-and (text (codes "N") and between) (ended n own) G place cs (new none).1)) complete)) complete
 
 -- a name that is without letters or with them
-pub letters-add : (letters : List ℕ) (n : ℕ) (P : Term
-    → Type 0) (around : Around) (allowed : Option ℕ) (F G : Fitting) (own between : Spelling)
-    → Adds n P (F around allowed) own → Adds n P (G around allowed) between
-    → Adds n P (by_letters letters F G around allowed) (with_letters letters own between)
+pub letters-add : (letters : List ℕ) (n : ℕ) (P : Term → Type 0) (around : Around) (allowed : Option ℕ) (F G : Fitting) (own between : Spelling)
+    → Adds 1 n P (F around allowed) own → Adds 1 n P (G around allowed) between
+    → Adds 0 n P (by_letters letters F G around allowed) (with_letters letters own between)
 unfolding by_letters with_letters in_N_and_E
-letters-add [] n P around allowed F G own between one two place cs fits complete = one place cs fits complete
+letters-add [] n P around allowed F G own between one two place cs fits complete = fewer-by-one (one place cs fits complete)
 letters-add (l ∷ ls) n P around allowed F G own between one two place cs fits complete =
-    two (place + length (codes "N" ++ l ∷ ls)) cs fits complete
+    fewer-by-one (nested-added (l ∷ ls) (two (place + length (codes "N" ++ l ∷ ls)) cs fits complete))
 
 -- a name that has no letters
-pub no-letters-add : (letters : List ℕ) (n : ℕ) (P : Term → Type 0) (F : Standing) (own between : Spelling) → Adds n P F own
-    → Adds n P (λ place cs. IsWithoutLetters letters × F place cs) (with_letters letters own between)
+pub no-letters-add : (letters : List ℕ) (n : ℕ) (P : Term → Type 0) (F : Standing) (own between : Spelling) → Adds 1 n P F own
+    → Adds 0 n P (λ place cs. IsWithoutLetters letters × F place cs) (with_letters letters own between)
 unfolding with_letters
-no-letters-add [] n P F own between one place cs fits complete = one place cs fits.1 complete
+no-letters-add [] n P F own between one place cs fits complete = fewer-by-one (one place cs fits.1 complete)
 no-letters-add (l ∷ ls) n P F own between one place cs fits complete = absurd fits.0

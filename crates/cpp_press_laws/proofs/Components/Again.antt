@@ -104,7 +104,7 @@ items-again (list first rest) around allowed packs items fits shut place cs comp
     (is_open rest) around.in_lambda shut)
     place cs (λ x w. has x (inl w)) in
     let w : spell.Pressed Component = (ways_of n first).as_type place cs in
-    let a : AddsParts n (Whole first) cs w.components = ((adds first).at fit.as_type) parameter_type around allowed place cs one complete in (
+    let a : AddsParts 0 n (Whole first) cs w = ((adds first).at fit.as_type) parameter_type around allowed place cs one complete in (
       one,
       items-again rest around allowed packs items.1 fits (right-shut (is_open first) (is_open rest) around.in_lambda shut)
           (place + length w.bytes) w.components a.complete (λ x i. a.keeps n x (has x (inr i))),
@@ -138,7 +138,7 @@ function-again c_linkage noexcept ref returned parameters around allowed stands 
     let one = item-again returned any_type tt around allowed packs stands.0 may.packs
     (left-shut (is_open returned) (is_open parameters) around.in_lambda may.lambda) (place + length marks) cs (λ x w. all x (inr (inl w))) in
     let w : spell.Pressed Component = (ways_of n returned).as_type (place + length marks) cs in
-    let a : AddsParts n (Whole returned) cs w.components = ((adds returned).at fit.as_type) any_type around allowed
+    let a : AddsParts 0 n (Whole returned) cs w = ((adds returned).at fit.as_type) any_type around allowed
     (place + length marks) cs one complete in (
       one,
       parameters-again parameters around allowed packs stands.1 stands.2 may.packs

@@ -1,5 +1,5 @@
 -- Names that were read piece by piece fit: where what comes before a piece fits, and the piece after it, so does the longer name.
-use Rattle.std.proofs.Common.{◌≡◌, ℕ, ◌+◌, inl, inr, List, [], ◌∷◌, Option, true, false, refl, subst}
+use Rattle.std.proofs.Common.{◌≡◌, ℕ, ◌+◌, inl, inr, List, [], ◌∷◌, Option, true, false, refl, arith, subst}
 use Rattle.std.specs.Prelude.{codes}
 use Rattle.sym_spell.specs.Pressing as spell
 use Rattle.sym_spell.specs.Pressing.{◌and◌, text}
@@ -77,7 +77,7 @@ respelled around F s r t old new same one = record {
 pub ended-fitted : (around : Around) (t : Term) (F : Fitting) (s : ℕ → Spelling) (old new : State) → IsComponent t
     → FunctionStands around.scope t
     → ((n : ℕ) (allowed : Option ℕ) (place : ℕ) (cs : List Component) → F (pressed_at n around) allowed place cs → Complete cs
-    → AddsParts n (Inside t) cs (s n place cs).components)
+    → AddsParts 1 n (Inside t) cs (s n place cs))
     → Fitted around F s t old new → Fitted around F (λ n. s n and ended n t) t old (appended around t new)
 unfolding ended appended
 ended-fitted around t F s old new is stands whole one = record {
@@ -87,7 +87,7 @@ ended-fitted around t F s old new is stands whole one = record {
       record {
         fits = p.fits;
         may = p.may;
-        complete = (tree-ended n t cs (s n place cs).components (whole n allowed place cs p.fits front.complete)).complete;
+        complete = (tree-ended (s n place cs).bytes (omega arith) (whole n allowed place cs p.fits front.complete)).complete;
         among = among-ended around.encoding n around.in_lambda t new.candidates (s n place cs).components is p.among;
         functions = functions-append around.scope around.encoding new.candidates (record { tree = t; encoding = around.encoding; in_lambda = around.in_lambda; is_held = false } ∷ [])
             p.functions (λ may. stands, tt);

@@ -110,7 +110,7 @@ SpelledBefore around own a H front whole old now =
 pub spelled-before : (around : Around) (own a : Term) (F : Fitting) (between : ℕ → Spelling) (old mid now : State) → IsComponent own
     → FunctionStands around.scope own
     → ((n : ℕ) (allowed : Option ℕ) (place : ℕ) (cs : List Component) → F (pressed_at n around) allowed place cs → Complete cs
-    → AddsParts n (Inside own) cs (between n place cs).components)
+    → AddsParts 1 n (Inside own) cs (between n place cs))
     → Fitted around F between own old mid → ElementsFit around a (appended around own mid) now
     → SpelledBefore around own a F between (λ n. between n and ended n own and arguments_text a n) old now
 spelled-before around own a F between old mid now is stands whole one other =
