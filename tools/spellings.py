@@ -234,7 +234,7 @@ def lemmas(trees):
             "unfolding fits_of type_fits fits_nowhere ways_of type_ways no_ways is_open pack_length with_type with_unqualified is_function_type tree_of is_listed",
             f"{own}-fits around {given}type old new {'digit ' if known else ''}one =", f"    one-part takes_all around {shape} type {bytes_} (λ slot inner allowed place cs. {premises}) old new",
             "    (record {", "      is = tt;", f"      keeps = λ n. bytes-keep n {shape} type {bytes_} (λ x w. inr w);", "      function = tt;",
-            f"      whole = λ slot n allowed place cs. typed-complete {shape} (λ m. refl) slot (pressed_at n around) allowed place cs;",
+            f"      whole = λ slot n. typed-complete {shape} (λ m. refl) slot (pressed_at n around);",
             f"    }}) refl (λ arguments. refl) (λ slot take n allowed place cs fits. ({facts})) one"]
 
 def declarations(trees):

@@ -1,19 +1,20 @@
 -- The components that names add or find, in each of their ways.
-use Rattle.std.proofs.Common.{◌≡◌, ℕ, ◌+◌, ◌⊎◌, ◌≤◌, inl, inr, length, List, [], ◌∷◌, ◌++◌, Option, Bool, true, false, refl, arith, sym, subst}
+use Rattle.std.proofs.Common.{◌≡◌, ℕ, ◌+◌, ◌⊎◌, ◌≤◌, inl, inr, length, List, [], ◌∷◌, ◌++◌, Option, Bool, true, false, arith, sym, subst}
 use Rattle.std.specs.Prelude.{◌&&◌, codes}
-use Rattle.std.proofs.lemmas.Bool.{true≢false, false≢true}
+use Rattle.std.proofs.lemmas.Bool.{true≢false, false≢true, true_from_ne_false}
 use Rattle.sym_spell.specs.Pressing.{◌and◌, text, nothing}
 use Rattle.cpp_grammar.specs.Term.{Term, symbol, alone, in_std, within, instance, local}
 use Rattle.cpp_grammar.specs.Values.{outermost, behind, Around}
 use Rattle.cpp_grammar.specs.Between.{after, inside}
-use Rattle.cpp_press_laws.proofs.Components.Encodings.{encoding-prefix, no-encoding-fits}
+use Rattle.cpp_press_laws.proofs.Components.Encodings.{encoding-prefix, no-encoding}
+use Rattle.cpp_press_laws.proofs.EveryWay.Instances.{not-one-piece, one-piece-is}
 use Rattle.cpp_press_laws.specs.Texts.{name_letters, discriminator_text}
 use Rattle.cpp_press_laws.specs.Components.{Component, Spelling, ended, component}
 use Rattle.cpp_press_laws.specs.Pressing.{no_ways, type_ways, in_N_and_E, with_letters, name_ways, template_before, is_operator, is_encoding, is_one_piece, entity_text, local_text, ways_of}
 use Rattle.cpp_press_laws.specs.Subtrees.{Written}
 use Rattle.cpp_press_laws.proofs.Components.Parts.{PrefixOr, Inside, Whole, prefix-whole}
 use Rattle.cpp_press_laws.proofs.Components.Complete.{Complete}
-use Rattle.cpp_press_laws.specs.Fits.{Standing, Fitting, Behind, as_component, as_template, behind_bytes, one_piece, Slot, names_type, names_function, begins_name, Role, in_type, in_name_with, letters_of, names_in, fits_nowhere, type_fits, piece_fits, argument_fits, encoding_fits, fits_of, names_member, IsSpellableDiscriminator}
+use Rattle.cpp_press_laws.specs.Fits.{Standing, Fitting, Behind, as_component, as_template, behind_bytes, one_piece, Slot, names_type, names_function, begins_name, Role, in_type, in_name_with, letters_of, names_in, fits_nowhere, type_fits, fits_of, names_member, IsSpellableDiscriminator}
 use Rattle.cpp_press_laws.proofs.Fitting as fit
 use Rattle.cpp_press_laws.proofs.Components.Adding.{AddsParts, Adds, Either, both-added, fewer-added, after-bytes, before-bytes, nested-added, fewer-by-one, behind-and, at-once, and-adds, whole-adds, letters-add, no-letters-add}
 use Rattle.cpp_press_laws.proofs.Components.AddedWays.{way_at, AtSlot, WaysAdd, AddsAt, nowhere-ways-add, in-component, reference-adds, found-and-adds, in-template, in-nested-template, component-at}
@@ -151,10 +152,6 @@ entity-adds true n P letters between place cs (inr other) = absurd (true≢false
 entity-adds false n P letters between place cs (inl one) = absurd (false≢true one.0)
 entity-adds false n P letters between place cs (inr other) = fewer-by-one (nested-added letters other.1)
 
-pub is-not : (b : Bool) → (b ≡ true → ⊥) → b ≡ false
-is-not true never = absurd (never refl)
-is-not false never = refl
-
 pub at-none : (G : Standing) (place : ℕ) (cs : List Component) → G place cs → G (place + 0) cs
 at-none G place cs fits = let same : place ≡ place + 0 = omega arith in subst (λ p. G p cs) same fits
 
@@ -235,8 +232,7 @@ within-add prefix p a b = record {
         (spelling around.encoding) place cs (elim fits [
           | inl one ↦ inl (one.1.0, pieces (names_in role p) around allowed place cs one.1 complete)
           | inr other ↦ inr (
-            is-not (is_encoding prefix) (λ is. no-encoding-fits prefix around allowed (place + length
-                (codes "N" ++ letters_of role)) cs is other.0),
+            no-encoding prefix around allowed (place + length (codes "N" ++ letters_of role)) cs other.0,
             joins around allowed (place + length (codes "N" ++ letters_of role)) cs other complete,
           )
         ])
@@ -246,21 +242,6 @@ within-add prefix p a b = record {
         (spelling around.encoding) (joins around allowed)
     each fit.as_argument = λ in_pack around allowed. whole around allowed
     each w = (nowhere-ways-add (within prefix p) (λ n. ways_of n (within prefix p))).at w
-
-pub entity-piece : (template arguments : Term) (around : Around) (allowed : Option ℕ) (place : ℕ) (cs : List Component)
-    → (fits_of template).as_entity_template around allowed place cs → is_one_piece (instance template arguments) ≡ true
-unfolding fits_of fits_nowhere type_fits piece_fits argument_fits encoding_fits is_one_piece
-entity-piece (within prefix p) arguments around allowed place cs fits = fits.0
-entity-piece (symbol e suffix) arguments around allowed place cs fits = absurd fits
-entity-piece _ arguments around allowed place cs fits = absurd fits
-
-pub nest-piece : (template arguments : Term) (around : Around) (allowed : Option ℕ) (place : ℕ) (cs : List Component)
-    → (fits_of template).between_template around allowed place cs → is_one_piece (instance template arguments) ≡ false
-unfolding fits_of is_one_piece
-nest-piece (within prefix p) arguments around allowed place cs fits =
-    is-not (is_encoding prefix) (λ is. no-encoding-fits prefix around allowed place cs is fits.0)
-nest-piece (symbol e suffix) arguments around allowed place cs fits = refl
-nest-piece _ arguments around allowed place cs fits = refl
 
 pub instance-add : (template arguments : Term) → WaysAdd template (fits_of template) (λ n. ways_of n template)
     → WaysAdd arguments (fits_of arguments) (λ n. ways_of n arguments)
@@ -350,11 +331,11 @@ instance-add template arguments a b = record {
     each fit.as_entity = λ role around allowed place cs fits complete. entity-adds (is_one_piece own) around.encoding (Inside own) (letters_of role)
         (spelling around.encoding) place cs (elim fits [
           | inl one ↦ inl (
-            entity-piece template arguments around allowed place cs one.1,
+            true_from_ne_false (is_one_piece own) (one-piece-is template arguments around allowed place cs one.1),
             pieces around allowed place cs one.1 one.2 complete,
           )
           | inr other ↦ inr (
-            nest-piece template arguments around allowed (place + length (codes "N" ++ letters_of role)) cs other.0,
+            not-one-piece template arguments around allowed (place + length (codes "N" ++ letters_of role)) cs other.0,
             joins around allowed (place + length (codes "N" ++ letters_of role)) cs other complete,
           )
         ])

@@ -1,7 +1,7 @@
 -- Lists of components in which each is with the components in it, and the candidates of a reader that are in such a list.
 use Rattle.std.proofs.Common.{◌≡◌, ℕ, ◌+◌, ◌<◌, ◌≤◌, ◌⊎◌, inl, inr, length, List, [], ◌∷◌, ◌++◌, Bool, true, false, refl, ap, arith, sym, subst, ◌∙◌, length-append}
 use Rattle.std.specs.Prelude.{cond, ◌&&◌, ◌||◌}
-use Rattle.std.proofs.lemmas.Bool.{true≢false}
+use Rattle.std.proofs.lemmas.Bool.{true≢false, or_parts}
 use Rattle.cpp_grammar.specs.Term.{Term, symbol, alone, in_std, within, instance, local, holder, tagged, of_default, inheriting, lambda, conversion, pointer, lvalue, rvalue, array, constrained, bounded, member_pointer, function_type, qualified, vector, complex, decltype, expansion, integer, operation, pack, list}
 use Rattle.cpp_grammar.specs.Scope.{is_open}
 use Rattle.cpp_grammar.specs.Values.{Candidate}
@@ -13,14 +13,6 @@ use Rattle.cpp_press_laws.proofs.Components.Known.{KeepsTo, known-has}
 use Rattle.cpp_press_laws.proofs.Short.Worth.{is_among, has-among, is_again, full, worth, worths, full-some, worths-one}
 
 -- ## What is in a closed tree is closed
-
-left-shut : (a b : Bool) → a || b ≡ false → a ≡ false
-left-shut false b h = refl
-left-shut true b h = absurd (true≢false h)
-
-right-shut : (a b : Bool) → a || b ≡ false → b ≡ false
-right-shut false b h = h
-right-shut true b h = absurd (true≢false h)
 
 itself-shut : (t x : Term) (inside : Type 0) → is_open t ≡ false → (inside → is_open x ≡ false) → ItselfOr t inside x → is_open x ≡ false
 itself-shut t x inside closed more (inl same) = ap is_open same.1 ∙ closed
@@ -42,13 +34,13 @@ inside-shut (symbol e suffix) x closed i = i.0
 inside-shut (alone p) x closed i = inside-shut p x closed i
 inside-shut (in_std p) x closed i = inside-shut p x closed i
 inside-shut (within prefix p) x closed (inl i) =
-    prefix-shut prefix x (Inside prefix x) (left-shut (is_open prefix) (is_open p) closed) (inside-shut prefix x (left-shut (is_open prefix) (is_open p) closed)) i
+    prefix-shut prefix x (Inside prefix x) (or_parts (is_open prefix) (is_open p) closed).0 (inside-shut prefix x (or_parts (is_open prefix) (is_open p) closed).0) i
 inside-shut (within prefix p) x closed (inr i) =
-    inside-shut p x (right-shut (is_open prefix) (is_open p) closed) i
+    inside-shut p x (or_parts (is_open prefix) (is_open p) closed).1 i
 inside-shut (instance template arguments) x closed (inl i) =
-    itself-shut template x (Inside template x) (left-shut (is_open template) (is_open arguments) closed) (inside-shut template x (left-shut (is_open template) (is_open arguments) closed)) i
+    itself-shut template x (Inside template x) (or_parts (is_open template) (is_open arguments) closed).0 (inside-shut template x (or_parts (is_open template) (is_open arguments) closed).0) i
 inside-shut (instance template arguments) x closed (inr i) =
-    inside-shut arguments x (right-shut (is_open template) (is_open arguments) closed) i
+    inside-shut arguments x (or_parts (is_open template) (is_open arguments) closed).1 i
 inside-shut (local e entity discriminator) x closed (inl s) = s.0
 inside-shut (local e entity discriminator) x closed (inr i) = inside-shut entity x closed i
 inside-shut (holder name) x closed i = prefix-shut name x (Inside name x) closed (inside-shut name x closed) i
@@ -63,17 +55,17 @@ inside-shut (lvalue type) x closed i = itself-shut type x (Inside type x) closed
 inside-shut (rvalue type) x closed i = itself-shut type x (Inside type x) closed (inside-shut type x closed) i
 inside-shut (array digits type) x closed i = itself-shut type x (Inside type x) closed (inside-shut type x closed) i
 inside-shut (bounded bound type) x closed (inl i) =
-    itself-shut bound x (Inside bound x) (left-shut (is_open bound) (is_open type) closed) (inside-shut bound x (left-shut (is_open bound) (is_open type) closed)) i
+    itself-shut bound x (Inside bound x) (or_parts (is_open bound) (is_open type) closed).0 (inside-shut bound x (or_parts (is_open bound) (is_open type) closed).0) i
 inside-shut (bounded bound type) x closed (inr i) =
-    itself-shut type x (Inside type x) (right-shut (is_open bound) (is_open type) closed) (inside-shut type x (right-shut (is_open bound) (is_open type) closed)) i
+    itself-shut type x (Inside type x) (or_parts (is_open bound) (is_open type) closed).1 (inside-shut type x (or_parts (is_open bound) (is_open type) closed).1) i
 inside-shut (member_pointer class member) x closed (inl i) =
-    itself-shut class x (Inside class x) (left-shut (is_open class) (is_open member) closed) (inside-shut class x (left-shut (is_open class) (is_open member) closed)) i
+    itself-shut class x (Inside class x) (or_parts (is_open class) (is_open member) closed).0 (inside-shut class x (or_parts (is_open class) (is_open member) closed).0) i
 inside-shut (member_pointer class member) x closed (inr i) =
-    itself-shut member x (Inside member x) (right-shut (is_open class) (is_open member) closed) (inside-shut member x (right-shut (is_open class) (is_open member) closed)) i
+    itself-shut member x (Inside member x) (or_parts (is_open class) (is_open member) closed).1 (inside-shut member x (or_parts (is_open class) (is_open member) closed).1) i
 inside-shut (function_type c_linkage noexcept ref returned parameters) x closed (inl i) =
-    itself-shut returned x (Inside returned x) (left-shut (is_open returned) (is_open parameters) closed) (inside-shut returned x (left-shut (is_open returned) (is_open parameters) closed)) i
+    itself-shut returned x (Inside returned x) (or_parts (is_open returned) (is_open parameters) closed).0 (inside-shut returned x (or_parts (is_open returned) (is_open parameters) closed).0) i
 inside-shut (function_type c_linkage noexcept ref returned parameters) x closed (inr i) =
-    inside-shut parameters x (right-shut (is_open returned) (is_open parameters) closed) i
+    inside-shut parameters x (or_parts (is_open returned) (is_open parameters) closed).1 i
 inside-shut (qualified q type) x closed i = unqualified-shut type x (Inside type x) closed (inside-shut type x closed) i
 inside-shut (vector digits type) x closed i = itself-shut type x (Inside type x) closed (inside-shut type x closed) i
 inside-shut (complex type) x closed i = itself-shut type x (Inside type x) closed (inside-shut type x closed) i
@@ -81,14 +73,14 @@ inside-shut (decltype operand) x closed i = itself-shut operand x (Inside operan
 inside-shut (expansion pattern) x closed i = itself-shut pattern x (Inside pattern x) closed (inside-shut pattern x closed) i
 inside-shut (integer type value) x closed i = itself-shut type x (Inside type x) closed (inside-shut type x closed) i
 inside-shut (operation one two u w) x closed (inl i) =
-    itself-shut u x (Inside u x) (left-shut (is_open u) (is_open w) closed) (inside-shut u x (left-shut (is_open u) (is_open w) closed)) i
+    itself-shut u x (Inside u x) (or_parts (is_open u) (is_open w) closed).0 (inside-shut u x (or_parts (is_open u) (is_open w) closed).0) i
 inside-shut (operation one two u w) x closed (inr i) =
-    itself-shut w x (Inside w x) (right-shut (is_open u) (is_open w) closed) (inside-shut w x (right-shut (is_open u) (is_open w) closed)) i
+    itself-shut w x (Inside w x) (or_parts (is_open u) (is_open w) closed).1 (inside-shut w x (or_parts (is_open u) (is_open w) closed).1) i
 inside-shut (pack elements) x closed i = inside-shut elements x closed i
 inside-shut (list first rest) x closed (inl i) =
-    itself-shut first x (Inside first x) (left-shut (is_open first) (is_open rest) closed) (inside-shut first x (left-shut (is_open first) (is_open rest) closed)) i
+    itself-shut first x (Inside first x) (or_parts (is_open first) (is_open rest) closed).0 (inside-shut first x (or_parts (is_open first) (is_open rest) closed).0) i
 inside-shut (list first rest) x closed (inr i) =
-    inside-shut rest x (right-shut (is_open first) (is_open rest) closed) i
+    inside-shut rest x (or_parts (is_open first) (is_open rest) closed).1 i
 inside-shut _ x closed i = first_of (assumption i, search i)
 
 -- ## Complete lists

@@ -71,8 +71,7 @@ nest-solid takes around v old new read =
       types = λ slot other take. nest.typed slot;
       bare = λ take. subst (λ s. BareFits around t old s)
           (sym (ap (λ b. elim b as (λ _. State) [ true ↦ new | false ↦ appended around t new ]) nest.plain))
-          (respelled around ((fits_of t).as_type bare_type) (λ n. (ways_of n t).as_type) (λ n. (ways_of n t).under_qualifiers) t old
-          (appended around t new) (λ n place cs. sym (ap (λ s. s place cs) (nest.alike n))) (nest.typed bare_type));
+          (respelled (nest.typed bare_type) (λ n place cs. sym (ap (λ s. s place cs) (nest.alike n))));
     })
   where
     t : Term
