@@ -144,20 +144,10 @@ def adding(trees):
         elif tree[0] in FITTING:
             tests, slot = needed(tree)
             fits = f"fits.{len(tests)}" if tests else "fits"
-            inner = f"(adds {parts[1].tree}).at fit.as_type {slot} around allowed (place + length {braced(parts[0].text)}) cs {fits} complete"
+            inner = f"(adds {parts[1].tree}).at fit.as_type {slot} around allowed (place + length {braced(parts[0].text)}) cs {fits}"
             long = "(omega (arith, letters-long q fits.1))" if tree[0] == "qualified" else "(omega arith)"
-            yield f"adds {shape} = type-ways-add {shape} _ _ (λ x w. w) (λ slot around allowed place cs fits complete. after-bytes 0 1 {braced(parts[0].text)} {long} ({inner}))"
-        elif sort == "piece" and len(parts) == 1:
-            yield f"adds {shape} = leaf-piece-add {shape} _ _ {'(source-long internal name)' if tree[0] == 'source' else '(omega arith)'} (λ x i. i)"
-
-def writing(trees):
-    """an argument has a byte at least"""
-    for tree, shape, sort, parts, nowhere in rows(trees):
-        clause = f"argument-writes {shape} in_pack around allowed place cs h ="
-        if nowhere or not parts or not parts[0].text.startswith("codes"): continue
-        if sort == "component": yield f"{clause} component-writes around.encoding {shape} _ place cs (λ none. omega arith)"
-        elif sort in ("type", "argument"): yield f"{clause} omega arith"
-    yield "argument-writes _ in_pack around allowed place cs h = absurd h"
+            yield f"adds {shape} = type-ways-add {shape} _ _ (λ x w. w) (λ slot around allowed place cs fits. after-bytes 1 2 {braced(parts[0].text)} {long} ({inner}))"
+        elif sort == "piece" and len(parts) == 1 and tree[0] != "source": yield f"adds {shape} = leaf-piece-add {shape} _ _ (omega arith) (λ x i. i)"
 
 def typed_arguments(trees):
     return [f"type-argument {shape} around in_pack old new one = one" for tree, shape, sort, parts, nowhere in rows(trees) if sort in ("component", "type") and not nowhere]
@@ -248,5 +238,4 @@ def declarations(trees):
     yield f"{laws}/proofs/Components/KnownTrees.antt", "keeps", keeping(trees)
     yield f"{laws}/proofs/Components/Apart.antt", "ways-grow", growing(trees)
     yield f"{laws}/proofs/Components/AddedTrees.antt", "adds", adding(trees)
-    yield f"{laws}/proofs/Components/Counting.antt", "argument-writes", writing(trees)
     yield f"{laws}/proofs/Fits/Arguments.antt", "type-argument", typed_arguments(trees)

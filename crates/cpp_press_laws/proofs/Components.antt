@@ -1,9 +1,9 @@
 -- What is spelled out, and what comes before it: the lists of components that pressing builds.
 -- Components are apart (`Apart`, an induction over the ways of each tree, with `Growing` and `Sameness`), and so are kept (`Keeping`);
--- pressing a tree whose components are there adds none (`Known`, `KnownTrees`, `NoneAdded`), a tree that fits adds its own, and no more
--- than it has bytes (`Adding`, `AddedWays`, `AddedNames`, `AddedTrees`, with `Parts`, `Encodings`, `Complete`, `Counting` and `Again`);
--- there are no more of them than a reader has candidates (`FewPressed`); and one that is spelled again has a reason (`Repeated`).
--- `Steps` has a reader's candidates beside them.
+-- pressing a tree whose components are there adds none (`Known`, `KnownTrees`, `NoneAdded`); a tree that fits adds its own, no more than it
+-- has bytes, and has a byte for each argument that it ends in (`Adding`, `AddedWays`, `AddedNames`, `AddedTrees`, with `Parts`, `Encodings`,
+-- `Lengths`, `Complete` and `Again`); there are no more of them than a reader has candidates (`FewPressed`); and one that is spelled again
+-- has a reason (`Repeated`). `Steps` has a reader's candidates beside them.
 pub mod Sameness
 pub mod Growing
 pub mod Apart
@@ -21,5 +21,5 @@ pub mod AddedNames
 pub mod AddedTrees
 pub mod Again
 pub mod Keeping
-pub mod Counting
+pub mod Lengths
 pub mod FewPressed

@@ -118,11 +118,7 @@ function-spelled around c_linkage noexcept ref a b old mid new one other =
     let s : ℕ → Spelling = λ n. (ways_of n a).as_type in
     refitted (bytes-fitted marks (and-fitted one (fitted-bytes end other)
     (λ n allowed. may-as-two (pressed_at n around) allowed a b t refl (λ arguments. refl))))
-    (λ n allowed place cs fits. (
-      fits.0,
-      behind-both (text marks) (s n) (B (pressed_at n around) allowed) place cs
-          fits.1,
-    ))
+    (λ n allowed place cs fits. (fits.0, behind-both (text marks) (s n) (B (pressed_at n around) allowed) place cs fits.1))
 
 -- a function type, which is no candidate right under qualifiers
 pub function-fits : (around : Around) (c_linkage noexcept : Bool) (ref : RefQualifier) (a b : Term) (old mid new : State)
@@ -158,7 +154,7 @@ function-fits around c_linkage noexcept ref a b old mid new one other = record {
     whole : Fitted around (as_component t (FunctionSpelled c_linkage noexcept a b)) (λ n. component n t (s n)) t old (appended around t new)
     whole = component-fitted spelled tt kept
         (λ n allowed place cs fits. function-stands c_linkage noexcept ref a b (pressed_at n around) allowed _ _ _ _ fits.0 fits.1)
-        (λ n allowed place cs fits complete. ((adds t).at fit.as_type any_type (pressed_at n around) allowed place cs fits complete).complete)
+        (λ n allowed place cs fits. ((adds t).at fit.as_type any_type (pressed_at n around) allowed place cs fits).complete)
 
     go : (slot : Slot) → IsNotBare slot → takes_all slot ≡ true
         → Fitted around ((fits_of t).as_type slot) (λ n. (ways_of n t).as_type) t old (appended around t new)

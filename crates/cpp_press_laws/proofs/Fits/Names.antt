@@ -1,5 +1,5 @@
 -- Names that were read piece by piece fit: where what comes before a piece fits, and the piece after it, so does the longer name.
-use Rattle.std.proofs.Common.{◌≡◌, ℕ, ◌+◌, inl, inr, List, [], ◌∷◌, Option, true, false, refl, arith, subst}
+use Rattle.std.proofs.Common.{◌≡◌, ℕ, ◌+◌, inl, inr, List, [], ◌∷◌, Option, true, false, refl, subst}
 use Rattle.std.specs.Prelude.{codes}
 use Rattle.sym_spell.specs.Pressing as spell
 use Rattle.sym_spell.specs.Pressing.{◌and◌, text}
@@ -14,12 +14,12 @@ use Rattle.cpp_press_laws.specs.Pressing.{no_ways, name_ways, ways_of}
 use Rattle.cpp_press_laws.proofs.Components.Parts.{IsComponent, Inside, Whole, prefix-whole}
 use Rattle.cpp_press_laws.proofs.Components.Known.{KeepsTo, text-keeps, and-keeps}
 use Rattle.cpp_press_laws.proofs.Components.KnownTrees.{In, keeps}
-use Rattle.cpp_press_laws.proofs.Components.Complete.{Complete, StandAmong, among-ended}
+use Rattle.cpp_press_laws.proofs.Components.Complete.{Complete, complete-ended, StandAmong, among-ended}
 use Rattle.cpp_press_laws.proofs.Components.Again.{FunctionStands}
 use Rattle.cpp_press_laws.specs.Fits.{Fitting, as_component, begins_name, names_function, names_member, fits_of, MayBeReferred}
 use Rattle.cpp_press_laws.proofs.Fitting as fit
 use Rattle.cpp_press_laws.proofs.Ways as way
-use Rattle.cpp_press_laws.proofs.Components.Adding.{AddsParts, tree-ended}
+use Rattle.cpp_press_laws.proofs.Components.Adding.{AddsParts}
 use Rattle.cpp_press_laws.proofs.Components.AddedTrees.{adds}
 use Rattle.cpp_press_laws.proofs.Fits.Read.{pressed_at, functions-append, Fitted, refitted, and-fitted, bytes-fitted, fitted-bytes, component-fitted, fitted-as}
 use Rattle.cpp_press_laws.proofs.Fits.Types.{may-as, may-as-two}
@@ -74,20 +74,20 @@ respelled {around} {F} {s} {r} {t} {old} {new} one same = record {
 }
 
 -- what fits becomes a component without more bytes, and a candidate
-pub ended-fitted : {around : Around} {t : Term} {F : Fitting} {s : ℕ → Spelling} {old new : State} → Fitted around F s t old new
+pub ended-fitted : {k : ℕ} {around : Around} {t : Term} {F : Fitting} {s : ℕ → Spelling} {old new : State} → Fitted around F s t old new
     → IsComponent t → FunctionStands around.scope t
-    → ((n : ℕ) (allowed : Option ℕ) (place : ℕ) (cs : List Component) → F (pressed_at n around) allowed place cs → Complete cs
-    → AddsParts 1 n (Inside t) cs (s n place cs))
+    → ((n : ℕ) (allowed : Option ℕ) (place : ℕ) (cs : List Component) → F (pressed_at n around) allowed place cs
+    → AddsParts k n (Inside t) cs (s n place cs))
     → Fitted around F (λ n. s n and ended n t) t old (appended around t new)
 unfolding ended appended
-ended-fitted {around} {t} {F} {s} {old} {new} one is stands whole = record {
+ended-fitted {k} {around} {t} {F} {s} {old} {new} one is stands whole = record {
   stay = one.stay;
   fits = λ n place cs allowed front allows. (
       let p = one.fits n place cs allowed front allows in
       record {
         fits = p.fits;
         may = p.may;
-        complete = (tree-ended (s n place cs).bytes (omega arith) (whole n allowed place cs p.fits front.complete)).complete;
+        complete = complete-ended n t (s n place cs).components p.complete ((whole n allowed place cs p.fits).has front.complete);
         among = among-ended around.encoding n around.in_lambda t new.candidates (s n place cs).components is p.among;
         functions = functions-append around.scope around.encoding new.candidates (record { tree = t; encoding = around.encoding; in_lambda = around.in_lambda; is_held = false } ∷ [])
             p.functions (λ may. stands, tt);
@@ -163,16 +163,14 @@ pub within-prefix : (around : Around) (t p : Term) (old now : State) → Between
 unfolding fits_of ways_of name_ways no_ways
 within-prefix around t p old now one =
     prefix-component one tt tt (λ n allowed place cs joined. inr joined)
-    (λ n allowed place cs fits complete. (((adds (within t p)).at fit.as_prefix) (pressed_at n around) allowed place cs
-    fits complete).complete)
+    (λ n allowed place cs fits. ((adds (within t p)).at fit.as_prefix (pressed_at n around) allowed place cs fits).complete)
 
 pub within-prefix-template : (around : Around) (t p : Term) (old now : State) → BetweenFits around (within t p) old now
     → TemplatePrefixFits around (within t p) old (appended around (within t p) now)
 unfolding fits_of ways_of name_ways no_ways
 within-prefix-template around t p old now one =
     prefix-component one tt tt (λ n allowed place cs joined. inr joined)
-    (λ n allowed place cs fits complete. (((adds (within t p)).at fit.as_prefix_template) (pressed_at n around) allowed
-    place cs fits complete).complete)
+    (λ n allowed place cs fits. ((adds (within t p)).at fit.as_prefix_template (pressed_at n around) allowed place cs fits).complete)
 
 -- ## A piece after St
 
@@ -189,8 +187,7 @@ pub std-prefix : (around : Around) (p : Term) (old now : State) → BetweenFits 
 unfolding fits_of ways_of name_ways no_ways
 std-prefix around p old now one =
     prefix-component one tt tt (λ n allowed place cs fits. fits)
-    (λ n allowed place cs fits complete. (((adds (in_std p)).at fit.as_prefix) (pressed_at n around) allowed place cs
-    fits complete).complete)
+    (λ n allowed place cs fits. ((adds (in_std p)).at fit.as_prefix (pressed_at n around) allowed place cs fits).complete)
 
 -- ## Arguments after a template name
 
@@ -228,8 +225,7 @@ instance-prefix around t a old mid now one other =
     (λ n. and-keeps Unit n (Whole own) (s n) (arguments_text a n)
     ((keeps t Unit n (Whole own) way.as_prefix) (λ x w. inr (inl (prefix-whole t x (Inside t x) w))))
     (arguments-keep n (Whole own) a (λ x i. inr (inr i)))) (λ n allowed place cs fits. tt)
-    (λ n allowed place cs fits complete. ((adds own).at fit.as_prefix (pressed_at n around) allowed place cs fits
-    complete).complete)
+    (λ n allowed place cs fits. ((adds own).at fit.as_prefix (pressed_at n around) allowed place cs fits).complete)
 
 -- ## First pieces
 
@@ -241,5 +237,4 @@ alone-prefix around p old now outer begins one =
     prefix-component (fitted-as one (λ n allowed may. may-as (pressed_at n around) allowed p (alone p) refl
     (λ arguments. refl) may)) tt tt
     (λ n allowed place cs fits. (outer, begins, fits))
-    (λ n allowed place cs fits complete. (((adds (alone p)).at fit.as_prefix) (pressed_at n around) allowed place cs
-    fits complete).complete)
+    (λ n allowed place cs fits. ((adds (alone p)).at fit.as_prefix (pressed_at n around) allowed place cs fits).complete)

@@ -1,5 +1,5 @@
 -- Names of one piece that were read fit: alone, or in the scope of an encoding.
-use Rattle.std.proofs.Common.{◌≡◌, ℕ, inl, inr, List, [], ◌∷◌, Bool, true, false, refl, ap, sym, subst, ◌∙◌}
+use Rattle.std.proofs.Common.{◌≤◌, ◌≡◌, ℕ, inl, inr, List, [], ◌∷◌, Bool, true, false, refl, ap, sym, subst, ◌∙◌}
 use Rattle.sym_spell.specs.Pressing.{◌and◌}
 use Rattle.cpp_grammar.specs.Term.{Qualifiers, RefQualifier, Term, alone, within, instance}
 use Rattle.cpp_grammar.specs.Scope.{is_open, pack_length}
@@ -14,7 +14,9 @@ use Rattle.cpp_press_laws.proofs.Components.KnownTrees.{keeps}
 use Rattle.cpp_press_laws.specs.Fits.{Fitting, Slot, Role, letters_of, IsWithoutLetters, one_piece, begins_name, names_type, names_function, names_in, by_letters, fits_of}
 use Rattle.cpp_press_laws.proofs.Fitting as fit
 use Rattle.cpp_press_laws.proofs.Ways as way
-use Rattle.cpp_press_laws.proofs.Components.AddedWays.{in-component}
+use Rattle.cpp_press_laws.proofs.Components.Adding.{fewer-by}
+use Rattle.cpp_press_laws.proofs.Components.AddedWays.{in-component, surplus}
+use Rattle.cpp_press_laws.proofs.Components.AddedNames.{either-named}
 use Rattle.cpp_press_laws.proofs.Components.AddedTrees.{adds}
 use Rattle.cpp_press_laws.proofs.Fits.Read.{pressed_at, Fitted, refitted, component-fitted, fitted-as}
 use Rattle.cpp_press_laws.proofs.Fits.Types.{TypeFits, typed-complete, may-as, may-as-two, may-closed}
@@ -55,8 +57,7 @@ pub alone-prefix-template : (around : Around) (p : Term) (old now : State) → a
 unfolding fits_of ways_of name_ways no_ways
 alone-prefix-template around p old now outer begins one =
     prefix-component (alone-piece around p old now one) tt tt (λ n allowed place cs fits. (outer, begins, fits))
-    (λ n allowed place cs fits complete. (((adds (alone p)).at fit.as_prefix_template) (pressed_at n around) allowed
-    place cs fits complete).complete)
+    (λ n allowed place cs fits. ((adds (alone p)).at fit.as_prefix_template (pressed_at n around) allowed place cs fits).complete)
 
 -- before arguments, in a type or in an encoding's own name
 pub alone-before : (around : Around) (p a : Term) (typed : Bool) (old mid now : State) → around.prefix ≡ outermost
@@ -71,14 +72,12 @@ alone-before around p a typed old mid now outer names one other =
     let H : Fitting = one_piece outermost may (fits_of p).as_piece in
     let s : ℕ → Spelling = λ n. (ways_of n p).as_piece in
     let spelled : Fitted around H s own old mid = refitted (alone-piece around p old mid one) (λ n allowed place cs fits. (outer, names, fits)) in
+    let more : 2 ≤ surplus p = either-named typed p names in
     template-fitted around own a false H H s s s old mid now
-    (component-fitted spelled tt (λ n. (keeps p Unit n (Whole own) way.as_piece) (λ x i. inr i))
-    (λ n allowed place cs fits. tt) (λ n allowed place cs fits complete.
-    (in-component (pressed_at n around) allowed own H (s n)
-    (λ at ds piece all. ((adds p).at fit.as_piece) (pressed_at n around) allowed at ds piece.2 all) place cs fits
-    complete).complete))
-    (spelled-before spelled other tt tt (λ n allowed place cs fits complete. ((adds p).at fit.as_piece)
-    (pressed_at n around) allowed place cs fits.2 complete)) other
+    (component-fitted spelled tt (λ n. (keeps p Unit n (Whole own) way.as_piece) (λ x i. inr i)) (λ n allowed place cs fits. tt)
+    (λ n allowed place cs fits. (in-component (pressed_at n around) allowed own H (s n)
+    (λ at ds piece. fewer-by (surplus p) 2 more ((adds p).at fit.as_piece (pressed_at n around) allowed at ds piece.2)) place cs fits).complete))
+    (spelled-before spelled other tt tt (λ n allowed place cs fits. (adds p).at fit.as_piece (pressed_at n around) allowed place cs fits.2)) other
 
 -- with arguments, as an encoding's own name
 pub alone-instance-own : (around : Around) (p a : Term) (q : Qualifiers) (ref : RefQualifier) (old mid now : State) → around.prefix ≡ outermost
@@ -118,8 +117,7 @@ unfolding fits_of ways_of name_ways no_ways
 local-prefix around e p old now is scoped begins one =
     prefix-component (local-piece around e p old now is one) tt tt
     (λ n allowed place cs fits. inl (is, (scoped, begins, fits)))
-    (λ n allowed place cs fits complete. (((adds (within e p)).at fit.as_prefix) (pressed_at n around) allowed place cs
-    fits complete).complete)
+    (λ n allowed place cs fits. ((adds (within e p)).at fit.as_prefix (pressed_at n around) allowed place cs fits).complete)
 
 pub local-prefix-template : (around : Around) (e p : Term) (old now : State) → is_encoding e ≡ true → around.prefix ≡ behind e true
     → begins_name p ≡ true → PieceFits around p old now → TemplatePrefixFits around (within e p) old (appended around (within e p) now)
@@ -127,8 +125,7 @@ unfolding fits_of ways_of name_ways no_ways
 local-prefix-template around e p old now is scoped begins one =
     prefix-component (local-piece around e p old now is one) tt tt
     (λ n allowed place cs fits. inl (is, (scoped, begins, fits)))
-    (λ n allowed place cs fits complete. (((adds (within e p)).at fit.as_prefix_template) (pressed_at n around) allowed
-    place cs fits complete).complete)
+    (λ n allowed place cs fits. ((adds (within e p)).at fit.as_prefix_template (pressed_at n around) allowed place cs fits).complete)
 
 -- an entity of one piece
 pub local-entity : (around : Around) (e p : Term) (role : Role) (old now : State) → is_encoding e ≡ true → around.prefix ≡ behind e true

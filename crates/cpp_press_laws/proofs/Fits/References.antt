@@ -95,25 +95,25 @@ bare-again t is around allowed stands may place cs complete has =
 -- ## References
 
 -- What was named is spelled where it is: nothing is added.
-pub referred-fitted : (around : Around) (F : Fitting) (s : ℕ → Spelling) (old new : State) (c : Candidate) (P : Term → Type 0)
+pub referred-fitted : {k : ℕ} (around : Around) (F : Fitting) (s : ℕ → Spelling) (old new : State) (c : Candidate) (P : Term → Type 0)
     → Referred around old new c
-    → ((n : ℕ) (allowed : Option ℕ) → Adds 0 n P (F (pressed_at n around) allowed) (s n))
+    → ((n : ℕ) (allowed : Option ℕ) → Adds k n P (F (pressed_at n around) allowed) (s n))
     → ((n : ℕ) (allowed : Option ℕ) (place : ℕ) (cs : List Component) → MayBeReferred (pressed_at n around) allowed c.tree
     → FunctionStands around.scope c.tree → IsComponent c.tree → Complete cs → Has n c.tree cs → F (pressed_at n around) allowed place cs)
     → ((n place : ℕ) (cs : List Component) → IsComponent c.tree → Complete cs → Has n c.tree cs → (s n place cs).components ≡ cs)
     → Fitted around F s c.tree old new
-referred-fitted around F s old new c P r adding again none = record {
+referred-fitted {k} around F s old new c P r adding again none = record {
   stay = r.packs.stay;
   fits = λ n place cs allowed front allows. (
       let named = named-stands around.encoding n r.number c old.candidates cs front.among r.there r.named in
       let may = referred-may around n allowed old new c r allows in
       let fits = again n allowed place cs may (functions-get around.scope around.encoding r.number c old.candidates front.functions r.there
       r.named) named.0 front.complete named.1 in
-      let a : AddsParts 0 n P cs (s n place cs) = adding n allowed place cs fits front.complete in
+      let a : AddsParts k n P cs (s n place cs) = adding n allowed place cs fits in
       record {
         fits = fits;
         may = may;
-        complete = a.complete;
+        complete = a.complete front.complete;
         among = subst (λ l. StandAmong around.encoding n l (s n place cs).components) (sym r.candidates)
             (subst (StandAmong around.encoding n old.candidates) (sym (none n place cs named.0 front.complete named.1)) front.among);
         functions = subst (FunctionsStand around.scope around.encoding) (sym r.candidates) front.functions;
@@ -147,7 +147,7 @@ referred-solid takes around old new c r = record {
 }
   where
     typed : (slot : Slot) → IsNotBare slot → (n : ℕ) (allowed : Option ℕ)
-        → Adds 0 n (Whole c.tree) ((fits_of c.tree).as_type slot (pressed_at n around) allowed) (ways_of n c.tree).as_type
+        → Adds 1 n (Whole c.tree) ((fits_of c.tree).as_type slot (pressed_at n around) allowed) (ways_of n c.tree).as_type
     typed = each-slot _ (λ h n allowed. ((adds c.tree).at fit.as_type) any_type (pressed_at n around) allowed) (λ h n allowed. absurd h) (λ h n allowed. ((adds c.tree).at fit.as_type) item_type (pressed_at n around) allowed) (λ h n allowed. ((adds c.tree).at fit.as_type) parameter_type (pressed_at n around) allowed) (λ h n allowed. ((adds c.tree).at fit.as_type) literal_type (pressed_at n around) allowed)
 
 -- ## Substitutions that aren't refused

@@ -108,13 +108,13 @@ SpelledBefore around own a H front whole old now =
     × Behind (front inner.encoding and ended inner.encoding own) (arguments_standing a inner allowed) place cs) whole (instance own a) old now
 
 -- a template name that is spelled out, and its arguments
-pub spelled-before : {around : Around} {own a : Term} {F : Fitting} {between : ℕ → Spelling} {old mid now : State}
+pub spelled-before : {k : ℕ} {around : Around} {own a : Term} {F : Fitting} {between : ℕ → Spelling} {old mid now : State}
     → Fitted around F between own old mid → ElementsFit around a (appended around own mid) now → IsComponent own
     → FunctionStands around.scope own
-    → ((n : ℕ) (allowed : Option ℕ) (place : ℕ) (cs : List Component) → F (pressed_at n around) allowed place cs → Complete cs
-    → AddsParts 1 n (Inside own) cs (between n place cs))
+    → ((n : ℕ) (allowed : Option ℕ) (place : ℕ) (cs : List Component) → F (pressed_at n around) allowed place cs
+    → AddsParts k n (Inside own) cs (between n place cs))
     → SpelledBefore around own a F between (λ n. between n and ended n own and arguments_text a n) old now
-spelled-before {around} {own} {a} {F} {between} {old} {mid} {now} one other is stands whole =
+spelled-before {k} {around} {own} {a} {F} {between} {old} {mid} {now} one other is stands whole =
     respelled (and-fitted (ended-fitted one is stands whole) (arguments-fitted around a (appended around own mid) now other)
     (instance-may around own a)) (λ n. and-assoc-at (between n) (ended n own) (arguments_text a n))
 

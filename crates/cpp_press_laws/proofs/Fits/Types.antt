@@ -97,17 +97,13 @@ pub typed-complete : (t : Term) → ((n : ℕ) → (ways_of n t).under_qualifier
     (allowed : Option ℕ) (place : ℕ) (cs : List Component) → (fits_of t).as_type slot around allowed place cs → Complete cs
     → Complete ((ways_of around.encoding t).as_type place cs).components
 unfolding way_at
-typed-complete t alike any_type around allowed place cs fits complete =
-    ((adds t).at fit.as_type any_type around allowed place cs fits complete).complete
-typed-complete t alike item_type around allowed place cs fits complete =
-    ((adds t).at fit.as_type item_type around allowed place cs fits complete).complete
-typed-complete t alike parameter_type around allowed place cs fits complete =
-    ((adds t).at fit.as_type parameter_type around allowed place cs fits complete).complete
-typed-complete t alike literal_type around allowed place cs fits complete =
-    ((adds t).at fit.as_type literal_type around allowed place cs fits complete).complete
-typed-complete t alike bare_type around allowed place cs fits complete =
-    subst (λ w. Complete (w place cs).components) (alike around.encoding)
-    ((adds t).at fit.as_type bare_type around allowed place cs fits complete).complete
+typed-complete t alike any_type around allowed place cs fits = ((adds t).at fit.as_type any_type around allowed place cs fits).complete
+typed-complete t alike item_type around allowed place cs fits = ((adds t).at fit.as_type item_type around allowed place cs fits).complete
+typed-complete t alike parameter_type around allowed place cs fits = ((adds t).at fit.as_type parameter_type around allowed place cs fits).complete
+typed-complete t alike literal_type around allowed place cs fits = ((adds t).at fit.as_type literal_type around allowed place cs fits).complete
+typed-complete t alike bare_type around allowed place cs fits =
+    subst (λ w. Complete cs → Complete (w place cs).components) (alike around.encoding)
+    ((adds t).at fit.as_type bare_type around allowed place cs fits).complete
 
 -- what a component of its own is that is no function type
 pub record Spelled (around : Around) (t : Term) (G : Slot → Fitting) (s : ℕ → Spelling) : Type 0 where
@@ -253,11 +249,7 @@ member-pointer-fits takes around a b old mid new one other =
       whole = λ slot n. typed-complete t (λ m. refl) slot (pressed_at n around);
     }) (λ slot take. refitted (bytes-fitted (codes "M")
     (and-fitted one other (λ n allowed. may-as-two (pressed_at n around) allowed a b t refl (λ arguments. refl))))
-    (λ n allowed place cs fits. (
-      fits.0,
-      behind-both (text (codes "M")) (s n) (B (pressed_at n around) allowed) place cs
-          fits.1,
-    )))
+    (λ n allowed place cs fits. (fits.0, behind-both (text (codes "M")) (s n) (B (pressed_at n around) allowed) place cs fits.1)))
 
 -- ## Qualified types
 
