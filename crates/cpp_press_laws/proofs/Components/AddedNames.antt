@@ -16,8 +16,7 @@ use Rattle.cpp_press_laws.specs.Subtrees.{Written}
 use Rattle.cpp_press_laws.proofs.Components.Parts.{PrefixOr, Inside, Whole, prefix-whole}
 use Rattle.cpp_press_laws.specs.Fits.{Standing, Fitting, Behind, as_component, as_template, behind_bytes, one_piece, Slot, names_type, names_function, begins_name, Role, in_type, in_name_with, letters_of, names_in, fits_nowhere, type_fits, fits_of, names_member, IsSpellableDiscriminator}
 use Rattle.cpp_press_laws.proofs.Fitting as fit
-use Rattle.cpp_press_laws.proofs.Components.Adding.{AddsParts, Adds, Either, both-added, fewer-added, after-bytes, before-bytes, nested-added, fewer-by, behind-and, at-once, and-adds, whole-adds, letters-add, no-letters-add}
-use Rattle.cpp_press_laws.proofs.Components.AddedWays.{arguments_count, surplus, surplus-some, surplus-named, way_at, AtSlot, WaysAdd, AddsAt, nowhere-ways-add, in-component, reference-adds, found-and-adds, in-template, in-nested-template, component-at}
+use Rattle.cpp_press_laws.proofs.Components.AddedWays.{AddsParts, Adds, Either, both-added, fewer-added, after-bytes, before-bytes, nested-added, fewer-by, behind-and, at-once, and-adds, whole-adds, letters-add, no-letters-add, arguments_count, surplus, surplus-some, surplus-named, way_at, AtSlot, WaysAdd, AddsAt, nowhere-ways-add, in-component, reference-adds, found-and-adds, in-template, in-nested-template, component-at}
 
 -- ## Names
 
@@ -52,9 +51,9 @@ alone-add p a = record {
         (ways_of around.encoding p).as_piece (spelled around allowed may big)
 
     each : AddsAt (alone p) (fits_of (alone p)) (λ n. ways_of n (alone p))
-    each fit.as_type = λ slot around allowed. component-at slot around.encoding (alone p)
-        (as_component (alone p) (one_piece outermost (names_type p) (fits_of p).as_piece) around allowed)
-        (ways_of around.encoding (alone p)) (λ x w. w) (whole around allowed (names_type p) (surplus-named names_type refl p)) (whole around allowed (names_type p) (surplus-named names_type refl p))
+    each fit.as_type = λ slot around allowed. component-at slot _ (λ x w. w)
+        (whole around allowed (names_type p) (surplus-named names_type refl p))
+        (whole around allowed (names_type p) (surplus-named names_type refl p))
     each fit.as_prefix = λ around allowed. whole around allowed (begins_name p) (surplus-named begins_name refl p)
     each fit.as_prefix_template = λ around allowed. whole around allowed (begins_name p) (surplus-named begins_name refl p)
     each fit.as_name = λ q ref around allowed. no-letters-add 2 (name_letters q ref) around.encoding (Inside (alone p))
@@ -132,9 +131,7 @@ in-std-add p a = record {
         in-nested-template m around allowed (in_std p) std spelling G arguments Q (spelled around allowed) more
 
     each : AddsAt (in_std p) (fits_of (in_std p)) (λ n. ways_of n (in_std p))
-    each fit.as_type = λ slot around allowed. component-at slot around.encoding (in_std p) (as_component (in_std p) (behind_bytes (elim (is_operator p)
-        [ true ↦ codes "N" | false ↦ [] ]) std) around allowed) (ways_of around.encoding (in_std p)) (λ x w. w) (whole around allowed)
-        (whole around allowed)
+    each fit.as_type = λ slot around allowed. component-at slot _ (λ x w. w) (whole around allowed) (whole around allowed)
     each fit.as_prefix = λ around allowed. in-component around allowed (in_std p) std (spelling around.encoding) (spelled around allowed)
     each fit.as_prefix_template = λ around allowed. in-component around allowed (in_std p) std (spelling around.encoding) (spelled around allowed)
     each fit.between = spelled
@@ -225,9 +222,7 @@ within-add prefix p a b = record {
         (λ place cs fits. nested-added 2 [] (joins around allowed (place + 1) cs fits))
 
     each : AddsAt (within prefix p) (fits_of (within prefix p)) (λ n. ways_of n (within prefix p))
-    each fit.as_type = λ slot around allowed. component-at slot around.encoding (within prefix p) (as_component (within prefix p) (behind_bytes
-        (codes "N") joined)
-        around allowed) (ways_of around.encoding (within prefix p)) (λ x w. w) (whole around allowed) (whole around allowed)
+    each fit.as_type = λ slot around allowed. component-at slot _ (λ x w. w) (whole around allowed) (whole around allowed)
     each fit.as_prefix = λ around allowed. in-component around allowed (within prefix p) begun_ (spelling around.encoding) (begins around allowed)
     each fit.as_prefix_template = λ around allowed. in-component around allowed (within prefix p) begun_ (spelling around.encoding)
         (begins around allowed)
@@ -326,9 +321,7 @@ instance-add template arguments a b = record {
         (λ place cs fits. fewer-by (count arguments + 2) 2 (omega arith) (befores true around allowed place cs fits))
 
     each : AddsAt (instance template arguments) (fits_of (instance template arguments)) (λ n. ways_of n (instance template arguments))
-    each fit.as_type = λ slot around allowed. component-at slot around.encoding own (as_component own
-        ((fits_of template).before true elements) around allowed)
-        (ways_of around.encoding own) (λ x w. w) (whole around allowed) (whole around allowed)
+    each fit.as_type = λ slot around allowed. component-at slot _ (λ x w. w) (whole around allowed) (whole around allowed)
     each fit.as_prefix = λ around allowed. in-component around allowed own prefixed
         ((ways_of around.encoding template).as_prefix and listed around.encoding)
         (λ place cs fits. fewer-by (count arguments + 2) 2 (omega arith) (prefixes around allowed place cs fits))
@@ -401,8 +394,7 @@ local-add e entity discriminator a b = record {
 
     component-slots : (slot : Slot) (around : Around) (allowed : Option ℕ) → Adds 1 around.encoding (AtSlot slot own)
         (as_component own (spelled in_type) around allowed) (way_at slot (ways_of around.encoding own))
-    component-slots slot around allowed = component-at slot around.encoding own (as_component own (spelled in_type) around allowed)
-        (ways_of around.encoding own) (λ x w. w) (whole around allowed) (whole around allowed)
+    component-slots slot around allowed = component-at slot _ (λ x w. w) (whole around allowed) (whole around allowed)
 
     each : AddsAt (local e entity discriminator) (fits_of (local e entity discriminator)) (λ n. ways_of n (local e entity discriminator))
     each fit.as_type = λ slot around allowed. component-slots slot around allowed

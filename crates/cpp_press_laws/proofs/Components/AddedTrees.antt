@@ -19,8 +19,7 @@ use Rattle.cpp_press_laws.proofs.Components.KnownTrees.{In}
 use Rattle.cpp_press_laws.specs.Fits.{Standing, Fitting, Behind, as_component, either, Slot, any_type, bare_type, item_type, parameter_type, literal_type, nowhere, fits_nowhere, type_fits, piece_fits, fits_of, takes_all, NamesArgument, IsAbbreviation, IsBuiltin, SymbolFits}
 use Rattle.cpp_press_laws.proofs.Slots.{each-slot}
 use Rattle.cpp_press_laws.proofs.Fitting as fit
-use Rattle.cpp_press_laws.proofs.Components.Adding.{AddsParts, Adds, Either, No, none-added, fewer-added, after-bytes, before-bytes, fewer-by, behind-and, and-adds}
-use Rattle.cpp_press_laws.proofs.Components.AddedWays.{arguments_count, surplus, way_at, AtSlot, IsNotBare, WaysAdd, AddsAt, in-component, reference-adds, leaf-adds, no-whole, found-and-adds, component-at, type-ways-add, piece-ways-add, argument-ways-add, encoding-ways-add, nowhere-ways-add}
+use Rattle.cpp_press_laws.proofs.Components.AddedWays.{AddsParts, Adds, Either, No, none-added, fewer-added, after-bytes, before-bytes, fewer-by, behind-and, and-adds, arguments_count, surplus, way_at, AtSlot, IsNotBare, WaysAdd, AddsAt, in-component, reference-adds, leaf-adds, no-whole, found-and-adds, component-at, type-ways-add, piece-ways-add, argument-ways-add, encoding-ways-add, nowhere-ways-add}
 use Rattle.cpp_press_laws.proofs.Components.AddedNames.{alone-add, in-std-add, within-add, instance-add, local-add}
 
 -- ## Types
@@ -42,8 +41,7 @@ parameter-add k = record {
         (leaf-adds 2 around.encoding (Inside (parameter k)) (fitting around allowed) (codes "T" ++ ordinal k) (omega (arith, ordinal-long k)) (λ x i. i))
 
     each : AddsAt (parameter k) (fits_of (parameter k)) (λ n. ways_of n (parameter k))
-    each fit.as_type = λ slot around allowed. component-at slot around.encoding (parameter k) (as_component (parameter k) named around allowed)
-        (ways_of around.encoding (parameter k)) (λ x w. w) (whole named around allowed) (whole named around allowed)
+    each fit.as_type = λ slot around allowed. component-at slot _ (λ x w. w) (whole named around allowed) (whole named around allowed)
     each fit.as_prefix = λ around allowed. whole named around allowed
     each fit.as_prefix_template = λ around allowed. whole named around allowed
     each fit.as_argument = λ in_pack around allowed. whole named around allowed
@@ -68,8 +66,7 @@ abbreviation-add l = record {
     whole n = leaf-adds 1 n (Whole (abbreviation l)) lettered (codes "S" ++ l ∷ []) (omega arith) none
 
     each : AddsAt (abbreviation l) (fits_of (abbreviation l)) (λ n. ways_of n (abbreviation l))
-    each fit.as_type = λ slot around allowed. component-at slot around.encoding (abbreviation l) lettered (ways_of around.encoding (abbreviation l))
-        (λ x w. w) (whole around.encoding) (whole around.encoding)
+    each fit.as_type = λ slot around allowed. component-at slot _ (λ x w. w) (whole around.encoding) (whole around.encoding)
     each fit.as_prefix = λ around allowed. whole around.encoding
     each fit.as_prefix_template = λ around allowed. whole around.encoding
     each fit.as_argument = λ in_pack around allowed. whole around.encoding
@@ -87,8 +84,7 @@ builtin-add code = record {
         fewer-added (none-added 1 code (builtin-long slot code fits)) (no-whole (builtin code) (λ h. h) (λ x i. i))
 
     each : AddsAt (builtin code) (fits_of (builtin code)) (λ n. ways_of n (builtin code))
-    each fit.as_type = λ slot around allowed. component-at slot around.encoding (builtin code) (λ place cs. IsBuiltin slot code)
-        (ways_of around.encoding (builtin code)) (λ x w. w) (whole slot around.encoding) (whole slot around.encoding)
+    each fit.as_type = λ slot around allowed. component-at slot _ (λ x w. w) (whole slot around.encoding) (whole slot around.encoding)
     each fit.as_argument = λ in_pack around allowed. whole item_type around.encoding
     each w = (nowhere-ways-add (builtin code) (λ n. ways_of n (builtin code))).at w
 

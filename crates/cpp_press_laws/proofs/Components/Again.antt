@@ -17,8 +17,7 @@ use Rattle.cpp_press_laws.proofs.Components.Complete.{Complete, complete-has}
 use Rattle.cpp_press_laws.specs.Fits.{Slot, any_type, bare_type, parameter_type, IsBuiltin, IsAbbreviation, type_fits, piece_fits, argument_fits, encoding_fits, fits_nowhere, fits_of, PacksFit, MayBeReferred}
 use Rattle.cpp_press_laws.proofs.Slots.{each-slot}
 use Rattle.cpp_press_laws.proofs.Fitting as fit
-use Rattle.cpp_press_laws.proofs.Components.Adding.{AddsParts}
-use Rattle.cpp_press_laws.proofs.Components.AddedWays.{IsNotBare, way_at}
+use Rattle.cpp_press_laws.proofs.Components.AddedWays.{AddsParts, IsNotBare, way_at}
 use Rattle.cpp_press_laws.proofs.Components.AddedTrees.{adds}
 
 -- a type in a function type: it's no component, or one whose packs are those of the whole

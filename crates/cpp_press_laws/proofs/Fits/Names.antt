@@ -19,7 +19,7 @@ use Rattle.cpp_press_laws.proofs.Components.Again.{FunctionStands}
 use Rattle.cpp_press_laws.specs.Fits.{Fitting, as_component, begins_name, names_function, names_member, fits_of, MayBeReferred}
 use Rattle.cpp_press_laws.proofs.Fitting as fit
 use Rattle.cpp_press_laws.proofs.Ways as way
-use Rattle.cpp_press_laws.proofs.Components.Adding.{AddsParts}
+use Rattle.cpp_press_laws.proofs.Components.AddedWays.{AddsParts}
 use Rattle.cpp_press_laws.proofs.Components.AddedTrees.{adds}
 use Rattle.cpp_press_laws.proofs.Fits.Read.{pressed_at, functions-append, Fitted, refitted, and-fitted, bytes-fitted, fitted-bytes, component-fitted, fitted-as}
 use Rattle.cpp_press_laws.proofs.Fits.Types.{may-as, may-as-two}

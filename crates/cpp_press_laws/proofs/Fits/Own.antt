@@ -14,7 +14,7 @@ use Rattle.cpp_press_laws.proofs.Fits.Names.{respelled, PieceFits, ElementsFit, 
 use Rattle.cpp_press_laws.proofs.Fits.Nests.{NestFits, OwnNameFits, EntityFits}
 use Rattle.cpp_press_laws.proofs.Fits.Pieces.{alone-typed, alone-own, alone-before, alone-instance-own, local-entity, local-instance-entity}
 use Rattle.cpp_press_laws.proofs.Fits.Solids.{abbreviation-before, instance-fits}
-use Rattle.cpp_press_laws.proofs.Fits.Found.{referred-before}
+use Rattle.cpp_press_laws.proofs.Fits.References.{referred-before}
 use Rattle.cpp_press_laws.proofs.Fits.Sorts.{KindFits, ArgumentsRead}
 use Rattle.cpp_press_laws.proofs.Fits.Rests.{NestRead, applied-as, std-read}
 

@@ -14,8 +14,7 @@ use Rattle.cpp_press_laws.proofs.Components.KnownTrees.{keeps}
 use Rattle.cpp_press_laws.specs.Fits.{Fitting, Slot, Role, letters_of, IsWithoutLetters, one_piece, begins_name, names_type, names_function, names_in, by_letters, fits_of}
 use Rattle.cpp_press_laws.proofs.Fitting as fit
 use Rattle.cpp_press_laws.proofs.Ways as way
-use Rattle.cpp_press_laws.proofs.Components.Adding.{fewer-by}
-use Rattle.cpp_press_laws.proofs.Components.AddedWays.{in-component, surplus}
+use Rattle.cpp_press_laws.proofs.Components.AddedWays.{fewer-by, in-component, surplus}
 use Rattle.cpp_press_laws.proofs.Components.AddedNames.{either-named}
 use Rattle.cpp_press_laws.proofs.Components.AddedTrees.{adds}
 use Rattle.cpp_press_laws.proofs.Fits.Read.{pressed_at, Fitted, refitted, component-fitted, fitted-as}

@@ -9,8 +9,7 @@ use Rattle.cpp_grammar.specs.References.{appended}
 use Rattle.cpp_press_laws.specs.Components.{Component, Spelling, component}
 use Rattle.cpp_press_laws.proofs.Components.Parts.{IsComponent, Whole}
 use Rattle.cpp_press_laws.proofs.Components.Known.{KeepsTo}
-use Rattle.cpp_press_laws.proofs.Components.Complete.{Complete, StandAmong}
-use Rattle.cpp_press_laws.proofs.Components.Steps.{Allows, component-among}
+use Rattle.cpp_press_laws.proofs.Components.Complete.{Complete, StandAmong, Allows, component-among}
 use Rattle.cpp_press_laws.proofs.Fits.Packs.{StayNamed}
 use Rattle.cpp_press_laws.proofs.Components.Again.{FunctionStands}
 use Rattle.cpp_press_laws.specs.Fits.{Standing, Fitting, Behind, as_component, MayBeReferred}

@@ -10,7 +10,7 @@ use Rattle.cpp_grammar.specs.References.{appended}
 use Rattle.cpp_press_laws.specs.Components.{Component, Spelling, first_equal, reference, ended, spelled_out, referred, component}
 use Rattle.cpp_press_laws.specs.Pressing.{no_ways, name_ways, in_N_and_E, template_before, is_operator, is_encoding, is_one_piece, ways_of}
 use Rattle.cpp_press_laws.proofs.Components.Parts.{IsComponent, Inside}
-use Rattle.cpp_press_laws.proofs.Components.Adding.{AddsParts}
+use Rattle.cpp_press_laws.proofs.Components.AddedWays.{AddsParts}
 use Rattle.cpp_press_laws.proofs.Components.AddedTrees.{adds}
 use Rattle.cpp_press_laws.proofs.Components.Again.{FunctionStands}
 use Rattle.cpp_press_laws.proofs.Components.Complete.{Complete, StandAmong}

@@ -17,9 +17,8 @@ use Rattle.cpp_press_laws.specs.Fits.{Slot, any_type, bare_type, item_type, para
 use Rattle.cpp_press_laws.specs.Spellable.{IsSpellableNumber}
 use Rattle.cpp_press_laws.proofs.Fits.Types.{TypeFits, SolidFits, lvalue-fits, rvalue-fits}
 use Rattle.cpp_press_laws.proofs.Fits.Lists.{list-fits}
-use Rattle.cpp_press_laws.proofs.Fits.References.{Referred, referred-solid, Substituted}
+use Rattle.cpp_press_laws.proofs.Fits.References.{Referred, referred-solid, Substituted, referred-before}
 use Rattle.cpp_press_laws.proofs.Fits.Solids.{LambdasAreBare, ParameterNamed, abbreviation-fits, abbreviation-before, builtin-fits, parameter-fits, parameter-before, instance-fits}
-use Rattle.cpp_press_laws.proofs.Fits.Found.{referred-before}
 use Rattle.cpp_press_laws.proofs.Fits.Arguments.{ArgumentsFit, type-argument, no-arguments-fit, arguments-fit, pack-fits, integer-fits}
 use Rattle.cpp_press_laws.proofs.Fits.Sorts.{takes_literals, NameRead, KindFits, Meant, Later}
 
