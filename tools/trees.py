@@ -173,8 +173,8 @@ def closed_packs():
         if not subtrees: return "refl" if tree[0] == "symbol" else None
         if len(subtrees) == 1: return f"closed-packs scope {subtrees[0][0]} closed"
         a, b = subtrees[0][0], subtrees[1][0]
-        return (f"\n    first-none (pack_length scope {a}) (pack_length scope {b}) (closed-packs scope {a} (left-shut (is_open {a}) (is_open {b}) closed))"
-                f"\n    (closed-packs scope {b} (right-shut (is_open {a}) (is_open {b}) closed))")
+        return (f"\n    first-none (pack_length scope {a}) (pack_length scope {b}) (closed-packs scope {a} (or_parts (is_open {a}) (is_open {b}) closed).0)"
+                f"\n    (closed-packs scope {b} (or_parts (is_open {a}) (is_open {b}) closed).1)")
     return cases("closed-packs", ["scope"], ["closed"], right, "refl", trees)
 
 def by_each(function, lemma, before, others, names):
@@ -211,8 +211,8 @@ def inside_shut():
         elif len(subtrees) == 1: lines.append(f"{left} i = {right(tree, subtrees[0][0], 'closed', 'i')}")
         else:
             tests = " ".join(f"(is_open {name})" for name, sort in subtrees)
-            for (name, sort), side, shut in zip(subtrees, ("inl", "inr"), ("left-shut", "right-shut")):
-                lines.append(f"{left} ({side} i) =\n    {right(tree, name, f'({shut} {tests} closed)', 'i')}")
+            for i, (name, sort) in enumerate(subtrees):
+                lines.append(f"{left} ({'inr' if i else 'inl'} i) =\n    {right(tree, name, f'(or_parts {tests} closed).{i}', 'i')}")
     return lines + ["inside-shut _ x closed i = first_of (assumption i, search i)"]
 
 BEHIND_LETTERS = "IsTemplateBehindLetters own name (name_letters q ref)"
@@ -732,7 +732,6 @@ def declarations():
     yield "cpp_spelling/proofs/Made.antt", "below-later", below_later()
     yield "cpp_spelling/specs/Weight.antt", "weight", fold("weight", [], summed("12"), "12", trees=named(PRESSED))
     nowhere = {"symbol": None, "construction": None, "clone": None, "holder": None, "sized_float": None, "constrained": None, "generic_lambda": None, "bounded": None, "of_default": None, "conversion": None, "inheriting": None, "decltype": None, "operation": None, "function_parameter": None, "absent": None, ("order", "function"): ["name", "returned", "parameters", "q", "ref"]}
-    yield "cpp_press_laws/proofs/Components/FewComponents.antt", "counts", by_each("counts", "few", [], nowhere, {"local": "local-name", "address_of": "address"})
     yield "cpp_press_laws/proofs/EveryWay/Law.antt", "reads", by_each("reads", "reads", ["c"], {**nowhere, ("before", "function"): ["c"]}, {"address_of": "address"})
     yield "cpp_press_laws/proofs/Fits/Packs.antt", "closed-packs", closed_packs()
     yield "cpp_press/proofs/Open.antt", "open-erased", open_erased()

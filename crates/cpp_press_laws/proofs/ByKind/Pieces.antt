@@ -2,7 +2,7 @@
 -- surroundings of its own.
 use Rattle.std.proofs.Common.{◌≡◌, ℕ, ◌+◌, ◌-◌, ◌<◌, ◌⊎◌, inl, inr, List, [], ◌∷◌, ◌++◌, Option, Some, None, Bool, true, false, refl, sym, subst, ◌∙◌, arith}
 use Rattle.std.specs.Prelude.{◌&&◌, cond, codes}
-use Rattle.sym_spell.specs.Pressing.{◌and◌, text}
+use Rattle.sym_spell.specs.Pressing.{◌and◌}
 use Rattle.cpp_grammar.specs.declared.kind.Kind.{Kind}
 use Rattle.cpp_grammar.specs.declared.production.Production.{Production}
 use Rattle.cpp_grammar.specs.Grammar.{choose}
@@ -131,13 +131,10 @@ unfolding fits_of piece_fits fits_nowhere ways_of piece_ways no_ways is_open
 lambda-fits around t k old new more grows shut good one =
     let whole : Term = lambda t k in
     let end : List ℕ = codes "E" ++ ordinal (k - 1) in
-    let F : Fitting = λ inner. (fits_of t).as_parameters item_type (in_signature inner) in
     let s : ℕ → Spelling = λ n. (ways_of n t).as_parameters in
-    refitted around (λ inner allowed place cs. F inner allowed (place + 2) cs) ((fits_of whole).as_piece)
-    (λ n. text (codes "Ul") and s n and text end) whole whole old new (λ n allowed place cs fits. (fits, good)) (λ n allowed may. may)
-    (bytes-fitted around F (codes "Ul") (λ n. s n and text end) whole old new
-    (fitted-bytes around F s end whole old new
+    refitted (bytes-fitted (codes "Ul") (fitted-bytes end
     (signature-fitted around ((fits_of t).as_parameters item_type) s t whole old new more refl grows shut one)))
+    (λ n allowed place cs fits. (fits, good))
 
 -- ## Which pieces are where
 
