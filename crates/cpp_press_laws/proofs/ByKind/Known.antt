@@ -30,7 +30,7 @@ use Rattle.cpp_grammar.proofs.Growing.{same_choice, each_below, below as below_,
 use Rattle.cpp_press_laws.proofs.ByKind.AbiTrees.{known, tree_good}
 use Rattle.cpp_press_laws.specs.Pressing.{is_encoding}
 use Rattle.cpp_press_laws.specs.Fits.{in_type, in_name_with, any_type, names_type, begins_name, names_function, IsSpellableOffset, IsSpellableThunk, IsSpellableDiscriminator, IsSpellableSuffix}
-use Rattle.cpp_press_laws.specs.Spellable.{IsSpellableName, IsSpellableNumber}
+use Rattle.cpp_press_laws.specs.Spellable.{IsSpellableName, IsSpellableNumber, AreSuffixBytes}
 use Rattle.cpp_press_laws.proofs.ByKind.Leaves.{name-read}
 use Rattle.cpp_press_laws.proofs.ByKind.LeafKinds.{byte-read, number-read}
 use Rattle.cpp_press_laws.proofs.ByKind.Steps.{lambdas-go}
@@ -86,8 +86,8 @@ GuardRead around v old new =
 abbrev pub KindRead : Kind → Around → Value → (old new : State) → Type 0
 KindRead Kind.Symbol around v old new = Unit {0}
 KindRead Kind.MaybeSuffix around v old new = (new ≡ old) × IsSpellableSuffix (text_of v)
-KindRead Kind.SuffixFirst around v old new = Unit {0}
-KindRead Kind.SuffixMore around v old new = Unit {0}
+KindRead Kind.SuffixFirst around v old new = (new ≡ old) × IsSpellableSuffix (46 ∷ text_of v)
+KindRead Kind.SuffixMore around v old new = (new ≡ old) × AreSuffixBytes (text_of v)
 KindRead Kind.Encoding around v old new = EncodingRead around v old new
 KindRead Kind.Special around v old new = around.prefix ≡ outermost → SpecialRead around v old new
 KindRead Kind.SpecialMark around v old new = new ≡ old
