@@ -6,13 +6,13 @@ use Rattle.sym_core.specs.declared.NumberKind.{NumberKind}
 use Rattle.sym_core.specs.declared.NumberKind.TheVariants.{Decimal, Digits}
 use Rattle.sym_core.specs.Number.{AreDigits, AreDigitsOf}
 use Rattle.sym_shape.specs.declared.rule.Sym.TheVariants.{Number, Byte}
-use Rattle.sym_shape.specs.Tree.{Tree as Shape, branch, empty, token, fixed}
+use Rattle.sym_shape.specs.Tree.{Tree as Shape, branch, empty, token, fixed, Forest, grown}
 use Rattle.sym_link.specs.Unfold.{found}
 use Rattle.cpp_grammar.specs.declared.kind.Kind.{Kind}
 use Rattle.cpp_grammar.specs.declared.production.Production.{Production}
 use Rattle.cpp_grammar.specs.Grammar.{alternatives, choose, pick, is_in, in_ranges, among, is_chain}
 use Rattle.cpp_grammar.specs.Values.{nothing_there, text, text_of, normal, is_zero, signed_digits}
-use Rattle.cpp_grammar.specs.Unfolding.{byte_of, cpp}
+use Rattle.cpp_grammar.specs.Unfolding.{byte_of, cpp, last_token}
 use Rattle.cpp_grammar.proofs.ClosedStates.{ok_same}
 use Rattle.cpp_press_laws.specs.Fits.{IsSpellableDiscriminator}
 use Rattle.cpp_press_laws.specs.Spellable.{AreSpellableDigits, IsSpellableNumber}
@@ -114,3 +114,14 @@ pub spellable-discriminator : (digits : List ℕ) → AreSpellableDigits Digits 
 spellable-discriminator [] good = good
 spellable-discriminator (d ∷ []) good = digit-chosen d good.are.0
 spellable-discriminator (d ∷ e ∷ ds) good = good
+
+-- ## Digits
+
+-- the digits of the last token are what they are, whatever parts come before it
+pub digits-behind : (t : Shape) (f : Forest) (own : List ℕ) → ((digits : List ℕ) → last_token f digits ≡ own) → (digits : List ℕ)
+    → last_token (grown t f) digits ≡ own
+unfolding last_token
+digits-behind (token t) f own last digits = last t.own
+digits-behind (branch rule taken parts) f own last digits = last digits
+digits-behind empty f own last digits = last digits
+digits-behind (fixed b) f own last digits = last digits

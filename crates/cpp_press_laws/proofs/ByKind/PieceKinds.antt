@@ -29,7 +29,7 @@ use Rattle.cpp_press_laws.proofs.Fits.Names.{PieceFits}
 use Rattle.cpp_press_laws.proofs.ByKind.Rules.{OneOf, OnGoing}
 use Rattle.cpp_press_laws.proofs.ByKind.Leaves.{leaf-same}
 use Rattle.cpp_press_laws.proofs.ByKind.Pieces.{source-fits, operator-fits, literal-operator-fits, unnamed-fits, ShutOrInside, lambda-fits, begins-function}
-use Rattle.cpp_press_laws.proofs.ByKind.LeafKinds.{own-byte}
+use Rattle.cpp_press_laws.proofs.ByKind.LeafKinds.{own-byte, digits-behind}
 use Rattle.cpp_grammar.proofs.Growing.{same_choice, each_below}
 use Rattle.cpp_grammar.proofs.ClosedParts.{StaysInside}
 use Rattle.cpp_press_laws.proofs.ByKind.Known.{KindRead, MarkRead, PartRead, PartsRead, OpenedRead, opened-read, taken-among, comes-as, by-parts, BranchRead}
@@ -248,15 +248,6 @@ last-digits (token t) (grown u f) around at state v new is trees e digits = absu
 last-digits (branch rule taken parts) f around at state v new is trees e digits = absurd is
 last-digits empty f around at state v new is trees e digits = absurd is
 last-digits (fixed b) f around at state v new is trees e digits = absurd is
-
--- other parts before it don't count
-digits-behind : (t : Shape) (f : Forest) (own : List ℕ) → ((digits : List ℕ) → last_token f digits ≡ own) → (digits : List ℕ)
-    → last_token (grown t f) digits ≡ own
-unfolding last_token
-digits-behind (token t) f own last digits = last t.own
-digits-behind (branch rule taken parts) f own last digits = last digits
-digits-behind empty f own last digits = last digits
-digits-behind (fixed b) f own last digits = last digits
 
 -- the same of the parts as they come before the rest
 digits-split : (f : Forest) (t : Shape) (others : Forest) (own : List ℕ) → f ≡ grown t others

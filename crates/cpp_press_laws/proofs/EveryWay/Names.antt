@@ -6,8 +6,7 @@ use Rattle.sym_shape.specs.Tree.{TakesRule}
 use Rattle.sym_spell.specs.Pressing.{◌and◌, text}
 use Rattle.cpp_grammar.specs.declared.kind.Kind.{Kind}
 use Rattle.cpp_grammar.specs.declared.production.Production.{Production}
-use Rattle.cpp_grammar.specs.KindNumbers.{COMPLETE_NAME, NEST, ARGUMENT_LIST}
-use Rattle.cpp_grammar.specs.Grammar.{in_ranges, among, is_in, pick, alternatives, choose, kinds, is_chain}
+use Rattle.cpp_grammar.specs.KindNumbers.{COMPLETE_NAME, ARGUMENT_LIST}
 use Rattle.cpp_grammar.specs.Table.{abi, rule_of}
 use Rattle.cpp_grammar.specs.Term.{Qualifiers, RefQualifier, any_value, lvalue_only, rvalue_only, Term, alone, instance}
 use Rattle.cpp_grammar.specs.Values.{outermost, Around, Value, tree, named, tree_of, qualifiers_of, ref_of, unqualified}
@@ -17,17 +16,16 @@ use Rattle.cpp_press_laws.specs.Texts.{qualifier_letters, mark_letter, name_lett
 use Rattle.cpp_press_laws.specs.Components.{Component, Spelling, ended, component}
 use Rattle.cpp_press_laws.specs.Pressing.{ways_of, no_ways, name_ways, with_letters, in_N_and_E, template_before}
 use Rattle.cpp_press_laws.specs.Subtrees.{Written, written, ReadsAt, Is, HasRoom}
-use Rattle.cpp_press_laws.proofs.ReadBack.Reading.{takes-byte}
-use Rattle.cpp_press_laws.proofs.ReadBack.Types.{more}
+use Rattle.cpp_press_laws.proofs.ReadBack.Reading.{takes-byte, more, elsewhere, grammar, same-written}
 use Rattle.cpp_press_laws.proofs.ReadBack.Functions.{mark_bytes}
 use Rattle.cpp_press_laws.proofs.ReadBack.Names.{SoFar, Extends, nest-whole}
-use Rattle.cpp_press_laws.proofs.ReadBack.Encodings.{ref_bytes, nested-name}
+use Rattle.cpp_press_laws.proofs.ReadBack.Encodings.{nested-name}
 use Rattle.cpp_press_laws.proofs.Components.Keeping.{keeps-text, keeps-and, keeps-ended, keeps}
 use Rattle.cpp_press_laws.proofs.ReadBack.Slots.{room-first, room-rest, ReadsAs, solid_kind, in-slot, fitting-in}
 use Rattle.cpp_press_laws.proofs.ReadBack.Named.{NameRule, own-rule}
 use Rattle.cpp_press_laws.proofs.ReadBack.Between.{ElementsRead, named-piece, ExtendsWith, extends-with-behind-s, prefix-behind-s, prefix-piece, prefix-with-piece}
 use Rattle.cpp_press_laws.proofs.ReadBack.Templates.{slot-rules, TemplateKind, of_elements, ReadElements, elements-room, template-reads}
-use Rattle.cpp_press_laws.proofs.EveryWay.Every.{NameReads, TemplateReads, template-value, Leads, slot_way, typed-argument, reads-nowhere}
+use Rattle.cpp_press_laws.proofs.EveryWay.Every.{NameReads, TemplateReads, template-value, Leads, typed-argument, reads-nowhere}
 use Rattle.cpp_press_laws.proofs.EveryWay.Types.{Reading, ReadingAt}
 use Rattle.cpp_press_laws.specs.Fits.{Slot, any_type, bare_type, item_type, parameter_type, literal_type, Fitting, as_component, one_piece, names_type, names_function, begins_name, IsWithoutLetters, by_letters, fits_nowhere, fits_of}
 use Rattle.cpp_press_laws.proofs.Slots.{each-slot}
@@ -35,30 +33,15 @@ use Rattle.cpp_press_laws.proofs.Spots as spot
 
 -- ## Letters
 
-mark-letters : (b : Bool) (byte : ℕ) → mark_bytes b byte ≡ cond b (byte ∷ []) []
-mark-letters true byte = refl
-mark-letters false byte = refl
-
-ref-letters : (ref : RefQualifier) → ref_bytes ref ≡ mark_letter ref
-unfolding mark_letter
-ref-letters any_value = refl
-ref-letters lvalue_only = refl
-ref-letters rvalue_only = refl
-
 letters-joined : (a b c d x : List ℕ) → a ++ (b ++ (c ++ (d ++ x))) ≡ ((a ++ b ++ c) ++ d) ++ x
 letters-joined a b c d x =
     sym (append_assoc a b (c ++ (d ++ x))) ∙ sym (append_assoc (a ++ b) c (d ++ x)) ∙ sym (append_assoc ((a ++ b) ++ c) d x)
 
 -- the letters of a name between N and E
 letters-are : (q : Qualifiers) (ref : RefQualifier) (x : List ℕ)
-    → mark_bytes q.restrict 114 ++ (mark_bytes q.volatile 86 ++ (mark_bytes q.const 75 ++ (ref_bytes ref ++ x))) ≡ name_letters q ref ++ x
+    → mark_bytes q.restrict 114 ++ (mark_bytes q.volatile 86 ++ (mark_bytes q.const 75 ++ (mark_letter ref ++ x))) ≡ name_letters q ref ++ x
 unfolding name_letters qualifier_letters
-letters-are q ref x =
-    letters-joined (mark_bytes q.restrict 114) (mark_bytes q.volatile 86) (mark_bytes q.const 75) (ref_bytes ref) x
-    ∙ ap (λ l. ((l ++ mark_bytes q.volatile 86 ++ mark_bytes q.const 75) ++ ref_bytes ref) ++ x) (mark-letters q.restrict 114)
-    ∙ ap (λ l. ((cond q.restrict (114 ∷ []) [] ++ l ++ mark_bytes q.const 75) ++ ref_bytes ref) ++ x) (mark-letters q.volatile 86)
-    ∙ ap (λ l. ((cond q.restrict (114 ∷ []) [] ++ cond q.volatile (86 ∷ []) [] ++ l) ++ ref_bytes ref) ++ x) (mark-letters q.const 75)
-    ∙ ap (λ l. ((cond q.restrict (114 ∷ []) [] ++ cond q.volatile (86 ∷ []) [] ++ cond q.const (75 ∷ []) []) ++ l) ++ x) (ref-letters ref)
+letters-are q ref x = letters-joined (mark_bytes q.restrict 114) (mark_bytes q.volatile 86) (mark_bytes q.const 75) (mark_letter ref) x
 
 -- a name between N and E, after the letters of its encoding
 pub letters-nested : (k : ℕ) (around : Around) (allowed : Option ℕ) (t : Term) (q : Qualifiers) (ref : RefQualifier) (place : ℕ)
@@ -74,23 +57,21 @@ letters-nested k around allowed t q ref place cs w takes so_far =
       tree_is = refl;
       qualifiers_are = refl;
       ref_is = refl;
-      reads = subst (λ l. ReadsAt around allowed (OfKind k) (Is (named t q ref)) place cs (written (78 ∷ l) w.components))
-          (letters-are q ref whole.bytes)
+      reads = same-written (ap (λ l. 78 ∷ l) (letters-are q ref whole.bytes))
           (nested-name k around allowed t false q.restrict q.volatile q.const ref place cs whole takes
-          (subst (λ p. ReadsAt around allowed (OfKind NEST) (Is (tree t false)) p cs whole) (there whole.bytes)
-          (nest-whole around allowed t at cs w so_far)));
+          (elsewhere (there whole.bytes) (nest-whole around allowed t at cs w so_far)));
     }
   where
     there : (x : List ℕ) → place + length (78 ∷ name_letters q ref) ≡ place + 1 + length (mark_bytes q.restrict 114)
-        + length (mark_bytes q.volatile 86) + length (mark_bytes q.const 75) + length (ref_bytes ref)
+        + length (mark_bytes q.volatile 86) + length (mark_bytes q.const 75) + length (mark_letter ref)
     there x = omega (
       arith,
       ap length (letters-are q ref []),
       ap length (append-nil (name_letters q ref)),
-      length-append (mark_bytes q.restrict 114) (mark_bytes q.volatile 86 ++ (mark_bytes q.const 75 ++ (ref_bytes ref ++ []))),
-      length-append (mark_bytes q.volatile 86) (mark_bytes q.const 75 ++ (ref_bytes ref ++ [])),
-      length-append (mark_bytes q.const 75) (ref_bytes ref ++ []),
-      length-append (ref_bytes ref) [],
+      length-append (mark_bytes q.restrict 114) (mark_bytes q.volatile 86 ++ (mark_bytes q.const 75 ++ (mark_letter ref ++ []))),
+      length-append (mark_bytes q.volatile 86) (mark_bytes q.const 75 ++ (mark_letter ref ++ [])),
+      length-append (mark_bytes q.const 75) (mark_letter ref ++ []),
+      length-append (mark_letter ref) [],
     )
 
 -- without letters there are no qualifiers and no mark
@@ -138,7 +119,7 @@ no-qualifiers k around allowed t q ref place cs w none one =
     }
 
 takes-nested-name : TakesRule abi 8 (rule_of Production.NestedName) (78 ∷ [])
-unfolding choose alternatives pick is_in in_ranges among kinds is_chain
+unfolding grammar
 takes-nested-name = takes-byte COMPLETE_NAME Kind.CompleteName Production.NestedName 78 refl refl (omega arith) refl
 
 -- the room of a name after letters
@@ -240,12 +221,8 @@ reads-alone p r = record {
         (named-piece around allowed (solid_kind slot) p (alone p) place cs ((ways_of around.encoding p).as_piece place cs)
         (r.at spot.as_piece around allowed place cs small enough fits.2) ((slot-rules slot).names p fits.1) (outermost-alone around p fits.0)).bare)
 
-    as_types : (slot : Slot) → Leads (λ n. slot_way slot (ways_of n (alone p))) ((fits_of (alone p)).as_type slot)
-        (λ around allowed. ReadsAs slot around allowed (alone p))
-    as_types = each-slot _ (whole any_type) (whole bare_type) (whole item_type) (whole parameter_type) (whole literal_type)
-
     each : ReadingAt (alone p)
-    each spot.as_type = as_types
+    each spot.as_type = each-slot _ (whole any_type) (whole bare_type) (whole item_type) (whole parameter_type) (whole literal_type)
     each spot.as_prefix = λ around allowed place cs small room h.
         fitting-in around allowed (alone p) (Extends around allowed (alone p)) place cs (ways_of around.encoding p).as_piece
         (one_piece outermost (begins_name p) (fits_of p).as_piece)

@@ -5,14 +5,13 @@ use Rattle.sym_shape.specs.declared.rule.Sym.TheVariants.{Kind as OfKind}
 use Rattle.cpp_grammar.specs.declared.kind.Kind.{Kind}
 use Rattle.cpp_grammar.specs.declared.production.Production.{Production}
 use Rattle.cpp_grammar.specs.KindNumbers.{SOLID, FUNCTION_REST}
-use Rattle.cpp_grammar.specs.Grammar.{in_ranges, among, is_in, pick, alternatives, choose, kinds, is_chain}
 use Rattle.cpp_grammar.specs.Term.{RefQualifier, any_value, lvalue_only, rvalue_only, Term, builtin, nil, list}
 use Rattle.cpp_grammar.specs.Values.{Around, signature}
 use Rattle.cpp_press_laws.specs.Components.{Component}
 use Rattle.cpp_press_laws.specs.Texts.{mark_letter}
 use Rattle.cpp_press_laws.specs.Pressing.{ways_of, type_ways}
 use Rattle.cpp_press_laws.specs.Subtrees.{Written, written, ReadsAt, Is}
-use Rattle.cpp_press_laws.proofs.ReadBack.Reading.{takes-byte}
+use Rattle.cpp_press_laws.proofs.ReadBack.Reading.{takes-byte, grammar}
 use Rattle.cpp_press_laws.proofs.ReadBack.Types.{types-parameter}
 use Rattle.cpp_press_laws.proofs.ReadBack.Functions.{rest-ends, rest-ends-lvalue, rest-ends-rvalue, rest-item}
 use Rattle.cpp_press_laws.proofs.ReadBack.Solids.{builtin-solid}
@@ -32,7 +31,7 @@ end-reads around allowed rvalue_only place cs = rest-ends-rvalue around allowed 
 -- no parameters
 pub none-read : (around : Around) (allowed : Option ℕ) (ref : RefQualifier) (place : ℕ) (cs : List Component)
     → RestReads around allowed (list (builtin (118 ∷ [])) nil) ref place cs (written (118 ∷ (mark_letter ref ++ codes "E")) cs)
-unfolding choose alternatives pick is_in in_ranges among kinds is_chain ways_of type_ways
+unfolding grammar ways_of type_ways
 none-read around allowed ref place cs =
     rest-item around allowed (builtin (118 ∷ [])) nil ref place cs (written (118 ∷ []) cs) (written (mark_letter ref ++ codes "E") cs)
     ((types-parameter around allowed (builtin (118 ∷ []))).solid.keeps (place + 0) cs (written (118 ∷ []) cs)

@@ -5,23 +5,22 @@ use Rattle.sym_shape.specs.Tree.{TakesRule}
 use Rattle.cpp_grammar.specs.declared.kind.Kind.{Kind}
 use Rattle.cpp_grammar.specs.declared.production.Production.{Production}
 use Rattle.cpp_grammar.specs.KindNumbers.{NEST_REST, NEST_TAIL, ABBREVIATION}
-use Rattle.cpp_grammar.specs.Grammar.{in_ranges, among, is_in, pick, alternatives, choose, kinds, is_chain}
 use Rattle.cpp_grammar.specs.Table.{abi, rule_of}
 use Rattle.cpp_grammar.specs.Term.{Term}
 use Rattle.cpp_grammar.specs.Values.{Around, tree}
 use Rattle.cpp_press_laws.specs.Components.{Component}
 use Rattle.cpp_press_laws.specs.Subtrees.{Written, written, ReadsAt, Is}
-use Rattle.cpp_press_laws.proofs.ReadBack.Reading.{takes-none}
-use Rattle.cpp_press_laws.proofs.ReadBack.Names.{Extends, extends-same}
+use Rattle.cpp_press_laws.proofs.ReadBack.Reading.{takes-none, grammar}
+use Rattle.cpp_press_laws.proofs.ReadBack.Names.{Extends, extends}
 use Rattle.cpp_press_laws.proofs.ReadBack.Nests.{nest-behind-s}
 
 -- one more piece may follow the first part of a name, or a piece after it
 pub next-17 : TakesRule abi 17 (rule_of Production.NestNext) []
-unfolding choose alternatives pick is_in in_ranges among kinds is_chain
+unfolding grammar
 next-17 = takes-none NEST_REST Kind.NestRest Production.NestNext 48 refl refl (omega arith) refl
 
 pub next-18 : TakesRule abi 18 (rule_of Production.NestNext) []
-unfolding choose alternatives pick is_in in_ranges among kinds is_chain
+unfolding grammar
 next-18 = takes-none NEST_TAIL Kind.NestTail Production.NestNext 48 refl refl (omega arith) refl
 
 -- an abbreviation or a reference as a prefix
@@ -29,5 +28,5 @@ pub extends-behind-s : (around : Around) (allowed : Option ℕ) (t : Term) (plac
     → ReadsAt around allowed (OfKind ABBREVIATION) (Is (tree t true)) (place + 1 + 0) cs first
     → Extends around allowed t place cs (written (83 ∷ first.bytes) first.components)
 extends-behind-s around allowed t place cs first one =
-    extends-same NEST_REST around allowed t place cs (written (83 ∷ first.bytes) first.components) next-17
+    extends true NEST_REST around allowed t place cs (written (83 ∷ first.bytes) first.components) next-17
     (nest-behind-s around allowed t place cs first one)
