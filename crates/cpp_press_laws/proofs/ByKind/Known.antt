@@ -511,13 +511,6 @@ pub fits-by-parts : (k : Kind) (p : Production) → IsPlain p → StaysInside p 
     → KindFits k around v old new
 fits-by-parts k p plain stays {kind} {around} {at} {old} {v} {new} o holds = by-parts (λ w s. KindFits k around w old s) p plain stays o holds
 
--- of a kind
-pub kind-comes : (kind : Kind) (p : Production) → IsPlain p → (byte : ℕ) (around : Around) (at : ℕ) (old : State) (vs : List Value)
-    (mid : State) (v : Value) (new : State) → close p byte around at old vs mid ≡ Ok (found v new)
-    → KindRead kind around (Meant p byte around vs) old (Later p byte around old vs mid) → KindRead kind around v old new
-kind-comes kind p plain byte around at old vs mid v new e one =
-    comes-as (λ w s. KindRead kind around w old s) p plain byte around at old vs mid v new e one
-
 -- what is known of each branch of a kind, where its parts were read
 abbrev pub BranchTo : Kind → (Around → Value → (old new : State) → Type 0) → Type 0
 BranchTo kind R =

@@ -17,17 +17,16 @@ use Rattle.cpp_press_laws.specs.Components.{Component, Spelling, component}
 use Rattle.cpp_press_laws.specs.Pressing.{ways_of, no_ways, type_ways, function_text}
 use Rattle.cpp_press_laws.specs.Subtrees.{Written, written, ReadsAt, Is, HasRoom, IsSmall}
 use Rattle.cpp_press_laws.proofs.ReadBack.Reading.{takes-byte, empty-reads, elsewhere, more, grammar}
-use Rattle.cpp_press_laws.proofs.ReadBack.Types.{function-under-qualifiers, noexcept-under-qualifiers}
+use Rattle.cpp_press_laws.proofs.ReadBack.Types.{function-under-qualifiers, noexcept-under-qualifiers, types-parameter}
 use Rattle.cpp_press_laws.proofs.ReadBack.Solids.{builtin-solid}
-use Rattle.cpp_press_laws.proofs.ReadBack.Functions.{function-solid, noexcept-behind-d, mark_bytes}
-use Rattle.cpp_press_laws.proofs.ReadBack.Arguments.{items_value, items-more}
+use Rattle.cpp_press_laws.proofs.ReadBack.Functions.{function-solid, noexcept-behind-d, mark_bytes, RestReads, end-reads, rest-item}
+use Rattle.cpp_press_laws.proofs.ReadBack.Arguments.{items_value, items-more, list_kind}
 use Rattle.cpp_press_laws.proofs.ReadBack.Names.{Extends}
-use Rattle.cpp_press_laws.proofs.ReadBack.Parameters.{RestReads, end-reads, none-read}
 use Rattle.cpp_press_laws.proofs.Components.Keeping.{Keeps, keeps-text, keeps-and, keeps-front, keeps-behind, keeps}
 use Rattle.cpp_press_laws.proofs.ReadBack.Slots.{room-first, room-rest, ReadsAs, is_bare, in-slot, fitting-in}
 use Rattle.cpp_press_laws.proofs.ReadBack.Between.{ExtendsWith, extends-with-behind-s, prefix-behind-s}
-use Rattle.cpp_press_laws.proofs.EveryWay.Every.{template-value, ListReads, list_kind, with_end, Leads, slot_way, typed-argument, referred-before, reads-nowhere, ParametersRead}
-use Rattle.cpp_press_laws.proofs.EveryWay.Types.{Reading, ReadingAt, solid-in-all, with-d-in-all}
+use Rattle.cpp_press_laws.proofs.EveryWay.Every.{template-value, ListReads, with_end, Leads, slot_way, typed-argument, referred-before, reads-nowhere, ParametersRead}
+use Rattle.cpp_press_laws.proofs.EveryWay.Types.{Reading, ReadingAt, solid-in-all, with-d-in}
 use Rattle.cpp_press_laws.proofs.EveryWay.Instances.{items-kept}
 use Rattle.cpp_press_laws.specs.Fits.{takes_all, Slot, any_type, bare_type, item_type, parameter_type, literal_type, takes_all, Fitting, as_component, nowhere, Behind, type_fits, fits_nowhere, fits_of}
 use Rattle.cpp_press_laws.proofs.Spots as spot
@@ -45,6 +44,16 @@ void-item around allowed place cs =
 empty-list : (k : ℕ) (kind : Kind) (around : Around) (allowed : Option ℕ) (place : ℕ) (cs : List Component) → slice_get kinds k ≡ Some kind
     → may_be_empty kind ≡ true → ListReads k around allowed nil place cs (written [] cs)
 empty-list k kind around allowed place cs at may = (items-kept nil, empty-reads kind at may)
+
+-- no parameters of a function type
+none-read : (around : Around) (allowed : Option ℕ) (ref : RefQualifier) (place : ℕ) (cs : List Component)
+    → RestReads around allowed (list (builtin (118 ∷ [])) nil) ref place cs (written (118 ∷ (mark_letter ref ++ codes "E")) cs)
+unfolding grammar ways_of type_ways
+none-read around allowed ref place cs =
+    rest-item around allowed (builtin (118 ∷ [])) nil ref place cs (written (118 ∷ []) cs) (written (mark_letter ref ++ codes "E") cs)
+    ((types-parameter around allowed (builtin (118 ∷ []))).solid.keeps (place + 0) cs (written (118 ∷ []) cs)
+    (builtin-solid SOLID around allowed 118 (place + 0 + 0) cs (takes-byte SOLID Kind.Solid Production.Builtin 118 refl refl (omega arith) refl)))
+    (end-reads around allowed ref (place + 0 + 1) cs)
 
 pub reads-nil : Reading nil
 unfolding ways_of fits_of fits_nowhere no_ways parameters is_void is_nil no_items kinds may_be_empty
@@ -254,7 +263,7 @@ function-in : (noexcept : Bool) (slot : Slot) (around : Around) (allowed : Optio
 function-in false slot around allowed t place cs w all bare one = solid-in-all slot around allowed t place cs w all bare one
 function-in true slot around allowed t place cs w all bare (inner, is, one) =
     subst (λ v. ReadsAs slot around allowed t place cs (written v.bytes (more around v.components t))) (sym is)
-    (with-d-in-all slot around allowed t place cs inner all bare one)
+    ((with-d-in slot around allowed t all bare).0 place cs inner one)
 
 -- and right under qualifiers
 function-bare : (noexcept : Bool) (around : Around) (allowed : Option ℕ) (t : Term) (place : ℕ) (cs : List Component) (w : Written)

@@ -1,5 +1,5 @@
 -- Names of a piece, alone and after St, are read in each of their ways.
-use Rattle.std.proofs.Common.{◌≡◌, ℕ, ◌+◌, length, List, [], ◌∷◌, ◌++◌, Option, Bool, true, false, refl, ap, arith, sym, subst, ◌∙◌, append-nil, append_assoc, length-append}
+use Rattle.std.proofs.Common.{◌≡◌, ℕ, ◌+◌, length, List, [], ◌∷◌, ◌++◌, Option, Bool, true, false, refl, ap, arith, sym, subst, ◌∙◌, append_assoc, length-append}
 use Rattle.std.specs.Prelude.{cond, codes}
 use Rattle.sym_shape.specs.declared.rule.Sym.TheVariants.{Kind as OfKind}
 use Rattle.sym_shape.specs.Tree.{TakesRule}
@@ -37,42 +37,28 @@ letters-joined : (a b c d x : List ℕ) → a ++ (b ++ (c ++ (d ++ x))) ≡ ((a 
 letters-joined a b c d x =
     sym (append_assoc a b (c ++ (d ++ x))) ∙ sym (append_assoc (a ++ b) c (d ++ x)) ∙ sym (append_assoc ((a ++ b) ++ c) d x)
 
--- the letters of a name between N and E
-letters-are : (q : Qualifiers) (ref : RefQualifier) (x : List ℕ)
-    → mark_bytes q.restrict 114 ++ (mark_bytes q.volatile 86 ++ (mark_bytes q.const 75 ++ (mark_letter ref ++ x))) ≡ name_letters q ref ++ x
-unfolding name_letters qualifier_letters
-letters-are q ref x = letters-joined (mark_bytes q.restrict 114) (mark_bytes q.volatile 86) (mark_bytes q.const 75) (mark_letter ref) x
-
 -- a name between N and E, after the letters of its encoding
 pub letters-nested : (k : ℕ) (around : Around) (allowed : Option ℕ) (t : Term) (q : Qualifiers) (ref : RefQualifier) (place : ℕ)
     (cs : List Component) (w : Written) → TakesRule abi k (rule_of Production.NestedName) (78 ∷ [])
     → SoFar around allowed t false 18 (place + length (78 ∷ name_letters q ref)) cs w
     → NameReads around allowed k t q ref place cs (written ((78 ∷ name_letters q ref) ++ (w.bytes ++ (69 ∷ []))) w.components)
-unfolding tree_of qualifiers_of ref_of
+unfolding tree_of qualifiers_of ref_of name_letters qualifier_letters
 letters-nested k around allowed t q ref place cs w takes so_far =
+    let r : List ℕ = mark_bytes q.restrict 114 in
+    let v : List ℕ = mark_bytes q.volatile 86 in
+    let c : List ℕ = mark_bytes q.const 75 in
+    let m : List ℕ = mark_letter ref in
     let whole : Written = written (w.bytes ++ (69 ∷ [])) w.components in
-    let at : ℕ = place + length (78 ∷ name_letters q ref) in
     record {
       value = named t q ref;
       tree_is = refl;
       qualifiers_are = refl;
       ref_is = refl;
-      reads = same-written (ap (λ l. 78 ∷ l) (letters-are q ref whole.bytes))
+      reads = same-written (ap (λ l. 78 ∷ l) (letters-joined r v c m whole.bytes))
           (nested-name k around allowed t false q.restrict q.volatile q.const ref place cs whole takes
-          (elsewhere (there whole.bytes) (nest-whole around allowed t at cs w so_far)));
+          (elsewhere (omega (arith, length-append ((r ++ v) ++ c) m, length-append (r ++ v) c, length-append r v))
+          (nest-whole around allowed t (place + length (78 ∷ name_letters q ref)) cs w so_far)));
     }
-  where
-    there : (x : List ℕ) → place + length (78 ∷ name_letters q ref) ≡ place + 1 + length (mark_bytes q.restrict 114)
-        + length (mark_bytes q.volatile 86) + length (mark_bytes q.const 75) + length (mark_letter ref)
-    there x = omega (
-      arith,
-      ap length (letters-are q ref []),
-      ap length (append-nil (name_letters q ref)),
-      length-append (mark_bytes q.restrict 114) (mark_bytes q.volatile 86 ++ (mark_bytes q.const 75 ++ (mark_letter ref ++ []))),
-      length-append (mark_bytes q.volatile 86) (mark_bytes q.const 75 ++ (mark_letter ref ++ [])),
-      length-append (mark_bytes q.const 75) (mark_letter ref ++ []),
-      length-append (mark_letter ref) [],
-    )
 
 -- without letters there are no qualifiers and no mark
 pub without-letters : (q : Qualifiers) (ref : RefQualifier) → name_letters q ref ≡ [] → (unqualified ≡ q) × (any_value ≡ ref)

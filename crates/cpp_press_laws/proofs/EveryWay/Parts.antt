@@ -20,8 +20,8 @@ use Rattle.cpp_press_laws.specs.Subtrees.{Written, written, ReadsAt, Is, HasRoom
 use Rattle.cpp_press_laws.proofs.ReadBack.Reading.{takes-byte, elsewhere, same-written, more}
 use Rattle.cpp_press_laws.proofs.ReadBack.Solids.{builtin-solid, builtin-behind-d}
 use Rattle.cpp_press_laws.proofs.ReadBack.Functions.{IsInScope, parameter-solid}
-use Rattle.cpp_press_laws.proofs.ReadBack.Arguments.{items_value, any-argument, any-element, integer-reads}
-use Rattle.cpp_press_laws.proofs.ReadBack.Literals.{boolean-literal, null-literal, char-literal, encoding-literal, literal-argument, literal-element, pack-argument, address-reads}
+use Rattle.cpp_press_laws.proofs.ReadBack.Arguments.{items_value, any-argument, integer-reads}
+use Rattle.cpp_press_laws.proofs.ReadBack.Literals.{boolean-literal, null-literal, char-literal, encoding-literal, literal-argument, pack-argument, address-reads}
 use Rattle.cpp_press_laws.proofs.ReadBack.Names.{Extends}
 use Rattle.cpp_press_laws.proofs.ReadBack.Solids.{abbreviation-behind-s}
 use Rattle.cpp_press_laws.proofs.Components.Keeping.{keeps-text}
@@ -30,7 +30,7 @@ use Rattle.cpp_press_laws.proofs.ReadBack.Named.{source-reads, operator-piece-re
 use Rattle.cpp_press_laws.proofs.ReadBack.Between.{ExtendsWith, extends-with-behind-s, prefix-behind-s, prefix-parameter, prefix-with-parameter}
 use Rattle.cpp_press_laws.proofs.ReadBack.Templates.{slot-rules, TemplateKind, InstancedAt, instanced-behind-s, parameter-instanced, of_elements, elements-room}
 use Rattle.cpp_press_laws.proofs.EveryWay.Every.{template-value, ArgumentReads, Leads, typed-argument, reads-piece, reads-argument, reads-nowhere}
-use Rattle.cpp_press_laws.proofs.EveryWay.Types.{Reading, ReadingAt, with-d-kept}
+use Rattle.cpp_press_laws.proofs.EveryWay.Types.{Reading, ReadingAt, with-d-in}
 use Rattle.cpp_press_laws.specs.Fits.{Slot, any_type, bare_type, item_type, parameter_type, literal_type, takes_all, IsBuiltin, IsAbbreviation, NamesArgument, Fitting, as_component, nowhere, type_fits, fits_nowhere, fits_of}
 use Rattle.cpp_press_laws.proofs.Slots.{each-slot}
 use Rattle.cpp_press_laws.proofs.Spots as spot
@@ -93,7 +93,7 @@ with-d : (slot : Slot) (around : Around) (allowed : Option ℕ) (d b place : ℕ
 unfolding is_function_type
 with-d slot around allowed d b place cs all is =
     subst (λ x. ReadsAs slot around allowed (builtin (x ∷ b ∷ [])) place cs (written (x ∷ b ∷ []) cs)) (sym is.0)
-    (with-d-kept slot around allowed (builtin (68 ∷ b ∷ [])) place cs (written (b ∷ []) cs) all refl
+    ((with-d-in slot around allowed (builtin (68 ∷ b ∷ [])) all refl).1 place cs (written (b ∷ []) cs)
     (builtin-behind-d around allowed b (place + 1) cs is.1 is.2))
 
 builtin-in : (slot : Slot) (around : Around) (allowed : Option ℕ) (code : List ℕ) (place : ℕ) (cs : List Component) → IsBuiltin slot code
@@ -229,12 +229,9 @@ reads-parameter j = record {
 literal-in : (in_pack : Bool) (around : Around) (allowed : Option ℕ) (t : Term) (place : ℕ) (cs : List Component) (w : Written)
     → ReadsAt around allowed (OfKind LITERAL) (Is (tree t true)) (place + 1) cs w
     → ArgumentReads in_pack around allowed t place cs (written (76 ∷ (w.bytes ++ (69 ∷ []))) w.components)
-literal-in true around allowed t place cs w one items last rest are two =
+literal-in in_pack around allowed t place cs w one items last rest are two =
     same-written (ap (λ l. 76 ∷ l) (sym (append_assoc w.bytes (69 ∷ []) rest.bytes)))
-    (literal-element around allowed t items last place cs w rest are one (elsewhere (omega (arith, length-append w.bytes (69 ∷ []))) two))
-literal-in false around allowed t place cs w one items last rest are two =
-    same-written (ap (λ l. 76 ∷ l) (sym (append_assoc w.bytes (69 ∷ []) rest.bytes)))
-    (literal-argument around allowed t items last place cs w rest are one (elsewhere (omega (arith, length-append w.bytes (69 ∷ []))) two))
+    (literal-argument in_pack around allowed t items last place cs w rest are one (elsewhere (omega (arith, length-append w.bytes (69 ∷ []))) two))
 
 pub reads-integer : (t : Term) (n : Signed) → Reading t → Reading (integer t n)
 unfolding ways_of fits_of argument_ways no_ways
@@ -282,10 +279,8 @@ reads-encoding-literal e r =
 
 address-in : (in_pack : Bool) (around : Around) (allowed : Option ℕ) (t : Term) (place : ℕ) (cs : List Component) (w : Written)
     → ReadsAt around allowed (OfKind ARGUMENT) (Is (tree t true)) place cs w → ArgumentReads in_pack around allowed t place cs w
-address-in true around allowed t place cs w one items last rest are two =
-    any-element around allowed t items last place cs w rest are (elsewhere (omega arith) one) (elsewhere (omega arith) two)
-address-in false around allowed t place cs w one items last rest are two =
-    any-argument around allowed t items last place cs w rest are (elsewhere (omega arith) one) (elsewhere (omega arith) two)
+address-in in_pack around allowed t place cs w one items last rest are two =
+    any-argument in_pack around allowed t items last place cs w rest are (elsewhere (omega arith) one) (elsewhere (omega arith) two)
 
 pub reads-address : (e : Term) → Reading e → Reading (address_of e)
 unfolding ways_of fits_of argument_ways no_ways

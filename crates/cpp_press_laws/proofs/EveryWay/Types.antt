@@ -1,5 +1,5 @@
 -- Types are read in each of their ways.
-use Rattle.std.proofs.Common.{◌≡◌, ℕ, ◌+◌, length, List, [], ◌∷◌, ◌++◌, Option, Bool, true, false, refl, ap, arith, sym, subst, append_assoc, length-append, Some}
+use Rattle.std.proofs.Common.{◌≡◌, ℕ, ◌+◌, length, List, [], ◌∷◌, ◌++◌, Option, Bool, true, false, refl, ap, arith, sym, subst, append_assoc, length-append, Some, ◌∙◌}
 use Rattle.std.specs.Prelude.{codes, ◌&&◌, ◌||◌, slice_get}
 use Rattle.sym_shape.specs.declared.rule.Sym.TheVariants.{Kind as OfKind}
 use Rattle.sym_shape.specs.Tree.{TakesRule}
@@ -29,6 +29,7 @@ use Rattle.cpp_press_laws.proofs.EveryWay.Every.{ReadsSpots, ReadsAll, reads-typ
 use Rattle.cpp_press_laws.specs.Fits.{Slot, any_type, bare_type, item_type, parameter_type, literal_type, takes_all, takes_qualified, takes_expansions, has_letters, fits_of}
 use Rattle.cpp_press_laws.proofs.Slots.{each-slot}
 use Rattle.cpp_press_laws.proofs.Spots as spot
+use Rattle.std.proofs.Math.Bool.{and-true}
 
 -- ## What all slots but that of literals take
 
@@ -43,37 +44,21 @@ pub solid-in-all : (slot : Slot) (around : Around) (allowed : Option ℕ) (t : T
 unfolding takes_all
 solid-in-all = each-slot _ (λ around allowed t place cs w all bare one. (in-slot any_type around allowed t bare).adds place cs w one) (λ around allowed t place cs w all bare one. (in-slot bare_type around allowed t bare).adds place cs w one) (λ around allowed t place cs w all bare one. (in-slot item_type around allowed t bare).adds place cs w one) (λ around allowed t place cs w all bare one. (in-slot parameter_type around allowed t bare).adds place cs w one) (λ around allowed t place cs w all bare one. absurd (no-slot all))
 
--- what follows a D
-pub with-d-in-all : (slot : Slot) (around : Around) (allowed : Option ℕ) (t : Term) (place : ℕ) (cs : List Component) (w : Written)
-    → takes_all slot ≡ true → is_function_type t && is_bare slot ≡ false
-    → ReadsAt around allowed (OfKind AFTER_D) (Is (tree t false)) (place + 1) cs w
-    → ReadsAs slot around allowed t place cs (written (68 ∷ w.bytes) (more around w.components t))
+-- a type that begins with a D: it becomes a component, or is one already or never is one
+pub with-d-in : (slot : Slot) (around : Around) (allowed : Option ℕ) (t : Term) → takes_all slot ≡ true → is_function_type t && is_bare slot ≡ false
+    → ((place : ℕ) (cs : List Component) (w : Written) → ReadsAt around allowed (OfKind AFTER_D) (Is (tree t false)) (place + 1) cs w
+    → ReadsAs slot around allowed t place cs (written (68 ∷ w.bytes) (more around w.components t)))
+    × ((place : ℕ) (cs : List Component) (w : Written) → ReadsAt around allowed (OfKind AFTER_D) (Is (tree t true)) (place + 1) cs w
+    → ReadsAs slot around allowed t place cs (written (68 ∷ w.bytes) w.components))
 unfolding takes_all is_bare
-with-d-in-all any_type around allowed t place cs w all bare one = (types-any around allowed t).with_d.adds place cs w one
-with-d-in-all bare_type around allowed t place cs w all bare one = (types-bare around allowed t (go
-    (is_function_type t) bare)).with_d.adds place cs w one
-  where
-    go : (b : Bool) → b && true ≡ false → b ≡ false
-    go true k = k
-    go false k = refl
-with-d-in-all item_type around allowed t place cs w all bare one = (types-item around allowed t).with_d.adds place cs w one
-with-d-in-all parameter_type around allowed t place cs w all bare one =
-    in-rest around allowed t place cs (written (68 ∷ w.bytes) (more around w.components t))
-    ((types-parameter around allowed t).with_d.adds place cs w one)
-with-d-in-all literal_type around allowed t place cs w all bare one = absurd (no-slot all)
-
--- and builtin types after a D
-pub with-d-kept : (slot : Slot) (around : Around) (allowed : Option ℕ) (t : Term) (place : ℕ) (cs : List Component) (w : Written)
-    → takes_all slot ≡ true → is_function_type t ≡ false
-    → ReadsAt around allowed (OfKind AFTER_D) (Is (tree t true)) (place + 1) cs w
-    → ReadsAs slot around allowed t place cs (written (68 ∷ w.bytes) w.components)
-unfolding takes_all
-with-d-kept any_type around allowed t place cs w all other one = (types-any around allowed t).with_d.keeps place cs w one
-with-d-kept bare_type around allowed t place cs w all other one = (types-bare around allowed t other).with_d.keeps place cs w one
-with-d-kept item_type around allowed t place cs w all other one = (types-item around allowed t).with_d.keeps place cs w one
-with-d-kept parameter_type around allowed t place cs w all other one =
-    in-rest around allowed t place cs (written (68 ∷ w.bytes) w.components) ((types-parameter around allowed t).with_d.keeps place cs w one)
-with-d-kept literal_type around allowed t place cs w all other one = absurd (no-slot all)
+with-d-in any_type around allowed t all bare = let d = (types-any around allowed t).with_d in (d.adds, d.keeps)
+with-d-in bare_type around allowed t all bare =
+    let d = (types-bare around allowed t (sym (and-true (is_function_type t)) ∙ bare)).with_d in (d.adds, d.keeps)
+with-d-in item_type around allowed t all bare = let d = (types-item around allowed t).with_d in (d.adds, d.keeps)
+with-d-in parameter_type around allowed t all bare =
+    let d = (types-parameter around allowed t).with_d in
+    (λ place cs w one. in-rest around allowed t place cs _ (d.adds place cs w one), λ place cs w one. in-rest around allowed t place cs _ (d.keeps place cs w one))
+with-d-in literal_type around allowed t all bare = absurd (no-slot all)
 
 -- an expansion
 expansion-in : (slot : Slot) (around : Around) (allowed : Option ℕ) (t : Term) (place : ℕ) (cs : List Component) (w : Written)
@@ -121,28 +106,13 @@ record QualifiedRules (k : ℕ) : Type 0 where
   volatile : TakesRule abi k (rule_of Production.VolatileType) (86 ∷ [])
   const : TakesRule abi k (rule_of Production.ConstType) (75 ∷ [])
 
-type-rules : QualifiedRules TYPE
-unfolding grammar
-type-rules = record {
-  restrict = takes-byte TYPE Kind.Type Production.RestrictType 114 refl refl (omega arith) refl;
-  volatile = takes-byte TYPE Kind.Type Production.VolatileType 86 refl refl (omega arith) refl;
-  const = takes-byte TYPE Kind.Type Production.ConstType 75 refl refl (omega arith) refl;
-}
-
-item-rules : QualifiedRules ITEM
-unfolding grammar
-item-rules = record {
-  restrict = takes-byte ITEM Kind.Item Production.RestrictType 114 refl refl (omega arith) refl;
-  volatile = takes-byte ITEM Kind.Item Production.VolatileType 86 refl refl (omega arith) refl;
-  const = takes-byte ITEM Kind.Item Production.ConstType 75 refl refl (omega arith) refl;
-}
-
-parameter-rules : QualifiedRules ITEM_BUT_REF
-unfolding grammar
-parameter-rules = record {
-  restrict = takes-byte ITEM_BUT_REF Kind.ItemButRef Production.RestrictType 114 refl refl (omega arith) refl;
-  volatile = takes-byte ITEM_BUT_REF Kind.ItemButRef Production.VolatileType 86 refl refl (omega arith) refl;
-  const = takes-byte ITEM_BUT_REF Kind.ItemButRef Production.ConstType 75 refl refl (omega arith) refl;
+qualified-rules : (k : ℕ) (kind : Kind) → slice_get kinds k ≡ Some kind → choose kind 114 ≡ Some Production.RestrictType
+    → choose kind 86 ≡ Some Production.VolatileType → choose kind 75 ≡ Some Production.ConstType → QualifiedRules k
+unfolding is_chain
+qualified-rules k kind at r v c = record {
+  restrict = takes-byte k kind Production.RestrictType 114 at r (omega arith) refl;
+  volatile = takes-byte k kind Production.VolatileType 86 at v (omega arith) refl;
+  const = takes-byte k kind Production.ConstType 75 at c (omega arith) refl;
 }
 
 abbrev letters_for : (restrict volatile const : Bool) → List ℕ
@@ -171,13 +141,15 @@ qualified-in : (slot : Slot) (around : Around) (allowed : Option ℕ) (restrict 
     → ReadsAt around allowed (OfKind PLAIN) (Is (tree t true)) (place + length (letters_for restrict volatile const)) cs w
     → ReadsAs slot around allowed (qualified_with restrict volatile const t) place cs
     (written (letters_for restrict volatile const ++ w.bytes) (more around w.components (qualified_with restrict volatile const t)))
-unfolding takes_qualified
-qualified-in any_type around allowed r v c t place cs w all some one = qualified-at TYPE around allowed r v c t place cs w type-rules some one
-qualified-in item_type around allowed r v c t place cs w all some one = qualified-at ITEM around allowed r v c t place cs w item-rules some one
+unfolding takes_qualified grammar
+qualified-in any_type around allowed r v c t place cs w all some one =
+    qualified-at TYPE around allowed r v c t place cs w (qualified-rules TYPE Kind.Type refl refl refl refl) some one
+qualified-in item_type around allowed r v c t place cs w all some one =
+    qualified-at ITEM around allowed r v c t place cs w (qualified-rules ITEM Kind.Item refl refl refl refl) some one
 qualified-in parameter_type around allowed r v c t place cs w all some one =
     in-rest around allowed (qualified_with r v c t) place cs
     (written (letters_for r v c ++ w.bytes) (more around w.components (qualified_with r v c t)))
-    (qualified-at ITEM_BUT_REF around allowed r v c t place cs w parameter-rules some one)
+    (qualified-at ITEM_BUT_REF around allowed r v c t place cs w (qualified-rules ITEM_BUT_REF Kind.ItemButRef refl refl refl refl) some one)
 qualified-in bare_type around allowed r v c t place cs w all some one = absurd (no-slot all)
 qualified-in literal_type around allowed r v c t place cs w all some one = absurd (no-slot all)
 
@@ -275,7 +247,7 @@ reads-vector digits t r =
     let x : Written = (ways_of around.encoding t).as_type (place + length front) cs in
     subst (λ l. ReadsAs slot around allowed (vector digits t) place cs (written l (more around x.components (vector digits t))))
     (ap (λ l. 68 ∷ 118 ∷ l) (sym (append_assoc digits (95 ∷ []) x.bytes)))
-    (with-d-in-all slot around allowed _ place cs (written (118 ∷ (digits ++ (95 ∷ x.bytes))) x.components) h.0 refl
+    ((with-d-in slot around allowed (vector digits t) h.0 refl).0 place cs (written (118 ∷ (digits ++ (95 ∷ x.bytes))) x.components)
     (vector-behind-d around allowed digits t (place + 1) cs x h.1
     (elsewhere (omega (arith, length-append digits (95 ∷ [])))
     (r.at spot.as_type any_type around allowed (place + length front) cs small (room-rest (text front)

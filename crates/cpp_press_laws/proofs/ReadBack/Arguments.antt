@@ -48,24 +48,22 @@ items-more around allowed t items last place cs first rest are one two =
     (takes-none ITEMS Kind.Items Production.Items 80 refl refl (omega arith) refl) tt refl
     (λ s c q. one s c q before λ s c q. two s c q before λ began s. ap (λ l. Ok (found (tree (list t l) true) s)) are)
 
-pub any-argument : (around : Around) (allowed : Option ℕ) (t items : Term) (last : Value) (place : ℕ) (cs : List Component)
+-- elements of a pack, or arguments
+abbrev pub list_kind : (in_pack : Bool) → ℕ
+list_kind true = PACK_LIST
+list_kind false = ARGUMENT_LIST
+
+pub any-argument : (in_pack : Bool) (around : Around) (allowed : Option ℕ) (t items : Term) (last : Value) (place : ℕ) (cs : List Component)
     (first rest : Written) → no_items last ≡ items
     → ReadsAt around allowed (OfKind ARGUMENT) (Is (tree t true)) (place + 0) cs first
-    → ReadsAt around allowed (OfKind ARGUMENT_LIST) (Is last) (place + 0 + length first.bytes) first.components rest
-    → ReadsAt around allowed (OfKind ARGUMENT_LIST) (Is (tree (list t items) true)) place cs (written (first.bytes ++ rest.bytes) rest.components)
+    → ReadsAt around allowed (OfKind (list_kind in_pack)) (Is last) (place + 0 + length first.bytes) first.components rest
+    → ReadsAt around allowed (OfKind (list_kind in_pack)) (Is (tree (list t items) true)) place cs (written (first.bytes ++ rest.bytes) rest.components)
 unfolding grammar
-any-argument around allowed t items last place cs first rest are one two =
+any-argument false around allowed t items last place cs first rest are one two =
     read-by-parts Production.AnyArgument ARGUMENT_LIST [] (tree t true ∷ last ∷ []) (first ∷ rest ∷ [])
     (takes-none ARGUMENT_LIST Kind.ArgumentList Production.AnyArgument 80 refl refl (omega arith) refl) tt refl
     (λ s c q. one s c q before λ s c q. two s c q before λ began s. ap (λ l. Ok (found (tree (list t l) true) s)) are)
-
-pub any-element : (around : Around) (allowed : Option ℕ) (t items : Term) (last : Value) (place : ℕ) (cs : List Component)
-    (first rest : Written) → no_items last ≡ items
-    → ReadsAt around allowed (OfKind ARGUMENT) (Is (tree t true)) (place + 0) cs first
-    → ReadsAt around allowed (OfKind PACK_LIST) (Is last) (place + 0 + length first.bytes) first.components rest
-    → ReadsAt around allowed (OfKind PACK_LIST) (Is (tree (list t items) true)) place cs (written (first.bytes ++ rest.bytes) rest.components)
-unfolding grammar
-any-element around allowed t items last place cs first rest are one two =
+any-argument true around allowed t items last place cs first rest are one two =
     read-by-parts Production.AnyElement PACK_LIST [] (tree t true ∷ last ∷ []) (first ∷ rest ∷ [])
     (takes-none PACK_LIST Kind.PackList Production.AnyElement 80 refl refl (omega arith) refl) tt refl
     (λ s c q. one s c q before λ s c q. two s c q before λ began s. ap (λ l. Ok (found (tree (list t l) true) s)) are)

@@ -1,5 +1,5 @@
 -- Names are read from their pieces: alone and after St, as prefixes and between N and E, with arguments and without.
-use Rattle.std.proofs.Common.{◌≡◌, ℕ, ◌+◌, length, List, [], ◌∷◌, ◌++◌, Option, true, false, ap, arith, sym, subst, append-nil, append_assoc, length-append}
+use Rattle.std.proofs.Common.{◌≡◌, ℕ, ◌+◌, length, List, [], ◌∷◌, ◌++◌, Option, true, false, ap, arith, sym, subst, append-nil, append_assoc, length-append, refl}
 use Rattle.sym_shape.specs.declared.rule.Sym.TheVariants.{Kind as OfKind}
 use Rattle.sym_shape.specs.Tree.{TakesRule}
 use Rattle.cpp_grammar.specs.declared.production.Production.{Production}
@@ -16,10 +16,10 @@ use Rattle.cpp_press_laws.proofs.ReadBack.Functions.{IsInScope}
 use Rattle.cpp_press_laws.proofs.ReadBack.Names.{SoFar, Extends, no-arguments, so-far-within, nest-whole, extends}
 use Rattle.cpp_press_laws.proofs.ReadBack.Nests.{nest-parameter, nest-behind-s, nest-std, nest-arguments}
 use Rattle.cpp_press_laws.proofs.ReadBack.Encodings.{std-name, nested-type, std-type, type-with-arguments}
-use Rattle.cpp_press_laws.proofs.ReadBack.Prefixes.{next-17, next-18, extends-behind-s}
 use Rattle.cpp_press_laws.proofs.ReadBack.Named.{NameRule, PieceReads}
 use Rattle.cpp_press_laws.proofs.ReadBack.Arguments.{arguments-read, takes-maybe-arguments}
-use Rattle.cpp_press_laws.proofs.ReadBack.Reading.{elsewhere, same-written, more}
+use Rattle.cpp_press_laws.proofs.ReadBack.Reading.{elsewhere, same-written, more, grammar, takes-none}
+use Rattle.cpp_grammar.specs.declared.kind.Kind.{Kind}
 
 -- ## Arguments
 
@@ -147,6 +147,23 @@ whole-nested k around allowed t place cs w takes so_far =
     (nest-whole around allowed t (place + 1) cs w so_far)
 
 -- ## Prefixes
+
+-- one more piece may follow the first part of a name, or a piece after it
+next-17 : TakesRule abi 17 (rule_of Production.NestNext) []
+unfolding grammar
+next-17 = takes-none NEST_REST Kind.NestRest Production.NestNext 48 refl refl (omega arith) refl
+
+next-18 : TakesRule abi 18 (rule_of Production.NestNext) []
+unfolding grammar
+next-18 = takes-none NEST_TAIL Kind.NestTail Production.NestNext 48 refl refl (omega arith) refl
+
+-- an abbreviation or a reference as a prefix
+extends-behind-s : (around : Around) (allowed : Option ℕ) (t : Term) (place : ℕ) (cs : List Component) (first : Written)
+    → ReadsAt around allowed (OfKind ABBREVIATION) (Is (tree t true)) (place + 1 + 0) cs first
+    → Extends around allowed t place cs (written (83 ∷ first.bytes) first.components)
+extends-behind-s around allowed t place cs first one =
+    extends true NEST_REST around allowed t place cs (written (83 ∷ first.bytes) first.components) next-17
+    (nest-behind-s around allowed t place cs first one)
 
 -- a prefix with arguments, which become part of it
 abbrev pub ExtendsWith : Around → Option ℕ → (t : Term) → (place : ℕ) → List Component → Written → Type 0

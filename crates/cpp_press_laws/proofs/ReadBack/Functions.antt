@@ -1,6 +1,6 @@
 -- Parameters, qualified types, function types and what follows Dv are read as what was pressed, from their parts.
 use Rattle.std.proofs.Common.{◌≡◌, ℕ, ◌+◌, ◌<◌, ◌≤◌, length, List, [], ◌∷◌, ◌++◌, Option, Some, Bool, true, false, Ok, refl, ap, arith, ◌∙◌, append-nil, sym, subst, cond, None}
-use Rattle.std.specs.Prelude.{nat_lt, slice_get, Result, Err}
+use Rattle.std.specs.Prelude.{nat_lt, slice_get, Result, Err, codes}
 use Rattle.sym_core.specs.declared.NumberKind.TheVariants.{Decimal, Digits}
 use Rattle.sym_shape.specs.declared.rule.Sym.TheVariants.{Kind as OfKind, Number}
 use Rattle.sym_shape.specs.Tree.{TakesRule}
@@ -21,7 +21,7 @@ use Rattle.cpp_grammar.specs.Meaning.{meaning, listed_value, with_item, signatur
 use Rattle.cpp_grammar.specs.Unfolding as unfolding_
 use Rattle.cpp_grammar.specs.Unfolding.{close, byte_of}
 use Rattle.cpp_press_laws.specs.Components.{components_of, Component}
-use Rattle.cpp_press_laws.specs.Texts.{ordinal}
+use Rattle.cpp_press_laws.specs.Texts.{ordinal, mark_letter}
 use Rattle.cpp_press_laws.specs.Fits.{PacksFit}
 use Rattle.cpp_press_laws.specs.Spellable.{AreSpellableDigits}
 use Rattle.cpp_press_laws.specs.Subtrees.{greatest, Written, written, ReadsAt, Is, IsAllowed, Reads}
@@ -214,31 +214,27 @@ vector-behind-d around allowed digits t place cs w good one =
 
 -- ## Function types
 
--- what is left of a function type's parameters: its end, and the mark before it
-pub rest-ends : (around : Around) (allowed : Option ℕ) (place : ℕ) (cs : List Component)
-    → ReadsAt around allowed (OfKind FUNCTION_REST) (Is (signature nil any_value)) place cs (written (69 ∷ []) cs)
-unfolding grammar
-rest-ends around allowed place cs =
-    read-by-parts Production.RestEnd FUNCTION_REST (69 ∷ []) [] [] (takes-byte FUNCTION_REST Kind.FunctionRest Production.RestEnd 69 refl refl
-    (omega arith) refl) tt refl (λ began s. refl)
+-- what is left of a function type's parameters, with these items and this mark
+abbrev pub RestReads : Around → Option ℕ → (items : Term) → RefQualifier → (place : ℕ) → List Component → Written → Type 0
+RestReads around allowed items ref place cs w = ReadsAt around allowed (OfKind FUNCTION_REST) (Is (signature items ref)) place cs w
 
-pub rest-ends-lvalue : (around : Around) (allowed : Option ℕ) (place : ℕ) (cs : List Component)
-    → ReadsAt around allowed (OfKind FUNCTION_REST) (Is (signature nil lvalue_only)) place cs (written (82 ∷ 69 ∷ []) cs)
-unfolding grammar signature_or
-rest-ends-lvalue around allowed place cs =
+-- its end, and the mark before it
+pub end-reads : (around : Around) (allowed : Option ℕ) (ref : RefQualifier) (place : ℕ) (cs : List Component)
+    → RestReads around allowed nil ref place cs (written (mark_letter ref ++ codes "E") cs)
+unfolding mark_letter grammar signature_or
+end-reads around allowed any_value place cs =
+    read-by-parts Production.RestEnd FUNCTION_REST (69 ∷ []) [] []
+    (takes-byte FUNCTION_REST Kind.FunctionRest Production.RestEnd 69 refl refl (omega arith) refl) tt refl (λ began s. refl)
+end-reads around allowed lvalue_only place cs =
     read-by-parts Production.RestLvalue FUNCTION_REST (82 ∷ []) (nothing_there ∷ []) (written (69 ∷ []) cs ∷ [])
     (takes-byte FUNCTION_REST Kind.FunctionRest Production.RestLvalue 82 refl refl (omega arith) refl) tt refl
-    (λ s c q. read-by-parts Production.RefEnd AFTER_R (69 ∷ []) [] [] (takes-byte AFTER_R Kind.AfterR Production.RefEnd
-    69 refl refl (omega arith) refl) tt refl (λ began s. refl) s c q before λ began s. refl)
-
-pub rest-ends-rvalue : (around : Around) (allowed : Option ℕ) (place : ℕ) (cs : List Component)
-    → ReadsAt around allowed (OfKind FUNCTION_REST) (Is (signature nil rvalue_only)) place cs (written (79 ∷ 69 ∷ []) cs)
-unfolding grammar signature_or
-rest-ends-rvalue around allowed place cs =
+    (λ s c q. read-by-parts Production.RefEnd AFTER_R (69 ∷ []) [] []
+    (takes-byte AFTER_R Kind.AfterR Production.RefEnd 69 refl refl (omega arith) refl) tt refl (λ began s. refl) s c q before λ began s. refl)
+end-reads around allowed rvalue_only place cs =
     read-by-parts Production.RestRvalue FUNCTION_REST (79 ∷ []) (nothing_there ∷ []) (written (69 ∷ []) cs ∷ [])
     (takes-byte FUNCTION_REST Kind.FunctionRest Production.RestRvalue 79 refl refl (omega arith) refl) tt refl
-    (λ s c q. read-by-parts Production.RefEnd AFTER_O (69 ∷ []) [] [] (takes-byte AFTER_O Kind.AfterO Production.RefEnd
-    69 refl refl (omega arith) refl) tt refl (λ began s. refl) s c q before λ began s. refl)
+    (λ s c q. read-by-parts Production.RefEnd AFTER_O (69 ∷ []) [] []
+    (takes-byte AFTER_O Kind.AfterO Production.RefEnd 69 refl refl (omega arith) refl) tt refl (λ began s. refl) s c q before λ began s. refl)
 
 -- one more parameter, which doesn't begin with an R or an O
 pub rest-item : (around : Around) (allowed : Option ℕ) (t items : Term) (ref : RefQualifier) (place : ℕ) (cs : List Component) (first rest : Written)

@@ -22,7 +22,7 @@ use Rattle.cpp_press_laws.specs.Spellable.{IsSpellableNumber}
 use Rattle.cpp_press_laws.specs.Subtrees.{Written, written, ReadsAt, Is}
 use Rattle.cpp_press_laws.proofs.ReadBack.Reading.{appended-same, takes-byte, takes-none, fixed-reads, empty-reads, grammar, read-by-parts, ◌before◌}
 use Rattle.cpp_press_laws.proofs.ReadBack.Functions.{mark-reads}
-use Rattle.cpp_press_laws.proofs.ReadBack.Arguments.{listed_now}
+use Rattle.cpp_press_laws.proofs.ReadBack.Arguments.{listed_now, list_kind}
 
 -- ## Literals
 
@@ -103,31 +103,25 @@ encoding-literal around allowed e place cs w one =
 -- ## Literals in a list
 
 -- a literal between L and E, and the arguments or elements after it
-pub literal-argument : (around : Around) (allowed : Option ℕ) (t items : Term) (last : Value) (place : ℕ) (cs : List Component)
-    (first rest : Written) → no_items last ≡ items
+pub literal-argument : (in_pack : Bool) (around : Around) (allowed : Option ℕ) (t items : Term) (last : Value) (place : ℕ)
+    (cs : List Component) (first rest : Written) → no_items last ≡ items
     → ReadsAt around allowed (OfKind LITERAL) (Is (tree t true)) (place + 1) cs first
-    → ReadsAt around allowed (OfKind ARGUMENT_LIST) (Is last) (place + 1 + length first.bytes + 1) first.components rest
-    → ReadsAt around allowed (OfKind ARGUMENT_LIST) (Is (tree (list t items) true)) place cs (written (76 ∷ (first.bytes ++ (69 ∷ rest.bytes))) rest.components)
+    → ReadsAt around allowed (OfKind (list_kind in_pack)) (Is last) (place + 1 + length first.bytes + 1) first.components rest
+    → ReadsAt around allowed (OfKind (list_kind in_pack)) (Is (tree (list t items) true)) place cs
+    (written (76 ∷ (first.bytes ++ (69 ∷ rest.bytes))) rest.components)
 unfolding grammar
-literal-argument around allowed t items last place cs first rest are one two =
+literal-argument false around allowed t items last place cs first rest are one two =
     read-by-parts Production.LiteralArgument ARGUMENT_LIST (76 ∷ []) (tree t true ∷ nothing_there ∷ last ∷ [])
     (first ∷ written (69 ∷ []) first.components ∷ rest ∷ [])
     (takes-byte ARGUMENT_LIST Kind.ArgumentList Production.LiteralArgument 76 refl refl (omega arith) refl) tt refl
-    (λ s c q. one s c q before λ s c q. fixed-reads s c q before λ s c q. two s c q before λ began s. ap
-    (λ l. Ok (found (tree (list t l) true) s)) are)
-
-pub literal-element : (around : Around) (allowed : Option ℕ) (t items : Term) (last : Value) (place : ℕ) (cs : List Component)
-    (first rest : Written) → no_items last ≡ items
-    → ReadsAt around allowed (OfKind LITERAL) (Is (tree t true)) (place + 1) cs first
-    → ReadsAt around allowed (OfKind PACK_LIST) (Is last) (place + 1 + length first.bytes + 1) first.components rest
-    → ReadsAt around allowed (OfKind PACK_LIST) (Is (tree (list t items) true)) place cs (written (76 ∷ (first.bytes ++ (69 ∷ rest.bytes))) rest.components)
-unfolding grammar
-literal-element around allowed t items last place cs first rest are one two =
+    (λ s c q. one s c q before λ s c q. fixed-reads s c q before λ s c q. two s c q
+    before λ began s. ap (λ l. Ok (found (tree (list t l) true) s)) are)
+literal-argument true around allowed t items last place cs first rest are one two =
     read-by-parts Production.LiteralElement PACK_LIST (76 ∷ []) (tree t true ∷ nothing_there ∷ last ∷ [])
     (first ∷ written (69 ∷ []) first.components ∷ rest ∷ [])
     (takes-byte PACK_LIST Kind.PackList Production.LiteralElement 76 refl refl (omega arith) refl) tt refl
-    (λ s c q. one s c q before λ s c q. fixed-reads s c q before λ s c q. two s c q before λ began s. ap
-    (λ l. Ok (found (tree (list t l) true) s)) are)
+    (λ s c q. one s c q before λ s c q. fixed-reads s c q before λ s c q. two s c q
+    before λ began s. ap (λ l. Ok (found (tree (list t l) true) s)) are)
 
 -- a pack between J and E, and the arguments after it
 pub pack-argument : (around : Around) (allowed : Option ℕ) (elements items : Term) (inside_ last : Value) (place : ℕ) (cs : List Component)

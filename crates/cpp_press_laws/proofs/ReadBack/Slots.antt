@@ -1,5 +1,5 @@
 -- Types are read wherever types are, as references and spelled out.
-use Rattle.std.proofs.Common.{◌≡◌, ℕ, ◌+◌, ◌≤◌, length, List, [], ◌∷◌, ◌++◌, Option, Some, None, Bool, true, false, refl, arith, sym, subst, append-nil, length-append}
+use Rattle.std.proofs.Common.{◌≡◌, ℕ, ◌+◌, ◌≤◌, length, List, [], ◌∷◌, ◌++◌, Option, Some, None, Bool, true, false, refl, arith, sym, subst, append-nil, length-append, ◌∙◌}
 use Rattle.std.specs.Prelude.{◌&&◌}
 use Rattle.sym_shape.specs.declared.rule.Sym.TheVariants.{Kind as OfKind}
 use Rattle.sym_shape.specs.Tree.{TakesRule}
@@ -18,12 +18,12 @@ use Rattle.cpp_press_laws.specs.Subtrees.{greatest, Written, written, ReadsAt, I
 use Rattle.cpp_press_laws.proofs.ReadBack.Reading.{takes-byte, elsewhere, grammar, more}
 use Rattle.cpp_press_laws.proofs.ReadBack.References.{found-first, number-refers}
 use Rattle.cpp_press_laws.proofs.ReadBack.Types.{HasTypes, types-any, types-bare, types-item, types-parameter, solid-with-s, type-behind-s, behind-s}
-use Rattle.cpp_press_laws.proofs.ReadBack.Functions.{rest-item}
+use Rattle.cpp_press_laws.proofs.ReadBack.Functions.{rest-item, RestReads}
 use Rattle.cpp_press_laws.proofs.ReadBack.Arguments.{integer-reads}
 use Rattle.cpp_press_laws.proofs.ReadBack.Literals.{integer-literal}
-use Rattle.cpp_press_laws.proofs.ReadBack.Parameters.{RestReads}
 use Rattle.cpp_press_laws.proofs.Components.Keeping.{Keeps, keeps-component}
 use Rattle.cpp_press_laws.specs.Fits.{Slot, any_type, bare_type, item_type, parameter_type, literal_type, IsFirst, Fitting, as_component, MayBeReferred}
+use Rattle.std.proofs.Math.Bool.{and-true}
 
 -- ## Room
 
@@ -152,11 +152,7 @@ pub in-slot : (slot : Slot) (around : Around) (allowed : Option ℕ) (t : Term) 
     → InSlot around allowed t (solid_kind slot) (ReadsAs slot around allowed t)
 unfolding is_bare
 in-slot any_type around allowed t h = in-kind TYPE around allowed t (types-any around allowed t)
-in-slot bare_type around allowed t h = in-kind PLAIN around allowed t (types-bare around allowed t (go (is_function_type t) h))
-  where
-    go : (b : Bool) → b && true ≡ false → b ≡ false
-    go true k = k
-    go false k = refl
+in-slot bare_type around allowed t h = in-kind PLAIN around allowed t (types-bare around allowed t (sym (and-true (is_function_type t)) ∙ h))
 in-slot item_type around allowed t h = in-kind ITEM around allowed t (types-item around allowed t)
 in-slot parameter_type around allowed t h = in-parameter around allowed t
 in-slot literal_type around allowed t h = in-literal around allowed t

@@ -89,17 +89,10 @@ InstancedAt around allowed k t place cs w =
     → ReadsAt around allowed (OfKind k) (Is (tree (instance t items) false)) place cs (written
     (w.bytes ++ in_I_and_E args.bytes) args.components)
 
-takes-arguments-alone : TakesRule abi ARGUMENTS_ALONE (rule_of Production.Arguments) (73 ∷ [])
-unfolding grammar
-takes-arguments-alone = takes-byte ARGUMENTS_ALONE Kind.ArgumentsAlone Production.Arguments 73 refl refl (omega arith) refl
-
-takes-arguments : TakesRule abi ARGUMENTS (rule_of Production.Arguments) (73 ∷ [])
-unfolding grammar
-takes-arguments = takes-byte ARGUMENTS Kind.Arguments Production.Arguments 73 refl refl (omega arith) refl
-
 pub instanced-behind-s : (typed : Bool) (k : ℕ) (around : Around) (allowed : Option ℕ) (t : Term) → TemplateKind typed k → (place : ℕ)
     (cs : List Component) (w : Written) → ReadsAt around allowed (OfKind ABBREVIATION) (Is (tree t true)) (place + 1) cs w
     → InstancedAt around allowed k t place cs (written (83 ∷ w.bytes) w.components)
+unfolding grammar
 instanced-behind-s true k around allowed t rules place cs w one items last args are two =
     type-with-arguments k around allowed t items true place cs w (written (in_I_and_E args.bytes) args.components) rules.with_s
     (behind-s around allowed t (place + 1) cs w (elsewhere (omega arith) one))
@@ -110,7 +103,8 @@ instanced-behind-s false k around allowed t eight place cs w one items last args
     (written ((83 ∷ w.bytes) ++ in_I_and_E args.bytes) args.components)) (sym eight)
     (abbreviated-name around allowed t items place cs w (written (in_I_and_E args.bytes) args.components)
     (elsewhere (omega arith) one)
-    (arguments-read true around allowed ARGUMENTS t items last (place + 1 + 0 + length w.bytes) w.components args takes-arguments are
+    (arguments-read true around allowed ARGUMENTS t items last (place + 1 + 0 + length w.bytes) w.components args
+    (takes-byte ARGUMENTS Kind.Arguments Production.Arguments 73 refl refl (omega arith) refl) are
     (elsewhere (omega arith) two)))
 
 -- a parameter with arguments
@@ -125,7 +119,8 @@ parameter-instanced kind around allowed k place cs is takes items last args are 
     (parameter-parts Production.Parameter around allowed place k (place + 1) cs
     (Means Production.Parameter 84 around place (tree (instance (parameter k) items) false)) (OfKind ARGUMENTS_ALONE) (tree items true) behind is
     (λ s. refl) (λ s. refl)
-    (arguments-read true around allowed ARGUMENTS_ALONE (parameter k) items last _ (more around cs (parameter k)) args takes-arguments-alone are
+    (arguments-read true around allowed ARGUMENTS_ALONE (parameter k) items last _ (more around cs (parameter k)) args
+    (takes-byte ARGUMENTS_ALONE Kind.ArgumentsAlone Production.Arguments 73 refl refl (omega arith) refl) are
     (elsewhere (omega arith) one)) (λ began s. refl))
 
 -- ## Template names
