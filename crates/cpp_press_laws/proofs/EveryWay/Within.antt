@@ -8,7 +8,7 @@ use Rattle.cpp_grammar.specs.KindNumbers.{COMPLETE_NAME, ENTITY, TYPE_ENTITY}
 use Rattle.cpp_grammar.specs.Term.{Qualifiers, within, string_literal, RefQualifier, any_value, Term, instance}
 use Rattle.cpp_grammar.specs.Values.{behind, Around, tree, tree_of, qualifiers_of, ref_of, unqualified}
 use Rattle.cpp_grammar.specs.References.{is_function_type}
-use Rattle.cpp_grammar.specs.Between.{after, extended, in_name}
+use Rattle.cpp_grammar.specs.Between.{after, extended}
 use Rattle.cpp_press_laws.proofs.Components.Encodings.{scope-first, no-encoding}
 use Rattle.cpp_press_laws.specs.Texts.{name_letters}
 use Rattle.cpp_press_laws.specs.Components.{Component, Spelling, ended, component}

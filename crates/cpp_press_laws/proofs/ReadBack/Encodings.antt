@@ -9,7 +9,7 @@ use Rattle.cpp_grammar.specs.KindNumbers.{COMPLETE_NAME, MAYBE_REF, NAME_AFTER_S
 use Rattle.cpp_grammar.specs.Table.{abi, rule_of}
 use Rattle.cpp_grammar.specs.Term.{RefQualifier, any_value, lvalue_only, rvalue_only, Term, in_std, instance}
 use Rattle.cpp_grammar.specs.Values.{State, Around, Value, nothing_there, letter, tree, piece, named, mark_of, is_listed, is_there}
-use Rattle.cpp_grammar.specs.Between.{between, after, applied, named_so_far, listed_so_far}
+use Rattle.cpp_grammar.specs.Between.{after, applied, named_so_far, listed_so_far}
 use Rattle.cpp_grammar.specs.Unfolding.{close}
 use Rattle.cpp_press_laws.specs.Components.{Component}
 use Rattle.cpp_press_laws.specs.Subtrees.{Written, written, ReadsAt, Is}

@@ -11,7 +11,7 @@ use Rattle.cpp_grammar.specs.Grammar.{choose, kinds}
 use Rattle.cpp_grammar.specs.Table.{abi, rule_of}
 use Rattle.cpp_grammar.specs.Term.{Term, source, operator, literal_operator, constructor, destructor, lambda, unnamed, list}
 use Rattle.cpp_grammar.specs.Values.{Around, Value, tree, piece}
-use Rattle.cpp_grammar.specs.Between.{in_signature, after, extended, no_items}
+use Rattle.cpp_grammar.specs.Between.{in_signature, extended, no_items}
 use Rattle.cpp_grammar.specs.Meaning.{parameters}
 use Rattle.cpp_press_laws.specs.Components.{Component}
 use Rattle.cpp_press_laws.specs.Texts.{counted, ordinal}

@@ -11,7 +11,7 @@ use Rattle.cpp_grammar.specs.Term.{Term, source, operator, constructor, destruct
 use Rattle.cpp_grammar.specs.Values as value
 use Rattle.cpp_grammar.specs.Values.{prefix_tree, prefix_listed, Around, Value, nothing_there, letter, tree, piece}
 use Rattle.cpp_grammar.specs.References.{appended, with_prefix}
-use Rattle.cpp_grammar.specs.Between.{between, after, extended, applied, named_so_far}
+use Rattle.cpp_grammar.specs.Between.{after, extended, applied, named_so_far}
 use Rattle.cpp_grammar.proofs.Alone.{arguments_alone, rest_alone}
 use Rattle.cpp_grammar.proofs.Rests.{abi_rest}
 use Rattle.cpp_press_laws.specs.Components.{Component}

@@ -8,7 +8,7 @@ use Rattle.cpp_grammar.specs.Term.{Term, source, in_std, instance, parameter}
 use Rattle.cpp_grammar.specs.Values as value
 use Rattle.cpp_grammar.specs.Values.{prefix_tree, prefix_listed, Around, Value, nothing_there, tree, piece, part}
 use Rattle.cpp_grammar.specs.References.{appended, with_prefix, parameter_named}
-use Rattle.cpp_grammar.specs.Between.{between, after, inside, extended, applied, no_items, named_so_far, listed_so_far, parameter_so_far}
+use Rattle.cpp_grammar.specs.Between.{after, inside, extended, applied, no_items, named_so_far, listed_so_far, parameter_so_far}
 use Rattle.cpp_press_laws.specs.Components.{Component}
 use Rattle.cpp_press_laws.specs.Texts.{counted, ordinal}
 use Rattle.cpp_press_laws.specs.Spellable.{IsSpellableName}

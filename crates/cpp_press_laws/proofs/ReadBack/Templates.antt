@@ -7,12 +7,11 @@ use Rattle.std.specs.Prelude.{codes}
 use Rattle.cpp_grammar.specs.declared.kind.Kind.{Kind}
 use Rattle.cpp_grammar.specs.declared.production.Production.{Production}
 use Rattle.cpp_grammar.specs.KindNumbers.{ABBREVIATION, SOLID, MAYBE_ARGUMENTS, ARGUMENTS_ALONE, ARGUMENTS, LITERAL_TYPE}
-use Rattle.cpp_grammar.specs.Grammar.{kinds}
 use Rattle.cpp_grammar.specs.Table.{abi, rule_of}
 use Rattle.cpp_grammar.specs.Term.{Term, instance, parameter}
 use Rattle.cpp_grammar.specs.Values as value
 use Rattle.cpp_grammar.specs.Values.{Around, Value, tree}
-use Rattle.cpp_grammar.specs.Between.{after, applied, no_items, parameter_so_far, listed_so_far}
+use Rattle.cpp_grammar.specs.Between.{applied, no_items, parameter_so_far, listed_so_far}
 use Rattle.cpp_press_laws.specs.Texts.{ordinal}
 use Rattle.cpp_press_laws.specs.Components.{Component, Spelling, first_equal, seq_id, reference, referred}
 use Rattle.cpp_press_laws.specs.Subtrees.{greatest, Written, written, ReadsAt, Is, HasRoom}

@@ -9,7 +9,7 @@ use Rattle.sym_link.specs.Unfold.{found}
 use Rattle.cpp_grammar.specs.declared.kind.Kind.{Kind}
 use Rattle.cpp_grammar.specs.declared.production.Production.{Production}
 use Rattle.cpp_grammar.specs.KindNumbers.{ABBREVIATION, TYPE, PLAIN, ITEM, ITEM_BUT_REF, ITEM_AFTER_D, AFTER_D, SOLID, TYPE_AFTER_S}
-use Rattle.cpp_grammar.specs.Grammar.{kinds, parts_of}
+use Rattle.cpp_grammar.specs.Grammar.{parts_of}
 use Rattle.cpp_grammar.specs.Table.{abi, rule_of}
 use Rattle.cpp_grammar.specs.Term.{Term}
 use Rattle.cpp_grammar.specs.Values.{State, Around, Value, nothing_there, tree, is_listed}
