@@ -2,7 +2,7 @@
 -- surroundings of its own.
 use Rattle.std.proofs.Common.{◌≡◌, ℕ, ◌+◌, ◌-◌, ◌<◌, ◌⊎◌, inl, inr, List, [], ◌∷◌, ◌++◌, Option, Some, None, Bool, true, false, refl, sym, subst, ◌∙◌, arith}
 use Rattle.std.specs.Prelude.{◌&&◌, cond, codes}
-use Rattle.sym_spell.specs.Pressing.{◌and◌}
+use Rattle.sym_spell.specs.Pressing.{◌and◌, text}
 use Rattle.cpp_grammar.specs.declared.kind.Kind.{Kind}
 use Rattle.cpp_grammar.specs.declared.production.Production.{Production}
 use Rattle.cpp_grammar.specs.Grammar.{choose}
@@ -20,6 +20,7 @@ use Rattle.cpp_press_laws.proofs.Fits.Types.{may-closed}
 use Rattle.cpp_press_laws.proofs.Fits.Lists.{ParametersFit}
 use Rattle.cpp_press_laws.proofs.Fits.Names.{PieceFits}
 use Rattle.cpp_press_laws.proofs.Fits.Encodings.{stands-moved, functions-bare}
+use Rattle.std.proofs.Math.Bool.{and-true}
 
 -- ## Pieces without parts
 
@@ -95,10 +96,6 @@ functions-shut scope read [] (c ∷ cs) shut before inner = (
     go (inr here) (inr later) = absurd (omega (arith, here, later))
 functions-shut scope read (c ∷ cs) more shut before inner = (before.0, functions-shut scope read cs more shut before.1 inner.1)
 
-and-true : (b : Bool) → b && true ≡ false → b ≡ false
-and-true false h = refl
-and-true true h = h
-
 -- what is in the signature of a lambda has no free parameters, and nothing open is made there
 pub signature-fitted : (around : Around) (F : Fitting) (s : ℕ → Spelling) (t whole : Term) (old new : State) (more : List Candidate)
     → is_open whole ≡ is_open t → new.candidates ≡ old.candidates ++ more → ShutOrInside around.encoding more
@@ -115,7 +112,7 @@ signature-fitted around F s t whole old new more same grows shut one = record {
       }) allows in
       record {
         fits = p.fits;
-        may = may-closed (pressed_at n around) allowed whole (same ∙ and-true (is_open t) p.may.lambda);
+        may = may-closed (pressed_at n around) allowed whole (same ∙ sym (and-true (is_open t)) ∙ p.may.lambda);
         complete = p.complete;
         among = p.among;
         functions = subst (FunctionsStand around.scope around.encoding) (sym grows)
