@@ -18,11 +18,11 @@ use Rattle.cpp_direct.specs.declared.open.Step.TheVariants as steps
 use Rattle.cpp_direct.specs.declared.direct.Direct.{Direct}
 use Rattle.cpp_direct.specs.Holes.{Expects, StandsAt}
 use Rattle.cpp_direct.specs.Prints.{Prints, IsElement, PrintEachBy, PrintAllBy, joined}
-use Rattle.cpp_direct.specs.WriterInvariant.{AreAmong, AreCandidates, ArgumentsGoOn, Belongs, EndsNamed, GoesOn, IsAmong, IsKnown, IsScoped, IsTemplate, IsWriting, Listing, of_template, of_pack, Owns, Stands, extra_of, in_front_of_next, led_by, list_with, nowhere, place_of}
+use Rattle.cpp_direct.specs.WriterInvariant.{AreAmong, ArgumentsGoOn, Belongs, EndsNamed, GoesOn, IsAmong, IsKnown, IsScoped, IsTemplate, IsWriting, Listing, of_template, of_pack, Owns, Stands, extra_of, in_front_of_next, led_by, list_with, nowhere, place_of}
 use Rattle.cpp_direct.specs.MidStep.{AreKnown, AwaitsKnownArgument, IsArgumentRead, IsListEnded, KnowsMore}
 use Rattle.cpp_direct.specs.Written.{Writes}
 use Rattle.cpp_direct.proofs.Ending.{next-written}
-use Rattle.cpp_direct.proofs.Kept.{candidates-written, reverse-last, template-stays}
+use Rattle.cpp_direct.proofs.Kept.{candidates-same, stands-same, candidates-written, reverse-last, template-stays}
 use Rattle.cpp_direct.proofs.Listed.{last-found, element-goes-on, some-elements}
 use Rattle.cpp_direct.proofs.Moves.{expects-empty}
 use Rattle.cpp_direct.proofs.MovesOfLists.{element-awaits}
@@ -84,15 +84,13 @@ argument-begins s old new from p named from_is waits text candidates at = go p.i
         ) in
         record {
           state = p.state;
-          candidates = subst (λ v. AreCandidates (detail_of s) new.text.list.items v.list.items p.state.candidates) (sym candidates)
-              (subst (λ v. AreCandidates (detail_of s) v.list.items old.candidates.list.items p.state.candidates) (sym text) p.candidates);
+          candidates = candidates-same (detail_of s) old new p.state.candidates text candidates p.candidates;
           is_before = (
             element.inner,
             goes.0,
             goes.2,
             inr (inl (subst (λ n. Expects s Kind.Item goes.0 element.inner n p.state) (sym at) element.awaits)),
-            subst (λ v. Stands s (reverse new.waiting.list.items) element.inner v.list.items) (sym text)
-                (subst (λ ws. Stands s ws element.inner old.text.list.items) (sym opened) stands),
+            stands-same s old new element.inner text opened stands,
             subst (λ ws. IsScoped goes.0 ws) (sym opened) (none-scoped goes.0 (opens.Argument from 0 nowhere ∷ o ∷ place.rest) refl),
           );
         }
@@ -144,8 +142,7 @@ argument-passes s old new from number known is_reference p waits text candidates
     let texts = in_front_of_next p.ts p.texts ++ p.bytes in
     record {
       state = p.state;
-      candidates = subst (λ v. AreCandidates (detail_of s) new.text.list.items v.list.items p.state.candidates) (sym candidates)
-          (subst (λ v. AreCandidates (detail_of s) v.list.items old.candidates.list.items p.state.candidates) (sym text) p.candidates);
+      candidates = candidates-same (detail_of s) old new p.state.candidates text candidates p.candidates;
       is_before = (
         record {
           listing = of_template;
@@ -245,8 +242,7 @@ argument-closes s old new from to number place known more is_reference p stands 
     let among = argument-known s old from to number place known more is_reference p to_is place_is knows in
     record {
       state = p.state;
-      candidates = subst (λ v. AreCandidates (detail_of s) new.text.list.items v.list.items p.state.candidates) (sym candidates)
-          (subst (λ v. AreCandidates (detail_of s) v.list.items old.candidates.list.items p.state.candidates) (sym text) p.candidates);
+      candidates = candidates-same (detail_of s) old new p.state.candidates text candidates p.candidates;
       owner = p.owner;
       rest = p.rest;
       open_is = waits;
@@ -277,8 +273,7 @@ argument-awaits s old new from to number place known more is_reference p waits t
     let ts = p.ts ++ p.t ∷ [] in
     record {
       state = p.state;
-      candidates = subst (λ v. AreCandidates (detail_of s) new.text.list.items v.list.items p.state.candidates) (sym candidates)
-          (subst (λ v. AreCandidates (detail_of s) v.list.items old.candidates.list.items p.state.candidates) (sym text) p.candidates);
+      candidates = candidates-same (detail_of s) old new p.state.candidates text candidates p.candidates;
       owner = p.owner;
       rest = p.rest;
       open_is = waits;
@@ -333,16 +328,14 @@ next-argument-begins s old mid new before from number known p writes from_is num
     ) in
     record {
       state = p.state;
-      candidates = subst (λ v. AreCandidates (detail_of s) new.text.list.items v.list.items p.state.candidates) (sym candidates)
-          (subst (λ v. AreCandidates (detail_of s) v.list.items mid.candidates.list.items p.state.candidates) (sym text)
-          (candidates-written (detail_of s) old mid (codes ", ") p.state.candidates writes p.candidates));
+      candidates = candidates-same (detail_of s) mid new p.state.candidates text candidates
+          (candidates-written (detail_of s) old mid (codes ", ") p.state.candidates writes p.candidates);
       is_before = (
         element.inner,
         goes.0,
         goes.2,
         inr (inl (subst (λ n. Expects s Kind.Item goes.0 element.inner n p.state) (sym (at ∙ writes.at)) element.awaits)),
-        subst (λ v. Stands s (reverse new.waiting.list.items) element.inner v.list.items) (sym text)
-            (subst (λ ws. Stands s ws element.inner mid.text.list.items) (sym opened) stands),
+        stands-same s mid new element.inner text opened stands,
         subst (λ ws. IsScoped goes.0 ws) (sym opened) (none-scoped goes.0 (entry ∷ o ∷ p.rest) refl),
       );
     }

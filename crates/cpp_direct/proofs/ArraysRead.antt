@@ -26,7 +26,7 @@ use Rattle.cpp_direct.specs.WrittenParts.{IsUnmarked}
 use Rattle.cpp_direct.proofs.Unmarked.{each-unmarked, name-byte}
 use Rattle.cpp_direct.proofs.NamePlaces.{all-reached, own-each}
 use Rattle.cpp_direct.proofs.PrintedValues.{normal-unmarked}
-use Rattle.cpp_direct.proofs.Kept.{candidates-written, reverse-last}
+use Rattle.cpp_direct.proofs.Kept.{candidates-same, candidates-written, reverse-last}
 use Rattle.cpp_direct.proofs.Listed.{last-found}
 use Rattle.cpp_direct.proofs.Moves.{stands-split}
 use Rattle.cpp_direct.proofs.MovesOfArrays.{array-opens}
@@ -62,8 +62,7 @@ array-begins s old new access digits from to p letters takes is ordered inside s
         let entry = opens.Array access from to in
         record {
           state = p.state;
-          candidates = subst (λ v. AreCandidates (detail_of s) new.text.list.items v.list.items p.state.candidates) (sym candidates)
-              (subst (λ v. AreCandidates (detail_of s) v.list.items old.candidates.list.items p.state.candidates) (sym text) p.candidates);
+          candidates = candidates-same (detail_of s) old new p.state.candidates text candidates p.candidates;
           is_before = (
             f.inner,
             around,
@@ -157,9 +156,7 @@ array-written s readable w begun first second third last access from to p size t
     let bytes = p.bytes ++ opening ++ digits ++ codes "]" in
     let then_ = with_accessed access p.made_in own p.state in
     let is : size ≡ digits = size_is ∙ ap (λ l. values.normal l) p.size in
-    let known : AreCandidates (detail_of s) begun.text.list.items begun.candidates.list.items p.state.candidates =
-    subst (λ v. AreCandidates (detail_of s) v.list.items begun.candidates.list.items p.state.candidates) (sym text)
-    (subst (λ v. AreCandidates (detail_of s) w.text.list.items v.list.items p.state.candidates) (sym candidates) p.candidates) in
+    let known = candidates-same (detail_of s) w begun p.state.candidates text candidates p.candidates in
     let grown : third.text.list.items ≡ p.front ++ bytes =
     three.text ∙ ap (λ l. l ++ codes "]") (two.text ∙ ap (λ l. first.text.list.items ++ l) is
     ∙ ap (λ l. l ++ digits) (one.text ∙ ap (λ v. v.list.items ++ opening) text ∙ ap (λ l. l ++ opening) p.written))

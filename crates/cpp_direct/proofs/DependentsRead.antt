@@ -1,18 +1,22 @@
 -- A type that names an argument of a function's template is read, and handed on.
 use Rattle.sym_print.specs.declared.detail.Detail.{Detail}
+use Rattle.cpp_grammar.specs.Unfolding.{byte_of, close}
+use Rattle.cpp_grammar.specs.Meaning.{meaning}
+use Rattle.cpp_grammar.specs.Unfolding as unfolding_
 use Rattle.cpp_direct.specs.Symbol.{detail_of, Symbol}
 use Rattle.cpp_direct.proofs.EnclosingFunctions.{parameter-got-within}
 use Rattle.cpp_direct.proofs.Handed.{front-got, parameter-got}
 use Rattle.cpp_direct.proofs.Kept.{candidate-found, candidate-stays, candidates-more, candidates-stay, candidates-written, piece-found}
 use Rattle.cpp_direct.proofs.Listed.{last-found}
-use Rattle.cpp_direct.proofs.Moves.{stands-join, stands-split, expects-number, expects-empty, first-of, next-of, last-of}
+use Rattle.cpp_direct.proofs.Filling.{hole, eats, byte-opens, next-part, closes, none-fills, number-fills, is_eaten}
+use Rattle.cpp_direct.proofs.Moves.{stands-join, stands-split, expects-empty}
 use Rattle.cpp_direct.proofs.MovesOfTypes.{open-substitution-opens, solid-opens}
 use Rattle.cpp_direct.proofs.PrintedTypes.{parameter-prints, type-element-in}
 use Rattle.cpp_direct.specs.declared.open.Mark.{Mark}
-use Rattle.cpp_direct.specs.Holes.{Opened, StandsAt, Comes, candidate, with_candidate, opened, Expects, IsTyped}
+use Rattle.cpp_direct.specs.Holes.{Opened, StandsAt, Comes, candidate, with_candidate, Expects, IsTyped}
 use Rattle.cpp_direct.specs.Prints.{NamesArgument, Prints, PrintsIn, PrintsBehind}
 use Rattle.cpp_direct.specs.WriterInvariant.{AreCandidates, HasArguments, IsArgument, IsKnown, PrintsOrNames, IsPlaced, IsPlain, IsWriting, Marks, Stands, argument_of, IsScope, place_of}
-use Rattle.cpp_direct.specs.MidStep.{AwaitsType, AwaitsNamedType, AwaitsDependentMark, IsFrontRead, IsNamedAgain, IsParameterEnded, parameter_digits}
+use Rattle.cpp_direct.specs.MidStep.{AwaitsType, AwaitsDependentMark, IsFrontRead, IsNamedAgain, IsParameterEnded, parameter_digits}
 use Rattle.cpp_direct.specs.MidStepOfLocals.{IsEnclosingParameterRead}
 use Rattle.cpp_direct.specs.Written.{Writes, with_dependent}
 use Rattle.cpp_direct.specs.declared.direct.Direct.{Direct}
@@ -23,30 +27,22 @@ use Rattle.cpp_direct.specs.declared.open.Candidate.{Candidate}
 use Rattle.cpp_direct.specs.declared.open.Arguments.{Arguments}
 use Rattle.cpp_direct.specs.declared.open.Step.TheVariants as steps
 use Rattle.cpp_grammar.specs.Between.{Going, between, after, applied, listed_so_far, parameter_so_far, index_of}
-use Rattle.cpp_grammar.specs.Grammar.{in_ranges, among, is_in, pick, number_of_kind, alternatives, choose, parts_of, is_chain, may_be_empty}
+use Rattle.cpp_grammar.specs.Grammar.{may_be_empty, number_of_kind, parts_of}
 use Rattle.cpp_grammar.specs.Items.{argument, indexed}
-use Rattle.cpp_grammar.specs.KindNumbers.{ARGUMENTS_ALONE}
-use Rattle.cpp_grammar.specs.Meaning.{meaning}
 use Rattle.cpp_grammar.specs.Parts.{types_of}
 use Rattle.cpp_grammar.specs.References.{appended, is_function_type, packs_in, with_packs, parameter_named}
 use Rattle.cpp_grammar.specs.Scope.{arguments_of, element, count, length_if_pack, pack_length}
-use Rattle.cpp_grammar.specs.Table.{rule_of}
 use Rattle.cpp_grammar.specs.Term.{Term, parameter}
-use Rattle.cpp_grammar.specs.Unfolding as unfolding_
-use Rattle.cpp_grammar.specs.Unfolding.{opening, close, byte_of}
 use Rattle.cpp_grammar.specs.Values as values
-use Rattle.cpp_grammar.specs.Values.{tree, State, Around, nothing_there, tree_of, is_there, text_of, part}
+use Rattle.cpp_grammar.specs.Values.{tree, State, Around, text_of, is_there, letter_of, part, piece_of, tree_of}
 use Rattle.cpp_grammar.specs.declared.kind.Kind.{Kind}
 use Rattle.cpp_grammar.specs.declared.production.Production.{Production}
 use Rattle.std.proofs.Common.{◌≡◌, ◌≢◌, ℕ, zero, suc, ◌+◌, ◌-◌, ◌≤◌, ◌<◌, length, List, [], ◌∷◌, ◌++◌, take, drop, reverse, slice_get, Bool, true, false, Option, Some, None, refl, ap, sym, ◌∙◌, subst, arith, append_assoc, append-nil, Ok}
 use Rattle.std.proofs.lemmas.Bool.{lt-ltb}
 use Rattle.std.proofs.lemmas.List.{length-append}
 use Rattle.sym_core.specs.Value.{counted_value}
-use Rattle.sym_core.specs.declared.NumberKind.TheVariants.{Seq36}
+use Rattle.sym_core.specs.declared.NumberKind.TheVariants.{Seq36, Decimal}
 use Rattle.sym_core.specs.Token.{Token, IsNumberToken}
-use Rattle.sym_core.specs.declared.NumberKind.TheVariants.{Decimal}
-use Rattle.sym_link.specs.Unfold.{standing}
-use Rattle.sym_shape.specs.declared.rule.Sym.TheVariants.{Kind as OfKind, Number}
 
 -- ## Moves
 
@@ -95,25 +91,15 @@ parameter-tested around k at st few scope =
 pub parameter-comes : (s : Symbol) (kind : Kind) (around : Around) (os : List Opened) (k at : ℕ) (st : State) → IsTyped kind → k ≤ 3
     → IsScope k false around → Expects s kind around os at st → StandsAt s.bytes at (84 ∷ (parameter_digits k ++ 95 ∷ []))
     → Comes s os (tree (parameter k) true) (at + 1 + length (parameter_digits k ++ 95 ∷ [])) (with_candidate around (parameter k) st)
-unfolding choose alternatives pick is_in in_ranges among is_chain parts_of number_of_kind between opening close unfolding_.behind meaning byte_of tree_of is_there part applied may_be_empty is_function_type
+unfolding is_eaten number_of_kind parts_of may_be_empty between close unfolding_.behind meaning part byte_of tree_of text_of piece_of letter_of is_there applied is_function_type
 parameter-comes s kind around os k at st typed few scope expects stands =
     let p = Production.Parameter in
-    let t = parameter k in
-    let v = tree t true in
-    let later = with_candidate around t st in
-    let digits = parameter_digits k in
-    let end = at + 1 + length (digits ++ 95 ∷ []) in
-    let both = stands-split s.bytes at (84 ∷ []) (digits ++ 95 ∷ []) stands in
+    let end = at + 1 + length (parameter_digits k ++ 95 ∷ []) in
+    let both = stands-split s.bytes at (84 ∷ []) (parameter_digits k ++ 95 ∷ []) stands in
     let solid = solid-opens s kind around os at st typed expects in
-    let rule = standing (rule_of p) (84 ∷ []) at around st in
-    let number = expects-number s Decimal around (opened rule [] (OfKind ARGUMENTS_ALONE ∷ []) ∷ solid.inner) (at + 1) st (parameter_token k)
-    (first-of s Kind.Solid p 84 around solid.inner at st (Number Decimal) (OfKind ARGUMENTS_ALONE ∷ []) around [] st refl (omega arith) refl (λ f. refl)
-    refl refl solid.awaits both.0) (parameter-number k) both.1 in
-    let behind = next-of s p (84 ∷ []) at around st [] (values.text digits) (OfKind ARGUMENTS_ALONE) [] solid.inner end st (after t true around) (v ∷ [])
-    later (parameter-tested around k at st few scope) number in
-    solid.passes t true end later refl
-    (last-of s p (84 ∷ []) at around st (v ∷ []) nothing_there solid.inner end later v later refl
-    (expects-empty s Kind.ArgumentsAlone (after t true around) (opened rule (v ∷ []) [] ∷ solid.inner) end later behind refl))
+    let number = byte-opens (eats s Kind.Solid p 84 refl) (hole s Kind.Solid around solid.inner at st solid.awaits) both.0 refl refl in
+    let arguments = next-part p (number-fills (parameter_token k) number (parameter-number k) both.1) (parameter-tested around k at st few scope) in
+    solid.passes (parameter k) true end (with_candidate around (parameter k) st) refl (closes p (none-fills Kind.ArgumentsAlone arguments refl) refl).comes
 
 -- the digits of a parameter's number come before its line
 pub digit-stands : (s : List ℕ) (at k digit : ℕ) → parameter_digits k ≡ digit ∷ [] → StandsAt s at (digit ∷ []) → StandsAt s (at + 1) (95 ∷ [])
@@ -172,19 +158,11 @@ argument-placed s (opens.Enclosing mark from to a ∷ rest) os text p k stands f
 argument-placed s _ os text p k stands found known = cc found
 
 -- so it can be written once more
-pub argument-inside : (s : Symbol) (w : Direct) (all : Arguments) (k : ℕ) (p : Argument) → AwaitsType s w
+pub argument-inside : (s : Symbol) (w : Direct) (all : Arguments) (k : ℕ) (p : Argument) (os : List Opened)
+    → Stands s (reverse w.waiting.list.items) os w.text.list.items
     → argument_of (reverse w.waiting.list.items) ≡ Some all → p ≡ place_of all k → p.from ≤ p.to → p.to ≤ length w.text.list.items
-argument-inside s w all k p a found is known =
-    let h = argument-placed s (reverse w.waiting.list.items) a.os w.text.list.items all k a.stands found (subst IsKnown is known) in
-    let q = place_of all k in
-    let inside = (piece-found w.text.list.items h.1.front h.0 h.1.back q.from q.to h.1.written h.1.from_is h.1.to_is).1 in
-    subst (λ (j : Argument). j.to ≤ length w.text.list.items) (sym is) inside
-
--- the same where a name is expected
-pub argument-within : (s : Symbol) (w : Direct) (all : Arguments) (k : ℕ) (p : Argument) → AwaitsNamedType s w
-    → argument_of (reverse w.waiting.list.items) ≡ Some all → p ≡ place_of all k → p.from ≤ p.to → p.to ≤ length w.text.list.items
-argument-within s w all k p a found is known =
-    let h = argument-placed s (reverse w.waiting.list.items) a.os w.text.list.items all k a.stands found (subst IsKnown is known) in
+argument-inside s w all k p os stands found is known =
+    let h = argument-placed s (reverse w.waiting.list.items) os w.text.list.items all k stands found (subst IsKnown is known) in
     let q = place_of all k in
     let inside = (piece-found w.text.list.items h.1.front h.0 h.1.back q.from q.to h.1.written h.1.from_is h.1.to_is).1 in
     subst (λ (j : Argument). j.to ≤ length w.text.list.items) (sym is) inside

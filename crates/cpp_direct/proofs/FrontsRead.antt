@@ -20,11 +20,11 @@ use Rattle.cpp_direct.specs.declared.direct.Direct.{Direct}
 use Rattle.cpp_direct.specs.Bytes.{is_local}
 use Rattle.cpp_direct.specs.Holes.{Expects}
 use Rattle.cpp_direct.specs.Prints.{PrintsIn, Shows, Encloses}
-use Rattle.cpp_direct.specs.WriterInvariant.{AreCandidates, EncodedBehind, Fronts, HasArguments, IsScoped, IsWriting, IsInstance, named_in, ParametersGoOn, Stands, qualifiers, plain_encoding, encoding_place}
+use Rattle.cpp_direct.specs.WriterInvariant.{EncodedBehind, Fronts, HasArguments, IsScoped, IsWriting, IsInstance, named_in, ParametersGoOn, Stands, qualifiers, plain_encoding, encoding_place}
 use Rattle.cpp_direct.specs.MidStep.{IsNameEnded, IsFrontRead, AwaitsParameters}
 use Rattle.cpp_direct.specs.Written.{Writes}
 use Rattle.cpp_direct.proofs.Ending.{name-scoped, no-text, none-go_on, parameter-goes_on}
-use Rattle.cpp_direct.proofs.Kept.{candidates-written, reverse-last}
+use Rattle.cpp_direct.proofs.Kept.{candidates-same, candidates-written, reverse-last}
 use Rattle.cpp_direct.proofs.MovesOfLists.{element-awaits}
 use Rattle.cpp_direct.proofs.PrintedLists.{none-print-in}
 use Rattle.cpp_direct.proofs.Scopes.{arguments-named, arguments-stay, front-scoped}
@@ -62,8 +62,7 @@ front-begins s w new mark argument_ from start place p apart first place_is star
     ) in
     record {
       state = p.state;
-      candidates = subst (λ v. AreCandidates (detail_of s) v.list.items new.candidates.list.items p.state.candidates) (sym text)
-          (subst (λ v. AreCandidates (detail_of s) w.text.list.items v.list.items p.state.candidates) (sym candidates) p.candidates);
+      candidates = candidates-same (detail_of s) w new p.state.candidates text candidates p.candidates;
       is_before = (
         element.inner,
         goes.around,
@@ -109,9 +108,7 @@ front-turned s w here first last mark start argument p whole_ plain text candida
     let again : take (start - 0) (drop 0 first.text.list.items) ≡ p.front =
     ap (λ n. take n first.text.list.items) (omega (arith, p.start_is)) ∙ ap (λ l. take (length p.front) l) front ∙ take-append_seam p.front lead in
     let written : last.text.list.items ≡ p.front ++ lead ++ p.front = two.text ∙ ap (λ l. first.text.list.items ++ l) again ∙ ap (λ l. l ++ p.front) front in
-    let known : AreCandidates (detail_of s) here.text.list.items here.candidates.list.items p.state.candidates =
-    subst (λ v. AreCandidates (detail_of s) v.list.items here.candidates.list.items p.state.candidates) (sym text)
-    (subst (λ v. AreCandidates (detail_of s) w.text.list.items v.list.items p.state.candidates) (sym candidates) p.candidates) in
+    let known = candidates-same (detail_of s) w here p.state.candidates text candidates p.candidates in
     record {
       state = p.state;
       candidates = candidates-written (detail_of s) first last (take (start - 0) (drop 0 first.text.list.items)) p.state.candidates two
@@ -226,8 +223,7 @@ front-bare s w last mark start argument p bare text candidates at =
     let written : last.text.list.items ≡ p.front ++ p.bytes = ap (λ v. v.list.items) text ∙ p.written in
     record {
       state = p.state;
-      candidates = subst (λ v. AreCandidates (detail_of s) v.list.items last.candidates.list.items p.state.candidates) (sym text)
-          (subst (λ v. AreCandidates (detail_of s) w.text.list.items v.list.items p.state.candidates) (sym candidates) p.candidates);
+      candidates = candidates-same (detail_of s) w last p.state.candidates text candidates p.candidates;
       make = λ l. plain_encoding mark is.own l;
       front = p.front ++ p.bytes;
       lead = p.lead;

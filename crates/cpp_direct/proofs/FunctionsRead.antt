@@ -9,8 +9,8 @@ use Rattle.cpp_direct.specs.declared.direct.Direct.{Direct}
 use Rattle.cpp_direct.specs.Holes.{Opened, StandsAt, Expects}
 use Rattle.cpp_direct.specs.HolesOfFunctions.{FunctionOpened}
 use Rattle.cpp_direct.specs.HolesOfTypes.{NoReference, IsQualifiable}
-use Rattle.cpp_direct.specs.WriterInvariant.{IsScoped, AreCandidates, TakesFunction, Stands, IsWriting}
-use Rattle.cpp_direct.proofs.Kept.{reverse-last}
+use Rattle.cpp_direct.specs.WriterInvariant.{IsScoped, TakesFunction, Stands, IsWriting}
+use Rattle.cpp_direct.proofs.Kept.{candidates-same, reverse-last}
 use Rattle.cpp_direct.proofs.Scopes.{none-scoped}
 use Rattle.cpp_direct.proofs.MovesOfFunctions.{function-opens, pointed-function-opens}
 
@@ -40,8 +40,7 @@ function-begins s old new is_pointer p letters takes waits at text candidates = 
         let f = return-opens s is_pointer kind os around old.at p.state whole p.is_before.2 expects letters in
         record {
           state = p.state;
-          candidates = subst (λ v. AreCandidates (detail_of s) new.text.list.items v.list.items p.state.candidates) (sym candidates)
-              (subst (λ v. AreCandidates (detail_of s) v.list.items old.candidates.list.items p.state.candidates) (sym text) p.candidates);
+          candidates = candidates-same (detail_of s) old new p.state.candidates text candidates p.candidates;
           is_before = (
             f.inner,
             around,

@@ -1,6 +1,6 @@
 -- What a writer keeps while its text and its lists grow.
 use Rattle.sym_print.specs.declared.detail.Detail.{Detail}
-use Rattle.std.proofs.Common.{◌≡◌, ℕ, zero, suc, ◌+◌, ◌-◌, ◌≤◌, length, List, [], ◌∷◌, ◌++◌, take, drop, reverse, slice_get, Bool, true, false, Option, Some, None, is_some, refl, ap, sym, ◌∙◌, subst, arith, append_assoc, append-nil, codes}
+use Rattle.std.proofs.Common.{◌≡◌, ℕ, zero, suc, ◌+◌, ◌-◌, ◌≤◌, length, List, [], ◌∷◌, ◌++◌, take, drop, reverse, slice_get, Bool, true, false, Option, Some, None, is_some, refl, ap, sym, ◌∙◌, subst, arith, append_assoc, append-nil}
 use Rattle.std.proofs.lemmas.Bool.{false≢true}
 use Rattle.std.proofs.lemmas.List.{length-append, reverse-append, reverse-reverse}
 use Rattle.std.proofs.Math.Seq.{drop-append_seam, take-append_seam}
@@ -14,7 +14,7 @@ use Rattle.cpp_direct.specs.declared.open.Nest.{Nest}
 use Rattle.cpp_direct.specs.declared.open.Open.{Open}
 use Rattle.cpp_direct.specs.declared.open.Open.TheVariants as opens
 use Rattle.cpp_direct.specs.declared.direct.Direct.{Direct}
-use Rattle.cpp_direct.specs.Holes.{candidate, with_candidate, unless_listed}
+use Rattle.cpp_direct.specs.Holes.{Opened, candidate, with_candidate, unless_listed}
 use Rattle.cpp_direct.specs.Prints.{Prints}
 use Rattle.cpp_direct.specs.declared.open.Step.TheVariants as steps
 use Rattle.cpp_direct.specs.WriterInvariant.{IsCandidate, PrintsAs, PrintsOrNames, AreCandidates, IsBefore, IsNest, IsTemplate, ArgumentsGoOn, Stands, of_template}
@@ -23,7 +23,7 @@ use Rattle.cpp_direct.specs.Written.{Writes, Reads, added, added_unless}
 -- ## Pieces of a text
 
 -- a piece is in its place still where more is written
-piece-stays : (text front bytes back more : List ℕ) → text ≡ front ++ bytes ++ back → text ++ more ≡ front ++ bytes ++ (back ++ more)
+pub piece-stays : (text front bytes back more : List ℕ) → text ≡ front ++ bytes ++ back → text ++ more ≡ front ++ bytes ++ (back ++ more)
 piece-stays text front bytes back more e = ap (λ l. l ++ more) e ∙ append_assoc (front ++ bytes) back more
 
 -- a piece by its place
@@ -104,21 +104,37 @@ pub candidates-unless : {detail : Detail} (w : Direct) (st : State) (listed : Bo
 candidates-unless w st true front bytes from t around p written from_is prints = p
 candidates-unless w st false front bytes from t around p written from_is prints = candidates-with w st front bytes from t around false p written from_is prints
 
+-- these bytes were written
+pub candidates-grown : (detail : Detail) (old new : Direct) (bytes : List ℕ) (cs : List values.Candidate)
+    → new.text.list.items ≡ old.text.list.items ++ bytes → new.candidates ≡ old.candidates
+    → AreCandidates detail old.text.list.items old.candidates.list.items cs → AreCandidates detail new.text.list.items new.candidates.list.items cs
+candidates-grown detail old new bytes cs text candidates p =
+    subst (λ l. AreCandidates detail l new.candidates.list.items cs) (sym text)
+    (subst (λ v. AreCandidates detail (old.text.list.items ++ bytes) v.list.items cs) (sym candidates)
+    (candidates-stay detail old.text.list.items bytes old.candidates.list.items cs p))
+
 -- a text was written
 pub candidates-written : (detail : Detail) (old new : Direct) (bytes : List ℕ) (cs : List values.Candidate) → Writes old new bytes
     → AreCandidates detail old.text.list.items old.candidates.list.items cs → AreCandidates detail new.text.list.items new.candidates.list.items cs
-candidates-written detail old new bytes cs writes p =
-    subst (λ l. AreCandidates detail l new.candidates.list.items cs) (sym writes.text)
-    (subst (λ v. AreCandidates detail (old.text.list.items ++ bytes) v.list.items cs) (sym writes.candidates)
-    (candidates-stay detail old.text.list.items bytes old.candidates.list.items cs p))
+candidates-written detail old new bytes cs writes p = candidates-grown detail old new bytes cs writes.text writes.candidates p
 
 -- the same where something was read
 pub candidates-read : (detail : Detail) (old new : Direct) (bytes : List ℕ) (cs : List values.Candidate) → Reads old new bytes
     → AreCandidates detail old.text.list.items old.candidates.list.items cs → AreCandidates detail new.text.list.items new.candidates.list.items cs
-candidates-read detail old new bytes cs reads p =
-    subst (λ l. AreCandidates detail l new.candidates.list.items cs) (sym reads.text)
-    (subst (λ v. AreCandidates detail (old.text.list.items ++ bytes) v.list.items cs) (sym reads.candidates)
-    (candidates-stay detail old.text.list.items bytes old.candidates.list.items cs p))
+candidates-read detail old new bytes cs reads p = candidates-grown detail old new bytes cs reads.text reads.candidates p
+
+-- nothing was written
+pub candidates-same : (detail : Detail) (old new : Direct) (cs : List values.Candidate) → new.text ≡ old.text → new.candidates ≡ old.candidates
+    → AreCandidates detail old.text.list.items old.candidates.list.items cs → AreCandidates detail new.text.list.items new.candidates.list.items cs
+candidates-same detail old new cs text candidates p =
+    subst (λ v. AreCandidates detail new.text.list.items v.list.items cs) (sym candidates)
+    (subst (λ v. AreCandidates detail v.list.items old.candidates.list.items cs) (sym text) p)
+
+-- and these wait
+pub stands-same : (s : Symbol) (old new : Direct) (os : List Opened) {ws : List Open} → new.text ≡ old.text → reverse new.waiting.list.items ≡ ws
+    → Stands s ws os old.text.list.items → Stands s (reverse new.waiting.list.items) os new.text.list.items
+stands-same s old new os {ws = ws} text waits stands =
+    subst (λ v. Stands s (reverse new.waiting.list.items) os v.list.items) (sym text) (subst (λ ws. Stands s ws os old.text.list.items) (sym waits) stands)
 
 -- what names no argument prints its text
 pub plainly-prints : {detail : Detail} (k : Candidate) (c : values.Candidate) (bytes : List ℕ) → k.is_dependent ≡ false → PrintsAs detail k c bytes

@@ -7,6 +7,7 @@ mod EnclosingFunctions
 pub mod Ending
 pub mod Entities
 pub mod ExpansionsRead
+mod Filling
 pub mod FoundTokens
 pub mod FrontsRead
 pub mod FunctionsRead
@@ -29,7 +30,6 @@ pub mod MovesOfNests
 pub mod Alone
 pub mod MovesOfTags
 mod MovesOfTypes
-mod MovesOfUnscoped
 pub mod NamePlaces
 pub mod NestComponents
 pub mod Nesting

@@ -25,14 +25,13 @@ use Rattle.cpp_direct.specs.Prints.{PrintAll, list_of}
 use Rattle.cpp_direct.specs.WriterInvariant.{HasArguments, argument_of, AreCandidates, IsListing, IsNest, IsTail, IsTemplate, IsWriting, Owns, Serves, ArgumentsGoOn, AwaitsElementOf, AwaitsEnumerator, Belongs, Closes, ElementsGoOn, EnumeratorGoesOn, GoesOn, Listing, of_template, of_pack, Stands, element_kind, extra_of, led_by, list_with, in_front_of_next, nowhere}
 use Rattle.cpp_direct.specs.MidStep.{AreKnown, IsListEnded, AwaitsNextArgument, IsNameEnded}
 use Rattle.cpp_direct.specs.Written.{Writes, added}
-use Rattle.sym_print.specs.Details.{has_arguments}
 use Rattle.cpp_direct.proofs.Moves.{expects-empty, stands-split}
 use Rattle.cpp_direct.proofs.MovesOfLists.{element-awaits, pack-opens}
-use Rattle.cpp_direct.proofs.PrintedLists.{list-with-none, next-prints, none-print, pack-element}
+use Rattle.cpp_direct.proofs.PrintedLists.{list-more, list-with-none, next-prints, none-print, pack-element}
 use Rattle.cpp_direct.proofs.PrintedNames.{as-name}
 use Rattle.cpp_direct.proofs.PrintedNests.{instance-prints, instance-class}
 use Rattle.cpp_direct.proofs.Scopes.{element-there, instance-returns, known-stay, none-known, none-scoped, structor-returns}
-use Rattle.cpp_direct.proofs.Kept.{candidates-stay, candidates-with, template-stays, reverse-last, last-reversed}
+use Rattle.cpp_direct.proofs.Kept.{candidates-same, candidates-stay, candidates-with, template-stays, reverse-last, last-reversed}
 
 -- ## What is open
 
@@ -62,10 +61,6 @@ pub waits-last : (items xs : List Open) (x y : Open) → xs ≡ items → Some x
 waits-last items xs x y same found is = ap (λ l. slice_get l (length l - 1)) (sym same) ∙ sym found ∙ ap (λ o. Some o) is
 
 -- ## Lists
-
-pub list-more : (ts : List Term) (t r : Term) → list_with (ts ++ t ∷ []) r ≡ list_with ts (list t r)
-list-more [] t r = refl
-list-more (u ∷ ts) t r = ap (λ l. list u l) (list-more ts t r)
 
 -- one more element after these
 pub some-elements : (ts : List Term) (t : Term) → ts ++ t ∷ [] ≢ []
@@ -464,8 +459,7 @@ pack-ends s w new p stands found text candidates at popped = go p.is_before.0.li
         let same : new.text.list.items ≡ w.text.list.items = ap (λ v. v.list.items) text in
         record {
           state = p.state;
-          candidates = subst (λ v. AreCandidates (detail_of s) new.text.list.items v.list.items p.state.candidates) (sym candidates)
-              (subst (λ v. AreCandidates (detail_of s) v.list.items w.candidates.list.items p.state.candidates) (sym text) p.candidates);
+          candidates = candidates-same (detail_of s) w new p.state.candidates text candidates p.candidates;
           is_before = (
             record {
               listing = of_template;
@@ -553,8 +547,7 @@ pack-begins s old new owner a stands found other waits at text candidates = go a
         let written = subst (λ l. old.text.list.items ≡ led_by (detail_of s) l p.front p.name ++ in_front_of_next a.ts a.texts) is a.written in
         record {
           state = a.state;
-          candidates = subst (λ v. AreCandidates (detail_of s) new.text.list.items v.list.items a.state.candidates) (sym candidates)
-              (subst (λ v. AreCandidates (detail_of s) v.list.items old.candidates.list.items a.state.candidates) (sym text) a.candidates);
+          candidates = candidates-same (detail_of s) old new a.state.candidates text candidates a.candidates;
           is_before = (
             record {
               listing = of_pack a.ts a.texts;

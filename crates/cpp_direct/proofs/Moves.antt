@@ -1,11 +1,8 @@
 -- The moves of a reader that goes from left to right: a rule opens, its next part is expected, and it closes.
-use Rattle.std.proofs.Common.{◌≡◌, ℕ, ◌+◌, ◌<◌, List, [], ◌∷◌, ◌++◌, length, slice_get, true, false, not, Some, Ok, refl, ap, sym, subst, ◌∙◌, arith}
+use Rattle.std.proofs.Common.{◌≡◌, ℕ, ◌+◌, ◌<◌, List, [], ◌∷◌, ◌++◌, length, slice_get, true, not, Some, Ok, refl, ap, subst, ◌∙◌}
 use Rattle.std.specs.Prelude.{if◌then◌else◌}
-use Rattle.sym_core.specs.declared.NumberKind.{NumberKind}
-use Rattle.sym_core.specs.declared.NumberKind.TheVariants.{Seq36}
-use Rattle.sym_core.specs.Token.{Token, bytes_of, IsNumberToken}
 use Rattle.sym_shape.specs.declared.rule.Sym.{Sym}
-use Rattle.sym_shape.specs.declared.rule.Sym.TheVariants.{Kind as OfKind, Name, Number, Byte}
+use Rattle.sym_shape.specs.declared.rule.Sym.TheVariants.{Kind as OfKind}
 use Rattle.sym_shape.specs.Table.{symbols_of}
 use Rattle.sym_shape.specs.Tree.{Forest, AreTrees, TakesRule, spell_all}
 use Rattle.sym_link.specs.Reading.{Next}
@@ -14,17 +11,17 @@ use Rattle.cpp_grammar.specs.declared.kind.Kind.{Kind}
 use Rattle.cpp_grammar.specs.declared.production.Production.{Production}
 use Rattle.cpp_grammar.specs.Grammar.{kinds, number_of_kind, choose, parts_of, is_chain, may_be_empty}
 use Rattle.cpp_grammar.specs.Table.{rule_of}
-use Rattle.cpp_grammar.specs.Values.{State, Around, Value, nothing_there, text}
+use Rattle.cpp_grammar.specs.Values.{State, Around, Value, nothing_there}
 use Rattle.cpp_grammar.specs.Between.{Going, between}
 use Rattle.cpp_grammar.specs.Unfolding.{cpp, opening, close, byte_of}
 use Rattle.cpp_grammar.specs.Wide.{wide_choose}
 use Rattle.cpp_grammar.proofs.ClosedTrees.{at_number, its_symbols}
 use Rattle.cpp_direct.proofs.Tables as tables
-use Rattle.cpp_direct.proofs.Tables.{takes-by, empty-by, names-by}
+use Rattle.cpp_direct.proofs.Tables.{takes-by, empty-by}
 use Rattle.sym_direct.specs.Holes as direct
 use Rattle.sym_direct.proofs.Moves as moves
 use Rattle.cpp_direct.specs.Symbol.{Symbol, table_by}
-use Rattle.cpp_direct.specs.Holes.{cpp_language, Opened, opened, ReadsRest, StandsAt, Comes, Needs, ExpectsSym, Expects, IsNameAt, IsSeqAt}
+use Rattle.cpp_direct.specs.Holes.{cpp_language, Opened, opened, ReadsRest, StandsAt, Comes, Needs, ExpectsSym, Expects}
 
 -- ## Kinds
 
@@ -74,22 +71,13 @@ unfolding cpp
 begins-so p taken around at st begins f = ap (λ q. opening q f at st) (at_number p) ∙ begins f
 
 -- a kind takes a production: the production's rule is open
-opens-by : (s : Symbol) (kind : Kind) (p : Production) (taken : List ℕ) (around : Around) (os : List Opened) (at : ℕ) (st : State)
+pub opens-by : (s : Symbol) (kind : Kind) (p : Production) (taken : List ℕ) (around : Around) (os : List Opened) (at : ℕ) (st : State)
     → TakesRule (table_by s.is_wide) (number_of_kind kind) (rule_of p) taken → ((f : Forest) → opening p f at st ≡ Ok st)
     → Expects s kind around os at st → StandsAt s.bytes at taken
     → Needs s os (standing (rule_of p) taken at around st) [] (parts_of p) (at + length taken) st
 opens-by s kind p taken around os at st takes begins expects stands =
     subst (λ l. Needs s os (standing (rule_of p) taken at around st) [] l (at + length taken) st) (its_symbols p)
     (moves.opens (cpp_language s) s.bytes (number_of_kind kind) (rule_of p) taken around os at st st takes (begins-so p taken around at st begins) expects stands)
-
--- one that it takes at its byte
-pub opens : (s : Symbol) (kind : Kind) (p : Production) (byte : ℕ) (taken : List ℕ) (around : Around) (os : List Opened) (at : ℕ) (st : State)
-    → choose kind byte ≡ Some p → byte < 256 → taken ≡ (if not (is_chain p) then byte ∷ [] else [])
-    → ((f : Forest) → opening p f at st ≡ Ok st)
-    → Expects s kind around os at st → StandsAt s.bytes at taken
-    → Needs s os (standing (rule_of p) taken at around st) [] (parts_of p) (at + length taken) st
-opens s kind p byte taken around os at st chosen small takes begins expects stands =
-    opens-by s kind p taken around os at st (takes-it s kind p byte taken chosen small takes) begins expects stands
 
 -- the same where the production begins well with whatever parts are in the symbol
 pub opens-where : (s : Symbol) (kind : Kind) (p : Production) (byte : ℕ) (taken : List ℕ) (around : Around) (os : List Opened) (at : ℕ) (st : State)
@@ -168,8 +156,6 @@ ends s p taken at0 around before known os at st w after needs closes =
     moves.ends (cpp_language s) s.bytes (standing (rule_of p) taken at0 around before) known os at st w after needs
     (closed-so p taken at0 around before known st w after closes)
 
--- ## Parts without a row, and tokens
-
 -- nothing stands for a kind that may be empty
 pub expects-empty : (s : Symbol) (kind : Kind) (around : Around) (os : List Opened) (at : ℕ) (st : State)
     → Expects s kind around os at st → may_be_empty kind ≡ true → Comes s os nothing_there at st
@@ -177,140 +163,3 @@ unfolding cpp
 expects-empty s kind around os at st expects may =
     moves.expects-empty (cpp_language s) s.bytes (number_of_kind kind) around os at st expects
     (empty-by s.is_wide (number_of_kind kind) kind (kind-at kind) ∙ may)
-
--- a byte that the rule has
-pub expects-byte : (s : Symbol) (b : ℕ) (around : Around) (os : List Opened) (at : ℕ) (st : State)
-    → ExpectsSym s (Byte b) around os at st → StandsAt s.bytes at (b ∷ []) → Comes s os nothing_there (at + 1) st
-unfolding cpp
-expects-byte s b around os at st expects stands = moves.expects-byte (cpp_language s) s.bytes b around os at st expects stands
-
--- a name
-pub expects-name : (s : Symbol) (around : Around) (os : List Opened) (at : ℕ) (st : State) (name : List ℕ) (end : ℕ)
-    → ExpectsSym s Name around os at st → IsNameAt s.bytes at name end → Comes s os (text name) end st
-unfolding cpp
-expects-name s around os at st name end expects is =
-    subst (λ l. Comes s os (text l) end st) is.own
-    (comes-moved s os (text is.token.own) (at + length (bytes_of is.token)) end st (sym is.ends)
-    (moves.expects-token (cpp_language s) s.bytes Name around os at st is.token (text is.token.own) st expects (names-by s.is_wide Name is.token is.is_name) refl is.stands))
-
--- a number of a kind
-pub expects-number : (s : Symbol) (kind : NumberKind) (around : Around) (os : List Opened) (at : ℕ) (st : State) (t : Token)
-    → ExpectsSym s (Number kind) around os at st → IsNumberToken kind t → StandsAt s.bytes at (bytes_of t)
-    → Comes s os (text t.own) (at + length (bytes_of t)) st
-unfolding cpp
-expects-number s kind around os at st t expects is stands =
-    moves.expects-token (cpp_language s) s.bytes (Number kind) around os at st t (text t.own) st expects (names-by s.is_wide (Number kind) t is) refl stands
-
--- the number of a substitution
-pub expects-seq : (s : Symbol) (around : Around) (os : List Opened) (at : ℕ) (st : State) (digits : List ℕ) (end : ℕ)
-    → ExpectsSym s (Number Seq36) around os at st → IsSeqAt s.bytes at digits end → Comes s os (text digits) end st
-expects-seq s around os at st digits end expects is =
-    subst (λ l. Comes s os (text l) end st) is.own
-    (comes-moved s os (text is.token.own) (at + length (bytes_of is.token)) end st (sym is.ends)
-    (expects-number s Seq36 around os at st is.token expects is.is_number is.stands))
-
--- ## Moves of a rule
-
-takes-byte : (p : Production) (byte : ℕ) → is_chain p ≡ false → (byte ∷ []) ≡ (if not (is_chain p) then byte ∷ [] else [])
-takes-byte p byte chain = sym (ap (λ b. if not b then byte ∷ [] else []) chain)
-
-takes-none : (p : Production) (byte : ℕ) → is_chain p ≡ true → [] ≡ (if not (is_chain p) then byte ∷ [] else [])
-takes-none p byte chain = sym (ap (λ b. if not b then byte ∷ [] else []) chain)
-
--- a production that takes its byte is open
-pub opens-byte : (s : Symbol) (kind : Kind) (p : Production) (byte : ℕ) (around : Around) (os : List Opened) (at : ℕ) (st : State)
-    → choose kind byte ≡ Some p → byte < 256 → is_chain p ≡ false → ((f : Forest) → opening p f at st ≡ Ok st)
-    → Expects s kind around os at st → StandsAt s.bytes at (byte ∷ [])
-    → Needs s os (standing (rule_of p) (byte ∷ []) at around st) [] (parts_of p) (at + 1) st
-opens-byte s kind p byte around os at st chosen small chain begins expects stands =
-    opens s kind p byte (byte ∷ []) around os at st chosen small (takes-byte p byte chain) begins expects stands
-
--- A production that takes no byte is open; the byte is any at which it is taken.
-pub opens-chain : (s : Symbol) (kind : Kind) (p : Production) (byte : ℕ) (around : Around) (os : List Opened) (at : ℕ) (st : State)
-    → choose kind byte ≡ Some p → byte < 256 → is_chain p ≡ true → ((f : Forest) → opening p f at st ≡ Ok st)
-    → Expects s kind around os at st
-    → Needs s os (standing (rule_of p) [] at around st) [] (parts_of p) at st
-opens-chain s kind p byte around os at st chosen small chain begins expects =
-    subst (λ k. Needs s os (standing (rule_of p) [] at around st) [] (parts_of p) k st) (omega arith)
-    (opens s kind p byte [] around os at st chosen small (takes-none p byte chain) begins expects (stands-none s.bytes at))
-
--- the first part of a production that takes its byte is expected
-pub first-of : (s : Symbol) (kind : Kind) (p : Production) (byte : ℕ) (around : Around) (os : List Opened) (at : ℕ) (st : State) (x : Sym)
-    (todo : List Sym) (context : Around) (values : List Value) (state : State)
-    → choose kind byte ≡ Some p → byte < 256 → is_chain p ≡ false → ((f : Forest) → opening p f at st ≡ Ok st) → parts_of p ≡ x ∷ todo
-    → ◌≡◌ {A = Going} (between p around at [] st) (Ok (record { context = context; values = values; state = state }))
-    → Expects s kind around os at st → StandsAt s.bytes at (byte ∷ [])
-    → ExpectsSym s x context (opened (standing (rule_of p) (byte ∷ []) at around st) values todo ∷ os) (at + 1) state
-first-of s kind p byte around os at st x todo context values state chosen small chain begins parts goes expects stands =
-    needs-next s p (byte ∷ []) at around st [] x todo os (at + 1) st context values state goes
-    (subst (λ l. Needs s os (standing (rule_of p) (byte ∷ []) at around st) [] l (at + 1) st) parts
-    (opens-byte s kind p byte around os at st chosen small chain begins expects stands))
-
--- The first part of a production that takes no byte is expected; the byte is any at which it is taken.
-pub first-of-chain : (s : Symbol) (kind : Kind) (p : Production) (byte : ℕ) (around : Around) (os : List Opened) (at : ℕ) (st : State) (x : Sym)
-    (todo : List Sym) (context : Around) (values : List Value) (state : State)
-    → choose kind byte ≡ Some p → byte < 256 → is_chain p ≡ true → ((f : Forest) → opening p f at st ≡ Ok st) → parts_of p ≡ x ∷ todo
-    → ◌≡◌ {A = Going} (between p around at [] st) (Ok (record { context = context; values = values; state = state }))
-    → Expects s kind around os at st
-    → ExpectsSym s x context (opened (standing (rule_of p) [] at around st) values todo ∷ os) at state
-first-of-chain s kind p byte around os at st x todo context values state chosen small chain begins parts goes expects =
-    needs-next s p [] at around st [] x todo os at st context values state goes
-    (subst (λ l. Needs s os (standing (rule_of p) [] at around st) [] l at st) parts
-    (opens-chain s kind p byte around os at st chosen small chain begins expects))
-
--- a part has come, and the next one is expected
-pub next-of : (s : Symbol) (p : Production) (taken : List ℕ) (at0 : ℕ) (around : Around) (before : State) (known : List Value) (v : Value) (x : Sym)
-    (todo : List Sym) (os : List Opened) (at : ℕ) (st : State) (context : Around) (values : List Value) (state : State)
-    → ◌≡◌ {A = Going} (between p around at0 (known ++ v ∷ []) st) (Ok (record { context = context; values = values; state = state }))
-    → Comes s (opened (standing (rule_of p) taken at0 around before) known (x ∷ todo) ∷ os) v at st
-    → ExpectsSym s x context (opened (standing (rule_of p) taken at0 around before) values todo ∷ os) at state
-next-of s p taken at0 around before known v x todo os at st context values state goes comes =
-    needs-next s p taken at0 around before (known ++ v ∷ []) x todo os at st context values state goes comes
-
--- the last part has come, and the rule closes
-pub last-of : (s : Symbol) (p : Production) (taken : List ℕ) (at0 : ℕ) (around : Around) (before : State) (known : List Value) (v : Value)
-    (os : List Opened) (at : ℕ) (st : State) (w : Value) (after : State)
-    → close p (byte_of taken) around at0 before (known ++ v ∷ []) st ≡ Ok (found w after)
-    → Comes s (opened (standing (rule_of p) taken at0 around before) known [] ∷ os) v at st
-    → Comes s os w at after
-last-of s p taken at0 around before known v os at st w after closes comes =
-    ends s p taken at0 around before (known ++ v ∷ []) os at st w after comes closes
-
--- a production without parts that takes its byte
-pub letter-comes : (s : Symbol) (kind : Kind) (p : Production) (byte : ℕ) (around : Around) (os : List Opened) (at : ℕ) (st : State) (w : Value)
-    (after : State)
-    → choose kind byte ≡ Some p → byte < 256 → is_chain p ≡ false → ((f : Forest) → opening p f at st ≡ Ok st) → parts_of p ≡ []
-    → close p byte around at st [] st ≡ Ok (found w after)
-    → Expects s kind around os at st → StandsAt s.bytes at (byte ∷ []) → Comes s os w (at + 1) after
-unfolding byte_of
-letter-comes s kind p byte around os at st w after chosen small chain begins parts closes expects stands =
-    ends s p (byte ∷ []) at around st [] os (at + 1) st w after
-    (subst (λ l. Needs s os (standing (rule_of p) (byte ∷ []) at around st) [] l (at + 1) st) parts
-    (opens-byte s kind p byte around os at st chosen small chain begins expects stands))
-    closes
-
--- ## Productions that the wide grammar alone has
-
--- one without parts that takes its byte
-pub wide-letter : (s : Symbol) (kind : Kind) (p : Production) (byte : ℕ) (around : Around) (os : List Opened) (at : ℕ) (st : State) (w : Value) (after : State)
-    → s.is_wide ≡ true → wide_choose kind byte ≡ Some p → byte < 256 → is_chain p ≡ false → ((f : Forest) → opening p f at st ≡ Ok st) → parts_of p ≡ []
-    → close p byte around at st [] st ≡ Ok (found w after)
-    → Expects s kind around os at st → StandsAt s.bytes at (byte ∷ []) → Comes s os w (at + 1) after
-unfolding byte_of
-wide-letter s kind p byte around os at st w after wide chosen small chain begins parts closes expects stands =
-    ends s p (byte ∷ []) at around st [] os (at + 1) st w after
-    (subst (λ l. Needs s os (standing (rule_of p) (byte ∷ []) at around st) [] l (at + 1) st) parts
-    (opens-by s kind p (byte ∷ []) around os at st (takes-wide s kind p byte (byte ∷ []) wide chosen small (takes-byte p byte chain)) begins expects stands))
-    closes
-
--- the first part of one that takes its byte
-pub wide-first-of : (s : Symbol) (kind : Kind) (p : Production) (byte : ℕ) (around : Around) (os : List Opened) (at : ℕ) (st : State) (x : Sym)
-    (todo : List Sym) (context : Around) (values : List Value) (state : State)
-    → s.is_wide ≡ true → wide_choose kind byte ≡ Some p → byte < 256 → is_chain p ≡ false → ((f : Forest) → opening p f at st ≡ Ok st) → parts_of p ≡ x ∷ todo
-    → ◌≡◌ {A = Going} (between p around at [] st) (Ok (record { context = context; values = values; state = state }))
-    → Expects s kind around os at st → StandsAt s.bytes at (byte ∷ [])
-    → ExpectsSym s x context (opened (standing (rule_of p) (byte ∷ []) at around st) values todo ∷ os) (at + 1) state
-wide-first-of s kind p byte around os at st x todo context values state wide chosen small chain begins parts goes expects stands =
-    needs-next s p (byte ∷ []) at around st [] x todo os (at + 1) st context values state goes
-    (subst (λ l. Needs s os (standing (rule_of p) (byte ∷ []) at around st) [] l (at + 1) st) parts
-    (opens-by s kind p (byte ∷ []) around os at st (takes-wide s kind p byte (byte ∷ []) wide chosen small (takes-byte p byte chain)) begins expects stands))

@@ -1,28 +1,24 @@
 -- A reference to each type of a pack is read, where a parameter of a function is expected.
+use Rattle.cpp_grammar.specs.Unfolding.{byte_of, close}
+use Rattle.cpp_grammar.specs.Grammar.{may_be_empty, number_of_kind, parts_of}
+use Rattle.cpp_grammar.specs.Unfolding as unfolding_
 use Rattle.cpp_direct.specs.Prints.{list_of}
-use Rattle.std.proofs.Common.{◌≡◌, ◌∙◌, ap, ℕ, ◌+◌, List, [], ◌∷◌, true, false, None, Some, Ok, refl, subst, arith}
-use Rattle.sym_link.specs.Unfold.{standing}
-use Rattle.sym_shape.specs.declared.rule.Sym.TheVariants.{Kind as OfKind, Number}
-use Rattle.sym_core.specs.declared.NumberKind.TheVariants.{Decimal}
+use Rattle.std.proofs.Common.{◌≡◌, ◌∙◌, ap, ℕ, ◌+◌, List, [], ◌∷◌, true, None, Some, Ok, refl, arith}
 use Rattle.cpp_grammar.specs.declared.kind.Kind.{Kind}
 use Rattle.cpp_grammar.specs.declared.production.Production.{Production}
 use Rattle.cpp_grammar.specs.Between.{Going, between, after, applied, under_expansion, listed_so_far, parameter_so_far, index_of}
-use Rattle.cpp_grammar.specs.Grammar.{in_ranges, among, is_in, pick, number_of_kind, alternatives, choose, parts_of, is_chain, may_be_empty}
-use Rattle.cpp_grammar.specs.KindNumbers.{ITEM_AFTER_D, ARGUMENTS_ALONE, TYPE}
-use Rattle.cpp_grammar.specs.Meaning.{meaning, listed_value}
+use Rattle.cpp_grammar.specs.Meaning.{listed_value, meaning}
 use Rattle.cpp_grammar.specs.References.{appended, is_function_type, with_packs, with_type, parameter_named}
 use Rattle.cpp_grammar.specs.Scope.{element, count, length_if_pack}
-use Rattle.cpp_grammar.specs.Table.{rule_of}
 use Rattle.cpp_grammar.specs.Term.{expansion, parameter, rvalue}
-use Rattle.cpp_grammar.specs.Unfolding as unfolding_
-use Rattle.cpp_grammar.specs.Unfolding.{opening, close, byte_of}
 use Rattle.cpp_grammar.specs.Values as values
-use Rattle.cpp_grammar.specs.Values.{State, Around, tree, nothing_there, tree_of, is_there, is_listed, text_of, part}
+use Rattle.cpp_grammar.specs.Values.{State, Around, tree, is_listed, text_of, is_there, letter_of, part, piece_of, tree_of}
 use Rattle.cpp_direct.specs.Symbol.{Symbol}
-use Rattle.cpp_direct.specs.Holes.{Opened, opened, StandsAt, Comes, Expects, with_candidate}
+use Rattle.cpp_direct.specs.Holes.{Opened, StandsAt, Comes, Expects, with_candidate}
 use Rattle.cpp_direct.specs.WriterInvariant.{IsScope}
 use Rattle.cpp_direct.proofs.DependentsRead.{first-number, first_token}
-use Rattle.cpp_direct.proofs.Moves.{stands-split, expects-number, expects-empty, first-of, next-of, last-of}
+use Rattle.cpp_direct.proofs.Filling.{hole, open_at, fill, filled-at, eats, byte-opens, next-part, closes, none-fills, number-fills, is_eaten}
+use Rattle.cpp_direct.proofs.Moves.{stands-split}
 use Rattle.cpp_direct.proofs.MovesOfTypes.{rvalue-opens, solid-opens}
 
 -- where types are expanded, and no pack was named yet
@@ -48,25 +44,17 @@ pack-tested around at st scope = rw (scope.scope_is ∙ ap (λ l. Some l) (scope
 pack-comes : (s : Symbol) (around : Around) (os : List Opened) (at : ℕ) (st : State) (scope : IsScope 0 true around)
     → Expects s Kind.Type (under_expansion around) os at (begun st) → StandsAt s.bytes at (84 ∷ 95 ∷ [])
     → Comes s os (tree (parameter 0) true) (at + 2) (with_candidate around (parameter 0) (named_many (count (list_of scope.elements)) st))
-unfolding choose alternatives pick is_in in_ranges among is_chain parts_of number_of_kind between opening close unfolding_.behind meaning byte_of tree_of is_there part applied may_be_empty is_function_type
+unfolding is_eaten number_of_kind parts_of may_be_empty between close unfolding_.behind meaning part byte_of tree_of text_of piece_of letter_of is_there applied is_function_type
 pack-comes s around os at st scope expects stands =
     let p = Production.Parameter in
-    let t = parameter 0 in
-    let v = tree t true in
     let here = under_expansion around in
-    let later = with_candidate around t (named_many (count (list_of scope.elements)) st) in
+    let later = with_candidate around (parameter 0) (named_many (count (list_of scope.elements)) st) in
     let both = stands-split s.bytes at (84 ∷ []) (95 ∷ []) stands in
     let solid = solid-opens s Kind.Type here os at (begun st) tt expects in
-    let rule = standing (rule_of p) (84 ∷ []) at here (begun st) in
-    let number = expects-number s Decimal here (opened rule [] (OfKind ARGUMENTS_ALONE ∷ []) ∷ solid.inner) (at + 1) (begun st) first_token
-    (first-of s Kind.Solid p 84 here solid.inner at (begun st) (Number Decimal) (OfKind ARGUMENTS_ALONE ∷ []) here [] (begun st) refl (omega arith) refl (λ f. refl)
-    refl refl solid.awaits both.0) first-number both.1 in
-    let behind = next-of s p (84 ∷ []) at here (begun st) [] (values.text []) (OfKind ARGUMENTS_ALONE) [] solid.inner (at + 1 + 1) (begun st) (after t true here) (v ∷ [])
-    later (pack-tested around at st scope) number in
-    subst (λ k. Comes s os v k later) (omega arith)
-    (solid.passes t true (at + 1 + 1) later refl
-    (last-of s p (84 ∷ []) at here (begun st) (v ∷ []) nothing_there solid.inner (at + 1 + 1) later v later refl
-    (expects-empty s Kind.ArgumentsAlone (after t true here) (opened rule (v ∷ []) [] ∷ solid.inner) (at + 1 + 1) later behind refl)))
+    let number = byte-opens (eats s Kind.Solid p 84 refl) (hole s Kind.Solid here solid.inner at (begun st) solid.awaits) both.0 refl refl in
+    let arguments = next-part p (number-fills first_token number first-number both.1) (pack-tested around at st scope) in
+    solid.passes (parameter 0) true (at + 2) later refl
+    (filled-at (at + 2) (closes p (none-fills Kind.ArgumentsAlone arguments refl) refl) (omega arith)).comes
 
 -- the candidates after it
 abbrev pub with_expansion : (size : ℕ) → Around → State → State
@@ -78,28 +66,16 @@ with_expansion size around st =
 pub expansion-comes : (s : Symbol) (around : Around) (os : List Opened) (at : ℕ) (st : State) (scope : IsScope 0 true around)
     → Expects s Kind.Item around os at st → StandsAt s.bytes at (68 ∷ 112 ∷ 79 ∷ 84 ∷ 95 ∷ [])
     → Comes s os (tree (expansion (rvalue (parameter 0))) true) (at + 5) (with_expansion (count (list_of scope.elements)) around st)
-unfolding choose alternatives pick is_in in_ranges among is_chain parts_of number_of_kind between opening close unfolding_.behind meaning listed_value with_type byte_of tree_of is_there is_listed part appended under_expansion
+unfolding is_eaten number_of_kind parts_of between close unfolding_.behind meaning part byte_of tree_of text_of piece_of letter_of is_there listed_value with_type is_listed appended under_expansion
 expansion-comes s around os at st scope expects stands =
-    let p = Production.ItemWithD in
-    let q = Production.Expansion in
-    let each = rvalue (parameter 0) in
-    let here = under_expansion around in
     let first = stands-split s.bytes at (68 ∷ []) (112 ∷ 79 ∷ 84 ∷ 95 ∷ []) stands in
     let second = stands-split s.bytes (at + 1) (112 ∷ []) (79 ∷ 84 ∷ 95 ∷ []) first.1 in
     let third = stands-split s.bytes (at + 1 + 1) (79 ∷ []) (84 ∷ 95 ∷ []) second.1 in
-    let outer = opened (standing (rule_of p) (68 ∷ []) at around st) [] [] ∷ os in
-    let inner = opened (standing (rule_of q) (112 ∷ []) (at + 1) around st) [] [] ∷ outer in
-    let item = first-of s Kind.Item p 68 around os at st (OfKind ITEM_AFTER_D) [] around [] st refl (omega arith) refl (λ f. refl) refl refl expects first.0 in
-    let pattern = first-of s Kind.ItemAfterD q 112 around outer (at + 1) st (OfKind TYPE) [] here [] (begun st) refl (omega arith) refl (λ f. refl) refl refl
-    item second.0 in
-    let reference = rvalue-opens s Kind.Type here inner (at + 1 + 1) (begun st) tt pattern third.0 in
+    let item = byte-opens (eats s Kind.Item Production.ItemWithD 68 refl) (hole s Kind.Item around os at st expects) first.0 refl refl in
+    let pattern = byte-opens (eats s Kind.ItemAfterD Production.Expansion 112 refl) item second.0 refl refl in
+    let reference = rvalue-opens s Kind.Type (under_expansion around) (open_at pattern) (at + 1 + 1) (begun st) tt pattern.expects third.0 in
     let named = pack-comes s around reference.inner (at + 1 + 1 + 1) st scope reference.awaits third.1 in
     let named_state = with_candidate around (parameter 0) (named_many (count (list_of scope.elements)) st) in
-    let whole = with_candidate around each named_state in
-    let at_end = at + 1 + 1 + 1 + 2 in
-    let refers = reference.passes (parameter 0) at_end named_state named in
-    subst (λ k. Comes s os (tree (expansion each) true) k (with_expansion (count (list_of scope.elements)) around st)) (omega arith)
-    (last-of s p (68 ∷ []) at around st [] (tree (expansion each) false) os at_end (record whole { packs = st.packs }) (tree (expansion each) true)
-    (with_expansion (count (list_of scope.elements)) around st) refl
-    (last-of s q (112 ∷ []) (at + 1) around st [] (tree each true) outer at_end whole (tree (expansion each) false) (record whole { packs = st.packs }) refl
-    refers))
+    let refers = fill pattern (tree (rvalue (parameter 0)) true) (at + 1 + 1 + 1 + 2) (with_candidate around (rvalue (parameter 0)) named_state)
+    (reference.passes (parameter 0) (at + 1 + 1 + 1 + 2) named_state named) in
+    (filled-at (at + 5) (closes Production.ItemWithD (closes Production.Expansion refers refl) refl) (omega arith)).comes

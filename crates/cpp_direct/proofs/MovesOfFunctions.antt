@@ -6,50 +6,45 @@ use Rattle.sym_shape.specs.Tree.{Forest, nothing, grown, AreTrees}
 use Rattle.sym_link.specs.Unfold.{found, standing, unfold_forest}
 use Rattle.cpp_grammar.specs.declared.kind.Kind.{Kind}
 use Rattle.cpp_grammar.specs.declared.production.Production.{Production}
-use Rattle.cpp_grammar.specs.Grammar.{in_ranges, among, is_in, pick, number_of_kind, alternatives, choose, parts_of, is_chain, may_be_empty}
+use Rattle.cpp_grammar.specs.Grammar.{number_of_kind, may_be_empty, parts_of}
 use Rattle.cpp_grammar.specs.Table.{rule_of}
-use Rattle.cpp_grammar.specs.Term.{Term, any_value, lvalue, rvalue, list, nil}
-use Rattle.cpp_grammar.specs.Values.{State, Around, Value, outermost, nothing_there, tree, tree_of, ref_of, signature, is_there, part}
+use Rattle.cpp_grammar.specs.Term.{Term, any_value, list, nil}
+use Rattle.cpp_grammar.specs.Values.{State, Around, Value, outermost, tree, ref_of, signature, is_there, letter_of, part, piece_of, text_of, tree_of}
 use Rattle.cpp_grammar.specs.Between.{Going, between}
-use Rattle.cpp_grammar.specs.Meaning.{meaning, with_item, signature_or}
+use Rattle.cpp_grammar.specs.Meaning.{with_item, signature_or, meaning}
 use Rattle.cpp_grammar.specs.References.{appended}
 use Rattle.cpp_grammar.specs.Unfolding as unfolding_
-use Rattle.cpp_grammar.specs.Unfolding.{opening, close, byte_of}
+use Rattle.cpp_grammar.specs.Unfolding.{close, byte_of}
 use Rattle.cpp_grammar.proofs.ClosedTrees.{at_number}
 use Rattle.cpp_direct.specs.Symbol.{Symbol, table_by}
-use Rattle.cpp_direct.specs.Holes.{Opened, opened, ReadsRest, StandsAt, Comes, Expects, IsTyped, with_candidate}
+use Rattle.cpp_direct.specs.Holes.{Opened, opened, ReadsRest, StandsAt, Comes, Expects, with_candidate}
 use Rattle.cpp_direct.specs.HolesOfTypes.{IsQualifiable}
-use Rattle.cpp_direct.specs.HolesOfFunctions.{plain_function, SignatureGoesOn, FunctionOpened, ParameterOpened, ReferenceOpened, reference_letter}
-use Rattle.cpp_direct.proofs.Moves.{opens, opens-chain, first-of, first-of-chain, needs-next, next-of, last-of, ends, expects-empty, stands-split}
-use Rattle.cpp_direct.proofs.MovesOfTypes.{whole-opens, pointer-opens}
+use Rattle.cpp_direct.specs.HolesOfFunctions.{plain_function, SignatureGoesOn, FunctionOpened, ParameterOpened, ReferenceOpened, reference, reference_letter}
+use Rattle.cpp_direct.proofs.Filling.{Hole, Filled, hole, came, open_at, fill, eats, leaves, byte-opens, chain-opens, byte-fills, next-part, closes, none-fills, is_eaten, is_left}
+use Rattle.cpp_direct.proofs.Moves.{stands-split}
+use Rattle.cpp_direct.proofs.MovesOfTypes.{typed, whole-opens, pointer-opens}
 
 -- the return type of a function type is expected after its F
 pub function-opens : (s : Symbol) (kind : Kind) (os : List Opened) (around : Around) (at : ℕ) (st : State) → IsQualifiable kind
     → around.prefix ≡ outermost → Expects s kind around os at st → StandsAt s.bytes at (70 ∷ []) → FunctionOpened s os around false (at + 1) st
-unfolding choose alternatives pick is_in in_ranges among is_chain parts_of number_of_kind may_be_empty between opening close unfolding_.behind meaning part tree_of ref_of is_there
+unfolding is_eaten number_of_kind parts_of may_be_empty between close unfolding_.behind meaning part byte_of tree_of text_of piece_of letter_of is_there ref_of
 function-opens s kind os around at st whole outside expects stands =
     let p = Production.Function in
     let w = whole-opens s kind around os at st whole expects in
-    let rule = standing (rule_of p) (70 ∷ []) at around st in
-    let type = OfKind (number_of_kind Kind.Type) in
-    let rest = OfKind (number_of_kind Kind.FunctionRest) in
-    let needs = opens s Kind.Solid p 70 (70 ∷ []) around w.inner at st refl (omega arith) refl (λ f. refl) w.awaits stands in
-    let linkage = expects-empty s Kind.MaybeCLinkage around (opened rule [] (type ∷ rest ∷ []) ∷ w.inner) (at + 1) st
-    (needs-next s p (70 ∷ []) at around st [] (OfKind (number_of_kind Kind.MaybeCLinkage)) (type ∷ rest ∷ []) w.inner (at + 1) st around [] st refl
-    needs) refl in
+    let linkage = byte-opens (eats s Kind.Solid p 70 refl) (hole s Kind.Solid around w.inner at st w.awaits) stands refl refl in
+    let type = next-part p (none-fills Kind.MaybeCLinkage linkage refl) refl in
     record {
-      inner = opened rule (nothing_there ∷ []) (rest ∷ []) ∷ w.inner;
-      awaits = needs-next s p (70 ∷ []) at around st (nothing_there ∷ []) type (rest ∷ []) w.inner (at + 1) st around (nothing_there ∷ []) st refl
-          linkage;
-      onward = λ r here now comes. record {
-        around = around;
-        outside = outside;
-        inner = opened rule (nothing_there ∷ tree r true ∷ []) [] ∷ w.inner;
-        awaits = needs-next s p (70 ∷ []) at around st (nothing_there ∷ tree r true ∷ []) rest [] w.inner here now around
-            (nothing_there ∷ tree r true ∷ []) now refl comes;
-        passes = λ l there then_ last. w.passes (plain_function r l) false there then_
-            (ends s p (70 ∷ []) at around st (nothing_there ∷ tree r true ∷ signature l any_value ∷ []) w.inner there then_ _ then_ last refl);
-      };
+      inner = open_at type;
+      awaits = type.expects;
+      onward = λ r here now comes.
+          let rest = next-part p (fill type (tree r true) here now comes) refl in
+          record {
+            around = around;
+            outside = outside;
+            inner = open_at rest;
+            awaits = rest.expects;
+            passes = λ l there then_ last. w.passes (plain_function r l) false there then_ (closes p (fill rest (signature l any_value) there then_ last) refl).comes;
+          };
     }
 
 -- and after PF that of one that is pointed to
@@ -71,44 +66,43 @@ pointed-function-opens s kind os around at st whole outside expects stands =
             (g.passes l there then_ last);
       };
     }
-  where
-    typed : (k : Kind) → IsQualifiable k → IsTyped k
-    typed Kind.Type is = tt
-    typed Kind.Item is = tt
-    typed Kind.ItemButRef is = tt
-    typed _ is = absurd is
+
+-- parameters go on after one of them
+parameters-go-on : {s : Symbol} {outer : List Opened} {made_in : Around} {is_pointer : Bool} {made : Term → Term} {at : ℕ} {st : State} {t : Term}
+    (g : SignatureGoesOn s outer made_in is_pointer made at st) {inner : List Opened} {here : ℕ} {now : State}
+    → Hole s (OfKind (number_of_kind Kind.FunctionRest)) g.around inner here now
+    → ((l : Term) (there : ℕ) (then_ : State) → Filled s inner (signature l any_value) there then_ → Filled s g.inner (signature (list t l) any_value) there then_)
+    → SignatureGoesOn s outer made_in is_pointer (λ l. made (list t l)) here now
+parameters-go-on {t = t} g {inner = inner} h passes = record {
+  around = g.around;
+  outside = g.outside;
+  inner = inner;
+  awaits = h.expects;
+  passes = λ l there then_ last. g.passes (list t l) there then_ (passes l there then_ (fill h (signature l any_value) there then_ last)).comes;
+}
 
 -- a parameter is expected
 pub parameter-opens : (s : Symbol) (outer : List Opened) (made_in : Around) (is_pointer : Bool) (made : Term → Term) (at : ℕ) (st : State)
     → SignatureGoesOn s outer made_in is_pointer made at st → ParameterOpened s outer made_in is_pointer made at st
-unfolding choose alternatives pick is_in in_ranges among is_chain parts_of number_of_kind between opening close unfolding_.behind meaning with_item part tree_of ref_of
+unfolding is_eaten is_left number_of_kind parts_of between close unfolding_.behind meaning part byte_of tree_of text_of piece_of letter_of is_there with_item ref_of
 parameter-opens s outer made_in is_pointer made at st g =
     let p = Production.RestItem in
-    let rule = standing (rule_of p) [] at g.around st in
-    let rest = OfKind (number_of_kind Kind.FunctionRest) in
+    let item = chain-opens (leaves s Kind.FunctionRest p 80 refl) (hole s Kind.FunctionRest g.around g.inner at st g.awaits) refl refl in
     record {
       around = g.around;
       outside = g.outside;
-      inner = opened rule [] (rest ∷ []) ∷ g.inner;
-      awaits = needs-next s p [] at g.around st [] (OfKind (number_of_kind Kind.ItemButRef)) (rest ∷ []) g.inner at st g.around [] st refl
-          (opens-chain s Kind.FunctionRest p 80 g.around g.inner at st refl (omega arith) refl (λ f. refl) g.awaits);
-      onward = λ t here now comes. record {
-        around = g.around;
-        outside = g.outside;
-        inner = opened rule (tree t true ∷ []) [] ∷ g.inner;
-        awaits = needs-next s p [] at g.around st (tree t true ∷ []) rest [] g.inner here now g.around (tree t true ∷ []) now refl comes;
-        passes = λ l there then_ last. g.passes (list t l) there then_
-            (ends s p [] at g.around st (tree t true ∷ signature l any_value ∷ []) g.inner there then_ _ then_ last refl);
-      };
+      inner = open_at item;
+      awaits = item.expects;
+      onward = λ t here now comes.
+          parameters-go-on g (next-part p (fill item (tree t true) here now comes) refl) (λ l there then_ last. closes p last refl);
     }
 
 -- an E ends a function type
 pub signature-ends : (s : Symbol) (outer : List Opened) (made_in : Around) (is_pointer : Bool) (made : Term → Term) (at : ℕ) (st : State)
     → (g : SignatureGoesOn s outer made_in is_pointer made at st) → StandsAt s.bytes at (69 ∷ []) → Comes s g.inner (signature nil any_value) (at + 1) st
-unfolding choose alternatives pick is_in in_ranges among is_chain parts_of number_of_kind between opening close unfolding_.behind meaning
+unfolding is_eaten number_of_kind parts_of between close unfolding_.behind meaning part byte_of tree_of text_of piece_of letter_of is_there
 signature-ends s outer made_in is_pointer made at st g stands =
-    ends s Production.RestEnd (69 ∷ []) at g.around st [] g.inner (at + 1) st _ st
-    (opens s Kind.FunctionRest Production.RestEnd 69 (69 ∷ []) g.around g.inner at st refl (omega arith) refl (λ f. refl) g.awaits stands) refl
+    (byte-fills (eats s Kind.FunctionRest Production.RestEnd 69 refl) (hole s Kind.FunctionRest g.around g.inner at st g.awaits) stands refl refl).comes
 
 -- ## References as parameters
 
@@ -152,64 +146,43 @@ alike s item made around at0 before os x t at st then_ goes same closes comes by
     (ap (λ q. close q 0 around at0 before vs inner) (at_number item) ∙ closes vs inner
     ∙ sym (ap (λ q. close q 0 around at0 before vs inner) (at_number Production.RestItem)) ∙ closed)
 
+-- After the letter of a reference it is expected what it is to, and parameters go on after it.
+referred : {s : Symbol} {outer : List Opened} {made_in : Around} {is_pointer : Bool} {made : Term → Term} {at : ℕ} {st : State}
+    (g : SignatureGoesOn s outer made_in is_pointer made at st) (is_lvalue : Bool) (item : Production) {os : List Opened}
+    → Hole s (OfKind (number_of_kind Kind.Type)) g.around
+    (opened (standing (rule_of item) [] (at + 1) g.around st) [] (OfKind (number_of_kind Kind.FunctionRest) ∷ []) ∷ os) (at + 1) st
+    → ((t : Term) (now : State) → ◌≡◌ {A = Going} (between item g.around (at + 1) (tree t true ∷ []) now)
+    (Ok (record { values = tree (reference is_lvalue t) true ∷ []; context = g.around; state = with_candidate g.around (reference is_lvalue t) now })))
+    → ((vs : List Value) (inner : State) → close item 0 g.around (at + 1) st vs inner ≡ close Production.RestItem 0 g.around (at + 1) st vs inner)
+    → ((l : Term) (there : ℕ) (then_ : State) → Filled s os (signature l any_value) there then_ → Filled s g.inner (signature l any_value) there then_)
+    → ReferenceOpened s outer made_in is_pointer is_lvalue made at st
+unfolding is_eaten number_of_kind parts_of between close unfolding_.behind meaning part byte_of tree_of text_of piece_of letter_of is_there with_item ref_of
+referred {s = s} {at = at} {st = st} g is_lvalue item {os = os} type goes same ended =
+    let p = Production.RestItem in
+    let rest = OfKind (number_of_kind Kind.FunctionRest) in
+    let whole = opened (standing (rule_of p) [] (at + 1) g.around st) [] (rest ∷ []) ∷ os in
+    record {
+      around = g.around;
+      outside = g.outside;
+      whole = whole;
+      inner = open_at type;
+      awaits = type.expects;
+      passes = λ t here now comes. alike s item (reference is_lvalue) g.around (at + 1) st os rest t here now
+          (with_candidate g.around (reference is_lvalue t) now) (goes t now) refl same comes;
+      onward = λ u here now comes. parameters-go-on g (next-part p (came s whole (tree u true) here now comes) refl)
+          (λ l there then_ last. ended (list u l) there then_ (closes p last refl));
+    }
+
 -- a parameter that is a reference is expected after its letter
 pub reference-opens : (s : Symbol) (outer : List Opened) (made_in : Around) (is_pointer is_lvalue : Bool) (made : Term → Term) (at : ℕ) (st : State)
     → SignatureGoesOn s outer made_in is_pointer made at st → StandsAt s.bytes at (reference_letter is_lvalue ∷ [])
     → ReferenceOpened s outer made_in is_pointer is_lvalue made at st
-unfolding choose alternatives pick is_in in_ranges among is_chain parts_of number_of_kind between opening close unfolding_.behind meaning with_item part tree_of ref_of signature_or byte_of appended
+unfolding is_eaten is_left number_of_kind parts_of between close unfolding_.behind meaning part byte_of tree_of text_of piece_of letter_of is_there with_item ref_of signature_or appended
 reference-opens s outer made_in is_pointer true made at st g stands =
-    let type = OfKind (number_of_kind Kind.Type) in
-    let rest = OfKind (number_of_kind Kind.FunctionRest) in
-    let mark = standing (rule_of Production.RestLvalue) (82 ∷ []) at g.around st in
-    let item = standing (rule_of Production.LvalueItem) [] (at + 1) g.around st in
-    let plain = standing (rule_of Production.RestItem) [] (at + 1) g.around st in
-    let os = opened mark [] [] ∷ g.inner in
-    record {
-      around = g.around;
-      outside = g.outside;
-      whole = opened plain [] (rest ∷ []) ∷ os;
-      inner = opened item [] (rest ∷ []) ∷ os;
-      awaits = first-of-chain s Kind.AfterR Production.LvalueItem 80 g.around os (at + 1) st type (rest ∷ []) g.around [] st refl (omega arith) refl
-          (λ f. refl) refl refl
-          (first-of s Kind.FunctionRest Production.RestLvalue 82 g.around g.inner at st (OfKind (number_of_kind Kind.AfterR)) [] g.around [] st refl
-          (omega arith) refl (λ f. refl) refl refl g.awaits stands);
-      passes = λ t here now comes. alike s Production.LvalueItem lvalue g.around (at + 1) st os rest t here now
-          (with_candidate g.around (lvalue t) now) refl refl (λ vs inner. refl) comes;
-      onward = λ u here now comes. record {
-        around = g.around;
-        outside = g.outside;
-        inner = opened plain (tree u true ∷ []) [] ∷ os;
-        awaits = next-of s Production.RestItem [] (at + 1) g.around st [] (tree u true) rest [] os here now g.around (tree u true ∷ []) now refl comes;
-        passes = λ l there then_ last. g.passes (list u l) there then_
-            (last-of s Production.RestLvalue (82 ∷ []) at g.around st [] (signature (list u l) any_value) g.inner there then_ _ then_ refl
-            (ends s Production.RestItem [] (at + 1) g.around st (tree u true ∷ signature l any_value ∷ []) os there then_ _ then_ last refl));
-      };
-    }
+    let mark = byte-opens (eats s Kind.FunctionRest Production.RestLvalue 82 refl) (hole s Kind.FunctionRest g.around g.inner at st g.awaits) stands refl refl in
+    let type = chain-opens (leaves s Kind.AfterR Production.LvalueItem 80 refl) mark refl refl in
+    referred g true Production.LvalueItem type (λ t now. refl) (λ vs inner. refl) (λ l there then_ last. closes Production.RestLvalue last refl)
 reference-opens s outer made_in is_pointer false made at st g stands =
-    let type = OfKind (number_of_kind Kind.Type) in
-    let rest = OfKind (number_of_kind Kind.FunctionRest) in
-    let mark = standing (rule_of Production.RestRvalue) (79 ∷ []) at g.around st in
-    let item = standing (rule_of Production.RvalueItem) [] (at + 1) g.around st in
-    let plain = standing (rule_of Production.RestItem) [] (at + 1) g.around st in
-    let os = opened mark [] [] ∷ g.inner in
-    record {
-      around = g.around;
-      outside = g.outside;
-      whole = opened plain [] (rest ∷ []) ∷ os;
-      inner = opened item [] (rest ∷ []) ∷ os;
-      awaits = first-of-chain s Kind.AfterO Production.RvalueItem 80 g.around os (at + 1) st type (rest ∷ []) g.around [] st refl (omega arith) refl
-          (λ f. refl) refl refl
-          (first-of s Kind.FunctionRest Production.RestRvalue 79 g.around g.inner at st (OfKind (number_of_kind Kind.AfterO)) [] g.around [] st refl
-          (omega arith) refl (λ f. refl) refl refl g.awaits stands);
-      passes = λ t here now comes. alike s Production.RvalueItem rvalue g.around (at + 1) st os rest t here now
-          (with_candidate g.around (rvalue t) now) refl refl (λ vs inner. refl) comes;
-      onward = λ u here now comes. record {
-        around = g.around;
-        outside = g.outside;
-        inner = opened plain (tree u true ∷ []) [] ∷ os;
-        awaits = next-of s Production.RestItem [] (at + 1) g.around st [] (tree u true) rest [] os here now g.around (tree u true ∷ []) now refl comes;
-        passes = λ l there then_ last. g.passes (list u l) there then_
-            (last-of s Production.RestRvalue (79 ∷ []) at g.around st [] (signature (list u l) any_value) g.inner there then_ _ then_ refl
-            (ends s Production.RestItem [] (at + 1) g.around st (tree u true ∷ signature l any_value ∷ []) os there then_ _ then_ last refl));
-      };
-    }
+    let mark = byte-opens (eats s Kind.FunctionRest Production.RestRvalue 79 refl) (hole s Kind.FunctionRest g.around g.inner at st g.awaits) stands refl refl in
+    let type = chain-opens (leaves s Kind.AfterO Production.RvalueItem 80 refl) mark refl refl in
+    referred g false Production.RvalueItem type (λ t now. refl) (λ vs inner. refl) (λ l there then_ last. closes Production.RestRvalue last refl)

@@ -1,22 +1,17 @@
 -- A tag comes after a name.
-use Rattle.std.proofs.Common.{◌≡◌, ℕ, ◌+◌, List, [], ◌∷◌, true, false, refl, arith}
-use Rattle.sym_shape.specs.declared.rule.Sym.TheVariants.{Kind as OfKind, Name}
-use Rattle.sym_link.specs.Unfold.{standing}
+use Rattle.std.proofs.Common.{◌≡◌, ℕ, List, true, false, refl}
 use Rattle.cpp_grammar.specs.declared.kind.Kind.{Kind}
 use Rattle.cpp_grammar.specs.declared.production.Production.{Production}
-use Rattle.cpp_grammar.specs.KindNumbers.{MAYBE_ARGUMENTS}
-use Rattle.cpp_grammar.specs.Grammar.{in_ranges, among, is_in, pick, number_of_kind, parts_of, is_chain}
-use Rattle.cpp_grammar.specs.Wide.{wide_alternatives, wide_choose}
-use Rattle.cpp_grammar.specs.Table.{rule_of}
 use Rattle.cpp_grammar.specs.Term.{Term, instance}
-use Rattle.cpp_grammar.specs.Values.{State, Around, prefix_tree, nothing_there, text, tree, tree_of, text_of, is_there, part}
-use Rattle.cpp_grammar.specs.Between.{between, after, applied, with_tag, named_so_far}
+use Rattle.cpp_grammar.specs.Values.{State, Around, prefix_tree, nothing_there, tree, is_there, letter_of, part, piece_of, text_of, tree_of}
+use Rattle.cpp_grammar.specs.Between.{after, applied, with_tag, named_so_far, between}
+use Rattle.cpp_grammar.specs.Unfolding.{byte_of, close}
 use Rattle.cpp_grammar.specs.Meaning.{meaning}
+use Rattle.cpp_grammar.specs.Grammar.{number_of_kind, parts_of}
 use Rattle.cpp_grammar.specs.Unfolding as unfolding_
-use Rattle.cpp_grammar.specs.Unfolding.{opening, close}
 use Rattle.cpp_direct.specs.Symbol.{Symbol}
-use Rattle.cpp_direct.specs.Holes.{Opened, opened, Comes, Expects, IsTagAt, bare_name}
-use Rattle.cpp_direct.proofs.Moves.{expects-name, wide-first-of, next-of, last-of}
+use Rattle.cpp_direct.specs.Holes.{Opened, Comes, Expects, IsTagAt, bare_name}
+use Rattle.cpp_direct.proofs.Filling.{hole, open_at, fill, eats-widely, byte-opens, next-part, closes, name-fills, is_eaten, is_eaten_widely}
 
 -- A name with a tag was read, where one without was expected.
 pub record Tagged (s : Symbol) (outer : List Opened) (around : Around) (t : Term) (at : ℕ) (st : State) : Type 0 where
@@ -28,20 +23,15 @@ pub record Tagged (s : Symbol) (outer : List Opened) (around : Around) (t : Term
 
 pub tag-follows : (s : Symbol) (os : List Opened) (around : Around) (t : Term) (at : ℕ) (st : State) (tag : List ℕ) (end : ℕ) → s.is_wide ≡ true
     → Expects s Kind.MaybeArguments (after t false around) os at st → IsTagAt s.bytes at tag end → Tagged s os around (with_tag t tag) end st
-unfolding wide_choose wide_alternatives pick is_in in_ranges among is_chain parts_of number_of_kind between opening close unfolding_.behind meaning
-    after named_so_far with_tag prefix_tree applied is_there text_of tree_of part
+unfolding is_eaten is_eaten_widely number_of_kind parts_of between close unfolding_.behind meaning part byte_of tree_of text_of piece_of letter_of is_there after named_so_far with_tag prefix_tree applied
 tag-follows s os around t at st tag end wide expects (stands, is) =
-    let p : Production = Production.Tag in
-    let here : Around = after t false around in
-    let u : Term = with_tag t tag in
-    let rule = standing (rule_of p) (66 ∷ []) at here st in
+    let p = Production.Tag in
+    let own = byte-opens (eats-widely s Kind.MaybeArguments p 66 wide refl) (hole s Kind.MaybeArguments (after t false around) os at st expects) stands refl refl in
+    let rest = next-part p (name-fills tag end own is) refl in
     record {
-      inner = opened rule (tree u false ∷ []) [] ∷ os;
-      awaits = next-of s p (66 ∷ []) at here st [] (text tag) (OfKind MAYBE_ARGUMENTS) [] os end st (after u false around) (tree u false ∷ []) st refl
-          (expects-name s here (opened rule [] (OfKind MAYBE_ARGUMENTS ∷ []) ∷ os) (at + 1) st tag end
-          (wide-first-of s Kind.MaybeArguments p 66 here os at st Name (OfKind MAYBE_ARGUMENTS ∷ []) here [] st wide refl (omega arith) refl (λ f. refl) refl
-          refl expects stands) is);
-      bare = λ to later comes. last-of s p (66 ∷ []) at here st (tree u false ∷ []) nothing_there os to later (bare_name u) later refl comes;
-      argued = λ a to later comes. last-of s p (66 ∷ []) at here st (tree u false ∷ []) (tree a true) os to later (bare_name (instance u a)) later refl comes;
-      renamed = λ v to later comes. last-of s p (66 ∷ []) at here st (tree u false ∷ []) (bare_name v) os to later (bare_name v) later refl comes;
+      inner = open_at rest;
+      awaits = rest.expects;
+      bare = λ to later comes. (closes p (fill rest nothing_there to later comes) refl).comes;
+      argued = λ a to later comes. (closes p (fill rest (tree a true) to later comes) refl).comes;
+      renamed = λ v to later comes. (closes p (fill rest (bare_name v) to later comes) refl).comes;
     }

@@ -19,10 +19,10 @@ use Rattle.cpp_direct.specs.declared.open.Step.TheVariants as steps
 use Rattle.cpp_direct.specs.declared.direct.Direct.{Direct}
 use Rattle.cpp_direct.specs.Holes.{Expects, StandsAt}
 use Rattle.cpp_direct.specs.Prints.{IsElement, PrintAllBy, list_of}
-use Rattle.cpp_direct.specs.WriterInvariant.{AreCandidates, ArgumentsGoOn, Belongs, EndsNamed, Closes, GoesOn, IsAmong, IsKnown, IsScoped, IsTemplate, IsWriting, Listing, of_template, of_pack, Owns, Stands, extra_of, led_by, nowhere, place_of, AreAmong, in_front_of_next}
+use Rattle.cpp_direct.specs.WriterInvariant.{ArgumentsGoOn, Belongs, EndsNamed, Closes, GoesOn, IsAmong, IsKnown, IsScoped, IsTemplate, IsWriting, Listing, of_template, of_pack, Owns, Stands, extra_of, led_by, nowhere, place_of, AreAmong, in_front_of_next}
 use Rattle.cpp_direct.specs.MidStep.{IsPackElementRead, IsListEnded, KnowsMore, AwaitsPackElement}
 use Rattle.cpp_direct.proofs.Arguments.{none-text, known-more}
-use Rattle.cpp_direct.proofs.Kept.{reverse-last, template-stays, candidates-written}
+use Rattle.cpp_direct.proofs.Kept.{candidates-same, stands-same, reverse-last, template-stays, candidates-written}
 use Rattle.cpp_direct.proofs.Listed.{last-found, element-goes-on, some-elements}
 use Rattle.cpp_direct.proofs.Moves.{expects-empty}
 use Rattle.cpp_direct.proofs.MovesOfLists.{element-awaits, pack-opens}
@@ -91,15 +91,13 @@ element-begins s old new from p named letter from_is waits text candidates at = 
         ) in
         record {
           state = p.state;
-          candidates = subst (λ v. AreCandidates (detail_of s) new.text.list.items v.list.items p.state.candidates) (sym candidates)
-              (subst (λ v. AreCandidates (detail_of s) v.list.items old.candidates.list.items p.state.candidates) (sym text) p.candidates);
+          candidates = candidates-same (detail_of s) old new p.state.candidates text candidates p.candidates;
           is_before = (
             element.inner,
             goes.0,
             goes.2,
             inr (inl (subst (λ n. Expects s Kind.Item goes.0 element.inner n p.state) (sym at) element.awaits)),
-            subst (λ v. Stands s (reverse new.waiting.list.items) element.inner v.list.items) (sym text)
-                (subst (λ ws. Stands s ws element.inner old.text.list.items) (sym waiting_) stands),
+            stands-same s old new element.inner text waiting_ stands,
             subst (λ ws. IsScoped goes.0 ws) (sym waiting_) (none-scoped goes.0 (entry ∷ opens.Pack ∷ o ∷ rest) refl),
           );
         }
@@ -157,8 +155,7 @@ element-passes s old new from number known is_reference p waits text candidates 
     let texts = in_front_of_next p.ts p.texts ++ p.bytes in
     record {
       state = p.state;
-      candidates = subst (λ v. AreCandidates (detail_of s) new.text.list.items v.list.items p.state.candidates) (sym candidates)
-          (subst (λ v. AreCandidates (detail_of s) v.list.items old.candidates.list.items p.state.candidates) (sym text) p.candidates);
+      candidates = candidates-same (detail_of s) old new p.state.candidates text candidates p.candidates;
       is_before = (
         record {
           listing = of_pack [] [];
@@ -199,8 +196,7 @@ pack-element-awaits s old new from to number place known more is_reference p wai
     let ts = p.ts ++ p.t ∷ [] in
     record {
       state = p.state;
-      candidates = subst (λ v. AreCandidates (detail_of s) new.text.list.items v.list.items p.state.candidates) (sym candidates)
-          (subst (λ v. AreCandidates (detail_of s) v.list.items old.candidates.list.items p.state.candidates) (sym text) p.candidates);
+      candidates = candidates-same (detail_of s) old new p.state.candidates text candidates p.candidates;
       owner = p.owner;
       rest = p.rest;
       open_is = waits;
@@ -255,16 +251,14 @@ next-element-begins s old mid new before from number known p writes from_is numb
     ) in
     record {
       state = p.state;
-      candidates = subst (λ v. AreCandidates (detail_of s) new.text.list.items v.list.items p.state.candidates) (sym candidates)
-          (subst (λ v. AreCandidates (detail_of s) v.list.items mid.candidates.list.items p.state.candidates) (sym text)
-          (candidates-written (detail_of s) old mid (codes ", ") p.state.candidates writes p.candidates));
+      candidates = candidates-same (detail_of s) mid new p.state.candidates text candidates
+          (candidates-written (detail_of s) old mid (codes ", ") p.state.candidates writes p.candidates);
       is_before = (
         element.inner,
         goes.0,
         goes.2,
         inr (inl (subst (λ n. Expects s Kind.Item goes.0 element.inner n p.state) (sym (at ∙ writes.at)) element.awaits)),
-        subst (λ v. Stands s (reverse new.waiting.list.items) element.inner v.list.items) (sym text)
-            (subst (λ ws. Stands s ws element.inner mid.text.list.items) (sym opened) stands),
+        stands-same s mid new element.inner text opened stands,
         subst (λ ws. IsScoped goes.0 ws) (sym opened) (none-scoped goes.0 (entry ∷ opens.Pack ∷ o ∷ p.rest) refl),
       );
     }
@@ -288,8 +282,7 @@ pack-closes s old new from to number size place known more is_reference p ends s
     subst (λ l. Owns s p.owner (Stands s p.rest) p.front (instance p.template (list (pack l) nil)) (old.at + 1 + 1) p.state) (list-with-none es) here in
     record {
       state = p.state;
-      candidates = subst (λ v. AreCandidates (detail_of s) new.text.list.items v.list.items p.state.candidates) (sym candidates)
-          (subst (λ v. AreCandidates (detail_of s) v.list.items old.candidates.list.items p.state.candidates) (sym text) p.candidates);
+      candidates = candidates-same (detail_of s) old new p.state.candidates text candidates p.candidates;
       owner = p.owner;
       rest = p.rest;
       open_is = waits;

@@ -1,40 +1,26 @@
 -- The letters that have texts.
-use Rattle.std.proofs.Common.{◌≡◌, ◌≢◌, refl, sym, ℕ, List, [], ◌∷◌, Bool, true, false, ◌||◌, ◌&&◌, nat_eq, subst}
+use Rattle.std.proofs.Common.{◌≡◌, ◌≢◌, refl, sym, ℕ, List, [], ◌∷◌, Bool, true, false, ◌&&◌, nat_eq, subst}
 use Rattle.std.proofs.lemmas.Bool.{false≢true, eqb-true, and_parts}
 use Rattle.cpp_grammar.specs.Grammar.{among}
 use Rattle.cpp_grammar.specs.Texts.{Naming, look_up, builtin_texts, same_bytes}
 use Rattle.cpp_direct.specs.Letters.{integer_letters}
+use Rattle.cpp_direct.proofs.LettersTested.{each_passes, tested}
 
-abbrev is_filled : List ℕ → Bool
+-- a text isn't empty
+unfoldable pub is_filled : List ℕ → Bool
 is_filled [] = false
 is_filled (b ∷ bs) = true
 
-abbrev all_there : List Naming → List ℕ → Bool
-all_there table [] = true
-all_there table (c ∷ cs) = is_filled (look_up (c ∷ []) table) && all_there table cs
-
-filled : (xs : List ℕ) → is_filled xs ≡ true → xs ≢ []
+pub filled : (xs : List ℕ) → is_filled xs ≡ true → xs ≢ []
+unfolding is_filled
 filled [] is = absurd (false≢true is)
 filled (b ∷ bs) is = λ e. cc e
 
--- one of the letters that have a text has one
-letter-there : (table : List Naming) (cs : List ℕ) (letter : ℕ) → all_there table cs ≡ true → among cs letter ≡ true
-    → look_up (letter ∷ []) table ≢ []
-unfolding among
-letter-there table [] letter all is = absurd (false≢true is)
-letter-there table (c ∷ cs) letter all is =
-    go (λ h g. letter-there table cs letter h g) (is_filled (look_up (c ∷ []) table)) refl all (nat_eq letter c) refl is
-  where
-    go : (all_there table cs ≡ true → among cs letter ≡ true → look_up (letter ∷ []) table ≢ []) → (f : Bool) → is_filled (look_up (c ∷ []) table) ≡ f
-        → (f && all_there table cs) ≡ true → (b : Bool) → nat_eq letter c ≡ b → (b || among cs letter) ≡ true → look_up (letter ∷ []) table ≢ []
-    go rest false has all b same is = absurd (false≢true all)
-    go rest true has all true same is = subst (λ l. look_up (l ∷ []) table ≢ []) (sym (eqb-true letter c same)) (filled (look_up (c ∷ []) table) has)
-    go rest true has all false same is = rest all is
-
--- So has the letter of an integer's type,
+-- The letter of an integer's type has a text.
 pub integer-there : (letter : ℕ) → among integer_letters letter ≡ true → look_up (letter ∷ []) builtin_texts ≢ []
-unfolding look_up builtin_texts same_bytes
-integer-there letter is = letter-there builtin_texts integer_letters letter refl is
+unfolding look_up builtin_texts same_bytes each_passes is_filled
+integer-there letter is =
+    filled (look_up (letter ∷ []) builtin_texts) (tested integer_letters (λ b. is_filled (look_up (b ∷ []) builtin_texts)) refl letter is)
 
 -- ## Codes of two letters
 

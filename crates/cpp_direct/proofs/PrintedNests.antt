@@ -5,19 +5,17 @@ use Rattle.sym_print.specs.Details.{has_arguments}
 use Rattle.sym_print.specs.Unfold.{text}
 use Rattle.sym_print.specs.Unshared.{text_of, cost_of}
 use Rattle.cpp_grammar.specs.Term.{Term, within, instance, source, operator, constructor, destructor}
-use Rattle.cpp_grammar.specs.Scope.{is_open, pack_length, length_if_pack, first_of, is_structor, without_tags}
-use Rattle.cpp_grammar.specs.References.{is_function_type}
+use Rattle.cpp_grammar.specs.Scope.{is_open, pack_length, first_of, is_structor, without_tags}
 use Rattle.cpp_grammar.specs.Texts.{look_up, operator_texts}
-use Rattle.cpp_grammar.specs.Items.{left, right, base, piece, first, Context, head_with, head, is_reference, is_funarr, is_empty}
-use Rattle.cpp_grammar.specs.Meaning.{is_void}
-use Rattle.cpp_grammar.specs.Parts.{as_item, says, list_part, source_text, prefix_item, last_piece, opening_text, own_piece, piece_parts, within_parts, base_within, base_tagged, instance_parts, left_parts, right_parts, base_parts, parts_in, not_empty, is_plain_integer}
+use Rattle.cpp_grammar.specs.Items.{left, right, base, piece, first, Context}
+use Rattle.cpp_grammar.specs.Parts.{as_item, says, list_part, source_text, prefix_item, last_piece, opening_text, own_piece, piece_parts, within_parts, base_within, base_tagged, instance_parts, left_parts, right_parts, base_parts, parts_in, not_empty}
 use Rattle.cpp_direct.specs.Names.{is_angle, operator_text}
 use Rattle.cpp_direct.specs.Prints.{written_of, Prints, PrintsName, NamesClass, PrintAll}
 use Rattle.cpp_direct.specs.WriterInvariant.{IsTail, list_with}
 use Rattle.cpp_direct.proofs.PrintedParts.{printed_by, shown_by, text_shown, cost_shown, alone_shown, first_cost_shown, writes_parts, text-append, cost-append, list-unmarked}
 use Rattle.cpp_direct.specs.WrittenParts.{IsUnmarked, opening_byte, closing_byte, opening_bracket, closing_bracket, written_instance}
 use Rattle.cpp_direct.proofs.Unmarked.{source-unmarked, operator-unmarked}
-use Rattle.cpp_direct.proofs.PrintedNames.{source-filled, piece-text, piece-cost, operator-text, operator-cost}
+use Rattle.cpp_direct.proofs.PrintedNames.{besides, own-prints, source-filled, piece-text, piece-cost, operator-text, operator-cost}
 use Rattle.cpp_direct.proofs.PrintedLists.{list-text-before, list-cost-before, list-closed, list-packless}
 
 -- a text, a mark and a text
@@ -122,25 +120,11 @@ within-names {detail} t b prints p x is = let w = within t p in record {
 -- A piece in a class or a namespace prints both.
 pub within-prints : {detail : Detail} (t : Term) (b : List ℕ) → Prints detail t b false → (p : Term) (x : List ℕ) → IsPiece detail p x → opening_text p ≡ codes "<"
     → Prints detail (within t p) (b ++ codes "::" ++ x) false
-unfolding parts_in left_parts right_parts not_empty head head_with is_reference is_funarr is_empty is_open pack_length first_of is_function_type length_if_pack
-    prefix_item last_piece is_void is_plain_integer
-within-prints {detail} t b prints p x is opening = let w = within t p in let n = within-names t b prints p x is in record {
-  left_text = n.left_text;
-  right_text = λ c. text_shown detail right c w [] refl refl;
-  cost = n.cost;
-  is_reference_head = λ c. refl;
-  is_funarr_head = λ c. refl;
-  filled = λ c. refl;
-  is_closed = rw (prints.is_closed, is.is_closed) refl;
-  packless = λ scope. rw (prints.packless scope, is.packless scope) refl;
-  no_function = refl;
-  no_pack = refl;
-  reference_cost = λ e. cc e;
-  as_prefix = λ c. refl;
-  opening = opening;
-  void = λ e. cc e;
-  integer = λ e. cc e;
-}
+unfolding parts_in left_parts right_parts piece_parts not_empty is_open pack_length last_piece opening_text besides first_of
+within-prints {detail} t b prints p x is opening =
+    let w = within t p in
+    let n = within-names t b prints p x is in
+    own-prints w (b ++ codes "::" ++ x) n (rw (prints.is_closed, is.is_closed) refl) (λ scope. rw (prints.packless scope, is.packless scope) refl) opening (λ c. refl)
 
 -- It names its class without what it is in.
 pub within-class : {detail : Detail} (t : Term) (b : List ℕ) → Prints detail t b false → (p : Term) (x : List ℕ) → IsPiece detail p x
@@ -167,66 +151,42 @@ within-class {detail} t b prints p x is = let w = within t p in record {
 -- A constructor prints the name of its class.
 pub constructor-prints : {detail : Detail} (t : Term) (b class : List ℕ) → Prints detail t b false → NamesClass detail t class → (digit : ℕ)
     → Prints detail (within t (constructor digit)) (b ++ codes "::" ++ class) false
-unfolding parts_in left_parts right_parts within_parts not_empty head head_with is_reference is_funarr is_empty is_open pack_length first_of
-    is_function_type length_if_pack prefix_item last_piece opening_text is_void is_plain_integer
-constructor-prints {detail} t b class p n digit = let w = within t (constructor digit) in record {
-  left_text = λ c. text_shown detail left c w (as_item left c t ∷ says "::" ∷ as_item base c t ∷ []) refl refl
-      ∙ joins (text_of (written_of detail left c t)) (codes "::") (text_of (written_of detail base c t)) b class (p.left_text c) (n.base_text c);
-  right_text = λ c. text_shown detail right c w [] refl refl;
-  cost = λ c. omega (
-    arith,
-    n.base_cost c,
-    ap length (p.left_text c),
-    cost_shown detail right c w [] refl refl,
-    cost_shown detail left c w (as_item left c t ∷ says "::" ∷ as_item base c t ∷ []) refl refl,
-    length-append (b ++ codes "::") class,
-    length-append b (codes "::"),
-  );
-  is_reference_head = λ c. refl;
-  is_funarr_head = λ c. refl;
-  filled = λ c. refl;
-  is_closed = rw p.is_closed refl;
-  packless = λ scope. rw (p.packless scope) refl;
-  no_function = refl;
-  no_pack = refl;
-  reference_cost = λ e. cc e;
-  as_prefix = λ c. refl;
-  opening = refl;
-  void = λ e. cc e;
-  integer = λ e. cc e;
-}
+unfolding parts_in left_parts right_parts piece_parts not_empty is_open pack_length last_piece opening_text besides within_parts first_of
+constructor-prints {detail} t b class p n digit =
+    let w = within t (constructor digit) in
+    own-prints w (b ++ codes "::" ++ class) (record {
+      left_text = λ c. text_shown detail left c w (as_item left c t ∷ says "::" ∷ as_item base c t ∷ []) refl refl
+          ∙ joins (text_of (written_of detail left c t)) (codes "::") (text_of (written_of detail base c t)) b class (p.left_text c) (n.base_text c);
+      cost = λ c. omega (
+        arith,
+        n.base_cost c,
+        ap length (p.left_text c),
+        cost_shown detail right c w [] refl refl,
+        cost_shown detail left c w (as_item left c t ∷ says "::" ∷ as_item base c t ∷ []) refl refl,
+        length-append (b ++ codes "::") class,
+        length-append b (codes "::"),
+      );
+    }) (rw p.is_closed refl) (λ scope. rw (p.packless scope) refl) refl (λ c. refl)
 
 -- A destructor prints it after a tilde.
 pub destructor-prints : {detail : Detail} (t : Term) (b class : List ℕ) → Prints detail t b false → NamesClass detail t class → (digit : ℕ)
     → Prints detail (within t (destructor digit)) (b ++ codes "::~" ++ class) false
-unfolding parts_in left_parts right_parts within_parts not_empty head head_with is_reference is_funarr is_empty is_open pack_length first_of
-    is_function_type length_if_pack prefix_item last_piece opening_text is_void is_plain_integer
-destructor-prints {detail} t b class p n digit = let w = within t (destructor digit) in record {
-  left_text = λ c. text_shown detail left c w (as_item left c t ∷ says "::~" ∷ as_item base c t ∷ []) refl refl
-      ∙ joins (text_of (written_of detail left c t)) (codes "::~") (text_of (written_of detail base c t)) b class (p.left_text c) (n.base_text c);
-  right_text = λ c. text_shown detail right c w [] refl refl;
-  cost = λ c. omega (
-    arith,
-    n.base_cost c,
-    ap length (p.left_text c),
-    cost_shown detail right c w [] refl refl,
-    cost_shown detail left c w (as_item left c t ∷ says "::~" ∷ as_item base c t ∷ []) refl refl,
-    length-append (b ++ codes "::~") class,
-    length-append b (codes "::~"),
-  );
-  is_reference_head = λ c. refl;
-  is_funarr_head = λ c. refl;
-  filled = λ c. refl;
-  is_closed = rw p.is_closed refl;
-  packless = λ scope. rw (p.packless scope) refl;
-  no_function = refl;
-  no_pack = refl;
-  reference_cost = λ e. cc e;
-  as_prefix = λ c. refl;
-  opening = refl;
-  void = λ e. cc e;
-  integer = λ e. cc e;
-}
+unfolding parts_in left_parts right_parts piece_parts not_empty is_open pack_length last_piece opening_text besides within_parts first_of
+destructor-prints {detail} t b class p n digit =
+    let w = within t (destructor digit) in
+    own-prints w (b ++ codes "::~" ++ class) (record {
+      left_text = λ c. text_shown detail left c w (as_item left c t ∷ says "::~" ∷ as_item base c t ∷ []) refl refl
+          ∙ joins (text_of (written_of detail left c t)) (codes "::~") (text_of (written_of detail base c t)) b class (p.left_text c) (n.base_text c);
+      cost = λ c. omega (
+        arith,
+        n.base_cost c,
+        ap length (p.left_text c),
+        cost_shown detail right c w [] refl refl,
+        cost_shown detail left c w (as_item left c t ∷ says "::~" ∷ as_item base c t ∷ []) refl refl,
+        length-append (b ++ codes "::~") class,
+        length-append b (codes "::~"),
+      );
+    }) (rw p.is_closed refl) (λ scope. rw (p.packless scope) refl) refl (λ c. refl)
 
 -- ## Names with arguments
 
@@ -282,33 +242,21 @@ instance-cost {detail} t b p ts tail l is all c =
 pub instance-prints : {detail : Detail} (t : Term) (b : List ℕ) → Prints detail t b false
     → (ts : List Term) (tail : Term) (l : List ℕ) → IsTail tail → PrintAll detail 3 ts l
     → Prints detail (instance t (list_with ts tail)) (b ++ opening_bracket detail ++ l ++ closing_bracket detail) false
-unfolding parts_in right_parts not_empty head head_with is_reference is_funarr is_empty is_open pack_length first_of is_function_type length_if_pack prefix_item
-    last_piece opening_text is_void is_plain_integer
-instance-prints {detail} t b p ts tail l is all = let i = instance t (list_with ts tail) in record {
-  left_text = instance-text t b p ts tail l is all;
-  right_text = λ c. text_shown detail right c i [] refl refl;
-  cost = λ c. omega (
-    arith,
-    p.cost c,
-    instance-cost t b p ts tail l is all c,
-    cost_shown detail right c i [] refl refl,
-    length-append (b ++ opening_bracket detail ++ l) (closing_bracket detail),
-    length-append (b ++ opening_bracket detail) l,
-    length-append b (opening_bracket detail),
-  );
-  is_reference_head = λ c. refl;
-  is_funarr_head = λ c. refl;
-  filled = λ c. refl;
-  is_closed = rw (p.is_closed, list-closed detail 3 ts tail l is all) refl;
-  packless = λ scope. rw (p.packless scope, list-packless detail scope 3 ts tail l is all) refl;
-  no_function = refl;
-  no_pack = refl;
-  reference_cost = λ e. cc e;
-  as_prefix = λ c. refl;
-  opening = refl;
-  void = λ e. cc e;
-  integer = λ e. cc e;
-}
+unfolding parts_in left_parts right_parts piece_parts not_empty is_open pack_length last_piece opening_text besides first_of
+instance-prints {detail} t b p ts tail l is all =
+    let i = instance t (list_with ts tail) in
+    own-prints i (b ++ opening_bracket detail ++ l ++ closing_bracket detail) (record {
+      left_text = instance-text t b p ts tail l is all;
+      cost = λ c. omega (
+        arith,
+        p.cost c,
+        instance-cost t b p ts tail l is all c,
+        cost_shown detail right c i [] refl refl,
+        length-append (b ++ opening_bracket detail ++ l) (closing_bracket detail),
+        length-append (b ++ opening_bracket detail) l,
+        length-append b (opening_bracket detail),
+      );
+    }) (rw (p.is_closed, list-closed detail 3 ts tail l is all) refl) (λ scope. rw (p.packless scope, list-packless detail scope 3 ts tail l is all) refl) refl (λ c. refl)
 
 -- Its class is named without them.
 pub instance-class : {detail : Detail} (t : Term) (b class : List ℕ) → Prints detail t b false → NamesClass detail t class

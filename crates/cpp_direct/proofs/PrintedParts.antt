@@ -6,7 +6,7 @@ use Rattle.sym_print.specs.declared.detail.Detail.TheVariants.{Full}
 use Rattle.sym_print.specs.Unfold.{PartOf, text, sub, printed_parts, RanksBelow}
 use Rattle.sym_print.specs.Unshared.{Unshared, text_of, cost_of}
 use Rattle.sym_print.proofs.Unfolding.{printed-parts}
-use Rattle.sym_direct.specs.Marked.{opens, closes}
+use Rattle.sym_direct.specs.Marked.{closes}
 use Rattle.cpp_grammar.specs.Term.{Term, instance, nil}
 use Rattle.cpp_grammar.specs.Items.{Form, left, low, first, Context, Item}
 use Rattle.cpp_grammar.specs.Parts.{text_part, list_part, says, opening_text, last_piece, instance_parts, left_parts, low_parts, parts_in, not_empty, parts}

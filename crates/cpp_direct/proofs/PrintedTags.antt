@@ -4,18 +4,16 @@ use Rattle.std.proofs.Common.{◌≡◌, ◌≢◌, refl, ap, sym, ◌∙◌, �
 use Rattle.sym_print.specs.Unfold.{text}
 use Rattle.sym_print.specs.Unshared.{text_of, cost_of}
 use Rattle.cpp_grammar.specs.Term.{Term, in_std, within, source, tagged}
-use Rattle.cpp_grammar.specs.Scope.{is_open, pack_length, length_if_pack, is_structor, without_tags}
-use Rattle.cpp_grammar.specs.References.{is_function_type}
-use Rattle.cpp_grammar.specs.Items.{left, right, base, Context, head_with, head, is_reference, is_funarr, is_empty}
-use Rattle.cpp_grammar.specs.Meaning.{is_void}
+use Rattle.cpp_grammar.specs.Scope.{is_structor, without_tags, is_open, pack_length}
+use Rattle.cpp_grammar.specs.Items.{left, right, base, Context}
 use Rattle.cpp_grammar.specs.Between.{with_tag}
-use Rattle.cpp_grammar.specs.Parts.{as_item, says, source_text, prefix_item, last_piece, opening_text, own_piece, piece_parts, base_tagged, left_parts, right_parts, base_parts, parts_in, not_empty, is_plain_integer}
+use Rattle.cpp_grammar.specs.Parts.{as_item, says, source_text, opening_text, own_piece, piece_parts, base_tagged, left_parts, right_parts, base_parts, parts_in, not_empty, last_piece}
 use Rattle.cpp_direct.specs.Names.{tag_text}
 use Rattle.cpp_direct.specs.Prints.{written_of, Prints, PrintsName, NamesClass}
 use Rattle.cpp_direct.proofs.PrintedParts.{shown_by, text_shown, cost_shown, alone_shown, first_shown, first_cost_shown}
 use Rattle.cpp_direct.specs.WrittenParts.{IsUnmarked}
 use Rattle.cpp_direct.proofs.Unmarked.{source-unmarked}
-use Rattle.cpp_direct.proofs.PrintedNames.{std-prints}
+use Rattle.cpp_direct.proofs.PrintedNames.{besides, own-prints, std-prints}
 use Rattle.cpp_direct.proofs.PrintedNests.{IsPiece, within-prints}
 
 -- what follows the name
@@ -62,28 +60,11 @@ tagged-names {detail} of_structor t b p tag plain = record {
 
 pub tagged-prints : {detail : Detail} (of_structor : Bool) (t : Term) (b : List ℕ) → Prints detail t b false → (tag : List ℕ) → IsUnmarked tag
     → Prints detail (tagged of_structor t tag) (b ++ tag_text tag) false
-unfolding parts_in left_parts right_parts not_empty head head_with is_reference is_funarr is_empty is_open pack_length is_function_type length_if_pack
-    prefix_item last_piece opening_text is_void is_plain_integer
+unfolding parts_in left_parts right_parts piece_parts not_empty is_open pack_length last_piece opening_text besides
 tagged-prints {detail} of_structor t b p tag plain =
     let w = tagged of_structor t tag in
     let n = tagged-names of_structor t b (record { left_text = p.left_text; cost = p.cost }) tag plain in
-    record {
-      left_text = n.left_text;
-      right_text = λ c. text_shown detail right c w [] refl refl;
-      cost = n.cost;
-      is_reference_head = λ c. refl;
-      is_funarr_head = λ c. refl;
-      filled = λ c. refl;
-      is_closed = p.is_closed;
-      packless = p.packless;
-      no_function = refl;
-      no_pack = refl;
-      reference_cost = λ e. cc e;
-      as_prefix = λ c. refl;
-      opening = refl;
-      void = λ e. cc e;
-      integer = λ e. cc e;
-    }
+    own-prints w (b ++ tag_text tag) n p.is_closed p.packless refl (λ c. refl)
 
 -- Where its class has this text at the base it names its class so.
 names-by : {detail : Detail} (of_structor : Bool) (t : Term) (b : List ℕ) → Prints detail t b false → (tag class : List ℕ) → IsUnmarked tag

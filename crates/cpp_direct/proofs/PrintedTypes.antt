@@ -1,7 +1,11 @@
 -- Types that are made of another type: pointers, references and constant types.
 use Rattle.sym_print.specs.declared.detail.Detail.{Detail}
 use Prim.Native.String.{String}
-use Rattle.cpp_direct.proofs.PrintedParts.{text_shown, cost_shown}
+use Rattle.std.proofs.lemmas.Bool.{false≢true}
+use Rattle.sym_print.specs.Details.{has_arguments}
+use Rattle.sym_print.specs.Unfold.{text}
+use Rattle.cpp_direct.specs.WrittenParts.{IsUnmarked, unmarked_parts, written_in}
+use Rattle.cpp_direct.proofs.PrintedParts.{text_shown, cost_shown, alone_shown, first_cost_shown}
 use Rattle.cpp_direct.specs.Prints.{Prints, PrintsIn, EndsAsInteger, written_of, NamesArgument, IsElementIn}
 use Rattle.cpp_grammar.specs.Items.{closed, Form, left, right, low, Context, Head, lref, collapsed, head_with, head, is_reference, is_funarr, is_empty, argument, head_closed}
 use Rattle.cpp_grammar.specs.Meaning.{is_void}
@@ -62,26 +66,54 @@ made-prints t b r h is_closed packless no_pack as_prefix opening integer referen
   integer = integer;
 }
 
+-- ## Marks
+
+-- A type prints another and a mark after it, and what that has at the right.
+record IsMarked (detail : Detail) (c : Context) (t made : Term) (mark : List ℕ) : Type 0 where
+  pub left_is : parts_in detail c left made ≡ as_item left c t ∷ text mark ∷ []
+  pub right_is : parts_in detail c right made ≡ as_item right c t ∷ []
+  pub written : written_in detail c left made ≡ unmarked_parts (has_arguments detail) (parts_in detail c left made)
+  pub plain : IsUnmarked mark
+  pub some : 1 ≤ length mark
+
+marked-cost : {detail : Detail} (c : Context) (t made : Term) (mark : List ℕ) → IsMarked detail c t made mark
+    → cost_of (written_of detail left c made) + cost_of (written_of detail right c made)
+    ≡ cost_of (written_of detail left c t) + cost_of (written_of detail right c t) + 2 + length mark
+unfolding not_empty
+marked-cost {detail} c t made mark m = omega (
+  arith,
+  first_cost_shown detail mark [],
+  cost_shown detail left c made (as_item left c t ∷ text mark ∷ []) m.left_is m.written,
+  cost_shown detail right c made (as_item right c t ∷ []) m.right_is refl,
+)
+
+-- it prints so in a context
+marked-in : {detail : Detail} (c : Context) (extra : ℕ) (t made : Term) (mark b : List ℕ) (r q : Bool) → PrintsIn detail c extra t b r → IsMarked detail c t made mark
+    → is_reference (head c made) ≡ q → is_funarr (head c made) ≡ false → is_empty c made ≡ false → is_function_type made ≡ false → is_void made ≡ false
+    → PrintsIn detail c extra made (b ++ mark) q
+unfolding not_empty
+marked-in {detail} c extra t made mark b r q p m reference_is no_function_head filled no_function no_void = record {
+  left_text = text_shown detail left c made (as_item left c t ∷ text mark ∷ []) m.left_is m.written
+      ∙ ap (λ l. text_of (written_of detail left c t) ++ l) (alone_shown detail mark m.plain) ∙ ap (λ l. l ++ mark) p.left_text;
+  right_text = text_shown detail right c made (as_item right c t ∷ []) m.right_is refl ∙ ap (λ l. l ++ []) p.right_text;
+  cost = omega (arith, p.cost, marked-cost c t made mark m, m.some, length-append b mark);
+  is_reference_head = reference_is;
+  is_funarr_head = no_function_head;
+  filled = filled;
+  no_function = no_function;
+  void = λ e. absurd (false≢true (sym no_void ∙ e));
+}
+
 -- A pointer prints its type and a star.
+pointer-marks : (detail : Detail) (c : Context) (t : Term) → is_funarr (head c t) ≡ false → IsMarked detail c t (pointer t) (codes "*")
+unfolding parts_in left_parts right_parts
+pointer-marks detail c t e = record { left_is = marked c t "*" e; right_is = closing c t e; written = refl; plain = refl; some = omega arith }
+
 pub pointer-in : {detail : Detail} (c : Context) (extra : ℕ) (t : Term) (b : List ℕ) (r : Bool) → PrintsIn detail c extra t b r
     → PrintsIn detail c extra (pointer t) (b ++ codes "*") false
-unfolding parts_in left_parts right_parts not_empty head head_with is_reference is_funarr is_empty is_function_type is_void
-pointer-in {detail} c extra t b r p = record {
-  left_text = text_shown detail left c (pointer t) (as_item left c t ∷ says "*" ∷ []) (marked c t "*" p.is_funarr_head) refl ∙ ap (λ s. s ++ codes "*") p.left_text;
-  right_text = text_shown detail right c (pointer t) (as_item right c t ∷ []) (closing c t p.is_funarr_head) refl ∙ ap (λ s. s ++ []) p.right_text;
-  cost = omega (
-    arith,
-    p.cost,
-    length-append b (codes "*"),
-    cost_shown detail left c (pointer t) (as_item left c t ∷ says "*" ∷ []) (marked c t "*" p.is_funarr_head) refl,
-    cost_shown detail right c (pointer t) (as_item right c t ∷ []) (closing c t p.is_funarr_head) refl,
-  );
-  is_reference_head = refl;
-  is_funarr_head = refl;
-  filled = refl;
-  no_function = refl;
-  void = λ e. cc e;
-}
+unfolding head head_with is_reference is_funarr is_empty is_function_type is_void
+pointer-in {detail} c extra t b r p =
+    marked-in c extra t (pointer t) (codes "*") b r false p (pointer-marks detail c t p.is_funarr_head) refl refl refl refl refl
 
 -- It does so anywhere.
 pub pointer-prints : {detail : Detail} (t : Term) (b : List ℕ) (r : Bool) → Prints detail t b r → Prints detail (pointer t) (b ++ codes "*") false
@@ -90,49 +122,28 @@ pointer-prints t b r p =
     made-prints (pointer t) (b ++ codes "*") false (λ c. pointer-in c 0 t b r (prints-in c 0 t b r p)) p.is_closed p.packless refl (λ c. refl) refl (λ e. cc e)
     (λ e. cc e)
 
--- An lvalue reference costs one less than its text allows.
-lvalue-cost : {detail : Detail} (c : Context) (t : Term) (b : List ℕ) → Prints detail t b false
-    → 2 + cost_of (written_of detail left c (lvalue t)) + cost_of (written_of detail right c (lvalue t)) ≤ 4 * length (b ++ codes "&")
-unfolding parts_in left_parts right_parts not_empty
-lvalue-cost {detail} c t b p =
-    omega (
-      arith,
-      p.cost c,
-      length-append b (codes "&"),
-      cost_shown detail left c (lvalue t) (as_item left c t ∷ says "&" ∷ []) (reference c low t "&" (p.is_reference_head c) (p.is_funarr_head c)) refl,
-      cost_shown detail right c (lvalue t) (as_item right c t ∷ []) (closing c t (p.is_funarr_head c)) refl,
-    )
-
 -- An lvalue reference prints its type, which is no reference, and its mark.
+lvalue-marks : (detail : Detail) (c : Context) (t : Term) → is_reference (head c t) ≡ false → is_funarr (head c t) ≡ false → IsMarked detail c t (lvalue t) (codes "&")
+unfolding parts_in left_parts right_parts
+lvalue-marks detail c t e f = record { left_is = reference c low t "&" e f; right_is = closing c t f; written = refl; plain = refl; some = omega arith }
+
 pub lvalue-in : {detail : Detail} (c : Context) (extra : ℕ) (t : Term) (b : List ℕ) → PrintsIn detail c extra t b false
     → PrintsIn detail c extra (lvalue t) (b ++ codes "&") true
-unfolding parts_in left_parts right_parts not_empty head head_with is_reference is_funarr is_empty is_function_type is_void
+unfolding head head_with is_reference is_funarr is_empty is_function_type is_void
 lvalue-in {detail} c extra t b p =
-    let ps = as_item left c t ∷ says "&" ∷ [] in
-    let is = reference c low t "&" p.is_reference_head p.is_funarr_head in
-    record {
-      left_text = text_shown detail left c (lvalue t) ps is refl ∙ ap (λ s. s ++ codes "&") p.left_text;
-      right_text = text_shown detail right c (lvalue t) (as_item right c t ∷ []) (closing c t p.is_funarr_head) refl ∙ ap (λ s. s ++ []) p.right_text;
-      cost = omega (
-        arith,
-        p.cost,
-        length-append b (codes "&"),
-        cost_shown detail left c (lvalue t) ps is refl,
-        cost_shown detail right c (lvalue t) (as_item right c t ∷ []) (closing c t p.is_funarr_head) refl,
-      );
-      is_reference_head = refl;
-      is_funarr_head = refl;
-      filled = refl;
-      no_function = refl;
-      void = λ e. cc e;
-    }
+    marked-in c extra t (lvalue t) (codes "&") b false true p (lvalue-marks detail c t p.is_reference_head p.is_funarr_head) refl refl refl refl refl
 
 -- It does so anywhere.
 pub lvalue-prints : {detail : Detail} (t : Term) (b : List ℕ) → Prints detail t b false → Prints detail (lvalue t) (b ++ codes "&") true
 unfolding is_open pack_length length_if_pack prefix_item last_piece opening_text is_plain_integer
-lvalue-prints t b p =
+lvalue-prints {detail} t b p =
     made-prints (lvalue t) (b ++ codes "&") true (λ c. lvalue-in c 0 t b (prints-in c 0 t b false p)) p.is_closed p.packless refl (λ c. refl) refl (λ e. cc e)
-    (λ e c. lvalue-cost c t b p)
+    (λ e c. omega (
+      arith,
+      p.cost c,
+      length-append b (codes "&"),
+      marked-cost c t (lvalue t) (codes "&") (lvalue-marks detail c t (p.is_reference_head c) (p.is_funarr_head c)),
+    ))
 
 collapsed-refers : (h : Head) → is_reference (collapsed h) ≡ true
 unfolding is_reference collapsed
@@ -144,49 +155,29 @@ unfolding is_funarr collapsed
 collapsed-no_function lref = refl
 collapsed-no_function _ = refl
 
--- An rvalue reference costs so much less, too,
-rvalue-cost : {detail : Detail} (c : Context) (t : Term) (b : List ℕ) → Prints detail t b false
-    → 2 + cost_of (written_of detail left c (rvalue t)) + cost_of (written_of detail right c (rvalue t)) ≤ 4 * length (b ++ codes "&&")
-unfolding parts_in left_parts right_parts not_empty
-rvalue-cost {detail} c t b p =
-    omega (
-      arith,
-      p.cost c,
-      length-append b (codes "&&"),
-      cost_shown detail left c (rvalue t) (as_item left c t ∷ says "&&" ∷ []) (reference c left t "&&" (p.is_reference_head c) (p.is_funarr_head c)) refl,
-      cost_shown detail right c (rvalue t) (as_item right c t ∷ []) (closing c t (p.is_funarr_head c)) refl,
-    )
+-- An rvalue reference does so, too.
+rvalue-marks : (detail : Detail) (c : Context) (t : Term) → is_reference (head c t) ≡ false → is_funarr (head c t) ≡ false → IsMarked detail c t (rvalue t) (codes "&&")
+unfolding parts_in left_parts right_parts
+rvalue-marks detail c t e f = record { left_is = reference c left t "&&" e f; right_is = closing c t f; written = refl; plain = refl; some = omega arith }
 
--- and prints its type and its mark.
 pub rvalue-in : {detail : Detail} (c : Context) (extra : ℕ) (t : Term) (b : List ℕ) → PrintsIn detail c extra t b false
     → PrintsIn detail c extra (rvalue t) (b ++ codes "&&") true
-unfolding parts_in left_parts right_parts not_empty head head_with is_empty is_function_type is_void
+unfolding head head_with is_empty is_function_type is_void
 rvalue-in {detail} c extra t b p =
-    let ps = as_item left c t ∷ says "&&" ∷ [] in
-    let is = reference c left t "&&" p.is_reference_head p.is_funarr_head in
-    record {
-      left_text = text_shown detail left c (rvalue t) ps is refl ∙ ap (λ s. s ++ codes "&&") p.left_text;
-      right_text = text_shown detail right c (rvalue t) (as_item right c t ∷ []) (closing c t p.is_funarr_head) refl ∙ ap (λ s. s ++ []) p.right_text;
-      cost = omega (
-        arith,
-        p.cost,
-        length-append b (codes "&&"),
-        cost_shown detail left c (rvalue t) ps is refl,
-        cost_shown detail right c (rvalue t) (as_item right c t ∷ []) (closing c t p.is_funarr_head) refl,
-      );
-      is_reference_head = collapsed-refers (head c t);
-      is_funarr_head = collapsed-no_function (head c t);
-      filled = refl;
-      no_function = refl;
-      void = λ e. cc e;
-    }
+    marked-in c extra t (rvalue t) (codes "&&") b false true p (rvalue-marks detail c t p.is_reference_head p.is_funarr_head)
+    (collapsed-refers (head c t)) (collapsed-no_function (head c t)) refl refl refl
 
 -- It does so anywhere.
 pub rvalue-prints : {detail : Detail} (t : Term) (b : List ℕ) → Prints detail t b false → Prints detail (rvalue t) (b ++ codes "&&") true
 unfolding is_open pack_length length_if_pack prefix_item last_piece opening_text is_plain_integer
-rvalue-prints t b p =
+rvalue-prints {detail} t b p =
     made-prints (rvalue t) (b ++ codes "&&") true (λ c. rvalue-in c 0 t b (prints-in c 0 t b false p)) p.is_closed p.packless refl (λ c. refl) refl (λ e. cc e)
-    (λ e c. rvalue-cost c t b p)
+    (λ e c. omega (
+      arith,
+      p.cost c,
+      length-append b (codes "&&"),
+      marked-cost c t (rvalue t) (codes "&&") (rvalue-marks detail c t (p.is_reference_head c) (p.is_funarr_head c)),
+    ))
 
 -- the qualifiers of a type that is declared const
 abbrev pub constant : Qualifiers
@@ -204,28 +195,18 @@ qualified_right-is c (function_type linkage noexcept ref returned parameters) e 
 qualified_right-is c t e = refl
 
 -- A constant type, which is no reference, prints the word after it.
+const-marks : (detail : Detail) (c : Context) (t : Term) → is_function_type t ≡ false → is_reference (head c t) ≡ false → is_funarr (head c t) ≡ false
+    → IsMarked detail c t (qualified constant t) (codes " const")
+unfolding parts_in left_parts right_parts
+const-marks detail c t d e f =
+    record { left_is = qualified_left-is c t d e f; right_is = qualified_right-is c t d; written = refl; plain = refl; some = omega arith }
+
 pub const-in : {detail : Detail} (c : Context) (extra : ℕ) (t : Term) (b : List ℕ) → PrintsIn detail c extra t b false
     → PrintsIn detail c extra (qualified constant t) (b ++ codes " const") false
-unfolding parts_in left_parts right_parts not_empty head head_with is_empty is_function_type is_void
+unfolding head head_with is_empty is_function_type is_void
 const-in {detail} c extra t b p =
-    let ps = as_item left c t ∷ says " const" ∷ [] in
-    let is = qualified_left-is c t p.no_function p.is_reference_head p.is_funarr_head in
-    record {
-      left_text = text_shown detail left c (qualified constant t) ps is refl ∙ ap (λ s. s ++ codes " const") p.left_text;
-      right_text = text_shown detail right c (qualified constant t) (as_item right c t ∷ []) (qualified_right-is c t p.no_function) refl ∙ ap (λ s. s ++ []) p.right_text;
-      cost = omega (
-        arith,
-        p.cost,
-        length-append b (codes " const"),
-        cost_shown detail left c (qualified constant t) ps is refl,
-        cost_shown detail right c (qualified constant t) (as_item right c t ∷ []) (qualified_right-is c t p.no_function) refl,
-      );
-      is_reference_head = p.is_reference_head;
-      is_funarr_head = p.is_funarr_head;
-      filled = refl;
-      no_function = refl;
-      void = λ e. cc e;
-    }
+    marked-in c extra t (qualified constant t) (codes " const") b false false p
+    (const-marks detail c t p.no_function p.is_reference_head p.is_funarr_head) p.is_reference_head p.is_funarr_head refl refl refl
 
 -- It does so anywhere.
 pub const-prints : {detail : Detail} (t : Term) (b : List ℕ) → Prints detail t b false → Prints detail (qualified constant t) (b ++ codes " const") false

@@ -4,18 +4,16 @@ use Rattle.std.proofs.Common.{◌≡◌, ◌≢◌, refl, ap, sym, ◌∙◌, �
 use Rattle.sym_print.specs.Unfold.{PartOf, text}
 use Rattle.sym_print.specs.Unshared.{text_of, cost_of}
 use Rattle.cpp_grammar.specs.Term.{Signed, Term, builtin, integer, boolean}
-use Rattle.cpp_grammar.specs.Scope.{is_open, pack_length, length_if_pack}
-use Rattle.cpp_grammar.specs.References.{is_function_type}
 use Rattle.cpp_grammar.specs.Texts.{look_up, builtin_texts, literal_endings}
-use Rattle.cpp_grammar.specs.Items.{left, right, Context, Item, head_with, head, is_reference, is_funarr, is_empty}
+use Rattle.cpp_grammar.specs.Items.{left, right, Context, Item}
 use Rattle.cpp_grammar.specs.Values.{normal}
-use Rattle.cpp_grammar.specs.Meaning.{is_void}
-use Rattle.cpp_grammar.specs.Parts.{as_item, says, text_part, sign_part, is_plain_integer, builtin_code, integer_parts, prefix_item, last_piece, opening_text, left_parts, right_parts, parts_in, not_empty}
+use Rattle.cpp_grammar.specs.Parts.{as_item, says, text_part, sign_part, is_plain_integer, builtin_code, integer_parts, not_empty, opening_text, left_parts, right_parts, last_piece, parts_in, piece_parts}
+use Rattle.cpp_grammar.specs.Scope.{is_open, pack_length}
 use Rattle.cpp_direct.specs.Prints.{written_of, EndsAsInteger, Prints, sign_text}
 use Rattle.cpp_direct.specs.WrittenParts.{IsUnmarked}
 use Rattle.cpp_direct.proofs.Unmarked.{truth-unmarked, ending-unmarked, rest-unmarked}
 use Rattle.cpp_direct.proofs.PrintedParts.{shown_by, text_shown, cost_shown, alone_shown, first_shown, first_cost_shown, text_append, cost_append, part-text, part-cost, length-filled}
-use Rattle.cpp_direct.proofs.PrintedNames.{builtin-prints}
+use Rattle.cpp_direct.proofs.PrintedNames.{besides, own-prints, builtin-prints}
 
 boolean-filled : (b : Bool) → 2 ≤ length {A = ℕ} (cond b (codes "true") (codes "false"))
 boolean-filled true = omega arith
@@ -23,25 +21,14 @@ boolean-filled false = omega arith
 
 -- A boolean prints its word.
 pub boolean-prints : {detail : Detail} (b : Bool) → Prints detail (boolean b) (cond b (codes "true") (codes "false")) false
-unfolding parts_in left_parts right_parts not_empty head head_with is_reference is_funarr is_empty is_open pack_length is_function_type length_if_pack prefix_item
-    last_piece opening_text is_void is_plain_integer
-boolean-prints {detail} b = let t = boolean b in let w : List ℕ = cond b (codes "true") (codes "false") in record {
-  left_text = λ c. text_shown detail left c t (text w ∷ []) refl refl ∙ alone_shown detail w (truth-unmarked b);
-  right_text = λ c. text_shown detail right c t [] refl refl;
-  cost = λ c. omega (arith, boolean-filled b, first_cost_shown detail w [], cost_shown detail left c t (text w ∷ []) refl refl, cost_shown detail right c t [] refl refl);
-  is_reference_head = λ c. refl;
-  is_funarr_head = λ c. refl;
-  filled = λ c. refl;
-  is_closed = refl;
-  packless = λ scope. refl;
-  no_function = refl;
-  no_pack = refl;
-  reference_cost = λ e. cc e;
-  as_prefix = λ c. refl;
-  opening = refl;
-  void = λ e. cc e;
-  integer = λ e. cc e;
-}
+unfolding parts_in left_parts right_parts piece_parts not_empty is_open pack_length last_piece opening_text besides
+boolean-prints {detail} b =
+    let t = boolean b in
+    let w : List ℕ = cond b (codes "true") (codes "false") in
+    own-prints t (cond b (codes "true") (codes "false")) (record {
+      left_text = λ c. text_shown detail left c t (text w ∷ []) refl refl ∙ alone_shown detail w (truth-unmarked b);
+      cost = λ c. omega (arith, boolean-filled b, first_cost_shown detail w [], cost_shown detail left c t (text w ∷ []) refl refl, cost_shown detail right c t [] refl refl);
+    }) refl (λ scope. refl) refl (λ c. refl)
 
 -- ## Signs and digits
 
@@ -101,18 +88,16 @@ three x y z s d e f g h = rw (f, g, h) (sym (append_assoc s d e))
 -- An integer of a type that needs no cast prints its sign, its digits and the ending of its type.
 pub plain-integer-prints : {detail : Detail} (letter : ℕ) → is_plain_integer (builtin (letter ∷ [])) ≡ true → (n : Signed) → n.digits ≢ [] → IsUnmarked n.digits
     → Prints detail (integer (builtin (letter ∷ [])) n) (sign_text n ++ n.digits ++ look_up (letter ∷ []) literal_endings) false
-unfolding parts_in left_parts right_parts builtin_code not_empty head head_with is_reference is_funarr is_empty is_open pack_length
-    is_function_type length_if_pack prefix_item last_piece opening_text is_void is_plain_integer
+unfolding parts_in left_parts right_parts piece_parts not_empty is_open pack_length last_piece opening_text besides builtin_code
 plain-integer-prints {detail} letter plain n filled digits_plain =
     let t = builtin (letter ∷ []) in
     let i = integer t n in
     let ending = look_up (letter ∷ []) literal_endings in
     let behind = text n.digits ∷ text_part ending in
-    record {
+    own-prints i (sign_text n ++ n.digits ++ look_up (letter ∷ []) literal_endings) (record {
       left_text = λ c. text_shown detail left c i (sign_part n ++ behind) (plain-is c t n plain) refl ∙ text_append detail (sign_part n) behind
           ∙ three (text_of (shown_by detail (sign_part n))) (text_of (shown_by detail behind)) (text_of (shown_by detail (text_part ending)))
           (sign_text n) n.digits ending (sign-text detail n) (first_shown detail n.digits (text_part ending) digits_plain) (part-text detail ending (ending-unmarked (letter ∷ [])));
-      right_text = λ c. text_shown detail right c i [] refl refl;
       cost = λ c. omega (
         arith,
         cost_shown detail left c i (sign_part n ++ behind) (plain-is c t n plain) refl,
@@ -125,19 +110,7 @@ plain-integer-prints {detail} letter plain n filled digits_plain =
         length-append (sign_text n ++ n.digits) ending,
         length-append (sign_text n) n.digits,
       );
-      is_reference_head = λ c. refl;
-      is_funarr_head = λ c. refl;
-      filled = λ c. refl;
-      is_closed = refl;
-      packless = λ scope. refl;
-      no_function = refl;
-      no_pack = refl;
-      reference_cost = λ e. cc e;
-      as_prefix = λ c. refl;
-      opening = refl;
-      void = λ e. cc e;
-      integer = λ e. cc e;
-    }
+    }) refl (λ scope. refl) refl (λ c. refl)
 
 cast_text : (x r y z b s d : List ℕ) → x ≡ b → r ≡ [] → y ≡ s → z ≡ d
     → ((codes "(" ++ (x ++ (r ++ codes ")"))) ++ y) ++ z ≡ codes "(" ++ b ++ codes ")" ++ s ++ d
@@ -146,18 +119,16 @@ cast_text x r y z b s d e f g h = rw (e, f, g, h) (ap (λ u. u ++ s ++ d) (sym (
 -- An integer of another type prints its type in front.
 pub enumerator-prints : {detail : Detail} (t : Term) (b : List ℕ) (r : Bool) → Prints detail t b r → is_plain_integer t ≡ false → (n : Signed) → n.digits ≢ [] → IsUnmarked n.digits
     → Prints detail (integer t n) (codes "(" ++ b ++ codes ")" ++ sign_text n ++ n.digits) false
-unfolding parts_in left_parts right_parts not_empty head head_with is_reference is_funarr is_empty is_open pack_length is_function_type length_if_pack prefix_item
-    last_piece opening_text is_void is_plain_integer
+unfolding parts_in left_parts right_parts piece_parts not_empty is_open pack_length last_piece opening_text besides
 enumerator-prints {detail} t b r p cast n filled digits_plain =
     let i = integer t n in
     let front : Context → List (PartOf Item) = λ c. says "(" ∷ as_item left c t ∷ as_item right c t ∷ says ")" ∷ [] in
-    record {
+    own-prints i (codes "(" ++ b ++ codes ")" ++ sign_text n ++ n.digits) (record {
       left_text = λ c. text_shown detail left c i (front c ++ sign_part n ++ (text n.digits ∷ [])) (cast-is c t n cast) refl
           ∙ text_append detail (front c ++ sign_part n) (text n.digits ∷ [])
           ∙ ap (λ u. u ++ text_of (shown_by detail (text n.digits ∷ []))) (text_append detail (front c) (sign_part n))
           ∙ cast_text (text_of (written_of detail left c t)) (text_of (written_of detail right c t)) (text_of (shown_by detail (sign_part n)))
           (text_of (shown_by detail (text n.digits ∷ []))) b (sign_text n) n.digits (p.left_text c) (p.right_text c) (sign-text detail n) (alone_shown detail n.digits digits_plain);
-      right_text = λ c. text_shown detail right c i [] refl refl;
       cost = λ c. omega (
         arith,
         p.cost c,
@@ -173,19 +144,7 @@ enumerator-prints {detail} t b r p cast n filled digits_plain =
         length-append (codes "(" ++ b) (codes ")"),
         length-append (codes "(") b,
       );
-      is_reference_head = λ c. refl;
-      is_funarr_head = λ c. refl;
-      filled = λ c. refl;
-      is_closed = p.is_closed;
-      packless = λ scope. p.packless scope;
-      no_function = refl;
-      no_pack = refl;
-      reference_cost = λ e. cc e;
-      as_prefix = λ c. refl;
-      opening = refl;
-      void = λ e. cc e;
-      integer = λ e. cc e;
-    }
+    }) p.is_closed (λ scope. p.packless scope) refl (λ c. refl)
 
 -- and so does one of a builtin type
 pub cast-integer-prints : {detail : Detail} (letter : ℕ) → is_plain_integer (builtin (letter ∷ [])) ≡ false → look_up (letter ∷ []) builtin_texts ≢ []

@@ -5,14 +5,13 @@ use Rattle.std.specs.Prelude.{decimal}
 use Rattle.sym_print.specs.Unfold.{text}
 use Rattle.sym_print.specs.Unshared.{text_of, cost_of}
 use Rattle.cpp_grammar.specs.Term.{Term, within, lambda, nil}
-use Rattle.cpp_grammar.specs.Scope.{is_open, pack_length, length_if_pack, first_of}
-use Rattle.cpp_grammar.specs.References.{is_function_type}
-use Rattle.cpp_grammar.specs.Items.{bare, left, right, piece, first, Context, closed, head_with, head, is_reference, is_funarr, is_empty}
-use Rattle.cpp_grammar.specs.Meaning.{is_void}
-use Rattle.cpp_grammar.specs.Parts.{as_item, says, list_part, prefix_item, last_piece, opening_text, piece_parts, within_parts, left_parts, entity_of, right_parts, parts_in, not_empty, is_plain_integer}
+use Rattle.cpp_grammar.specs.Scope.{is_open, pack_length, first_of}
+use Rattle.cpp_grammar.specs.Items.{bare, left, right, piece, first, Context, closed}
+use Rattle.cpp_grammar.specs.Parts.{as_item, says, list_part, opening_text, piece_parts, within_parts, left_parts, entity_of, parts_in, not_empty, right_parts, last_piece}
 use Rattle.cpp_direct.specs.HolesOfLocals.{Discriminator, local_in}
 use Rattle.cpp_direct.specs.Prints.{written_of, Prints, PrintsPiece, PrintAll, Encloses, list_of}
 use Rattle.cpp_direct.specs.WrittenParts.{IsUnmarked}
+use Rattle.cpp_direct.proofs.PrintedNames.{besides, own-prints}
 use Rattle.cpp_direct.proofs.PrintedParts.{shown_by, text_shown, cost_shown, first_shown, first_cost_shown, text_append, cost_append}
 use Rattle.cpp_direct.proofs.PrintedFunctions.{closed-list, packless-list}
 use Rattle.cpp_direct.proofs.PrintedLists.{list-text, list-cost}
@@ -119,32 +118,20 @@ within-cost {detail} c e b h p n q =
 -- A type in a function prints the function and its own name.
 pub local-prints : {detail : Detail} (e : Term) (b : List ℕ) → Encloses detail e b → (p : Term) (n : List ℕ) → PrintsPiece detail p n → (digit : Discriminator)
     → Prints detail (local_in e p digit) (b ++ codes "::" ++ n) false
-unfolding parts_in left_parts entity_of right_parts not_empty head head_with is_reference is_funarr is_empty is_open pack_length length_if_pack first_of is_function_type
-    prefix_item last_piece is_void is_plain_integer
-local-prints {detail} e b h p n q digit = let t = local_in e p digit in record {
-  left_text = λ c. text_shown detail left c t (as_item left c (within e p) ∷ []) refl refl ∙ append-nil (text_of (written_of detail left c (within e p)))
-      ∙ within-text c e b h p n q;
-  right_text = λ c. text_shown detail right c t [] refl refl;
-  cost = λ c. omega (
-    arith,
-    h.bare_cost,
-    q.piece_cost c,
-    within-cost c e b h p n q,
-    cost_shown detail left c t (as_item left c (within e p) ∷ []) refl refl,
-    cost_shown detail right c t [] refl refl,
-    length-append (b ++ codes "::") n,
-    length-append b (codes "::"),
-  );
-  is_reference_head = λ c. refl;
-  is_funarr_head = λ c. refl;
-  filled = λ c. refl;
-  is_closed = rw (h.is_closed, q.is_closed) refl;
-  packless = λ scope. rw (h.packless scope, q.packless scope) refl;
-  no_function = refl;
-  no_pack = refl;
-  reference_cost = λ e. cc e;
-  as_prefix = λ c. refl;
-  opening = q.opening;
-  void = λ e. cc e;
-  integer = λ e. cc e;
-}
+unfolding parts_in left_parts right_parts piece_parts not_empty is_open pack_length last_piece opening_text besides entity_of first_of
+local-prints {detail} e b h p n q digit =
+    let t = local_in e p digit in
+    own-prints t (b ++ codes "::" ++ n) (record {
+      left_text = λ c. text_shown detail left c t (as_item left c (within e p) ∷ []) refl refl ∙ append-nil (text_of (written_of detail left c (within e p)))
+          ∙ within-text c e b h p n q;
+      cost = λ c. omega (
+        arith,
+        h.bare_cost,
+        q.piece_cost c,
+        within-cost c e b h p n q,
+        cost_shown detail left c t (as_item left c (within e p) ∷ []) refl refl,
+        cost_shown detail right c t [] refl refl,
+        length-append (b ++ codes "::") n,
+        length-append b (codes "::"),
+      );
+    }) (rw (h.is_closed, q.is_closed) refl) (λ scope. rw (h.packless scope, q.packless scope) refl) q.opening (λ c. refl)

@@ -27,25 +27,17 @@ use Rattle.cpp_direct.specs.WriterInvariant.{IsScoped, AreCandidates, IsWriting,
 use Rattle.cpp_direct.specs.MidStep.{AwaitsParameter, AwaitsSignature, IsElementPassed, IsFunctionRead, IsReturned}
 use Rattle.cpp_direct.specs.Written.{Writes, hidden, with_hidden}
 use Rattle.cpp_direct.proofs.Ending.{no-void, next-written}
-use Rattle.cpp_direct.proofs.Kept.{candidates-more, candidates-stay, candidates-written, reverse-last}
-use Rattle.cpp_direct.proofs.Listed.{TakesElements, list-more}
+use Rattle.cpp_direct.proofs.Kept.{candidates-grown, candidates-same, candidates-more, candidates-stay, candidates-written, reverse-last}
+use Rattle.cpp_direct.proofs.Listed.{TakesElements}
 use Rattle.cpp_direct.proofs.Moves.{stands-split}
 use Rattle.cpp_direct.proofs.MovesOfFunctions.{parameter-opens, reference-opens, signature-ends}
 use Rattle.cpp_direct.proofs.MovesOfTypes.{builtin-comes}
 use Rattle.cpp_direct.proofs.PrintedFunctions.{function-element, void-function-element}
-use Rattle.cpp_direct.proofs.PrintedLists.{none-print}
+use Rattle.cpp_direct.proofs.PrintedLists.{list-more, none-print}
 use Rattle.cpp_direct.proofs.Scopes.{none-scoped}
 use Rattle.cpp_direct.proofs.TypesRead.{by-step, given, popped}
 
 -- ## After the return type
-
--- what is kept where a text is written
-kept : (detail : Detail) (old new : Direct) (more : List ℕ) (cs : List values.Candidate) → new.text.list.items ≡ old.text.list.items ++ more
-    → new.candidates ≡ old.candidates
-    → AreCandidates detail old.text.list.items old.candidates.list.items cs → AreCandidates detail new.text.list.items new.candidates.list.items cs
-kept detail old new more cs text same p =
-    subst (λ l. AreCandidates detail l new.candidates.list.items cs) (sym text)
-    (subst (λ v. AreCandidates detail (old.text.list.items ++ more) v.list.items cs) (sym same) (candidates-stay detail old.text.list.items more old.candidates.list.items cs p))
 
 -- the parameters come
 pub signature-begins : (s : Symbol) (old new : Direct) (is_pointer : Bool) (p : IsReturned s old is_pointer)
@@ -55,7 +47,7 @@ signature-begins s old new is_pointer p text candidates waits at =
     let opening = opening_text is_pointer in
     record {
       state = p.state;
-      candidates = kept (detail_of s) old new opening p.state.candidates text candidates p.candidates;
+      candidates = candidates-grown (detail_of s) old new opening p.state.candidates text candidates p.candidates;
       rest = p.rest;
       open_is = waits;
       outer = p.outer;
@@ -229,8 +221,7 @@ reference-comes s old new o is_pointer is_lvalue from a begins stands is waits a
         let whole = signature-stands s old is_pointer a p.whole p.onward in
         record {
           state = a.state;
-          candidates = subst (λ v. AreCandidates (detail_of s) v.list.items new.candidates.list.items a.state.candidates) (sym text)
-              (subst (λ v. AreCandidates (detail_of s) old.text.list.items v.list.items a.state.candidates) (sym candidates) a.candidates);
+          candidates = candidates-same (detail_of s) old new a.state.candidates text candidates a.candidates;
           is_before = (
             p.inner,
             p.around,
@@ -255,8 +246,7 @@ signature-closed s old new is_pointer is_first a ends apart text candidates wait
     let made = plain_function a.returned (list_with a.ts nil) in
     record {
       state = a.state;
-      candidates = subst (λ v. AreCandidates (detail_of s) v.list.items new.candidates.list.items a.state.candidates) (sym text)
-          (subst (λ v. AreCandidates (detail_of s) old.text.list.items v.list.items a.state.candidates) (sym candidates) a.candidates);
+      candidates = candidates-same (detail_of s) old new a.state.candidates text candidates a.candidates;
       rest = a.rest;
       open_is = ap (λ v. reverse v.list.items) waits ∙ a.open_is;
       outer = a.outer;
@@ -307,8 +297,7 @@ void-closed s old new is_pointer a stands text candidates waits at =
     (builtin-comes s Kind.ItemButRef p.around p.inner old.at a.state 118 tt refl p.awaits both.0) in
     record {
       state = a.state;
-      candidates = subst (λ x. AreCandidates (detail_of s) x.list.items new.candidates.list.items a.state.candidates) (sym text)
-          (subst (λ x. AreCandidates (detail_of s) old.text.list.items x.list.items a.state.candidates) (sym candidates) a.candidates);
+      candidates = candidates-same (detail_of s) old new a.state.candidates text candidates a.candidates;
       rest = a.rest;
       open_is = ap (λ x. reverse x.list.items) waits ∙ a.open_is;
       outer = a.outer;

@@ -12,7 +12,7 @@ use Rattle.cpp_grammar.specs.Grammar.{among, may_be_empty}
 use Rattle.cpp_grammar.specs.Term.{Term, alone, in_std, abbreviation, source, builtin, pointer, lvalue, rvalue}
 use Rattle.cpp_grammar.specs.Texts.{Naming, look_up, builtin_texts, abbreviation_texts, same_bytes}
 use Rattle.cpp_grammar.specs.Parts.{source_text}
-use Rattle.cpp_grammar.specs.Values.{State, tree}
+use Rattle.cpp_grammar.specs.Values.{State, Around, outermost, tree}
 use Rattle.cpp_grammar.specs.Between.{after, inside, no_items}
 use Rattle.cpp_direct.specs.WrittenParts.{opening_bracket}
 use Rattle.cpp_direct.specs.Symbol.{detail_of, Symbol}
@@ -25,7 +25,7 @@ use Rattle.cpp_direct.specs.declared.open.Purpose.TheVariants as purposes
 use Rattle.cpp_direct.specs.declared.open.Step.{Step}
 use Rattle.cpp_direct.specs.declared.open.Step.TheVariants as steps
 use Rattle.cpp_direct.specs.declared.direct.Direct.{Direct}
-use Rattle.cpp_direct.specs.Holes.{StandsAt, Comes, Expects, IsReferable, IsNameAt, IsSeqAt, TypeNamed, with_candidate, unless_listed}
+use Rattle.cpp_direct.specs.Holes.{Opened, StandsAt, Comes, Expects, IsTyped, IsReferable, IsNameAt, IsSeqAt, TypeNamed, with_candidate, unless_listed}
 use Rattle.cpp_direct.specs.HolesOfTypes.{NoReference, IsQualifiable, TypeOpens}
 use Rattle.cpp_direct.specs.Prints.{Prints}
 use Rattle.cpp_direct.specs.WriterInvariant.{IsScoped, AreCandidates, Marks, Stands, IsWriting, argument_of}
@@ -33,11 +33,12 @@ use Rattle.cpp_direct.specs.MidStep.{AwaitsType, AwaitsNamedType, AwaitsNest, Is
 use Rattle.cpp_direct.specs.Written.{Reads, added, added_unless}
 use Rattle.cpp_direct.proofs.Unmarked.{name-unmarked}
 use Rattle.cpp_direct.proofs.Scopes.{scoped-encoding}
-use Rattle.cpp_direct.proofs.Kept.{plainly-prints, arguments-begun, piece-found, candidates-stay, candidates-added, candidates-read, candidate-found, reverse-last, last-reversed}
+use Rattle.cpp_direct.proofs.Kept.{candidates-grown, candidates-same, plainly-prints, arguments-begun, piece-found, candidates-stay, candidates-added, candidates-read, candidate-found, reverse-last, last-reversed}
 use Rattle.cpp_direct.proofs.Moves.{expects-empty, stands-join}
 use Rattle.cpp_direct.proofs.MovesOfLists.{arguments-open}
 use Rattle.cpp_direct.proofs.MovesOfTypes.{solid-opens, builtin-comes, builtin-with-d-comes, pointer-opens, lvalue-opens, rvalue-opens, const-opens, source-opens, std-opens, abbreviation-opens, substitution-opens, nested-type-opens}
 use Rattle.cpp_direct.proofs.LettersTested.{each_passes, tested}
+use Rattle.cpp_direct.proofs.PrintedLetters.{is_filled, filled}
 use Rattle.cpp_direct.proofs.PrintedNames.{source-prints, std-prints, abbreviation-prints, builtin-prints, builtin-with-d-prints}
 
 -- ## What calls give
@@ -219,15 +220,11 @@ pub builtin-listed : (letter : ℕ) → look_up (letter ∷ []) builtin_texts �
 unfolding is_builtin builtin_texts code_in codes_in among
 builtin-listed letter has = letter-listed builtin_texts builtin_letters letter refl has
 
-unfoldable is_text : List ℕ → Bool
-is_text [] = false
-is_text (b ∷ bs) = true
-
 -- a letter of these has a text after a D
 builtin-with-d-text : (letter : ℕ) → is_builtin_with_d letter ≡ true → look_up (68 ∷ letter ∷ []) builtin_texts ≢ []
-unfolding is_builtin_with_d builtin_texts look_up same_bytes each_passes is_text
-builtin-with-d-text letter is none =
-    false≢true (sym (ap is_text none) ∙ tested builtin_letters_with_d (λ b. is_text (look_up (68 ∷ b ∷ []) builtin_texts)) refl letter is)
+unfolding is_builtin_with_d builtin_texts look_up same_bytes each_passes is_filled
+builtin-with-d-text letter is =
+    filled (look_up (68 ∷ letter ∷ []) builtin_texts) (tested builtin_letters_with_d (λ b. is_filled (look_up (68 ∷ b ∷ []) builtin_texts)) refl letter is)
 
 -- and so is one of an abbreviation
 pub abbreviation-listed : (letter : ℕ) → look_up (letter ∷ []) abbreviation_texts ≢ [] → is_abbreviated letter ≡ true
@@ -244,64 +241,35 @@ no-abbreviation letter is none = absurd (false≢true (subst (λ l. is_abbreviat
 
 -- ## Types
 
+-- a type is expected as one of the kinds that it may be of
+expected-as : (s : Symbol) (w : Direct) (st : State) → AreCandidates (detail_of s) w.text.list.items w.candidates.list.items st.candidates
+    → (kind : Kind) → IsTyped kind → IsReferable kind ⊎ NoReference s.bytes w.at → (os : List Opened) (around : Around) → around.prefix ≡ outermost
+    → Expects s kind around os w.at st → Stands s (reverse w.waiting.list.items) os w.text.list.items → IsScoped around (reverse w.waiting.list.items)
+    → AwaitsType s w
+expected-as s w st candidates kind typed referable os around outside awaits stands scoped = record {
+  state = st;
+  candidates = candidates;
+  kind = kind;
+  typed = typed;
+  around = around;
+  outside = outside;
+  os = os;
+  referable = referable;
+  awaits = awaits;
+  stands = stands;
+  scoped = scoped;
+}
+
 -- what is expected where a type is
 pub awaits-type : (s : Symbol) (w : Direct) (is_plain : Bool) → IsWriting s w (if is_plain then steps.Plain else steps.Type) → AwaitsType s w
-awaits-type s w true p = record {
-  state = p.state;
-  candidates = p.candidates;
-  kind = Kind.Plain;
-  typed = tt;
-  around = p.is_before.1;
-  outside = p.is_before.2;
-  os = p.is_before.0;
-  referable = inl tt;
-  awaits = p.is_before.3;
-  stands = p.is_before.4;
-  scoped = p.is_before.5;
-}
-awaits-type s w false p = go p.is_before.3
-  where
-    go : Expects s Kind.Type p.is_before.1 p.is_before.0 w.at p.state ⊎ Expects s Kind.Item p.is_before.1 p.is_before.0 w.at p.state
-        ⊎ (Expects s Kind.ItemButRef p.is_before.1 p.is_before.0 w.at p.state × NoReference s.bytes w.at) → AwaitsType s w
-    go (inl awaits) = record {
-      state = p.state;
-      candidates = p.candidates;
-      kind = Kind.Type;
-      typed = tt;
-      around = p.is_before.1;
-      outside = p.is_before.2;
-      os = p.is_before.0;
-      referable = inl tt;
-      awaits = awaits;
-      stands = p.is_before.4;
-      scoped = p.is_before.5;
-    }
-    go (inr (inl awaits)) = record {
-      state = p.state;
-      candidates = p.candidates;
-      kind = Kind.Item;
-      typed = tt;
-      around = p.is_before.1;
-      outside = p.is_before.2;
-      os = p.is_before.0;
-      referable = inl tt;
-      awaits = awaits;
-      stands = p.is_before.4;
-      scoped = p.is_before.5;
-    }
-    go (inr (inr awaits)) = record {
-      state = p.state;
-      candidates = p.candidates;
-      kind = Kind.ItemButRef;
-      typed = tt;
-      around = p.is_before.1;
-      outside = p.is_before.2;
-      os = p.is_before.0;
-      referable = inr awaits.1;
-      awaits = awaits.0;
-      stands = p.is_before.4;
-      scoped = p.is_before.5;
-    }
+awaits-type s w true p =
+    expected-as s w p.state p.candidates Kind.Plain tt (inl tt) p.is_before.0 p.is_before.1 p.is_before.2 p.is_before.3 p.is_before.4 p.is_before.5
+awaits-type s w false p = elim p.is_before.3 [
+  | inl awaits ↦ expected-as s w p.state p.candidates Kind.Type tt (inl tt) p.is_before.0 p.is_before.1 p.is_before.2 awaits p.is_before.4 p.is_before.5
+  | inr (inl awaits) ↦ expected-as s w p.state p.candidates Kind.Item tt (inl tt) p.is_before.0 p.is_before.1 p.is_before.2 awaits p.is_before.4 p.is_before.5
+  | inr (inr awaits) ↦
+      expected-as s w p.state p.candidates Kind.ItemButRef tt (inr awaits.1) p.is_before.0 p.is_before.1 p.is_before.2 awaits.0 p.is_before.4 p.is_before.5
+]
 
 -- a builtin type is read
 pub builtin-done : (s : Symbol) (old new : Direct) (letter : ℕ) → AwaitsType s old → (letter ≢ 0 → StandsAt s.bytes old.at (letter ∷ []))
@@ -342,9 +310,7 @@ builtin-with-d-done s old new letter a first stands is text candidates waits at 
     let bytes : List ℕ = look_up (68 ∷ letter ∷ []) builtin_texts in
     record {
       state = a.state;
-      candidates = subst (λ v. AreCandidates (detail_of s) new.text.list.items v.list.items a.state.candidates) (sym candidates)
-          (subst (λ l. AreCandidates (detail_of s) l old.candidates.list.items a.state.candidates) (sym text)
-          (candidates-stay (detail_of s) old.text.list.items bytes old.candidates.list.items a.state.candidates a.candidates));
+      candidates = candidates-grown (detail_of s) old new bytes a.state.candidates text candidates a.candidates;
       is_before = (
         a.os,
         builtin (68 ∷ letter ∷ []),
@@ -404,9 +370,7 @@ pub std-named : (s : Symbol) (old mid new : Direct) (from : ℕ) (name : List �
 std-named s old mid new from name a s_stands t_stands text candidates waits at is some reads begins = record {
   state = a.state;
   candidates = candidates-read (detail_of s) mid new (source_text name) a.state.candidates reads
-      (subst (λ v. AreCandidates (detail_of s) mid.text.list.items v.list.items a.state.candidates) (sym candidates)
-      (subst (λ l. AreCandidates (detail_of s) l old.candidates.list.items a.state.candidates) (sym text)
-      (candidates-stay (detail_of s) old.text.list.items (codes "std::") old.candidates.list.items a.state.candidates a.candidates)));
+      (candidates-grown (detail_of s) old mid (codes "std::") a.state.candidates text candidates a.candidates);
   around = a.around;
   outside = a.outside;
   outer = a.os;
@@ -432,9 +396,7 @@ abbreviation-named s old new from letter a s_stands stands has text candidates w
     let bytes : List ℕ = look_up (letter ∷ []) abbreviation_texts in
     record {
       state = a.state;
-      candidates = subst (λ v. AreCandidates (detail_of s) new.text.list.items v.list.items a.state.candidates) (sym candidates)
-          (subst (λ l. AreCandidates (detail_of s) l old.candidates.list.items a.state.candidates) (sym text)
-          (candidates-stay (detail_of s) old.text.list.items bytes old.candidates.list.items a.state.candidates a.candidates));
+      candidates = candidates-grown (detail_of s) old new bytes a.state.candidates text candidates a.candidates;
       around = a.around;
       outside = a.outside;
       outer = a.os;
@@ -471,9 +433,7 @@ substitution-named s old new from digits k a stands is ordered found text candid
     let prints = plainly-prints k c.0 c.2.bytes plain c.2.prints in
     record {
       state = a.state;
-      candidates = subst (λ v. AreCandidates (detail_of s) new.text.list.items v.list.items a.state.candidates) (sym candidates)
-          (subst (λ l. AreCandidates (detail_of s) l old.candidates.list.items a.state.candidates) (sym written)
-          (candidates-stay (detail_of s) old.text.list.items c.2.bytes old.candidates.list.items a.state.candidates a.candidates));
+      candidates = candidates-grown (detail_of s) old new c.2.bytes a.state.candidates written candidates a.candidates;
       around = a.around;
       outside = a.outside;
       outer = a.os;
@@ -529,8 +489,7 @@ pub type-opened : (s : Symbol) (old new : Direct) (o : Option Step) (entry : Ope
 type-opened s old new o entry from made a t begins stands scoped is waits at text candidates = by-step o steps.Type (IsWriting s new) is (λ e.
     record {
       state = a.state;
-      candidates = subst (λ v. AreCandidates (detail_of s) new.text.list.items v.list.items a.state.candidates) (sym candidates)
-          (subst (λ v. AreCandidates (detail_of s) v.list.items old.candidates.list.items a.state.candidates) (sym text) a.candidates);
+      candidates = candidates-same (detail_of s) old new a.state.candidates text candidates a.candidates;
       is_before = (
         t.inner,
         a.around,
@@ -588,8 +547,7 @@ plain-opened s old new o from a may begins stands is waits at text candidates =
     by-step o steps.Plain (IsWriting s new) is (λ e.
     record {
       state = a.state;
-      candidates = subst (λ v. AreCandidates (detail_of s) new.text.list.items v.list.items a.state.candidates) (sym candidates)
-          (subst (λ v. AreCandidates (detail_of s) v.list.items old.candidates.list.items a.state.candidates) (sym text) a.candidates);
+      candidates = candidates-same (detail_of s) old new a.state.candidates text candidates a.candidates;
       is_before = (
         t.inner,
         a.around,

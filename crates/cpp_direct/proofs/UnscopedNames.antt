@@ -31,10 +31,9 @@ use Rattle.cpp_direct.proofs.PrintedTags.{tagged-names, tagged-prints}
 use Rattle.cpp_direct.proofs.Kept.{arguments-begun, candidates-stay, candidates-with, candidates-read, reverse-last}
 use Rattle.cpp_direct.proofs.FoundTokens.{reads-then}
 use Rattle.cpp_direct.proofs.Moves.{expects-empty, stands-join}
-use Rattle.cpp_direct.proofs.MovesOfEncodings.{name-source, name-internal}
+use Rattle.cpp_direct.proofs.MovesOfEncodings.{name-source, name-internal, name-operator, name-std, operator-piece-comes}
 use Rattle.cpp_direct.proofs.MovesOfLists.{arguments-open}
 use Rattle.cpp_direct.proofs.MovesOfNests.{piece-comes}
-use Rattle.cpp_direct.proofs.MovesOfUnscoped.{name-operator, name-std, operator-piece-comes}
 use Rattle.cpp_direct.proofs.Operators.{operator-listed}
 use Rattle.cpp_direct.proofs.PrintedNames.{as-name, source-prints, std-prints, operator-names, operator-prints, std-operator-names, std-operator-prints}
 

@@ -1,5 +1,5 @@
 -- What is written of a tree is what it shows once what is between marks is left out.
-use Rattle.std.proofs.Common.{◌≡◌, ◌≢◌, ◌⊎◌, inl, inr, refl, ap, sym, subst, ◌∙◌, ℕ, zero, suc, ◌+◌, ◌-◌, ◌*◌, ◌≤◌, ◌<◌, List, [], ◌∷◌, ◌++◌, length, Bool, true, false, ◌||◌, nat_eq, arith, get_or, append-nil, append_assoc, length-append}
+use Rattle.std.proofs.Common.{◌≡◌, ◌≢◌, ◌⊎◌, inl, inr, refl, ap, sym, subst, ◌∙◌, ℕ, zero, suc, ◌+◌, ◌-◌, ◌≤◌, List, [], ◌∷◌, ◌++◌, length, Bool, true, false, ◌||◌, nat_eq, arith, append-nil, append_assoc}
 use Rattle.std.specs.Prelude.{Option, Some, None}
 use Rattle.std.specs.Option.{OnSome}
 use Rattle.std.proofs.lemmas.Bool.{false≢true}
@@ -10,12 +10,12 @@ use Rattle.sym_print.specs.Unshared.{Unshared, text_of, cost_of}
 use Rattle.sym_direct.specs.Marked.{opens, closes, visible, unless_within, HasNoZero}
 use Rattle.cpp_grammar.specs.Answer.{shown, root_item}
 use Rattle.cpp_grammar.specs.Items.{Form, left, low, first, Context, Item}
-use Rattle.cpp_grammar.specs.Parts.{as_item, says, list_part, instance_parts, left_parts, low_parts, parts_in, not_empty, parts}
+use Rattle.cpp_grammar.specs.Parts.{list_part, instance_parts, left_parts, low_parts, parts_in, not_empty, parts}
 use Rattle.cpp_grammar.specs.Ranks.{rank}
 use Rattle.cpp_grammar.specs.Term.{Term, instance}
 use Rattle.cpp_direct.specs.Symbol.{Symbol, detail_by, detail_of}
 use Rattle.cpp_direct.specs.WriterInvariant.{IsWhole, IsShown}
-use Rattle.cpp_direct.specs.WrittenParts.{unmarked_byte, unmarked, unmarked_parts, is_unmarked, IsUnmarked, written_instance, written_in, written_parts, written}
+use Rattle.cpp_direct.specs.WrittenParts.{unmarked_byte, unmarked, unmarked_parts, IsUnmarked, written_instance, written_in, written_parts, written}
 use Rattle.cpp_direct.proofs.PrintedParts.{list-unmarked}
 use Rattle.cpp_direct.proofs.Unmarked.{is_mark, more-unmarked, unmarked-same, length-unmarked}
 

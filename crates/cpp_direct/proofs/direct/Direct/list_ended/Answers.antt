@@ -3,9 +3,8 @@ use Rattle.cpp_direct.specs.Symbol.{symbol_by}
 use Rattle.cpp_direct.specs.declared.direct.Direct.{Direct}
 use Rattle.cpp_direct.specs.declared.open.Open.TheVariants as opens
 use Rattle.cpp_direct.specs.declared.open.Step.TheVariants as steps
-use Rattle.cpp_direct.specs.WriterInvariant.{IsWriting}
+use Rattle.cpp_direct.specs.WriterInvariant.{IsWriting, nowhere}
 use Rattle.cpp_direct.specs.MidStep.{IsListEnded}
-use Rattle.cpp_direct.specs.WriterInvariant.{nowhere}
 use Rattle.cpp_direct.proofs.Listed.{waits-last, list-ends, pack-ends}
 use Rattle.cpp_direct.proofs.TypesRead.{popped}
 use Rattle.cpp_direct.proofs.direct.Direct.list_ended.Goals as goal
