@@ -35,9 +35,8 @@ use Rattle.cpp_direct.specs.MidStep.{AwaitsNamedType, AwaitsNest, IsElementRead}
 use Rattle.cpp_direct.specs.MidStepOfLocals.{AwaitsEnclosingParameters, AwaitsTypeName, IsEnclosingInstance, IsEnclosingNamed, IsEnclosingParameterRead, IsEnclosingRead, IsLambdaParameterRead}
 use Rattle.cpp_direct.specs.Written.{AreKeptTo, Writes, Reads, added}
 use Rattle.cpp_direct.proofs.Ending.{behind-two, behind-three, behind-five, next-written, parameter-goes_on, plain-text, qualifiers-text, void-read}
-use Rattle.cpp_direct.proofs.FoundTokens.{reads-of, reads-then}
-use Rattle.cpp_direct.proofs.Kept.{candidates-same, candidates-grown, candidates-read, candidates-with, candidates-written, reverse-last}
-use Rattle.cpp_direct.proofs.LeftOut.{candidates-kept}
+use Rattle.cpp_direct.proofs.NamePlaces.{reads-of, reads-then}
+use Rattle.cpp_direct.proofs.Kept.{candidates-as, candidates-same, candidates-grown, candidates-read, candidates-with, candidates-written, reverse-last, candidates-kept}
 use Rattle.cpp_direct.proofs.Listed.{some-elements}
 use Rattle.cpp_direct.proofs.Moves.{expects-empty, stands-join}
 use Rattle.cpp_direct.proofs.MovesOfEncodings.{encoding-opens, name-nested, name-source}
@@ -46,12 +45,11 @@ use Rattle.cpp_direct.proofs.MovesOfLocals.{lambda-opens, lambda-piece, lambda_b
 use Rattle.cpp_direct.proofs.Nesting.{nest-comes}
 use Rattle.cpp_direct.proofs.PrintedLists.{list-with-none, all-in, element-in, next-prints, next-prints-in, none-print, none-print-in}
 use Rattle.cpp_direct.proofs.PrintedParts.{has-none, has-parameters}
-use Rattle.cpp_direct.proofs.PrintedLocals.{function-encloses, name-encloses, object-enclosing, returned-enclosing}
+use Rattle.cpp_direct.proofs.PrintedLocals.{function-encloses, name-encloses, object-enclosing, returned-enclosing, lambda-prints, lambda-list-prints, local-prints}
 use Rattle.cpp_direct.proofs.PrintedNames.{as-name, source-prints}
 use Rattle.cpp_direct.proofs.PrintedSymbols.{encoding-plain, function-shows, encoding-returned, object-encoded, parameters-kept, void-shows}
 use Rattle.cpp_direct.specs.WrittenParts.{IsUnmarked}
 use Rattle.cpp_direct.proofs.Unmarked.{name-unmarked, is-no-mark, more-unmarked}
-use Rattle.cpp_direct.proofs.PrintedWithin.{lambda-prints, lambda-list-prints, local-prints}
 use Rattle.cpp_direct.proofs.TypesRead.{builtin-listed, no-builtin}
 use Rattle.cpp_direct.proofs.MovesOfTypes.{builtin-comes}
 use Rattle.cpp_direct.proofs.Scopes.{arguments-named, arguments-stay, enclosing-scoped, enclosing-stays, none-known, none-scoped}
@@ -791,8 +789,7 @@ lambda-done s w begun pushed numbered popped_ last new from p apart ends same_te
     (candidates-read (detail_of s) popped_ last [] p.state.candidates three popped_known) written p.from_is shown in
     record {
       state = st;
-      candidates = subst (λ v. AreCandidates (detail_of s) v.list.items new.candidates.list.items st.candidates) (sym text)
-          (subst (λ ks. AreCandidates (detail_of s) last.text.list.items ks st.candidates) (sym candidates) more);
+      candidates = candidates-as (detail_of s) new st.candidates (ap (λ v. v.list.items) text) candidates more;
       is_before = (
         ends_with.0,
         own,
@@ -831,8 +828,7 @@ type-within s old pushed read last new from awaits one p n is prints two digit t
     let named_ = subst (λ k. IsPieceAt s k p read.at) (one.at ∙ awaits.at_is) is in
     record {
       state = st;
-      candidates = subst (λ v. AreCandidates (detail_of s) v.list.items new.candidates.list.items st.candidates) (sym text)
-          (subst (λ ks. AreCandidates (detail_of s) last.text.list.items ks st.candidates) (sym candidates) more);
+      candidates = candidates-as (detail_of s) new st.candidates (ap (λ v. v.list.items) text) candidates more;
       is_before = (
         w.0,
         t,

@@ -1,4 +1,4 @@
--- The components of a nested name are read one after another.
+-- The components of a nested name are read one after another, and their tags.
 use Rattle.std.proofs.Common.{◌≡◌, ℕ, ◌+◌, List, [], ◌∷◌, inl, inr, Some, Bool, true, false, Ok, refl, sym, subst, arith}
 use Rattle.std.proofs.lemmas.Bool.{le-leb, lt-ltb}
 use Rattle.sym_shape.specs.declared.rule.Sym.TheVariants.{Kind as OfKind, Byte}
@@ -10,18 +10,16 @@ use Rattle.cpp_grammar.specs.Table.{rule_of}
 use Rattle.cpp_grammar.specs.Term.{Term, within, instance, source, operator, constructor, destructor}
 use Rattle.cpp_grammar.specs.Values.{State, Around, prefix_tree, prefix_listed, Value, nothing_there, tree, piece, tree_of, is_there, letter_of, part, piece_of, text_of}
 use Rattle.cpp_grammar.specs.References.{appended, with_prefix}
-use Rattle.cpp_grammar.specs.Between.{after, inside, extended, applied, no_items, named_so_far, listed_so_far, between}
+use Rattle.cpp_grammar.specs.Between.{after, inside, extended, applied, no_items, named_so_far, listed_so_far, between, with_tag}
 use Rattle.cpp_grammar.specs.Unfolding.{close, byte_of, opening}
 use Rattle.cpp_grammar.specs.Meaning.{meaning}
-use Rattle.cpp_grammar.specs.Unfolding as unfolding_
 use Rattle.cpp_direct.specs.Symbol.{Symbol}
-use Rattle.cpp_direct.specs.Holes.{Opened, opened, StandsAt, Comes, Expects, with_candidate, unless_listed, IsNameAt, SamePasses, NestGoesOn, Named, AwaitsComponent, bare_name}
+use Rattle.cpp_direct.specs.Holes.{Opened, opened, StandsAt, Comes, Expects, with_candidate, unless_listed, IsNameAt, SamePasses, NestGoesOn, Named, AwaitsComponent, bare_name, IsTagAt}
 use Rattle.cpp_direct.specs.Names.{IsConstructorDigit, IsDestructorDigit}
 use Rattle.cpp_direct.specs.HolesOfNests.{IsRest, IsFirstRest, AwaitsArguments, AwaitsInstance}
-use Rattle.cpp_direct.proofs.Alone.{any-list}
-use Rattle.cpp_direct.proofs.Filling.{Hole, Filled, Taken, hole, open_at, fill, filled-at, eats, leaves, eats-widely, chosen-byte, is_left, byte-opens, chain-opens, byte-fills, next-part, closes, fixed-fills, name-fills, is_eaten, is_eaten_widely}
-use Rattle.cpp_direct.proofs.Moves.{stands-split}
-use Rattle.cpp_direct.proofs.Operators.{IsOperator}
+use Rattle.cpp_direct.proofs.Moves.{any-list, Hole, Filled, Taken, hole, open_at, fill, filled-at, eats, leaves, eats-widely, chosen-byte, is_left, byte-opens, chain-opens, byte-fills, next-part, closes, fixed-fills, name-fills, is_eaten, is_eaten_widely, stands-split}
+use Rattle.cpp_direct.proofs.LettersTested.{IsOperator}
+use Rattle.cpp_grammar.specs.Unfolding as unfolding_
 
 -- ## After the name so far
 
@@ -289,3 +287,28 @@ component-destructor s os around t at st digit expects stands is =
     let code = byte-opens (eats s Kind.Component p 68 refl) (hole s Kind.Component (after t true around) os at st expects) two.0 refl refl in
     named-by p (next-part p (filled-at (at + 2) (byte-fills (destructor-taken s digit is) code two.1 refl refl) (omega arith)) refl)
     (λ byte now began later v. refl)
+
+-- ## Tags
+
+-- A name with a tag was read, where one without was expected.
+pub record Tagged (s : Symbol) (outer : List Opened) (around : Around) (t : Term) (at : ℕ) (st : State) : Type 0 where
+  pub inner : List Opened
+  pub awaits : Expects s Kind.MaybeArguments (after t false around) inner at st
+  pub bare : (at : ℕ) (st : State) → Comes s inner nothing_there at st → Comes s outer (bare_name t) at st
+  pub argued : (a : Term) (at : ℕ) (st : State) → Comes s inner (tree a true) at st → Comes s outer (bare_name (instance t a)) at st
+  pub renamed : (u : Term) (at : ℕ) (st : State) → Comes s inner (bare_name u) at st → Comes s outer (bare_name u) at st
+
+pub tag-follows : (s : Symbol) (os : List Opened) (around : Around) (t : Term) (at : ℕ) (st : State) (tag : List ℕ) (end : ℕ) → s.is_wide ≡ true
+    → Expects s Kind.MaybeArguments (after t false around) os at st → IsTagAt s.bytes at tag end → Tagged s os around (with_tag t tag) end st
+unfolding is_eaten is_eaten_widely number_of_kind parts_of between close unfolding_.behind meaning part byte_of tree_of text_of piece_of letter_of is_there after named_so_far with_tag prefix_tree applied
+tag-follows s os around t at st tag end wide expects (stands, is) =
+    let p = Production.Tag in
+    let own = byte-opens (eats-widely s Kind.MaybeArguments p 66 wide refl) (hole s Kind.MaybeArguments (after t false around) os at st expects) stands refl refl in
+    let rest = next-part p (name-fills tag end own is) refl in
+    record {
+      inner = open_at rest;
+      awaits = rest.expects;
+      bare = λ to later comes. (closes p (fill rest nothing_there to later comes) refl).comes;
+      argued = λ a to later comes. (closes p (fill rest (tree a true) to later comes) refl).comes;
+      renamed = λ v to later comes. (closes p (fill rest (bare_name v) to later comes) refl).comes;
+    }

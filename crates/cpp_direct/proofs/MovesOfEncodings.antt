@@ -27,12 +27,10 @@ use Rattle.sym_direct.specs.Holes as direct
 use Rattle.cpp_direct.specs.ItemBytes.{one_of, is_special_letter, is_suffix_byte}
 use Rattle.cpp_direct.specs.HolesOfLists.{const_letter, EncodingOpened, SpecialOpened, IsOffsetAt, ThunkOpened, nest_marks, NestOpened, IsSuffix, SymbolOpened}
 use Rattle.cpp_direct.specs.Letters.{special_letters}
-use Rattle.cpp_direct.proofs.Filling.{Hole, Filled, hole, open_at, fill, filled-at, hole-at, chosen-byte, eats, leaves, is_eaten, byte-opens, chain-opens, byte-fills, next-part, closes, none-fills, fixed-fills, name-fills, first-named, is_left}
-use Rattle.cpp_direct.proofs.LettersTested.{each_passes, tested-one}
-use Rattle.cpp_direct.proofs.Moves.{stands-split}
+use Rattle.cpp_direct.proofs.Moves.{Hole, Filled, hole, open_at, fill, filled-at, hole-at, chosen-byte, eats, leaves, is_eaten, byte-opens, chain-opens, byte-fills, next-part, closes, none-fills, fixed-fills, name-fills, first-named, is_left, stands-split}
+use Rattle.cpp_direct.proofs.LettersTested.{each_passes, tested-one, IsOperator}
 use Rattle.cpp_direct.proofs.MovesOfComponents.{named-by, named-outside, operator-fills}
 use Rattle.cpp_direct.proofs.MovesOfLists.{integer-fills}
-use Rattle.cpp_direct.proofs.Operators.{IsOperator}
 use Rattle.cpp_direct.proofs.Tables.{stands-by}
 
 -- ## Encodings

@@ -23,9 +23,7 @@ use Rattle.cpp_direct.specs.ItemBytes.{is_integer_letter}
 use Rattle.cpp_direct.specs.Letters.{integer_letters}
 use Rattle.cpp_direct.proofs.LettersTested.{each_passes, tested-one}
 use Rattle.cpp_direct.specs.HolesOfLists.{ArgumentsOpened, IsArgumentKind, LiteralOpened, PackOpened, EnumeratorOpened, IsDigitsAt, minus_sign}
-use Rattle.cpp_direct.proofs.Alone.{any-list, any-argument}
-use Rattle.cpp_direct.proofs.Filling.{Hole, Filled, hole, open_at, fill, filled-at, eats, leaves, is_eaten, byte-opens, chain-opens, byte-fills, next-part, closes, fixed-fills, number-fills, is_left}
-use Rattle.cpp_direct.proofs.Moves.{stands-split}
+use Rattle.cpp_direct.proofs.Moves.{any-list, any-argument, Hole, Filled, hole, open_at, fill, filled-at, eats, leaves, is_eaten, byte-opens, chain-opens, byte-fills, next-part, closes, fixed-fills, number-fills, is_left, stands-split}
 
 -- ## Arguments
 

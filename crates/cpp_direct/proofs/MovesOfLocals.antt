@@ -31,8 +31,7 @@ use Rattle.cpp_direct.proofs.ShortNumbers.{lambda-begins}
 use Rattle.cpp_direct.specs.HolesOfTypes.{IsNamedKind}
 use Rattle.cpp_direct.proofs.MovesOfLists.{digits-fill}
 use Rattle.cpp_direct.proofs.MovesOfTypes.{named-taken}
-use Rattle.cpp_direct.proofs.Moves.{stands-split, kind-at, reads-rule, joins, none-left, opens-where, needs-next}
-use Rattle.cpp_direct.proofs.Filling.{hole, open_at, fill, filled-at, hole-at, eats, leaves, chosen-byte, is_left, byte-opens, chain-opens, byte-fills, next-part, closes, none-fills, fixed-fills, name-fills, number-fills, is_eaten}
+use Rattle.cpp_direct.proofs.Moves.{stands-split, kind-at, reads-rule, joins, none-left, opens-where, needs-next, hole, open_at, fill, filled-at, hole-at, eats, leaves, chosen-byte, is_left, byte-opens, chain-opens, byte-fills, next-part, closes, none-fills, fixed-fills, name-fills, number-fills, is_eaten}
 use Rattle.cpp_direct.proofs.Tables.{empty-by, names-by}
 
 -- ## Discriminators

@@ -19,9 +19,7 @@ use Rattle.cpp_grammar.specs.Unfolding as unfolding_
 use Rattle.cpp_direct.specs.Symbol.{Symbol}
 use Rattle.cpp_direct.specs.Bytes.{is_abbreviated}
 use Rattle.cpp_direct.specs.Holes.{Opened, opened, StandsAt, Comes, Expects, IsNameAt, IsSeqAt, NestGoesOn, NestNamed, bare_name}
-use Rattle.cpp_direct.proofs.Alone.{alone-rest}
-use Rattle.cpp_direct.proofs.Moves.{stands-split}
-use Rattle.cpp_direct.proofs.Filling.{Hole, Filled, hole, open_at, fill, filled-at, eats, leaves, byte-opens, chain-opens, next-part, closes, name-fills, first-named, is_eaten, is_left}
+use Rattle.cpp_direct.proofs.Moves.{alone-rest, stands-split, Hole, Filled, hole, open_at, fill, filled-at, eats, leaves, byte-opens, chain-opens, next-part, closes, name-fills, first-named, is_eaten, is_left}
 use Rattle.cpp_direct.proofs.MovesOfTypes.{abbreviation-fills, substituted-so, substitution-fills}
 
 -- ## Pieces

@@ -36,15 +36,13 @@ use Rattle.cpp_direct.specs.Prints.{Prints, NamesClass}
 use Rattle.cpp_direct.specs.WriterInvariant.{HasArguments, AreCandidates, IsNest, IsNesting, IsOwn, IsTemplate, ArgumentsGoOn, Serves, Stands, IsWriting, qualifiers, IsKnown, nowhere, place_of}
 use Rattle.cpp_direct.specs.MidStep.{AwaitsNest, IsNestKnown, IsNestNamed, IsNameEnded, IsOperatorRead}
 use Rattle.cpp_direct.specs.Written.{Reads, added, added_unless}
-use Rattle.cpp_direct.proofs.Alone.{alone-arguments, any-tail}
-use Rattle.cpp_direct.proofs.Kept.{candidates-grown, arguments-begun, candidates-read, candidates-stay, candidates-with, candidates-unless, candidate-found, piece-found, nest-stays, reverse-last, plainly-prints}
-use Rattle.cpp_direct.proofs.Moves.{expects-empty, stands-join, comes-moved}
-use Rattle.cpp_direct.proofs.MovesOfComponents.{component-awaits, component-outside, any-arguments, instance-arguments, nest-end}
+use Rattle.cpp_direct.proofs.Moves.{alone-arguments, any-tail, expects-empty, stands-join, comes-moved}
+use Rattle.cpp_direct.proofs.Kept.{candidates-as, candidates-grown, arguments-begun, candidates-read, candidates-stay, candidates-with, candidates-unless, candidate-found, piece-found, nest-stays, reverse-last, plainly-prints}
+use Rattle.cpp_direct.proofs.MovesOfComponents.{component-awaits, component-outside, any-arguments, instance-arguments, nest-end, tag-follows}
 use Rattle.cpp_direct.proofs.MovesOfLists.{arguments-open}
 use Rattle.cpp_direct.proofs.MovesOfNests.{nest-source, nest-abbreviation, nest-substitution, nest-std}
 use Rattle.cpp_direct.proofs.PrintedNames.{as-name, source-prints, source-class, std-prints, std-class, abbreviation-prints}
-use Rattle.cpp_direct.proofs.PrintedTags.{tagged-prints, std-tagged, again-tagged}
-use Rattle.cpp_direct.proofs.MovesOfTags.{tag-follows}
+use Rattle.cpp_direct.proofs.PrintedNests.{tagged-prints, std-tagged, again-tagged}
 use Rattle.cpp_direct.proofs.TypesRead.{abbreviation-listed}
 
 -- ## What small functions did
@@ -81,9 +79,8 @@ list-begins s old mid new ks st owner front name t keeps opening_ candidates tem
     let at_is : new.at ≡ old.at + 1 = cc (opening_.at, keeps.at) in
     record {
       state = st;
-      candidates = subst (λ l. AreCandidates (detail_of s) l new.candidates.list.items st.candidates) (sym text_is)
-          (subst (λ l. AreCandidates (detail_of s) (old.text.list.items ++ opening_bracket (detail_of s)) l st.candidates) (sym candidates_are)
-          (candidates-stay (detail_of s) old.text.list.items (opening_bracket (detail_of s)) ks st.candidates candidates));
+      candidates = candidates-as (detail_of s) new st.candidates text_is candidates_are
+          (candidates-stay (detail_of s) old.text.list.items (opening_bracket (detail_of s)) ks st.candidates candidates);
       is_before = arguments-begun s new st owner (reverse old.waiting.list.items) front name t
           (ap reverse waiting_is ∙ reverse-last old.waiting.list.items owner)
           (subst (λ l. IsTemplate (detail_of s) owner front t name l) (sym text_is) template) (text_is ∙ ap (λ l. l ++ opening_bracket (detail_of s)) written)
@@ -268,9 +265,8 @@ component-next s kind old new st t rest candidates n keeps =
     let later = unless_listed listed around t st in
     record {
       state = later;
-      candidates = subst (λ l. AreCandidates (detail_of s) l new.candidates.list.items later.candidates) (sym text_is)
-          (subst (λ l. AreCandidates (detail_of s) old.text.list.items l later.candidates) (sym keeps.candidates)
-          (candidates-unless old st listed n.front n.bytes old.nest.from t around candidates n.written n.is_nest.from_is n.is_nest.prints));
+      candidates = candidates-as (detail_of s) new later.candidates text_is keeps.candidates
+          (candidates-unless old st listed n.front n.bytes old.nest.from t around candidates n.written n.is_nest.from_is n.is_nest.prints);
       is_before = (
         t,
         n.front,
@@ -337,9 +333,8 @@ type-ended s old new st t candidates n here is_type keeps =
     let later = unless_listed listed serves.1 t st in
     record {
       state = later;
-      candidates = subst (λ l. AreCandidates (detail_of s) l new.candidates.list.items later.candidates) (sym text_is)
-          (subst (λ l. AreCandidates (detail_of s) old.text.list.items l later.candidates) (sym keeps.candidates)
-          (candidates-unless old st listed n.front n.bytes old.nest.from t serves.1 candidates n.written n.is_nest.from_is n.is_nest.prints));
+      candidates = candidates-as (detail_of s) new later.candidates text_is keeps.candidates
+          (candidates-unless old st listed n.front n.bytes old.nest.from t serves.1 candidates n.written n.is_nest.from_is n.is_nest.prints);
       is_before = (
         serves.0,
         t,

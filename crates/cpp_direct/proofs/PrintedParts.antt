@@ -152,17 +152,22 @@ pub length-filled : (xs : List ℕ) → xs ≢ [] → 1 ≤ length xs
 length-filled [] e = absurd (e refl)
 length-filled (x ∷ xs) e = omega arith
 
--- parts after parts
+-- the texts of two lists of parts are joined
+pub parts-joined : (f : Item → Unshared) (ps qs : List (PartOf Item))
+    → text_of (printed_parts f (not_empty (ps ++ qs))) ≡ text_of (printed_parts f (not_empty ps)) ++ text_of (printed_parts f (not_empty qs))
+unfolding not_empty
+parts-joined f [] qs = refl
+parts-joined f (text [] ∷ ps) qs = parts-joined f ps qs
+parts-joined f (text (b ∷ bs) ∷ ps) qs =
+    ap (λ l. (b ∷ bs) ++ l) (parts-joined f ps qs)
+    ∙ sym (append_assoc (b ∷ bs) (text_of (printed_parts f (not_empty ps))) (text_of (printed_parts f (not_empty qs))))
+parts-joined f (sub i ∷ ps) qs =
+    ap (λ l. text_of (f i) ++ l) (parts-joined f ps qs)
+    ∙ sym (append_assoc (text_of (f i)) (text_of (printed_parts f (not_empty ps))) (text_of (printed_parts f (not_empty qs))))
+
 pub text-append : (detail : Detail) (ps qs : List (PartOf Item))
     → text_of (printed_by detail (ps ++ qs)) ≡ text_of (printed_by detail ps) ++ text_of (printed_by detail qs)
-unfolding not_empty
-text-append detail [] qs = refl
-text-append detail (text [] ∷ ps) qs = text-append detail ps qs
-text-append detail (text (b ∷ bs) ∷ ps) qs =
-    ap (λ s. (b ∷ bs) ++ s) (text-append detail ps qs) ∙ sym (append_assoc (b ∷ bs) (text_of (printed_by detail ps)) (text_of (printed_by detail qs)))
-text-append detail (sub i ∷ ps) qs =
-    ap (λ s. text_of (written detail i) ++ s) (text-append detail ps qs)
-    ∙ sym (append_assoc (text_of (written detail i)) (text_of (printed_by detail ps)) (text_of (printed_by detail qs)))
+text-append detail ps qs = parts-joined (λ i. written detail i) ps qs
 
 -- cost what both do
 pub cost-append : (detail : Detail) (ps qs : List (PartOf Item))

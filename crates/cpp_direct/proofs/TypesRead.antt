@@ -37,8 +37,7 @@ use Rattle.cpp_direct.proofs.Kept.{candidates-grown, candidates-same, plainly-pr
 use Rattle.cpp_direct.proofs.Moves.{expects-empty, stands-join}
 use Rattle.cpp_direct.proofs.MovesOfLists.{arguments-open}
 use Rattle.cpp_direct.proofs.MovesOfTypes.{solid-opens, builtin-comes, builtin-with-d-comes, pointer-opens, lvalue-opens, rvalue-opens, const-opens, source-opens, std-opens, abbreviation-opens, substitution-opens, nested-type-opens}
-use Rattle.cpp_direct.proofs.LettersTested.{each_passes, tested}
-use Rattle.cpp_direct.proofs.PrintedLetters.{is_filled, filled}
+use Rattle.cpp_direct.proofs.LettersTested.{each_passes, tested, is_filled, filled}
 use Rattle.cpp_direct.proofs.PrintedNames.{source-prints, std-prints, abbreviation-prints, builtin-prints, builtin-with-d-prints}
 
 -- ## What calls give
@@ -342,49 +341,50 @@ names-awaited s w a = record {
   scoped = a.scoped;
 }
 
--- a name with its length is read
-pub source-named : (s : Symbol) (old new : Direct) (from : ℕ) (name : List ℕ) → AwaitsNamedType s old → IsNameAt s.bytes old.at name new.at → name ≢ []
-    → Reads old new (source_text name) → from ≡ length old.text.list.items → IsTypeNamed s new from false false
-source-named s old new from name a is some reads begins = record {
+-- a name was read where one was awaited
+named-from : (s : Symbol) (old new : Direct) (from : ℕ) (listed r : Bool) (a : AwaitsNamedType s old) (own : Term) (bytes : List ℕ)
+    → AreCandidates (detail_of s) new.text.list.items new.candidates.list.items a.state.candidates → TypeNamed s a.os a.around own listed new.at a.state
+    → new.text.list.items ≡ old.text.list.items ++ bytes → from ≡ length old.text.list.items → Prints (detail_of s) own bytes r
+    → (listed ≡ false → r ≡ false) → new.waiting ≡ old.waiting → IsTypeNamed s new from listed r
+named-from s old new from listed r a own bytes candidates named written from_is prints no_reference waits = record {
   state = a.state;
-  candidates = candidates-read (detail_of s) old new (source_text name) a.state.candidates reads a.candidates;
+  candidates = candidates;
   around = a.around;
   outside = a.outside;
   outer = a.os;
-  own = alone (source false name);
-  named = source-opens s a.kind a.around a.os old.at a.state name new.at a.is_named a.outside a.begins is;
+  own = own;
+  named = named;
   front = old.text.list.items;
-  bytes = source_text name;
-  written = reads.text;
-  from_is = begins;
-  prints = source-prints false name some (name-unmarked s.bytes old.at name new.at is);
-  no_reference = λ e. refl;
-  stands = subst (λ v. Stands s (reverse v.list.items) a.os old.text.list.items) (sym reads.waiting) a.stands;
+  bytes = bytes;
+  written = written;
+  from_is = from_is;
+  prints = prints;
+  no_reference = no_reference;
+  stands = subst (λ v. Stands s (reverse v.list.items) a.os old.text.list.items) (sym waits) a.stands;
 }
+
+-- a name with its length is read
+pub source-named : (s : Symbol) (old new : Direct) (from : ℕ) (name : List ℕ) → AwaitsNamedType s old → IsNameAt s.bytes old.at name new.at → name ≢ []
+    → Reads old new (source_text name) → from ≡ length old.text.list.items → IsTypeNamed s new from false false
+source-named s old new from name a is some reads begins =
+    named-from s old new from false false a (alone (source false name)) (source_text name)
+    (candidates-read (detail_of s) old new (source_text name) a.state.candidates reads a.candidates)
+    (source-opens s a.kind a.around a.os old.at a.state name new.at a.is_named a.outside a.begins is)
+    reads.text begins (source-prints false name some (name-unmarked s.bytes old.at name new.at is)) (λ e. refl) reads.waiting
 
 -- a name in std
 pub std-named : (s : Symbol) (old mid new : Direct) (from : ℕ) (name : List ℕ) → AwaitsNamedType s old → StandsAt s.bytes old.at (83 ∷ [])
     → StandsAt s.bytes (old.at + 1) (116 ∷ [])
     → mid.text.list.items ≡ old.text.list.items ++ codes "std::" → mid.candidates ≡ old.candidates → mid.waiting ≡ old.waiting → mid.at ≡ old.at + 1 + 1
     → IsNameAt s.bytes mid.at name new.at → name ≢ [] → Reads mid new (source_text name) → from ≡ length old.text.list.items → IsTypeNamed s new from false false
-std-named s old mid new from name a s_stands t_stands text candidates waits at is some reads begins = record {
-  state = a.state;
-  candidates = candidates-read (detail_of s) mid new (source_text name) a.state.candidates reads
-      (candidates-grown (detail_of s) old mid (codes "std::") a.state.candidates text candidates a.candidates);
-  around = a.around;
-  outside = a.outside;
-  outer = a.os;
-  own = in_std (source false name);
-  named = std-opens s a.kind a.around a.os old.at a.state name new.at a.is_named a.begins (stands-join s.bytes old.at (83 ∷ []) (116 ∷ []) s_stands t_stands)
-      (subst (λ k. IsNameAt s.bytes k name new.at) (omega (arith, at)) is);
-  front = old.text.list.items;
-  bytes = codes "std::" ++ source_text name;
-  written = reads.text ∙ ap (λ l. l ++ source_text name) text ∙ append_assoc old.text.list.items (codes "std::") (source_text name);
-  from_is = begins;
-  prints = std-prints false name some (name-unmarked s.bytes mid.at name new.at is);
-  no_reference = λ e. refl;
-  stands = subst (λ v. Stands s (reverse v.list.items) a.os old.text.list.items) (sym (reads.waiting ∙ waits)) a.stands;
-}
+std-named s old mid new from name a s_stands t_stands text candidates waits at is some reads begins =
+    named-from s old new from false false a (in_std (source false name)) (codes "std::" ++ source_text name)
+    (candidates-read (detail_of s) mid new (source_text name) a.state.candidates reads
+    (candidates-grown (detail_of s) old mid (codes "std::") a.state.candidates text candidates a.candidates))
+    (std-opens s a.kind a.around a.os old.at a.state name new.at a.is_named a.begins (stands-join s.bytes old.at (83 ∷ []) (116 ∷ []) s_stands t_stands)
+    (subst (λ k. IsNameAt s.bytes k name new.at) (omega (arith, at)) is))
+    (reads.text ∙ ap (λ l. l ++ source_text name) text ∙ append_assoc old.text.list.items (codes "std::") (source_text name))
+    begins (std-prints false name some (name-unmarked s.bytes mid.at name new.at is)) (λ e. refl) (reads.waiting ∙ waits)
 
 -- an abbreviation
 pub abbreviation-named : (s : Symbol) (old new : Direct) (from letter : ℕ) → AwaitsNamedType s old → StandsAt s.bytes old.at (83 ∷ [])
@@ -394,24 +394,12 @@ pub abbreviation-named : (s : Symbol) (old new : Direct) (from letter : ℕ) →
 abbreviation-named s old new from letter a s_stands stands has text candidates waits at begins =
     let is = abbreviation-listed letter has in
     let bytes : List ℕ = look_up (letter ∷ []) abbreviation_texts in
-    record {
-      state = a.state;
-      candidates = candidates-grown (detail_of s) old new bytes a.state.candidates text candidates a.candidates;
-      around = a.around;
-      outside = a.outside;
-      outer = a.os;
-      own = abbreviation letter;
-      named = subst (λ k. TypeNamed s a.os a.around (abbreviation letter) true k a.state) (omega (arith, at))
-          (abbreviation-opens s a.kind a.around a.os old.at a.state letter a.is_named is a.begins
-          (stands-join s.bytes old.at (83 ∷ []) (letter ∷ []) s_stands (stands (no-abbreviation letter is))));
-      front = old.text.list.items;
-      bytes = bytes;
-      written = text;
-      from_is = begins;
-      prints = abbreviation-prints letter has;
-      no_reference = λ e. refl;
-      stands = subst (λ v. Stands s (reverse v.list.items) a.os old.text.list.items) (sym waits) a.stands;
-    }
+    named-from s old new from true false a (abbreviation letter) bytes
+    (candidates-grown (detail_of s) old new bytes a.state.candidates text candidates a.candidates)
+    (subst (λ k. TypeNamed s a.os a.around (abbreviation letter) true k a.state) (omega (arith, at))
+    (abbreviation-opens s a.kind a.around a.os old.at a.state letter a.is_named is a.begins
+    (stands-join s.bytes old.at (83 ∷ []) (letter ∷ []) s_stands (stands (no-abbreviation letter is)))))
+    text begins (abbreviation-prints letter has) (λ e. refl) waits
 
 -- where a substitution's text is
 pub substitution-stands : (s : Symbol) (old : Direct) (n : ℕ) (k : Candidate) → AwaitsNamedType s old → k.from ≤ k.to → slice_get old.candidates.list.items n ≡ Some k
@@ -431,23 +419,10 @@ substitution-named s old new from digits k a stands is ordered found text candid
     let piece = piece-found old.text.list.items c.2.front c.2.bytes c.2.back k.from k.to c.2.written c.2.from_is c.2.to_is in
     let written : new.text.list.items ≡ old.text.list.items ++ c.2.bytes = text ∙ ap (λ l. old.text.list.items ++ l) piece.2 in
     let prints = plainly-prints k c.0 c.2.bytes plain c.2.prints in
-    record {
-      state = a.state;
-      candidates = candidates-grown (detail_of s) old new c.2.bytes a.state.candidates written candidates a.candidates;
-      around = a.around;
-      outside = a.outside;
-      outer = a.os;
-      own = c.0.tree;
-      named = substitution-opens s a.kind a.around a.os old.at a.state digits new.at c.0 a.is_named c.1 prints.is_closed prints.packless
-          a.begins stands is;
-      front = old.text.list.items;
-      bytes = c.2.bytes;
-      written = written;
-      from_is = begins;
-      prints = prints;
-      no_reference = λ e. absurd (false≢true (sym e));
-      stands = subst (λ v. Stands s (reverse v.list.items) a.os old.text.list.items) (sym waits) a.stands;
-    }
+    named-from s old new from true k.is_reference a c.0.tree c.2.bytes
+    (candidates-grown (detail_of s) old new c.2.bytes a.state.candidates written candidates a.candidates)
+    (substitution-opens s a.kind a.around a.os old.at a.state digits new.at c.0 a.is_named c.1 prints.is_closed prints.packless a.begins stands is)
+    written begins prints (λ e. absurd (false≢true (sym e))) waits
 
 -- one that names an argument
 pub named-again : (s : Symbol) (old new : Direct) (digits : List ℕ) (k : Candidate) → AwaitsNamedType s old → StandsAt s.bytes old.at (83 ∷ [])

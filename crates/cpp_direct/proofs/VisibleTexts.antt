@@ -16,7 +16,7 @@ use Rattle.cpp_grammar.specs.Term.{Term, instance}
 use Rattle.cpp_direct.specs.Symbol.{Symbol, detail_by, detail_of}
 use Rattle.cpp_direct.specs.WriterInvariant.{IsWhole, IsShown}
 use Rattle.cpp_direct.specs.WrittenParts.{unmarked_byte, unmarked, unmarked_parts, IsUnmarked, written_instance, written_in, written_parts, written}
-use Rattle.cpp_direct.proofs.PrintedParts.{list-unmarked}
+use Rattle.cpp_direct.proofs.PrintedParts.{parts-joined, list-unmarked}
 use Rattle.cpp_direct.proofs.Unmarked.{is_mark, more-unmarked, unmarked-same, length-unmarked}
 
 -- ## Bytes
@@ -109,18 +109,6 @@ parts-seen f h each (sub i ∷ ps) rest =
     let others = text_of (printed_parts h (not_empty ps)) in
     ap (visible 0) (append_assoc (text_of (f i)) more rest) ∙ each i (more ++ rest) ∙ ap (λ l. unmarked false own ++ l) (parts-seen f h each ps rest)
     ∙ sym (append_assoc (unmarked false own) (unmarked false others) (visible 0 rest)) ∙ ap (λ l. l ++ visible 0 rest) (sym (unmarked-join own others))
-
-parts-joined : (f : Item → Unshared) (ps qs : List (PartOf Item))
-    → text_of (printed_parts f (not_empty (ps ++ qs))) ≡ text_of (printed_parts f (not_empty ps)) ++ text_of (printed_parts f (not_empty qs))
-unfolding not_empty
-parts-joined f [] qs = refl
-parts-joined f (text [] ∷ ps) qs = parts-joined f ps qs
-parts-joined f (text (b ∷ bs) ∷ ps) qs =
-    ap (λ l. (b ∷ bs) ++ l) (parts-joined f ps qs)
-    ∙ sym (append_assoc (b ∷ bs) (text_of (printed_parts f (not_empty ps))) (text_of (printed_parts f (not_empty qs))))
-parts-joined f (sub i ∷ ps) qs =
-    ap (λ l. text_of (f i) ++ l) (parts-joined f ps qs)
-    ∙ sym (append_assoc (text_of (f i)) (text_of (printed_parts f (not_empty ps))) (text_of (printed_parts f (not_empty qs))))
 
 -- ## Instances
 
