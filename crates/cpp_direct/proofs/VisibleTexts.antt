@@ -1,5 +1,5 @@
 -- What is written of a tree is what it shows once what is between marks is left out.
-use Rattle.std.proofs.Common.{◌≡◌, ◌≢◌, ◌⊎◌, inl, inr, refl, ap, sym, subst, ◌∙◌, ℕ, zero, suc, ◌+◌, ◌-◌, ◌*◌, ◌≤◌, ◌<◌, List, [], ◌∷◌, ◌++◌, length, Bool, true, false, ◌||◌, nat_eq, arith, get_or, append-nil, append_assoc, length-append}
+use Rattle.std.proofs.Common.{◌≡◌, ◌≢◌, ◌⊎◌, inl, inr, refl, ap, sym, subst, ◌∙◌, ℕ, zero, suc, ◌+◌, ◌-◌, ◌≤◌, List, [], ◌∷◌, ◌++◌, length, Bool, true, false, ◌||◌, nat_eq, arith, append-nil, append_assoc}
 use Rattle.std.specs.Prelude.{Option, Some, None}
 use Rattle.std.specs.Option.{OnSome}
 use Rattle.std.proofs.lemmas.Bool.{false≢true}
@@ -10,13 +10,13 @@ use Rattle.sym_print.specs.Unshared.{Unshared, text_of, cost_of}
 use Rattle.sym_direct.specs.Marked.{opens, closes, visible, unless_within, HasNoZero}
 use Rattle.cpp_grammar.specs.Answer.{shown, root_item}
 use Rattle.cpp_grammar.specs.Items.{Form, left, low, first, Context, Item}
-use Rattle.cpp_grammar.specs.Parts.{as_item, says, list_part, instance_parts, left_parts, low_parts, parts_in, not_empty, parts}
+use Rattle.cpp_grammar.specs.Parts.{list_part, instance_parts, left_parts, low_parts, parts_in, not_empty, parts}
 use Rattle.cpp_grammar.specs.Ranks.{rank}
 use Rattle.cpp_grammar.specs.Term.{Term, instance}
 use Rattle.cpp_direct.specs.Symbol.{Symbol, detail_by, detail_of}
 use Rattle.cpp_direct.specs.WriterInvariant.{IsWhole, IsShown}
-use Rattle.cpp_direct.specs.WrittenParts.{unmarked_byte, unmarked, unmarked_parts, is_unmarked, IsUnmarked, written_instance, written_in, written_parts, written}
-use Rattle.cpp_direct.proofs.PrintedParts.{list-unmarked}
+use Rattle.cpp_direct.specs.WrittenParts.{unmarked_byte, unmarked, unmarked_parts, IsUnmarked, written_instance, written_in, written_parts, written}
+use Rattle.cpp_direct.proofs.PrintedParts.{parts-joined, list-unmarked}
 use Rattle.cpp_direct.proofs.Unmarked.{is_mark, more-unmarked, unmarked-same, length-unmarked}
 
 -- ## Bytes
@@ -109,18 +109,6 @@ parts-seen f h each (sub i ∷ ps) rest =
     let others = text_of (printed_parts h (not_empty ps)) in
     ap (visible 0) (append_assoc (text_of (f i)) more rest) ∙ each i (more ++ rest) ∙ ap (λ l. unmarked false own ++ l) (parts-seen f h each ps rest)
     ∙ sym (append_assoc (unmarked false own) (unmarked false others) (visible 0 rest)) ∙ ap (λ l. l ++ visible 0 rest) (sym (unmarked-join own others))
-
-parts-joined : (f : Item → Unshared) (ps qs : List (PartOf Item))
-    → text_of (printed_parts f (not_empty (ps ++ qs))) ≡ text_of (printed_parts f (not_empty ps)) ++ text_of (printed_parts f (not_empty qs))
-unfolding not_empty
-parts-joined f [] qs = refl
-parts-joined f (text [] ∷ ps) qs = parts-joined f ps qs
-parts-joined f (text (b ∷ bs) ∷ ps) qs =
-    ap (λ l. (b ∷ bs) ++ l) (parts-joined f ps qs)
-    ∙ sym (append_assoc (b ∷ bs) (text_of (printed_parts f (not_empty ps))) (text_of (printed_parts f (not_empty qs))))
-parts-joined f (sub i ∷ ps) qs =
-    ap (λ l. text_of (f i) ++ l) (parts-joined f ps qs)
-    ∙ sym (append_assoc (text_of (f i)) (text_of (printed_parts f (not_empty ps))) (text_of (printed_parts f (not_empty qs))))
 
 -- ## Instances
 
