@@ -156,7 +156,8 @@ FIRST, LAST = ord("$"), ord("z")
 
 TABLE_HEAD = r'''// @WRITTEN@ The rule that a kind takes at a byte.
 
-ghost use Rattle.std.specs.Prelude.{◌≡◌, ◌<◌, [], IfSome, MatchOption};
+ghost use Rattle.std.specs.Prelude.{◌≡◌, ◌+◌, ◌<◌, [], length, IfSome, MatchOption};
+ghost use Rattle.sym_shape.specs.declared.rule.Sym.{Sym};
 ghost use Rattle.sym_shape.specs.Listing.{listed_in, StandsAt};
 ghost use Rattle.sym_shape.specs.Table.{symbols_of};
 ghost use Rattle.rust_grammar.specs.declared.table.TheConstants.{SYMBOLS};
@@ -264,6 +265,15 @@ pub fn symbol(place: u32) -> Option<Sym>
     symbol_at(&SYMBOLS, place)
 }
 
+/// How many symbols of its rule come after the one at a place.
+#[inline]
+pub fn after(place: u32) -> u8
+    requires { (x : Sym) × StandsAt (listed_in SYMBOLS) place x }
+    ensures { result ≡ length (listed_in SYMBOLS (place + 1)) }
+{
+    AFTER[place as usize]
+}
+
 /// Whether a kind may be empty.
 pub fn may_be_empty(kind: u16) -> bool
     ensures { result ≡ v0_table.may_be_empty kind }
@@ -295,7 +305,8 @@ def table():
     out += ["];", "", "// The symbols of the rules, in the same order.", f"static SYMBOLS: [Sym; {6 * len(RULES) + 6}] = symbols_listed! {{"]
     out += [f"    [{', '.join([symbol(s) for s in symbols] + ['NONE'] * (5 - len(symbols)))}], // {letter}: {production}" for letter, (production, takes, symbols) in RULES.items()]
     empty = "\n            | ".join(f"kind::{kind}" for kind, (rules, may_be_empty) in KINDS.items() if may_be_empty)
-    return "\n".join(out) + "\n};\n\n" + TABLE_TAIL.replace("@COUNT@", str(len(RULES))).replace("@EMPTY@", empty)
+    out += ["};", "", "// How many symbols come after each of them, up to an end.", f"static AFTER: [u8; {6 * len(RULES) + 6}] = [", *words.after_each([symbols for production, takes, symbols in RULES.values()])]
+    return "\n".join(out) + "\n];\n\n" + TABLE_TAIL.replace("@COUNT@", str(len(RULES))).replace("@EMPTY@", empty)
 
 def production_code():
     out = [f"// {WRITTEN} The productions of the grammar (RFC 2603, \"Syntax of mangled names\").", "", "ghost use Rattle.std.specs.Prelude.{◌≡◌};",

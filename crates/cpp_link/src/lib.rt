@@ -1,7 +1,6 @@
 //! A C++ symbol's nodes, from its rows.
 #![tactic(auto)]
 
-pub mod ahead;
 pub mod begin;
 pub mod between;
 pub mod closing;

@@ -2,7 +2,7 @@ use Rattle.std.proofs.Common.{◌∙◌, arith, false}
 use Rattle.cpp_grammar.specs.Grammar.{productions}
 use Rattle.cpp_link.specs.Tables.{skips_parts}
 use Rattle.cpp_link.proofs.Reading.{count_got}
-use Rattle.cpp_link.proofs.ahead.skips_parts.Goals as goal
+use Rattle.cpp_link.proofs.dispatch.skips_parts.Goals as goal
 
 pub returns-in-Some : goal.returns-in-Some
 unfolding productions skips_parts
