@@ -670,7 +670,7 @@ def handed_answers():
         at = "" if p == words.COMMON[0] else f"-in-{p}"
         requires, returns = f"finish_as-requires{at}", f"returns-in-{p}"
         lines += ["", f"pub {requires} : goal.{requires}", f"{requires} c =",
-            f"    record {{ common = tt; numbered = sym c.in-{p}.is ∙ c.production_of-production.ensures; {given} }}",
+            f"    record {{ common = λ rare. rare; numbered = sym c.in-{p}.is ∙ c.production_of-production.ensures; {given} }}",
             "", f"pub {returns} : goal.{returns}", f"{returns} c =", f"    let had = c.finish_as{at}.ensures in", f"    record {{ {had} }}"]
     return [*lines, "", "pub returns : goal.returns", "returns c =", "    let had = c.finish_rare.ensures in", f"    record {{ {had} }}"]
 

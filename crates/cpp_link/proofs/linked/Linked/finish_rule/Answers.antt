@@ -42,7 +42,7 @@ returns-in-Inheriting-clause-closes c =
 
 pub finish_as-requires : goal.finish_as-requires
 finish_as-requires c =
-    record { common = tt; numbered = sym c.in-NestNext.is ∙ c.production_of-production.ensures; room = c.requires.room; «open» = c.requires.«open»; base = c.requires.base; place = c.requires.place }
+    record { common = λ rare. rare; numbered = sym c.in-NestNext.is ∙ c.production_of-production.ensures; room = c.requires.room; «open» = c.requires.«open»; base = c.requires.base; place = c.requires.place }
 
 pub returns-in-NestNext : goal.returns-in-NestNext
 returns-in-NestNext c =
@@ -51,7 +51,7 @@ returns-in-NestNext c =
 
 pub finish_as-requires-in-SourceName : goal.finish_as-requires-in-SourceName
 finish_as-requires-in-SourceName c =
-    record { common = tt; numbered = sym c.in-SourceName.is ∙ c.production_of-production.ensures; room = c.requires.room; «open» = c.requires.«open»; base = c.requires.base; place = c.requires.place }
+    record { common = λ rare. rare; numbered = sym c.in-SourceName.is ∙ c.production_of-production.ensures; room = c.requires.room; «open» = c.requires.«open»; base = c.requires.base; place = c.requires.place }
 
 pub returns-in-SourceName : goal.returns-in-SourceName
 returns-in-SourceName c =
@@ -60,7 +60,7 @@ returns-in-SourceName c =
 
 pub finish_as-requires-in-PlainType : goal.finish_as-requires-in-PlainType
 finish_as-requires-in-PlainType c =
-    record { common = tt; numbered = sym c.in-PlainType.is ∙ c.production_of-production.ensures; room = c.requires.room; «open» = c.requires.«open»; base = c.requires.base; place = c.requires.place }
+    record { common = λ rare. rare; numbered = sym c.in-PlainType.is ∙ c.production_of-production.ensures; room = c.requires.room; «open» = c.requires.«open»; base = c.requires.base; place = c.requires.place }
 
 pub returns-in-PlainType : goal.returns-in-PlainType
 returns-in-PlainType c =
@@ -69,7 +69,7 @@ returns-in-PlainType c =
 
 pub finish_as-requires-in-NestEnd : goal.finish_as-requires-in-NestEnd
 finish_as-requires-in-NestEnd c =
-    record { common = tt; numbered = sym c.in-NestEnd.is ∙ c.production_of-production.ensures; room = c.requires.room; «open» = c.requires.«open»; base = c.requires.base; place = c.requires.place }
+    record { common = λ rare. rare; numbered = sym c.in-NestEnd.is ∙ c.production_of-production.ensures; room = c.requires.room; «open» = c.requires.«open»; base = c.requires.base; place = c.requires.place }
 
 pub returns-in-NestEnd : goal.returns-in-NestEnd
 returns-in-NestEnd c =
@@ -78,7 +78,7 @@ returns-in-NestEnd c =
 
 pub finish_as-requires-in-Items : goal.finish_as-requires-in-Items
 finish_as-requires-in-Items c =
-    record { common = tt; numbered = sym c.in-Items.is ∙ c.production_of-production.ensures; room = c.requires.room; «open» = c.requires.«open»; base = c.requires.base; place = c.requires.place }
+    record { common = λ rare. rare; numbered = sym c.in-Items.is ∙ c.production_of-production.ensures; room = c.requires.room; «open» = c.requires.«open»; base = c.requires.base; place = c.requires.place }
 
 pub returns-in-Items : goal.returns-in-Items
 returns-in-Items c =
@@ -87,7 +87,7 @@ returns-in-Items c =
 
 pub finish_as-requires-in-Builtin : goal.finish_as-requires-in-Builtin
 finish_as-requires-in-Builtin c =
-    record { common = tt; numbered = sym c.in-Builtin.is ∙ c.production_of-production.ensures; room = c.requires.room; «open» = c.requires.«open»; base = c.requires.base; place = c.requires.place }
+    record { common = λ rare. rare; numbered = sym c.in-Builtin.is ∙ c.production_of-production.ensures; room = c.requires.room; «open» = c.requires.«open»; base = c.requires.base; place = c.requires.place }
 
 pub returns-in-Builtin : goal.returns-in-Builtin
 returns-in-Builtin c =
@@ -96,7 +96,7 @@ returns-in-Builtin c =
 
 pub finish_as-requires-in-AnyArgument : goal.finish_as-requires-in-AnyArgument
 finish_as-requires-in-AnyArgument c =
-    record { common = tt; numbered = sym c.in-AnyArgument.is ∙ c.production_of-production.ensures; room = c.requires.room; «open» = c.requires.«open»; base = c.requires.base; place = c.requires.place }
+    record { common = λ rare. rare; numbered = sym c.in-AnyArgument.is ∙ c.production_of-production.ensures; room = c.requires.room; «open» = c.requires.«open»; base = c.requires.base; place = c.requires.place }
 
 pub returns-in-AnyArgument : goal.returns-in-AnyArgument
 returns-in-AnyArgument c =
@@ -105,7 +105,7 @@ returns-in-AnyArgument c =
 
 pub finish_as-requires-in-NestSource : goal.finish_as-requires-in-NestSource
 finish_as-requires-in-NestSource c =
-    record { common = tt; numbered = sym c.in-NestSource.is ∙ c.production_of-production.ensures; room = c.requires.room; «open» = c.requires.«open»; base = c.requires.base; place = c.requires.place }
+    record { common = λ rare. rare; numbered = sym c.in-NestSource.is ∙ c.production_of-production.ensures; room = c.requires.room; «open» = c.requires.«open»; base = c.requires.base; place = c.requires.place }
 
 pub returns-in-NestSource : goal.returns-in-NestSource
 returns-in-NestSource c =
@@ -114,7 +114,7 @@ returns-in-NestSource c =
 
 pub finish_as-requires-in-Substitution : goal.finish_as-requires-in-Substitution
 finish_as-requires-in-Substitution c =
-    record { common = tt; numbered = sym c.in-Substitution.is ∙ c.production_of-production.ensures; room = c.requires.room; «open» = c.requires.«open»; base = c.requires.base; place = c.requires.place }
+    record { common = λ rare. rare; numbered = sym c.in-Substitution.is ∙ c.production_of-production.ensures; room = c.requires.room; «open» = c.requires.«open»; base = c.requires.base; place = c.requires.place }
 
 pub returns-in-Substitution : goal.returns-in-Substitution
 returns-in-Substitution c =
@@ -123,7 +123,7 @@ returns-in-Substitution c =
 
 pub finish_as-requires-in-Symbol : goal.finish_as-requires-in-Symbol
 finish_as-requires-in-Symbol c =
-    record { common = tt; numbered = sym c.in-Symbol.is ∙ c.production_of-production.ensures; room = c.requires.room; «open» = c.requires.«open»; base = c.requires.base; place = c.requires.place }
+    record { common = λ rare. rare; numbered = sym c.in-Symbol.is ∙ c.production_of-production.ensures; room = c.requires.room; «open» = c.requires.«open»; base = c.requires.base; place = c.requires.place }
 
 pub returns-in-Symbol : goal.returns-in-Symbol
 returns-in-Symbol c =
@@ -132,7 +132,7 @@ returns-in-Symbol c =
 
 pub finish_as-requires-in-NestedType : goal.finish_as-requires-in-NestedType
 finish_as-requires-in-NestedType c =
-    record { common = tt; numbered = sym c.in-NestedType.is ∙ c.production_of-production.ensures; room = c.requires.room; «open» = c.requires.«open»; base = c.requires.base; place = c.requires.place }
+    record { common = λ rare. rare; numbered = sym c.in-NestedType.is ∙ c.production_of-production.ensures; room = c.requires.room; «open» = c.requires.«open»; base = c.requires.base; place = c.requires.place }
 
 pub returns-in-NestedType : goal.returns-in-NestedType
 returns-in-NestedType c =
@@ -141,7 +141,7 @@ returns-in-NestedType c =
 
 pub finish_as-requires-in-Encoding : goal.finish_as-requires-in-Encoding
 finish_as-requires-in-Encoding c =
-    record { common = tt; numbered = sym c.in-Encoding.is ∙ c.production_of-production.ensures; room = c.requires.room; «open» = c.requires.«open»; base = c.requires.base; place = c.requires.place }
+    record { common = λ rare. rare; numbered = sym c.in-Encoding.is ∙ c.production_of-production.ensures; room = c.requires.room; «open» = c.requires.«open»; base = c.requires.base; place = c.requires.place }
 
 pub returns-in-Encoding : goal.returns-in-Encoding
 returns-in-Encoding c =
@@ -150,7 +150,7 @@ returns-in-Encoding c =
 
 pub finish_as-requires-in-NestedName : goal.finish_as-requires-in-NestedName
 finish_as-requires-in-NestedName c =
-    record { common = tt; numbered = sym c.in-NestedName.is ∙ c.production_of-production.ensures; room = c.requires.room; «open» = c.requires.«open»; base = c.requires.base; place = c.requires.place }
+    record { common = λ rare. rare; numbered = sym c.in-NestedName.is ∙ c.production_of-production.ensures; room = c.requires.room; «open» = c.requires.«open»; base = c.requires.base; place = c.requires.place }
 
 pub returns-in-NestedName : goal.returns-in-NestedName
 returns-in-NestedName c =
@@ -159,7 +159,7 @@ returns-in-NestedName c =
 
 pub finish_as-requires-in-NestWithS : goal.finish_as-requires-in-NestWithS
 finish_as-requires-in-NestWithS c =
-    record { common = tt; numbered = sym c.in-NestWithS.is ∙ c.production_of-production.ensures; room = c.requires.room; «open» = c.requires.«open»; base = c.requires.base; place = c.requires.place }
+    record { common = λ rare. rare; numbered = sym c.in-NestWithS.is ∙ c.production_of-production.ensures; room = c.requires.room; «open» = c.requires.«open»; base = c.requires.base; place = c.requires.place }
 
 pub returns-in-NestWithS : goal.returns-in-NestWithS
 returns-in-NestWithS c =
@@ -168,7 +168,7 @@ returns-in-NestWithS c =
 
 pub finish_as-requires-in-Arguments : goal.finish_as-requires-in-Arguments
 finish_as-requires-in-Arguments c =
-    record { common = tt; numbered = sym c.in-Arguments.is ∙ c.production_of-production.ensures; room = c.requires.room; «open» = c.requires.«open»; base = c.requires.base; place = c.requires.place }
+    record { common = λ rare. rare; numbered = sym c.in-Arguments.is ∙ c.production_of-production.ensures; room = c.requires.room; «open» = c.requires.«open»; base = c.requires.base; place = c.requires.place }
 
 pub returns-in-Arguments : goal.returns-in-Arguments
 returns-in-Arguments c =
@@ -177,7 +177,7 @@ returns-in-Arguments c =
 
 pub finish_as-requires-in-NestTemplate : goal.finish_as-requires-in-NestTemplate
 finish_as-requires-in-NestTemplate c =
-    record { common = tt; numbered = sym c.in-NestTemplate.is ∙ c.production_of-production.ensures; room = c.requires.room; «open» = c.requires.«open»; base = c.requires.base; place = c.requires.place }
+    record { common = λ rare. rare; numbered = sym c.in-NestTemplate.is ∙ c.production_of-production.ensures; room = c.requires.room; «open» = c.requires.«open»; base = c.requires.base; place = c.requires.place }
 
 pub returns-in-NestTemplate : goal.returns-in-NestTemplate
 returns-in-NestTemplate c =
@@ -186,7 +186,7 @@ returns-in-NestTemplate c =
 
 pub finish_as-requires-in-TypeWithS : goal.finish_as-requires-in-TypeWithS
 finish_as-requires-in-TypeWithS c =
-    record { common = tt; numbered = sym c.in-TypeWithS.is ∙ c.production_of-production.ensures; room = c.requires.room; «open» = c.requires.«open»; base = c.requires.base; place = c.requires.place }
+    record { common = λ rare. rare; numbered = sym c.in-TypeWithS.is ∙ c.production_of-production.ensures; room = c.requires.room; «open» = c.requires.«open»; base = c.requires.base; place = c.requires.place }
 
 pub returns-in-TypeWithS : goal.returns-in-TypeWithS
 returns-in-TypeWithS c =
@@ -195,7 +195,7 @@ returns-in-TypeWithS c =
 
 pub finish_as-requires-in-AbbreviatedType : goal.finish_as-requires-in-AbbreviatedType
 finish_as-requires-in-AbbreviatedType c =
-    record { common = tt; numbered = sym c.in-AbbreviatedType.is ∙ c.production_of-production.ensures; room = c.requires.room; «open» = c.requires.«open»; base = c.requires.base; place = c.requires.place }
+    record { common = λ rare. rare; numbered = sym c.in-AbbreviatedType.is ∙ c.production_of-production.ensures; room = c.requires.room; «open» = c.requires.«open»; base = c.requires.base; place = c.requires.place }
 
 pub returns-in-AbbreviatedType : goal.returns-in-AbbreviatedType
 returns-in-AbbreviatedType c =
@@ -204,7 +204,7 @@ returns-in-AbbreviatedType c =
 
 pub finish_as-requires-in-ReferenceType : goal.finish_as-requires-in-ReferenceType
 finish_as-requires-in-ReferenceType c =
-    record { common = tt; numbered = sym c.in-ReferenceType.is ∙ c.production_of-production.ensures; room = c.requires.room; «open» = c.requires.«open»; base = c.requires.base; place = c.requires.place }
+    record { common = λ rare. rare; numbered = sym c.in-ReferenceType.is ∙ c.production_of-production.ensures; room = c.requires.room; «open» = c.requires.«open»; base = c.requires.base; place = c.requires.place }
 
 pub returns-in-ReferenceType : goal.returns-in-ReferenceType
 returns-in-ReferenceType c =
@@ -213,7 +213,7 @@ returns-in-ReferenceType c =
 
 pub finish_as-requires-in-Pointer : goal.finish_as-requires-in-Pointer
 finish_as-requires-in-Pointer c =
-    record { common = tt; numbered = sym c.in-Pointer.is ∙ c.production_of-production.ensures; room = c.requires.room; «open» = c.requires.«open»; base = c.requires.base; place = c.requires.place }
+    record { common = λ rare. rare; numbered = sym c.in-Pointer.is ∙ c.production_of-production.ensures; room = c.requires.room; «open» = c.requires.«open»; base = c.requires.base; place = c.requires.place }
 
 pub returns-in-Pointer : goal.returns-in-Pointer
 returns-in-Pointer c =
@@ -222,7 +222,7 @@ returns-in-Pointer c =
 
 pub finish_as-requires-in-ConstType : goal.finish_as-requires-in-ConstType
 finish_as-requires-in-ConstType c =
-    record { common = tt; numbered = sym c.in-ConstType.is ∙ c.production_of-production.ensures; room = c.requires.room; «open» = c.requires.«open»; base = c.requires.base; place = c.requires.place }
+    record { common = λ rare. rare; numbered = sym c.in-ConstType.is ∙ c.production_of-production.ensures; room = c.requires.room; «open» = c.requires.«open»; base = c.requires.base; place = c.requires.place }
 
 pub returns-in-ConstType : goal.returns-in-ConstType
 returns-in-ConstType c =
@@ -231,7 +231,7 @@ returns-in-ConstType c =
 
 pub finish_as-requires-in-QualifiedPlain : goal.finish_as-requires-in-QualifiedPlain
 finish_as-requires-in-QualifiedPlain c =
-    record { common = tt; numbered = sym c.in-QualifiedPlain.is ∙ c.production_of-production.ensures; room = c.requires.room; «open» = c.requires.«open»; base = c.requires.base; place = c.requires.place }
+    record { common = λ rare. rare; numbered = sym c.in-QualifiedPlain.is ∙ c.production_of-production.ensures; room = c.requires.room; «open» = c.requires.«open»; base = c.requires.base; place = c.requires.place }
 
 pub returns-in-QualifiedPlain : goal.returns-in-QualifiedPlain
 returns-in-QualifiedPlain c =
@@ -240,7 +240,7 @@ returns-in-QualifiedPlain c =
 
 pub finish_as-requires-in-Mark : goal.finish_as-requires-in-Mark
 finish_as-requires-in-Mark c =
-    record { common = tt; numbered = sym c.in-Mark.is ∙ c.production_of-production.ensures; room = c.requires.room; «open» = c.requires.«open»; base = c.requires.base; place = c.requires.place }
+    record { common = λ rare. rare; numbered = sym c.in-Mark.is ∙ c.production_of-production.ensures; room = c.requires.room; «open» = c.requires.«open»; base = c.requires.base; place = c.requires.place }
 
 pub returns-in-Mark : goal.returns-in-Mark
 returns-in-Mark c =
@@ -249,7 +249,7 @@ returns-in-Mark c =
 
 pub finish_as-requires-in-SourcePiece : goal.finish_as-requires-in-SourcePiece
 finish_as-requires-in-SourcePiece c =
-    record { common = tt; numbered = sym c.in-SourcePiece.is ∙ c.production_of-production.ensures; room = c.requires.room; «open» = c.requires.«open»; base = c.requires.base; place = c.requires.place }
+    record { common = λ rare. rare; numbered = sym c.in-SourcePiece.is ∙ c.production_of-production.ensures; room = c.requires.room; «open» = c.requires.«open»; base = c.requires.base; place = c.requires.place }
 
 pub returns-in-SourcePiece : goal.returns-in-SourcePiece
 returns-in-SourcePiece c =
@@ -258,7 +258,7 @@ returns-in-SourcePiece c =
 
 pub finish_as-requires-in-PlainArgument : goal.finish_as-requires-in-PlainArgument
 finish_as-requires-in-PlainArgument c =
-    record { common = tt; numbered = sym c.in-PlainArgument.is ∙ c.production_of-production.ensures; room = c.requires.room; «open» = c.requires.«open»; base = c.requires.base; place = c.requires.place }
+    record { common = λ rare. rare; numbered = sym c.in-PlainArgument.is ∙ c.production_of-production.ensures; room = c.requires.room; «open» = c.requires.«open»; base = c.requires.base; place = c.requires.place }
 
 pub returns-in-PlainArgument : goal.returns-in-PlainArgument
 returns-in-PlainArgument c =
@@ -267,7 +267,7 @@ returns-in-PlainArgument c =
 
 pub finish_as-requires-in-TypeInStd : goal.finish_as-requires-in-TypeInStd
 finish_as-requires-in-TypeInStd c =
-    record { common = tt; numbered = sym c.in-TypeInStd.is ∙ c.production_of-production.ensures; room = c.requires.room; «open» = c.requires.«open»; base = c.requires.base; place = c.requires.place }
+    record { common = λ rare. rare; numbered = sym c.in-TypeInStd.is ∙ c.production_of-production.ensures; room = c.requires.room; «open» = c.requires.«open»; base = c.requires.base; place = c.requires.place }
 
 pub returns-in-TypeInStd : goal.returns-in-TypeInStd
 returns-in-TypeInStd c =
@@ -276,7 +276,7 @@ returns-in-TypeInStd c =
 
 pub finish_as-requires-in-TaggedStdType : goal.finish_as-requires-in-TaggedStdType
 finish_as-requires-in-TaggedStdType c =
-    record { common = tt; numbered = sym c.in-TaggedStdType.is ∙ c.production_of-production.ensures; room = c.requires.room; «open» = c.requires.«open»; base = c.requires.base; place = c.requires.place }
+    record { common = λ rare. rare; numbered = sym c.in-TaggedStdType.is ∙ c.production_of-production.ensures; room = c.requires.room; «open» = c.requires.«open»; base = c.requires.base; place = c.requires.place }
 
 pub returns-in-TaggedStdType : goal.returns-in-TaggedStdType
 returns-in-TaggedStdType c =
@@ -285,7 +285,7 @@ returns-in-TaggedStdType c =
 
 pub finish_as-requires-in-Special : goal.finish_as-requires-in-Special
 finish_as-requires-in-Special c =
-    record { common = tt; numbered = sym c.in-Special.is ∙ c.production_of-production.ensures; room = c.requires.room; «open» = c.requires.«open»; base = c.requires.base; place = c.requires.place }
+    record { common = λ rare. rare; numbered = sym c.in-Special.is ∙ c.production_of-production.ensures; room = c.requires.room; «open» = c.requires.«open»; base = c.requires.base; place = c.requires.place }
 
 pub returns-in-Special : goal.returns-in-Special
 returns-in-Special c =
