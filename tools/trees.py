@@ -662,7 +662,7 @@ UNREAD_ANSWER = ["", "pub returns-in-Inheriting-clause-closes : goal.returns-in-
     "    inheriting_unread c.args.symbol.now c.args.self.now c.args.self.now c.args.frame.now c.args.parts.now.items c.args.parts.now.items (sym c.production_of-production.ensures ∙ c.in-Inheriting.is)"]
 
 def handed_answers():
-    """what `finish_rule` hands to `finish_as` and `finish_rare`, and what it has from them, passed on"""
+    """what `finish_rule` hands to `finish_as`, and what it has from it, passed on"""
     had = " ".join(f"{clause} = had.{clause};" for clause in ("closes", "adds", "few", "makes", "pays", "roomy")).rstrip(";")
     given = "; ".join(f"{clause} = c.requires.{clause}" for clause in ("room", "«open»", "base", "place"))
     lines = []
@@ -672,7 +672,7 @@ def handed_answers():
         lines += ["", f"pub {requires} : goal.{requires}", f"{requires} c =",
             f"    record {{ common = λ rare. rare; numbered = sym c.in-{p}.is ∙ c.production_of-production.ensures; {given} }}",
             "", f"pub {returns} : goal.{returns}", f"{returns} c =", f"    let had = c.finish_as{at}.ensures in", f"    record {{ {had} }}"]
-    return [*lines, "", "pub returns : goal.returns", "returns c =", "    let had = c.finish_rare.ensures in", f"    record {{ {had} }}"]
+    return lines
 
 def arms(function, productions):
     """the arms of a match that hand these productions to a function, as rt fmt lays them out"""

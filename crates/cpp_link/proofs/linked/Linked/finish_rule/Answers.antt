@@ -291,8 +291,3 @@ pub returns-in-Special : goal.returns-in-Special
 returns-in-Special c =
     let had = c.finish_as-in-Special.ensures in
     record { closes = had.closes; adds = had.adds; few = had.few; makes = had.makes; pays = had.pays; roomy = had.roomy }
-
-pub returns : goal.returns
-returns c =
-    let had = c.finish_rare.ensures in
-    record { closes = had.closes; adds = had.adds; few = had.few; makes = had.makes; pays = had.pays; roomy = had.roomy }
