@@ -14,7 +14,7 @@ the logic has it, its goals, the rest (statements, ties, answers), and how many 
 times ways out. Then come the lemma files. A function above 15 s, or with more than 12 goals and no answers, is one to
 look at; docs/TESTING.md has the budget.
 
-With `--gate` it runs a command (`rt ci --anew`, if none is named), passes on what that prints, and tells what each crate
+With `--gate` it runs a command (`rt ci`, if none is named), passes on what that prints, and tells what each crate
 took: its proof, its tests, the proof that its edits begin with, its edits, and the builds of its program. It looks at the
 processes five times a second, so up to a second a hundred is in the last line alone. It ends with the command's status.
 
@@ -265,7 +265,7 @@ def main():
     if len(sys.argv) < 2:
         sys.exit(__doc__.strip())
     if sys.argv[1] == "--gate":
-        sys.exit(time_gate(sys.argv[2:] or ["rt", "ci", "--anew"]))
+        sys.exit(time_gate(sys.argv[2:] or ["rt", "ci"]))
     functions = sys.argv[1] == "--functions"
     name, chosen = sys.argv[1 + functions], sys.argv[2 + functions :]
     with tempfile.TemporaryDirectory(prefix="gate-times-") as work:

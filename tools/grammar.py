@@ -826,8 +826,8 @@ def rust_wide_table():
 
 def rust_table():
     out = [f"// {WRITTEN} The rule that a kind takes at a byte.",
-           "ghost use Rattle.std.specs.Prelude.{◌≡◌, ◌<◌, [], IfSome, MatchOption};",
-           "ghost use Rattle.sym_shape.specs.Listing.{StandsAt};", "ghost use Rattle.sym_shape.specs.Table.{symbols_of};",
+           "ghost use Rattle.std.specs.Prelude.{◌≡◌, ◌+◌, ◌<◌, [], length, IfSome, MatchOption};",
+           "ghost use Rattle.sym_shape.specs.declared.rule.Sym.{Sym};", "ghost use Rattle.sym_shape.specs.Listing.{StandsAt};", "ghost use Rattle.sym_shape.specs.Table.{symbols_of};",
            "ghost use Rattle.cpp_grammar.specs.Table.{abi, abi_listed, listed_rule};",
            "ghost use Rattle.cpp_grammar.specs.declared.table.Head.{Head};", "",
            "use sym_core::NumberKind;",
@@ -850,12 +850,22 @@ def rust_table():
     for i, (p, (ate, syms)) in enumerate(P.items()):
         cells = [f"Sym::Byte(b{x})" if sym_class(x) == "byte" else x.upper() if sym_class(x) == "token" else snake(x).upper() for x in syms] + ["NONE"] * (5 - len(syms))
         out.append(f"    [{', '.join(cells)}], // {letter(i)} {p}")
-    out += ["};", ""] + rust_rules("abi", "LETTERS") + ["", *'''/// The symbol at a place of `SYMBOLS`, or none where a rule's symbols end.
+    out += ["};", "", "// How many symbols come after each of them, up to an end.", f"static AFTER: [u8; {6 * len(P) + 6}] = [",
+            *words.after_each([syms for ate, syms in P.values()]), "];", ""] + rust_rules("abi", "LETTERS") + ["", *'''/// The symbol at a place of `SYMBOLS`, or none where a rule's symbols end.
 #[inline]
 pub fn symbol(place: u32) -> Option<Sym>
     ensures { MatchOption result (abi_listed place ≡ []) (StandsAt abi_listed place) }
 {
     symbol_at(&SYMBOLS, place)
+}
+
+/// How many symbols of its rule come after the one at a place.
+#[inline]
+pub fn after(place: u32) -> u8
+    requires { (x : Sym) × StandsAt abi_listed place x }
+    ensures { result ≡ length (abi_listed (place + 1)) }
+{
+    AFTER[place as usize]
 }'''.split("\n")]
     return "\n".join(out) + "\n"
 
@@ -1010,7 +1020,8 @@ def files():
     yield "cpp_grammar/src/table.rt", rust_table()
     yield "cpp_grammar/specs/Grammar.antt", antt_grammar()
     yield "cpp_grammar/specs/KindNumbers.antt", antt_kind_numbers()
-    yield from written_words.files({p: symbols for p, (ate, symbols) in P.items()}, rows())
+    skips = [p for p, (ate, symbols) in P.items() if any(sym_class(s) == "byte" or empty(s) for s in symbols[:-1])]
+    yield from written_words.files({p: symbols for p, (ate, symbols) in P.items()}, rows(), skips)
     yield from meanings.files(rows())
 
 def write(crates):

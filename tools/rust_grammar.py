@@ -1,5 +1,5 @@
 #!/usr/bin/env python3
-"""Writes what repeats Rust's basic types and its rules from vocabulary.py and the table below: the code of rust_grammar's table, the texts and
+"""Writes what repeats Rust's basic types and its rules from vocabulary.py and the table below: the code of rust_grammar's productions and table, the texts and
 the letters of basic types, code and definitions. `rust_grammar.py write CRATES` writes them (CRATES is the folder of the crates)."""
 import os, sys
 sys.path.insert(0, os.path.dirname(os.path.abspath(__file__)))
@@ -70,6 +70,58 @@ RULES = {
     "[": ("BoundsEnd", TAKES, []),
 }
 
+# the productions, numbered in this order, and what each is
+PRODUCTIONS = {
+    "Symbol": "`_R`, a path, the instantiating crate's path or none, a suffix or none.",
+    "PathReference": "A path's `B` and the place of an earlier path.",
+    "Crate": "`C` and the crate's name.",
+    "InherentImpl": "`M`, the impl's path, and its type.",
+    "TraitImpl": "`X`, the impl's path, its type, and the trait.",
+    "TraitDefinition": "`Y`, a type and a trait.",
+    "Nested": "`N`, a namespace, a path and a name in it.",
+    "Generic": "`I`, a path and its arguments, up to `E`.",
+    "Suffix": "`.` and what a producer put after the symbol.",
+    "SuffixByte": "A byte of the suffix, and the bytes after it.",
+    "Namespace": "The letter of a namespace.",
+    "Disambiguator": "`s` and a number.",
+    "DisambiguatedIdentifier": "`s`, a number and a name.",
+    "PunycodeName": "`u` and a name in Punycode.",
+    "PlainName": "A name.",
+    "LifetimeArgument": "A lifetime among arguments, and those after it.",
+    "ConstantArgument": "`K` and a constant, and the arguments after it.",
+    "TypeArgument": "A type among arguments, and those after it.",
+    "BasicType": "The letter of a basic type.",
+    "TypeReference": "A type's `B` and the place of an earlier type or path.",
+    "Array": "`A`, a type and a length.",
+    "Slice": "`S` and a type.",
+    "Tuple": "`T` and types up to `E`.",
+    "SharedReference": "`R`, a lifetime or none, and a type.",
+    "MutableReference": "`Q`, a lifetime or none, and a type.",
+    "ConstPointer": "`P` and a type.",
+    "MutPointer": "`O` and a type.",
+    "Function": "`F`, a binder, `U`, an ABI, the parameters' types up to `E`, and the result.",
+    "Dyn": "`D`, a binder, bounds up to `E`, and a lifetime.",
+    "TypesEnd": "The `E` after types.",
+    "TypesMore": "A type and those after it.",
+    "Lifetime": "`L` and a number.",
+    "Binder": "`G` and a number.",
+    "Unsafe": "`U`.",
+    "Abi": "`K` and the name of an ABI.",
+    "AbiC": "`C` as an ABI.",
+    "BoundsEnd": "The `E` after bounds.",
+    "BoundsMore": "A bound of a `dyn` type with its bindings, and those after it.",
+    "Binding": "`p`, a name and a type, and the bindings after it.",
+    "SignedConstant": "The letter of a signed type, `n` or none, and a number.",
+    "UnsignedConstant": "The letter of an unsigned type and a number.",
+    "BoolConstant": "`b` and a truth value.",
+    "CharConstant": "`c` and a number.",
+    "Placeholder": "`p`.",
+    "ConstantReference": "A constant's `B` and the place of an earlier constant.",
+    "Minus": "`n`.",
+    "False": "`0`.",
+    "True": "`1`.",
+}
+
 # the kinds by number: for each rule, by its letter, the bytes at which it is taken; and whether it may be empty
 PATH_FORMS = {"H": "B", "C": "C", "I": "I", "M": "M", "N": "N", "X": "X", "Y": "Y"}
 TYPE_FORMS = {c: c for c in PATHS + "ASTRQPOFD"}
@@ -104,7 +156,8 @@ FIRST, LAST = ord("$"), ord("z")
 
 TABLE_HEAD = r'''// @WRITTEN@ The rule that a kind takes at a byte.
 
-ghost use Rattle.std.specs.Prelude.{◌≡◌, ◌<◌, [], IfSome, MatchOption};
+ghost use Rattle.std.specs.Prelude.{◌≡◌, ◌+◌, ◌<◌, [], length, IfSome, MatchOption};
+ghost use Rattle.sym_shape.specs.declared.rule.Sym.{Sym};
 ghost use Rattle.sym_shape.specs.Listing.{listed_in, StandsAt};
 ghost use Rattle.sym_shape.specs.Table.{symbols_of};
 ghost use Rattle.rust_grammar.specs.declared.table.TheConstants.{SYMBOLS};
@@ -212,6 +265,15 @@ pub fn symbol(place: u32) -> Option<Sym>
     symbol_at(&SYMBOLS, place)
 }
 
+/// How many symbols of its rule come after the one at a place.
+#[inline]
+pub fn after(place: u32) -> u8
+    requires { (x : Sym) × StandsAt (listed_in SYMBOLS) place x }
+    ensures { result ≡ length (listed_in SYMBOLS (place + 1)) }
+{
+    AFTER[place as usize]
+}
+
 /// Whether a kind may be empty.
 pub fn may_be_empty(kind: u16) -> bool
     ensures { result ≡ v0_table.may_be_empty kind }
@@ -243,7 +305,17 @@ def table():
     out += ["];", "", "// The symbols of the rules, in the same order.", f"static SYMBOLS: [Sym; {6 * len(RULES) + 6}] = symbols_listed! {{"]
     out += [f"    [{', '.join([symbol(s) for s in symbols] + ['NONE'] * (5 - len(symbols)))}], // {letter}: {production}" for letter, (production, takes, symbols) in RULES.items()]
     empty = "\n            | ".join(f"kind::{kind}" for kind, (rules, may_be_empty) in KINDS.items() if may_be_empty)
-    return "\n".join(out) + "\n};\n\n" + TABLE_TAIL.replace("@COUNT@", str(len(RULES))).replace("@EMPTY@", empty)
+    out += ["};", "", "// How many symbols come after each of them, up to an end.", f"static AFTER: [u8; {6 * len(RULES) + 6}] = [", *words.after_each([symbols for production, takes, symbols in RULES.values()])]
+    return "\n".join(out) + "\n];\n\n" + TABLE_TAIL.replace("@COUNT@", str(len(RULES))).replace("@EMPTY@", empty)
+
+def production_code():
+    out = [f"// {WRITTEN} The productions of the grammar (RFC 2603, \"Syntax of mangled names\").", "", "ghost use Rattle.std.specs.Prelude.{◌≡◌};",
+           "ghost use Rattle.rust_grammar.specs.Productions.{production_of};", "",
+           "/// The productions of the grammar. The number of a rule is that of its production, counted from 0 in this order.", "#[derive(Clone, Copy, Debug, PartialEq, Eq)]", "pub enum Production {"]
+    for production, what in PRODUCTIONS.items(): out += [f"    /// {what}", f"    {production},"]
+    out += ["}", "", "/// The production of a rule's number.", "pub fn numbered(number: u16) -> Option<Production>", "    ensures { result ≡ production_of number }", "{", "    match number {"]
+    out += [f"        {number} => Some(Production::{production})," for number, production in enumerate(PRODUCTIONS)]
+    return "\n".join(out + ["        _ => None,", "    }", "}"]) + "\n"
 
 def basic_code():
     out = [f"// {WRITTEN} The texts of basic types.", "#![tactic(auto)]", "", "ghost use Rattle.std.specs.Prelude.{◌≡◌};", "ghost use Rattle.rust_tree.specs.Shown.{basic_text};", "",
@@ -280,6 +352,7 @@ def below_letters():
 
 def files():
     yield "rust_grammar/src/table.rt", table()
+    yield "rust_grammar/src/production.rt", production_code()
     yield "rust_grammar/specs/BasicLetters.antt", letters_of_types()
     yield "rust_tree/src/basic_types.rt", basic_code()
     yield "rust_tree/specs/BasicTypes.antt", basic_texts()

@@ -144,18 +144,10 @@ def adding(trees):
         elif tree[0] in FITTING:
             tests, slot = needed(tree)
             fits = f"fits.{len(tests)}" if tests else "fits"
-            inner = f"(adds {parts[1].tree}).at fit.as_type {slot} around allowed (place + length {braced(parts[0].text)}) cs {fits} complete"
-            yield f"adds {shape} = type-ways-add {shape} _ _ (λ x w. w) (λ slot around allowed place cs fits complete. {inner})"
-        elif sort == "piece" and len(parts) == 1: yield f"adds {shape} = leaf-piece-add {shape} _ _ (λ x i. i)"
-
-def writing(trees):
-    """an argument has a byte at least"""
-    for tree, shape, sort, parts, nowhere in rows(trees):
-        clause = f"argument-writes {shape} in_pack around allowed place cs h ="
-        if nowhere or not parts or not parts[0].text.startswith("codes"): continue
-        if sort == "component": yield f"{clause} component-writes around.encoding {shape} _ place cs (λ none. omega arith)"
-        elif sort in ("type", "argument"): yield f"{clause} omega arith"
-    yield "argument-writes _ in_pack around allowed place cs h = absurd h"
+            inner = f"(adds {parts[1].tree}).at fit.as_type {slot} around allowed (place + length {braced(parts[0].text)}) cs {fits}"
+            long = "(omega (arith, letters-long q fits.1))" if tree[0] == "qualified" else "(omega arith)"
+            yield f"adds {shape} = type-ways-add {shape} _ _ (λ x w. w) (λ slot around allowed place cs fits. after-bytes 1 2 {braced(parts[0].text)} {long} ({inner}))"
+        elif sort == "piece" and len(parts) == 1 and tree[0] != "source": yield f"adds {shape} = leaf-piece-add {shape} _ _ (omega arith) (λ x i. i)"
 
 def typed_arguments(trees):
     return [f"type-argument {shape} around in_pack old new one = one" for tree, shape, sort, parts, nowhere in rows(trees) if sort in ("component", "type") and not nowhere]
@@ -222,11 +214,6 @@ def lemmas(trees):
         own, bytes_ = tree[0].replace("_", "-"), braced(front.text)
         names = [name for name, sort in tree[1:] if name != a.tree]
         binders, given = "".join(TYPED[name] for name in names), "".join(name + " " for name in names)
-        h = f"h.{len(tests)}" if tests else "h"
-        long = "(letters-long q h.1)" if tree[0] == "qualified" else "(omega arith)"
-        yield "cpp_press_laws/proofs/Components/FewTrees.antt", [f"pub few-{own} : {binders}(type : Term) → Counts type → Counts {shape}", "unfolding ways_of fits_of",
-            f"few-{own} {given}type r_t =", f"    few-type {shape} (λ n. {spelled(parts, 'n')}) _ (λ slot around allowed place cs h.",
-            f"    few-behind 0 1 {bytes_} {a.spelled('around.encoding')} place cs {long} (r_t.at spot.as_type {slot} around allowed (place + length {bytes_}) cs {h}))"]
         if not tests or slot != "any_type": continue
         known = "".join(f"{test} → " for test in tests[1:])
         facts = ", ".join(["take", *("digit" for test in tests[1:]), "fits"])
@@ -237,7 +224,7 @@ def lemmas(trees):
             "unfolding fits_of type_fits fits_nowhere ways_of type_ways no_ways is_open pack_length with_type with_unqualified is_function_type tree_of is_listed",
             f"{own}-fits around {given}type old new {'digit ' if known else ''}one =", f"    one-part takes_all around {shape} type {bytes_} (λ slot inner allowed place cs. {premises}) old new",
             "    (record {", "      is = tt;", f"      keeps = λ n. bytes-keep n {shape} type {bytes_} (λ x w. inr w);", "      function = tt;",
-            f"      whole = λ slot n allowed place cs. typed-complete {shape} (λ m. refl) slot (pressed_at n around) allowed place cs;",
+            f"      whole = λ slot n. typed-complete {shape} (λ m. refl) slot (pressed_at n around);",
             f"    }}) refl (λ arguments. refl) (λ slot take n allowed place cs fits. ({facts})) one"]
 
 def declarations(trees):
@@ -251,5 +238,4 @@ def declarations(trees):
     yield f"{laws}/proofs/Components/KnownTrees.antt", "keeps", keeping(trees)
     yield f"{laws}/proofs/Components/Apart.antt", "ways-grow", growing(trees)
     yield f"{laws}/proofs/Components/AddedTrees.antt", "adds", adding(trees)
-    yield f"{laws}/proofs/Components/Counting.antt", "argument-writes", writing(trees)
     yield f"{laws}/proofs/Fits/Arguments.antt", "type-argument", typed_arguments(trees)

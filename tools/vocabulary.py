@@ -229,11 +229,6 @@ OPERATIONS = [
     ("rq", PRIMARY, "requires {...}", NONE, "", NONE, ""), ("rQ", PRIMARY, "requires (...) {...}", NONE, "", NONE, ""),
 ]
 
-# the productions in which parts without a row may be between those with one
-SKIPS = """Symbol EncodingLiteral NonVirtualThunk VirtualThunk VirtualOffset
-    LocalName LocalType Vector LiteralArgument LiteralElement NestedName RestrictType VolatileType NestStd NestArguments
-    NestInstance BaseArguments NoexceptFunction Function PackArgument ConstructionVtable BoundedArray PackOf Step FunctionParameter""".split()
-
 # the productions that may leave a tree that is no candidate yet
 LEAVES = """NestWithS NestParameter NestInternal NestLocalType NestSource NestStd NestTemplate NestArguments NestInstance
     NestNext NestTag NestEnd
@@ -412,3 +407,9 @@ BASIC_TYPES = [
     ("y", "u64", UNSIGNED),
     ("z", "!", NO_CONSTANT),
 ]
+
+def after_each(rules):
+    """how many symbols come after each place of a list of symbols, up to an end: it has the start kind and then these rules' symbols, in six places each"""
+    sizes = [1] + [len(symbols) for symbols in rules] + [0]
+    counts = [sizes[k + 1] if i == 5 else max(sizes[k] - 1 - i, 0) for k in range(len(sizes) - 1) for i in range(6)]
+    return [f"    {', '.join(map(str, counts[i:i + 32]))}," for i in range(0, len(counts), 32)]

@@ -283,24 +283,24 @@ def code_answers():
 
 # ## cpp_link's tables
 
-def link_tables(productions, rows):
+def link_tables(productions, rows, skips):
     """the symbols of each production, and its row, by its name"""
     def table(name, type, comment, value):
         return ["", *[f"/// {c}" for c in comment], f"pub(crate) const {name}: [{type}; {len(productions)}] = [", *[f"    {value(p)}, // {p}" for p in productions], "];"]
     out = [f"// {WRITTEN} What is known of each production, in the order of their numbers.", "", "use cpp_grammar::production::Production;", "",
            "/// The productions.", f"pub(crate) const PRODUCTIONS: [Production; {len(productions)}] = [", *[f"    Production::{p}," for p in productions], "];"]
     out += table("PART_COUNTS", "u8", ["How many parts each has."], lambda p: len(productions[p]))
-    out += table("SKIPS_PARTS", "bool", ["Whether parts without a row may be between those of each."], lambda p: "true" if p in words.SKIPS else "false")
+    out += table("SKIPS_PARTS", "bool", ["Whether some part of each but the last may have no row: a fixed byte, or a kind that may be empty."], lambda p: "true" if p in skips else "false")
     out += table("QUIET_PARTS", "u8", ["Before how many of its parts nothing is done in each: before none, the first, or all, which are five at most."], lambda p: rows[p].quiet())
     return "\n".join(out) + "\n"
 
-def link_definitions(rows):
+def link_definitions(rows, skips):
     out = [f"-- {WRITTEN} What is known of each production.", "use Rattle.std.specs.Prelude.{ℕ, Bool, true, false}",
            "use Rattle.cpp_grammar.specs.declared.production.Production.{Production}", "",
            "-- Before so many of the parts of a production nothing is done: before none, the first, or all, which are five at most.",
            "unfoldable pub quiet_parts : Production → ℕ", *[f"quiet_parts Production.{p} = {row.quiet()}" for p, row in rows.items() if row.quiet() < ALL_PARTS], f"quiet_parts _ = {ALL_PARTS}", "",
-           "-- parts without a row may be between those with one", "unfoldable pub skips_parts : Production → Bool",
-           *[f"skips_parts Production.{p} = true" for p in words.SKIPS], "skips_parts _ = false"]
+           "-- some part but the last may have no row: a fixed byte, or a kind that may be empty", "unfoldable pub skips_parts : Production → Bool",
+           *[f"skips_parts Production.{p} = true" for p in skips], "skips_parts _ = false"]
     return "\n".join(out) + "\n"
 
 # ## cpp_direct's letters
@@ -336,7 +336,7 @@ def direct_tests():
         out += [f"        b'{letter}' => true," for letter in lists[letters]] + ["        _ => false,", "    }", "}"]
     return "\n".join(out) + "\n"
 
-def files(productions, rows):
+def files(productions, rows, skips):
     """the files, by their paths in the folder of the crates"""
     yield "cpp_grammar/specs/Texts.antt", grammar_texts()
     yield "cpp_grammar/specs/Operations.antt", operations()
@@ -349,5 +349,5 @@ def files(productions, rows):
     for name, text in code_answers(): yield f"cpp_layout/proofs/numbered/{name}/Answers.antt", text
     yield "cpp_direct/specs/Letters.antt", direct_letters()
     yield "cpp_direct/src/letters.rt", direct_tests()
-    yield "cpp_link/src/tables.rt", link_tables(productions, rows)
-    yield "cpp_link/specs/Tables.antt", link_definitions(rows)
+    yield "cpp_link/src/tables.rt", link_tables(productions, rows, skips)
+    yield "cpp_link/specs/Tables.antt", link_definitions(rows, skips)

@@ -26,7 +26,7 @@ use Rattle.cpp_direct.specs.Prints.{Shows}
 use Rattle.cpp_direct.specs.WriterInvariant.{AreCandidates, Encoded, EndsBehind, EncodedBehind, AwaitsItems, IsScoped, Stands, IsWriting, qualifiers}
 use Rattle.cpp_direct.specs.MidStep.{IsFresh, AwaitsEncoding, AwaitsNest}
 use Rattle.cpp_direct.specs.Written.{Writes, Reads}
-use Rattle.cpp_direct.proofs.FoundTokens.{reads-then}
+use Rattle.cpp_direct.proofs.NamePlaces.{reads-then}
 use Rattle.cpp_direct.proofs.Moves.{stands-join}
 use Rattle.cpp_direct.proofs.MovesOfEncodings.{symbol-starts, encoding-opens, special-opens, thunk-opens, virtual-thunk-opens, name-nested}
 use Rattle.cpp_direct.proofs.PrintedSymbols.{thunk-shows}

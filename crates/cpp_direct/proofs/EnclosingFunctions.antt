@@ -34,24 +34,22 @@ use Rattle.cpp_direct.specs.WriterInvariant.{AreCandidates, Below, HasArguments,
 use Rattle.cpp_direct.specs.MidStep.{AwaitsNamedType, AwaitsNest, IsElementRead}
 use Rattle.cpp_direct.specs.MidStepOfLocals.{AwaitsEnclosingParameters, AwaitsTypeName, IsEnclosingInstance, IsEnclosingNamed, IsEnclosingParameterRead, IsEnclosingRead, IsLambdaParameterRead}
 use Rattle.cpp_direct.specs.Written.{AreKeptTo, Writes, Reads, added}
-use Rattle.cpp_direct.proofs.Ending.{behind-two, behind-three, behind-five, list-ends, next-written, parameter-goes_on, plain-text, qualifiers-text, void-read}
-use Rattle.cpp_direct.proofs.FoundTokens.{reads-of, reads-then}
-use Rattle.cpp_direct.proofs.Kept.{candidates-read, candidates-stay, candidates-with, candidates-written, reverse-last}
-use Rattle.cpp_direct.proofs.LeftOut.{candidates-kept}
+use Rattle.cpp_direct.proofs.Ending.{behind-two, behind-three, behind-five, next-written, parameter-goes_on, plain-text, qualifiers-text, void-read}
+use Rattle.cpp_direct.proofs.NamePlaces.{reads-of, reads-then}
+use Rattle.cpp_direct.proofs.Kept.{candidates-as, candidates-same, candidates-grown, candidates-read, candidates-with, candidates-written, reverse-last, candidates-kept}
 use Rattle.cpp_direct.proofs.Listed.{some-elements}
 use Rattle.cpp_direct.proofs.Moves.{expects-empty, stands-join}
 use Rattle.cpp_direct.proofs.MovesOfEncodings.{encoding-opens, name-nested, name-source}
 use Rattle.cpp_direct.proofs.MovesOfLists.{element-awaits}
 use Rattle.cpp_direct.proofs.MovesOfLocals.{lambda-opens, lambda-piece, lambda_bytes, local-type-opens, number-is}
 use Rattle.cpp_direct.proofs.Nesting.{nest-comes}
-use Rattle.cpp_direct.proofs.PrintedLists.{all-in, element-in, next-prints, next-prints-in, none-print, none-print-in}
+use Rattle.cpp_direct.proofs.PrintedLists.{list-with-none, all-in, element-in, next-prints, next-prints-in, none-print, none-print-in}
 use Rattle.cpp_direct.proofs.PrintedParts.{has-none, has-parameters}
-use Rattle.cpp_direct.proofs.PrintedLocals.{function-encloses, name-encloses, object-enclosing, returned-enclosing}
+use Rattle.cpp_direct.proofs.PrintedLocals.{function-encloses, name-encloses, object-enclosing, returned-enclosing, lambda-prints, lambda-list-prints, local-prints}
 use Rattle.cpp_direct.proofs.PrintedNames.{as-name, source-prints}
 use Rattle.cpp_direct.proofs.PrintedSymbols.{encoding-plain, function-shows, encoding-returned, object-encoded, parameters-kept, void-shows}
 use Rattle.cpp_direct.specs.WrittenParts.{IsUnmarked}
 use Rattle.cpp_direct.proofs.Unmarked.{name-unmarked, is-no-mark, more-unmarked}
-use Rattle.cpp_direct.proofs.PrintedWithin.{lambda-prints, lambda-list-prints, local-prints}
 use Rattle.cpp_direct.proofs.TypesRead.{builtin-listed, no-builtin}
 use Rattle.cpp_direct.proofs.MovesOfTypes.{builtin-comes}
 use Rattle.cpp_direct.proofs.Scopes.{arguments-named, arguments-stay, enclosing-scoped, enclosing-stays, none-known, none-scoped}
@@ -322,9 +320,7 @@ pub first-within : (s : Symbol) (w first last : Direct) (mark : Mark) (from to :
     → IsWriting s last steps.Type
 first-within s w first last mark from to argument p one text candidates at waiting to_is =
     let known = candidates-written (detail_of s) w first (codes "(") p.state.candidates one p.candidates in
-    let moved : AreCandidates (detail_of s) last.text.list.items last.candidates.list.items p.state.candidates =
-    subst (λ l. AreCandidates (detail_of s) l.list.items last.candidates.list.items p.state.candidates) (sym text)
-    (subst (λ l. AreCandidates (detail_of s) first.text.list.items l.list.items p.state.candidates) (sym candidates) known) in
+    let moved = candidates-same (detail_of s) first last p.state.candidates text candidates known in
     let grown : last.text.list.items ≡ w.text.list.items ++ codes "(" = ap (λ l. l.list.items) text ∙ one.text in
     parameter-expected s last p.state mark from to argument (reverse w.waiting.list.items) p.front p.make [] p.name [] moved
     (ap reverse waiting ∙ reverse-last first.waiting.list.items (opens.Enclosing mark from to argument)
@@ -449,8 +445,7 @@ void-within s w here new mark from argument p stands text candidates waiting at 
     record {
       state = p.state;
       candidates = candidates-written (detail_of s) here new (codes "()") p.state.candidates one
-          (subst (λ v. AreCandidates (detail_of s) v.list.items here.candidates.list.items p.state.candidates) (sym text)
-          (subst (λ v. AreCandidates (detail_of s) w.text.list.items v.list.items p.state.candidates) (sym candidates) p.candidates));
+          (candidates-same (detail_of s) w here p.state.candidates text candidates p.candidates);
       e = e;
       front = p.front;
       bytes = b ++ codes "()" ++ q;
@@ -476,8 +471,7 @@ void-unwritten s w here mark from argument p stands text candidates waiting at b
     let below = Stands s (reverse w.waiting.list.items) in
     record {
       state = p.state;
-      candidates = subst (λ v. AreCandidates (detail_of s) v.list.items here.candidates.list.items p.state.candidates) (sym text)
-          (subst (λ v. AreCandidates (detail_of s) w.text.list.items v.list.items p.state.candidates) (sym candidates) p.candidates);
+      candidates = candidates-same (detail_of s) w here p.state.candidates text candidates p.candidates;
       e = e;
       front = p.front;
       bytes = p.name;
@@ -503,7 +497,7 @@ function-within s w last new mark from to argument p apart one text candidates a
     let made = function f.own (qualifiers (has_const mark)) (called_on mark) f.returned (list_of p.ts) in
     let is : e ≡ made = enclosed-with f.own f.returned mark p.make f.makes p.ts p.some (parameters-kept (detail_of s) (types_of f.own) 6 p.ts l f.elements apart) in
     let below = Stands s p.rest in
-    let within_ : TypeWithin s below p.front e w.at p.state = subst (λ u. TypeWithin s below p.front (p.make u) w.at p.state) (list-ends p.ts)
+    let within_ : TypeWithin s below p.front e w.at p.state = subst (λ u. TypeWithin s below p.front (p.make u) w.at p.state) (list-with-none p.ts)
     (p.goes.onward nothing_there w.at p.state (expects-empty s Kind.Items p.goes.around p.goes.inner w.at p.state p.goes.awaits refl)) in
     let known = candidates-written (detail_of s) w last (codes ")") p.state.candidates one p.candidates in
     let shows : Shows (detail_of s) (function f.own (qualifiers (has_const mark)) (called_on mark) absent (list_of p.ts)) (b ++ codes "(" ++ l ++ codes ")" ++ q) =
@@ -512,8 +506,7 @@ function-within s w last new mark from to argument p apart one text candidates a
     (function-shows (has-parameters s whole) f.own b f.prints p.ts l f.elements (qualifiers (has_const mark)) (called_on mark)) in
     record {
       state = p.state;
-      candidates = subst (λ v. AreCandidates (detail_of s) v.list.items new.candidates.list.items p.state.candidates) (sym text)
-          (subst (λ v. AreCandidates (detail_of s) last.text.list.items v.list.items p.state.candidates) (sym candidates) known);
+      candidates = candidates-same (detail_of s) last new p.state.candidates text candidates known;
       e = e;
       front = p.front;
       bytes = b ++ codes "(" ++ l ++ codes ")" ++ q;
@@ -540,16 +533,14 @@ function-unwritten s w shut new mark from to argument p apart same_text same_can
     let is : e ≡ made = enclosed-with f.own f.returned mark p.make f.makes p.ts p.some
     (parameters-kept (detail_of s) (types_of f.own) 6 p.ts p.texts f.elements apart) in
     let below = Stands s p.rest in
-    let within_ : TypeWithin s below p.front e w.at p.state = subst (λ u. TypeWithin s below p.front (p.make u) w.at p.state) (list-ends p.ts)
+    let within_ : TypeWithin s below p.front e w.at p.state = subst (λ u. TypeWithin s below p.front (p.make u) w.at p.state) (list-with-none p.ts)
     (p.goes.onward nothing_there w.at p.state (expects-empty s Kind.Items p.goes.around p.goes.inner w.at p.state p.goes.awaits refl)) in
     let left = p.front ++ p.name in
     let behind = codes "(" ++ p.texts in
     let whole_ : shut.text.list.items ≡ left ++ behind = ap (λ v. v.list.items) same_text ∙ p.written ∙ append_assoc left (codes "(") p.texts in
     let left_is : new.text.list.items ≡ left =
     text ∙ ap (λ n. take n shut.text.list.items) p.to_is ∙ ap (λ l. take (length left) l) whole_ ∙ take-append_seam left behind in
-    let known : AreCandidates (detail_of s) shut.text.list.items shut.candidates.list.items p.state.candidates =
-    subst (λ v. AreCandidates (detail_of s) v.list.items shut.candidates.list.items p.state.candidates) (sym same_text)
-    (subst (λ v. AreCandidates (detail_of s) w.text.list.items v.list.items p.state.candidates) (sym same_candidates) p.candidates) in
+    let known = candidates-same (detail_of s) w shut p.state.candidates same_text same_candidates p.candidates in
     record {
       state = p.state;
       candidates = subst (λ l. AreCandidates (detail_of s) l new.candidates.list.items p.state.candidates) (sym left_is)
@@ -644,9 +635,7 @@ lambda-begun s old new from a short stands text candidates at waiting =
     let written : new.text.list.items ≡ r.front ++ (r.bytes ++ lambda_front) ++ [] =
     text ∙ ap (λ l. l ++ lambda_front) front_written ∙ append_assoc r.front r.bytes lambda_front ∙ sym (append-nil (r.front ++ (r.bytes ++ lambda_front))) in
     let known : AreCandidates (detail_of s) new.text.list.items new.candidates.list.items r.state.candidates =
-    subst (λ l. AreCandidates (detail_of s) l new.candidates.list.items r.state.candidates) (sym text)
-    (subst (λ v. AreCandidates (detail_of s) (old.text.list.items ++ lambda_front) v.list.items r.state.candidates) (sym candidates)
-    (candidates-stay (detail_of s) old.text.list.items lambda_front old.candidates.list.items r.state.candidates r.candidates)) in
+    candidates-grown (detail_of s) old new lambda_front r.state.candidates text candidates r.candidates in
     let stands_ : Stands s (opens.Lambda from ∷ rest) first.inner new.text.list.items = (
       r.front,
       r.e,
@@ -775,7 +764,7 @@ lambda-done s w begun pushed numbered popped_ last new from p apart ends same_te
     let items = list_of p.ts in
     let num = lambda_number number in
     let n = local_number (lambda_digits number) in
-    let ends_with : LambdaWithin s below p.front p.e items w.at p.state = subst (λ u. LambdaWithin s below p.front p.e u w.at p.state) (list-ends p.ts)
+    let ends_with : LambdaWithin s below p.front p.e items w.at p.state = subst (λ u. LambdaWithin s below p.front p.e u w.at p.state) (list-with-none p.ts)
     (p.goes.onward nothing_there w.at p.state (expects-empty s Kind.Items p.goes.around p.goes.inner w.at p.state p.goes.awaits refl)) in
     let same : lambda items n ≡ lambda_with items number = ap (λ k. lambda k n) (sym (parameters-kept (detail_of s) closed 0 p.ts p.texts (all-in (detail_of s) closed 0 p.ts p.texts p.elements) apart)) in
     let own = local_in p.e (lambda_with items number) digit in
@@ -792,20 +781,15 @@ lambda-done s w begun pushed numbered popped_ last new from p apart ends same_te
     ∙ ap (λ l. l ++ (num ++ codes "}")) (one.text ∙ ap (λ v. v.list.items ++ codes ")#") same_text ∙ ap (λ l. l ++ codes ")#") p.written)
     ∙ whole-text p.front p.bytes p.texts num in
     let st = with_candidate ends_with.1 own p.state in
-    let known : AreCandidates (detail_of s) begun.text.list.items begun.candidates.list.items p.state.candidates =
-    subst (λ v. AreCandidates (detail_of s) v.list.items begun.candidates.list.items p.state.candidates) (sym same_text)
-    (subst (λ v. AreCandidates (detail_of s) w.text.list.items v.list.items p.state.candidates) (sym same_candidates) p.candidates) in
+    let known = candidates-same (detail_of s) w begun p.state.candidates same_text same_candidates p.candidates in
     let numbered_known = candidates-read (detail_of s) pushed numbered (num ++ codes "}") p.state.candidates two
     (candidates-written (detail_of s) begun pushed (codes ")#") p.state.candidates one known) in
-    let popped_known : AreCandidates (detail_of s) popped_.text.list.items popped_.candidates.list.items p.state.candidates =
-    subst (λ v. AreCandidates (detail_of s) v.list.items popped_.candidates.list.items p.state.candidates) (sym popped_text)
-    (subst (λ v. AreCandidates (detail_of s) numbered.text.list.items v.list.items p.state.candidates) (sym popped_candidates) numbered_known) in
+    let popped_known = candidates-same (detail_of s) numbered popped_ p.state.candidates popped_text popped_candidates numbered_known in
     let more = candidates-with last p.state p.front bytes from own ends_with.1 false
     (candidates-read (detail_of s) popped_ last [] p.state.candidates three popped_known) written p.from_is shown in
     record {
       state = st;
-      candidates = subst (λ v. AreCandidates (detail_of s) v.list.items new.candidates.list.items st.candidates) (sym text)
-          (subst (λ ks. AreCandidates (detail_of s) last.text.list.items ks st.candidates) (sym candidates) more);
+      candidates = candidates-as (detail_of s) new st.candidates (ap (λ v. v.list.items) text) candidates more;
       is_before = (
         ends_with.0,
         own,
@@ -844,8 +828,7 @@ type-within s old pushed read last new from awaits one p n is prints two digit t
     let named_ = subst (λ k. IsPieceAt s k p read.at) (one.at ∙ awaits.at_is) is in
     record {
       state = st;
-      candidates = subst (λ v. AreCandidates (detail_of s) v.list.items new.candidates.list.items st.candidates) (sym text)
-          (subst (λ ks. AreCandidates (detail_of s) last.text.list.items ks st.candidates) (sym candidates) more);
+      candidates = candidates-as (detail_of s) new st.candidates (ap (λ v. v.list.items) text) candidates more;
       is_before = (
         w.0,
         t,

@@ -26,15 +26,15 @@ use Rattle.cpp_direct.specs.Holes.{StandsAt, ListGoesOn}
 use Rattle.cpp_direct.specs.HolesOfLists.{IsSuffix}
 use Rattle.cpp_direct.specs.Marks.{has_const, called_on, mark_text}
 use Rattle.cpp_direct.specs.Prints.{PrintsName, Shows, Encloses, list_of}
-use Rattle.cpp_direct.specs.WriterInvariant.{AreCandidates, AwaitsItems, Encoded, EndsBehind, EncodedBehind, Fronts, IsWhole, IsWriting, HasScope, IsFunction, IsScoped, ItemsGoOn, ParametersGoOn, Stands, qualifiers, list_with, in_front_of_next, encoding_place, named_in}
+use Rattle.cpp_direct.specs.WriterInvariant.{AreCandidates, AwaitsItems, Encoded, EndsBehind, EncodedBehind, Fronts, IsWhole, IsWriting, HasScope, IsFunction, IsScoped, ItemsGoOn, ParametersGoOn, Stands, qualifiers, in_front_of_next, encoding_place, named_in}
 use Rattle.cpp_direct.specs.MidStep.{AwaitsNextParameter, IsNameEnded, AwaitsParameters, IsParameterEnded, IsFunctionEnded, IsEncodingEnded, IsSymbolEnded}
 use Rattle.cpp_direct.specs.Written.{Writes, Cuts}
 use Rattle.cpp_direct.proofs.Unmarked.{suffix-unmarked}
-use Rattle.cpp_direct.proofs.Kept.{candidates-written, reverse-last}
+use Rattle.cpp_direct.proofs.Kept.{candidates-same, candidates-written, reverse-last}
 use Rattle.cpp_direct.proofs.Moves.{expects-empty}
 use Rattle.cpp_direct.proofs.MovesOfLists.{element-awaits}
 use Rattle.cpp_direct.proofs.MovesOfTypes.{builtin-comes}
-use Rattle.cpp_direct.proofs.PrintedLists.{none-print-in}
+use Rattle.cpp_direct.proofs.PrintedLists.{list-with-none, list-more, none-print-in}
 use Rattle.cpp_direct.proofs.PrintedParts.{has-none, has-parameters}
 use Rattle.cpp_direct.proofs.PrintedLocals.{object-enclosing, function-encloses, name-shows}
 use Rattle.cpp_direct.proofs.Scopes.{function-stays, parameters-scoped, arguments-named}
@@ -177,14 +177,6 @@ object-ended s w mark is_instance argument_ from p =
 
 -- ## Parameters
 
-list-more : (ts : List Term) (t rest : Term) → list_with (ts ++ t ∷ []) rest ≡ list_with ts (list t rest)
-list-more [] t rest = refl
-list-more (u ∷ ts) t rest = ap (list u) (list-more ts t rest)
-
-pub list-ends : (ts : List Term) → list_with ts nil ≡ list_of ts
-list-ends [] = refl
-list-ends (t ∷ ts) = ap (list t) (list-ends ts)
-
 pub next-written : (ts : List Term) (l : List ℕ) → ts ≢ [] → in_front_of_next ts l ≡ l ++ codes ", "
 next-written [] l some = absurd (some refl)
 next-written (t ∷ ts) l some = refl
@@ -303,9 +295,7 @@ pub first-expected : (s : Symbol) (w first last : Direct) (mark : Mark) (start :
     → AwaitsNextParameter s last mark start argument
 first-expected s w first last mark start argument p one text candidates at waiting =
     let known = candidates-written (detail_of s) w first (codes "(") p.state.candidates one p.candidates in
-    let moved : AreCandidates (detail_of s) last.text.list.items last.candidates.list.items p.state.candidates =
-    subst (λ l. AreCandidates (detail_of s) l.list.items last.candidates.list.items p.state.candidates) (sym text)
-    (subst (λ l. AreCandidates (detail_of s) first.text.list.items l.list.items p.state.candidates) (sym candidates) known) in
+    let moved = candidates-same (detail_of s) first last p.state.candidates text candidates known in
     let grown : last.text.list.items ≡ w.text.list.items ++ codes "(" = ap (λ l. l.list.items) text ∙ one.text in
     record {
       state = p.state;
@@ -400,9 +390,7 @@ void-ended s w first here mark start argument p stands one text candidates at =
     let behind : EncodedBehind s p.lead e (w.at + 1) =
     void-read s argument (λ u there then_. EncodedBehind s p.lead u there) p.make w.at p.state p.goes stands in
     let known = candidates-written (detail_of s) w first (codes "(") p.state.candidates one p.candidates in
-    let moved : AreCandidates (detail_of s) here.text.list.items here.candidates.list.items p.state.candidates =
-    subst (λ l. AreCandidates (detail_of s) l.list.items here.candidates.list.items p.state.candidates) (sym text)
-    (subst (λ l. AreCandidates (detail_of s) first.text.list.items l.list.items p.state.candidates) (sym candidates) known) in
+    let moved = candidates-same (detail_of s) first here p.state.candidates text candidates known in
     let shows : s.is_bare ≡ false → Shows (detail_of s) made (b ++ codes "()" ++ q) =
     λ whole. subst (λ l. Shows (detail_of s) made (b ++ codes "()" ++ l)) (plain-text mark)
     (void-shows (has-parameters s whole) f.own b f.prints (qualifiers (has_const mark)) (called_on mark)) in
@@ -436,7 +424,7 @@ function-ended s w mark start argument p apart =
     let l = p.texts in
     let made = function f.own (qualifiers (has_const mark)) (called_on mark) absent (list_of p.ts) in
     let is : e ≡ made = made-with mark f.own p.make f.makes p.ts p.some (parameters-kept (detail_of s) (types_of f.own) 6 p.ts l f.elements apart) in
-    let behind : EncodedBehind s p.lead e w.at = subst (λ u. EncodedBehind s p.lead (p.make u) w.at) (list-ends p.ts)
+    let behind : EncodedBehind s p.lead e w.at = subst (λ u. EncodedBehind s p.lead (p.make u) w.at) (list-with-none p.ts)
     (p.goes.onward nothing_there w.at p.state (expects-empty s Kind.Items p.goes.around p.goes.inner w.at p.state p.goes.awaits refl)) in
     record {
       state = p.state;

@@ -24,7 +24,7 @@ use Rattle.cpp_direct.specs.WriterInvariant.{AreCandidates, EncodedBehind, Front
 use Rattle.cpp_direct.specs.MidStep.{IsNameEnded, IsFrontRead, AwaitsParameters}
 use Rattle.cpp_direct.specs.Written.{Writes}
 use Rattle.cpp_direct.proofs.Ending.{name-scoped, no-text, none-go_on, parameter-goes_on}
-use Rattle.cpp_direct.proofs.Kept.{candidates-written, reverse-last}
+use Rattle.cpp_direct.proofs.Kept.{candidates-same, candidates-written, reverse-last}
 use Rattle.cpp_direct.proofs.MovesOfLists.{element-awaits}
 use Rattle.cpp_direct.proofs.PrintedLists.{none-print-in}
 use Rattle.cpp_direct.proofs.Scopes.{arguments-named, arguments-stay, front-scoped}
@@ -62,8 +62,7 @@ front-begins s w new mark argument_ from start place p apart first place_is star
     ) in
     record {
       state = p.state;
-      candidates = subst (λ v. AreCandidates (detail_of s) v.list.items new.candidates.list.items p.state.candidates) (sym text)
-          (subst (λ v. AreCandidates (detail_of s) w.text.list.items v.list.items p.state.candidates) (sym candidates) p.candidates);
+      candidates = candidates-same (detail_of s) w new p.state.candidates text candidates p.candidates;
       is_before = (
         element.inner,
         goes.around,
@@ -94,6 +93,42 @@ turned s argument mark v name text is r b is_reference prints items at whole_ ap
   entity = λ e. absurd (false≢true (sym apart ∙ e));
 }
 
+-- after the return type parameters are awaited, where this was written since
+front-leads : (s : Symbol) (w last : Direct) (mark : Mark) (start to : ℕ) (argument : Arguments) (p : IsFrontRead s w mark start argument) (front lead : List ℕ)
+    → AreCandidates (detail_of s) last.text.list.items last.candidates.list.items p.state.candidates
+    → HasArguments (detail_of s) last.text.list.items argument p.is_instance.own → Fronts s.is_bare front to lead p.name → last.text.list.items ≡ front
+    → last.at ≡ w.at
+    → ((items : Term) (there : ℕ) → EncodedBehind s p.lead (encoding_of p.v (list p.returned items)) there
+    → EncodedBehind s lead (plain_encoding mark p.is_instance.own items) there)
+    → AwaitsParameters s last mark to argument
+front-leads s w last mark start to argument p front lead candidates names fronts written at turns =
+    let is = p.is_instance in
+    record {
+      state = p.state;
+      candidates = candidates;
+      make = λ l. plain_encoding mark is.own l;
+      front = front;
+      lead = lead;
+      name = p.name;
+      is_function = record {
+        own = is.own;
+        makes = λ t rest. refl;
+        prints = is.prints;
+        elements = none-print-in (detail_of s) (types_of is.own) 6;
+        names = names;
+      };
+      fronts = fronts;
+      written = written;
+      goes = record {
+        around = p.goes.around;
+        inner = p.goes.inner;
+        outside = p.goes.outside;
+        scoped = p.goes.scoped;
+        awaits = subst (λ n. Expects s Kind.Items p.goes.around p.goes.inner n p.state) (sym at) p.goes.awaits;
+        onward = λ l there then_ comes. turns (no_items l) there (p.goes.onward l there then_ comes);
+      };
+    }
+
 -- the return type is read, and after it the name is written once more
 pub front-turned : (s : Symbol) (w here first last : Direct) (mark : Mark) (start : ℕ) (argument : Arguments) → IsFrontRead s w mark start argument
     → s.is_bare ≡ false → is_local s.bytes ≡ false
@@ -109,37 +144,16 @@ front-turned s w here first last mark start argument p whole_ plain text candida
     let again : take (start - 0) (drop 0 first.text.list.items) ≡ p.front =
     ap (λ n. take n first.text.list.items) (omega (arith, p.start_is)) ∙ ap (λ l. take (length p.front) l) front ∙ take-append_seam p.front lead in
     let written : last.text.list.items ≡ p.front ++ lead ++ p.front = two.text ∙ ap (λ l. first.text.list.items ++ l) again ∙ ap (λ l. l ++ p.front) front in
-    let known : AreCandidates (detail_of s) here.text.list.items here.candidates.list.items p.state.candidates =
-    subst (λ v. AreCandidates (detail_of s) v.list.items here.candidates.list.items p.state.candidates) (sym text)
-    (subst (λ v. AreCandidates (detail_of s) w.text.list.items v.list.items p.state.candidates) (sym candidates) p.candidates) in
-    record {
-      state = p.state;
-      candidates = candidates-written (detail_of s) first last (take (start - 0) (drop 0 first.text.list.items)) p.state.candidates two
-          (candidates-written (detail_of s) here first (codes " ") p.state.candidates one known);
-      make = λ l. plain_encoding mark is.own l;
-      front = p.front ++ lead ++ p.name;
-      lead = lead;
-      name = p.name;
-      is_function = record {
-        own = is.own;
-        makes = λ t rest. refl;
-        prints = is.prints;
-        elements = none-print-in (detail_of s) (types_of is.own) 6;
-        names = subst (λ l. HasArguments (detail_of s) l argument is.own) (sym written)
-            (arguments-stay (p.front ++ lead) p.front argument is.own (arguments-stay p.front lead argument is.own is.names));
-      };
-      fronts = subst (λ b. Fronts b (p.front ++ lead ++ p.name) start lead p.name) (sym whole_) (p.front, refl, p.start_is);
-      written = written ∙ ap (λ l. p.front ++ lead ++ l) named;
-      goes = record {
-        around = p.goes.around;
-        inner = p.goes.inner;
-        outside = p.goes.outside;
-        scoped = p.goes.scoped;
-        awaits = subst (λ n. Expects s Kind.Items p.goes.around p.goes.inner n p.state) (sym (two.at ∙ one.at ∙ at)) p.goes.awaits;
-        onward = λ l there then_ comes. turned s argument mark p.v p.name p.front is p.returned p.bytes p.is_reference p.prints (no_items l) there whole_ plain
-            (subst (λ x. EncodedBehind s x (encoding_of p.v (list p.returned (no_items l))) there) none (p.goes.onward l there then_ comes));
-      };
-    }
+    let known = candidates-same (detail_of s) w here p.state.candidates text candidates p.candidates in
+    front-leads s w last mark start start argument p (p.front ++ lead ++ p.name) lead
+    (candidates-written (detail_of s) first last (take (start - 0) (drop 0 first.text.list.items)) p.state.candidates two
+    (candidates-written (detail_of s) here first (codes " ") p.state.candidates one known))
+    (subst (λ l. HasArguments (detail_of s) l argument is.own) (sym written)
+    (arguments-stay (p.front ++ lead) p.front argument is.own (arguments-stay p.front lead argument is.own is.names)))
+    (subst (λ b. Fronts b (p.front ++ lead ++ p.name) start lead p.name) (sym whole_) (p.front, refl, p.start_is))
+    (written ∙ ap (λ l. p.front ++ lead ++ l) named) (two.at ∙ one.at ∙ at)
+    (λ items there goes. turned s argument mark p.v p.name p.front is p.returned p.bytes p.is_reference p.prints items there whole_ plain
+    (subst (λ x. EncodedBehind s x (encoding_of p.v (list p.returned items)) there) none goes))
 
 -- before a local entity a function shows no return type
 hidden-return : (s : Symbol) (lead : List ℕ) (argument : Arguments) (mark : Mark) (v : Value) (name text : List ℕ) (is : IsInstance (detail_of s) text argument mark v name)
@@ -167,33 +181,13 @@ front-hidden s w last mark start begins argument p whole_ local_ begins_is one =
     let again : take (start - 0) (drop 0 w.text.list.items) ≡ p.front =
     ap (λ n. take n w.text.list.items) (omega (arith, p.start_is)) ∙ ap (λ l. take (length p.front) l) p.written ∙ take-append_seam p.front p.bytes in
     let written : last.text.list.items ≡ aside ++ p.front = one.text ∙ ap (λ l. w.text.list.items ++ l) again ∙ ap (λ l. l ++ p.front) p.written in
-    record {
-      state = p.state;
-      candidates = candidates-written (detail_of s) w last (take (start - 0) (drop 0 w.text.list.items)) p.state.candidates one p.candidates;
-      make = λ l. plain_encoding mark is.own l;
-      front = aside ++ p.lead ++ p.name;
-      lead = p.lead;
-      name = p.name;
-      is_function = record {
-        own = is.own;
-        makes = λ t rest. refl;
-        prints = is.prints;
-        elements = none-print-in (detail_of s) (types_of is.own) 6;
-        names = subst (λ l. HasArguments (detail_of s) l argument is.own) (sym written)
-            (arguments-stay aside p.front argument is.own (arguments-stay p.front p.bytes argument is.own is.names));
-      };
-      fronts = subst (λ b. Fronts b (aside ++ p.lead ++ p.name) begins p.lead p.name) (sym whole_) (aside, refl, begins_is ∙ ap length p.written);
-      written = written ∙ ap (λ l. aside ++ l) p.front_is ∙ sym (append_assoc aside p.lead p.name);
-      goes = record {
-        around = p.goes.around;
-        inner = p.goes.inner;
-        outside = p.goes.outside;
-        scoped = p.goes.scoped;
-        awaits = subst (λ n. Expects s Kind.Items p.goes.around p.goes.inner n p.state) (sym one.at) p.goes.awaits;
-        onward = λ l there then_ comes. hidden-return s p.lead argument mark p.v p.name p.front is p.returned local_ (no_items l) there
-            (p.goes.onward l there then_ comes);
-      };
-    }
+    front-leads s w last mark start begins argument p (aside ++ p.lead ++ p.name) p.lead
+    (candidates-written (detail_of s) w last (take (start - 0) (drop 0 w.text.list.items)) p.state.candidates one p.candidates)
+    (subst (λ l. HasArguments (detail_of s) l argument is.own) (sym written)
+    (arguments-stay aside p.front argument is.own (arguments-stay p.front p.bytes argument is.own is.names)))
+    (subst (λ b. Fronts b (aside ++ p.lead ++ p.name) begins p.lead p.name) (sym whole_) (aside, refl, begins_is ∙ ap length p.written))
+    (written ∙ ap (λ l. aside ++ l) p.front_is ∙ sym (append_assoc aside p.lead p.name)) one.at
+    (λ items there goes. hidden-return s p.lead argument mark p.v p.name p.front is p.returned local_ items there goes)
 
 -- where functions are shown by their names alone none shows a return type
 bare-return : (s : Symbol) (lead : List ℕ) (argument : Arguments) (mark : Mark) (v : Value) (name text : List ℕ) (is : IsInstance (detail_of s) text argument mark v name)
@@ -224,31 +218,9 @@ pub front-bare : (s : Symbol) (w last : Direct) (mark : Mark) (start : ℕ) (arg
 front-bare s w last mark start argument p bare text candidates at =
     let is = p.is_instance in
     let written : last.text.list.items ≡ p.front ++ p.bytes = ap (λ v. v.list.items) text ∙ p.written in
-    record {
-      state = p.state;
-      candidates = subst (λ v. AreCandidates (detail_of s) v.list.items last.candidates.list.items p.state.candidates) (sym text)
-          (subst (λ v. AreCandidates (detail_of s) w.text.list.items v.list.items p.state.candidates) (sym candidates) p.candidates);
-      make = λ l. plain_encoding mark is.own l;
-      front = p.front ++ p.bytes;
-      lead = p.lead;
-      name = p.name;
-      is_function = record {
-        own = is.own;
-        makes = λ t rest. refl;
-        prints = is.prints;
-        elements = none-print-in (detail_of s) (types_of is.own) 6;
-        names = subst (λ l. HasArguments (detail_of s) l argument is.own) (sym written) (arguments-stay p.front p.bytes argument is.own is.names);
-      };
-      fronts = subst (λ b. Fronts b (p.front ++ p.bytes) start p.lead p.name) (sym bare)
-          (p.bytes, ap (λ l. l ++ p.bytes) p.front_is, p.start_is ∙ ap length p.front_is);
-      written = written;
-      goes = record {
-        around = p.goes.around;
-        inner = p.goes.inner;
-        outside = p.goes.outside;
-        scoped = p.goes.scoped;
-        awaits = subst (λ n. Expects s Kind.Items p.goes.around p.goes.inner n p.state) (sym at) p.goes.awaits;
-        onward = λ l there then_ comes. bare-return s p.lead argument mark p.v p.name p.front is p.returned bare (no_items l) there
-            (p.goes.onward l there then_ comes);
-      };
-    }
+    front-leads s w last mark start start argument p (p.front ++ p.bytes) p.lead
+    (candidates-same (detail_of s) w last p.state.candidates text candidates p.candidates)
+    (subst (λ l. HasArguments (detail_of s) l argument is.own) (sym written) (arguments-stay p.front p.bytes argument is.own is.names))
+    (subst (λ b. Fronts b (p.front ++ p.bytes) start p.lead p.name) (sym bare)
+    (p.bytes, ap (λ l. l ++ p.bytes) p.front_is, p.start_is ∙ ap length p.front_is))
+    written at (λ items there goes. bare-return s p.lead argument mark p.v p.name p.front is p.returned bare items there goes)

@@ -1,10 +1,22 @@
--- What is computed at each letter of a list holds at a letter among them.
-use Rattle.std.proofs.Common.{◌≡◌, ℕ, ◌<◌, List, [], ◌∷◌, Bool, true, false, ◌||◌, ◌&&◌, nat_eq, slice_get, Option, Some, None, refl, ap, sym, subst, ◌∙◌}
-use Rattle.std.proofs.Common.{ltb}
+-- What is computed at each letter of a list holds at a letter among them: the letters that have texts, codes of two, and those of operators.
+use Rattle.std.proofs.Common.{◌≡◌, ℕ, ◌<◌, List, [], ◌∷◌, Bool, true, false, ◌||◌, ◌&&◌, nat_eq, slice_get, Option, Some, None, refl, ap, sym, subst, ◌∙◌, ltb, ◌≢◌, ◌⊎◌, inl, inr, Ok, arith}
 use Rattle.std.proofs.lemmas.Bool.{false≢true, eqb-true, ltb-true, and_parts}
 use Rattle.cpp_grammar.specs.declared.production.Production.{Production}
-use Rattle.cpp_grammar.specs.Grammar.{among, number_of, productions}
+use Rattle.cpp_grammar.specs.Grammar.{among, number_of, productions, in_ranges, is_in, pick, alternatives, number_of_kind, choose, parts_of, is_chain}
 use Rattle.cpp_direct.specs.ItemBytes.{one_of}
+use Rattle.cpp_grammar.specs.Texts.{Naming, look_up, builtin_texts, same_bytes, operator_texts}
+use Rattle.cpp_direct.specs.Letters.{integer_letters}
+use Rattle.sym_shape.specs.declared.rule.Sym.TheVariants.{Kind as OfKind}
+use Rattle.sym_shape.specs.Tree.{Forest}
+use Rattle.sym_link.specs.Unfold.{found}
+use Rattle.cpp_grammar.specs.declared.kind.Kind.{Kind}
+use Rattle.cpp_grammar.specs.Term.{operator}
+use Rattle.cpp_grammar.specs.Values.{State, Around, letter, piece, letter_of, part}
+use Rattle.cpp_grammar.specs.Between.{Going, between}
+use Rattle.cpp_grammar.specs.Meaning.{meaning, operator_or_literal}
+use Rattle.cpp_grammar.specs.Unfolding.{opening, close}
+use Rattle.cpp_grammar.proofs.Growing.{same_choice, kept}
+use Rattle.cpp_grammar.specs.Unfolding as unfolding_
 
 -- each of the bytes passes a test
 unfoldable pub each_passes : (ℕ → Bool) → List ℕ → Bool
@@ -57,3 +69,207 @@ pub taken : (p : Production) (o : Option Production) → takes p o ≡ true → 
 unfolding takes
 taken p None is = absurd (false≢true is)
 taken p (Some q) is = sym (numbered q) ∙ ap (slice_get productions) (eqb-true (number_of q) (number_of p) is) ∙ numbered p
+
+-- ## Letters that have texts
+
+-- a text isn't empty
+unfoldable pub is_filled : List ℕ → Bool
+is_filled [] = false
+is_filled (b ∷ bs) = true
+
+pub filled : (xs : List ℕ) → is_filled xs ≡ true → xs ≢ []
+unfolding is_filled
+filled [] is = absurd (false≢true is)
+filled (b ∷ bs) is = λ e. cc e
+
+-- The letter of an integer's type has a text.
+pub integer-there : (code : ℕ) → among integer_letters code ≡ true → look_up (code ∷ []) builtin_texts ≢ []
+unfolding look_up builtin_texts same_bytes each_passes is_filled
+integer-there code is =
+    filled (look_up (code ∷ []) builtin_texts) (tested integer_letters (λ b. is_filled (look_up (b ∷ []) builtin_texts)) refl code is)
+
+-- ## Codes of two letters
+
+-- a code of two letters passes a test
+unfoldable pub is_pair : (ℕ → ℕ → Bool) → List ℕ → Bool
+is_pair test (c ∷ d ∷ []) = test c d
+is_pair test _ = true
+
+-- and so does each of a table
+unfoldable pub are_pairs : (ℕ → ℕ → Bool) → List Naming → Bool
+are_pairs test [] = true
+are_pairs test (n ∷ rest) = is_pair test n.code && are_pairs test rest
+
+-- Two letters that have a text pass the test that all codes of two letters pass.
+pub pair-listed : (table : List Naming) (test : ℕ → ℕ → Bool) (first second : ℕ) → are_pairs test table ≡ true
+    → look_up (first ∷ second ∷ []) table ≢ [] → test first second ≡ true
+unfolding look_up same_bytes is_pair are_pairs
+pair-listed [] test first second all has = absurd (has refl)
+pair-listed (n ∷ rest) test first second all has =
+    let both = and_parts (is_pair test n.code) (are_pairs test rest) all in
+    go n.code both.0 (same_bytes (first ∷ second ∷ []) n.code) refl has (pair-listed rest test first second both.1)
+  where
+    go : (code : List ℕ) → is_pair test code ≡ true → (b : Bool) → same_bytes (first ∷ second ∷ []) code ≡ b
+        → ◌≢◌ {A = List ℕ} (elim b [ true ↦ n.text | false ↦ look_up (first ∷ second ∷ []) rest ]) []
+        → (look_up (first ∷ second ∷ []) rest ≢ [] → test first second ≡ true)
+        → test first second ≡ true
+    go code passes false same filled later = later filled
+    go [] passes true same filled later = absurd (false≢true same)
+    go (c ∷ []) passes true same filled later = absurd (false≢true ((and_parts (nat_eq first c) false same).1))
+    go (c ∷ d ∷ []) passes true same filled later =
+        let both = and_parts (nat_eq first c) (nat_eq second d && true) same in
+        subst (λ a. test a second ≡ true) (sym (eqb-true first c both.0))
+        (subst (λ b. test c b ≡ true) (sym (eqb-true second d ((and_parts (nat_eq second d) true both.1).0))) passes)
+    go (c ∷ d ∷ e ∷ es) passes true same filled later =
+        absurd (false≢true ((and_parts (nat_eq second d) false ((and_parts (nat_eq first c) (nat_eq second d && false) same).1)).1))
+
+-- ## The productions of operators' first letters
+
+-- the kind of the second letter, after the production that takes the first
+unfoldable second_kind : Production → Option Kind
+second_kind Production.OperatorN = Some Kind.OperatorAfterN
+second_kind Production.OperatorD = Some Kind.OperatorAfterD
+second_kind Production.OperatorA = Some Kind.OperatorAfterA
+second_kind Production.OperatorP = Some Kind.OperatorAfterP
+second_kind Production.OperatorC = Some Kind.OperatorAfterC
+second_kind Production.OperatorM = Some Kind.OperatorAfterM
+second_kind Production.OperatorR = Some Kind.OperatorAfterR
+second_kind Production.OperatorO = Some Kind.OperatorAfterO
+second_kind Production.OperatorE = Some Kind.OperatorAfterE
+second_kind Production.OperatorL = Some Kind.OperatorAfterL
+second_kind Production.OperatorS = Some Kind.OperatorAfterS
+second_kind Production.OperatorI = Some Kind.OperatorAfterI
+second_kind Production.OperatorG = Some Kind.OperatorAfterG
+second_kind _ = None
+
+-- A production takes the first letter of an operator, and its one part is of the kind of the second.
+pub record TakesFirst (p : Production) (kind : Kind) : Type 0 where
+  pub parts : parts_of p ≡ OfKind (number_of_kind kind) ∷ []
+  pub chain : is_chain p ≡ false
+  pub begins : (f : Forest) (at : ℕ) (st : State) → opening p f at st ≡ Ok st
+  pub passes : (around : Around) (at : ℕ) (st : State)
+      → ◌≡◌ {A = Going} (between p around at [] st) (Ok (record { context = around; values = []; state = st }))
+  pub closes : (first second : ℕ) (around : Around) (at : ℕ) (before st : State)
+      → close p first around at before (letter second ∷ []) st ≡ Ok (found (piece (operator first second)) st)
+
+first-so : (p : Production) {kind other : Kind} → Some kind ≡ Some other → parts_of p ≡ OfKind (number_of_kind kind) ∷ [] → is_chain p ≡ false
+    → ((f : Forest) (at : ℕ) (st : State) → opening p f at st ≡ Ok st)
+    → ((around : Around) (at : ℕ) (st : State)
+    → ◌≡◌ {A = Going} (between p around at [] st) (Ok (record { context = around; values = []; state = st })))
+    → ((first second : ℕ) (around : Around) (at : ℕ) (before st : State)
+    → close p first around at before (letter second ∷ []) st ≡ Ok (found (piece (operator first second)) st)) → TakesFirst p other
+first-so p {kind = kind} {other = other} same parts chain begins passes closes =
+    subst (λ k. TakesFirst p k) (the-same same) (record { parts = parts; chain = chain; begins = begins; passes = passes; closes = closes })
+  where
+    the-same : Some kind ≡ Some other → kind ≡ other
+    the-same e = cc e
+
+takes-first : (p : Production) (kind : Kind) → second_kind p ≡ Some kind → TakesFirst p kind
+unfolding second_kind number_of_kind parts_of is_chain opening between close unfolding_.behind meaning operator_or_literal letter_of part
+takes-first Production.OperatorN kind is = first-so Production.OperatorN is refl refl (λ f at st. refl) (λ a at st. refl) (λ b c a at d st. refl)
+takes-first Production.OperatorD kind is = first-so Production.OperatorD is refl refl (λ f at st. refl) (λ a at st. refl) (λ b c a at d st. refl)
+takes-first Production.OperatorA kind is = first-so Production.OperatorA is refl refl (λ f at st. refl) (λ a at st. refl) (λ b c a at d st. refl)
+takes-first Production.OperatorP kind is = first-so Production.OperatorP is refl refl (λ f at st. refl) (λ a at st. refl) (λ b c a at d st. refl)
+takes-first Production.OperatorC kind is = first-so Production.OperatorC is refl refl (λ f at st. refl) (λ a at st. refl) (λ b c a at d st. refl)
+takes-first Production.OperatorM kind is = first-so Production.OperatorM is refl refl (λ f at st. refl) (λ a at st. refl) (λ b c a at d st. refl)
+takes-first Production.OperatorR kind is = first-so Production.OperatorR is refl refl (λ f at st. refl) (λ a at st. refl) (λ b c a at d st. refl)
+takes-first Production.OperatorO kind is = first-so Production.OperatorO is refl refl (λ f at st. refl) (λ a at st. refl) (λ b c a at d st. refl)
+takes-first Production.OperatorE kind is = first-so Production.OperatorE is refl refl (λ f at st. refl) (λ a at st. refl) (λ b c a at d st. refl)
+takes-first Production.OperatorL kind is = first-so Production.OperatorL is refl refl (λ f at st. refl) (λ a at st. refl) (λ b c a at d st. refl)
+takes-first Production.OperatorS kind is = first-so Production.OperatorS is refl refl (λ f at st. refl) (λ a at st. refl) (λ b c a at d st. refl)
+takes-first Production.OperatorI kind is = first-so Production.OperatorI is refl refl (λ f at st. refl) (λ a at st. refl) (λ b c a at d st. refl)
+takes-first Production.OperatorG kind is = first-so Production.OperatorG is refl refl (λ f at st. refl) (λ a at st. refl) (λ b c a at d st. refl)
+takes-first _ kind is = cc is
+
+-- ## Codes
+
+is_mark : Option Production → Bool
+is_mark (Some Production.Mark) = true
+is_mark _ = false
+
+mark-is : (o : Option Production) → is_mark o ≡ true → o ≡ Some Production.Mark
+unfolding is_mark
+mark-is (Some Production.Mark) is = refl
+mark-is (Some _) is = absurd (false≢true is)
+mark-is None is = absurd (false≢true is)
+
+is_second : Option Kind → ℕ → Bool
+is_second (Some kind) second = is_mark (choose kind second)
+is_second None second = false
+
+is_code_by : Option Production → ℕ → Bool
+is_code_by (Some p) second = is_second (second_kind p) second
+is_code_by None second = false
+
+is_byte : ℕ → Bool
+is_byte b = ltb 0 b && ltb b 256
+
+byte-is : (b : ℕ) → is_byte b ≡ true → (b < 256) × (b ≢ 0)
+unfolding is_byte
+byte-is b is =
+    let both = and_parts (ltb 0 b) (ltb b 256) is in
+    let more : 0 < b = ltb-true 0 b both.0 in
+    (ltb-true b 256 both.1, λ e. omega (arith, e, more))
+
+-- within a nested name what begins with a c has a kind of its own, and any other operator is chosen as elsewhere
+is_component : ℕ → ℕ → Bool
+is_component first second = (nat_eq first 99 && is_mark (choose Kind.OperatorAfterC second)) || same_choice (choose Kind.Operator first) (choose Kind.OtherOperator first)
+
+-- two letters that are the code of an operator
+is_code : ℕ → ℕ → Bool
+is_code first second = ((is_byte first && is_byte second) && is_code_by (choose Kind.Operator first) second) && is_component first second
+
+-- They are read so.
+pub record IsOperator (first second : ℕ) : Type 0 where
+  pub production : Production
+  pub kind : Kind
+  pub takes : TakesFirst production kind
+  pub small : first < 256
+  pub small_second : second < 256
+  pub first_filled : first ≢ 0
+  pub second_filled : second ≢ 0
+  pub chosen : choose Kind.Operator first ≡ Some production
+  pub marked : choose kind second ≡ Some Production.Mark
+  pub component : ((first ≡ 99) × (choose Kind.OperatorAfterC second ≡ Some Production.Mark)) ⊎ (choose Kind.OtherOperator first ≡ Some production)
+
+read-so : (first second : ℕ) → is_code first second ≡ true → IsOperator first second
+unfolding is_code is_code_by is_second is_component
+read-so first second is =
+    let all = and_parts ((is_byte first && is_byte second) && is_code_by (choose Kind.Operator first) second) (is_component first second) is in
+    let both = and_parts (is_byte first && is_byte second) (is_code_by (choose Kind.Operator first) second) all.0 in
+    let bytes = and_parts (is_byte first) (is_byte second) both.0 in
+    by-first (choose Kind.Operator first) refl both.1 (byte-is first bytes.0) (byte-is second bytes.1) all.1
+  where
+    within : (p : Production) → choose Kind.Operator first ≡ Some p → (a b : Bool) → nat_eq first 99 && is_mark (choose Kind.OperatorAfterC second) ≡ a
+        → same_choice (choose Kind.Operator first) (choose Kind.OtherOperator first) ≡ b → (a || b) ≡ true
+        → ((first ≡ 99) × (choose Kind.OperatorAfterC second ≡ Some Production.Mark)) ⊎ (choose Kind.OtherOperator first ≡ Some p)
+    within p chosen true b c other h =
+        let both = and_parts (nat_eq first 99) (is_mark (choose Kind.OperatorAfterC second)) c in
+        inl (eqb-true first 99 both.0, mark-is (choose Kind.OperatorAfterC second) both.1)
+    within p chosen false b c other h = inr (kept (choose Kind.Operator first) (choose Kind.OtherOperator first) p (other ∙ h) chosen)
+
+    by-kind : (p : Production) → choose Kind.Operator first ≡ Some p → (k : Option Kind) → second_kind p ≡ k → is_second k second ≡ true
+        → (first < 256) × (first ≢ 0) → (second < 256) × (second ≢ 0) → is_component first second ≡ true → IsOperator first second
+    by-kind p chosen (Some kind) same is_one one two component = record {
+      production = p;
+      kind = kind;
+      takes = takes-first p kind same;
+      small = one.0;
+      small_second = two.0;
+      first_filled = one.1;
+      second_filled = two.1;
+      chosen = chosen;
+      marked = mark-is (choose kind second) is_one;
+      component = within p chosen (nat_eq first 99 && is_mark (choose Kind.OperatorAfterC second)) (same_choice (choose Kind.Operator first) (choose Kind.OtherOperator first)) refl refl component;
+    }
+    by-kind p chosen None same is_one one two component = absurd (false≢true is_one)
+
+    by-first : (o : Option Production) → choose Kind.Operator first ≡ o → is_code_by o second ≡ true → (first < 256) × (first ≢ 0)
+        → (second < 256) × (second ≢ 0) → is_component first second ≡ true → IsOperator first second
+    by-first (Some p) chosen is_one one two component = by-kind p chosen (second_kind p) refl is_one one two component
+    by-first None chosen is_one one two component = absurd (false≢true is_one)
+
+-- Two letters with the text of an operator are read as its code.
+pub operator-listed : (first second : ℕ) → look_up (first ∷ second ∷ []) operator_texts ≢ [] → IsOperator first second
+unfolding operator_texts is_pair are_pairs is_code is_byte is_code_by is_second is_mark is_component same_choice number_of second_kind choose alternatives pick is_in in_ranges among
+operator-listed first second has = read-so first second (pair-listed operator_texts (λ a b. is_code a b) first second refl has)

@@ -25,14 +25,13 @@ use Rattle.cpp_direct.specs.Prints.{PrintAll, list_of}
 use Rattle.cpp_direct.specs.WriterInvariant.{HasArguments, argument_of, AreCandidates, IsListing, IsNest, IsTail, IsTemplate, IsWriting, Owns, Serves, ArgumentsGoOn, AwaitsElementOf, AwaitsEnumerator, Belongs, Closes, ElementsGoOn, EnumeratorGoesOn, GoesOn, Listing, of_template, of_pack, Stands, element_kind, extra_of, led_by, list_with, in_front_of_next, nowhere}
 use Rattle.cpp_direct.specs.MidStep.{AreKnown, IsListEnded, AwaitsNextArgument, IsNameEnded}
 use Rattle.cpp_direct.specs.Written.{Writes, added}
-use Rattle.sym_print.specs.Details.{has_arguments}
 use Rattle.cpp_direct.proofs.Moves.{expects-empty, stands-split}
 use Rattle.cpp_direct.proofs.MovesOfLists.{element-awaits, pack-opens}
-use Rattle.cpp_direct.proofs.PrintedLists.{list-with-none, next-prints, none-print, pack-element}
+use Rattle.cpp_direct.proofs.PrintedLists.{list-more, list-with-none, next-prints, none-print, pack-element}
 use Rattle.cpp_direct.proofs.PrintedNames.{as-name}
 use Rattle.cpp_direct.proofs.PrintedNests.{instance-prints, instance-class}
 use Rattle.cpp_direct.proofs.Scopes.{element-there, instance-returns, known-stay, none-known, none-scoped, structor-returns}
-use Rattle.cpp_direct.proofs.Kept.{candidates-stay, candidates-with, template-stays, reverse-last, last-reversed}
+use Rattle.cpp_direct.proofs.Kept.{candidates-as, candidates-same, candidates-stay, candidates-with, template-stays, reverse-last, last-reversed}
 
 -- ## What is open
 
@@ -62,10 +61,6 @@ pub waits-last : (items xs : List Open) (x y : Open) → xs ≡ items → Some x
 waits-last items xs x y same found is = ap (λ l. slice_get l (length l - 1)) (sym same) ∙ sym found ∙ ap (λ o. Some o) is
 
 -- ## Lists
-
-pub list-more : (ts : List Term) (t r : Term) → list_with (ts ++ t ∷ []) r ≡ list_with ts (list t r)
-list-more [] t r = refl
-list-more (u ∷ ts) t r = ap (λ l. list u l) (list-more ts t r)
 
 -- one more element after these
 pub some-elements : (ts : List Term) (t : Term) → ts ++ t ∷ [] ≢ []
@@ -151,9 +146,8 @@ closes s old new owner p text candidates at opened =
     let made = instance p.template (list_with p.ts p.tail) in
     record {
       state = p.state;
-      candidates = subst (λ l. AreCandidates (detail_of s) l new.candidates.list.items p.state.candidates) (sym text)
-          (subst (λ ks. AreCandidates (detail_of s) (old.text.list.items ++ closing_bracket (detail_of s)) ks p.state.candidates) (sym candidates)
-          (candidates-stay (detail_of s) old.text.list.items (closing_bracket (detail_of s)) old.candidates.list.items p.state.candidates p.candidates));
+      candidates = candidates-as (detail_of s) new p.state.candidates text candidates
+          (candidates-stay (detail_of s) old.text.list.items (closing_bracket (detail_of s)) old.candidates.list.items p.state.candidates p.candidates);
       front = p.front;
       template = p.template;
       name = p.name;
@@ -221,9 +215,8 @@ type-closed s w new from p candidates text waiting at =
     let prints = instance-prints p.template p.name p.is_template.1 p.ts p.tail p.arguments p.is_tail p.elements in
     record {
       state = state;
-      candidates = subst (λ v. AreCandidates (detail_of s) v.list.items new.candidates.list.items state.candidates) (sym text)
-          (subst (λ ks. AreCandidates (detail_of s) w.text.list.items ks state.candidates) (sym candidates)
-          (candidates-with w p.state p.front bytes from t p.owns.1 false p.candidates p.written p.is_template.0 prints));
+      candidates = candidates-as (detail_of s) new state.candidates (ap (λ v. v.list.items) text) candidates
+          (candidates-with w p.state p.front bytes from t p.owns.1 false p.candidates p.written p.is_template.0 prints);
       is_before = (
         outer,
         t,
@@ -296,9 +289,8 @@ first-closed s w new nest p candidates text waiting at =
     p.elements p.written in
     record {
       state = state;
-      candidates = subst (λ v. AreCandidates (detail_of s) v.list.items new.candidates.list.items state.candidates) (sym text)
-          (subst (λ ks. AreCandidates (detail_of s) w.text.list.items ks state.candidates) (sym candidates)
-          (candidates-with w p.state p.front bytes nest.from t around false p.candidates p.written p.is_template.from_is is_nest.prints));
+      candidates = candidates-as (detail_of s) new state.candidates (ap (λ v. v.list.items) text) candidates
+          (candidates-with w p.state p.front bytes nest.from t around false p.candidates p.written p.is_template.from_is is_nest.prints);
       is_before = (
         t,
         p.front,
@@ -339,61 +331,18 @@ name-closed s w from p =
 
 -- ## Between elements
 
--- an E ends the arguments
-pub list-ends : (s : Symbol) (w : Direct) (first : Bool) (owner : Open) → IsWriting s w (steps.List first) → StandsAt s.bytes w.at (69 ∷ [])
+-- The arguments of a name end, which are no pack, with these after their elements.
+ended-so : (s : Symbol) (w : Direct) (first : Bool) (owner : Open) (to : ℕ) (tail : Term) → IsTail tail → (p : IsWriting s w (steps.List first))
     → slice_get w.waiting.list.items (length w.waiting.list.items - 1) ≡ Some owner → (owner ≡ opens.Pack → ⊥)
-    → IsListEnded s (record w { at = w.at + 1 }) nowhere
-unfolding no_items may_be_empty
-list-ends s w first owner p stands found other = go p.is_before.0.listing refl
-  where
-    place : IsListing (detail_of s) (reverse w.waiting.list.items) w.text.list.items
-    place = p.is_before.0
-
-    last : (rest : List Open) × (reverse w.waiting.list.items ≡ owner ∷ rest)
-    last = last-found w.waiting.list.items owner found
-
-    go : (l : Listing) → p.is_before.0.listing ≡ l → IsListEnded s (record w { at = w.at + 1 }) nowhere
-    go (of_pack before written) is = absurd (packed (subst (λ l. Belongs (detail_of s) l (reverse w.waiting.list.items) p.is_before.0.owner p.is_before.0.rest) is p.is_before.0.belongs).0)
-      where
-        packed : reverse w.waiting.list.items ≡ opens.Pack ∷ p.is_before.0.owner ∷ p.is_before.0.rest → ⊥
-        packed e = other (cc (sym last.1 ∙ e))
-    go of_template is =
-        let place = p.is_before.0 in
-        let ts = p.is_before.1 in
-        let texts = p.is_before.2 in
-        let goes = subst (λ l. GoesOn s l place.owner (Stands s place.rest) place.front place.template ts w.at p.state) is p.is_before.7 in
-        record {
-          state = p.state;
-          candidates = p.candidates;
-          owner = place.owner;
-          rest = place.rest;
-          open_is = subst (λ l. Belongs (detail_of s) l (reverse w.waiting.list.items) place.owner place.rest) is place.belongs;
-          front = place.front;
-          template = place.template;
-          name = place.name;
-          ts = ts;
-          tail = nil;
-          is_tail = inl refl;
-          arguments = texts;
-          is_template = place.is_template;
-          elements = subst (λ l. PrintAll (detail_of s) (extra_of l) ts texts) is p.is_before.3;
-          written = subst (λ l. w.text.list.items ≡ led_by (detail_of s) l place.front place.name ++ texts) is p.is_before.4;
-          known = λ k o. absurd (none-known k o);
-          owns = goes.4 nothing_there w.at p.state (expects-empty s Kind.ArgumentList goes.0 goes.1 w.at p.state goes.3 refl) stands;
-        }
-
--- a pack of nothing and an E end them too
-pub empty-pack-ends : (s : Symbol) (w : Direct) (first : Bool) (owner : Open) → IsWriting s w (steps.List first)
-    → StandsAt s.bytes w.at (74 ∷ 69 ∷ 69 ∷ [])
-    → slice_get w.waiting.list.items (length w.waiting.list.items - 1) ≡ Some owner → (owner ≡ opens.Pack → ⊥)
-    → IsListEnded s (record w { at = w.at + 3 }) nowhere
-unfolding no_items may_be_empty tree_of
-empty-pack-ends s w first owner p stands found other = go p.is_before.0.listing refl
+    → ((o : Open) (rest : List Open) (front : List ℕ) (template : Term) → ArgumentsGoOn s o (Stands s rest) front template p.is_before.1 w.at p.state
+    → Owns s o (Stands s rest) front (instance template (list_with p.is_before.1 tail)) to p.state)
+    → IsListEnded s (record w { at = to }) nowhere
+ended-so s w first owner to tail is_tail p found other owns = go p.is_before.0.listing refl
   where
     last : (rest : List Open) × (reverse w.waiting.list.items ≡ owner ∷ rest)
     last = last-found w.waiting.list.items owner found
 
-    go : (l : Listing) → p.is_before.0.listing ≡ l → IsListEnded s (record w { at = w.at + 3 }) nowhere
+    go : (l : Listing) → p.is_before.0.listing ≡ l → IsListEnded s (record w { at = to }) nowhere
     go (of_pack before written) is =
         absurd (other (cc (sym last.1
         ∙ (subst (λ l. Belongs (detail_of s) l (reverse w.waiting.list.items) p.is_before.0.owner p.is_before.0.rest) is p.is_before.0.belongs).0)))
@@ -401,14 +350,6 @@ empty-pack-ends s w first owner p stands found other = go p.is_before.0.listing 
         let place = p.is_before.0 in
         let ts = p.is_before.1 in
         let texts = p.is_before.2 in
-        let goes = subst (λ l. GoesOn s l place.owner (Stands s place.rest) place.front place.template ts w.at p.state) is p.is_before.7 in
-        let begins = stands-split s.bytes w.at (74 ∷ []) (69 ∷ 69 ∷ []) stands in
-        let ends = stands-split s.bytes (w.at + 1) (69 ∷ []) (69 ∷ []) begins.1 in
-        let opened = pack-opens s goes.1 goes.0 w.at p.state goes.3 begins.0 in
-        let more = opened.onward nothing_there (w.at + 1) p.state
-        (expects-empty s Kind.PackList goes.0 opened.inner (w.at + 1) p.state opened.awaits refl) ends.0 in
-        let behind = element-goes-on s Kind.ArgumentList (λ u there later. Owns s place.owner (Stands s place.rest) place.front (instance place.template u) there later)
-        ts (pack nil) w.at (w.at + 1 + 1) p.state p.state goes more in
         record {
           state = p.state;
           candidates = p.candidates;
@@ -419,20 +360,46 @@ empty-pack-ends s w first owner p stands found other = go p.is_before.0.listing 
           template = place.template;
           name = place.name;
           ts = ts;
-          tail = list (pack nil) nil;
-          is_tail = inr refl;
+          tail = tail;
+          is_tail = is_tail;
           arguments = texts;
           is_template = place.is_template;
           elements = subst (λ l. PrintAll (detail_of s) (extra_of l) ts texts) is p.is_before.3;
           written = subst (λ l. w.text.list.items ≡ led_by (detail_of s) l place.front place.name ++ texts) is p.is_before.4;
           known = λ k o. absurd (none-known k o);
-          owns = subst (λ k. Owns s place.owner (Stands s place.rest) place.front (instance place.template (list_with ts (list (pack nil) nil))) k p.state)
-              (omega arith)
-              (subst (λ l. Owns s place.owner (Stands s place.rest) place.front (instance place.template l) (w.at + 1 + 1 + 1) p.state)
-              (list-more ts (pack nil) nil)
-              (behind.4 nothing_there (w.at + 1 + 1) p.state
-              (expects-empty s Kind.ArgumentList behind.0 behind.1 (w.at + 1 + 1) p.state behind.3 refl) ends.1));
+          owns = owns place.owner place.rest place.front place.template
+              (subst (λ l. GoesOn s l place.owner (Stands s place.rest) place.front place.template ts w.at p.state) is p.is_before.7);
         }
+
+-- an E ends the arguments
+pub list-ends : (s : Symbol) (w : Direct) (first : Bool) (owner : Open) → IsWriting s w (steps.List first) → StandsAt s.bytes w.at (69 ∷ [])
+    → slice_get w.waiting.list.items (length w.waiting.list.items - 1) ≡ Some owner → (owner ≡ opens.Pack → ⊥)
+    → IsListEnded s (record w { at = w.at + 1 }) nowhere
+unfolding no_items may_be_empty
+list-ends s w first owner p stands found other =
+    ended-so s w first owner (w.at + 1) nil (inl refl) p found other (λ o rest front template goes.
+    goes.4 nothing_there w.at p.state (expects-empty s Kind.ArgumentList goes.0 goes.1 w.at p.state goes.3 refl) stands)
+
+-- a pack of nothing and an E end them too
+pub empty-pack-ends : (s : Symbol) (w : Direct) (first : Bool) (owner : Open) → IsWriting s w (steps.List first)
+    → StandsAt s.bytes w.at (74 ∷ 69 ∷ 69 ∷ [])
+    → slice_get w.waiting.list.items (length w.waiting.list.items - 1) ≡ Some owner → (owner ≡ opens.Pack → ⊥)
+    → IsListEnded s (record w { at = w.at + 3 }) nowhere
+unfolding no_items may_be_empty tree_of
+empty-pack-ends s w first owner p stands found other =
+    let ts = p.is_before.1 in
+    let begins = stands-split s.bytes w.at (74 ∷ []) (69 ∷ 69 ∷ []) stands in
+    let ends = stands-split s.bytes (w.at + 1) (69 ∷ []) (69 ∷ []) begins.1 in
+    ended-so s w first owner (w.at + 3) (list (pack nil) nil) (inr refl) p found other (λ o rest front template goes.
+    let opened = pack-opens s goes.1 goes.0 w.at p.state goes.3 begins.0 in
+    let more = opened.onward nothing_there (w.at + 1) p.state
+    (expects-empty s Kind.PackList goes.0 opened.inner (w.at + 1) p.state opened.awaits refl) ends.0 in
+    let behind = element-goes-on s Kind.ArgumentList (λ u there later. Owns s o (Stands s rest) front (instance template u) there later)
+    ts (pack nil) w.at (w.at + 1 + 1) p.state p.state goes more in
+    subst (λ k. Owns s o (Stands s rest) front (instance template (list_with ts (list (pack nil) nil))) k p.state) (omega arith)
+    (subst (λ l. Owns s o (Stands s rest) front (instance template l) (w.at + 1 + 1 + 1) p.state) (list-more ts (pack nil) nil)
+    (behind.4 nothing_there (w.at + 1 + 1) p.state
+    (expects-empty s Kind.ArgumentList behind.0 behind.1 (w.at + 1 + 1) p.state behind.3 refl) ends.1)))
 
 -- an E ends a pack, which is an argument
 pub pack-ends : (s : Symbol) (w new : Direct) → IsWriting s w (steps.List false) → StandsAt s.bytes w.at (69 ∷ [])
@@ -464,8 +431,7 @@ pack-ends s w new p stands found text candidates at popped = go p.is_before.0.li
         let same : new.text.list.items ≡ w.text.list.items = ap (λ v. v.list.items) text in
         record {
           state = p.state;
-          candidates = subst (λ v. AreCandidates (detail_of s) new.text.list.items v.list.items p.state.candidates) (sym candidates)
-              (subst (λ v. AreCandidates (detail_of s) v.list.items w.candidates.list.items p.state.candidates) (sym text) p.candidates);
+          candidates = candidates-same (detail_of s) w new p.state.candidates text candidates p.candidates;
           is_before = (
             record {
               listing = of_template;
@@ -501,9 +467,8 @@ argument-expected s w new first p text candidates waiting at =
     let led = led_by (detail_of s) place.listing place.front place.name in
     record {
       state = p.state;
-      candidates = subst (λ l. AreCandidates (detail_of s) l new.candidates.list.items p.state.candidates) (sym text)
-          (subst (λ ks. AreCandidates (detail_of s) (w.text.list.items ++ comma first) ks p.state.candidates) (sym candidates)
-          (candidates-stay (detail_of s) w.text.list.items (comma first) w.candidates.list.items p.state.candidates p.candidates));
+      candidates = candidates-as (detail_of s) new p.state.candidates text candidates
+          (candidates-stay (detail_of s) w.text.list.items (comma first) w.candidates.list.items p.state.candidates p.candidates);
       place = listing-at (reverse w.waiting.list.items) w.text.list.items (reverse new.waiting.list.items) new.text.list.items place
           (subst (λ v. Belongs (detail_of s) place.listing (reverse v.list.items) place.owner place.rest) (sym waiting) place.belongs)
           (subst (λ l. IsTemplate (detail_of s) place.owner place.front place.template place.name l) (sym text)
@@ -553,8 +518,7 @@ pack-begins s old new owner a stands found other waits at text candidates = go a
         let written = subst (λ l. old.text.list.items ≡ led_by (detail_of s) l p.front p.name ++ in_front_of_next a.ts a.texts) is a.written in
         record {
           state = a.state;
-          candidates = subst (λ v. AreCandidates (detail_of s) new.text.list.items v.list.items a.state.candidates) (sym candidates)
-              (subst (λ v. AreCandidates (detail_of s) v.list.items old.candidates.list.items a.state.candidates) (sym text) a.candidates);
+          candidates = candidates-same (detail_of s) old new a.state.candidates text candidates a.candidates;
           is_before = (
             record {
               listing = of_pack a.ts a.texts;

@@ -1,40 +1,35 @@
--- The components of a nested name are read one after another.
-use Rattle.std.proofs.Common.{◌≡◌, ℕ, ◌+◌, ◌<◌, ◌⊎◌, List, [], ◌∷◌, Option, Some, inl, inr, Bool, true, false, Ok, refl, sym, subst, arith}
-use Rattle.std.proofs.lemmas.Bool.{le-leb}
-use Rattle.sym_shape.specs.declared.rule.Sym.TheVariants.{Kind as OfKind, Name, Byte}
+-- The components of a nested name are read one after another, and their tags.
+use Rattle.std.proofs.Common.{◌≡◌, ℕ, ◌+◌, List, [], ◌∷◌, inl, inr, Some, Bool, true, false, Ok, refl, sym, subst, arith}
+use Rattle.std.proofs.lemmas.Bool.{le-leb, lt-ltb}
+use Rattle.sym_shape.specs.declared.rule.Sym.TheVariants.{Kind as OfKind, Byte}
 use Rattle.sym_link.specs.Unfold.{found, standing}
 use Rattle.cpp_grammar.specs.declared.kind.Kind.{Kind}
 use Rattle.cpp_grammar.specs.declared.production.Production.{Production}
-use Rattle.cpp_grammar.specs.KindNumbers.{NEST_TAIL, NEST_MORE_OR_END, COMPONENT, COMPONENT_AFTER_C, CONSTRUCTOR_AFTER_C, CONSTRUCTOR_DIGIT, DESTRUCTOR_DIGIT, MAYBE_ARGUMENTS, ARGUMENTS_FIRST, OTHER_OPERATOR, OPERATOR_AFTER_C}
-use Rattle.cpp_grammar.specs.Grammar.{in_ranges, among, is_in, pick, alternatives, number_of_kind, choose, parts_of, is_chain}
-use Rattle.cpp_grammar.specs.Wide.{wide_alternatives, wide_choose}
+use Rattle.cpp_grammar.specs.Grammar.{choose, number_of_kind, parts_of, is_chain}
 use Rattle.cpp_grammar.specs.Table.{rule_of}
 use Rattle.cpp_grammar.specs.Term.{Term, within, instance, source, operator, constructor, destructor}
-use Rattle.cpp_grammar.specs.Values.{State, Around, prefix_tree, prefix_listed, Value, nothing_there, text, letter, tree, piece}
-use Rattle.cpp_grammar.specs.Values.{tree_of, piece_of, text_of, letter_of, is_there, part}
+use Rattle.cpp_grammar.specs.Values.{State, Around, prefix_tree, prefix_listed, Value, nothing_there, tree, piece, tree_of, is_there, letter_of, part, piece_of, text_of}
 use Rattle.cpp_grammar.specs.References.{appended, with_prefix}
-use Rattle.cpp_grammar.specs.Between.{between, after, inside, extended, applied, no_items, named_so_far, listed_so_far}
+use Rattle.cpp_grammar.specs.Between.{after, inside, extended, applied, no_items, named_so_far, listed_so_far, between, with_tag}
+use Rattle.cpp_grammar.specs.Unfolding.{close, byte_of, opening}
 use Rattle.cpp_grammar.specs.Meaning.{meaning}
-use Rattle.cpp_grammar.specs.Unfolding as unfolding_
-use Rattle.cpp_grammar.specs.Unfolding.{opening, close, byte_of}
 use Rattle.cpp_direct.specs.Symbol.{Symbol}
-use Rattle.cpp_direct.specs.Holes.{Opened, opened, StandsAt, Comes, Expects, with_candidate, unless_listed, IsNameAt, SamePasses, Named, AwaitsComponent, bare_name}
+use Rattle.cpp_direct.specs.Holes.{Opened, opened, StandsAt, Comes, Expects, with_candidate, unless_listed, IsNameAt, SamePasses, NestGoesOn, Named, AwaitsComponent, bare_name, IsTagAt}
 use Rattle.cpp_direct.specs.Names.{IsConstructorDigit, IsDestructorDigit}
 use Rattle.cpp_direct.specs.HolesOfNests.{IsRest, IsFirstRest, AwaitsArguments, AwaitsInstance}
-use Rattle.cpp_direct.proofs.Alone.{any-list}
-use Rattle.cpp_direct.proofs.Moves.{stands-split, comes-moved, first-of, first-of-chain, next-of, last-of, expects-byte, expects-name, letter-comes, wide-letter}
-use Rattle.cpp_direct.proofs.MovesOfNests.{last-passes}
-use Rattle.cpp_direct.proofs.Operators.{IsOperator}
+use Rattle.cpp_direct.proofs.Moves.{any-list, Hole, Filled, Taken, hole, open_at, fill, filled-at, eats, leaves, eats-widely, chosen-byte, is_left, byte-opens, chain-opens, byte-fills, next-part, closes, fixed-fills, name-fills, is_eaten, is_eaten_widely, stands-split}
+use Rattle.cpp_direct.proofs.LettersTested.{IsOperator}
+use Rattle.cpp_grammar.specs.Unfolding as unfolding_
 
 -- ## After the name so far
 
-rest-chooses : (kind : Kind) → IsRest kind → choose kind 48 ≡ Some Production.NestNext
-unfolding choose alternatives pick is_in in_ranges among
-rest-chooses Kind.NestRestAlone is = refl
-rest-chooses Kind.NestRestOrEnd is = refl
-rest-chooses Kind.NestMoreOrEnd is = refl
-rest-chooses Kind.NestTail is = refl
-rest-chooses _ is = absurd is
+rest-left : (kind : Kind) → IsRest kind → is_left kind Production.NestNext 48 ≡ true
+unfolding is_left
+rest-left Kind.NestRestAlone is = refl
+rest-left Kind.NestRestOrEnd is = refl
+rest-left Kind.NestMoreOrEnd is = refl
+rest-left Kind.NestTail is = refl
+rest-left _ is = absurd is
 
 prefix-appended : (around : Around) (t : Term) (listed : Bool) (st : State)
     → with_prefix (after t listed around) st ≡ unless_listed listed around t st
@@ -42,56 +37,51 @@ unfolding with_prefix appended after prefix_tree prefix_listed
 prefix-appended around t true st = refl
 prefix-appended around t false st = refl
 
+-- a nested name goes on after a component of it
+goes-on : {s : Symbol} {kind : Kind} {around : Around} {inner outer : List Opened} {u : Term} {listed : Bool} {at : ℕ} {st : State}
+    → Hole s (OfKind (number_of_kind kind)) (after u listed around) inner at st
+    → ((v : Value) (to : ℕ) (now : State) → Filled s inner v to now → Filled s outer v to now) → NestGoesOn s kind outer around u listed at st
+goes-on {inner = inner} h closed = record { inner = inner; awaits = h.expects; passes = λ v to now comes. (closed v to now (fill h v to now comes)).comes }
+
 -- a component follows, before which the name so far is a candidate
 pub component-awaits : (s : Symbol) (kind : Kind) (os : List Opened) (around : Around) (t : Term) (listed : Bool) (at : ℕ) (st : State)
     → IsRest kind → Expects s kind (after t listed around) os at st
     → AwaitsComponent s os around t at (unless_listed listed around t st)
-unfolding choose alternatives pick is_in in_ranges among is_chain parts_of number_of_kind between opening close unfolding_.behind meaning after prefix_tree prefix_listed tree_of part
+unfolding is_eaten is_left number_of_kind parts_of between close unfolding_.behind meaning part byte_of tree_of text_of piece_of letter_of is_there after prefix_tree prefix_listed
 component-awaits s kind os around t listed at st is expects =
-    let p : Production = Production.NestNext in
-    let here : Around = after t listed around in
+    let p = Production.NestNext in
+    let component : Hole s (OfKind (number_of_kind Kind.Component)) (after t true around)
+    (opened (standing (rule_of p) [] at (after t listed around) st) [] (OfKind (number_of_kind Kind.NestTail) ∷ []) ∷ os) at (unless_listed listed around t st) =
+    chain-opens (leaves s kind p 48 (rest-left kind is)) (hole s kind (after t listed around) os at st expects) refl
+    (rw (prefix-appended around t listed st) refl) in
     record {
-      inner = opened (standing (rule_of p) [] at here st) [] (OfKind NEST_TAIL ∷ []) ∷ os;
-      awaits = first-of-chain s kind p 48 here os at st (OfKind COMPONENT) (OfKind NEST_TAIL ∷ []) (after t true around) []
-          (unless_listed listed around t st) (rest-chooses kind is) (omega arith) refl (λ f. refl) refl
-          (rw (prefix-appended around t listed st) refl) expects;
-      onward = λ u to later comes. record {
-        inner = opened (standing (rule_of p) [] at here st) (tree u false ∷ []) [] ∷ os;
-        awaits = next-of s p [] at here st [] (tree u false) (OfKind NEST_TAIL) [] os to later (after u false around) (tree u false ∷ []) later refl comes;
-        passes = last-passes s p [] at here st (tree u false ∷ []) os (λ v x. refl);
-      };
+      inner = open_at component;
+      awaits = component.expects;
+      onward = λ u to later comes. goes-on (next-part p (fill component (tree u false) to later comes) refl) (λ v onto now f. closes p f refl);
     }
 
 -- arguments of the name so far
 first-arguments : (s : Symbol) (os : List Opened) (around : Around) (t : Term) (listed : Bool) (at : ℕ) (st : State)
     → Expects s Kind.NestRestAlone (after t listed around) os at st → StandsAt s.bytes at (73 ∷ [])
     → AwaitsArguments s os around t listed at st
-unfolding choose alternatives pick is_in in_ranges among is_chain parts_of number_of_kind between opening close unfolding_.behind meaning appended after inside listed_so_far prefix_tree prefix_listed tree_of part
+unfolding is_eaten number_of_kind parts_of between close unfolding_.behind meaning part byte_of tree_of text_of piece_of letter_of is_there appended after inside listed_so_far prefix_tree prefix_listed
 first-arguments s os around t listed at st expects stands =
-    let p : Production = Production.NestArguments in
-    let here : Around = after t listed around in
+    let p = Production.NestArguments in
+    let component = OfKind (number_of_kind Kind.Component) in
+    let tail = OfKind (number_of_kind Kind.NestTail) in
+    let arguments : Hole s (OfKind (number_of_kind Kind.ArgumentsFirst)) (inside around)
+    (opened (standing (rule_of p) (73 ∷ []) at (after t listed around) st) [] (Byte 69 ∷ component ∷ tail ∷ []) ∷ os) (at + 1) (unless_listed listed around t st) =
+    byte-opens (eats s Kind.NestRestAlone p 73 refl) (hole s Kind.NestRestAlone (after t listed around) os at st expects) stands refl
+    (rw (prefix-appended around t listed st) refl) in
     record {
-      inner = opened (standing (rule_of p) (73 ∷ []) at here st) [] (Byte 69 ∷ OfKind COMPONENT ∷ OfKind NEST_TAIL ∷ []) ∷ os;
-      awaits = any-list s (inside around) (opened (standing (rule_of p) (73 ∷ []) at here st) [] (Byte 69 ∷ OfKind COMPONENT ∷ OfKind NEST_TAIL ∷ []) ∷ os) (at + 1)
-          (unless_listed listed around t st)
-          (first-of s Kind.NestRestAlone p 73 here os at st (OfKind ARGUMENTS_FIRST) (Byte 69 ∷ OfKind COMPONENT ∷ OfKind NEST_TAIL ∷ []) (inside around) []
-          (unless_listed listed around t st) refl (omega arith) refl (λ f. refl) refl
-          (rw (prefix-appended around t listed st) refl) expects stands);
+      inner = open_at arguments;
+      awaits = any-list s (inside around) (open_at arguments) (at + 1) (unless_listed listed around t st) arguments.expects;
       onward = λ l to later comes ended.
-          let u : Term = instance t (no_items l) in
+          let next = next-part p (fixed-fills (next-part p (fill arguments l to later comes) refl) ended) refl in
           record {
-            inner = opened (standing (rule_of p) (73 ∷ []) at here st) (tree u true ∷ nothing_there ∷ []) (OfKind NEST_TAIL ∷ []) ∷ os;
-            awaits = next-of s p (73 ∷ []) at here st (l ∷ []) nothing_there (OfKind COMPONENT) (OfKind NEST_TAIL ∷ []) os (to + 1) later (after u true around)
-                (tree u true ∷ nothing_there ∷ []) (with_candidate around u later) refl
-                (expects-byte s 69 here (opened (standing (rule_of p) (73 ∷ []) at here st) (l ∷ []) (OfKind COMPONENT ∷ OfKind NEST_TAIL ∷ []) ∷ os) to later
-                (next-of s p (73 ∷ []) at here st [] l (Byte 69) (OfKind COMPONENT ∷ OfKind NEST_TAIL ∷ []) os to later here (l ∷ []) later refl comes)
-                ended);
-            onward = λ w onto newer came. record {
-              inner = opened (standing (rule_of p) (73 ∷ []) at here st) (tree u true ∷ nothing_there ∷ tree w false ∷ []) [] ∷ os;
-              awaits = next-of s p (73 ∷ []) at here st (tree u true ∷ nothing_there ∷ []) (tree w false) (OfKind NEST_TAIL) [] os onto newer
-                  (after w false around) (tree u true ∷ nothing_there ∷ tree w false ∷ []) newer refl came;
-              passes = last-passes s p (73 ∷ []) at here st (tree u true ∷ nothing_there ∷ tree w false ∷ []) os (λ v x. refl);
-            };
+            inner = open_at next;
+            awaits = next.expects;
+            onward = λ w onto newer came. goes-on (next-part p (fill next (tree w false) onto newer came) refl) (λ v to now f. closes p f refl);
           };
     }
 
@@ -99,28 +89,19 @@ first-arguments s os around t listed at st expects stands =
 pub instance-arguments : (s : Symbol) (os : List Opened) (around : Around) (t : Term) (listed : Bool) (at : ℕ) (st : State)
     → Expects s Kind.NestRestOrEnd (after t listed around) os at st → StandsAt s.bytes at (73 ∷ [])
     → AwaitsInstance s os around t listed at st
-unfolding choose alternatives pick is_in in_ranges among is_chain parts_of number_of_kind between opening close unfolding_.behind meaning after inside named_so_far prefix_tree prefix_listed tree_of part
+unfolding is_eaten number_of_kind parts_of between close unfolding_.behind meaning part byte_of tree_of text_of piece_of letter_of is_there after inside named_so_far prefix_tree prefix_listed
 instance-arguments s os around t listed at st expects stands =
-    let p : Production = Production.NestInstance in
-    let here : Around = after t listed around in
+    let p = Production.NestInstance in
+    let arguments : Hole s (OfKind (number_of_kind Kind.ArgumentsFirst)) (inside around)
+    (opened (standing (rule_of p) (73 ∷ []) at (after t listed around) st) [] (Byte 69 ∷ OfKind (number_of_kind Kind.NestMoreOrEnd) ∷ []) ∷ os) (at + 1)
+    (unless_listed listed around t st) =
+    byte-opens (eats s Kind.NestRestOrEnd p 73 refl) (hole s Kind.NestRestOrEnd (after t listed around) os at st expects) stands refl
+    (rw (prefix-appended around t listed st) refl) in
     record {
-      inner = opened (standing (rule_of p) (73 ∷ []) at here st) [] (Byte 69 ∷ OfKind NEST_MORE_OR_END ∷ []) ∷ os;
-      awaits = any-list s (inside around) (opened (standing (rule_of p) (73 ∷ []) at here st) [] (Byte 69 ∷ OfKind NEST_MORE_OR_END ∷ []) ∷ os) (at + 1)
-          (unless_listed listed around t st)
-          (first-of s Kind.NestRestOrEnd p 73 here os at st (OfKind ARGUMENTS_FIRST) (Byte 69 ∷ OfKind NEST_MORE_OR_END ∷ []) (inside around) []
-          (unless_listed listed around t st) refl (omega arith) refl (λ f. refl) refl
-          (rw (prefix-appended around t listed st) refl) expects stands);
+      inner = open_at arguments;
+      awaits = any-list s (inside around) (open_at arguments) (at + 1) (unless_listed listed around t st) arguments.expects;
       onward = λ l to later comes ended.
-          let u : Term = instance t (no_items l) in
-          record {
-            inner = opened (standing (rule_of p) (73 ∷ []) at here st) (tree u false ∷ nothing_there ∷ []) [] ∷ os;
-            awaits = next-of s p (73 ∷ []) at here st (l ∷ []) nothing_there (OfKind NEST_MORE_OR_END) [] os (to + 1) later (after u false around)
-                (tree u false ∷ nothing_there ∷ []) later refl
-                (expects-byte s 69 here (opened (standing (rule_of p) (73 ∷ []) at here st) (l ∷ []) (OfKind NEST_MORE_OR_END ∷ []) ∷ os) to later
-                (next-of s p (73 ∷ []) at here st [] l (Byte 69) (OfKind NEST_MORE_OR_END ∷ []) os to later here (l ∷ []) later refl comes)
-                ended);
-            passes = last-passes s p (73 ∷ []) at here st (tree u false ∷ nothing_there ∷ []) os (λ v x. refl);
-          };
+          goes-on (next-part p (fixed-fills (next-part p (fill arguments l to later comes) refl) ended) refl) (λ v onto now f. closes p f refl);
     }
 
 -- what is awaited within what comes is awaited of it
@@ -165,87 +146,71 @@ first-is-rest _ is = absurd is
 -- the name ends
 pub nest-end : (s : Symbol) (os : List Opened) (around : Around) (t : Term) (listed : Bool) (at : ℕ) (st : State)
     → Expects s Kind.NestTail (after t listed around) os at st → StandsAt s.bytes at (69 ∷ []) → Comes s os (tree t listed) (at + 1) st
-unfolding choose alternatives pick is_in in_ranges among is_chain parts_of opening close unfolding_.behind meaning after prefix_tree prefix_listed
+unfolding is_eaten number_of_kind parts_of between close unfolding_.behind meaning part byte_of tree_of text_of piece_of letter_of is_there after prefix_tree prefix_listed
 nest-end s os around t listed at st expects stands =
-    letter-comes s Kind.NestTail Production.NestEnd 69 (after t listed around) os at st (tree t listed) st refl (omega arith) refl (λ f. refl) refl
-    refl expects stands
+    (byte-fills (eats s Kind.NestTail Production.NestEnd 69 refl) (hole s Kind.NestTail (after t listed around) os at st expects) stands refl refl).comes
 
 -- ## Components
 
--- what a component is named by was read
-pub named-by : (s : Symbol) (os : List Opened) (p : Production) (taken : List ℕ) (at0 : ℕ) (around : Around) (before : State) (u : Term) (at : ℕ)
-    (st : State)
+-- what is named by a production whose arguments are expected
+pub named-by : {s : Symbol} {os : List Opened} (p : Production) {taken : List ℕ} {at0 : ℕ} {around outer : Around} {before : State} {u : Term} {at : ℕ} {st : State}
+    → Hole s (OfKind (number_of_kind Kind.MaybeArguments)) (after u false outer) (opened (standing (rule_of p) taken at0 around before) (tree u false ∷ []) [] ∷ os) at st
     → ((byte : ℕ) (here : Around) (began later : State) (v : Value)
     → close p byte here at0 began (tree u false ∷ v ∷ []) later ≡ Ok (found (tree (applied u v) false) later))
-    → (outer : Around)
-    → Expects s Kind.MaybeArguments (after u false outer) (opened (standing (rule_of p) taken at0 around before) (tree u false ∷ []) [] ∷ os) at st
     → Named s os outer u at st
 unfolding applied is_there tree_of
-named-by s os p taken at0 around before u at st closes outer expects = record {
-  inner = opened (standing (rule_of p) taken at0 around before) (tree u false ∷ []) [] ∷ os;
-  awaits = expects;
-  bare = λ to later comes. last-of s p taken at0 around before (tree u false ∷ []) nothing_there os to later (tree u false) later
-      (closes (byte_of taken) around before later nothing_there) comes;
-  argued = λ a to later comes. last-of s p taken at0 around before (tree u false ∷ []) (tree a true) os to later (tree (instance u a) false) later
-      (closes (byte_of taken) around before later (tree a true)) comes;
-  renamed = λ w to later comes. last-of s p taken at0 around before (tree u false ∷ []) (bare_name w) os to later (tree w false) later
-      (closes (byte_of taken) around before later (bare_name w)) comes;
+named-by p {taken = taken} {around = around} {before = before} {u = u} h closed = record {
+  inner = open_at h;
+  awaits = h.expects;
+  bare = λ to later comes. (closes p (fill h nothing_there to later comes) (closed (byte_of taken) around before later nothing_there)).comes;
+  argued = λ a to later comes. (closes p (fill h (tree a true) to later comes) (closed (byte_of taken) around before later (tree a true))).comes;
+  renamed = λ w to later comes. (closes p (fill h (bare_name w) to later comes) (closed (byte_of taken) around before later (bare_name w))).comes;
 }
 
 -- a name
 pub component-source : (s : Symbol) (os : List Opened) (around : Around) (t : Term) (at : ℕ) (st : State) (name : List ℕ) (end : ℕ)
     → Expects s Kind.Component (after t true around) os at st → IsNameAt s.bytes at name end
     → Named s os around (within t (source false name)) end st
-unfolding choose alternatives pick is_in in_ranges among is_chain parts_of number_of_kind between opening close unfolding_.behind meaning named_so_far extended after text_of tree_of part
+unfolding is_eaten is_left number_of_kind parts_of between close unfolding_.behind meaning part byte_of tree_of text_of piece_of letter_of is_there named_so_far extended after
 component-source s os around t at st name end expects is =
-    let p : Production = Production.SourceName in
-    let here : Around = after t true around in
-    let u : Term = within t (source false name) in
-    named-by s os p [] at here st u end st (λ byte now began later v. refl) around
-    (next-of s p [] at here st [] (text name) (OfKind MAYBE_ARGUMENTS) [] os end st (after u false around) (tree u false ∷ []) st refl
-    (expects-name s here (opened (standing (rule_of p) [] at here st) [] (OfKind MAYBE_ARGUMENTS ∷ []) ∷ os) at st name end
-    (first-of-chain s Kind.Component p 48 here os at st Name (OfKind MAYBE_ARGUMENTS ∷ []) here [] st refl (omega arith) refl (λ f. refl) refl refl expects) is))
+    let p = Production.SourceName in
+    let own = chain-opens (leaves s Kind.Component p 48 refl) (hole s Kind.Component (after t true around) os at st expects) refl refl in
+    named-by p (next-part p (name-fills name end own is) refl) (λ byte now began later v. refl)
 
 -- a name of internal linkage
 pub component-internal : (s : Symbol) (os : List Opened) (around : Around) (t : Term) (at : ℕ) (st : State) (name : List ℕ) (end : ℕ)
     → Expects s Kind.Component (after t true around) os at st → StandsAt s.bytes at (76 ∷ []) → IsNameAt s.bytes (at + 1) name end
     → Named s os around (within t (source true name)) end st
-unfolding choose alternatives pick is_in in_ranges among is_chain parts_of number_of_kind between opening close unfolding_.behind meaning named_so_far extended after text_of tree_of part
+unfolding is_eaten number_of_kind parts_of between close unfolding_.behind meaning part byte_of tree_of text_of piece_of letter_of is_there named_so_far extended after
 component-internal s os around t at st name end expects stands is =
-    let p : Production = Production.InternalName in
-    let here : Around = after t true around in
-    let u : Term = within t (source true name) in
-    named-by s os p (76 ∷ []) at here st u end st (λ byte now began later v. refl) around
-    (next-of s p (76 ∷ []) at here st [] (text name) (OfKind MAYBE_ARGUMENTS) [] os end st (after u false around) (tree u false ∷ []) st refl
-    (expects-name s here (opened (standing (rule_of p) (76 ∷ []) at here st) [] (OfKind MAYBE_ARGUMENTS ∷ []) ∷ os) (at + 1) st name end
-    (first-of s Kind.Component p 76 here os at st Name (OfKind MAYBE_ARGUMENTS ∷ []) here [] st refl (omega arith) refl (λ f. refl) refl refl expects stands) is))
+    let p = Production.InternalName in
+    let own = byte-opens (eats s Kind.Component p 76 refl) (hole s Kind.Component (after t true around) os at st expects) stands refl refl in
+    named-by p (next-part p (name-fills name end own is) refl) (λ byte now began later v. refl)
+
+-- the code of an operator
+pub operator-fills : {s : Symbol} {around : Around} {os : List Opened} {at : ℕ} {st : State} (kind : Kind) {first second : ℕ} (is : IsOperator first second)
+    → choose kind first ≡ Some is.production → Hole s (OfKind (number_of_kind kind)) around os at st → StandsAt s.bytes at (first ∷ second ∷ [])
+    → Filled s os (piece (operator first second)) (at + 2) st
+unfolding is_eaten number_of_kind parts_of between opening close unfolding_.behind meaning part byte_of tree_of text_of piece_of letter_of is_there is_chain
+operator-fills {s = s} {around = around} {at = at} {st = st} kind {first = first} {second = second} is chosen h stands =
+    let two = stands-split s.bytes at (first ∷ []) (second ∷ []) stands in
+    let begun = chosen-byte s kind is.production first chosen is.small is.takes.chain is.takes.begins in
+    let rest = byte-opens begun h two.0 is.takes.parts (is.takes.passes around at st) in
+    let marked = chosen-byte s is.kind Production.Mark second is.marked is.small_second refl (λ f here now. refl) in
+    filled-at (at + 2) (closes is.production (byte-fills marked rest two.1 refl refl) (is.takes.closes first second around at st st)) (omega arith)
 
 -- an operator that begins with no c
 other-operator : (s : Symbol) (os : List Opened) (around : Around) (t : Term) (at : ℕ) (st : State) (first second : ℕ) (is : IsOperator first second)
     → choose Kind.OtherOperator first ≡ Some is.production → Expects s Kind.Component (after t true around) os at st → StandsAt s.bytes at (first ∷ second ∷ [])
     → Named s os around (within t (operator first second)) (at + 2) st
-unfolding choose alternatives pick is_in in_ranges among is_chain parts_of number_of_kind between opening close unfolding_.behind meaning named_so_far extended after byte_of piece_of tree_of part
+unfolding is_eaten is_left number_of_kind parts_of between close unfolding_.behind meaning part byte_of tree_of text_of piece_of letter_of is_there named_so_far extended after
 other-operator s os around t at st first second is chosen expects stands =
-    let p : Production = Production.OtherOperatorName in
-    let here : Around = after t true around in
-    let u : Term = within t (operator first second) in
-    let v : Value = piece (operator first second) in
-    let two = stands-split s.bytes at (first ∷ []) (second ∷ []) stands in
-    let os1 : List Opened = opened (standing (rule_of p) [] at here st) [] (OfKind MAYBE_ARGUMENTS ∷ []) ∷ os in
-    let os2 : List Opened = opened (standing (rule_of is.production) (first ∷ []) at here st) [] [] ∷ os1 in
-    named-by s os p [] at here st u (at + 2) st (λ byte now began later w. refl) around
-    (next-of s p [] at here st [] v (OfKind MAYBE_ARGUMENTS) [] os (at + 2) st (after u false around) (tree u false ∷ []) st refl
-    (comes-moved s os1 v (at + 1 + 1) (at + 2) st (omega arith)
-    (last-of s is.production (first ∷ []) at here st [] (letter second) os1 (at + 1 + 1) st v st (is.takes.closes first second here at st st)
-    (letter-comes s is.kind Production.Mark second here os2 (at + 1) st (letter second) st is.marked is.small_second refl (λ f. refl) refl refl
-    (first-of s Kind.OtherOperator is.production first here os1 at st (OfKind (number_of_kind is.kind)) [] here [] st chosen is.small is.takes.chain
-    (λ f. is.takes.begins f at st) is.takes.parts (is.takes.passes here at st)
-    (first-of-chain s Kind.Component p 110 here os at st (OfKind OTHER_OPERATOR) (OfKind MAYBE_ARGUMENTS ∷ []) here [] st refl (omega arith) refl (λ f. refl) refl refl expects)
-    two.0)
-    two.1))))
+    let p = Production.OtherOperatorName in
+    let code = chain-opens (leaves s Kind.Component p 110 refl) (hole s Kind.Component (after t true around) os at st expects) refl refl in
+    named-by p (next-part p (operator-fills Kind.OtherOperator is chosen code stands) refl) (λ byte now began later w. refl)
 
 -- what is named inside is named outside
-named-outside : (s : Symbol) (inner outer : List Opened) (around : Around) (t : Term) (at : ℕ) (st : State)
+pub named-outside : (s : Symbol) (inner outer : List Opened) (around : Around) (t : Term) (at : ℕ) (st : State)
     → SamePasses s inner outer → Named s inner around t at st → Named s outer around t at st
 named-outside s inner outer around t at st passes n = record {
   inner = n.inner;
@@ -257,99 +222,93 @@ named-outside s inner outer around t at st passes n = record {
 
 -- one that begins with a c
 operator-behind-c : (s : Symbol) (os : List Opened) (around : Around) (t : Term) (at : ℕ) (st : State) (second : ℕ)
-    → choose Kind.OperatorAfterC second ≡ Some Production.Mark → second < 256
+    → Taken s Kind.OperatorAfterC Production.Mark (second ∷ [])
     → Expects s Kind.Component (after t true around) os at st → StandsAt s.bytes at (99 ∷ second ∷ [])
     → Named s os around (within t (operator 99 second)) (at + 2) st
-unfolding choose alternatives pick is_in in_ranges among is_chain parts_of number_of_kind between opening close unfolding_.behind meaning named_so_far extended after letter_of tree_of part
-operator-behind-c s os around t at st second marked small expects stands =
-    let p : Production = Production.OperatorNameWithC in
-    let q : Production = Production.ComponentWithC in
-    let here : Around = after t true around in
-    let u : Term = within t (operator 99 second) in
+unfolding is_eaten is_left number_of_kind parts_of between close unfolding_.behind meaning part byte_of tree_of text_of piece_of letter_of is_there named_so_far extended after
+operator-behind-c s os around t at st second marked expects stands =
+    let p = Production.OperatorNameWithC in
+    let q = Production.ComponentWithC in
     let two = stands-split s.bytes at (99 ∷ []) (second ∷ []) stands in
-    let os1 : List Opened = opened (standing (rule_of q) (99 ∷ []) at here st) [] [] ∷ os in
-    let os2 : List Opened = opened (standing (rule_of p) [] (at + 1) here st) [] (OfKind MAYBE_ARGUMENTS ∷ []) ∷ os1 in
-    named-outside s os1 os around u (at + 2) st (last-passes s q (99 ∷ []) at here st [] os (λ v x. refl))
-    (named-by s os1 p [] (at + 1) here st u (at + 2) st (λ byte now began later w. refl) around
-    (next-of s p [] (at + 1) here st [] (letter second) (OfKind MAYBE_ARGUMENTS) [] os1 (at + 2) st (after u false around) (tree u false ∷ []) st refl
-    (comes-moved s os2 (letter second) (at + 1 + 1) (at + 2) st (omega arith)
-    (letter-comes s Kind.OperatorAfterC Production.Mark second here os2 (at + 1) st (letter second) st marked small refl (λ f. refl) refl refl
-    (first-of-chain s Kind.ComponentAfterC p 109 here os1 (at + 1) st (OfKind OPERATOR_AFTER_C) (OfKind MAYBE_ARGUMENTS ∷ []) here [] st refl (omega arith) refl (λ f. refl) refl refl
-    (first-of s Kind.Component q 99 here os at st (OfKind COMPONENT_AFTER_C) [] here [] st refl (omega arith) refl (λ f. refl) refl refl expects two.0))
-    two.1))))
+    let rest = byte-opens (eats s Kind.Component q 99 refl) (hole s Kind.Component (after t true around) os at st expects) two.0 refl refl in
+    let code = byte-fills marked (chain-opens (leaves s Kind.ComponentAfterC p 109 refl) rest refl refl) two.1 refl refl in
+    named-outside s (open_at rest) os around (within t (operator 99 second)) (at + 2) st (λ v to now comes. (closes q (fill rest v to now comes) refl).comes)
+    (named-by p (next-part p (filled-at (at + 2) code (omega arith)) refl) (λ byte now began later w. refl))
 
 -- an operator
 pub component-operator : (s : Symbol) (os : List Opened) (around : Around) (t : Term) (at : ℕ) (st : State) (first second : ℕ)
     → IsOperator first second → Expects s Kind.Component (after t true around) os at st → StandsAt s.bytes at (first ∷ second ∷ [])
     → Named s os around (within t (operator first second)) (at + 2) st
+unfolding is_eaten number_of_kind parts_of between opening close unfolding_.behind meaning part byte_of tree_of text_of piece_of letter_of is_there is_chain
 component-operator s os around t at st first second is expects stands = elim is.component [
   | inl c ↦ subst (λ f. Named s os around (within t (operator f second)) (at + 2) st) (sym c.0)
-      (operator-behind-c s os around t at st second c.1 is.small_second expects (subst (λ f. StandsAt s.bytes at (f ∷ second ∷ [])) c.0 stands))
+      (operator-behind-c s os around t at st second (chosen-byte s Kind.OperatorAfterC Production.Mark second c.1 is.small_second refl (λ f at st. refl)) expects (subst (λ f. StandsAt s.bytes at (f ∷ second ∷ [])) c.0 stands))
   | inr other ↦ other-operator s os around t at st first second is other expects stands
 ]
 
 -- the digit of a constructor
-constructor-digit : (s : Symbol) (os : List Opened) (around : Around) (at : ℕ) (st : State) (digit : ℕ) → IsConstructorDigit s.is_wide digit
-    → Expects s Kind.ConstructorDigit around os at st → StandsAt s.bytes at (digit ∷ []) → Comes s os (letter digit) (at + 1) st
-unfolding choose alternatives wide_choose wide_alternatives pick is_in in_ranges among is_chain parts_of opening close unfolding_.behind meaning
-constructor-digit s os around at st digit (inl (low, high)) expects stands =
-    letter-comes s Kind.ConstructorDigit Production.Mark digit around os at st (letter digit) st
-    (rw (le-leb 49 digit low, le-leb digit 51 high) refl) (omega (arith, high)) refl (λ f. refl) refl refl expects stands
-constructor-digit s os around at st digit (inr (wide, is)) expects stands =
-    let last : (d : ℕ) → (d ≡ 52) ⊎ (d ≡ 53) → ◌≡◌ {A = Option Production} (wide_choose Kind.ConstructorDigit d) (Some Production.Mark) =
-    λ d e. elim e [ inl four ↦ rw four refl | inr five ↦ rw five refl ] in
-    let small : digit < 256 = elim is [ inl four ↦ omega (arith, four) | inr five ↦ omega (arith, five) ] in
-    wide-letter s Kind.ConstructorDigit Production.Mark digit around os at st (letter digit) st wide (last digit is) small refl (λ f. refl) refl refl expects stands
+constructor-taken : (s : Symbol) (digit : ℕ) → IsConstructorDigit s.is_wide digit → Taken s Kind.ConstructorDigit Production.Mark (digit ∷ [])
+unfolding is_eaten is_eaten_widely
+constructor-taken s digit (inl (low, high)) =
+    eats s Kind.ConstructorDigit Production.Mark digit (rw (le-leb 49 digit low, le-leb digit 51 high, lt-ltb digit 256 (omega (arith, high))) refl)
+constructor-taken s digit (inr (wide, is)) =
+    eats-widely s Kind.ConstructorDigit Production.Mark digit wide (elim is [ inl four ↦ rw four refl | inr five ↦ rw five refl ])
 
 -- that of a destructor
-destructor-digit : (s : Symbol) (os : List Opened) (around : Around) (at : ℕ) (st : State) (digit : ℕ) → IsDestructorDigit s.is_wide digit
-    → Expects s Kind.DestructorDigit around os at st → StandsAt s.bytes at (digit ∷ []) → Comes s os (letter digit) (at + 1) st
-unfolding choose alternatives wide_choose wide_alternatives pick is_in in_ranges among is_chain parts_of opening close unfolding_.behind meaning
-destructor-digit s os around at st digit (inl (low, high)) expects stands =
-    letter-comes s Kind.DestructorDigit Production.Mark digit around os at st (letter digit) st
-    (rw (le-leb 48 digit low, le-leb digit 50 high) refl) (omega (arith, high)) refl (λ f. refl) refl refl expects stands
-destructor-digit s os around at st digit (inr (wide, is)) expects stands =
-    let last : (d : ℕ) → (d ≡ 52) ⊎ (d ≡ 53) → ◌≡◌ {A = Option Production} (wide_choose Kind.DestructorDigit d) (Some Production.Mark) =
-    λ d e. elim e [ inl four ↦ rw four refl | inr five ↦ rw five refl ] in
-    let small : digit < 256 = elim is [ inl four ↦ omega (arith, four) | inr five ↦ omega (arith, five) ] in
-    wide-letter s Kind.DestructorDigit Production.Mark digit around os at st (letter digit) st wide (last digit is) small refl (λ f. refl) refl refl expects stands
+destructor-taken : (s : Symbol) (digit : ℕ) → IsDestructorDigit s.is_wide digit → Taken s Kind.DestructorDigit Production.Mark (digit ∷ [])
+unfolding is_eaten is_eaten_widely
+destructor-taken s digit (inl (low, high)) =
+    eats s Kind.DestructorDigit Production.Mark digit (rw (le-leb 48 digit low, le-leb digit 50 high, lt-ltb digit 256 (omega (arith, high))) refl)
+destructor-taken s digit (inr (wide, is)) =
+    eats-widely s Kind.DestructorDigit Production.Mark digit wide (elim is [ inl four ↦ rw four refl | inr five ↦ rw five refl ])
 
 -- a constructor
 pub component-constructor : (s : Symbol) (os : List Opened) (around : Around) (t : Term) (at : ℕ) (st : State) (digit : ℕ)
     → Expects s Kind.Component (after t true around) os at st → StandsAt s.bytes at (67 ∷ digit ∷ []) → IsConstructorDigit s.is_wide digit
     → Named s os around (within t (constructor digit)) (at + 2) st
-unfolding choose alternatives pick is_in in_ranges among is_chain parts_of number_of_kind between opening close unfolding_.behind meaning named_so_far extended after letter_of tree_of part
+unfolding is_eaten is_left number_of_kind parts_of between close unfolding_.behind meaning part byte_of tree_of text_of piece_of letter_of is_there named_so_far extended after
 component-constructor s os around t at st digit expects stands is =
-    let p : Production = Production.Constructor in
-    let q : Production = Production.AnyConstructor in
-    let here : Around = after t true around in
-    let u : Term = within t (constructor digit) in
+    let p = Production.Constructor in
+    let q = Production.AnyConstructor in
     let two = stands-split s.bytes at (67 ∷ []) (digit ∷ []) stands in
-    let os1 : List Opened = opened (standing (rule_of q) (67 ∷ []) at here st) [] [] ∷ os in
-    let os2 : List Opened = opened (standing (rule_of p) [] (at + 1) here st) [] (OfKind MAYBE_ARGUMENTS ∷ []) ∷ os1 in
-    named-outside s os1 os around u (at + 2) st (last-passes s q (67 ∷ []) at here st [] os (λ v x. refl))
-    (named-by s os1 p [] (at + 1) here st u (at + 2) st (λ byte now began later v. refl) around
-    (next-of s p [] (at + 1) here st [] (letter digit) (OfKind MAYBE_ARGUMENTS) [] os1 (at + 2) st (after u false around) (tree u false ∷ []) st refl
-    (comes-moved s os2 (letter digit) (at + 1 + 1) (at + 2) st (omega arith)
-    (constructor-digit s os2 here (at + 1) st digit is
-    (first-of-chain s Kind.ConstructorAfterC p 49 here os1 (at + 1) st (OfKind CONSTRUCTOR_DIGIT) (OfKind MAYBE_ARGUMENTS ∷ []) here [] st refl (omega arith) refl (λ f. refl) refl refl
-    (first-of s Kind.Component q 67 here os at st (OfKind CONSTRUCTOR_AFTER_C) [] here [] st refl (omega arith) refl (λ f. refl) refl refl expects two.0))
-    two.1))))
+    let rest = byte-opens (eats s Kind.Component q 67 refl) (hole s Kind.Component (after t true around) os at st expects) two.0 refl refl in
+    let code = byte-fills (constructor-taken s digit is) (chain-opens (leaves s Kind.ConstructorAfterC p 49 refl) rest refl refl) two.1 refl refl in
+    named-outside s (open_at rest) os around (within t (constructor digit)) (at + 2) st (λ v to now comes. (closes q (fill rest v to now comes) refl).comes)
+    (named-by p (next-part p (filled-at (at + 2) code (omega arith)) refl) (λ byte now began later v. refl))
 
 -- a destructor
 pub component-destructor : (s : Symbol) (os : List Opened) (around : Around) (t : Term) (at : ℕ) (st : State) (digit : ℕ)
     → Expects s Kind.Component (after t true around) os at st → StandsAt s.bytes at (68 ∷ digit ∷ []) → IsDestructorDigit s.is_wide digit
     → Named s os around (within t (destructor digit)) (at + 2) st
-unfolding choose alternatives pick is_in in_ranges among is_chain parts_of number_of_kind between opening close unfolding_.behind meaning named_so_far extended after letter_of tree_of part
+unfolding is_eaten number_of_kind parts_of between close unfolding_.behind meaning part byte_of tree_of text_of piece_of letter_of is_there named_so_far extended after
 component-destructor s os around t at st digit expects stands is =
-    let p : Production = Production.Destructor in
-    let here : Around = after t true around in
-    let u : Term = within t (destructor digit) in
+    let p = Production.Destructor in
     let two = stands-split s.bytes at (68 ∷ []) (digit ∷ []) stands in
-    let os1 : List Opened = opened (standing (rule_of p) (68 ∷ []) at here st) [] (OfKind MAYBE_ARGUMENTS ∷ []) ∷ os in
-    named-by s os p (68 ∷ []) at here st u (at + 2) st (λ byte now began later v. refl) around
-    (next-of s p (68 ∷ []) at here st [] (letter digit) (OfKind MAYBE_ARGUMENTS) [] os (at + 2) st (after u false around) (tree u false ∷ []) st refl
-    (comes-moved s os1 (letter digit) (at + 1 + 1) (at + 2) st (omega arith)
-    (destructor-digit s os1 here (at + 1) st digit is
-    (first-of s Kind.Component p 68 here os at st (OfKind DESTRUCTOR_DIGIT) (OfKind MAYBE_ARGUMENTS ∷ []) here [] st refl (omega arith) refl (λ f. refl) refl refl expects two.0)
-    two.1)))
+    let code = byte-opens (eats s Kind.Component p 68 refl) (hole s Kind.Component (after t true around) os at st expects) two.0 refl refl in
+    named-by p (next-part p (filled-at (at + 2) (byte-fills (destructor-taken s digit is) code two.1 refl refl) (omega arith)) refl)
+    (λ byte now began later v. refl)
+
+-- ## Tags
+
+-- A name with a tag was read, where one without was expected.
+pub record Tagged (s : Symbol) (outer : List Opened) (around : Around) (t : Term) (at : ℕ) (st : State) : Type 0 where
+  pub inner : List Opened
+  pub awaits : Expects s Kind.MaybeArguments (after t false around) inner at st
+  pub bare : (at : ℕ) (st : State) → Comes s inner nothing_there at st → Comes s outer (bare_name t) at st
+  pub argued : (a : Term) (at : ℕ) (st : State) → Comes s inner (tree a true) at st → Comes s outer (bare_name (instance t a)) at st
+  pub renamed : (u : Term) (at : ℕ) (st : State) → Comes s inner (bare_name u) at st → Comes s outer (bare_name u) at st
+
+pub tag-follows : (s : Symbol) (os : List Opened) (around : Around) (t : Term) (at : ℕ) (st : State) (tag : List ℕ) (end : ℕ) → s.is_wide ≡ true
+    → Expects s Kind.MaybeArguments (after t false around) os at st → IsTagAt s.bytes at tag end → Tagged s os around (with_tag t tag) end st
+unfolding is_eaten is_eaten_widely number_of_kind parts_of between close unfolding_.behind meaning part byte_of tree_of text_of piece_of letter_of is_there after named_so_far with_tag prefix_tree applied
+tag-follows s os around t at st tag end wide expects (stands, is) =
+    let p = Production.Tag in
+    let own = byte-opens (eats-widely s Kind.MaybeArguments p 66 wide refl) (hole s Kind.MaybeArguments (after t false around) os at st expects) stands refl refl in
+    let rest = next-part p (name-fills tag end own is) refl in
+    record {
+      inner = open_at rest;
+      awaits = rest.expects;
+      bare = λ to later comes. (closes p (fill rest nothing_there to later comes) refl).comes;
+      argued = λ a to later comes. (closes p (fill rest (tree a true) to later comes) refl).comes;
+      renamed = λ v to later comes. (closes p (fill rest (bare_name v) to later comes) refl).comes;
+    }

@@ -1,34 +1,40 @@
--- Moves within types: a byte or a name is read, and a type opens, or one comes.
+-- Moves within types, arrays and function types: a byte or a name is read, and a type opens, or one comes.
 use Rattle.std.proofs.lemmas.Bool.{eqb-false}
-use Rattle.std.proofs.Common.{◌≡◌, ℕ, ◌+◌, ◌-◌, ◌<◌, List, [], ◌∷◌, slice_get, Bool, true, false, ◌&&◌, ◌||◌, not, nat_eq, Option, Some, None, Result, Ok, Err, refl, ap, subst, ◌∙◌, arith}
+use Rattle.std.proofs.Common.{◌≡◌, ℕ, ◌+◌, ◌-◌, List, [], ◌∷◌, slice_get, Bool, true, false, ◌&&◌, ◌||◌, not, nat_eq, Option, Some, None, Result, Ok, Err, refl, ap, subst, ◌∙◌, arith, length, sym}
 use Rattle.sym_core.specs.declared.refusal.Refusal.{Refusal}
 use Rattle.sym_core.specs.declared.refusal.Refusal.TheVariants.{BadReference}
-use Rattle.sym_core.specs.declared.NumberKind.TheVariants.{Seq36}
+use Rattle.sym_core.specs.declared.NumberKind.TheVariants.{Seq36, Decimal}
 use Rattle.sym_core.specs.Value.{counted_value}
-use Rattle.sym_shape.specs.declared.rule.Sym.TheVariants.{Kind as OfKind, Name, Number}
+use Rattle.sym_shape.specs.declared.rule.Sym.TheVariants.{Kind as OfKind, Number}
 use Rattle.sym_link.specs.Reading.{Found, ◌>>=◌}
-use Rattle.sym_link.specs.Unfold.{found, standing}
+use Rattle.sym_link.specs.Unfold.{found, standing, unfold_forest}
 use Rattle.cpp_grammar.specs.declared.kind.Kind.{Kind}
 use Rattle.cpp_grammar.specs.declared.production.Production.{Production}
-use Rattle.cpp_grammar.specs.KindNumbers.{NEST, ABBREVIATION, TYPE, PLAIN, ITEM_AFTER_D, AFTER_D, SOLID, TYPE_AFTER_S, TYPE_IN_STD, SOURCE_OR_LOCAL, MAYBE_TAGS, MAYBE_ARGUMENTS, ARGUMENTS_ALONE}
-use Rattle.cpp_grammar.specs.Grammar.{in_ranges, among, is_in, pick, number_of_kind, alternatives, choose, parts_of, is_chain, may_be_empty, number_of}
-use Rattle.cpp_grammar.specs.Table.{rule_of}
-use Rattle.cpp_grammar.specs.Term.{Term, alone, in_std, abbreviation, source, builtin, pointer, lvalue, rvalue, instance}
+use Rattle.cpp_grammar.specs.Grammar.{number_of_kind, may_be_empty, parts_of}
+use Rattle.cpp_grammar.specs.Term.{Term, alone, in_std, abbreviation, source, builtin, pointer, lvalue, rvalue, instance, array, any_value, list, nil}
 use Rattle.cpp_grammar.specs.Scope.{is_open, pack_length}
-use Rattle.cpp_grammar.specs.Values.{Candidate, State, outermost, Around, Value, nothing_there, text, tree, piece, tree_of, piece_of, is_listed, is_there, text_of, part}
+use Rattle.cpp_grammar.specs.Values.{Candidate, State, outermost, Around, Value, nothing_there, text, tree, tree_of, text_of, is_listed, part, is_there, letter_of, piece_of, ref_of, signature}
 use Rattle.cpp_grammar.specs.References.{appended, is_function_type, with_type, with_unqualified, with_packs, packs_in, substituted}
-use Rattle.cpp_grammar.specs.Between.{between, after, extended, applied, named_so_far}
-use Rattle.cpp_grammar.specs.Meaning.{meaning, listed_value, reference_to}
-use Rattle.cpp_grammar.specs.Unfolding as unfolding_
-use Rattle.cpp_grammar.specs.Unfolding.{opening, close, byte_of}
-use Rattle.cpp_direct.specs.Symbol.{Symbol}
+use Rattle.cpp_grammar.specs.Between.{after, applied, named_so_far, between, extended, Going}
+use Rattle.cpp_grammar.specs.Meaning.{meaning, listed_value, reference_to, with_item, signature_or}
+use Rattle.cpp_grammar.specs.Unfolding.{close, byte_of}
+use Rattle.cpp_direct.specs.Symbol.{Symbol, table_by}
 use Rattle.cpp_direct.specs.Bytes.{is_builtin, is_builtin_with_d, is_abbreviated}
 use Rattle.cpp_direct.specs.Letters.{builtin_letters, builtin_letters_with_d, abbreviation_letters}
-use Rattle.cpp_direct.proofs.Alone.{alone-arguments}
-use Rattle.cpp_direct.proofs.LettersTested.{each_passes, tested, is_small, small, takes, taken}
-use Rattle.cpp_direct.specs.Holes.{Opened, opened, StandsAt, Comes, Expects, IsNameAt, IsSeqAt, IsReferable, IsTyped, TypeNamed, with_candidate, unless_listed}
+use Rattle.cpp_direct.proofs.Moves.{alone-arguments, stands-split, Hole, Filled, hole, open_at, fill, filled-at, eats, leaves, is_eaten, is_left, byte-opens, chain-opens, byte-fills, next-part, closes, none-fills, name-fills, seq-fills, first-named, number-fills, came}
+use Rattle.cpp_direct.proofs.LettersTested.{each_passes, tested}
+use Rattle.cpp_direct.specs.Holes.{Opened, StandsAt, Comes, Expects, IsNameAt, IsSeqAt, IsReferable, IsTyped, TypeNamed, unless_listed, with_candidate, opened, ReadsRest}
 use Rattle.cpp_direct.specs.HolesOfTypes.{as_const, IsQualifiable, TypeOpens, TreePasses, TreeOpens, NameOpens, IsNamedKind}
-use Rattle.cpp_direct.proofs.Moves.{stands-split, expects-empty, expects-name, expects-seq, first-of, first-of-chain, next-of, last-of, letter-comes}
+use Rattle.cpp_direct.specs.declared.open.Access.{Access}
+use Rattle.cpp_direct.specs.HolesOfArrays.{IsSizeAt, ArrayOpened, access_letters}
+use Rattle.sym_shape.specs.declared.rule.Sym.{Sym}
+use Rattle.sym_shape.specs.Tree.{Forest, nothing, grown, AreTrees}
+use Rattle.cpp_grammar.specs.Table.{rule_of}
+use Rattle.cpp_grammar.proofs.ClosedTrees.{at_number}
+use Rattle.cpp_direct.specs.HolesOfFunctions.{plain_function, SignatureGoesOn, FunctionOpened, ParameterOpened, ReferenceOpened, reference, reference_letter}
+use Rattle.cpp_grammar.specs.Unfolding as unfolding_
+use Rattle.cpp_grammar.specs.Values as values
+use Rattle.cpp_direct.specs.declared.open.Access.TheVariants as accesses
 
 -- ## Solid types
 
@@ -46,39 +52,21 @@ unfolding close unfolding_.behind meaning listed_value with_type with_unqualifie
 qualified-closes around at before t true st other = rw other refl
 qualified-closes around at before t false st other = rw other refl
 
--- a solid type is expected where a type is
-pub solid-opens : (s : Symbol) (kind : Kind) (around : Around) (os : List Opened) (at : ℕ) (st : State) → IsTyped kind
-    → Expects s kind around os at st → TreeOpens s Kind.Solid os around at st
-unfolding choose alternatives pick is_in in_ranges among is_chain parts_of number_of_kind between opening byte_of
-solid-opens s Kind.Type around os at st typed expects = record {
-  inner = opened (standing (rule_of Production.PlainType) [] at around st) [] [] ∷ os;
-  awaits = first-of-chain s Kind.Type Production.PlainType 80 around os at st (OfKind SOLID) [] around [] st refl (omega arith) refl (λ f. refl) refl
-      refl expects;
-  passes = λ t listed end now other comes. last-of s Production.PlainType [] at around st [] (tree t listed) os end now (tree t true)
-      (unless_listed listed around t now) (plain-closes around at st t listed now) comes;
-}
-solid-opens s Kind.Item around os at st typed expects = record {
-  inner = opened (standing (rule_of Production.PlainType) [] at around st) [] [] ∷ os;
-  awaits = first-of-chain s Kind.Item Production.PlainType 80 around os at st (OfKind SOLID) [] around [] st refl (omega arith) refl (λ f. refl) refl
-      refl expects;
-  passes = λ t listed end now other comes. last-of s Production.PlainType [] at around st [] (tree t listed) os end now (tree t true)
-      (unless_listed listed around t now) (plain-closes around at st t listed now) comes;
-}
-solid-opens s Kind.ItemButRef around os at st typed expects = record {
-  inner = opened (standing (rule_of Production.PlainType) [] at around st) [] [] ∷ os;
-  awaits = first-of-chain s Kind.ItemButRef Production.PlainType 80 around os at st (OfKind SOLID) [] around [] st refl (omega arith) refl (λ f. refl) refl
-      refl expects;
-  passes = λ t listed end now other comes. last-of s Production.PlainType [] at around st [] (tree t listed) os end now (tree t true)
-      (unless_listed listed around t now) (plain-closes around at st t listed now) comes;
-}
-solid-opens s Kind.Plain around os at st typed expects = record {
-  inner = opened (standing (rule_of Production.QualifiedPlain) [] at around st) [] [] ∷ os;
-  awaits = first-of-chain s Kind.Plain Production.QualifiedPlain 80 around os at st (OfKind SOLID) [] around [] st refl (omega arith) refl (λ f. refl)
-      refl refl expects;
-  passes = λ t listed end now other comes. last-of s Production.QualifiedPlain [] at around st [] (tree t listed) os end now (tree t true)
-      (unless_listed listed around t now) (qualified-closes around at st t listed now other) comes;
-}
-solid-opens s _ around os at st typed expects = absurd typed
+-- what a type may be by its kind is chosen there
+whole-taken : (kind : Kind) → IsQualifiable kind
+    → (is_left kind Production.PlainType 80 ≡ true) × (is_eaten kind Production.ConstType 75 ≡ true)
+unfolding is_eaten is_left
+whole-taken Kind.Type whole = (refl, refl)
+whole-taken Kind.Item whole = (refl, refl)
+whole-taken Kind.ItemButRef whole = (refl, refl)
+whole-taken _ whole = absurd whole
+
+-- such a type is one of any kind
+pub typed : (k : Kind) → IsQualifiable k → IsTyped k
+typed Kind.Type is = tt
+typed Kind.Item is = tt
+typed Kind.ItemButRef is = tt
+typed _ is = absurd is
 
 -- A solid type is expected where a whole one is, be it a function type or not.
 pub record WholeOpens (s : Symbol) (outer : List Opened) (around : Around) (at : ℕ) (st : State) : Type 0 where
@@ -89,201 +77,164 @@ pub record WholeOpens (s : Symbol) (outer : List Opened) (around : Around) (at :
 
 pub whole-opens : (s : Symbol) (kind : Kind) (around : Around) (os : List Opened) (at : ℕ) (st : State) → IsQualifiable kind
     → Expects s kind around os at st → WholeOpens s os around at st
-unfolding choose alternatives pick is_in in_ranges among is_chain parts_of number_of_kind between opening byte_of
-whole-opens s Kind.Type around os at st whole expects = record {
-  inner = opened (standing (rule_of Production.PlainType) [] at around st) [] [] ∷ os;
-  awaits = first-of-chain s Kind.Type Production.PlainType 80 around os at st (OfKind SOLID) [] around [] st refl (omega arith) refl (λ f. refl) refl
-      refl expects;
-  passes = λ t listed end now comes. last-of s Production.PlainType [] at around st [] (tree t listed) os end now (tree t true)
-      (unless_listed listed around t now) (plain-closes around at st t listed now) comes;
-}
-whole-opens s Kind.Item around os at st whole expects = record {
-  inner = opened (standing (rule_of Production.PlainType) [] at around st) [] [] ∷ os;
-  awaits = first-of-chain s Kind.Item Production.PlainType 80 around os at st (OfKind SOLID) [] around [] st refl (omega arith) refl (λ f. refl) refl
-      refl expects;
-  passes = λ t listed end now comes. last-of s Production.PlainType [] at around st [] (tree t listed) os end now (tree t true)
-      (unless_listed listed around t now) (plain-closes around at st t listed now) comes;
-}
-whole-opens s Kind.ItemButRef around os at st whole expects = record {
-  inner = opened (standing (rule_of Production.PlainType) [] at around st) [] [] ∷ os;
-  awaits = first-of-chain s Kind.ItemButRef Production.PlainType 80 around os at st (OfKind SOLID) [] around [] st refl (omega arith) refl (λ f. refl)
-      refl refl expects;
-  passes = λ t listed end now comes. last-of s Production.PlainType [] at around st [] (tree t listed) os end now (tree t true)
-      (unless_listed listed around t now) (plain-closes around at st t listed now) comes;
-}
-whole-opens s _ around os at st whole expects = absurd whole
+unfolding is_eaten is_left number_of_kind parts_of between close unfolding_.behind meaning part byte_of tree_of text_of piece_of letter_of is_there
+whole-opens s kind around os at st whole expects =
+    let p = Production.PlainType in
+    let solid = chain-opens (leaves s kind p 80 (whole-taken kind whole).0) (hole s kind around os at st expects) refl refl in
+    record {
+      inner = open_at solid;
+      awaits = solid.expects;
+      passes = λ t listed end now comes. (closes p (fill solid (tree t listed) end now comes) (plain-closes around at st t listed now)).comes;
+    }
+
+any-tree : {s : Symbol} {os : List Opened} {around : Around} {at : ℕ} {st : State} → WholeOpens s os around at st → TreeOpens s Kind.Solid os around at st
+any-tree w = record { inner = w.inner; awaits = w.awaits; passes = λ t listed end now other comes. w.passes t listed end now comes }
+
+-- a solid type is expected where a type is
+pub solid-opens : (s : Symbol) (kind : Kind) (around : Around) (os : List Opened) (at : ℕ) (st : State) → IsTyped kind
+    → Expects s kind around os at st → TreeOpens s Kind.Solid os around at st
+unfolding is_eaten is_left number_of_kind parts_of between close unfolding_.behind meaning part byte_of tree_of text_of piece_of letter_of is_there
+solid-opens s Kind.Plain around os at st typed expects =
+    let p = Production.QualifiedPlain in
+    let solid = chain-opens (leaves s Kind.Plain p 80 refl) (hole s Kind.Plain around os at st expects) refl refl in
+    record {
+      inner = open_at solid;
+      awaits = solid.expects;
+      passes = λ t listed end now other comes.
+          (closes p (fill solid (tree t listed) end now comes) (qualified-closes around at st t listed now other)).comes;
+    }
+solid-opens s Kind.Type around os at st typed expects = any-tree (whole-opens s Kind.Type around os at st tt expects)
+solid-opens s Kind.Item around os at st typed expects = any-tree (whole-opens s Kind.Item around os at st tt expects)
+solid-opens s Kind.ItemButRef around os at st typed expects = any-tree (whole-opens s Kind.ItemButRef around os at st tt expects)
+solid-opens s _ around os at st typed expects = absurd typed
 
 -- ## Builtin types
 
-builtin-taken : (byte : ℕ) → is_builtin byte ≡ true → choose Kind.Solid byte ≡ Some Production.Builtin
-unfolding choose alternatives pick is_in in_ranges among is_builtin each_passes takes number_of
-builtin-taken byte is =
-    taken Production.Builtin (choose Kind.Solid byte) (tested builtin_letters (λ b. takes Production.Builtin (choose Kind.Solid b)) refl byte is)
-
-builtin-small : (byte : ℕ) → is_builtin byte ≡ true → byte < 256
-unfolding among is_builtin each_passes is_small
-builtin-small byte is = small byte (tested builtin_letters is_small refl byte is)
+builtin-eaten : (byte : ℕ) → is_builtin byte ≡ true → is_eaten Kind.Solid Production.Builtin byte ≡ true
+unfolding is_eaten is_builtin each_passes
+builtin-eaten byte is = tested builtin_letters (λ b. is_eaten Kind.Solid Production.Builtin b) refl byte is
 
 -- a builtin type comes, which is no candidate
 pub builtin-comes : (s : Symbol) (kind : Kind) (around : Around) (os : List Opened) (at : ℕ) (st : State) (b : ℕ) → IsTyped kind
     → is_builtin b ≡ true → Expects s kind around os at st → StandsAt s.bytes at (b ∷ []) → Comes s os (tree (builtin (b ∷ [])) true) (at + 1) st
-unfolding is_chain parts_of opening close unfolding_.behind meaning byte_of is_function_type
+unfolding is_eaten number_of_kind parts_of between close unfolding_.behind meaning part byte_of tree_of text_of piece_of letter_of is_there is_function_type
 builtin-comes s kind around os at st b typed is expects stands =
     let solid = solid-opens s kind around os at st typed expects in
     solid.passes (builtin (b ∷ [])) true (at + 1) st refl
-    (letter-comes s Kind.Solid Production.Builtin b around solid.inner at st (tree (builtin (b ∷ [])) true) st (builtin-taken b is)
-    (builtin-small b is) refl (λ f. refl) refl refl solid.awaits stands)
+    (byte-fills (eats s Kind.Solid Production.Builtin b (builtin-eaten b is)) (hole s Kind.Solid around solid.inner at st solid.awaits) stands refl refl).comes
 
 builtin-with-d-taken : (byte : ℕ) → is_builtin_with_d byte ≡ true
-    → (choose Kind.AfterD byte ≡ Some Production.BuiltinWithD) × (choose Kind.ItemAfterD byte ≡ Some Production.ItemIsType)
-unfolding choose alternatives pick is_in in_ranges among is_builtin_with_d each_passes takes number_of
+    → (is_eaten Kind.AfterD Production.BuiltinWithD byte ≡ true) × (is_left Kind.ItemAfterD Production.ItemIsType byte ≡ true)
+unfolding is_eaten is_left is_builtin_with_d each_passes
 builtin-with-d-taken byte is = (
-  taken Production.BuiltinWithD (choose Kind.AfterD byte)
-      (tested builtin_letters_with_d (λ b. takes Production.BuiltinWithD (choose Kind.AfterD b)) refl byte is),
-  taken Production.ItemIsType (choose Kind.ItemAfterD byte)
-      (tested builtin_letters_with_d (λ b. takes Production.ItemIsType (choose Kind.ItemAfterD b)) refl byte is),
+  tested builtin_letters_with_d (λ b. is_eaten Kind.AfterD Production.BuiltinWithD b) refl byte is,
+  tested builtin_letters_with_d (λ b. is_left Kind.ItemAfterD Production.ItemIsType b) refl byte is,
 )
 
-builtin-with-d-small : (byte : ℕ) → is_builtin_with_d byte ≡ true → byte < 256
-unfolding among is_builtin_with_d each_passes is_small
-builtin-with-d-small byte is = small byte (tested builtin_letters_with_d is_small refl byte is)
+-- one with a code of two letters comes after its D
+after-d-comes : {s : Symbol} {around : Around} {os : List Opened} {at : ℕ} {st : State} (b : ℕ) → is_builtin_with_d b ≡ true
+    → Hole s (OfKind (number_of_kind Kind.AfterD)) around os at st → StandsAt s.bytes at (b ∷ [])
+    → Filled s os (tree (builtin (68 ∷ b ∷ [])) true) (at + 1) st
+unfolding is_eaten number_of_kind parts_of between close unfolding_.behind meaning part byte_of tree_of text_of piece_of letter_of is_there
+after-d-comes {s = s} b is h stands = byte-fills (eats s Kind.AfterD Production.BuiltinWithD b (builtin-with-d-taken b is).0) h stands refl refl
+
+-- and where an item is expected
+item-after-d-comes : {s : Symbol} {around : Around} {os : List Opened} {at : ℕ} {st : State} (b : ℕ) → is_builtin_with_d b ≡ true
+    → Hole s (OfKind (number_of_kind Kind.ItemAfterD)) around os at st → StandsAt s.bytes at (b ∷ [])
+    → Filled s os (tree (builtin (68 ∷ b ∷ [])) true) (at + 1) st
+unfolding is_eaten is_left number_of_kind parts_of between close unfolding_.behind meaning part byte_of tree_of text_of piece_of letter_of is_there
+item-after-d-comes {s = s} b is h stands =
+    let p = Production.ItemIsType in
+    closes p (after-d-comes b is (chain-opens (leaves s Kind.ItemAfterD p b (builtin-with-d-taken b is).1) h refl refl) stands) refl
 
 -- and so does one with a code of two letters
 pub builtin-with-d-comes : (s : Symbol) (kind : Kind) (around : Around) (os : List Opened) (at : ℕ) (st : State) (b : ℕ) → IsTyped kind
     → is_builtin_with_d b ≡ true → Expects s kind around os at st → StandsAt s.bytes at (68 ∷ b ∷ [])
     → Comes s os (tree (builtin (68 ∷ b ∷ [])) true) (at + 2) st
-unfolding choose alternatives pick is_in in_ranges among is_chain parts_of number_of_kind between opening close unfolding_.behind meaning listed_value with_type with_unqualified byte_of tree_of is_listed part is_function_type
-builtin-with-d-comes s Kind.Type around os at st b typed is expects stands =
-    let p = Production.TypeWithD in
-    let both = stands-split s.bytes at (68 ∷ []) (b ∷ []) stands in
-    let v = tree (builtin (68 ∷ b ∷ [])) true in
-    subst (λ k. Comes s os v k st) (omega arith)
-    (last-of s p (68 ∷ []) at around st [] v os (at + 1 + 1) st v st refl
-    (letter-comes s Kind.AfterD Production.BuiltinWithD b around (opened (standing (rule_of p) (68 ∷ []) at around st) [] [] ∷ os) (at + 1) st v st
-    (builtin-with-d-taken b is).0 (builtin-with-d-small b is) refl (λ f. refl) refl refl
-    (first-of s Kind.Type p 68 around os at st (OfKind AFTER_D) [] around [] st refl (omega arith) refl (λ f. refl) refl refl expects both.0) both.1))
-builtin-with-d-comes s Kind.Plain around os at st b typed is expects stands =
-    let p = Production.PlainWithD in
-    let both = stands-split s.bytes at (68 ∷ []) (b ∷ []) stands in
-    let v = tree (builtin (68 ∷ b ∷ [])) true in
-    subst (λ k. Comes s os v k st) (omega arith)
-    (last-of s p (68 ∷ []) at around st [] v os (at + 1 + 1) st v st refl
-    (letter-comes s Kind.AfterD Production.BuiltinWithD b around (opened (standing (rule_of p) (68 ∷ []) at around st) [] [] ∷ os) (at + 1) st v st
-    (builtin-with-d-taken b is).0 (builtin-with-d-small b is) refl (λ f. refl) refl refl
-    (first-of s Kind.Plain p 68 around os at st (OfKind AFTER_D) [] around [] st refl (omega arith) refl (λ f. refl) refl refl expects both.0) both.1))
-builtin-with-d-comes s Kind.Item around os at st b typed is expects stands =
-    let p = Production.ItemWithD in
-    let both = stands-split s.bytes at (68 ∷ []) (b ∷ []) stands in
-    let v = tree (builtin (68 ∷ b ∷ [])) true in
-    let outer = opened (standing (rule_of p) (68 ∷ []) at around st) [] [] ∷ os in
-    let q = Production.ItemIsType in
-    subst (λ k. Comes s os v k st) (omega arith)
-    (last-of s p (68 ∷ []) at around st [] v os (at + 1 + 1) st v st refl
-    (last-of s q [] (at + 1) around st [] v outer (at + 1 + 1) st v st refl
-    (letter-comes s Kind.AfterD Production.BuiltinWithD b around (opened (standing (rule_of q) [] (at + 1) around st) [] [] ∷ outer) (at + 1) st v st
-    (builtin-with-d-taken b is).0 (builtin-with-d-small b is) refl (λ f. refl) refl refl
-    (first-of-chain s Kind.ItemAfterD q b around outer (at + 1) st (OfKind AFTER_D) [] around [] st (builtin-with-d-taken b is).1 (builtin-with-d-small b is)
-    refl (λ f. refl) refl refl
-    (first-of s Kind.Item p 68 around os at st (OfKind ITEM_AFTER_D) [] around [] st refl (omega arith) refl (λ f. refl) refl refl expects both.0)) both.1)))
-builtin-with-d-comes s Kind.ItemButRef around os at st b typed is expects stands =
-    let p = Production.ItemWithD in
-    let both = stands-split s.bytes at (68 ∷ []) (b ∷ []) stands in
-    let v = tree (builtin (68 ∷ b ∷ [])) true in
-    let outer = opened (standing (rule_of p) (68 ∷ []) at around st) [] [] ∷ os in
-    let q = Production.ItemIsType in
-    subst (λ k. Comes s os v k st) (omega arith)
-    (last-of s p (68 ∷ []) at around st [] v os (at + 1 + 1) st v st refl
-    (last-of s q [] (at + 1) around st [] v outer (at + 1 + 1) st v st refl
-    (letter-comes s Kind.AfterD Production.BuiltinWithD b around (opened (standing (rule_of q) [] (at + 1) around st) [] [] ∷ outer) (at + 1) st v st
-    (builtin-with-d-taken b is).0 (builtin-with-d-small b is) refl (λ f. refl) refl refl
-    (first-of-chain s Kind.ItemAfterD q b around outer (at + 1) st (OfKind AFTER_D) [] around [] st (builtin-with-d-taken b is).1 (builtin-with-d-small b is)
-    refl (λ f. refl) refl refl
-    (first-of s Kind.ItemButRef p 68 around os at st (OfKind ITEM_AFTER_D) [] around [] st refl (omega arith) refl (λ f. refl) refl refl expects both.0)) both.1)))
-builtin-with-d-comes s _ around os at st b typed is expects stands = absurd typed
+unfolding is_eaten number_of_kind parts_of between close unfolding_.behind meaning part byte_of tree_of text_of piece_of letter_of is_there listed_value with_type with_unqualified is_listed is_function_type
+builtin-with-d-comes s kind around os at st b typed is expects stands = go kind typed (hole s kind around os at st expects)
+  where
+    both : StandsAt s.bytes at (68 ∷ []) × StandsAt s.bytes (at + 1) (b ∷ [])
+    both = stands-split s.bytes at (68 ∷ []) (b ∷ []) stands
+
+    go : (k : Kind) → IsTyped k → Hole s (OfKind (number_of_kind k)) around os at st → Comes s os (tree (builtin (68 ∷ b ∷ [])) true) (at + 2) st
+    go Kind.Type is_typed h =
+        let p = Production.TypeWithD in
+        (filled-at (at + 2) (closes p (after-d-comes b is (byte-opens (eats s Kind.Type p 68 refl) h both.0 refl refl) both.1) refl) (omega arith)).comes
+    go Kind.Plain is_typed h =
+        let p = Production.PlainWithD in
+        (filled-at (at + 2) (closes p (after-d-comes b is (byte-opens (eats s Kind.Plain p 68 refl) h both.0 refl refl) both.1) refl) (omega arith)).comes
+    go Kind.Item is_typed h =
+        let p = Production.ItemWithD in
+        (filled-at (at + 2) (closes p (item-after-d-comes b is (byte-opens (eats s Kind.Item p 68 refl) h both.0 refl refl) both.1) refl) (omega arith)).comes
+    go Kind.ItemButRef is_typed h =
+        let p = Production.ItemWithD in
+        (filled-at (at + 2) (closes p (item-after-d-comes b is (byte-opens (eats s Kind.ItemButRef p 68 refl) h both.0 refl refl) both.1) refl) (omega arith)).comes
+    go _ is_typed h = absurd is_typed
 
 -- ## Types of types
 
 -- a type is expected after a P
 pub pointer-opens : (s : Symbol) (kind : Kind) (around : Around) (os : List Opened) (at : ℕ) (st : State) → IsTyped kind
     → Expects s kind around os at st → StandsAt s.bytes at (80 ∷ []) → TypeOpens s Kind.Type os around pointer (at + 1) st
-unfolding choose alternatives pick is_in in_ranges among is_chain parts_of number_of_kind between opening close unfolding_.behind meaning byte_of tree_of part is_function_type
+unfolding is_eaten number_of_kind parts_of between close unfolding_.behind meaning part byte_of tree_of text_of piece_of letter_of is_there is_function_type
 pointer-opens s kind around os at st typed expects stands =
+    let p = Production.Pointer in
     let solid = solid-opens s kind around os at st typed expects in
+    let type = byte-opens (eats s Kind.Solid p 80 refl) (hole s Kind.Solid around solid.inner at st solid.awaits) stands refl refl in
     record {
-      inner = opened (standing (rule_of Production.Pointer) (80 ∷ []) at around st) [] [] ∷ solid.inner;
-      awaits = first-of s Kind.Solid Production.Pointer 80 around solid.inner at st (OfKind TYPE) [] around [] st refl (omega arith) refl (λ f. refl)
-          refl refl solid.awaits stands;
-      passes = λ t end now comes. solid.passes (pointer t) false end now refl
-          (last-of s Production.Pointer (80 ∷ []) at around st [] (tree t true) solid.inner end now (tree (pointer t) false) now refl comes);
+      inner = open_at type;
+      awaits = type.expects;
+      passes = λ t end now comes. solid.passes (pointer t) false end now refl (closes p (fill type (tree t true) end now comes) refl).comes;
     }
 
-reference-opens : (s : Symbol) (kind : Kind) (around : Around) (os : List Opened) (at : ℕ) (st : State) (byte : ℕ) (made : Term → Term)
-    → IsReferable kind → ((k : Kind) → IsReferable k → choose k byte ≡ Some Production.ReferenceType) → byte < 256
-    → ((t : Term) → reference_to byte (tree t true) ≡ tree (made t) false)
+referring-opens : (s : Symbol) (kind : Kind) (around : Around) (os : List Opened) (at : ℕ) (st : State) (byte : ℕ) (made : Term → Term)
+    → is_eaten kind Production.ReferenceType byte ≡ true → ((t : Term) → reference_to byte (tree t true) ≡ tree (made t) false)
     → Expects s kind around os at st → StandsAt s.bytes at (byte ∷ []) → TypeOpens s Kind.Type os around made (at + 1) st
-unfolding is_chain parts_of number_of_kind between opening close unfolding_.behind meaning listed_value byte_of tree_of part appended
-reference-opens s kind around os at st byte made typed chosen small makes expects stands = record {
-  inner = opened (standing (rule_of Production.ReferenceType) (byte ∷ []) at around st) [] [] ∷ os;
-  awaits = first-of s kind Production.ReferenceType byte around os at st (OfKind TYPE) [] around [] st (chosen kind typed) small refl (λ f. refl)
-      refl refl expects stands;
-  passes = λ t end now comes. last-of s Production.ReferenceType (byte ∷ []) at around st [] (tree t true) os end now (tree (made t) true)
-      (with_candidate around (made t) now) (rw (makes t) refl) comes;
-}
+unfolding is_eaten number_of_kind parts_of between close unfolding_.behind meaning part byte_of tree_of text_of piece_of letter_of is_there listed_value appended
+referring-opens s kind around os at st byte made taken makes expects stands =
+    let p = Production.ReferenceType in
+    let type = byte-opens (eats s kind p byte taken) (hole s kind around os at st expects) stands refl refl in
+    record {
+      inner = open_at type;
+      awaits = type.expects;
+      passes = λ t end now comes. (closes p (fill type (tree t true) end now comes) (rw (makes t) refl)).comes;
+    }
 
-lvalue-taken : (k : Kind) → IsReferable k → choose k 82 ≡ Some Production.ReferenceType
-unfolding choose alternatives pick is_in in_ranges among
-lvalue-taken Kind.Type typed = refl
-lvalue-taken Kind.Item typed = refl
-lvalue-taken Kind.Plain typed = refl
-lvalue-taken _ typed = absurd typed
-
-rvalue-taken : (k : Kind) → IsReferable k → choose k 79 ≡ Some Production.ReferenceType
-unfolding choose alternatives pick is_in in_ranges among
-rvalue-taken Kind.Type typed = refl
-rvalue-taken Kind.Item typed = refl
-rvalue-taken Kind.Plain typed = refl
-rvalue-taken _ typed = absurd typed
+reference-taken : (k : Kind) → IsReferable k
+    → (is_eaten k Production.ReferenceType 82 ≡ true) × (is_eaten k Production.ReferenceType 79 ≡ true)
+unfolding is_eaten
+reference-taken Kind.Type typed = (refl, refl)
+reference-taken Kind.Item typed = (refl, refl)
+reference-taken Kind.Plain typed = (refl, refl)
+reference-taken _ typed = absurd typed
 
 -- a type is expected after an R
 pub lvalue-opens : (s : Symbol) (kind : Kind) (around : Around) (os : List Opened) (at : ℕ) (st : State) → IsReferable kind
     → Expects s kind around os at st → StandsAt s.bytes at (82 ∷ []) → TypeOpens s Kind.Type os around lvalue (at + 1) st
 unfolding reference_to tree_of
 lvalue-opens s kind around os at st typed expects stands =
-    reference-opens s kind around os at st 82 lvalue typed lvalue-taken (omega arith) (λ t. refl) expects stands
+    referring-opens s kind around os at st 82 lvalue (reference-taken kind typed).0 (λ t. refl) expects stands
 
 -- and after an O
 pub rvalue-opens : (s : Symbol) (kind : Kind) (around : Around) (os : List Opened) (at : ℕ) (st : State) → IsReferable kind
     → Expects s kind around os at st → StandsAt s.bytes at (79 ∷ []) → TypeOpens s Kind.Type os around rvalue (at + 1) st
 unfolding reference_to tree_of
 rvalue-opens s kind around os at st typed expects stands =
-    reference-opens s kind around os at st 79 rvalue typed rvalue-taken (omega arith) (λ t. refl) expects stands
+    referring-opens s kind around os at st 79 rvalue (reference-taken kind typed).1 (λ t. refl) expects stands
 
 -- a plain type is expected after a K
 pub const-opens : (s : Symbol) (kind : Kind) (around : Around) (os : List Opened) (at : ℕ) (st : State) → IsQualifiable kind
     → Expects s kind around os at st → StandsAt s.bytes at (75 ∷ []) → TypeOpens s Kind.Plain os around as_const (at + 1) st
-unfolding choose alternatives pick is_in in_ranges among is_chain parts_of number_of_kind between opening close unfolding_.behind meaning listed_value byte_of tree_of is_there part appended
-const-opens s Kind.Type around os at st typed expects stands = record {
-  inner = opened (standing (rule_of Production.ConstType) (75 ∷ []) at around st) [] [] ∷ os;
-  awaits = first-of s Kind.Type Production.ConstType 75 around os at st (OfKind PLAIN) [] around [] st refl (omega arith) refl (λ f. refl) refl refl
-      expects stands;
-  passes = λ t end now comes. last-of s Production.ConstType (75 ∷ []) at around st [] (tree t true) os end now (tree (as_const t) true)
-      (with_candidate around (as_const t) now) refl comes;
-}
-const-opens s Kind.Item around os at st typed expects stands = record {
-  inner = opened (standing (rule_of Production.ConstType) (75 ∷ []) at around st) [] [] ∷ os;
-  awaits = first-of s Kind.Item Production.ConstType 75 around os at st (OfKind PLAIN) [] around [] st refl (omega arith) refl (λ f. refl) refl refl
-      expects stands;
-  passes = λ t end now comes. last-of s Production.ConstType (75 ∷ []) at around st [] (tree t true) os end now (tree (as_const t) true)
-      (with_candidate around (as_const t) now) refl comes;
-}
-const-opens s Kind.ItemButRef around os at st typed expects stands = record {
-  inner = opened (standing (rule_of Production.ConstType) (75 ∷ []) at around st) [] [] ∷ os;
-  awaits = first-of s Kind.ItemButRef Production.ConstType 75 around os at st (OfKind PLAIN) [] around [] st refl (omega arith) refl (λ f. refl) refl refl
-      expects stands;
-  passes = λ t end now comes. last-of s Production.ConstType (75 ∷ []) at around st [] (tree t true) os end now (tree (as_const t) true)
-      (with_candidate around (as_const t) now) refl comes;
-}
-const-opens s _ around os at st typed expects stands = absurd typed
+unfolding is_eaten number_of_kind parts_of between close unfolding_.behind meaning part byte_of tree_of text_of piece_of letter_of is_there listed_value appended
+const-opens s kind around os at st typed expects stands =
+    let p = Production.ConstType in
+    let type = byte-opens (eats s kind p 75 (whole-taken kind typed).1) (hole s kind around os at st expects) stands refl refl in
+    record {
+      inner = open_at type;
+      awaits = type.expects;
+      passes = λ t end now comes. (closes p (fill type (tree t true) end now comes) refl).comes;
+    }
 
 -- ## Names of types
 
@@ -301,43 +252,29 @@ named-so s around os inner t listed at st solid passes awaits bare argued = reco
   argued = λ a end now comes. passes (instance t a) false end now refl (argued a end now comes);
 }
 
-source-taken : (kind : Kind) → IsNamedKind kind → choose kind 48 ≡ Some Production.SourceName
-unfolding choose alternatives pick is_in in_ranges among
-source-taken Kind.Solid is_named = refl
-source-taken Kind.LiteralType is_named = refl
-source-taken _ is_named = absurd is_named
-
-s-taken : (kind : Kind) → IsNamedKind kind → choose kind 83 ≡ Some Production.TypeWithS
-unfolding choose alternatives pick is_in in_ranges among
-s-taken Kind.Solid is_named = refl
-s-taken Kind.LiteralType is_named = refl
-s-taken _ is_named = absurd is_named
-
-nest-taken : (kind : Kind) → IsNamedKind kind → choose kind 78 ≡ Some Production.NestedType
-unfolding choose alternatives pick is_in in_ranges among
-nest-taken Kind.Solid is_named = refl
-nest-taken Kind.LiteralType is_named = refl
-nest-taken _ is_named = absurd is_named
+-- the names of types are chosen where one is expected: after an N, an S or a Z, or with its length
+pub named-taken : (kind : Kind) → IsNamedKind kind
+    → (is_left kind Production.SourceName 48 ≡ true) × (is_eaten kind Production.TypeWithS 83 ≡ true)
+    × (is_eaten kind Production.NestedType 78 ≡ true) × (is_eaten kind Production.LocalType 90 ≡ true)
+unfolding is_eaten is_left
+named-taken Kind.Solid is_named = (refl, refl, refl, refl)
+named-taken Kind.LiteralType is_named = (refl, refl, refl, refl)
+named-taken _ is_named = absurd is_named
 
 -- a name with its length
 pub source-opens : (s : Symbol) (kind : Kind) (around : Around) (os : List Opened) (at : ℕ) (st : State) (name : List ℕ) (end : ℕ) → IsNamedKind kind
     → around.prefix ≡ outermost → TreeOpens s kind os around at st → IsNameAt s.bytes at name end
     → TypeNamed s os around (alone (source false name)) false end st
-unfolding choose alternatives pick is_in in_ranges among is_chain parts_of number_of_kind between opening close unfolding_.behind meaning byte_of tree_of is_there part text_of applied named_so_far extended after
+unfolding is_eaten is_left number_of_kind parts_of between close unfolding_.behind meaning part byte_of tree_of text_of piece_of letter_of is_there applied named_so_far after extended
 source-opens s kind around os at st name end is_named first solid is =
-    let named = alone (source false name) in
-    let rest = opened (standing (rule_of Production.SourceName) [] at around st) (tree named false ∷ []) [] ∷ solid.inner in
-    named-so s around os rest named false end st solid.inner solid.passes
-    (alone-arguments s (after named false around) rest end st
-    (next-of s Production.SourceName [] at around st [] (text name) (OfKind MAYBE_ARGUMENTS) [] solid.inner end st (after named false around)
-    (tree named false ∷ []) st (rw first refl)
-    (expects-name s around (opened (standing (rule_of Production.SourceName) [] at around st) [] (OfKind MAYBE_ARGUMENTS ∷ []) ∷ solid.inner) at st name end
-    (first-of-chain s kind Production.SourceName 48 around solid.inner at st Name (OfKind MAYBE_ARGUMENTS ∷ []) around [] st (source-taken kind is_named)
-    (omega arith) refl (λ f. refl) refl refl solid.awaits) is)))
-    (λ later now comes. last-of s Production.SourceName [] at around st (tree named false ∷ []) nothing_there solid.inner later now
-    (tree named false) now refl comes)
-    (λ a later now comes. last-of s Production.SourceName [] at around st (tree named false ∷ []) (tree a true) solid.inner later now
-    (tree (instance named a) false) now refl comes)
+    let p = Production.SourceName in
+    let t = alone (source false name) in
+    let own = chain-opens (leaves s kind p 48 (named-taken kind is_named).0) (hole s kind around solid.inner at st solid.awaits) refl refl in
+    let rest = next-part p (name-fills name end own is) (first-named around (source false name) st first) in
+    named-so s around os (open_at rest) t false end st solid.inner solid.passes
+    (alone-arguments s (after t false around) (open_at rest) end st rest.expects)
+    (λ later now comes. (closes p (fill rest nothing_there later now comes) refl).comes)
+    (λ a later now comes. (closes p (fill rest (tree a true) later now comes) refl).comes)
 
 listed-kept : (t : Term) (listed : Bool) (st : State)
     → ◌≡◌ {A = Result (Found Value State) Refusal} (Ok (found (tree t (listed && true)) st)) (Ok (found (tree t listed) st))
@@ -352,92 +289,73 @@ listed-lost t false st = refl
 -- a name after an S
 pub name-with-s-opens : (s : Symbol) (kind : Kind) (around : Around) (os : List Opened) (at : ℕ) (st : State) → IsNamedKind kind
     → TreeOpens s kind os around at st → StandsAt s.bytes at (83 ∷ []) → NameOpens s Kind.TypeAfterS os around (at + 1) st
-unfolding choose alternatives pick is_in in_ranges among is_chain parts_of number_of_kind between opening close unfolding_.behind meaning byte_of tree_of is_listed is_there part applied
+unfolding is_eaten number_of_kind parts_of between close unfolding_.behind meaning part byte_of tree_of text_of piece_of letter_of is_there is_listed applied
 name-with-s-opens s kind around os at st is_named solid stands =
-    let rule = standing (rule_of Production.TypeWithS) (83 ∷ []) at around st in
+    let p = Production.TypeWithS in
+    let name = byte-opens (eats s kind p 83 (named-taken kind is_named).1) (hole s kind around solid.inner at st solid.awaits) stands refl refl in
     record {
-      inner = opened rule [] (OfKind ARGUMENTS_ALONE ∷ []) ∷ solid.inner;
-      awaits = first-of s kind Production.TypeWithS 83 around solid.inner at st (OfKind TYPE_AFTER_S) (OfKind ARGUMENTS_ALONE ∷ []) around [] st (s-taken kind is_named) (omega arith)
-          refl (λ f. refl) refl refl solid.awaits stands;
+      inner = open_at name;
+      awaits = name.expects;
       named = λ t listed end now comes.
-          named-so s around os (opened rule (tree t listed ∷ []) [] ∷ solid.inner) t listed end now solid.inner solid.passes
-          (next-of s Production.TypeWithS (83 ∷ []) at around st [] (tree t listed) (OfKind ARGUMENTS_ALONE) [] solid.inner end now (after t listed around)
-          (tree t listed ∷ []) now refl comes)
-          (λ later onward had. last-of s Production.TypeWithS (83 ∷ []) at around st (tree t listed ∷ []) nothing_there solid.inner later onward
-          (tree t listed) onward (listed-kept t listed onward) had)
-          (λ a later onward had. last-of s Production.TypeWithS (83 ∷ []) at around st (tree t listed ∷ []) (tree a true) solid.inner later onward
-          (tree (instance t a) false) onward (listed-lost (instance t a) listed onward) had);
+          let rest = next-part p (fill name (tree t listed) end now comes) refl in
+          named-so s around os (open_at rest) t listed end now solid.inner solid.passes rest.expects
+          (λ later onward had. (closes p (fill rest nothing_there later onward had) (listed-kept t listed onward)).comes)
+          (λ a later onward had. (closes p (fill rest (tree a true) later onward had) (listed-lost (instance t a) listed onward)).comes);
     }
 
 -- a name of std
 pub std-opens : (s : Symbol) (kind : Kind) (around : Around) (os : List Opened) (at : ℕ) (st : State) (name : List ℕ) (end : ℕ) → IsNamedKind kind
     → TreeOpens s kind os around at st → StandsAt s.bytes at (83 ∷ 116 ∷ []) → IsNameAt s.bytes (at + 2) name end
     → TypeNamed s os around (in_std (source false name)) false end st
-unfolding choose alternatives pick is_in in_ranges among is_chain parts_of number_of_kind may_be_empty between named_so_far after applied is_there tree_of opening close unfolding_.behind meaning byte_of piece_of part text_of
+unfolding is_eaten is_left number_of_kind parts_of may_be_empty between close unfolding_.behind meaning part byte_of tree_of text_of piece_of letter_of is_there named_so_far after applied
 std-opens s kind around os at st name end is_named solid stands is =
+    let p = Production.TaggedStdType in
     let both = stands-split s.bytes at (83 ∷ []) (116 ∷ []) stands in
     let w = name-with-s-opens s kind around os at st is_named solid both.0 in
-    let p = Production.TaggedStdType in
-    let piece_ : Value = piece (source false name) in
-    let t : Term = in_std (source false name) in
-    let in_kind = opened (standing (rule_of Production.TypeInStd) [] (at + 1) around st) [] [] ∷ w.inner in
-    let std = opened (standing (rule_of p) (116 ∷ []) (at + 1) around st) [] (OfKind MAYBE_TAGS ∷ []) ∷ in_kind in
-    let expects_piece = first-of s Kind.TypeInStd p 116 around in_kind (at + 1) st (OfKind SOURCE_OR_LOCAL) (OfKind MAYBE_TAGS ∷ []) around [] st refl (omega arith)
-    refl (λ f. refl) refl refl
-    (first-of-chain s Kind.TypeAfterS Production.TypeInStd 116 around w.inner (at + 1) st (OfKind TYPE_IN_STD) [] around [] st refl (omega arith) refl (λ f. refl) refl refl w.awaits)
-    both.1 in
-    let expects_own = first-of-chain s Kind.SourceOrLocal Production.SourcePiece 48 around std (at + 1 + 1) st Name [] around [] st refl
-    (omega arith) refl (λ f. refl) refl refl expects_piece in
-    let tagless = next-of s p (116 ∷ []) (at + 1) around st [] piece_ (OfKind MAYBE_TAGS) [] in_kind end st (after t false around) (tree t false ∷ []) st refl
-    (last-of s Production.SourcePiece [] (at + 1 + 1) around st [] (text name) std end st piece_ st refl
-    (expects-name s around (opened (standing (rule_of Production.SourcePiece) [] (at + 1 + 1) around st) [] [] ∷ std) (at + 1 + 1) st name end
-    expects_own (subst (λ k. IsNameAt s.bytes k name end) (omega arith) is))) in
-    w.named t false end st
-    (last-of s Production.TypeInStd [] (at + 1) around st [] (tree t false) w.inner end st (tree t false) st refl
-    (last-of s p (116 ∷ []) (at + 1) around st (tree t false ∷ []) nothing_there in_kind end st (tree t false) st refl
-    (expects-empty s Kind.MaybeTags (after t false around) (opened (standing (rule_of p) (116 ∷ []) (at + 1) around st) (tree t false ∷ []) [] ∷ in_kind) end st tagless refl)))
+    let in_kind = chain-opens (leaves s Kind.TypeAfterS Production.TypeInStd 116 refl) (hole s Kind.TypeAfterS around w.inner (at + 1) st w.awaits) refl refl in
+    let entity = byte-opens (eats s Kind.TypeInStd p 116 refl) in_kind both.1 refl refl in
+    let own = chain-opens (leaves s Kind.SourceOrLocal Production.SourcePiece 48 refl) entity refl refl in
+    let named = closes Production.SourcePiece (name-fills name end own (subst (λ k. IsNameAt s.bytes k name end) (omega arith) is)) refl in
+    let tagless = none-fills Kind.MaybeTags (next-part p named refl) refl in
+    w.named (in_std (source false name)) false end st (closes Production.TypeInStd (closes p tagless refl) refl).comes
 
-abbreviation-taken : (byte : ℕ) → is_abbreviated byte ≡ true → choose Kind.Abbreviation byte ≡ Some Production.Abbreviation
-unfolding choose alternatives pick is_in in_ranges is_abbreviated among each_passes takes number_of
-abbreviation-taken byte is =
-    taken Production.Abbreviation (choose Kind.Abbreviation byte)
-    (tested abbreviation_letters (λ b. takes Production.Abbreviation (choose Kind.Abbreviation b)) refl byte is)
+abbreviation-eaten : (byte : ℕ) → is_abbreviated byte ≡ true → is_eaten Kind.Abbreviation Production.Abbreviation byte ≡ true
+unfolding is_eaten is_abbreviated each_passes
+abbreviation-eaten byte is = tested abbreviation_letters (λ b. is_eaten Kind.Abbreviation Production.Abbreviation b) refl byte is
 
-abbreviation-small : (byte : ℕ) → is_abbreviated byte ≡ true → byte < 256
-unfolding among is_abbreviated each_passes is_small
-abbreviation-small byte is = small byte (tested abbreviation_letters is_small refl byte is)
+-- one of the letters after an S that stand for a name of std
+pub abbreviation-fills : {s : Symbol} {around : Around} {os : List Opened} {at : ℕ} {st : State} (letter : ℕ) → is_abbreviated letter ≡ true
+    → Hole s (OfKind (number_of_kind Kind.Abbreviation)) around os at st → StandsAt s.bytes at (letter ∷ [])
+    → Filled s os (tree (abbreviation letter) true) (at + 1) st
+unfolding is_eaten number_of_kind parts_of between close unfolding_.behind meaning part byte_of tree_of text_of piece_of letter_of is_there
+abbreviation-fills {s = s} letter is h stands = byte-fills (eats s Kind.Abbreviation Production.Abbreviation letter (abbreviation-eaten letter is)) h stands refl refl
 
--- an abbreviation or a substitution is expected after an S
-reference-behind-s : (s : Symbol) (around : Around) (os : List Opened) (at : ℕ) (st : State) → Expects s Kind.TypeAfterS around os at st
-    → Expects s Kind.Abbreviation around (opened (standing (rule_of Production.AbbreviatedType) [] at around st) [] [] ∷ os) at st
-unfolding choose alternatives pick is_in in_ranges among is_chain parts_of number_of_kind between opening
-reference-behind-s s around os at st expects =
-    first-of-chain s Kind.TypeAfterS Production.AbbreviatedType 95 around os at st (OfKind ABBREVIATION) [] around [] st refl (omega arith) refl (λ f. refl)
-    refl refl expects
+-- an abbreviation or a substitution is the name of a type, after its S
+behind-s-named : (s : Symbol) (kind : Kind) (around : Around) (os : List Opened) (at : ℕ) (st : State) (t : Term) (end : ℕ) → IsNamedKind kind
+    → ((inner : List Opened) → Hole s (OfKind (number_of_kind Kind.Abbreviation)) around inner (at + 1) st → Filled s inner (tree t true) end st)
+    → TreeOpens s kind os around at st → StandsAt s.bytes at (83 ∷ []) → TypeNamed s os around t true end st
+unfolding is_eaten is_left number_of_kind parts_of between close unfolding_.behind meaning part byte_of tree_of text_of piece_of letter_of is_there
+behind-s-named s kind around os at st t end is_named fills solid stands =
+    let p = Production.AbbreviatedType in
+    let w = name-with-s-opens s kind around os at st is_named solid stands in
+    let short = chain-opens (leaves s Kind.TypeAfterS p 95 refl) (hole s Kind.TypeAfterS around w.inner (at + 1) st w.awaits) refl refl in
+    w.named t true end st (closes p (fills (open_at short) short) refl).comes
 
 -- an abbreviation
 pub abbreviation-opens : (s : Symbol) (kind : Kind) (around : Around) (os : List Opened) (at : ℕ) (st : State) (letter : ℕ) → IsNamedKind kind
     → is_abbreviated letter ≡ true → TreeOpens s kind os around at st → StandsAt s.bytes at (83 ∷ letter ∷ [])
     → TypeNamed s os around (abbreviation letter) true (at + 2) st
-unfolding is_chain parts_of opening close unfolding_.behind meaning byte_of part
 abbreviation-opens s kind around os at st letter is_named is solid stands =
     let both = stands-split s.bytes at (83 ∷ []) (letter ∷ []) stands in
-    let w = name-with-s-opens s kind around os at st is_named solid both.0 in
-    let rule = standing (rule_of Production.AbbreviatedType) [] (at + 1) around st in
-    let v = tree (abbreviation letter) true in
-    subst (λ k. TypeNamed s os around (abbreviation letter) true k st) (omega arith)
-    (w.named (abbreviation letter) true (at + 1 + 1) st
-    (last-of s Production.AbbreviatedType [] (at + 1) around st [] v w.inner (at + 1 + 1) st v st refl
-    (letter-comes s Kind.Abbreviation Production.Abbreviation letter around (opened rule [] [] ∷ w.inner) (at + 1) st v st
-    (abbreviation-taken letter is) (abbreviation-small letter is) refl (λ f. refl) refl refl
-    (reference-behind-s s around w.inner (at + 1) st w.awaits) both.1)))
+    behind-s-named s kind around os at st (abbreviation letter) (at + 2) is_named
+    (λ inner h. filled-at (at + 2) (abbreviation-fills letter is h both.1) (omega arith)) solid both.0
 
 no-packs : (scope : Option Term) (t : Term) → ((inner : Term) → pack_length inner t ≡ None) → packs_in scope t ≡ None
 unfolding packs_in
 no-packs None t none = refl
 no-packs (Some scope) t none = none scope
 
-substituted-so : (around : Around) (place : ℕ) (c : Candidate) (st : State) → is_open c.tree ≡ false
+pub substituted-so : (around : Around) (place : ℕ) (c : Candidate) (st : State) → is_open c.tree ≡ false
     → ((scope : Term) → pack_length scope c.tree ≡ None) → substituted around place (Some c) st ≡ Ok (found (tree c.tree true) st)
 unfolding substituted with_packs
 substituted-so around place c st closed none = ap (λ o. whole o (packs_in around.scope c.tree)) closed
@@ -486,24 +404,15 @@ unfolding close part text_of
 substitution-closes around place before digits c st at so =
     ap (λ o. substituted around (place - 1) o st) at ∙ so (place - 1)
 
-substitution-by : (s : Symbol) (kind : Kind) (around : Around) (os : List Opened) (at : ℕ) (st : State) (digits : List ℕ) (end : ℕ)
-    (c : Candidate) → IsNamedKind kind
+-- the number of a substitution that names a candidate
+pub substitution-fills : {s : Symbol} {around : Around} {os : List Opened} {at : ℕ} {st : State} (digits : List ℕ) (end : ℕ) (c : Candidate)
     → slice_get st.candidates (counted_value Seq36 digits) ≡ Some c
     → ((place : ℕ) → substituted around place (Some c) st ≡ Ok (found (tree c.tree true) st))
-    → TreeOpens s kind os around at st → StandsAt s.bytes at (83 ∷ []) → IsSeqAt s.bytes (at + 1) digits end
-    → TypeNamed s os around c.tree true end st
-unfolding choose alternatives pick is_in in_ranges among is_chain parts_of number_of_kind between opening close unfolding_.behind meaning byte_of part
-substitution-by s kind around os at st digits end c is_named names_it so solid stands is =
-    let w = name-with-s-opens s kind around os at st is_named solid stands in
-    let type = opened (standing (rule_of Production.AbbreviatedType) [] (at + 1) around st) [] [] ∷ w.inner in
-    let v = tree c.tree true in
-    w.named c.tree true end st
-    (last-of s Production.AbbreviatedType [] (at + 1) around st [] v w.inner end st v st refl
-    (last-of s Production.Substitution [] (at + 1) around st [] (text digits) type end st v st
-    (substitution-closes around (at + 1) st digits c st names_it so)
-    (expects-seq s around (opened (standing (rule_of Production.Substitution) [] (at + 1) around st) [] [] ∷ type) (at + 1) st digits end
-    (first-of-chain s Kind.Abbreviation Production.Substitution 48 around type (at + 1) st (Number Seq36) [] around [] st refl (omega arith) refl
-    (λ f. refl) refl refl (reference-behind-s s around w.inner (at + 1) st w.awaits)) is)))
+    → Hole s (OfKind (number_of_kind Kind.Abbreviation)) around os at st → IsSeqAt s.bytes at digits end → Filled s os (tree c.tree true) end st
+unfolding is_eaten is_left number_of_kind parts_of between close unfolding_.behind meaning part byte_of tree_of text_of piece_of letter_of is_there
+substitution-fills {s = s} {around = around} {at = at} {st = st} digits end c names_it so h is =
+    let p = Production.Substitution in
+    closes p (seq-fills digits end (chain-opens (leaves s Kind.Abbreviation p 48 refl) h refl refl) is) (substitution-closes around at st digits c st names_it so)
 
 -- a substitution
 pub substitution-opens : (s : Symbol) (kind : Kind) (around : Around) (os : List Opened) (at : ℕ) (st : State) (digits : List ℕ) (end : ℕ)
@@ -511,7 +420,8 @@ pub substitution-opens : (s : Symbol) (kind : Kind) (around : Around) (os : List
     → slice_get st.candidates (counted_value Seq36 digits) ≡ Some c → is_open c.tree ≡ false → ((scope : Term) → pack_length scope c.tree ≡ None)
     → TreeOpens s kind os around at st → StandsAt s.bytes at (83 ∷ []) → IsSeqAt s.bytes (at + 1) digits end → TypeNamed s os around c.tree true end st
 substitution-opens s kind around os at st digits end c is_named names_it closed none solid stands is =
-    substitution-by s kind around os at st digits end c is_named names_it (λ place. substituted-so around place c st closed none) solid stands is
+    behind-s-named s kind around os at st c.tree end is_named
+    (λ inner h. substitution-fills digits end c names_it (λ place. substituted-so around place c st closed none) h is) solid stands
 
 -- one that names parameters
 pub open-substitution-opens : (s : Symbol) (kind : Kind) (around : Around) (os : List Opened) (at : ℕ) (st : State) (digits : List ℕ) (end : ℕ)
@@ -519,17 +429,237 @@ pub open-substitution-opens : (s : Symbol) (kind : Kind) (around : Around) (os :
     → around.in_lambda ≡ false → packs_in around.scope c.tree ≡ None
     → TreeOpens s kind os around at st → StandsAt s.bytes at (83 ∷ []) → IsSeqAt s.bytes (at + 1) digits end → TypeNamed s os around c.tree true end st
 open-substitution-opens s kind around os at st digits end c is_named names_it made plain none solid stands is =
-    substitution-by s kind around os at st digits end c is_named names_it (λ place. substituted-open around place c st made plain none) solid stands is
+    behind-s-named s kind around os at st c.tree end is_named
+    (λ inner h. substitution-fills digits end c names_it (λ place. substituted-open around place c st made plain none) h is) solid stands
 
 -- a nested name is expected after an N
 pub nested-type-opens : (s : Symbol) (kind : Kind) (around : Around) (os : List Opened) (at : ℕ) (st : State) → IsNamedKind kind
     → TreeOpens s kind os around at st → StandsAt s.bytes at (78 ∷ []) → TreeOpens s Kind.Nest os around (at + 1) st
-unfolding choose alternatives pick is_in in_ranges among is_chain parts_of number_of_kind between opening close unfolding_.behind meaning byte_of part
+unfolding is_eaten number_of_kind parts_of between close unfolding_.behind meaning part byte_of tree_of text_of piece_of letter_of is_there
 nested-type-opens s kind around os at st is_named solid stands =
+    let p = Production.NestedType in
+    let nest = byte-opens (eats s kind p 78 (named-taken kind is_named).2) (hole s kind around solid.inner at st solid.awaits) stands refl refl in
     record {
-      inner = opened (standing (rule_of Production.NestedType) (78 ∷ []) at around st) [] [] ∷ solid.inner;
-      awaits = first-of s kind Production.NestedType 78 around solid.inner at st (OfKind NEST) [] around [] st (nest-taken kind is_named) (omega arith) refl
-          (λ f. refl) refl refl solid.awaits stands;
-      passes = λ t listed end now other comes. solid.passes t listed end now other
-          (last-of s Production.NestedType (78 ∷ []) at around st [] (tree t listed) solid.inner end now (tree t listed) now refl comes);
+      inner = open_at nest;
+      awaits = nest.expects;
+      passes = λ t listed end now other comes. solid.passes t listed end now other (closes p (fill nest (tree t listed) end now comes) refl).comes;
     }
+
+-- ## Arrays
+
+-- the size of an array
+size-fills : {s : Symbol} {around : Around} {os : List Opened} {at : ℕ} {st : State} (digits : List ℕ) (end : ℕ) → Hole s (Number Decimal) around os at st
+    → IsSizeAt s.bytes at digits end → Filled s os (values.text digits) end st
+size-fills {s = s} {os = os} {st = st} digits end h is =
+    subst (λ l. Filled s os (values.text l) end st) is.own (filled-at end (number-fills is.token h is.is_number is.stands) (sym is.ends))
+
+-- the type of an array's elements is expected after its size
+plain-array-opens : (s : Symbol) (kind : Kind) (os : List Opened) (around : Around) (at : ℕ) (st : State) (digits : List ℕ) (end : ℕ) → IsQualifiable kind
+    → Expects s kind around os at st → StandsAt s.bytes at (65 ∷ []) → IsSizeAt s.bytes (at + 1) digits end → ArrayOpened s os around accesses.Plain digits end st
+unfolding is_eaten is_left number_of_kind parts_of between close unfolding_.behind meaning part byte_of tree_of text_of piece_of letter_of is_there
+plain-array-opens s kind os around at st digits end whole expects stands is =
+    let p = Production.LengthArray in
+    let w = whole-opens s kind around os at st whole expects in
+    let any = chain-opens (leaves s Kind.Solid Production.ArrayType 65 refl) (hole s Kind.Solid around w.inner at st w.awaits) refl refl in
+    let rest = byte-opens (eats s Kind.AnyArray Production.AnyArray 65 refl) any stands refl refl in
+    let type = next-part p (size-fills digits end (chain-opens (leaves s Kind.ArrayRest p 48 refl) rest refl refl) is) refl in
+    record {
+      inner = open_at type;
+      awaits = type.expects;
+      onward = λ u here now comes. w.passes (array (values.normal digits) u) false here now
+          (closes Production.ArrayType (closes Production.AnyArray (closes p (fill type (tree u true) here now comes) refl) refl) refl).comes;
+    }
+
+-- the same where the array is pointed or referred to
+pub array-opens : (s : Symbol) (access : Access) (kind : Kind) (os : List Opened) (around : Around) (at : ℕ) (st : State) (digits : List ℕ) (end : ℕ)
+    → IsQualifiable kind → (access ≡ accesses.Lvalue → IsReferable kind) → Expects s kind around os at st → StandsAt s.bytes at (access_letters access)
+    → IsSizeAt s.bytes (at + length (access_letters access)) digits end → ArrayOpened s os around access digits end st
+array-opens s accesses.Plain kind os around at st digits end whole referable expects stands is =
+    plain-array-opens s kind os around at st digits end whole expects stands is
+array-opens s accesses.Pointer kind os around at st digits end whole referable expects stands is =
+    let both = stands-split s.bytes at (80 ∷ []) (65 ∷ []) stands in
+    let o = pointer-opens s kind around os at st (typed kind whole) expects both.0 in
+    let f = plain-array-opens s Kind.Type o.inner around (at + 1) st digits end tt o.awaits both.1
+    (subst (λ k. IsSizeAt s.bytes k digits end) (omega arith) is) in
+    record {
+      inner = f.inner;
+      awaits = f.awaits;
+      onward = λ u here now comes. o.passes (array (values.normal digits) u) here (with_candidate around (array (values.normal digits) u) now)
+          (f.onward u here now comes);
+    }
+array-opens s accesses.Lvalue kind os around at st digits end whole referable expects stands is =
+    let both = stands-split s.bytes at (82 ∷ []) (65 ∷ []) stands in
+    let o = lvalue-opens s kind around os at st (referable refl) expects both.0 in
+    let f = plain-array-opens s Kind.Type o.inner around (at + 1) st digits end tt o.awaits both.1
+    (subst (λ k. IsSizeAt s.bytes k digits end) (omega arith) is) in
+    record {
+      inner = f.inner;
+      awaits = f.awaits;
+      onward = λ u here now comes. o.passes (array (values.normal digits) u) here (with_candidate around (array (values.normal digits) u) now)
+          (f.onward u here now comes);
+    }
+
+-- ## Function types
+
+-- the return type of a function type is expected after its F
+pub function-opens : (s : Symbol) (kind : Kind) (os : List Opened) (around : Around) (at : ℕ) (st : State) → IsQualifiable kind
+    → around.prefix ≡ outermost → Expects s kind around os at st → StandsAt s.bytes at (70 ∷ []) → FunctionOpened s os around false (at + 1) st
+unfolding is_eaten number_of_kind parts_of may_be_empty between close unfolding_.behind meaning part byte_of tree_of text_of piece_of letter_of is_there ref_of
+function-opens s kind os around at st whole outside expects stands =
+    let p = Production.Function in
+    let w = whole-opens s kind around os at st whole expects in
+    let linkage = byte-opens (eats s Kind.Solid p 70 refl) (hole s Kind.Solid around w.inner at st w.awaits) stands refl refl in
+    let type = next-part p (none-fills Kind.MaybeCLinkage linkage refl) refl in
+    record {
+      inner = open_at type;
+      awaits = type.expects;
+      onward = λ r here now comes.
+          let rest = next-part p (fill type (tree r true) here now comes) refl in
+          record {
+            around = around;
+            outside = outside;
+            inner = open_at rest;
+            awaits = rest.expects;
+            passes = λ l there then_ last. w.passes (plain_function r l) false there then_ (closes p (fill rest (signature l any_value) there then_ last) refl).comes;
+          };
+    }
+
+-- and after PF that of one that is pointed to
+pub pointed-function-opens : (s : Symbol) (kind : Kind) (os : List Opened) (around : Around) (at : ℕ) (st : State) → IsQualifiable kind
+    → around.prefix ≡ outermost → Expects s kind around os at st → StandsAt s.bytes at (80 ∷ 70 ∷ []) → FunctionOpened s os around true (at + 2) st
+pointed-function-opens s kind os around at st whole outside expects stands =
+    let both = stands-split s.bytes at (80 ∷ []) (70 ∷ []) stands in
+    let o = pointer-opens s kind around os at st (typed kind whole) expects both.0 in
+    let f = function-opens s Kind.Type o.inner around (at + 1) st tt outside o.awaits both.1 in
+    record {
+      inner = f.inner;
+      awaits = subst (λ k. Expects s Kind.Type around f.inner k st) (omega arith) f.awaits;
+      onward = λ r here now comes. let g = f.onward r here now comes in record {
+        around = g.around;
+        outside = g.outside;
+        inner = g.inner;
+        awaits = g.awaits;
+        passes = λ l there then_ last. o.passes (plain_function r l) there (with_candidate around (plain_function r l) then_)
+            (g.passes l there then_ last);
+      };
+    }
+
+-- parameters go on after one of them
+parameters-go-on : {s : Symbol} {outer : List Opened} {made_in : Around} {is_pointer : Bool} {made : Term → Term} {at : ℕ} {st : State} {t : Term}
+    (g : SignatureGoesOn s outer made_in is_pointer made at st) {inner : List Opened} {here : ℕ} {now : State}
+    → Hole s (OfKind (number_of_kind Kind.FunctionRest)) g.around inner here now
+    → ((l : Term) (there : ℕ) (then_ : State) → Filled s inner (signature l any_value) there then_ → Filled s g.inner (signature (list t l) any_value) there then_)
+    → SignatureGoesOn s outer made_in is_pointer (λ l. made (list t l)) here now
+parameters-go-on {t = t} g {inner = inner} h passes = record {
+  around = g.around;
+  outside = g.outside;
+  inner = inner;
+  awaits = h.expects;
+  passes = λ l there then_ last. g.passes (list t l) there then_ (passes l there then_ (fill h (signature l any_value) there then_ last)).comes;
+}
+
+-- a parameter is expected
+pub parameter-opens : (s : Symbol) (outer : List Opened) (made_in : Around) (is_pointer : Bool) (made : Term → Term) (at : ℕ) (st : State)
+    → SignatureGoesOn s outer made_in is_pointer made at st → ParameterOpened s outer made_in is_pointer made at st
+unfolding is_eaten is_left number_of_kind parts_of between close unfolding_.behind meaning part byte_of tree_of text_of piece_of letter_of is_there with_item ref_of
+parameter-opens s outer made_in is_pointer made at st g =
+    let p = Production.RestItem in
+    let item = chain-opens (leaves s Kind.FunctionRest p 80 refl) (hole s Kind.FunctionRest g.around g.inner at st g.awaits) refl refl in
+    record {
+      around = g.around;
+      outside = g.outside;
+      inner = open_at item;
+      awaits = item.expects;
+      onward = λ t here now comes.
+          parameters-go-on g (next-part p (fill item (tree t true) here now comes) refl) (λ l there then_ last. closes p last refl);
+    }
+
+-- an E ends a function type
+pub signature-ends : (s : Symbol) (outer : List Opened) (made_in : Around) (is_pointer : Bool) (made : Term → Term) (at : ℕ) (st : State)
+    → (g : SignatureGoesOn s outer made_in is_pointer made at st) → StandsAt s.bytes at (69 ∷ []) → Comes s g.inner (signature nil any_value) (at + 1) st
+unfolding is_eaten number_of_kind parts_of between close unfolding_.behind meaning part byte_of tree_of text_of piece_of letter_of is_there
+signature-ends s outer made_in is_pointer made at st g stands =
+    (byte-fills (eats s Kind.FunctionRest Production.RestEnd 69 refl) (hole s Kind.FunctionRest g.around g.inner at st g.awaits) stands refl refl).comes
+
+-- ## References as parameters
+
+-- After what a reference is to, the reader makes the reference, and goes on as after another parameter.
+rests-alike : (s : Symbol) (item : Production) (made : Term → Term) (around : Around) (at0 : ℕ) (before : State) (t : Term) (at : ℕ) (st then_ : State)
+    (bytes : List ℕ) (vs : List Value) (inner : State) (x : Sym)
+    → ◌≡◌ {A = Going} (between item around at0 (tree t true ∷ []) st)
+    (Ok (record { values = tree (made t) true ∷ []; context = around; state = then_ }))
+    → ◌≡◌ {A = Going} (between Production.RestItem around at0 (tree (made t) true ∷ []) then_)
+    (Ok (record { values = tree (made t) true ∷ []; context = around; state = then_ }))
+    → ReadsRest s (standing (rule_of Production.RestItem) [] at0 around before) (tree (made t) true ∷ []) (x ∷ []) at bytes then_ vs inner
+    → ReadsRest s (standing (rule_of item) [] at0 around before) (tree t true ∷ []) (x ∷ []) at bytes st vs inner
+unfolding unfolding_.cpp
+rests-alike s item made around at0 before t at st then_ bytes vs inner x goes same rest = record {
+  forest = rest.forest;
+  shaped = rest.shaped;
+  spelled = rest.spelled;
+  unfolds = go rest.forest rest.shaped rest.unfolds;
+}
+  where
+    go : (f : Forest) → AreTrees (table_by s.is_wide) (x ∷ []) f
+        → unfold_forest unfolding_.cpp (standing (rule_of Production.RestItem) [] at0 around before) (tree (made t) true ∷ []) at f then_ ≡ Ok (found vs inner)
+        → unfold_forest unfolding_.cpp (standing (rule_of item) [] at0 around before) (tree t true ∷ []) at f st ≡ Ok (found vs inner)
+    go (grown one nothing) shaped e = rw (at_number item, goes, at_number Production.RestItem, same) refl ∙ e
+    go (grown one (grown two more)) shaped e = absurd shaped.1
+    go nothing shaped e = absurd shaped
+
+-- the same of all that is open
+alike : (s : Symbol) (item : Production) (made : Term → Term) (around : Around) (at0 : ℕ) (before : State) (os : List Opened) (x : Sym) (t : Term)
+    (at : ℕ) (st then_ : State)
+    → ◌≡◌ {A = Going} (between item around at0 (tree t true ∷ []) st)
+    (Ok (record { values = tree (made t) true ∷ []; context = around; state = then_ }))
+    → ◌≡◌ {A = Going} (between Production.RestItem around at0 (tree (made t) true ∷ []) then_)
+    (Ok (record { values = tree (made t) true ∷ []; context = around; state = then_ }))
+    → ((vs : List Value) (inner : State) → close item 0 around at0 before vs inner ≡ close Production.RestItem 0 around at0 before vs inner)
+    → Comes s (opened (standing (rule_of item) [] at0 around before) [] (x ∷ []) ∷ os) (tree t true) at st
+    → Comes s (opened (standing (rule_of Production.RestItem) [] at0 around before) [] (x ∷ []) ∷ os) (tree (made t) true) at then_
+unfolding unfolding_.cpp byte_of
+alike s item made around at0 before os x t at st then_ goes same closes comes bytes vs inner w after rest there closed =
+    comes bytes vs inner w after (rests-alike s item made around at0 before t at st then_ bytes vs inner x goes same rest) there
+    (ap (λ q. close q 0 around at0 before vs inner) (at_number item) ∙ closes vs inner
+    ∙ sym (ap (λ q. close q 0 around at0 before vs inner) (at_number Production.RestItem)) ∙ closed)
+
+-- After the letter of a reference it is expected what it is to, and parameters go on after it.
+referred : {s : Symbol} {outer : List Opened} {made_in : Around} {is_pointer : Bool} {made : Term → Term} {at : ℕ} {st : State}
+    (g : SignatureGoesOn s outer made_in is_pointer made at st) (is_lvalue : Bool) (item : Production) {os : List Opened}
+    → Hole s (OfKind (number_of_kind Kind.Type)) g.around
+    (opened (standing (rule_of item) [] (at + 1) g.around st) [] (OfKind (number_of_kind Kind.FunctionRest) ∷ []) ∷ os) (at + 1) st
+    → ((t : Term) (now : State) → ◌≡◌ {A = Going} (between item g.around (at + 1) (tree t true ∷ []) now)
+    (Ok (record { values = tree (reference is_lvalue t) true ∷ []; context = g.around; state = with_candidate g.around (reference is_lvalue t) now })))
+    → ((vs : List Value) (inner : State) → close item 0 g.around (at + 1) st vs inner ≡ close Production.RestItem 0 g.around (at + 1) st vs inner)
+    → ((l : Term) (there : ℕ) (then_ : State) → Filled s os (signature l any_value) there then_ → Filled s g.inner (signature l any_value) there then_)
+    → ReferenceOpened s outer made_in is_pointer is_lvalue made at st
+unfolding is_eaten number_of_kind parts_of between close unfolding_.behind meaning part byte_of tree_of text_of piece_of letter_of is_there with_item ref_of
+referred {s = s} {at = at} {st = st} g is_lvalue item {os = os} type goes same ended =
+    let p = Production.RestItem in
+    let rest = OfKind (number_of_kind Kind.FunctionRest) in
+    let whole = opened (standing (rule_of p) [] (at + 1) g.around st) [] (rest ∷ []) ∷ os in
+    record {
+      around = g.around;
+      outside = g.outside;
+      whole = whole;
+      inner = open_at type;
+      awaits = type.expects;
+      passes = λ t here now comes. alike s item (reference is_lvalue) g.around (at + 1) st os rest t here now
+          (with_candidate g.around (reference is_lvalue t) now) (goes t now) refl same comes;
+      onward = λ u here now comes. parameters-go-on g (next-part p (came s whole (tree u true) here now comes) refl)
+          (λ l there then_ last. ended (list u l) there then_ (closes p last refl));
+    }
+
+-- a parameter that is a reference is expected after its letter
+pub reference-opens : (s : Symbol) (outer : List Opened) (made_in : Around) (is_pointer is_lvalue : Bool) (made : Term → Term) (at : ℕ) (st : State)
+    → SignatureGoesOn s outer made_in is_pointer made at st → StandsAt s.bytes at (reference_letter is_lvalue ∷ [])
+    → ReferenceOpened s outer made_in is_pointer is_lvalue made at st
+unfolding is_eaten is_left number_of_kind parts_of between close unfolding_.behind meaning part byte_of tree_of text_of piece_of letter_of is_there with_item ref_of signature_or appended
+reference-opens s outer made_in is_pointer true made at st g stands =
+    let mark = byte-opens (eats s Kind.FunctionRest Production.RestLvalue 82 refl) (hole s Kind.FunctionRest g.around g.inner at st g.awaits) stands refl refl in
+    let type = chain-opens (leaves s Kind.AfterR Production.LvalueItem 80 refl) mark refl refl in
+    referred g true Production.LvalueItem type (λ t now. refl) (λ vs inner. refl) (λ l there then_ last. closes Production.RestLvalue last refl)
+reference-opens s outer made_in is_pointer false made at st g stands =
+    let mark = byte-opens (eats s Kind.FunctionRest Production.RestRvalue 79 refl) (hole s Kind.FunctionRest g.around g.inner at st g.awaits) stands refl refl in
+    let type = chain-opens (leaves s Kind.AfterO Production.RvalueItem 80 refl) mark refl refl in
+    referred g false Production.RvalueItem type (λ t now. refl) (λ vs inner. refl) (λ l there then_ last. closes Production.RestRvalue last refl)

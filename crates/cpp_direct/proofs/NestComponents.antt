@@ -20,18 +20,13 @@ use Rattle.cpp_direct.specs.WriterInvariant.{AreCandidates, IsNest, IsWriting, S
 use Rattle.cpp_direct.specs.MidStep.{AwaitsClass, IsNestNamed, IsOperatorRead}
 use Rattle.cpp_direct.specs.Written.{Writes, Reads}
 use Rattle.cpp_direct.proofs.Unmarked.{name-unmarked}
-use Rattle.cpp_direct.proofs.Kept.{piece-found, candidates-stay}
+use Rattle.cpp_direct.proofs.Kept.{candidates-as, piece-stays, piece-found, candidates-stay}
 use Rattle.cpp_direct.proofs.Moves.{stands-join}
 use Rattle.cpp_direct.proofs.MovesOfComponents.{component-source, component-internal, component-operator, component-constructor, component-destructor}
-use Rattle.cpp_direct.proofs.Operators.{IsOperator, operator-listed}
-use Rattle.cpp_direct.proofs.PrintedTags.{within-tagged}
-use Rattle.cpp_direct.proofs.PrintedNests.{IsPiece, source-opening, source-piece, operator-opening, operator-piece, within-names, within-prints, within-class, constructor-prints, destructor-prints}
+use Rattle.cpp_direct.proofs.LettersTested.{IsOperator, operator-listed}
+use Rattle.cpp_direct.proofs.PrintedNests.{within-tagged, IsPiece, source-opening, source-piece, operator-opening, operator-piece, within-names, within-prints, within-class, constructor-prints, destructor-prints}
 
 -- ## Pieces of a text
-
--- a piece is in its place still where more is written
-piece-keeps : (text front bytes back more : List ℕ) → text ≡ front ++ bytes ++ back → text ++ more ≡ front ++ bytes ++ (back ++ more)
-piece-keeps text front bytes back more e = ap (λ l. l ++ more) e ∙ append_assoc (front ++ bytes) back more
 
 -- ## A text is written
 
@@ -64,8 +59,7 @@ goes-marked old between new by bytes m w = record {
 candidates-go : (detail : Detail) (old new : Direct) (bytes : List ℕ) (cs : List values.Candidate) → Goes old new bytes
     → AreCandidates detail old.text.list.items old.candidates.list.items cs → AreCandidates detail new.text.list.items new.candidates.list.items cs
 candidates-go detail old new bytes cs g p =
-    subst (λ l. AreCandidates detail l new.candidates.list.items cs) (sym g.text)
-    (subst (λ ks. AreCandidates detail (old.text.list.items ++ bytes) ks cs) (sym g.candidates) (candidates-stay detail old.text.list.items bytes old.candidates.list.items cs p))
+    candidates-as detail new cs g.text g.candidates (candidates-stay detail old.text.list.items bytes old.candidates.list.items cs p)
 
 serves-go : (s : Symbol) (old new : Direct) (bytes : List ℕ) (outer : List Opened) (front : List ℕ) → Goes old new bytes
     → Serves s old.nest.purpose (Stands s (reverse old.waiting.list.items)) outer front
@@ -97,7 +91,7 @@ class-awaits s old new st t own front bytes mark around outer candidates written
   class_front = is.class_front;
   class = is.class;
   class_back = is.class_back ++ mark;
-  class_written = g.text ∙ piece-keeps old.text.list.items is.class_front is.class is.class_back mark is.class_written;
+  class_written = g.text ∙ piece-stays old.text.list.items is.class_front is.class is.class_back mark is.class_written;
   class_from = rw same is.class_from;
   class_to = rw same is.class_to;
   prints = prints;
@@ -179,7 +173,7 @@ named-again s old new p g at from to unlisted classless no_instance =
         class_front = p.class_front;
         class = p.class;
         class_back = p.class_back ++ p.class;
-        class_written = g.text ∙ piece-keeps old.text.list.items p.class_front p.class p.class_back p.class p.class_written;
+        class_written = g.text ∙ piece-stays old.text.list.items p.class_front p.class p.class_back p.class p.class_written;
         class_from = from ∙ p.class_from;
         class_to = to ∙ p.class_to;
         names_class = λ e. absurd (false≢true (sym classless ∙ e));

@@ -4,15 +4,15 @@ use Rattle.cpp_direct.specs.WrittenParts.{opening_bracket}
 use Rattle.cpp_direct.specs.declared.open.Arguments.{Arguments}
 use Rattle.cpp_direct.proofs.Unmarked.{name-unmarked}
 use Rattle.cpp_direct.proofs.Scopes.{none-known}
-use Rattle.std.proofs.Common.{◌≡◌, ◌≢◌, ℕ, ◌+◌, ◌-◌, ◌≤◌, List, [], ◌∷◌, ◌++◌, length, take, drop, reverse, slice_get, Bool, true, false, Option, Some, None, refl, ap, sym, ◌∙◌, subst, arith, codes, append-nil, append_assoc, nat_eq, ◌&&◌, length-append}
+use Rattle.std.proofs.Common.{◌≡◌, ◌≢◌, ℕ, ◌+◌, ◌-◌, ◌≤◌, List, [], ◌∷◌, ◌++◌, length, take, drop, reverse, slice_get, Bool, true, false, Option, Some, None, refl, ap, sym, ◌∙◌, subst, arith, codes, append-nil, append_assoc, ◌&&◌, length-append}
 use Rattle.std.specs.Option.{IfSome, OnSome}
-use Rattle.std.proofs.lemmas.Bool.{false≢true, eqb-true}
+use Rattle.std.proofs.lemmas.Bool.{false≢true}
 use Rattle.sym_core.specs.declared.NumberKind.TheVariants.{Seq36}
 use Rattle.sym_core.specs.Value.{counted_value}
 use Rattle.cpp_grammar.specs.declared.kind.Kind.{Kind}
-use Rattle.cpp_grammar.specs.Grammar.{among, may_be_empty}
+use Rattle.cpp_grammar.specs.Grammar.{may_be_empty}
 use Rattle.cpp_grammar.specs.Term.{Term, alone, in_std, source, abbreviation, instance}
-use Rattle.cpp_grammar.specs.Texts.{Naming, look_up, abbreviation_texts, same_bytes}
+use Rattle.cpp_grammar.specs.Texts.{look_up, abbreviation_texts, same_bytes}
 use Rattle.cpp_grammar.specs.Parts.{source_text}
 use Rattle.cpp_grammar.specs.Scope.{has_return_type, arguments_of, is_structor}
 use Rattle.cpp_grammar.specs.Values.{State, Around, tree, named, tree_of, qualifiers_of, ref_of}
@@ -36,15 +36,14 @@ use Rattle.cpp_direct.specs.Prints.{Prints, NamesClass}
 use Rattle.cpp_direct.specs.WriterInvariant.{HasArguments, AreCandidates, IsNest, IsNesting, IsOwn, IsTemplate, ArgumentsGoOn, Serves, Stands, IsWriting, qualifiers, IsKnown, nowhere, place_of}
 use Rattle.cpp_direct.specs.MidStep.{AwaitsNest, IsNestKnown, IsNestNamed, IsNameEnded, IsOperatorRead}
 use Rattle.cpp_direct.specs.Written.{Reads, added, added_unless}
-use Rattle.cpp_direct.proofs.Alone.{alone-arguments, any-tail}
-use Rattle.cpp_direct.proofs.Kept.{arguments-begun, candidates-read, candidates-stay, candidates-with, candidates-unless, candidate-found, piece-found, nest-stays, reverse-last, plainly-prints}
-use Rattle.cpp_direct.proofs.Moves.{expects-empty, stands-join, comes-moved}
-use Rattle.cpp_direct.proofs.MovesOfComponents.{component-awaits, component-outside, any-arguments, instance-arguments, nest-end}
+use Rattle.cpp_direct.proofs.Moves.{alone-arguments, any-tail, expects-empty, stands-join, comes-moved}
+use Rattle.cpp_direct.proofs.Kept.{candidates-as, candidates-grown, arguments-begun, candidates-read, candidates-stay, candidates-with, candidates-unless, candidate-found, piece-found, nest-stays, reverse-last, plainly-prints}
+use Rattle.cpp_direct.proofs.MovesOfComponents.{component-awaits, component-outside, any-arguments, instance-arguments, nest-end, tag-follows}
 use Rattle.cpp_direct.proofs.MovesOfLists.{arguments-open}
 use Rattle.cpp_direct.proofs.MovesOfNests.{nest-source, nest-abbreviation, nest-substitution, nest-std}
 use Rattle.cpp_direct.proofs.PrintedNames.{as-name, source-prints, source-class, std-prints, std-class, abbreviation-prints}
-use Rattle.cpp_direct.proofs.PrintedTags.{tagged-prints, std-tagged, again-tagged}
-use Rattle.cpp_direct.proofs.MovesOfTags.{tag-follows}
+use Rattle.cpp_direct.proofs.PrintedNests.{tagged-prints, std-tagged, again-tagged}
+use Rattle.cpp_direct.proofs.TypesRead.{abbreviation-listed}
 
 -- ## What small functions did
 
@@ -80,9 +79,8 @@ list-begins s old mid new ks st owner front name t keeps opening_ candidates tem
     let at_is : new.at ≡ old.at + 1 = cc (opening_.at, keeps.at) in
     record {
       state = st;
-      candidates = subst (λ l. AreCandidates (detail_of s) l new.candidates.list.items st.candidates) (sym text_is)
-          (subst (λ l. AreCandidates (detail_of s) (old.text.list.items ++ opening_bracket (detail_of s)) l st.candidates) (sym candidates_are)
-          (candidates-stay (detail_of s) old.text.list.items (opening_bracket (detail_of s)) ks st.candidates candidates));
+      candidates = candidates-as (detail_of s) new st.candidates text_is candidates_are
+          (candidates-stay (detail_of s) old.text.list.items (opening_bracket (detail_of s)) ks st.candidates candidates);
       is_before = arguments-begun s new st owner (reverse old.waiting.list.items) front name t
           (ap reverse waiting_is ∙ reverse-last old.waiting.list.items owner)
           (subst (λ l. IsTemplate (detail_of s) owner front t name l) (sym text_is) template) (text_is ∙ ap (λ l. l ++ opening_bracket (detail_of s)) written)
@@ -267,9 +265,8 @@ component-next s kind old new st t rest candidates n keeps =
     let later = unless_listed listed around t st in
     record {
       state = later;
-      candidates = subst (λ l. AreCandidates (detail_of s) l new.candidates.list.items later.candidates) (sym text_is)
-          (subst (λ l. AreCandidates (detail_of s) old.text.list.items l later.candidates) (sym keeps.candidates)
-          (candidates-unless old st listed n.front n.bytes old.nest.from t around candidates n.written n.is_nest.from_is n.is_nest.prints));
+      candidates = candidates-as (detail_of s) new later.candidates text_is keeps.candidates
+          (candidates-unless old st listed n.front n.bytes old.nest.from t around candidates n.written n.is_nest.from_is n.is_nest.prints);
       is_before = (
         t,
         n.front,
@@ -336,9 +333,8 @@ type-ended s old new st t candidates n here is_type keeps =
     let later = unless_listed listed serves.1 t st in
     record {
       state = later;
-      candidates = subst (λ l. AreCandidates (detail_of s) l new.candidates.list.items later.candidates) (sym text_is)
-          (subst (λ l. AreCandidates (detail_of s) old.text.list.items l later.candidates) (sym keeps.candidates)
-          (candidates-unless old st listed n.front n.bytes old.nest.from t serves.1 candidates n.written n.is_nest.from_is n.is_nest.prints));
+      candidates = candidates-as (detail_of s) new later.candidates text_is keeps.candidates
+          (candidates-unless old st listed n.front n.bytes old.nest.from t serves.1 candidates n.written n.is_nest.from_is n.is_nest.prints);
       is_before = (
         serves.0,
         t,
@@ -465,9 +461,7 @@ nest-begins : (s : Symbol) (old new : Direct) (purpose : Purpose) (a : AwaitsNes
     → IsWriting s new steps.Rest
 nest-begins s old new purpose a t bytes text_is candidates_are waiting_is purpose_is is_nest goes = record {
   state = a.state;
-  candidates = subst (λ l. AreCandidates (detail_of s) l new.candidates.list.items a.state.candidates) (sym text_is)
-      (subst (λ k. AreCandidates (detail_of s) (old.text.list.items ++ bytes) k.list.items a.state.candidates) (sym candidates_are)
-      (candidates-stay (detail_of s) old.text.list.items bytes old.candidates.list.items a.state.candidates a.candidates));
+  candidates = candidates-grown (detail_of s) old new bytes a.state.candidates text_is candidates_are a.candidates;
   is_before = (
     t,
     Kind.NestRestAlone,
@@ -493,9 +487,7 @@ known-begins : (s : Symbol) (old new : Direct) (purpose : Purpose) (a : AwaitsNe
     → NestGoesOn s Kind.NestRestOrEnd a.outer a.around t true new.at a.state → IsNestKnown s new
 known-begins s old new purpose a t bytes text_is candidates_are waiting_is purpose_is is_nest listed classless known = record {
   state = a.state;
-  candidates = subst (λ l. AreCandidates (detail_of s) l new.candidates.list.items a.state.candidates) (sym text_is)
-      (subst (λ k. AreCandidates (detail_of s) (old.text.list.items ++ bytes) k.list.items a.state.candidates) (sym candidates_are)
-      (candidates-stay (detail_of s) old.text.list.items bytes old.candidates.list.items a.state.candidates a.candidates));
+  candidates = candidates-grown (detail_of s) old new bytes a.state.candidates text_is candidates_are a.candidates;
   around = a.around;
   outer = a.outer;
   own = t;
@@ -536,35 +528,6 @@ source-begins s old mid purpose name a is filled reads from to from_is to_is =
     (source-prints false name filled (name-unmarked s.bytes old.at name mid.at is)) (source-class false name filled (name-unmarked s.bytes old.at name mid.at is)))
     (nest-source s a.outer a.around old.at a.state name mid.at a.outside a.awaits is)
 
--- each code of a table is one of these letters
-abbrev Lists : List Naming → List ℕ → Type 0
-Lists [] cs = Unit {0}
-Lists (n ∷ ns) cs = (code : ℕ) × (n.code ≡ code ∷ []) × (among cs code ≡ true) × Lists ns cs
-
-both-left : (a : Bool) → (a && true) ≡ true → a ≡ true
-both-left true e = refl
-both-left false e = e
-
--- a letter that has a text in a table is one of them
-listed-letter : (table : List Naming) (cs : List ℕ) (letter : ℕ) → Lists table cs → look_up (letter ∷ []) table ≢ [] → among cs letter ≡ true
-unfolding look_up same_bytes
-listed-letter [] cs letter all there = absurd (there refl)
-listed-letter (n ∷ ns) cs letter all there =
-    go all.0 all.1 all.2 (λ h. listed-letter ns cs letter all.3 h) (same_bytes (letter ∷ []) n.code) refl there
-  where
-    go : (code : ℕ) → n.code ≡ code ∷ [] → among cs code ≡ true → (look_up (letter ∷ []) ns ≢ [] → among cs letter ≡ true) → (b : Bool)
-        → same_bytes (letter ∷ []) n.code ≡ b → ◌≢◌ {A = List ℕ} (elim b [ true ↦ n.text | false ↦ look_up (letter ∷ []) ns ]) [] → among cs letter ≡ true
-    go code is one rest true same h = subst (λ l. among cs l ≡ true)
-        (sym (eqb-true letter code (both-left (nat_eq letter code) (subst (λ l. same_bytes (letter ∷ []) l ≡ true) is same)))) one
-    go code is one rest false same h = rest h
-
--- a letter that has a text is one of the abbreviations
-abbreviation-letter : (letter : ℕ) → look_up (letter ∷ []) abbreviation_texts ≢ [] → among (codes "abdios") letter ≡ true
-unfolding among abbreviation_texts
-abbreviation-letter letter there =
-    listed-letter abbreviation_texts (codes "abdios") letter
-    (97, refl, refl, (98, refl, refl, (115, refl, refl, (105, refl, refl, (111, refl, refl, (100, refl, refl, tt)))))) there
-
 -- an abbreviation begins a nested name
 pub abbreviation-begins : (s : Symbol) (old mid : Direct) (purpose : Purpose) (letter : ℕ) → AwaitsNest s old purpose → StandsAt s.bytes old.at (83 ∷ [])
     → (letter ≢ 0 → StandsAt s.bytes (old.at + 1) (letter ∷ [])) → look_up (letter ∷ []) abbreviation_texts ≢ []
@@ -581,7 +544,7 @@ abbreviation-begins s old mid purpose letter a here behind there text_is candida
     (classless-nest old.text.list.items bytes nest t from_is from_is from_is refl (abbreviation-prints letter there))
     refl refl (subst (λ n. NestGoesOn s Kind.NestRestOrEnd a.outer a.around t true n a.state) (omega (arith, at_is))
     (nest-abbreviation s a.outer a.around old.at a.state letter a.awaits (stands-join s.bytes old.at (83 ∷ []) (letter ∷ []) here (behind some))
-    (abbreviation-letter letter there)))
+    (abbreviation-listed letter there)))
 
 -- what a candidate says of the text
 pub candidate-text : (s : Symbol) (w : Direct) (purpose : Purpose) (a : AwaitsNest s w purpose) (n : ℕ) (k : Candidate)
@@ -624,9 +587,7 @@ std-begins s old mid purpose before name a here is filled text_is candidates_are
     let written : mid.text.list.items ≡ old.text.list.items ++ bytes = text_is ∙ append_assoc old.text.list.items (codes "std::") (source_text name) in
     record {
       state = a.state;
-      candidates = subst (λ l. AreCandidates (detail_of s) l mid.candidates.list.items a.state.candidates) (sym written)
-          (subst (λ k. AreCandidates (detail_of s) (old.text.list.items ++ bytes) k.list.items a.state.candidates) (sym candidates_are)
-          (candidates-stay (detail_of s) old.text.list.items bytes old.candidates.list.items a.state.candidates a.candidates));
+      candidates = candidates-grown (detail_of s) old mid bytes a.state.candidates written candidates_are a.candidates;
       around = a.around;
       outer = a.outer;
       own = t;

@@ -1,18 +1,22 @@
--- Function types, and pointers to them, as elements of lists.
+-- Function types and arrays, and pointers and references to them, as elements of lists.
 use Rattle.sym_print.specs.declared.detail.Detail.{Detail}
 use Rattle.std.proofs.Common.{◌≡◌, ◌≢◌, refl, ap, sym, ◌∙◌, ℕ, ◌+◌, ◌*◌, ◌≤◌, List, [], ◌∷◌, ◌++◌, length, Bool, true, false, None, arith, codes, length-append, append-nil, append_assoc, inl, subst}
 use Rattle.sym_print.specs.Unshared.{text_of, cost_of}
-use Rattle.cpp_grammar.specs.Term.{Term, any_value, pointer, function_type, builtin, nil}
+use Rattle.cpp_grammar.specs.Term.{Term, any_value, pointer, function_type, builtin, nil, array, lvalue}
 use Rattle.cpp_grammar.specs.Scope.{is_open, pack_length, first_of}
-use Rattle.cpp_grammar.specs.Items.{closed, left, right, first, Context, head, head_with, is_funarr, is_empty}
+use Rattle.cpp_grammar.specs.Items.{closed, left, right, first, Context, head, head_with, is_funarr, is_empty, is_reference}
 use Rattle.cpp_grammar.specs.Meaning.{is_void, is_nil, parameters}
-use Rattle.cpp_grammar.specs.Parts.{as_item, says, text_part, list_part, left_parts, right_parts, function_right, marked_parts, closing_right, ref_text, parts_in, not_empty}
+use Rattle.cpp_grammar.specs.Parts.{as_item, says, text_part, list_part, left_parts, right_parts, function_right, marked_parts, closing_right, ref_text, parts_in, not_empty, array_left, reference_parts}
 use Rattle.cpp_direct.specs.Prints.{written_of, Prints, IsElement, PrintAll, list_of}
 use Rattle.cpp_direct.specs.HolesOfFunctions.{plain_function, pointed}
 use Rattle.cpp_direct.specs.WriterInvariant.{list_with, opening_text}
-use Rattle.cpp_direct.proofs.PrintedParts.{shown_by, text_shown, cost_shown, text_append, cost_append}
+use Rattle.cpp_direct.proofs.PrintedParts.{shown_by, text_shown, cost_shown, text_append, cost_append, part-text, part-cost}
 use Rattle.cpp_direct.proofs.PrintedLists.{all-in, list-with-none, list-text, list-cost, list-closed, list-packless, none-print}
 use Rattle.cpp_direct.proofs.PrintedSymbols.{parameters-kept}
+use Rattle.cpp_direct.specs.declared.open.Access.{Access}
+use Rattle.cpp_direct.specs.HolesOfArrays.{accessed, array_opening}
+use Rattle.cpp_direct.specs.WrittenParts.{IsUnmarked}
+use Rattle.cpp_direct.specs.declared.open.Access.TheVariants as accesses
 
 -- ## What a function type prints at the left and at the right
 
@@ -68,20 +72,19 @@ sections b s o l k =
     sym (append_assoc (b ++ s) (o ++ l) k) ∙ ap (λ m. m ++ k) (sym (append_assoc (b ++ s) o l))
     ∙ ap (λ m. m ++ l ++ k) (append_assoc b s o)
 
-function_text : (x y b l : List ℕ) → x ≡ b ++ codes " " → y ≡ codes "(" ++ l ++ codes ")" → x ++ y ≡ b ++ codes " (" ++ l ++ codes ")"
-function_text x y b l e f =
-    ap (λ k. k ++ y) e ∙ ap (λ k. (b ++ codes " ") ++ k) f ∙ sections b (codes " ") (codes "(") l (codes ")")
+around_text : (x y b l o e : List ℕ) → x ≡ b ++ codes " " → y ≡ o ++ l ++ e → x ++ y ≡ b ++ (codes " " ++ o) ++ l ++ e
+around_text x y b l o e left_is right_is =
+    ap (λ k. k ++ y) left_is ∙ ap (λ k. (b ++ codes " ") ++ k) right_is ∙ sections b (codes " ") o l e
 
-pointer_text : (x y b l : List ℕ) → x ≡ b ++ codes " " → y ≡ codes "(" ++ l ++ codes ")"
-    → (x ++ codes "(*") ++ (codes ")" ++ (y ++ [])) ≡ b ++ codes " (*)(" ++ l ++ codes ")"
-pointer_text x y b l e f =
-    ap (λ k. (k ++ codes "(*") ++ (codes ")" ++ (y ++ []))) e
-    ∙ ap (λ k. ((b ++ codes " ") ++ codes "(*") ++ (codes ")" ++ k)) (append-nil y ∙ f)
-    ∙ ap (λ k. k ++ (codes ")(" ++ l ++ codes ")")) (append_assoc b (codes " ") (codes "(*"))
-    ∙ sections b (codes " (*") (codes ")(") l (codes ")")
+marked_text : (x y b l m o e : List ℕ) → x ≡ b ++ codes " " → y ≡ o ++ l ++ e
+    → (x ++ (codes "(" ++ m)) ++ (codes ")" ++ (y ++ [])) ≡ b ++ ((codes " (" ++ m) ++ (codes ")" ++ o)) ++ l ++ e
+marked_text x y b l m o e left_is right_is =
+    ap (λ k. (k ++ (codes "(" ++ m)) ++ (codes ")" ++ (y ++ []))) left_is
+    ∙ ap (λ k. ((b ++ codes " ") ++ (codes "(" ++ m)) ++ (codes ")" ++ k)) (append-nil y ∙ right_is)
+    ∙ ap (λ k. k ++ (codes ")" ++ (o ++ l ++ e))) (append_assoc b (codes " ") (codes "(" ++ m)) ∙ sections b (codes " (" ++ m) (codes ")" ++ o) l e
 
-text-length : (b o l : List ℕ) → length (b ++ o ++ l ++ codes ")") ≡ length b + length o + length l + 1
-text-length b o l = omega (arith, length-append (b ++ o ++ l) (codes ")"), length-append (b ++ o) l, length-append b o)
+text-length : (b o l : List ℕ) (e : ℕ) → length (b ++ o ++ l ++ e ∷ []) ≡ length b + length o + length l + 1
+text-length b o l e = omega (arith, length-append (b ++ o ++ l) (e ∷ []), length-append (b ++ o) l, length-append b o)
 
 pub closed-list : (detail : Detail) (ts : List Term) (l : List ℕ) → PrintAll detail 0 ts l → is_open (list_of ts) ≡ false
 closed-list detail ts l all = subst (λ k. is_open k ≡ false) (list-with-none ts) (list-closed detail 0 ts nil l (inl refl) all)
@@ -95,14 +98,14 @@ plain-element : {detail : Detail} (extra : ℕ) (is_pointer : Bool) (r : Term) (
 unfolding parts_in left_parts right_parts marked_parts closing_right head head_with is_funarr not_empty is_empty is_open pack_length first_of is_void
 plain-element {detail} extra false r b is_reference ts l p all = record {
   both_texts = λ c. let f = plain r (list_of ts) in
-      function_text (text_of (written_of detail left c f)) (text_of (written_of detail right c f)) b l
+      around_text (text_of (written_of detail left c f)) (text_of (written_of detail right c f)) b l (codes "(") (codes ")")
       (left-text c r b is_reference (list_of ts) p) (right-text c r b is_reference ts l p all);
   cost = λ c. omega (
     arith,
     p.cost c,
     left-cost detail c r (list_of ts),
     right-cost detail c r ts l all,
-    text-length b (codes " (") l,
+    text-length b (codes " (") l 41,
   );
   filled = λ c. refl;
   is_closed = rw (p.is_closed, closed-list detail ts l all) refl;
@@ -113,7 +116,7 @@ plain-element {detail} extra true r b is_reference ts l p all = let f = plain r 
   both_texts = λ c.
       ap (λ k. k ++ text_of (written_of detail right c (pointer f))) (text_shown detail left c (pointer f) (as_item left c f ∷ says "(*" ∷ []) refl refl)
       ∙ ap (λ k. (text_of (written_of detail left c f) ++ codes "(*") ++ k) (text_shown detail right c (pointer f) (says ")" ∷ as_item right c f ∷ []) refl refl)
-      ∙ pointer_text (text_of (written_of detail left c f)) (text_of (written_of detail right c f)) b l
+      ∙ marked_text (text_of (written_of detail left c f)) (text_of (written_of detail right c f)) b l (codes "*") (codes "(") (codes ")")
       (left-text c r b is_reference (list_of ts) p) (right-text c r b is_reference ts l p all);
   cost = λ c. omega (
     arith,
@@ -122,7 +125,7 @@ plain-element {detail} extra true r b is_reference ts l p all = let f = plain r 
     right-cost detail c r ts l all,
     cost_shown detail left c (pointer f) (as_item left c f ∷ says "(*" ∷ []) refl refl,
     cost_shown detail right c (pointer f) (says ")" ∷ as_item right c f ∷ []) refl refl,
-    text-length b (codes " (*)(") l,
+    text-length b (codes " (*)(") l 41,
   );
   filled = λ c. refl;
   is_closed = rw (p.is_closed, closed-list detail ts l all) refl;
@@ -146,3 +149,104 @@ unfolding parameters is_void is_nil
 void-function-element {detail} extra is_pointer r b is_reference p =
     subst (λ s. IsElement detail extra (pointed is_pointer (plain r nil)) (s ++ codes ")")) (append-nil (b ++ opening_text is_pointer))
     (plain-element extra is_pointer r b is_reference [] [] p (none-print detail 0))
+
+-- ## What an array prints at the left and at the right
+
+beginning : (c : Context) (t : Term) → is_funarr (head c t) ≡ false → array_left c t ≡ as_item left c t ∷ says " " ∷ []
+unfolding array_left
+beginning c t e = rw (e, array_left) refl
+
+array-left-text : {detail : Detail} (c : Context) (digits : List ℕ) (t : Term) (b : List ℕ) (r : Bool) → Prints detail t b r
+    → text_of (written_of detail left c (array digits t)) ≡ b ++ codes " "
+unfolding parts_in left_parts not_empty
+array-left-text {detail} c digits t b r p =
+    text_shown detail left c (array digits t) (as_item left c t ∷ says " " ∷ []) (beginning c t (p.is_funarr_head c)) refl ∙ ap (λ s. s ++ codes " ") (p.left_text c)
+
+array-left-cost : {detail : Detail} (c : Context) (digits : List ℕ) (t : Term) (b : List ℕ) (r : Bool) → Prints detail t b r
+    → cost_of (written_of detail left c (array digits t)) ≡ 2 + cost_of (written_of detail left c t)
+unfolding parts_in left_parts not_empty
+array-left-cost {detail} c digits t b r p = omega (arith, cost_shown detail left c (array digits t) (as_item left c t ∷ says " " ∷ []) (beginning c t (p.is_funarr_head c)) refl)
+
+sized_text : (x y l : List ℕ) → x ≡ l → y ≡ [] → (codes "[" ++ x) ++ (codes "]" ++ (y ++ [])) ≡ codes "[" ++ l ++ codes "]"
+sized_text x y l e f = rw (e, f) refl
+
+array-right-text : {detail : Detail} (c : Context) (digits : List ℕ) → IsUnmarked digits → (t : Term) (b : List ℕ) (r : Bool) → Prints detail t b r
+    → text_of (written_of detail right c (array digits t)) ≡ codes "[" ++ digits ++ codes "]"
+unfolding parts_in right_parts not_empty
+array-right-text {detail} c digits plain t b r p =
+    let front = says "[" ∷ text_part digits in
+    let behind = says "]" ∷ as_item right c t ∷ [] in
+    text_shown detail right c (array digits t) (front ++ behind) refl refl ∙ text_append detail front behind
+    ∙ sized_text (text_of (shown_by detail (text_part digits))) (text_of (written_of detail right c t)) digits (part-text detail digits plain) (p.right_text c)
+
+array-right-cost : (detail : Detail) (c : Context) (digits : List ℕ) (t : Term)
+    → cost_of (written_of detail right c (array digits t)) ≡ 3 + cost_of (written_of detail right c t) + length digits
+unfolding parts_in right_parts not_empty
+array-right-cost detail c digits t =
+    let front = says "[" ∷ text_part digits in
+    let behind = says "]" ∷ as_item right c t ∷ [] in
+    omega (
+      arith,
+      cost_shown detail right c (array digits t) (front ++ behind) refl refl,
+      cost_append detail front behind,
+      part-cost detail digits,
+    )
+
+-- ## What an array is as an element
+
+-- An array prints its elements' type and its size, and a mark between them where it is pointed or referred to.
+pub array-element : {detail : Detail} (extra : ℕ) (access : Access) (digits : List ℕ) → IsUnmarked digits → (t : Term) (b : List ℕ) (r : Bool) → Prints detail t b r
+    → IsElement detail extra (accessed access (array digits t)) (b ++ array_opening access ++ digits ++ codes "]")
+unfolding parts_in left_parts right_parts marked_parts reference_parts closing_right head head_with is_reference is_funarr not_empty is_empty is_open pack_length is_void
+array-element {detail} extra accesses.Plain digits plain t b r p = let a = array digits t in record {
+  both_texts = λ c. around_text (text_of (written_of detail left c a)) (text_of (written_of detail right c a)) b digits (codes "[") (codes "]") (array-left-text c digits t b r p) (array-right-text c digits plain t b r p);
+  cost = λ c. omega (
+    arith,
+    p.cost c,
+    array-left-cost c digits t b r p,
+    array-right-cost detail c digits t,
+    text-length b (codes " [") digits 93,
+  );
+  filled = λ c. refl;
+  is_closed = p.is_closed;
+  packless = p.packless;
+  void = λ e. cc e;
+}
+array-element {detail} extra accesses.Pointer digits plain t b r p = let a = array digits t in record {
+  both_texts = λ c.
+      ap (λ k. k ++ text_of (written_of detail right c (pointer a))) (text_shown detail left c (pointer a) (as_item left c a ∷ says "(*" ∷ []) refl refl)
+      ∙ ap (λ k. (text_of (written_of detail left c a) ++ codes "(*") ++ k) (text_shown detail right c (pointer a) (says ")" ∷ as_item right c a ∷ []) refl refl)
+      ∙ marked_text (text_of (written_of detail left c a)) (text_of (written_of detail right c a)) b digits (codes "*") (codes "[") (codes "]") (array-left-text c digits t b r p) (array-right-text c digits plain t b r p);
+  cost = λ c. omega (
+    arith,
+    p.cost c,
+    array-left-cost c digits t b r p,
+    array-right-cost detail c digits t,
+    cost_shown detail left c (pointer a) (as_item left c a ∷ says "(*" ∷ []) refl refl,
+    cost_shown detail right c (pointer a) (says ")" ∷ as_item right c a ∷ []) refl refl,
+    text-length b (codes " (*)[") digits 93,
+  );
+  filled = λ c. refl;
+  is_closed = p.is_closed;
+  packless = p.packless;
+  void = λ e. cc e;
+}
+array-element {detail} extra accesses.Lvalue digits plain t b r p = let a = array digits t in record {
+  both_texts = λ c.
+      ap (λ k. k ++ text_of (written_of detail right c (lvalue a))) (text_shown detail left c (lvalue a) (as_item left c a ∷ says "(&" ∷ []) refl refl)
+      ∙ ap (λ k. (text_of (written_of detail left c a) ++ codes "(&") ++ k) (text_shown detail right c (lvalue a) (says ")" ∷ as_item right c a ∷ []) refl refl)
+      ∙ marked_text (text_of (written_of detail left c a)) (text_of (written_of detail right c a)) b digits (codes "&") (codes "[") (codes "]") (array-left-text c digits t b r p) (array-right-text c digits plain t b r p);
+  cost = λ c. omega (
+    arith,
+    p.cost c,
+    array-left-cost c digits t b r p,
+    array-right-cost detail c digits t,
+    cost_shown detail left c (lvalue a) (as_item left c a ∷ says "(&" ∷ []) refl refl,
+    cost_shown detail right c (lvalue a) (says ")" ∷ as_item right c a ∷ []) refl refl,
+    text-length b (codes " (&)[") digits 93,
+  );
+  filled = λ c. refl;
+  is_closed = p.is_closed;
+  packless = p.packless;
+  void = λ e. cc e;
+}

@@ -151,6 +151,10 @@ pub list-with-none : (ts : List Term) → list_with ts nil ≡ list_of ts
 list-with-none [] = refl
 list-with-none (t ∷ ts) = ap (λ r. list t r) (list-with-none ts)
 
+pub list-more : (ts : List Term) (t r : Term) → list_with (ts ++ t ∷ []) r ≡ list_with ts (list t r)
+list-more [] t r = refl
+list-more (u ∷ ts) t r = ap (λ l. list u l) (list-more ts t r)
+
 -- What prints anywhere prints in a context.
 each-in : (detail : Detail) (c : Context) (extra : ℕ) (ts : List Term) (texts : List (List ℕ)) → PrintEach detail extra ts texts
     → PrintEachIn detail c extra ts texts

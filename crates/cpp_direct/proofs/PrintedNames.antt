@@ -1,21 +1,101 @@
--- Names and types that are one text: source names, abbreviations and builtin types.
-use Rattle.std.proofs.Common.{◌≡◌, ◌≢◌, refl, ap, sym, ◌∙◌, ℕ, ◌+◌, ◌≤◌, List, [], ◌∷◌, ◌++◌, length, Bool, true, false, arith, codes, length-append, append-nil, subst, nat_eq, ◌||◌, inl, inr}
-use Rattle.std.proofs.lemmas.Bool.{eqb-true}
+-- Names, types and arguments that are one text: source names, abbreviations, builtin types, booleans and integers.
+use Rattle.std.proofs.Common.{◌≡◌, ◌≢◌, refl, ap, Option, None, sym, ◌∙◌, ℕ, ◌+◌, ◌≤◌, List, [], ◌∷◌, ◌++◌, length, Bool, true, false, arith, codes, length-append, append-nil, subst, nat_eq, ◌||◌, inl, inr, cond, append_assoc}
+use Rattle.std.proofs.lemmas.Bool.{eqb-true, false≢true}
 use Rattle.sym_print.specs.declared.detail.Detail.{Detail}
-use Rattle.sym_print.specs.Unfold.{text}
+use Rattle.sym_print.specs.Details.{has_arguments}
+use Rattle.sym_print.specs.Unfold.{PartOf, text}
 use Rattle.sym_print.specs.Unshared.{text_of, cost_of}
-use Rattle.cpp_grammar.specs.Term.{Term, alone, in_std, abbreviation, source, operator, builtin}
+use Rattle.cpp_grammar.specs.Term.{Term, alone, in_std, abbreviation, source, operator, builtin, Signed, integer, boolean}
 use Rattle.cpp_grammar.specs.Scope.{is_open, pack_length, length_if_pack}
 use Rattle.cpp_grammar.specs.References.{is_function_type}
-use Rattle.cpp_grammar.specs.Texts.{look_up, abbreviation_texts, builtin_texts, operator_texts, same_bytes}
-use Rattle.cpp_grammar.specs.Items.{left, right, base, piece, Context, head_with, head, is_reference, is_funarr, is_empty}
+use Rattle.cpp_grammar.specs.Texts.{look_up, abbreviation_texts, builtin_texts, operator_texts, same_bytes, literal_endings}
+use Rattle.cpp_grammar.specs.Items.{Item, left, right, base, piece, closed, Context, head_with, head, is_reference, is_funarr, is_empty}
 use Rattle.cpp_grammar.specs.Meaning.{is_void}
-use Rattle.cpp_grammar.specs.Parts.{as_item, says, source_text, prefix_item, last_piece, opening_text, piece_parts, left_parts, right_parts, base_parts, parts_in, not_empty, is_plain_integer}
+use Rattle.cpp_grammar.specs.Parts.{as_item, says, source_text, prefix_item, last_piece, opening_text, piece_parts, left_parts, right_parts, base_parts, parts_in, not_empty, is_plain_integer, text_part, sign_part, builtin_code, integer_parts}
 use Rattle.cpp_direct.specs.Names.{is_angle, operator_text}
-use Rattle.cpp_direct.specs.Prints.{written_of, EndsAsInteger, Prints, PrintsName, NamesClass}
-use Rattle.cpp_direct.specs.WrittenParts.{IsUnmarked}
-use Rattle.cpp_direct.proofs.Unmarked.{source-unmarked, operator-unmarked, abbreviation-unmarked, builtin-unmarked}
-use Rattle.cpp_direct.proofs.PrintedParts.{text_shown, cost_shown, alone_shown, first_cost_shown, length-filled}
+use Rattle.cpp_direct.specs.Prints.{written_of, EndsAsInteger, Prints, PrintsName, NamesClass, sign_text}
+use Rattle.cpp_direct.specs.WrittenParts.{IsUnmarked, unmarked_parts, written_in}
+use Rattle.cpp_direct.proofs.Unmarked.{source-unmarked, operator-unmarked, abbreviation-unmarked, builtin-unmarked, truth-unmarked, ending-unmarked, rest-unmarked}
+use Rattle.cpp_direct.proofs.PrintedParts.{text_shown, cost_shown, alone_shown, first_cost_shown, length-filled, shown_by, first_shown, text_append, cost_append, part-text, part-cost}
+use Rattle.cpp_grammar.specs.Values.{normal}
+
+-- what a tree is beside its text at the left
+pub record Besides : Type 0 where
+  pub behind : List (PartOf Item)
+  pub reference : Bool
+  pub function_or_array : Bool
+  pub empty : Bool
+  pub function : Bool
+  pub pack : Option ℕ
+  pub prefix : PartOf Item
+  pub void : Bool
+  pub integer : Bool
+
+unfoldable pub besides : Context → Term → Besides
+unfolding right_parts head head_with is_reference is_funarr is_empty is_function_type length_if_pack prefix_item is_void is_plain_integer
+besides c t = record {
+  behind = right_parts c t;
+  reference = is_reference (head c t);
+  function_or_array = is_funarr (head c t);
+  empty = is_empty c t;
+  function = is_function_type t;
+  pack = length_if_pack t;
+  prefix = prefix_item c t;
+  void = is_void t;
+  integer = is_plain_integer t;
+}
+
+-- nothing at all
+abbrev pub nothing_besides : Context → Term → Besides
+nothing_besides c t = record {
+  behind = [];
+  reference = false;
+  function_or_array = false;
+  empty = false;
+  function = false;
+  pack = None;
+  prefix = as_item left c t;
+  void = false;
+  integer = false;
+}
+
+-- a tree that is a name or a value, and nothing besides, prints its text
+pub own-prints : {detail : Detail} (t : Term) (bytes : List ℕ) → PrintsName detail t bytes → is_open t ≡ false → ((scope : Term) → pack_length scope t ≡ None)
+    → opening_text (last_piece t) ≡ codes "<" → ((c : Context) → besides c t ≡ nothing_besides c t) → Prints detail t bytes false
+unfolding besides parts_in not_empty right_parts head head_with is_reference is_funarr is_empty is_function_type length_if_pack prefix_item is_void is_plain_integer
+own-prints {detail} t bytes n is_closed packless opening is = record {
+  left_text = n.left_text;
+  right_text = λ c. text_shown detail right c t [] (ap (λ b. b.behind) (is c)) refl;
+  cost = n.cost;
+  is_reference_head = λ c. ap (λ b. b.reference) (is c);
+  is_funarr_head = λ c. ap (λ b. b.function_or_array) (is c);
+  filled = λ c. ap (λ b. b.empty) (is c);
+  is_closed = is_closed;
+  packless = packless;
+  no_function = ap (λ b. b.function) (is closed);
+  no_pack = ap (λ b. b.pack) (is closed);
+  reference_cost = λ e. cc e;
+  as_prefix = λ c. ap (λ b. b.prefix) (is c);
+  opening = opening;
+  void = λ e. absurd (false≢true (sym (ap (λ b. b.void) (is closed)) ∙ e));
+  integer = λ e. absurd (false≢true (sym (ap (λ b. b.integer) (is closed)) ∙ e));
+}
+
+-- a tree of which one text is written at the left, and nothing at the right, names something by it
+one-text-names : {detail : Detail} (t : Term) (b : List ℕ) → ((c : Context) → parts_in detail c left t ≡ text b ∷ [])
+    → ((c : Context) → written_in detail c left t ≡ unmarked_parts (has_arguments detail) (parts_in detail c left t))
+    → ((c : Context) → parts_in detail c right t ≡ []) → IsUnmarked b → 1 ≤ length b → PrintsName detail t b
+unfolding not_empty
+one-text-names {detail} t b left_is written right_is plain some = record {
+  left_text = λ c. text_shown detail left c t (text b ∷ []) (left_is c) (written c) ∙ alone_shown detail b plain;
+  cost = λ c. omega (
+    arith,
+    some,
+    first_cost_shown detail b [],
+    cost_shown detail left c t (text b ∷ []) (left_is c) (written c),
+    cost_shown detail right c t [] (right_is c) refl,
+  );
+}
 
 -- the text of a source name isn't empty
 pub source-filled : (name : List ℕ) → name ≢ [] → 1 ≤ length (source_text name)
@@ -49,31 +129,11 @@ builtin-ends letter e =
 
 -- A source name prints itself.
 pub source-prints : {detail : Detail} (internal : Bool) (name : List ℕ) → name ≢ [] → IsUnmarked name → Prints detail (alone (source internal name)) (source_text name) false
-unfolding parts_in left_parts right_parts piece_parts not_empty head head_with is_reference is_funarr is_empty is_open pack_length is_function_type length_if_pack
-    prefix_item last_piece opening_text is_void is_plain_integer
-source-prints {detail} internal name filled plain = let t = alone (source internal name) in record {
-  left_text = λ c. text_shown detail left c t (text (source_text name) ∷ []) refl refl ∙ alone_shown detail (source_text name) (source-unmarked name plain);
-  right_text = λ c. text_shown detail right c t [] refl refl;
-  cost = λ c. omega (
-    arith,
-    source-filled name filled,
-    first_cost_shown detail (source_text name) [],
-    cost_shown detail left c t (text (source_text name) ∷ []) refl refl,
-    cost_shown detail right c t [] refl refl,
-  );
-  is_reference_head = λ c. refl;
-  is_funarr_head = λ c. refl;
-  filled = λ c. refl;
-  is_closed = refl;
-  packless = λ scope. refl;
-  no_function = refl;
-  no_pack = refl;
-  reference_cost = λ e. cc e;
-  as_prefix = λ c. refl;
-  opening = refl;
-  void = λ e. cc e;
-  integer = λ e. cc e;
-}
+unfolding parts_in left_parts right_parts piece_parts not_empty is_open pack_length last_piece opening_text besides
+source-prints {detail} internal name filled plain =
+    let t = alone (source internal name) in
+    own-prints t (source_text name)
+    (one-text-names t (source_text name) (λ c. refl) (λ c. refl) (λ c. refl) (source-unmarked name plain) (source-filled name filled)) refl (λ scope. refl) refl (λ c. refl)
 
 -- It names its class by itself.
 pub source-class : {detail : Detail} (internal : Bool) (name : List ℕ) → name ≢ [] → IsUnmarked name → NamesClass detail (alone (source internal name)) (source_text name)
@@ -121,128 +181,64 @@ operator-cost detail c first second =
     let x = operator_text first second in
     omega (arith, cost_shown detail piece c (operator first second) (text x ∷ []) refl refl, first_cost_shown detail x [])
 
-std-left : (detail : Detail) (c : Context) (internal : Bool) (name : List ℕ) → IsUnmarked name
-    → text_of (written_of detail left c (in_std (source internal name))) ≡ codes "std::" ++ source_text name
-unfolding parts_in left_parts not_empty
-std-left detail c internal name plain =
-    text_shown detail left c (in_std (source internal name)) (says "std::" ∷ as_item piece c (source internal name) ∷ []) refl refl
-    ∙ ap (λ s. codes "std::" ++ (s ++ [])) (piece-text detail c internal name plain) ∙ ap (λ s. codes "std::" ++ s) (append-nil (source_text name))
+-- ## In std
 
-std-cost : (detail : Detail) (c : Context) (internal : Bool) (name : List ℕ)
-    → cost_of (written_of detail left c (in_std (source internal name))) ≡ 7 + length (source_text name)
+std-left : (detail : Detail) (c : Context) (p : Term) (x : List ℕ) → text_of (written_of detail piece c p) ≡ x
+    → text_of (written_of detail left c (in_std p)) ≡ codes "std::" ++ x
 unfolding parts_in left_parts not_empty
-std-cost detail c internal name =
-    omega (
-      arith,
-      cost_shown detail left c (in_std (source internal name)) (says "std::" ∷ as_item piece c (source internal name) ∷ []) refl refl,
-      piece-cost detail c internal name,
-    )
+std-left detail c p x is =
+    text_shown detail left c (in_std p) (says "std::" ∷ as_item piece c p ∷ []) refl refl ∙ ap (λ s. codes "std::" ++ (s ++ [])) is
+    ∙ ap (λ s. codes "std::" ++ s) (append-nil x)
+
+std-cost : (detail : Detail) (c : Context) (p : Term) (x : List ℕ) → cost_of (written_of detail piece c p) ≡ 1 + length x
+    → cost_of (written_of detail left c (in_std p)) ≡ 7 + length x
+unfolding parts_in left_parts not_empty
+std-cost detail c p x is = omega (arith, cost_shown detail left c (in_std p) (says "std::" ∷ as_item piece c p ∷ []) refl refl, is)
+
+std-names : {detail : Detail} (p : Term) (x : List ℕ) → ((c : Context) → text_of (written_of detail piece c p) ≡ x)
+    → ((c : Context) → cost_of (written_of detail piece c p) ≡ 1 + length x) → 1 ≤ length x → PrintsName detail (in_std p) (codes "std::" ++ x)
+unfolding parts_in right_parts not_empty
+std-names {detail} p x texts costs some = record {
+  left_text = λ c. std-left detail c p x (texts c);
+  cost = λ c. omega (arith, some, std-cost detail c p x (costs c), cost_shown detail right c (in_std p) [] refl refl, length-append (codes "std::") x);
+}
 
 -- A source name in std prints so.
 pub std-prints : {detail : Detail} (internal : Bool) (name : List ℕ) → name ≢ [] → IsUnmarked name
     → Prints detail (in_std (source internal name)) (codes "std::" ++ source_text name) false
-unfolding parts_in left_parts right_parts not_empty head head_with is_reference is_funarr is_empty is_open pack_length is_function_type length_if_pack prefix_item
-    last_piece opening_text is_void is_plain_integer
-std-prints {detail} internal name filled plain = let t = in_std (source internal name) in record {
-  left_text = λ c. std-left detail c internal name plain;
-  right_text = λ c. text_shown detail right c t [] refl refl;
-  cost = λ c. omega (
-    arith,
-    source-filled name filled,
-    std-cost detail c internal name,
-    cost_shown detail right c t [] refl refl,
-    length-append (codes "std::") (source_text name),
-  );
-  is_reference_head = λ c. refl;
-  is_funarr_head = λ c. refl;
-  filled = λ c. refl;
-  is_closed = refl;
-  packless = λ scope. refl;
-  no_function = refl;
-  no_pack = refl;
-  reference_cost = λ e. cc e;
-  as_prefix = λ c. refl;
-  opening = refl;
-  void = λ e. cc e;
-  integer = λ e. cc e;
-}
+unfolding parts_in left_parts right_parts piece_parts not_empty is_open pack_length last_piece opening_text besides
+std-prints {detail} internal name filled plain =
+    let names = std-names (source internal name) (source_text name) (λ c. piece-text detail c internal name plain) (λ c. piece-cost detail c internal name)
+    (source-filled name filled) in
+    own-prints (in_std (source internal name)) (codes "std::" ++ source_text name) names refl (λ scope. refl) refl (λ c. refl)
 
 -- An operator names something by its text.
 pub operator-names : {detail : Detail} (a b : ℕ) → PrintsName detail (alone (operator a b)) (operator_text a b)
 unfolding parts_in left_parts right_parts piece_parts not_empty
-operator-names {detail} a b = let t = alone (operator a b) in let x = operator_text a b in record {
-  left_text = λ c. text_shown detail left c t (text x ∷ []) refl refl ∙ alone_shown detail x (operator-unmarked a b);
-  cost = λ c. omega (
-    arith,
-    length-append (codes "operator") (look_up (a ∷ b ∷ []) operator_texts),
-    first_cost_shown detail x [],
-    cost_shown detail left c t (text x ∷ []) refl refl,
-    cost_shown detail right c t [] refl refl,
-  );
-}
+operator-names {detail} a b =
+    let filled : 1 ≤ length (operator_text a b) = omega (arith, length-append (codes "operator") (look_up (a ∷ b ∷ []) operator_texts)) in
+    one-text-names (alone (operator a b)) (operator_text a b) (λ c. refl) (λ c. refl) (λ c. refl) (operator-unmarked a b) filled
 
 -- It prints so, unless a blank is between it and arguments.
 pub operator-prints : {detail : Detail} (a b : ℕ) → is_angle a b ≡ false → Prints detail (alone (operator a b)) (operator_text a b) false
-unfolding parts_in right_parts not_empty head head_with is_reference is_funarr is_empty is_open pack_length is_function_type length_if_pack
-    prefix_item last_piece opening_text is_void is_plain_integer
-operator-prints {detail} a b plain = let t = alone (operator a b) in let n = operator-names a b in record {
-  left_text = n.left_text;
-  right_text = λ c. text_shown detail right c t [] refl refl;
-  cost = n.cost;
-  is_reference_head = λ c. refl;
-  is_funarr_head = λ c. refl;
-  filled = λ c. refl;
-  is_closed = refl;
-  packless = λ scope. refl;
-  no_function = refl;
-  no_pack = refl;
-  reference_cost = λ e. cc e;
-  as_prefix = λ c. refl;
-  opening = rw plain refl;
-  void = λ e. cc e;
-  integer = λ e. cc e;
-}
+unfolding parts_in left_parts right_parts piece_parts not_empty is_open pack_length last_piece opening_text besides
+operator-prints {detail} a b plain =
+    let t = alone (operator a b) in
+    let n = operator-names a b in
+    own-prints t (operator_text a b) n refl (λ scope. refl) (rw plain refl) (λ c. refl)
 
 -- The same in std.
 pub std-operator-names : {detail : Detail} (a b : ℕ) → PrintsName detail (in_std (operator a b)) (codes "std::" ++ operator_text a b)
-unfolding parts_in left_parts right_parts not_empty
 std-operator-names {detail} a b =
-    let t = in_std (operator a b) in
-    let x = operator_text a b in
-    let is : (c : Context) → parts_in detail c left t ≡ says "std::" ∷ as_item piece c (operator a b) ∷ [] = λ c. refl in
-    record {
-      left_text = λ c. text_shown detail left c t (says "std::" ∷ as_item piece c (operator a b) ∷ []) (is c) refl
-          ∙ ap (λ s. codes "std::" ++ (s ++ [])) (operator-text detail c a b) ∙ ap (λ s. codes "std::" ++ s) (append-nil x);
-      cost = λ c. omega (
-        arith,
-        operator-cost detail c a b,
-        length-append (codes "operator") (look_up (a ∷ b ∷ []) operator_texts),
-        cost_shown detail left c t (says "std::" ∷ as_item piece c (operator a b) ∷ []) (is c) refl,
-        cost_shown detail right c t [] refl refl,
-        length-append (codes "std::") x,
-      );
-    }
+    let filled : 1 ≤ length (operator_text a b) = omega (arith, length-append (codes "operator") (look_up (a ∷ b ∷ []) operator_texts)) in
+    std-names (operator a b) (operator_text a b) (λ c. operator-text detail c a b) (λ c. operator-cost detail c a b) filled
 
 pub std-operator-prints : {detail : Detail} (a b : ℕ) → is_angle a b ≡ false → Prints detail (in_std (operator a b)) (codes "std::" ++ operator_text a b) false
-unfolding parts_in right_parts not_empty head head_with is_reference is_funarr is_empty is_open pack_length is_function_type length_if_pack
-    prefix_item last_piece opening_text is_void is_plain_integer
-std-operator-prints {detail} a b plain = let t = in_std (operator a b) in let n = std-operator-names a b in record {
-  left_text = n.left_text;
-  right_text = λ c. text_shown detail right c t [] refl refl;
-  cost = n.cost;
-  is_reference_head = λ c. refl;
-  is_funarr_head = λ c. refl;
-  filled = λ c. refl;
-  is_closed = refl;
-  packless = λ scope. refl;
-  no_function = refl;
-  no_pack = refl;
-  reference_cost = λ e. cc e;
-  as_prefix = λ c. refl;
-  opening = rw plain refl;
-  void = λ e. cc e;
-  integer = λ e. cc e;
-}
+unfolding parts_in left_parts right_parts piece_parts not_empty is_open pack_length last_piece opening_text besides
+std-operator-prints {detail} a b plain =
+    let t = in_std (operator a b) in
+    let n = std-operator-names a b in
+    own-prints t (codes "std::" ++ operator_text a b) n refl (λ scope. refl) (rw plain refl) (λ c. refl)
 
 -- It names its class without std.
 pub std-class : {detail : Detail} (internal : Bool) (name : List ℕ) → name ≢ [] → IsUnmarked name → NamesClass detail (in_std (source internal name)) (source_text name)
@@ -253,10 +249,10 @@ std-class {detail} internal name filled plain = let t = in_std (source internal 
     arith,
     source-filled name filled,
     first_cost_shown detail (source_text name) [],
-    std-cost detail c internal name,
+    std-cost detail c (source internal name) (source_text name) (piece-cost detail c internal name),
     cost_shown detail right c t [] refl refl,
     cost_shown detail base c t (text (source_text name) ∷ []) refl refl,
-    ap length (std-left detail c internal name plain),
+    ap length (std-left detail c (source internal name) (source_text name) (piece-text detail c internal name plain)),
     length-append (codes "std::") (source_text name),
   );
 }
@@ -264,25 +260,12 @@ std-class {detail} internal name filled plain = let t = in_std (source internal 
 -- An abbreviation prints its text.
 pub abbreviation-prints : {detail : Detail} (letter : ℕ) → look_up (letter ∷ []) abbreviation_texts ≢ []
     → Prints detail (abbreviation letter) (look_up (letter ∷ []) abbreviation_texts) false
-unfolding parts_in left_parts right_parts not_empty head head_with is_reference is_funarr is_empty is_open pack_length is_function_type length_if_pack prefix_item
-    last_piece opening_text is_void is_plain_integer
-abbreviation-prints {detail} letter filled = let t = abbreviation letter in let b = look_up (letter ∷ []) abbreviation_texts in record {
-  left_text = λ c. text_shown detail left c t (text b ∷ []) refl refl ∙ alone_shown detail b (abbreviation-unmarked (letter ∷ []));
-  right_text = λ c. text_shown detail right c t [] refl refl;
-  cost = λ c. omega (arith, length-filled b filled, first_cost_shown detail b [], cost_shown detail left c t (text b ∷ []) refl refl, cost_shown detail right c t [] refl refl);
-  is_reference_head = λ c. refl;
-  is_funarr_head = λ c. refl;
-  filled = λ c. refl;
-  is_closed = refl;
-  packless = λ scope. refl;
-  no_function = refl;
-  no_pack = refl;
-  reference_cost = λ e. cc e;
-  as_prefix = λ c. refl;
-  opening = refl;
-  void = λ e. cc e;
-  integer = λ e. cc e;
-}
+unfolding parts_in left_parts right_parts piece_parts not_empty is_open pack_length last_piece opening_text besides
+abbreviation-prints {detail} letter filled =
+    let t = abbreviation letter in
+    let b = look_up (letter ∷ []) abbreviation_texts in
+    own-prints t (look_up (letter ∷ []) abbreviation_texts)
+    (one-text-names t b (λ c. refl) (λ c. refl) (λ c. refl) (abbreviation-unmarked (letter ∷ [])) (length-filled b filled)) refl (λ scope. refl) refl (λ c. refl)
 
 void-text : (letter : ℕ) → letter ≡ 118 → look_up (letter ∷ []) builtin_texts ≡ codes "void"
 unfolding look_up builtin_texts same_bytes
@@ -291,8 +274,7 @@ void-text letter same = subst (λ l. look_up (l ∷ []) builtin_texts ≡ codes 
 -- A builtin type prints its text.
 pub builtin-prints : {detail : Detail} (letter : ℕ) → look_up (letter ∷ []) builtin_texts ≢ []
     → Prints detail (builtin (letter ∷ [])) (look_up (letter ∷ []) builtin_texts) false
-unfolding parts_in left_parts right_parts not_empty head head_with is_reference is_funarr is_empty is_open pack_length is_function_type length_if_pack prefix_item
-    last_piece opening_text is_void is_plain_integer
+unfolding parts_in left_parts right_parts piece_parts not_empty is_open pack_length last_piece opening_text head head_with is_reference is_funarr is_empty is_function_type length_if_pack prefix_item is_void is_plain_integer
 builtin-prints {detail} letter filled = let t = builtin (letter ∷ []) in let b = look_up (letter ∷ []) builtin_texts in record {
   left_text = λ c. text_shown detail left c t (text b ∷ []) refl refl ∙ alone_shown detail b (builtin-unmarked (letter ∷ []));
   right_text = λ c. text_shown detail right c t [] refl refl;
@@ -314,22 +296,155 @@ builtin-prints {detail} letter filled = let t = builtin (letter ∷ []) in let b
 -- So does one with a code of two letters.
 pub builtin-with-d-prints : {detail : Detail} (letter : ℕ) → look_up (68 ∷ letter ∷ []) builtin_texts ≢ []
     → Prints detail (builtin (68 ∷ letter ∷ [])) (look_up (68 ∷ letter ∷ []) builtin_texts) false
-unfolding parts_in left_parts right_parts not_empty head head_with is_reference is_funarr is_empty is_open pack_length is_function_type length_if_pack prefix_item
-    last_piece opening_text is_void is_plain_integer
-builtin-with-d-prints {detail} letter filled = let t = builtin (68 ∷ letter ∷ []) in let b = look_up (68 ∷ letter ∷ []) builtin_texts in record {
-  left_text = λ c. text_shown detail left c t (text b ∷ []) refl refl ∙ alone_shown detail b (builtin-unmarked (68 ∷ letter ∷ []));
-  right_text = λ c. text_shown detail right c t [] refl refl;
-  cost = λ c. omega (arith, length-filled b filled, first_cost_shown detail b [], cost_shown detail left c t (text b ∷ []) refl refl, cost_shown detail right c t [] refl refl);
-  is_reference_head = λ c. refl;
-  is_funarr_head = λ c. refl;
-  filled = λ c. refl;
-  is_closed = refl;
-  packless = λ scope. refl;
-  no_function = refl;
-  no_pack = refl;
-  reference_cost = λ e. cc e;
-  as_prefix = λ c. refl;
-  opening = refl;
-  void = λ e. cc e;
-  integer = λ e. cc e;
-}
+unfolding parts_in left_parts right_parts piece_parts not_empty is_open pack_length last_piece opening_text besides
+builtin-with-d-prints {detail} letter filled =
+    let t = builtin (68 ∷ letter ∷ []) in
+    let b = look_up (68 ∷ letter ∷ []) builtin_texts in
+    own-prints t (look_up (68 ∷ letter ∷ []) builtin_texts)
+    (one-text-names t b (λ c. refl) (λ c. refl) (λ c. refl) (builtin-unmarked (68 ∷ letter ∷ [])) (length-filled b filled)) refl (λ scope. refl) refl (λ c. refl)
+
+-- ## Arguments that are no types
+
+boolean-filled : (b : Bool) → 1 ≤ length {A = ℕ} (cond b (codes "true") (codes "false"))
+boolean-filled true = omega arith
+boolean-filled false = omega arith
+
+-- A boolean prints its word.
+pub boolean-prints : {detail : Detail} (b : Bool) → Prints detail (boolean b) (cond b (codes "true") (codes "false")) false
+unfolding parts_in left_parts right_parts piece_parts not_empty is_open pack_length last_piece opening_text besides
+boolean-prints {detail} b =
+    let t = boolean b in
+    let w : List ℕ = cond b (codes "true") (codes "false") in
+    own-prints t (cond b (codes "true") (codes "false"))
+    (one-text-names t w (λ c. refl) (λ c. refl) (λ c. refl) (truth-unmarked b) (boolean-filled b)) refl (λ scope. refl) refl (λ c. refl)
+
+-- ## Signs and digits
+
+sign-text : (detail : Detail) (n : Signed) → text_of (shown_by detail (sign_part n)) ≡ sign_text n
+unfolding sign_part not_empty
+sign-text detail n = go n.negative
+  where
+    go : (b : Bool) → text_of (shown_by detail (cond b (says "-" ∷ []) [])) ≡ cond b (codes "-") []
+    go true = refl
+    go false = refl
+
+sign-cost : (detail : Detail) (n : Signed) → cost_of (shown_by detail (sign_part n)) ≡ 1 + length (sign_text n)
+unfolding sign_part not_empty
+sign-cost detail n = go n.negative
+  where
+    go : (b : Bool) → cost_of (shown_by detail (cond b (says "-" ∷ []) [])) ≡ 1 + length {A = ℕ} (cond b (codes "-") [])
+    go true = omega arith
+    go false = omega arith
+
+-- There are digits where there were.
+pub normal-filled : (digits : List ℕ) → digits ≢ [] → normal digits ≢ []
+unfolding normal
+normal-filled [] e = e
+normal-filled (d ∷ []) e = λ f. cc f
+normal-filled (d ∷ c ∷ ds) e = go (nat_eq d 48) (normal-filled (c ∷ ds) (λ f. cc f))
+  where
+    go : (zero_first : Bool) → normal (c ∷ ds) ≢ [] → ◌≢◌ {A = List ℕ} (elim zero_first [ true ↦ normal (c ∷ ds) | false ↦ d ∷ c ∷ ds ]) []
+    go true behind = behind
+    go false behind = λ f. cc f
+
+-- They have no marks where there were none.
+pub normal-unmarked : (digits : List ℕ) → IsUnmarked digits → IsUnmarked (normal digits)
+unfolding normal
+normal-unmarked [] plain = plain
+normal-unmarked (d ∷ []) plain = plain
+normal-unmarked (d ∷ c ∷ ds) plain = go (nat_eq d 48) (normal-unmarked (c ∷ ds) (rest-unmarked d (c ∷ ds) plain))
+  where
+    go : (zero_first : Bool) → IsUnmarked (normal (c ∷ ds)) → IsUnmarked (elim zero_first [ true ↦ normal (c ∷ ds) | false ↦ d ∷ c ∷ ds ])
+    go true behind = behind
+    go false behind = plain
+
+-- ## Integers
+
+plain-is : (c : Context) (t : Term) (n : Signed) → is_plain_integer t ≡ true
+    → integer_parts c t n ≡ sign_part n ++ (text n.digits ∷ text_part (look_up (builtin_code t) literal_endings))
+unfolding integer_parts
+plain-is c t n e = rw (e, integer_parts) refl
+
+cast-is : (c : Context) (t : Term) (n : Signed) → is_plain_integer t ≡ false
+    → integer_parts c t n ≡ (says "(" ∷ as_item left c t ∷ as_item right c t ∷ says ")" ∷ []) ++ sign_part n ++ (text n.digits ∷ [])
+unfolding integer_parts
+cast-is c t n e = rw (e, integer_parts) refl
+
+three : (x y z s d e : List ℕ) → x ≡ s → y ≡ d ++ z → z ≡ e → x ++ y ≡ s ++ d ++ e
+three x y z s d e f g h = rw (f, g, h) (sym (append_assoc s d e))
+
+-- An integer of a type that needs no cast prints its sign, its digits and the ending of its type.
+pub plain-integer-prints : {detail : Detail} (letter : ℕ) → is_plain_integer (builtin (letter ∷ [])) ≡ true → (n : Signed) → n.digits ≢ [] → IsUnmarked n.digits
+    → Prints detail (integer (builtin (letter ∷ [])) n) (sign_text n ++ n.digits ++ look_up (letter ∷ []) literal_endings) false
+unfolding parts_in left_parts right_parts piece_parts not_empty is_open pack_length last_piece opening_text besides builtin_code
+plain-integer-prints {detail} letter plain n filled digits_plain =
+    let t = builtin (letter ∷ []) in
+    let i = integer t n in
+    let ending = look_up (letter ∷ []) literal_endings in
+    let behind = text n.digits ∷ text_part ending in
+    own-prints i (sign_text n ++ n.digits ++ look_up (letter ∷ []) literal_endings) (record {
+      left_text = λ c. text_shown detail left c i (sign_part n ++ behind) (plain-is c t n plain) refl ∙ text_append detail (sign_part n) behind
+          ∙ three (text_of (shown_by detail (sign_part n))) (text_of (shown_by detail behind)) (text_of (shown_by detail (text_part ending)))
+          (sign_text n) n.digits ending (sign-text detail n) (first_shown detail n.digits (text_part ending) digits_plain) (part-text detail ending (ending-unmarked (letter ∷ [])));
+      cost = λ c. omega (
+        arith,
+        cost_shown detail left c i (sign_part n ++ behind) (plain-is c t n plain) refl,
+        cost_append detail (sign_part n) behind,
+        sign-cost detail n,
+        first_cost_shown detail n.digits (text_part ending),
+        part-cost detail ending,
+        cost_shown detail right c i [] refl refl,
+        length-filled n.digits filled,
+        length-append (sign_text n ++ n.digits) ending,
+        length-append (sign_text n) n.digits,
+      );
+    }) refl (λ scope. refl) refl (λ c. refl)
+
+cast_text : (x r y z b s d : List ℕ) → x ≡ b → r ≡ [] → y ≡ s → z ≡ d
+    → ((codes "(" ++ (x ++ (r ++ codes ")"))) ++ y) ++ z ≡ codes "(" ++ b ++ codes ")" ++ s ++ d
+cast_text x r y z b s d e f g h = rw (e, f, g, h) (ap (λ u. u ++ s ++ d) (sym (append_assoc (codes "(") b (codes ")"))))
+
+-- An integer of another type prints its type in front.
+pub enumerator-prints : {detail : Detail} (t : Term) (b : List ℕ) (r : Bool) → Prints detail t b r → is_plain_integer t ≡ false → (n : Signed) → n.digits ≢ [] → IsUnmarked n.digits
+    → Prints detail (integer t n) (codes "(" ++ b ++ codes ")" ++ sign_text n ++ n.digits) false
+unfolding parts_in left_parts right_parts piece_parts not_empty is_open pack_length last_piece opening_text besides
+enumerator-prints {detail} t b r p cast n filled digits_plain =
+    let i = integer t n in
+    let front : Context → List (PartOf Item) = λ c. says "(" ∷ as_item left c t ∷ as_item right c t ∷ says ")" ∷ [] in
+    own-prints i (codes "(" ++ b ++ codes ")" ++ sign_text n ++ n.digits) (record {
+      left_text = λ c. text_shown detail left c i (front c ++ sign_part n ++ (text n.digits ∷ [])) (cast-is c t n cast) refl
+          ∙ text_append detail (front c ++ sign_part n) (text n.digits ∷ [])
+          ∙ ap (λ u. u ++ text_of (shown_by detail (text n.digits ∷ []))) (text_append detail (front c) (sign_part n))
+          ∙ cast_text (text_of (written_of detail left c t)) (text_of (written_of detail right c t)) (text_of (shown_by detail (sign_part n)))
+          (text_of (shown_by detail (text n.digits ∷ []))) b (sign_text n) n.digits (p.left_text c) (p.right_text c) (sign-text detail n) (alone_shown detail n.digits digits_plain);
+      cost = λ c. omega (
+        arith,
+        p.cost c,
+        cost_shown detail left c i (front c ++ sign_part n ++ (text n.digits ∷ [])) (cast-is c t n cast) refl,
+        cost_append detail (front c ++ sign_part n) (text n.digits ∷ []),
+        cost_append detail (front c) (sign_part n),
+        sign-cost detail n,
+        first_cost_shown detail n.digits [],
+        cost_shown detail right c i [] refl refl,
+        length-filled n.digits filled,
+        length-append (codes "(" ++ b ++ codes ")" ++ sign_text n) n.digits,
+        length-append (codes "(" ++ b ++ codes ")") (sign_text n),
+        length-append (codes "(" ++ b) (codes ")"),
+        length-append (codes "(") b,
+      );
+    }) p.is_closed (λ scope. p.packless scope) refl (λ c. refl)
+
+-- and so does one of a builtin type
+pub cast-integer-prints : {detail : Detail} (letter : ℕ) → is_plain_integer (builtin (letter ∷ [])) ≡ false → look_up (letter ∷ []) builtin_texts ≢ []
+    → (n : Signed) → n.digits ≢ [] → IsUnmarked n.digits
+    → Prints detail (integer (builtin (letter ∷ [])) n) (codes "(" ++ look_up (letter ∷ []) builtin_texts ++ codes ")" ++ sign_text n ++ n.digits) false
+cast-integer-prints letter cast there n filled digits_plain =
+    enumerator-prints (builtin (letter ∷ [])) (look_up (letter ∷ []) builtin_texts) false (builtin-prints letter there) cast n filled digits_plain
+
+-- a type with another name is none whose integers are without it
+pub not-integer : {detail : Detail} (t : Term) (b : List ℕ) (r : Bool) → Prints detail t b r → (EndsAsInteger b → ⊥) → is_plain_integer t ≡ false
+not-integer t b r p other = go (is_plain_integer t) refl
+  where
+    go : (is : Bool) → is_plain_integer t ≡ is → is_plain_integer t ≡ false
+    go true e = absurd (other (p.integer e))
+    go false e = e

@@ -1,24 +1,23 @@
--- Names in other names, constructors and destructors, and names with arguments.
+-- Names in other names, constructors and destructors, names with arguments, and names with tags.
 use Rattle.sym_print.specs.declared.detail.Detail.{Detail}
 use Rattle.std.proofs.Common.{◌≡◌, ◌≢◌, refl, ap, sym, ◌∙◌, ℕ, ◌+◌, ◌*◌, ◌≤◌, List, [], ◌∷◌, ◌++◌, length, Bool, true, false, None, arith, codes, length-append, append-nil, append_assoc}
 use Rattle.sym_print.specs.Details.{has_arguments}
 use Rattle.sym_print.specs.Unfold.{text}
 use Rattle.sym_print.specs.Unshared.{text_of, cost_of}
-use Rattle.cpp_grammar.specs.Term.{Term, within, instance, source, operator, constructor, destructor}
-use Rattle.cpp_grammar.specs.Scope.{is_open, pack_length, length_if_pack, first_of, is_structor, without_tags}
-use Rattle.cpp_grammar.specs.References.{is_function_type}
+use Rattle.cpp_grammar.specs.Term.{Term, within, instance, source, operator, constructor, destructor, in_std, tagged}
+use Rattle.cpp_grammar.specs.Scope.{is_open, pack_length, first_of, is_structor, without_tags}
 use Rattle.cpp_grammar.specs.Texts.{look_up, operator_texts}
-use Rattle.cpp_grammar.specs.Items.{left, right, base, piece, first, Context, head_with, head, is_reference, is_funarr, is_empty}
-use Rattle.cpp_grammar.specs.Meaning.{is_void}
-use Rattle.cpp_grammar.specs.Parts.{as_item, says, list_part, source_text, prefix_item, last_piece, opening_text, own_piece, piece_parts, within_parts, base_within, base_tagged, instance_parts, left_parts, right_parts, base_parts, parts_in, not_empty, is_plain_integer}
-use Rattle.cpp_direct.specs.Names.{is_angle, operator_text}
+use Rattle.cpp_grammar.specs.Items.{left, right, base, piece, first, Context}
+use Rattle.cpp_grammar.specs.Parts.{as_item, says, list_part, source_text, prefix_item, last_piece, opening_text, own_piece, piece_parts, within_parts, base_within, base_tagged, instance_parts, left_parts, right_parts, base_parts, parts_in, not_empty}
+use Rattle.cpp_direct.specs.Names.{is_angle, operator_text, tag_text}
 use Rattle.cpp_direct.specs.Prints.{written_of, Prints, PrintsName, NamesClass, PrintAll}
 use Rattle.cpp_direct.specs.WriterInvariant.{IsTail, list_with}
-use Rattle.cpp_direct.proofs.PrintedParts.{printed_by, shown_by, text_shown, cost_shown, alone_shown, first_cost_shown, writes_parts, text-append, cost-append, list-unmarked}
+use Rattle.cpp_direct.proofs.PrintedParts.{printed_by, shown_by, text_shown, cost_shown, alone_shown, first_cost_shown, writes_parts, text-append, cost-append, list-unmarked, first_shown}
 use Rattle.cpp_direct.specs.WrittenParts.{IsUnmarked, opening_byte, closing_byte, opening_bracket, closing_bracket, written_instance}
 use Rattle.cpp_direct.proofs.Unmarked.{source-unmarked, operator-unmarked}
-use Rattle.cpp_direct.proofs.PrintedNames.{source-filled, piece-text, piece-cost, operator-text, operator-cost}
+use Rattle.cpp_direct.proofs.PrintedNames.{besides, own-prints, source-filled, piece-text, piece-cost, operator-text, operator-cost, std-prints}
 use Rattle.cpp_direct.proofs.PrintedLists.{list-text-before, list-cost-before, list-closed, list-packless}
+use Rattle.cpp_grammar.specs.Between.{with_tag}
 
 -- a text, a mark and a text
 pub joins : (x m y b n : List ℕ) → x ≡ b → y ≡ n → x ++ (m ++ (y ++ [])) ≡ b ++ m ++ n
@@ -122,25 +121,11 @@ within-names {detail} t b prints p x is = let w = within t p in record {
 -- A piece in a class or a namespace prints both.
 pub within-prints : {detail : Detail} (t : Term) (b : List ℕ) → Prints detail t b false → (p : Term) (x : List ℕ) → IsPiece detail p x → opening_text p ≡ codes "<"
     → Prints detail (within t p) (b ++ codes "::" ++ x) false
-unfolding parts_in left_parts right_parts not_empty head head_with is_reference is_funarr is_empty is_open pack_length first_of is_function_type length_if_pack
-    prefix_item last_piece is_void is_plain_integer
-within-prints {detail} t b prints p x is opening = let w = within t p in let n = within-names t b prints p x is in record {
-  left_text = n.left_text;
-  right_text = λ c. text_shown detail right c w [] refl refl;
-  cost = n.cost;
-  is_reference_head = λ c. refl;
-  is_funarr_head = λ c. refl;
-  filled = λ c. refl;
-  is_closed = rw (prints.is_closed, is.is_closed) refl;
-  packless = λ scope. rw (prints.packless scope, is.packless scope) refl;
-  no_function = refl;
-  no_pack = refl;
-  reference_cost = λ e. cc e;
-  as_prefix = λ c. refl;
-  opening = opening;
-  void = λ e. cc e;
-  integer = λ e. cc e;
-}
+unfolding parts_in left_parts right_parts piece_parts not_empty is_open pack_length last_piece opening_text besides first_of
+within-prints {detail} t b prints p x is opening =
+    let w = within t p in
+    let n = within-names t b prints p x is in
+    own-prints w (b ++ codes "::" ++ x) n (rw (prints.is_closed, is.is_closed) refl) (λ scope. rw (prints.packless scope, is.packless scope) refl) opening (λ c. refl)
 
 -- It names its class without what it is in.
 pub within-class : {detail : Detail} (t : Term) (b : List ℕ) → Prints detail t b false → (p : Term) (x : List ℕ) → IsPiece detail p x
@@ -167,66 +152,42 @@ within-class {detail} t b prints p x is = let w = within t p in record {
 -- A constructor prints the name of its class.
 pub constructor-prints : {detail : Detail} (t : Term) (b class : List ℕ) → Prints detail t b false → NamesClass detail t class → (digit : ℕ)
     → Prints detail (within t (constructor digit)) (b ++ codes "::" ++ class) false
-unfolding parts_in left_parts right_parts within_parts not_empty head head_with is_reference is_funarr is_empty is_open pack_length first_of
-    is_function_type length_if_pack prefix_item last_piece opening_text is_void is_plain_integer
-constructor-prints {detail} t b class p n digit = let w = within t (constructor digit) in record {
-  left_text = λ c. text_shown detail left c w (as_item left c t ∷ says "::" ∷ as_item base c t ∷ []) refl refl
-      ∙ joins (text_of (written_of detail left c t)) (codes "::") (text_of (written_of detail base c t)) b class (p.left_text c) (n.base_text c);
-  right_text = λ c. text_shown detail right c w [] refl refl;
-  cost = λ c. omega (
-    arith,
-    n.base_cost c,
-    ap length (p.left_text c),
-    cost_shown detail right c w [] refl refl,
-    cost_shown detail left c w (as_item left c t ∷ says "::" ∷ as_item base c t ∷ []) refl refl,
-    length-append (b ++ codes "::") class,
-    length-append b (codes "::"),
-  );
-  is_reference_head = λ c. refl;
-  is_funarr_head = λ c. refl;
-  filled = λ c. refl;
-  is_closed = rw p.is_closed refl;
-  packless = λ scope. rw (p.packless scope) refl;
-  no_function = refl;
-  no_pack = refl;
-  reference_cost = λ e. cc e;
-  as_prefix = λ c. refl;
-  opening = refl;
-  void = λ e. cc e;
-  integer = λ e. cc e;
-}
+unfolding parts_in left_parts right_parts piece_parts not_empty is_open pack_length last_piece opening_text besides within_parts first_of
+constructor-prints {detail} t b class p n digit =
+    let w = within t (constructor digit) in
+    own-prints w (b ++ codes "::" ++ class) (record {
+      left_text = λ c. text_shown detail left c w (as_item left c t ∷ says "::" ∷ as_item base c t ∷ []) refl refl
+          ∙ joins (text_of (written_of detail left c t)) (codes "::") (text_of (written_of detail base c t)) b class (p.left_text c) (n.base_text c);
+      cost = λ c. omega (
+        arith,
+        n.base_cost c,
+        ap length (p.left_text c),
+        cost_shown detail right c w [] refl refl,
+        cost_shown detail left c w (as_item left c t ∷ says "::" ∷ as_item base c t ∷ []) refl refl,
+        length-append (b ++ codes "::") class,
+        length-append b (codes "::"),
+      );
+    }) (rw p.is_closed refl) (λ scope. rw (p.packless scope) refl) refl (λ c. refl)
 
 -- A destructor prints it after a tilde.
 pub destructor-prints : {detail : Detail} (t : Term) (b class : List ℕ) → Prints detail t b false → NamesClass detail t class → (digit : ℕ)
     → Prints detail (within t (destructor digit)) (b ++ codes "::~" ++ class) false
-unfolding parts_in left_parts right_parts within_parts not_empty head head_with is_reference is_funarr is_empty is_open pack_length first_of
-    is_function_type length_if_pack prefix_item last_piece opening_text is_void is_plain_integer
-destructor-prints {detail} t b class p n digit = let w = within t (destructor digit) in record {
-  left_text = λ c. text_shown detail left c w (as_item left c t ∷ says "::~" ∷ as_item base c t ∷ []) refl refl
-      ∙ joins (text_of (written_of detail left c t)) (codes "::~") (text_of (written_of detail base c t)) b class (p.left_text c) (n.base_text c);
-  right_text = λ c. text_shown detail right c w [] refl refl;
-  cost = λ c. omega (
-    arith,
-    n.base_cost c,
-    ap length (p.left_text c),
-    cost_shown detail right c w [] refl refl,
-    cost_shown detail left c w (as_item left c t ∷ says "::~" ∷ as_item base c t ∷ []) refl refl,
-    length-append (b ++ codes "::~") class,
-    length-append b (codes "::~"),
-  );
-  is_reference_head = λ c. refl;
-  is_funarr_head = λ c. refl;
-  filled = λ c. refl;
-  is_closed = rw p.is_closed refl;
-  packless = λ scope. rw (p.packless scope) refl;
-  no_function = refl;
-  no_pack = refl;
-  reference_cost = λ e. cc e;
-  as_prefix = λ c. refl;
-  opening = refl;
-  void = λ e. cc e;
-  integer = λ e. cc e;
-}
+unfolding parts_in left_parts right_parts piece_parts not_empty is_open pack_length last_piece opening_text besides within_parts first_of
+destructor-prints {detail} t b class p n digit =
+    let w = within t (destructor digit) in
+    own-prints w (b ++ codes "::~" ++ class) (record {
+      left_text = λ c. text_shown detail left c w (as_item left c t ∷ says "::~" ∷ as_item base c t ∷ []) refl refl
+          ∙ joins (text_of (written_of detail left c t)) (codes "::~") (text_of (written_of detail base c t)) b class (p.left_text c) (n.base_text c);
+      cost = λ c. omega (
+        arith,
+        n.base_cost c,
+        ap length (p.left_text c),
+        cost_shown detail right c w [] refl refl,
+        cost_shown detail left c w (as_item left c t ∷ says "::~" ∷ as_item base c t ∷ []) refl refl,
+        length-append (b ++ codes "::~") class,
+        length-append b (codes "::~"),
+      );
+    }) (rw p.is_closed refl) (λ scope. rw (p.packless scope) refl) refl (λ c. refl)
 
 -- ## Names with arguments
 
@@ -282,33 +243,21 @@ instance-cost {detail} t b p ts tail l is all c =
 pub instance-prints : {detail : Detail} (t : Term) (b : List ℕ) → Prints detail t b false
     → (ts : List Term) (tail : Term) (l : List ℕ) → IsTail tail → PrintAll detail 3 ts l
     → Prints detail (instance t (list_with ts tail)) (b ++ opening_bracket detail ++ l ++ closing_bracket detail) false
-unfolding parts_in right_parts not_empty head head_with is_reference is_funarr is_empty is_open pack_length first_of is_function_type length_if_pack prefix_item
-    last_piece opening_text is_void is_plain_integer
-instance-prints {detail} t b p ts tail l is all = let i = instance t (list_with ts tail) in record {
-  left_text = instance-text t b p ts tail l is all;
-  right_text = λ c. text_shown detail right c i [] refl refl;
-  cost = λ c. omega (
-    arith,
-    p.cost c,
-    instance-cost t b p ts tail l is all c,
-    cost_shown detail right c i [] refl refl,
-    length-append (b ++ opening_bracket detail ++ l) (closing_bracket detail),
-    length-append (b ++ opening_bracket detail) l,
-    length-append b (opening_bracket detail),
-  );
-  is_reference_head = λ c. refl;
-  is_funarr_head = λ c. refl;
-  filled = λ c. refl;
-  is_closed = rw (p.is_closed, list-closed detail 3 ts tail l is all) refl;
-  packless = λ scope. rw (p.packless scope, list-packless detail scope 3 ts tail l is all) refl;
-  no_function = refl;
-  no_pack = refl;
-  reference_cost = λ e. cc e;
-  as_prefix = λ c. refl;
-  opening = refl;
-  void = λ e. cc e;
-  integer = λ e. cc e;
-}
+unfolding parts_in left_parts right_parts piece_parts not_empty is_open pack_length last_piece opening_text besides first_of
+instance-prints {detail} t b p ts tail l is all =
+    let i = instance t (list_with ts tail) in
+    own-prints i (b ++ opening_bracket detail ++ l ++ closing_bracket detail) (record {
+      left_text = instance-text t b p ts tail l is all;
+      cost = λ c. omega (
+        arith,
+        p.cost c,
+        instance-cost t b p ts tail l is all c,
+        cost_shown detail right c i [] refl refl,
+        length-append (b ++ opening_bracket detail ++ l) (closing_bracket detail),
+        length-append (b ++ opening_bracket detail) l,
+        length-append b (opening_bracket detail),
+      );
+    }) (rw (p.is_closed, list-closed detail 3 ts tail l is all) refl) (λ scope. rw (p.packless scope, list-packless detail scope 3 ts tail l is all) refl) refl (λ c. refl)
 
 -- Its class is named without them.
 pub instance-class : {detail : Detail} (t : Term) (b class : List ℕ) → Prints detail t b false → NamesClass detail t class
@@ -330,3 +279,139 @@ instance-class {detail} t b class p n ts tail l is all = let i = instance t (lis
     length-append b (opening_bracket detail),
   );
 }
+
+-- ## Tags
+
+-- what follows the name
+behind-text : (detail : Detail) (tag : List ℕ) → IsUnmarked tag → text_of (shown_by detail (says "[abi:" ∷ text tag ∷ says "]" ∷ [])) ≡ tag_text tag
+unfolding not_empty
+behind-text detail tag plain = ap (λ l. codes "[abi:" ++ l) (first_shown detail tag (says "]" ∷ []) plain)
+
+behind-cost : (detail : Detail) (tag : List ℕ) → cost_of (shown_by detail (says "[abi:" ∷ text tag ∷ says "]" ∷ [])) ≡ 7 + length tag
+unfolding not_empty
+behind-cost detail tag = omega (arith, first_cost_shown detail tag (says "]" ∷ []))
+
+tag-length : (b tag : List ℕ) → length (b ++ tag_text tag) ≡ length b + 6 + length tag
+tag-length b tag = omega (
+  arith,
+  length-append b (tag_text tag),
+  length-append (codes "[abi:" ++ tag) (codes "]"),
+  length-append (codes "[abi:") tag,
+)
+
+tagged-left : (detail : Detail) (of_structor : Bool) (t : Term) (b tag : List ℕ) → IsUnmarked tag → ((c : Context) → text_of (written_of detail left c t) ≡ b) → (c : Context)
+    → text_of (written_of detail left c (tagged of_structor t tag)) ≡ b ++ tag_text tag
+unfolding parts_in left_parts not_empty
+tagged-left detail of_structor t b tag plain prints c =
+    text_shown detail left c (tagged of_structor t tag) (as_item left c t ∷ says "[abi:" ∷ text tag ∷ says "]" ∷ []) refl refl
+    ∙ ap (λ l. text_of (written_of detail left c t) ++ l) (behind-text detail tag plain) ∙ ap (λ l. l ++ tag_text tag) (prints c)
+
+tagged-cost : (detail : Detail) (of_structor : Bool) (t : Term) (tag : List ℕ) (c : Context)
+    → cost_of (written_of detail left c (tagged of_structor t tag)) ≡ cost_of (written_of detail left c t) + 7 + length tag
+unfolding parts_in left_parts not_empty
+tagged-cost detail of_structor t tag c = omega (
+  arith,
+  cost_shown detail left c (tagged of_structor t tag) (as_item left c t ∷ says "[abi:" ∷ text tag ∷ says "]" ∷ []) refl refl,
+  behind-cost detail tag,
+)
+
+-- A name with a tag prints it after itself.
+pub tagged-names : {detail : Detail} (of_structor : Bool) (t : Term) (b : List ℕ) → PrintsName detail t b → (tag : List ℕ) → IsUnmarked tag
+    → PrintsName detail (tagged of_structor t tag) (b ++ tag_text tag)
+unfolding parts_in right_parts not_empty
+tagged-names {detail} of_structor t b p tag plain = record {
+  left_text = tagged-left detail of_structor t b tag plain p.left_text;
+  cost = λ c. omega (arith, p.cost c, tagged-cost detail of_structor t tag c, cost_shown detail right c (tagged of_structor t tag) [] refl refl, tag-length b tag);
+}
+
+pub tagged-prints : {detail : Detail} (of_structor : Bool) (t : Term) (b : List ℕ) → Prints detail t b false → (tag : List ℕ) → IsUnmarked tag
+    → Prints detail (tagged of_structor t tag) (b ++ tag_text tag) false
+unfolding parts_in left_parts right_parts piece_parts not_empty is_open pack_length last_piece opening_text besides
+tagged-prints {detail} of_structor t b p tag plain =
+    let w = tagged of_structor t tag in
+    let n = tagged-names of_structor t b (record { left_text = p.left_text; cost = p.cost }) tag plain in
+    own-prints w (b ++ tag_text tag) n p.is_closed p.packless refl (λ c. refl)
+
+-- Where its class has this text at the base it names its class so.
+names-by : {detail : Detail} (of_structor : Bool) (t : Term) (b : List ℕ) → Prints detail t b false → (tag class : List ℕ) → IsUnmarked tag
+    → ((c : Context) → text_of (written_of detail base c (tagged of_structor t tag)) ≡ class)
+    → ((c : Context) → cost_of (written_of detail base c (tagged of_structor t tag)) ≤ 8 + 4 * length class)
+    → NamesClass detail (tagged of_structor t tag) class
+unfolding parts_in right_parts not_empty
+names-by {detail} of_structor t b p tag class plain base_text base_cost = record {
+  base_text = base_text;
+  base_cost = λ c. omega (
+    arith,
+    p.cost c,
+    base_cost c,
+    tagged-cost detail of_structor t tag c,
+    cost_shown detail right c (tagged of_structor t tag) [] refl refl,
+    ap length (tagged-left detail of_structor t b tag plain p.left_text c),
+    tag-length b tag,
+  );
+}
+
+-- one in another name
+pub within-tagged : {detail : Detail} (t : Term) (b : List ℕ) → Prints detail t b false → (p : Term) (x : List ℕ) → IsPiece detail p x
+    → opening_text p ≡ codes "<" → (tag : List ℕ) → IsUnmarked tag
+    → NamesClass detail (with_tag (within t p) tag) x
+unfolding with_tag parts_in base_parts base_tagged not_empty
+within-tagged {detail} t b prints p x is opening tag plain =
+    let own : Term = within t p in
+    names-by (is_structor own) own (b ++ codes "::" ++ x) (within-prints t b prints p x is opening) tag x plain
+    (λ c. text_shown detail base c (tagged (is_structor own) own tag) (text x ∷ []) (is.tagged_is c t) refl ∙ alone_shown detail x is.plain)
+    (λ c. omega (arith, cost_shown detail base c (tagged (is_structor own) own tag) (text x ∷ []) (is.tagged_is c t) refl, first_cost_shown detail x []))
+
+-- one in std
+pub std-tagged : {detail : Detail} (internal : Bool) (name : List ℕ) → name ≢ [] → IsUnmarked name → (tag : List ℕ) → IsUnmarked tag
+    → NamesClass detail (with_tag (in_std (source internal name)) tag) (source_text name)
+unfolding with_tag parts_in base_parts base_tagged own_piece without_tags is_structor piece_parts not_empty
+std-tagged {detail} internal name filled plain tag tag_plain =
+    let own : Term = in_std (source internal name) in
+    names-by (is_structor own) own (codes "std::" ++ source_text name) (std-prints internal name filled plain) tag (source_text name) tag_plain
+    (λ c. text_shown detail base c (tagged (is_structor own) own tag) (text (source_text name) ∷ []) refl refl ∙ alone_shown detail (source_text name) (source-unmarked name plain))
+    (λ c. omega (arith, cost_shown detail base c (tagged (is_structor own) own tag) (text (source_text name) ∷ []) refl refl, first_cost_shown detail (source_text name) []))
+
+-- one with a tag already, which names its class so
+pub again-tagged : {detail : Detail} (of_structor : Bool) (t : Term) (b : List ℕ) → Prints detail t b false → (before tag class : List ℕ) → IsUnmarked before → IsUnmarked tag
+    → NamesClass detail (tagged of_structor t before) class
+    → NamesClass detail (with_tag (tagged of_structor t before) tag) class
+unfolding with_tag parts_in right_parts base_parts base_tagged without_tags is_structor not_empty
+again-tagged {detail} true t b p before tag class first_plain plain n =
+    let own : Term = tagged true t before in
+    let all : Term = tagged true own tag in
+    let prints = tagged-prints true t b p before first_plain in
+    record {
+      base_text = λ c. text_shown detail base c all (as_item base c own ∷ []) refl refl ∙ append-nil (text_of (written_of detail base c own)) ∙ n.base_text c;
+      base_cost = λ c. omega (
+        arith,
+        n.base_cost c,
+        tagged-cost detail true own tag c,
+        cost_shown detail right c all [] refl refl,
+        cost_shown detail right c own [] refl refl,
+        cost_shown detail base c all (as_item base c own ∷ []) refl refl,
+        ap length (tagged-left detail true own (b ++ tag_text before) tag plain prints.left_text c),
+        ap length (prints.left_text c),
+        tag-length (b ++ tag_text before) tag,
+      );
+    }
+again-tagged {detail} false t b p before tag class first_plain plain n =
+    let own : Term = tagged false t before in
+    let all : Term = tagged false own tag in
+    let prints = tagged-prints false t b p before first_plain in
+    record {
+      base_text = λ c. text_shown detail base c all (piece_parts c (own_piece (without_tags t))) refl refl
+          ∙ sym (text_shown detail base c own (piece_parts c (own_piece (without_tags t))) refl refl) ∙ n.base_text c;
+      base_cost = λ c. omega (
+        arith,
+        n.base_cost c,
+        tagged-cost detail false own tag c,
+        cost_shown detail right c all [] refl refl,
+        cost_shown detail right c own [] refl refl,
+        cost_shown detail base c all (piece_parts c (own_piece (without_tags t))) refl refl,
+        cost_shown detail base c own (piece_parts c (own_piece (without_tags t))) refl refl,
+        ap length (tagged-left detail false own (b ++ tag_text before) tag plain prints.left_text c),
+        ap length (prints.left_text c),
+        tag-length (b ++ tag_text before) tag,
+      );
+    }

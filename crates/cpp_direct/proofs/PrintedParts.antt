@@ -6,7 +6,7 @@ use Rattle.sym_print.specs.declared.detail.Detail.TheVariants.{Full}
 use Rattle.sym_print.specs.Unfold.{PartOf, text, sub, printed_parts, RanksBelow}
 use Rattle.sym_print.specs.Unshared.{Unshared, text_of, cost_of}
 use Rattle.sym_print.proofs.Unfolding.{printed-parts}
-use Rattle.sym_direct.specs.Marked.{opens, closes}
+use Rattle.sym_direct.specs.Marked.{closes}
 use Rattle.cpp_grammar.specs.Term.{Term, instance, nil}
 use Rattle.cpp_grammar.specs.Items.{Form, left, low, first, Context, Item}
 use Rattle.cpp_grammar.specs.Parts.{text_part, list_part, says, opening_text, last_piece, instance_parts, left_parts, low_parts, parts_in, not_empty, parts}
@@ -152,17 +152,22 @@ pub length-filled : (xs : List ℕ) → xs ≢ [] → 1 ≤ length xs
 length-filled [] e = absurd (e refl)
 length-filled (x ∷ xs) e = omega arith
 
--- parts after parts
+-- the texts of two lists of parts are joined
+pub parts-joined : (f : Item → Unshared) (ps qs : List (PartOf Item))
+    → text_of (printed_parts f (not_empty (ps ++ qs))) ≡ text_of (printed_parts f (not_empty ps)) ++ text_of (printed_parts f (not_empty qs))
+unfolding not_empty
+parts-joined f [] qs = refl
+parts-joined f (text [] ∷ ps) qs = parts-joined f ps qs
+parts-joined f (text (b ∷ bs) ∷ ps) qs =
+    ap (λ l. (b ∷ bs) ++ l) (parts-joined f ps qs)
+    ∙ sym (append_assoc (b ∷ bs) (text_of (printed_parts f (not_empty ps))) (text_of (printed_parts f (not_empty qs))))
+parts-joined f (sub i ∷ ps) qs =
+    ap (λ l. text_of (f i) ++ l) (parts-joined f ps qs)
+    ∙ sym (append_assoc (text_of (f i)) (text_of (printed_parts f (not_empty ps))) (text_of (printed_parts f (not_empty qs))))
+
 pub text-append : (detail : Detail) (ps qs : List (PartOf Item))
     → text_of (printed_by detail (ps ++ qs)) ≡ text_of (printed_by detail ps) ++ text_of (printed_by detail qs)
-unfolding not_empty
-text-append detail [] qs = refl
-text-append detail (text [] ∷ ps) qs = text-append detail ps qs
-text-append detail (text (b ∷ bs) ∷ ps) qs =
-    ap (λ s. (b ∷ bs) ++ s) (text-append detail ps qs) ∙ sym (append_assoc (b ∷ bs) (text_of (printed_by detail ps)) (text_of (printed_by detail qs)))
-text-append detail (sub i ∷ ps) qs =
-    ap (λ s. text_of (written detail i) ++ s) (text-append detail ps qs)
-    ∙ sym (append_assoc (text_of (written detail i)) (text_of (printed_by detail ps)) (text_of (printed_by detail qs)))
+text-append detail ps qs = parts-joined (λ i. written detail i) ps qs
 
 -- cost what both do
 pub cost-append : (detail : Detail) (ps qs : List (PartOf Item))

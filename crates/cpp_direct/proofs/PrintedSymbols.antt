@@ -16,7 +16,7 @@ use Rattle.cpp_direct.specs.declared.open.Mark.{Mark}
 use Rattle.cpp_direct.specs.Marks.{has_const, called_on}
 use Rattle.cpp_direct.specs.Prints.{written_of, PrintsName, PrintsIn, IsElement, Shows, list_of, joined, PrintEachIn, PrintAllIn}
 use Rattle.cpp_direct.specs.WriterInvariant.{qualifiers, plain_encoding}
-use Rattle.cpp_direct.specs.WrittenParts.{IsUnmarked, unmarked, written}
+use Rattle.cpp_direct.specs.WrittenParts.{IsUnmarked, written}
 use Rattle.cpp_direct.proofs.Unmarked.{length-unmarked, qualifiers-unmarked, special-unmarked, thunk-unmarked, unmarked-same}
 use Rattle.cpp_direct.proofs.PrintedParts.{shown_by, text_shown, cost_shown, first_shown, first_cost_shown, text_append, cost_append, part-text, part-cost, length-filled}
 use Rattle.cpp_direct.proofs.PrintedLists.{list-text-in, list-cost-in, none-print-in}

@@ -12,7 +12,7 @@ use Rattle.cpp_grammar.specs.Grammar.{among, may_be_empty}
 use Rattle.cpp_grammar.specs.Term.{Term, alone, in_std, abbreviation, source, builtin, pointer, lvalue, rvalue}
 use Rattle.cpp_grammar.specs.Texts.{Naming, look_up, builtin_texts, abbreviation_texts, same_bytes}
 use Rattle.cpp_grammar.specs.Parts.{source_text}
-use Rattle.cpp_grammar.specs.Values.{State, tree}
+use Rattle.cpp_grammar.specs.Values.{State, Around, outermost, tree}
 use Rattle.cpp_grammar.specs.Between.{after, inside, no_items}
 use Rattle.cpp_direct.specs.WrittenParts.{opening_bracket}
 use Rattle.cpp_direct.specs.Symbol.{detail_of, Symbol}
@@ -25,7 +25,7 @@ use Rattle.cpp_direct.specs.declared.open.Purpose.TheVariants as purposes
 use Rattle.cpp_direct.specs.declared.open.Step.{Step}
 use Rattle.cpp_direct.specs.declared.open.Step.TheVariants as steps
 use Rattle.cpp_direct.specs.declared.direct.Direct.{Direct}
-use Rattle.cpp_direct.specs.Holes.{StandsAt, Comes, Expects, IsReferable, IsNameAt, IsSeqAt, TypeNamed, with_candidate, unless_listed}
+use Rattle.cpp_direct.specs.Holes.{Opened, StandsAt, Comes, Expects, IsTyped, IsReferable, IsNameAt, IsSeqAt, TypeNamed, with_candidate, unless_listed}
 use Rattle.cpp_direct.specs.HolesOfTypes.{NoReference, IsQualifiable, TypeOpens}
 use Rattle.cpp_direct.specs.Prints.{Prints}
 use Rattle.cpp_direct.specs.WriterInvariant.{IsScoped, AreCandidates, Marks, Stands, IsWriting, argument_of}
@@ -33,11 +33,11 @@ use Rattle.cpp_direct.specs.MidStep.{AwaitsType, AwaitsNamedType, AwaitsNest, Is
 use Rattle.cpp_direct.specs.Written.{Reads, added, added_unless}
 use Rattle.cpp_direct.proofs.Unmarked.{name-unmarked}
 use Rattle.cpp_direct.proofs.Scopes.{scoped-encoding}
-use Rattle.cpp_direct.proofs.Kept.{plainly-prints, arguments-begun, piece-found, candidates-stay, candidates-added, candidates-read, candidate-found, reverse-last, last-reversed}
+use Rattle.cpp_direct.proofs.Kept.{candidates-grown, candidates-same, plainly-prints, arguments-begun, piece-found, candidates-stay, candidates-added, candidates-read, candidate-found, reverse-last, last-reversed}
 use Rattle.cpp_direct.proofs.Moves.{expects-empty, stands-join}
 use Rattle.cpp_direct.proofs.MovesOfLists.{arguments-open}
 use Rattle.cpp_direct.proofs.MovesOfTypes.{solid-opens, builtin-comes, builtin-with-d-comes, pointer-opens, lvalue-opens, rvalue-opens, const-opens, source-opens, std-opens, abbreviation-opens, substitution-opens, nested-type-opens}
-use Rattle.cpp_direct.proofs.LettersTested.{each_passes, tested}
+use Rattle.cpp_direct.proofs.LettersTested.{each_passes, tested, is_filled, filled}
 use Rattle.cpp_direct.proofs.PrintedNames.{source-prints, std-prints, abbreviation-prints, builtin-prints, builtin-with-d-prints}
 
 -- ## What calls give
@@ -219,15 +219,11 @@ pub builtin-listed : (letter : ℕ) → look_up (letter ∷ []) builtin_texts �
 unfolding is_builtin builtin_texts code_in codes_in among
 builtin-listed letter has = letter-listed builtin_texts builtin_letters letter refl has
 
-unfoldable is_text : List ℕ → Bool
-is_text [] = false
-is_text (b ∷ bs) = true
-
 -- a letter of these has a text after a D
 builtin-with-d-text : (letter : ℕ) → is_builtin_with_d letter ≡ true → look_up (68 ∷ letter ∷ []) builtin_texts ≢ []
-unfolding is_builtin_with_d builtin_texts look_up same_bytes each_passes is_text
-builtin-with-d-text letter is none =
-    false≢true (sym (ap is_text none) ∙ tested builtin_letters_with_d (λ b. is_text (look_up (68 ∷ b ∷ []) builtin_texts)) refl letter is)
+unfolding is_builtin_with_d builtin_texts look_up same_bytes each_passes is_filled
+builtin-with-d-text letter is =
+    filled (look_up (68 ∷ letter ∷ []) builtin_texts) (tested builtin_letters_with_d (λ b. is_filled (look_up (68 ∷ b ∷ []) builtin_texts)) refl letter is)
 
 -- and so is one of an abbreviation
 pub abbreviation-listed : (letter : ℕ) → look_up (letter ∷ []) abbreviation_texts ≢ [] → is_abbreviated letter ≡ true
@@ -244,64 +240,35 @@ no-abbreviation letter is none = absurd (false≢true (subst (λ l. is_abbreviat
 
 -- ## Types
 
+-- a type is expected as one of the kinds that it may be of
+expected-as : (s : Symbol) (w : Direct) (st : State) → AreCandidates (detail_of s) w.text.list.items w.candidates.list.items st.candidates
+    → (kind : Kind) → IsTyped kind → IsReferable kind ⊎ NoReference s.bytes w.at → (os : List Opened) (around : Around) → around.prefix ≡ outermost
+    → Expects s kind around os w.at st → Stands s (reverse w.waiting.list.items) os w.text.list.items → IsScoped around (reverse w.waiting.list.items)
+    → AwaitsType s w
+expected-as s w st candidates kind typed referable os around outside awaits stands scoped = record {
+  state = st;
+  candidates = candidates;
+  kind = kind;
+  typed = typed;
+  around = around;
+  outside = outside;
+  os = os;
+  referable = referable;
+  awaits = awaits;
+  stands = stands;
+  scoped = scoped;
+}
+
 -- what is expected where a type is
 pub awaits-type : (s : Symbol) (w : Direct) (is_plain : Bool) → IsWriting s w (if is_plain then steps.Plain else steps.Type) → AwaitsType s w
-awaits-type s w true p = record {
-  state = p.state;
-  candidates = p.candidates;
-  kind = Kind.Plain;
-  typed = tt;
-  around = p.is_before.1;
-  outside = p.is_before.2;
-  os = p.is_before.0;
-  referable = inl tt;
-  awaits = p.is_before.3;
-  stands = p.is_before.4;
-  scoped = p.is_before.5;
-}
-awaits-type s w false p = go p.is_before.3
-  where
-    go : Expects s Kind.Type p.is_before.1 p.is_before.0 w.at p.state ⊎ Expects s Kind.Item p.is_before.1 p.is_before.0 w.at p.state
-        ⊎ (Expects s Kind.ItemButRef p.is_before.1 p.is_before.0 w.at p.state × NoReference s.bytes w.at) → AwaitsType s w
-    go (inl awaits) = record {
-      state = p.state;
-      candidates = p.candidates;
-      kind = Kind.Type;
-      typed = tt;
-      around = p.is_before.1;
-      outside = p.is_before.2;
-      os = p.is_before.0;
-      referable = inl tt;
-      awaits = awaits;
-      stands = p.is_before.4;
-      scoped = p.is_before.5;
-    }
-    go (inr (inl awaits)) = record {
-      state = p.state;
-      candidates = p.candidates;
-      kind = Kind.Item;
-      typed = tt;
-      around = p.is_before.1;
-      outside = p.is_before.2;
-      os = p.is_before.0;
-      referable = inl tt;
-      awaits = awaits;
-      stands = p.is_before.4;
-      scoped = p.is_before.5;
-    }
-    go (inr (inr awaits)) = record {
-      state = p.state;
-      candidates = p.candidates;
-      kind = Kind.ItemButRef;
-      typed = tt;
-      around = p.is_before.1;
-      outside = p.is_before.2;
-      os = p.is_before.0;
-      referable = inr awaits.1;
-      awaits = awaits.0;
-      stands = p.is_before.4;
-      scoped = p.is_before.5;
-    }
+awaits-type s w true p =
+    expected-as s w p.state p.candidates Kind.Plain tt (inl tt) p.is_before.0 p.is_before.1 p.is_before.2 p.is_before.3 p.is_before.4 p.is_before.5
+awaits-type s w false p = elim p.is_before.3 [
+  | inl awaits ↦ expected-as s w p.state p.candidates Kind.Type tt (inl tt) p.is_before.0 p.is_before.1 p.is_before.2 awaits p.is_before.4 p.is_before.5
+  | inr (inl awaits) ↦ expected-as s w p.state p.candidates Kind.Item tt (inl tt) p.is_before.0 p.is_before.1 p.is_before.2 awaits p.is_before.4 p.is_before.5
+  | inr (inr awaits) ↦
+      expected-as s w p.state p.candidates Kind.ItemButRef tt (inr awaits.1) p.is_before.0 p.is_before.1 p.is_before.2 awaits.0 p.is_before.4 p.is_before.5
+]
 
 -- a builtin type is read
 pub builtin-done : (s : Symbol) (old new : Direct) (letter : ℕ) → AwaitsType s old → (letter ≢ 0 → StandsAt s.bytes old.at (letter ∷ []))
@@ -342,9 +309,7 @@ builtin-with-d-done s old new letter a first stands is text candidates waits at 
     let bytes : List ℕ = look_up (68 ∷ letter ∷ []) builtin_texts in
     record {
       state = a.state;
-      candidates = subst (λ v. AreCandidates (detail_of s) new.text.list.items v.list.items a.state.candidates) (sym candidates)
-          (subst (λ l. AreCandidates (detail_of s) l old.candidates.list.items a.state.candidates) (sym text)
-          (candidates-stay (detail_of s) old.text.list.items bytes old.candidates.list.items a.state.candidates a.candidates));
+      candidates = candidates-grown (detail_of s) old new bytes a.state.candidates text candidates a.candidates;
       is_before = (
         a.os,
         builtin (68 ∷ letter ∷ []),
@@ -376,51 +341,50 @@ names-awaited s w a = record {
   scoped = a.scoped;
 }
 
--- a name with its length is read
-pub source-named : (s : Symbol) (old new : Direct) (from : ℕ) (name : List ℕ) → AwaitsNamedType s old → IsNameAt s.bytes old.at name new.at → name ≢ []
-    → Reads old new (source_text name) → from ≡ length old.text.list.items → IsTypeNamed s new from false false
-source-named s old new from name a is some reads begins = record {
+-- a name was read where one was awaited
+named-from : (s : Symbol) (old new : Direct) (from : ℕ) (listed r : Bool) (a : AwaitsNamedType s old) (own : Term) (bytes : List ℕ)
+    → AreCandidates (detail_of s) new.text.list.items new.candidates.list.items a.state.candidates → TypeNamed s a.os a.around own listed new.at a.state
+    → new.text.list.items ≡ old.text.list.items ++ bytes → from ≡ length old.text.list.items → Prints (detail_of s) own bytes r
+    → (listed ≡ false → r ≡ false) → new.waiting ≡ old.waiting → IsTypeNamed s new from listed r
+named-from s old new from listed r a own bytes candidates named written from_is prints no_reference waits = record {
   state = a.state;
-  candidates = candidates-read (detail_of s) old new (source_text name) a.state.candidates reads a.candidates;
+  candidates = candidates;
   around = a.around;
   outside = a.outside;
   outer = a.os;
-  own = alone (source false name);
-  named = source-opens s a.kind a.around a.os old.at a.state name new.at a.is_named a.outside a.begins is;
+  own = own;
+  named = named;
   front = old.text.list.items;
-  bytes = source_text name;
-  written = reads.text;
-  from_is = begins;
-  prints = source-prints false name some (name-unmarked s.bytes old.at name new.at is);
-  no_reference = λ e. refl;
-  stands = subst (λ v. Stands s (reverse v.list.items) a.os old.text.list.items) (sym reads.waiting) a.stands;
+  bytes = bytes;
+  written = written;
+  from_is = from_is;
+  prints = prints;
+  no_reference = no_reference;
+  stands = subst (λ v. Stands s (reverse v.list.items) a.os old.text.list.items) (sym waits) a.stands;
 }
+
+-- a name with its length is read
+pub source-named : (s : Symbol) (old new : Direct) (from : ℕ) (name : List ℕ) → AwaitsNamedType s old → IsNameAt s.bytes old.at name new.at → name ≢ []
+    → Reads old new (source_text name) → from ≡ length old.text.list.items → IsTypeNamed s new from false false
+source-named s old new from name a is some reads begins =
+    named-from s old new from false false a (alone (source false name)) (source_text name)
+    (candidates-read (detail_of s) old new (source_text name) a.state.candidates reads a.candidates)
+    (source-opens s a.kind a.around a.os old.at a.state name new.at a.is_named a.outside a.begins is)
+    reads.text begins (source-prints false name some (name-unmarked s.bytes old.at name new.at is)) (λ e. refl) reads.waiting
 
 -- a name in std
 pub std-named : (s : Symbol) (old mid new : Direct) (from : ℕ) (name : List ℕ) → AwaitsNamedType s old → StandsAt s.bytes old.at (83 ∷ [])
     → StandsAt s.bytes (old.at + 1) (116 ∷ [])
     → mid.text.list.items ≡ old.text.list.items ++ codes "std::" → mid.candidates ≡ old.candidates → mid.waiting ≡ old.waiting → mid.at ≡ old.at + 1 + 1
     → IsNameAt s.bytes mid.at name new.at → name ≢ [] → Reads mid new (source_text name) → from ≡ length old.text.list.items → IsTypeNamed s new from false false
-std-named s old mid new from name a s_stands t_stands text candidates waits at is some reads begins = record {
-  state = a.state;
-  candidates = candidates-read (detail_of s) mid new (source_text name) a.state.candidates reads
-      (subst (λ v. AreCandidates (detail_of s) mid.text.list.items v.list.items a.state.candidates) (sym candidates)
-      (subst (λ l. AreCandidates (detail_of s) l old.candidates.list.items a.state.candidates) (sym text)
-      (candidates-stay (detail_of s) old.text.list.items (codes "std::") old.candidates.list.items a.state.candidates a.candidates)));
-  around = a.around;
-  outside = a.outside;
-  outer = a.os;
-  own = in_std (source false name);
-  named = std-opens s a.kind a.around a.os old.at a.state name new.at a.is_named a.begins (stands-join s.bytes old.at (83 ∷ []) (116 ∷ []) s_stands t_stands)
-      (subst (λ k. IsNameAt s.bytes k name new.at) (omega (arith, at)) is);
-  front = old.text.list.items;
-  bytes = codes "std::" ++ source_text name;
-  written = reads.text ∙ ap (λ l. l ++ source_text name) text ∙ append_assoc old.text.list.items (codes "std::") (source_text name);
-  from_is = begins;
-  prints = std-prints false name some (name-unmarked s.bytes mid.at name new.at is);
-  no_reference = λ e. refl;
-  stands = subst (λ v. Stands s (reverse v.list.items) a.os old.text.list.items) (sym (reads.waiting ∙ waits)) a.stands;
-}
+std-named s old mid new from name a s_stands t_stands text candidates waits at is some reads begins =
+    named-from s old new from false false a (in_std (source false name)) (codes "std::" ++ source_text name)
+    (candidates-read (detail_of s) mid new (source_text name) a.state.candidates reads
+    (candidates-grown (detail_of s) old mid (codes "std::") a.state.candidates text candidates a.candidates))
+    (std-opens s a.kind a.around a.os old.at a.state name new.at a.is_named a.begins (stands-join s.bytes old.at (83 ∷ []) (116 ∷ []) s_stands t_stands)
+    (subst (λ k. IsNameAt s.bytes k name new.at) (omega (arith, at)) is))
+    (reads.text ∙ ap (λ l. l ++ source_text name) text ∙ append_assoc old.text.list.items (codes "std::") (source_text name))
+    begins (std-prints false name some (name-unmarked s.bytes mid.at name new.at is)) (λ e. refl) (reads.waiting ∙ waits)
 
 -- an abbreviation
 pub abbreviation-named : (s : Symbol) (old new : Direct) (from letter : ℕ) → AwaitsNamedType s old → StandsAt s.bytes old.at (83 ∷ [])
@@ -430,26 +394,12 @@ pub abbreviation-named : (s : Symbol) (old new : Direct) (from letter : ℕ) →
 abbreviation-named s old new from letter a s_stands stands has text candidates waits at begins =
     let is = abbreviation-listed letter has in
     let bytes : List ℕ = look_up (letter ∷ []) abbreviation_texts in
-    record {
-      state = a.state;
-      candidates = subst (λ v. AreCandidates (detail_of s) new.text.list.items v.list.items a.state.candidates) (sym candidates)
-          (subst (λ l. AreCandidates (detail_of s) l old.candidates.list.items a.state.candidates) (sym text)
-          (candidates-stay (detail_of s) old.text.list.items bytes old.candidates.list.items a.state.candidates a.candidates));
-      around = a.around;
-      outside = a.outside;
-      outer = a.os;
-      own = abbreviation letter;
-      named = subst (λ k. TypeNamed s a.os a.around (abbreviation letter) true k a.state) (omega (arith, at))
-          (abbreviation-opens s a.kind a.around a.os old.at a.state letter a.is_named is a.begins
-          (stands-join s.bytes old.at (83 ∷ []) (letter ∷ []) s_stands (stands (no-abbreviation letter is))));
-      front = old.text.list.items;
-      bytes = bytes;
-      written = text;
-      from_is = begins;
-      prints = abbreviation-prints letter has;
-      no_reference = λ e. refl;
-      stands = subst (λ v. Stands s (reverse v.list.items) a.os old.text.list.items) (sym waits) a.stands;
-    }
+    named-from s old new from true false a (abbreviation letter) bytes
+    (candidates-grown (detail_of s) old new bytes a.state.candidates text candidates a.candidates)
+    (subst (λ k. TypeNamed s a.os a.around (abbreviation letter) true k a.state) (omega (arith, at))
+    (abbreviation-opens s a.kind a.around a.os old.at a.state letter a.is_named is a.begins
+    (stands-join s.bytes old.at (83 ∷ []) (letter ∷ []) s_stands (stands (no-abbreviation letter is)))))
+    text begins (abbreviation-prints letter has) (λ e. refl) waits
 
 -- where a substitution's text is
 pub substitution-stands : (s : Symbol) (old : Direct) (n : ℕ) (k : Candidate) → AwaitsNamedType s old → k.from ≤ k.to → slice_get old.candidates.list.items n ≡ Some k
@@ -469,25 +419,10 @@ substitution-named s old new from digits k a stands is ordered found text candid
     let piece = piece-found old.text.list.items c.2.front c.2.bytes c.2.back k.from k.to c.2.written c.2.from_is c.2.to_is in
     let written : new.text.list.items ≡ old.text.list.items ++ c.2.bytes = text ∙ ap (λ l. old.text.list.items ++ l) piece.2 in
     let prints = plainly-prints k c.0 c.2.bytes plain c.2.prints in
-    record {
-      state = a.state;
-      candidates = subst (λ v. AreCandidates (detail_of s) new.text.list.items v.list.items a.state.candidates) (sym candidates)
-          (subst (λ l. AreCandidates (detail_of s) l old.candidates.list.items a.state.candidates) (sym written)
-          (candidates-stay (detail_of s) old.text.list.items c.2.bytes old.candidates.list.items a.state.candidates a.candidates));
-      around = a.around;
-      outside = a.outside;
-      outer = a.os;
-      own = c.0.tree;
-      named = substitution-opens s a.kind a.around a.os old.at a.state digits new.at c.0 a.is_named c.1 prints.is_closed prints.packless
-          a.begins stands is;
-      front = old.text.list.items;
-      bytes = c.2.bytes;
-      written = written;
-      from_is = begins;
-      prints = prints;
-      no_reference = λ e. absurd (false≢true (sym e));
-      stands = subst (λ v. Stands s (reverse v.list.items) a.os old.text.list.items) (sym waits) a.stands;
-    }
+    named-from s old new from true k.is_reference a c.0.tree c.2.bytes
+    (candidates-grown (detail_of s) old new c.2.bytes a.state.candidates written candidates a.candidates)
+    (substitution-opens s a.kind a.around a.os old.at a.state digits new.at c.0 a.is_named c.1 prints.is_closed prints.packless a.begins stands is)
+    written begins prints (λ e. absurd (false≢true (sym e))) waits
 
 -- one that names an argument
 pub named-again : (s : Symbol) (old new : Direct) (digits : List ℕ) (k : Candidate) → AwaitsNamedType s old → StandsAt s.bytes old.at (83 ∷ [])
@@ -529,8 +464,7 @@ pub type-opened : (s : Symbol) (old new : Direct) (o : Option Step) (entry : Ope
 type-opened s old new o entry from made a t begins stands scoped is waits at text candidates = by-step o steps.Type (IsWriting s new) is (λ e.
     record {
       state = a.state;
-      candidates = subst (λ v. AreCandidates (detail_of s) new.text.list.items v.list.items a.state.candidates) (sym candidates)
-          (subst (λ v. AreCandidates (detail_of s) v.list.items old.candidates.list.items a.state.candidates) (sym text) a.candidates);
+      candidates = candidates-same (detail_of s) old new a.state.candidates text candidates a.candidates;
       is_before = (
         t.inner,
         a.around,
@@ -588,8 +522,7 @@ plain-opened s old new o from a may begins stands is waits at text candidates =
     by-step o steps.Plain (IsWriting s new) is (λ e.
     record {
       state = a.state;
-      candidates = subst (λ v. AreCandidates (detail_of s) new.text.list.items v.list.items a.state.candidates) (sym candidates)
-          (subst (λ v. AreCandidates (detail_of s) v.list.items old.candidates.list.items a.state.candidates) (sym text) a.candidates);
+      candidates = candidates-same (detail_of s) old new a.state.candidates text candidates a.candidates;
       is_before = (
         t.inner,
         a.around,

@@ -1,11 +1,13 @@
 -- Texts that have no marks.
-use Rattle.std.proofs.Common.{◌≡◌, refl, ap, sym, subst, ◌∙◌, ℕ, ◌+◌, List, [], ◌∷◌, ◌++◌, length, Bool, true, false, ◌||◌, nat_eq, nat_le, arith, codes, cond}
-use Rattle.std.proofs.lemmas.Bool.{false≢true, eqb-true, and_parts}
+use Rattle.std.proofs.Common.{◌≡◌, refl, ap, sym, subst, ◌∙◌, ℕ, ◌+◌, List, [], ◌∷◌, ◌++◌, length, Bool, true, false, ◌||◌, nat_eq, arith, codes, cond}
+use Rattle.std.proofs.lemmas.Bool.{false≢true, eqb-true}
 use Rattle.std.specs.List.{AllByRecursion}
 use Rattle.sym_core.specs.declared.NameClass.TheVariants.{Cpp}
 use Rattle.sym_core.specs.Token.{is_name_byte}
 use Rattle.sym_core.specs.Number.{is_decimal_digit}
-use Rattle.sym_direct.specs.Marked.{opens, closes}
+pub use Rattle.sym_direct.specs.Marked.{is_mark}
+pub use Rattle.sym_direct.proofs.Seen.{rest-unmarked, more-unmarked, unmarked-append, is-no-mark, each-unmarked}
+use Rattle.sym_direct.proofs.Seen.{first-unmarked, test-unmarked}
 use Rattle.cpp_grammar.specs.Texts.{Naming, look_up, same_bytes, builtin_texts, operator_texts, abbreviation_texts, special_texts, literal_endings}
 use Rattle.cpp_grammar.specs.Parts.{source_text, begins_with, thunk_text, encoding_text, qualifier_text, ref_text}
 use Rattle.cpp_grammar.specs.Term.{Thunk, adjusting, covariant, non_virtual, by_table, Qualifiers, RefQualifier, any_value, lvalue_only, rvalue_only}
@@ -14,23 +16,6 @@ use Rattle.cpp_direct.specs.HolesOfLists.{IsSuffix}
 use Rattle.cpp_direct.specs.ItemBytes.{is_suffix_byte}
 use Rattle.cpp_direct.specs.Names.{operator_text}
 use Rattle.cpp_direct.specs.WrittenParts.{unmarked_byte, unmarked, is_unmarked, IsUnmarked}
-
--- the byte is a mark
-abbrev pub is_mark : ℕ → Bool
-is_mark byte = nat_eq byte opens || nat_eq byte closes
-
-first-unmarked : (byte : ℕ) (bytes : List ℕ) → IsUnmarked (byte ∷ bytes) → (is_mark byte ≡ false) × IsUnmarked bytes
-first-unmarked byte bytes plain = go (is_mark byte) refl plain
-  where
-    go : (b : Bool) → is_mark byte ≡ b → elim b [ true ↦ false | false ↦ is_unmarked bytes ] ≡ true → (is_mark byte ≡ false) × IsUnmarked bytes
-    go true is there = absurd (false≢true there)
-    go false is there = (is, there)
-
-pub rest-unmarked : (byte : ℕ) (bytes : List ℕ) → IsUnmarked (byte ∷ bytes) → IsUnmarked bytes
-rest-unmarked byte bytes plain = (first-unmarked byte bytes plain).1
-
-pub more-unmarked : (byte : ℕ) (bytes : List ℕ) → is_mark byte ≡ false → IsUnmarked bytes → IsUnmarked (byte ∷ bytes)
-more-unmarked byte bytes is plain = subst (λ b. elim b [ true ↦ false | false ↦ is_unmarked bytes ] ≡ true) (sym is) plain
 
 byte-same : (shown : Bool) (byte : ℕ) → is_mark byte ≡ false → unmarked_byte shown byte ≡ byte
 byte-same shown byte is = ap (λ b. elim b [ true ↦ elim shown [ true ↦ byte | false ↦ 0 ] | false ↦ byte ]) is
@@ -44,30 +29,13 @@ pub length-unmarked : (shown : Bool) (bytes : List ℕ) → length (unmarked sho
 length-unmarked shown [] = refl
 length-unmarked shown (byte ∷ bytes) = omega (arith, length-unmarked shown bytes)
 
-pub unmarked-append : (xs ys : List ℕ) → IsUnmarked xs → IsUnmarked ys → IsUnmarked (xs ++ ys)
-unmarked-append [] ys plain more = more
-unmarked-append (byte ∷ bytes) ys plain more =
-    let parts = first-unmarked byte bytes plain in more-unmarked byte (bytes ++ ys) parts.0 (unmarked-append bytes ys parts.1 more)
-
 -- ## Names and digits
 
-pub is-no-mark : (byte : ℕ) → (byte ≡ opens → ⊥) → (byte ≡ closes → ⊥) → is_mark byte ≡ false
-is-no-mark byte one two = go (nat_eq byte opens) refl (nat_eq byte closes) refl
-  where
-    go : (b : Bool) → nat_eq byte opens ≡ b → (c : Bool) → nat_eq byte closes ≡ c → (nat_eq byte opens || nat_eq byte closes) ≡ false
-    go true is c other = absurd (one (eqb-true byte opens is))
-    go false is true other = absurd (two (eqb-true byte closes other))
-    go false is false other = rw (is, other) refl
-
-pub each-unmarked : (P : ℕ → Type 0) → ((byte : ℕ) → P byte → is_mark byte ≡ false) → (bytes : List ℕ) → AllByRecursion P bytes → IsUnmarked bytes
-each-unmarked P none [] each = refl
-each-unmarked P none (byte ∷ bytes) each = more-unmarked byte bytes (none byte each.0) (each-unmarked P none bytes each.1)
-
 pub name-byte : (byte : ℕ) → is_name_byte Cpp byte ≡ true → is_mark byte ≡ false
-name-byte byte is = is-no-mark byte (λ e. false≢true (ap (is_name_byte Cpp) (sym e) ∙ is)) (λ e. false≢true (ap (is_name_byte Cpp) (sym e) ∙ is))
+name-byte byte is = test-unmarked (is_name_byte Cpp) refl refl byte is
 
 digit-byte : (byte : ℕ) → is_decimal_digit byte ≡ true → is_mark byte ≡ false
-digit-byte byte is = is-no-mark byte (λ e. false≢true (ap is_decimal_digit (sym e) ∙ is)) (λ e. false≢true (ap is_decimal_digit (sym e) ∙ is))
+digit-byte byte is = test-unmarked is_decimal_digit refl refl byte is
 
 -- a name has none
 pub name-unmarked : (s : List ℕ) (at : ℕ) (name : List ℕ) (end : ℕ) → IsNameAt s at name end → IsUnmarked name
@@ -80,7 +48,7 @@ digits-unmarked digits each = each-unmarked (λ b. is_decimal_digit b ≡ true) 
 
 suffix-byte : (byte : ℕ) → is_suffix_byte byte ≡ true → is_mark byte ≡ false
 unfolding is_suffix_byte
-suffix-byte byte is = is-no-mark byte (λ e. false≢true (ap is_suffix_byte (sym e) ∙ is)) (λ e. false≢true (ap is_suffix_byte (sym e) ∙ is))
+suffix-byte byte is = test-unmarked is_suffix_byte refl refl byte is
 
 -- nor has a suffix
 pub suffix-unmarked : (suffix : List ℕ) → IsSuffix suffix → IsUnmarked suffix

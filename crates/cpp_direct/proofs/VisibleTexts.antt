@@ -1,49 +1,25 @@
 -- What is written of a tree is what it shows once what is between marks is left out.
-use Rattle.std.proofs.Common.{◌≡◌, ◌≢◌, ◌⊎◌, inl, inr, refl, ap, sym, subst, ◌∙◌, ℕ, zero, suc, ◌+◌, ◌-◌, ◌*◌, ◌≤◌, ◌<◌, List, [], ◌∷◌, ◌++◌, length, Bool, true, false, ◌||◌, nat_eq, arith, get_or, append-nil, append_assoc, length-append}
+use Rattle.std.proofs.Common.{◌≡◌, ◌≢◌, ◌⊎◌, inl, inr, refl, ap, sym, subst, ◌∙◌, ℕ, zero, suc, ◌+◌, ◌-◌, ◌≤◌, List, [], ◌∷◌, ◌++◌, length, Bool, true, false, ◌||◌, nat_eq, arith, append-nil, append_assoc}
 use Rattle.std.specs.Prelude.{Option, Some, None}
 use Rattle.std.specs.Option.{OnSome}
-use Rattle.std.proofs.lemmas.Bool.{false≢true}
 use Rattle.sym_print.specs.declared.detail.Detail.{Detail}
 use Rattle.sym_print.specs.Details.{has_arguments}
 use Rattle.sym_print.specs.Unfold.{PartOf, text, sub, printed_parts, printed_to, printed}
 use Rattle.sym_print.specs.Unshared.{Unshared, text_of, cost_of}
-use Rattle.sym_direct.specs.Marked.{opens, closes, visible, unless_within, HasNoZero}
+use Rattle.sym_direct.specs.Marked.{opens, closes, visible, is_mark, HasNoZero}
+use Rattle.sym_direct.proofs.Seen.{more-unmarked, unmarked-hidden, unmarked-seen, stretch-left}
 use Rattle.cpp_grammar.specs.Answer.{shown, root_item}
 use Rattle.cpp_grammar.specs.Items.{Form, left, low, first, Context, Item}
-use Rattle.cpp_grammar.specs.Parts.{as_item, says, list_part, instance_parts, left_parts, low_parts, parts_in, not_empty, parts}
+use Rattle.cpp_grammar.specs.Parts.{list_part, instance_parts, left_parts, low_parts, parts_in, not_empty, parts}
 use Rattle.cpp_grammar.specs.Ranks.{rank}
 use Rattle.cpp_grammar.specs.Term.{Term, instance}
 use Rattle.cpp_direct.specs.Symbol.{Symbol, detail_by, detail_of}
 use Rattle.cpp_direct.specs.WriterInvariant.{IsWhole, IsShown}
-use Rattle.cpp_direct.specs.WrittenParts.{unmarked_byte, unmarked, unmarked_parts, is_unmarked, IsUnmarked, written_instance, written_in, written_parts, written}
-use Rattle.cpp_direct.proofs.PrintedParts.{list-unmarked}
+use Rattle.cpp_direct.specs.WrittenParts.{unmarked_byte, unmarked, unmarked_parts, IsUnmarked, written_instance, written_in, written_parts, written}
+use Rattle.cpp_direct.proofs.PrintedParts.{parts-joined, list-unmarked}
 use Rattle.cpp_direct.proofs.Unmarked.{is_mark, more-unmarked, unmarked-same, length-unmarked}
 
 -- ## Bytes
-
-no-mark : (byte : ℕ) → is_mark byte ≡ false → (nat_eq byte opens ≡ false) × (nat_eq byte closes ≡ false)
-no-mark byte is = go (nat_eq byte opens) refl is
-  where
-    go : (b : Bool) → nat_eq byte opens ≡ b → (b || nat_eq byte closes) ≡ false → (nat_eq byte opens ≡ false) × (nat_eq byte closes ≡ false)
-    go true e f = absurd (false≢true (sym f))
-    go false e f = (e, f)
-
--- a byte that is no mark
-visible-byte : (depth byte : ℕ) (bytes : List ℕ) → is_mark byte ≡ false → visible depth (byte ∷ bytes) ≡ unless_within depth byte (visible depth bytes)
-unfolding visible
-visible-byte depth byte bytes is =
-    let none = no-mark byte is in
-    let ended : List ℕ = elim (nat_eq byte closes) [ true ↦ visible (depth - 1) bytes | false ↦ unless_within depth byte (visible depth bytes) ] in
-    ap (λ b. elim b [ true ↦ visible (depth + 1) bytes | false ↦ ended ]) none.0
-    ∙ ap (λ b. elim b [ true ↦ visible (depth - 1) bytes | false ↦ unless_within depth byte (visible depth bytes) ]) none.1
-
-visible-opening : (depth : ℕ) (bytes : List ℕ) → visible depth (opens ∷ bytes) ≡ visible (depth + 1) bytes
-unfolding visible
-visible-opening depth bytes = refl
-
-visible-closing : (depth : ℕ) (bytes : List ℕ) → visible depth (closes ∷ bytes) ≡ visible (depth - 1) bytes
-unfolding visible
-visible-closing depth bytes = refl
 
 -- no byte of a text is a mark where arguments aren't shown
 unmarked-byte : (byte : ℕ) → is_mark (unmarked_byte false byte) ≡ false
@@ -53,19 +29,17 @@ unmarked-byte byte = go (is_mark byte) refl
     go true is = refl
     go false is = is
 
+unmarked-plain : (bytes : List ℕ) → IsUnmarked (unmarked false bytes)
+unmarked-plain [] = refl
+unmarked-plain (byte ∷ bytes) = more-unmarked (unmarked_byte false byte) (unmarked false bytes) (unmarked-byte byte) (unmarked-plain bytes)
+
 -- such a text is left out in a stretch,
 text-hidden : (depth : ℕ) (bytes rest : List ℕ) → visible (suc depth) (unmarked false bytes ++ rest) ≡ visible (suc depth) rest
-unfolding unless_within
-text-hidden depth [] rest = refl
-text-hidden depth (byte ∷ bytes) rest =
-    visible-byte (suc depth) (unmarked_byte false byte) (unmarked false bytes ++ rest) (unmarked-byte byte) ∙ text-hidden depth bytes rest
+text-hidden depth bytes rest = unmarked-hidden (unmarked false bytes) (unmarked-plain bytes) depth rest
 
 -- and seen outside of all
 text-seen : (bytes rest : List ℕ) → visible 0 (unmarked false bytes ++ rest) ≡ unmarked false bytes ++ visible 0 rest
-unfolding unless_within
-text-seen [] rest = refl
-text-seen (byte ∷ bytes) rest =
-    visible-byte 0 (unmarked_byte false byte) (unmarked false bytes ++ rest) (unmarked-byte byte) ∙ ap (λ l. unmarked_byte false byte ∷ l) (text-seen bytes rest)
+text-seen bytes rest = unmarked-seen (unmarked false bytes) (unmarked-plain bytes) rest
 
 unmarked-join : (xs ys : List ℕ) → unmarked false (xs ++ ys) ≡ unmarked false xs ++ unmarked false ys
 unmarked-join [] ys = refl
@@ -110,18 +84,6 @@ parts-seen f h each (sub i ∷ ps) rest =
     ap (visible 0) (append_assoc (text_of (f i)) more rest) ∙ each i (more ++ rest) ∙ ap (λ l. unmarked false own ++ l) (parts-seen f h each ps rest)
     ∙ sym (append_assoc (unmarked false own) (unmarked false others) (visible 0 rest)) ∙ ap (λ l. l ++ visible 0 rest) (sym (unmarked-join own others))
 
-parts-joined : (f : Item → Unshared) (ps qs : List (PartOf Item))
-    → text_of (printed_parts f (not_empty (ps ++ qs))) ≡ text_of (printed_parts f (not_empty ps)) ++ text_of (printed_parts f (not_empty qs))
-unfolding not_empty
-parts-joined f [] qs = refl
-parts-joined f (text [] ∷ ps) qs = parts-joined f ps qs
-parts-joined f (text (b ∷ bs) ∷ ps) qs =
-    ap (λ l. (b ∷ bs) ++ l) (parts-joined f ps qs)
-    ∙ sym (append_assoc (b ∷ bs) (text_of (printed_parts f (not_empty ps))) (text_of (printed_parts f (not_empty qs))))
-parts-joined f (sub i ∷ ps) qs =
-    ap (λ l. text_of (f i) ++ l) (parts-joined f ps qs)
-    ∙ sym (append_assoc (text_of (f i)) (text_of (printed_parts f (not_empty ps))) (text_of (printed_parts f (not_empty qs))))
-
 -- ## Instances
 
 -- the text of an instance's arguments is hidden
@@ -133,20 +95,14 @@ arguments-hidden f each c a =
 abbrev marked_text : (f : Item → Unshared) (c : Context) (a : Term) → List ℕ
 marked_text f c a = text_of (printed_parts f (not_empty (list_part first c a ++ (text (closes ∷ []) ∷ []))))
 
-stretch-left : (f : Item → Unshared) → ((i : Item) → IsHidden (f i)) → (c : Context) (a : Term) (depth : ℕ) (rest : List ℕ)
+arguments-left : (f : Item → Unshared) → ((i : Item) → IsHidden (f i)) → (c : Context) (a : Term) (depth : ℕ) (rest : List ℕ)
     → visible depth (opens ∷ (marked_text f c a ++ rest)) ≡ visible depth rest
 unfolding not_empty
-stretch-left f each c a depth rest =
+arguments-left f each c a depth rest =
     let inner = text_of (printed_parts f (not_empty (list_part first c a))) in
-    let one : depth + 1 ≡ suc depth = omega arith in
-    let back : suc depth - 1 ≡ depth = omega arith in
-    visible-opening depth (marked_text f c a ++ rest)
-    ∙ ap (λ n. visible n (marked_text f c a ++ rest)) one
-    ∙ ap (λ l. visible (suc depth) (l ++ rest)) (parts-joined f (list_part first c a) (text (closes ∷ []) ∷ []))
-    ∙ ap (visible (suc depth)) (append_assoc inner (closes ∷ []) rest)
-    ∙ arguments-hidden f each c a depth (closes ∷ rest)
-    ∙ visible-closing (suc depth) rest
-    ∙ ap (λ n. visible n rest) back
+    ap (λ l. visible depth (opens ∷ (l ++ rest))) (parts-joined f (list_part first c a) (text (closes ∷ []) ∷ []))
+    ∙ ap (λ l. visible depth (opens ∷ l)) (append_assoc inner (closes ∷ []) rest)
+    ∙ stretch-left inner (arguments-hidden f each c a) depth rest
 
 instance-hidden : (f : Item → Unshared) → ((i : Item) → IsHidden (f i)) → (c : Context) (t a : Term)
     → IsHidden (printed_parts f (not_empty (written_instance false c t a)))
@@ -155,7 +111,7 @@ instance-hidden f each c t a depth rest =
     let own = text_of (f (record { tree = t; form = left; context = c })) in
     ap (visible (suc depth)) (append_assoc own (opens ∷ marked_text f c a) rest)
     ∙ each (record { tree = t; form = left; context = c }) depth (opens ∷ (marked_text f c a ++ rest))
-    ∙ stretch-left f each c a (suc depth) rest
+    ∙ arguments-left f each c a (suc depth) rest
 
 instance-seen : (f h : Item → Unshared) → ((i : Item) → IsHidden (f i)) → ((i : Item) → IsSeen (f i) (h i)) → (c : Context) (t a : Term)
     → IsSeen (printed_parts f (not_empty (written_instance false c t a))) (printed_parts h (not_empty (instance_parts false c t a)))
@@ -165,7 +121,7 @@ instance-seen f h hidden each c t a rest =
     let own = text_of (f i) in
     ap (visible 0) (append_assoc own (opens ∷ marked_text f c a) rest)
     ∙ each i (opens ∷ (marked_text f c a ++ rest))
-    ∙ ap (λ l. unmarked false (text_of (h i)) ++ l) (stretch-left f hidden c a 0 rest)
+    ∙ ap (λ l. unmarked false (text_of (h i)) ++ l) (arguments-left f hidden c a 0 rest)
     ∙ ap (λ l. unmarked false l ++ visible 0 rest) (sym (append-nil (text_of (h i))))
 
 -- ## Costs

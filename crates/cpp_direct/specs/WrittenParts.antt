@@ -1,11 +1,12 @@
 -- What is written of a tree while its symbol is read: what it prints, and template arguments even where they aren't shown, between
 -- marks.
-use Rattle.std.specs.Prelude.{◌≡◌, ℕ, List, [], ◌∷◌, ◌++◌, Bool, true, false, ◌||◌, nat_eq}
+use Rattle.std.specs.Prelude.{ℕ, List, [], ◌∷◌, ◌++◌, Bool, true, false}
 use Rattle.sym_print.specs.declared.detail.Detail.{Detail}
 use Rattle.sym_print.specs.Details.{has_arguments}
 use Rattle.sym_print.specs.Unshared.{Unshared}
 use Rattle.sym_print.specs.Unfold.{PartOf, text, sub, printed}
-use Rattle.sym_direct.specs.Marked.{opens, closes}
+use Rattle.sym_direct.specs.Marked.{opens, closes, is_mark}
+pub use Rattle.sym_direct.specs.Marked.{is_unmarked, IsUnmarked}
 use Rattle.cpp_grammar.specs.Term.{Term, instance}
 use Rattle.cpp_grammar.specs.Items.{Form, left, low, first, Context, Item}
 use Rattle.cpp_grammar.specs.Parts.{as_item, list_part, instance_parts, parts_in, not_empty}
@@ -26,17 +27,9 @@ opening_bracket d = opening_byte (has_arguments d) ∷ []
 abbrev pub closing_bracket : Detail → List ℕ
 closing_bracket d = closing_byte (has_arguments d) ∷ []
 
--- no byte of a text is a mark
-abbrev pub is_unmarked : List ℕ → Bool
-is_unmarked [] = true
-is_unmarked (byte ∷ bytes) = elim (nat_eq byte opens || nat_eq byte closes) [ true ↦ false | false ↦ is_unmarked bytes ]
-
-abbrev pub IsUnmarked : List ℕ → Type 0
-IsUnmarked bytes = is_unmarked bytes ≡ true
-
 -- a byte of a text: where arguments aren't shown, 0 for a mark
 abbrev pub unmarked_byte : (shown : Bool) → ℕ → ℕ
-unmarked_byte shown byte = elim (nat_eq byte opens || nat_eq byte closes) [ true ↦ elim shown [ true ↦ byte | false ↦ 0 ] | false ↦ byte ]
+unmarked_byte shown byte = elim (is_mark byte) [ true ↦ elim shown [ true ↦ byte | false ↦ 0 ] | false ↦ byte ]
 
 abbrev pub unmarked : (shown : Bool) → List ℕ → List ℕ
 unmarked shown [] = []

@@ -1,13 +1,13 @@
 -- The tables are held against the grammar at each kind and byte, by computing.
-use Rattle.std.proofs.Common.{◌≡◌, ℕ, ◌+◌, ◌-◌, ◌*◌, ◌<◌, ◌≤◌, get_or, slice_get, List, map, leb, ltb, ◌&&◌, Bool, true, Option, Some, None, refl, ap, sym, ◌∙◌, arith, inl, inr}
+use Rattle.std.proofs.Common.{◌≡◌, ℕ, ◌+◌, ◌-◌, ◌*◌, ◌<◌, ◌≤◌, get_or, slice_get, List, length, map, leb, ltb, ◌&&◌, Bool, true, Option, Some, None, refl, ap, sym, ◌∙◌, arith, inl, inr}
 use Rattle.std.proofs.lemmas.Bool.{and_parts, leb-true, ltb-true}
 use Rattle.std.proofs.lemmas.Option.{slice_get_cases}
 use Rattle.std.specs.List.{range_with_len}
-use Rattle.sym_shape.specs.Listing.{letter_below, unless_blank}
+use Rattle.sym_shape.specs.Listing.{letter_below, unless_blank, counts_after}
 use Rattle.sym_shape.specs.Table.{symbols_of}
-use Rattle.sym_shape.proofs.Listed.{alike_at, alike_in}
+use Rattle.sym_shape.proofs.Listed.{alike_at, alike_in, after_at}
 use Rattle.cpp_grammar.specs.declared.table.Head.{Head}
-use Rattle.cpp_grammar.specs.declared.table.TheConstants.{LETTERS}
+use Rattle.cpp_grammar.specs.declared.table.TheConstants.{LETTERS, SYMBOLS, AFTER}
 use Rattle.cpp_grammar.specs.declared.kind.Kind.{Kind}
 use Rattle.cpp_grammar.specs.declared.production.Production.{Production}
 use Rattle.cpp_grammar.specs.KindNumbers.{KIND_COUNT, PRODUCTION_COUNT}
@@ -85,3 +85,10 @@ places head = refl
 
 pub place_at : (head : Head) (n : ℕ) → n < PRODUCTION_COUNT → abi_listed (n * 6 + 6) ≡ symbols_of (listed_rule head n)
 place_at head n = alike_at (λ n. abi_listed (n * 6 + 6)) (λ n. symbols_of (listed_rule head n)) PRODUCTION_COUNT n (places head)
+
+-- what the code lists of each place is how many symbols come after it
+after_each : AFTER ≡ counts_after SYMBOLS
+after_each = refl
+
+pub after_place : (place : ℕ) → get_or AFTER place 0 ≡ length (abi_listed (place + 1))
+after_place place = ap (λ counts. get_or counts place 0) after_each ∙ after_at SYMBOLS place

@@ -41,6 +41,10 @@ impl Grammar for Abi {
         table::symbol(place)
     }
 
+    fn after(&self, place: u32) -> u8 {
+        table::after(place)
+    }
+
     fn may_be_empty(&self, kind: u16) -> bool {
         is_optional(kind)
     }

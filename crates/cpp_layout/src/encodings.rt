@@ -9,16 +9,14 @@ ghost use Rattle.sym_print.specs.Details.{has_parameters};
 ghost use Rattle.cpp_term.specs.Items as items;
 ghost use Rattle.cpp_term.specs.Term as term;
 ghost use Rattle.cpp_grammar.specs.Items as heads;
-ghost use Rattle.cpp_grammar.specs.Parts.{encoding_text, thunk_text, clone_text};
-ghost use Rattle.cpp_grammar.specs.Texts.{look_up, special_texts, named_special_texts};
-ghost use Rattle.cpp_term.specs.Parts.{as_item, construction_parts, function_bare, function_full, full_parts, bare_parts, root_parts, text_part};
+ghost use Rattle.cpp_grammar.specs.Parts.{thunk_text};
+ghost use Rattle.cpp_term.specs.Parts.{as_item, function_bare, function_full, full_parts, bare_parts, root_parts, text_part};
 ghost use Rattle.cpp_tree.specs.Nodes.{is_again, entry_at, tree_at, trees, under_kept, IsTable, IsThereBelow, IsWithin, bytes_at, thunk_of, qualifiers_of, mark_of};
 ghost use Rattle.cpp_layout.specs.Texts.{fixed_text, suffix_of};
 ghost use Rattle.cpp_layout.specs.declared.texts.TheConstants.{SUFFIX};
 ghost use Rattle.cpp_layout.specs.Layout.{table_of, tree_shown, type_shown, clone_suffix, Shows};
 
 use crate::context::Context;
-use crate::numbered::{named_special, special};
 use crate::symbol::Symbol;
 use crate::{form, texts};
 use cpp_tree::node::{Adjustment, Mark, Node, Qualifiers, Thunk, bit};
@@ -128,84 +126,6 @@ impl Symbol {
         self.push_typed(parts, returned, form::LEFT, under, detail);
     }
 
-    /// The parts of an object's name.
-    // <encoding> ::= <data name>
-    fn fill_object<S: PartList<Context>>(
-        &self,
-        parts: &mut S,
-        name: u32,
-        qualifiers: Qualifiers,
-        mark: Mark,
-        detail: Detail,
-    )
-        requires name { name < length self.now.table.nodes }
-        requires room { 8 ≤ S.room parts.old }
-        ensures shows { Shows self.now detail (S.held parts.old) (S.held parts.new) (as_item heads.left items.closed (tree_at (trees (table_of self.now)) name) ∷ text_part (encoding_text (qualifiers_of qualifiers) (mark_of mark))) }
-        ensures few { S.room parts.old ≤ S.room parts.new + 8 }
-    {
-        self.push_suffix(parts, qualifiers, mark, false);
-        self.push_closed(parts, name, form::LEFT, detail);
-    }
-
-    /// The parts of a special name of a name.
-    // <special-name> ::= GV <object name> | TH <object name> | TW <object name>
-    fn fill_special_name<S: PartList<Context>>(
-        &self,
-        parts: &mut S,
-        letter: u8,
-        name: u32,
-        qualifiers: Qualifiers,
-        mark: Mark,
-        detail: Detail,
-    )
-        requires name { name < length self.now.table.nodes }
-        requires room { 8 ≤ S.room parts.old }
-        ensures shows { Shows self.now detail (S.held parts.old) (S.held parts.new) (text (look_up (letter ∷ []) named_special_texts)
-            ∷ as_item heads.left items.closed (tree_at (trees (table_of self.now)) name) ∷ text_part (encoding_text (qualifiers_of qualifiers) (mark_of mark))) }
-        ensures few { S.room parts.old ≤ S.room parts.new + 8 }
-    {
-        self.push_suffix(parts, qualifiers, mark, false);
-        self.push_closed(parts, name, form::LEFT, detail);
-        self.push_some(parts, named_special(letter));
-    }
-
-    /// The parts of a virtual table's name and the like.
-    // <special-name> ::= TV <type> | TT <type> | TI <type> | TS <type>
-    fn fill_special<S: PartList<Context>>(&self, parts: &mut S, letter: u8, ty: u32, detail: Detail)
-        requires ty { ty < length self.now.table.nodes }
-        requires room { 8 ≤ S.room parts.old }
-        ensures shows { Shows self.now detail (S.held parts.old) (S.held parts.new) (text (look_up (letter ∷ []) special_texts)
-            ∷ as_item heads.left items.closed (tree_at (trees (table_of self.now)) ty) ∷ as_item heads.right items.closed (tree_at (trees (table_of self.now)) ty) ∷ []) }
-        ensures few { S.room parts.old ≤ S.room parts.new + 8 }
-    {
-        self.push_closed(parts, ty, form::RIGHT, detail);
-        self.push_closed(parts, ty, form::LEFT, detail);
-        self.push_some(parts, special(letter));
-    }
-
-    /// The parts of a construction virtual table's name.
-    // <special-name> ::= TC <derived type> <offset number> _ <base type>
-    fn fill_construction<S: PartList<Context>>(
-        &self,
-        parts: &mut S,
-        derived: u32,
-        parent: u32,
-        detail: Detail,
-    )
-        requires derived { derived < length self.now.table.nodes }
-        requires parent { parent < length self.now.table.nodes }
-        requires room { 8 ≤ S.room parts.old }
-        ensures shows { Shows self.now detail (S.held parts.old) (S.held parts.new) (construction_parts (tree_at (trees (table_of self.now)) derived) (tree_at (trees (table_of self.now)) parent)) }
-        ensures few { S.room parts.old ≤ S.room parts.new + 8 }
-    {
-        self.push_closed(parts, derived, form::RIGHT, detail);
-        self.push_closed(parts, derived, form::LEFT, detail);
-        self.push_text(parts, texts::IN);
-        self.push_closed(parts, parent, form::RIGHT, detail);
-        self.push_closed(parts, parent, form::LEFT, detail);
-        self.push_text(parts, texts::CONSTRUCTION);
-    }
-
     /// The parts of a thunk's name.
     // <special-name> ::= T <call-offset> <base encoding> | Tc <call-offset> <call-offset> <base encoding>
     fn fill_thunk<S: PartList<Context>>(
@@ -222,24 +142,6 @@ impl Symbol {
     {
         self.push_closed(parts, encoding, form::FULL, detail);
         self.push_text(parts, thunk_number(self.thunk(thunk)));
-    }
-
-    /// The parts of a clone's name.
-    // <special-name> ::= GTt <encoding> | GTn <encoding>
-    fn fill_clone<S: PartList<Context>>(
-        &self,
-        parts: &mut S,
-        letter: u8,
-        encoding: u32,
-        detail: Detail,
-    )
-        requires encoding { encoding < length self.now.table.nodes }
-        requires room { 8 ≤ S.room parts.old }
-        ensures shows { Shows self.now detail (S.held parts.old) (S.held parts.new) (text (clone_text letter) ∷ as_item heads.full items.closed (tree_at (trees (table_of self.now)) encoding) ∷ []) }
-        ensures few { S.room parts.old ≤ S.room parts.new + 8 }
-    {
-        self.push_closed(parts, encoding, form::FULL, detail);
-        self.push_either(parts, letter == b't', texts::CLONE, texts::OTHER_CLONE);
     }
 
     /// The parts of a function's name and types.
@@ -399,7 +301,7 @@ impl Symbol {
     }
 
     /// Adds the suffix of a clone in brackets, if there is one.
-    fn push_clone_suffix<S: PartList<Context>>(&self, parts: &mut S, suffix: Span)
+    pub(crate) fn push_clone_suffix<S: PartList<Context>>(&self, parts: &mut S, suffix: Span)
         requires room { 3 ≤ S.room parts.old }
         requires suffix { IsWithin suffix self.now.bytes }
         ensures shows { (d : Detail) (below : Held Context) (others : List (PartOf items.Item)) → Shows self.now d below (S.held parts.old) others
@@ -411,25 +313,6 @@ impl Symbol {
             self.push_bytes(parts, suffix);
             self.push_text(parts, texts::BLANK_LEFT);
         }
-    }
-
-    /// The parts of a whole symbol: its encoding, and the suffix of a clone in brackets.
-    // <mangled-name> ::= _Z <encoding> [. <vendor-specific suffix>]
-    fn fill_whole<S: PartList<Context>>(
-        &self,
-        parts: &mut S,
-        encoding: u32,
-        suffix: Span,
-        detail: Detail,
-    )
-        requires encoding { encoding < length self.now.table.nodes }
-        requires suffix { IsWithin suffix self.now.bytes }
-        requires room { 8 ≤ S.room parts.old }
-        ensures shows { Shows self.now detail (S.held parts.old) (S.held parts.new) (root_parts (term.symbol (tree_at (trees (table_of self.now)) encoding) (bytes_at self.now.bytes suffix))) }
-        ensures few { S.room parts.old ≤ S.room parts.new + 8 }
-    {
-        self.push_clone_suffix(parts, suffix);
-        self.push_closed(parts, encoding, form::FULL, detail);
     }
 
     /// The parts of the node of a whole symbol.

@@ -1,13 +1,9 @@
 // The parts of names and types, left of a declared name.
 #![tactic(auto)]
 
-ghost use Rattle.std.specs.Prelude.{◌≡◌, ◌+◌, ◌<◌, ◌≤◌, ◌∷◌, [], length, false};
-ghost use Rattle.sym_print.specs.Unfold.{text};
-ghost use Rattle.cpp_grammar.specs.Items as heads;
-ghost use Rattle.cpp_term.specs.Parts.{as_item, own_piece, piece_parts, left_parts, low_parts, base_parts};
+ghost use Rattle.std.specs.Prelude.{◌≡◌, ◌+◌, ◌<◌, ◌≤◌, length, false};
+ghost use Rattle.cpp_term.specs.Parts.{own_piece, piece_parts, left_parts, low_parts, base_parts};
 ghost use Rattle.cpp_tree.specs.Nodes.{IsTable, IsBelow, IsThereBelow, is_again, entry_at};
-ghost use Rattle.cpp_layout.specs.Texts.{fixed_text};
-ghost use Rattle.cpp_layout.specs.declared.texts.TheConstants.{STD};
 ghost use Rattle.cpp_layout.specs.Layout.{table_of, context_of, Shows, IsNoName, IsNoType, tree_shown, node_shown};
 
 use crate::codes::placeholder;
@@ -20,20 +16,6 @@ use cpp_tree::node::Node;
 use sym_print::PartList;
 
 impl Symbol {
-    /// The parts of a name in std.
-    // <unscoped-name> ::= St <unqualified-name>
-    fn fill_in_std<S: PartList<Context>>(&self, parts: &mut S, node: u32, ctx: Context)
-        requires context { IsThereBelow (length self.now.table.nodes) ctx.argument }
-        requires own { is_again (entry_at self.now.table.nodes node).node ≡ false }
-        requires node { node < length self.now.table.nodes }
-        requires room { 8 ≤ S.room parts.old }
-        ensures shows { Shows self.now ctx.detail (S.held parts.old) (S.held parts.new) (text (fixed_text STD) ∷ as_item heads.piece (context_of ctx) (own_piece (tree_shown self.now ctx node)) ∷ []) }
-        ensures few { S.room parts.old ≤ S.room parts.new + 8 }
-    {
-        self.push_item(parts, node, form::PIECE, 0, ctx);
-        self.push_text(parts, texts::STD);
-    }
-
     /// The parts of the piece that a name has of its own.
     pub(crate) fn fill_own_piece<S: PartList<Context>>(
         &self,

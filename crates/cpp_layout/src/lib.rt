@@ -14,6 +14,7 @@ mod operation_rows;
 mod operations;
 mod parts;
 mod print;
+mod printed;
 mod qualified;
 mod right;
 mod symbol;

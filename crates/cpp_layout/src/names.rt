@@ -1,19 +1,18 @@
 // The parts of names.
 #![tactic(auto)]
 
-ghost use Rattle.std.specs.Prelude.{◌≡◌, ℕ, ◌+◌, ◌<◌, ◌≤◌, ◌∷◌, [], List, length, codes, decimal, if◌then◌else◌};
+ghost use Rattle.std.specs.Prelude.{◌≡◌, ℕ, ◌+◌, ◌<◌, ◌≤◌, ◌∷◌, List, length, codes, decimal, if◌then◌else◌};
 ghost use Rattle.sym_print.specs.Held.{Held};
 ghost use Rattle.sym_print.specs.Unfold.{PartOf, text};
 ghost use Rattle.sym_print.specs.declared.detail.Detail.{Detail};
 ghost use Rattle.sym_print.specs.Details.{has_arguments};
-ghost use Rattle.cpp_grammar.specs.Items.{left, base, piece};
 ghost use Rattle.cpp_grammar.specs.Parts.{begins_with, source_text};
 ghost use Rattle.cpp_term.specs.Term as term;
 ghost use Rattle.cpp_term.specs.Items as items;
-ghost use Rattle.cpp_term.specs.Parts.{as_item, piece_parts, prefix_item, within_parts, base_within, base_tagged, own_piece, entity_of, opening_text, last_piece, instance_parts};
+ghost use Rattle.cpp_term.specs.Parts.{piece_parts, prefix_item, within_parts, base_within, base_tagged, own_piece, entity_of, opening_text, last_piece, instance_parts};
 ghost use Rattle.cpp_tree.specs.Nodes.{piece_of, tree_at, trees, bytes_at, IsTable, IsWithin, IsPieceBelow, IsThereBelow};
 ghost use Rattle.cpp_layout.specs.Texts.{fixed_text};
-ghost use Rattle.cpp_layout.specs.declared.texts.TheConstants.{BLANK_LESS, COLONS, COUNT, LESS, RIGHT_BRACKET, TAG};
+ghost use Rattle.cpp_layout.specs.declared.texts.TheConstants.{BLANK_LESS, COLONS, COUNT, LESS};
 ghost use Rattle.cpp_layout.specs.Layout.{table_of, context_of, Shows, IsOwn, IsNoSource, tree_shown, piece_shown};
 
 use crate::codes::{is_angle_code, operator};
@@ -112,29 +111,6 @@ impl Symbol {
         }
     }
 
-    /// The parts of a lambda's name.
-    // <closure-type-name> ::= Ul <lambda-sig> E [ <nonnegative number> ] _
-    fn fill_lambda<S: PartList<Context>>(
-        &self,
-        parts: &mut S,
-        parameters: u32,
-        number: u64,
-        ctx: Context,
-    )
-        requires context { IsThereBelow (length self.now.table.nodes) ctx.argument }
-        requires table { IsTable (table_of self.now) }
-        requires parameters { parameters < length self.now.table.nodes }
-        requires room { 8 ≤ S.room parts.old }
-        ensures shows { Shows self.now ctx.detail (S.held parts.old) (S.held parts.new) (piece_parts (context_of ctx) (term.lambda (tree_shown self.now ctx parameters) number)) }
-        ensures few { S.room parts.old ≤ S.room parts.new + 8 }
-    {
-        self.push_text(parts, texts::BRACE);
-        self.push_decimal(parts, number);
-        self.push_text(parts, texts::RIGHT_NUMBER);
-        self.push_list(parts, parameters, form::FIRST, ctx);
-        self.push_text(parts, texts::LAMBDA);
-    }
-
     /// The parts of the name of a lambda whose signature names parameters of its own.
     // <closure-type-name> ::= Ul <lambda-sig> E [ <nonnegative number> ] _
     fn fill_generic_lambda<S: PartList<Context>>(
@@ -151,46 +127,6 @@ impl Symbol {
         ensures few { S.room parts.old ≤ S.room parts.new + 8 }
     {
         self.fill_lambda(parts, parameters, number, ctx.of_its_own());
-    }
-
-    /// The parts of an unnamed type's name.
-    // <unnamed-type-name> ::= Ut [ <nonnegative number> ] _
-    fn fill_unnamed<S: PartList<Context>>(&self, parts: &mut S, number: u64, ctx: Context)
-        requires context { IsThereBelow (length self.now.table.nodes) ctx.argument }
-        requires room { 8 ≤ S.room parts.old }
-        ensures shows { Shows self.now ctx.detail (S.held parts.old) (S.held parts.new) (piece_parts (context_of ctx) (term.unnamed number)) }
-        ensures few { S.room parts.old ≤ S.room parts.new + 8 }
-    {
-        self.push_text(parts, texts::BRACE);
-        self.push_decimal(parts, number);
-        self.push_text(parts, texts::UNNAMED);
-    }
-
-    /// The parts of a literal operator's name.
-    // <operator-name> ::= li <source-name>
-    fn fill_literal_operator<S: PartList<Context>>(&self, parts: &mut S, name: Span, ctx: Context)
-        requires context { IsThereBelow (length self.now.table.nodes) ctx.argument }
-        requires name { IsWithin name self.now.bytes }
-        requires room { 8 ≤ S.room parts.old }
-        ensures shows { Shows self.now ctx.detail (S.held parts.old) (S.held parts.new) (piece_parts (context_of ctx) (term.literal_operator (bytes_at self.now.bytes name))) }
-        ensures few { S.room parts.old ≤ S.room parts.new + 8 }
-    {
-        self.push_bytes(parts, name);
-        self.push_text(parts, texts::LITERAL);
-    }
-
-    /// The parts of the name of a conversion to a type.
-    // <operator-name> ::= cv <type>
-    fn fill_conversion<S: PartList<Context>>(&self, parts: &mut S, ty: u32, ctx: Context)
-        requires context { IsThereBelow (length self.now.table.nodes) ctx.argument }
-        requires ty { ty < length self.now.table.nodes }
-        requires room { 8 ≤ S.room parts.old }
-        ensures shows { Shows self.now ctx.detail (S.held parts.old) (S.held parts.new) (piece_parts (context_of ctx) (term.conversion (tree_shown self.now ctx ty))) }
-        ensures few { S.room parts.old ≤ S.room parts.new + 8 }
-    {
-        self.push_item(parts, ty, form::RIGHT, 0, ctx);
-        self.push_item(parts, ty, form::LEFT, 0, ctx);
-        self.push_text(parts, texts::CONVERSION);
     }
 
     /// The parts of a piece that is no source name.
@@ -238,7 +174,7 @@ impl Symbol {
     /// Adds a prefix: a name, what holds a piece in its initializer, which is shown as its name, or the encoding around a local
     /// entity, which is shown without its return type.
     #[inline(always)]
-    fn push_prefix<S: PartList<Context>>(&self, parts: &mut S, prefix: u32, ctx: Context)
+    pub(crate) fn push_prefix<S: PartList<Context>>(&self, parts: &mut S, prefix: u32, ctx: Context)
         requires context { IsThereBelow (length self.now.table.nodes) ctx.argument }
         requires room { 0 < S.room parts.old }
         requires table { IsTable (table_of self.now) }
@@ -257,43 +193,6 @@ impl Symbol {
             Node::Holder(name) => self.push_item(parts, name, form::LEFT, 0, place.ctx),
             _ => self.push_item(parts, prefix, form::LEFT, 0, ctx),
         }
-    }
-
-    /// The parts of a constructor's or a destructor's name.
-    // <ctor-dtor-name> ::= C1 | C2 | C3 | D0 | D1 | D2
-    fn fill_structor<S: PartList<Context>>(
-        &self,
-        parts: &mut S,
-        prefix: u32,
-        number: u16,
-        ctx: Context,
-    )
-        requires context { IsThereBelow (length self.now.table.nodes) ctx.argument }
-        requires prefix { prefix < length self.now.table.nodes }
-        requires number { 0 < length (fixed_text number) }
-        requires room { 8 ≤ S.room parts.old }
-        ensures shows { Shows self.now ctx.detail (S.held parts.old) (S.held parts.new) (as_item left (context_of ctx) (tree_shown self.now ctx prefix) ∷ text (fixed_text number) ∷ as_item base (context_of ctx) (tree_shown self.now ctx prefix) ∷ []) }
-        ensures few { S.room parts.old ≤ S.room parts.new + 8 }
-    {
-        self.push_item(parts, prefix, form::BASE, 0, ctx);
-        self.push_text(parts, number);
-        self.push_item(parts, prefix, form::LEFT, 0, ctx);
-    }
-
-    /// The parts of a piece after its prefix.
-    fn fill_nested<S: PartList<Context>>(&self, parts: &mut S, node: u32, prefix: u32, ctx: Context)
-        requires context { IsThereBelow (length self.now.table.nodes) ctx.argument }
-        requires table { IsTable (table_of self.now) }
-        requires node { node < length self.now.table.nodes }
-        requires prefix { prefix < length self.now.table.nodes }
-        requires room { 8 ≤ S.room parts.old }
-        ensures shows { Shows self.now ctx.detail (S.held parts.old) (S.held parts.new) (prefix_item (context_of ctx) (tree_shown self.now ctx prefix)
-            ∷ text (fixed_text COLONS) ∷ as_item piece (context_of ctx) (own_piece (tree_shown self.now ctx node)) ∷ []) }
-        ensures few { S.room parts.old ≤ S.room parts.new + 8 }
-    {
-        self.push_item(parts, node, form::PIECE, 0, ctx);
-        self.push_text(parts, texts::COLONS);
-        self.push_prefix(parts, prefix, ctx);
     }
 
     /// The parts of a name within another.
@@ -415,28 +314,6 @@ impl Symbol {
             Piece::Destructor(_) => self.push_item(parts, prefix, form::BASE, 0, ctx),
             _ => self.fill_piece(parts, piece, ctx),
         }
-    }
-
-    /// The parts of a name with a tag.
-    // <abi-tag> ::= B <source-name>
-    pub(crate) fn fill_tagged<S: PartList<Context>>(
-        &self,
-        parts: &mut S,
-        name: u32,
-        tag: Span,
-        ctx: Context,
-    )
-        requires context { IsThereBelow (length self.now.table.nodes) ctx.argument }
-        requires name { name < length self.now.table.nodes }
-        requires tag { IsWithin tag self.now.bytes }
-        requires room { 8 ≤ S.room parts.old }
-        ensures shows { Shows self.now ctx.detail (S.held parts.old) (S.held parts.new) (as_item left (context_of ctx) (tree_shown self.now ctx name) ∷ text (fixed_text TAG) ∷ text (bytes_at self.now.bytes tag) ∷ text (fixed_text RIGHT_BRACKET) ∷ []) }
-        ensures few { S.room parts.old ≤ S.room parts.new + 8 }
-    {
-        self.push_text(parts, texts::RIGHT_BRACKET);
-        self.push_bytes(parts, tag);
-        self.push_text(parts, texts::TAG);
-        self.push_item(parts, name, form::LEFT, 0, ctx);
     }
 
     /// The name of a constructor's class under its tags: its piece. A constructor's own name is looked at tag by tag.

@@ -1,17 +1,16 @@
 // How the operations of expressions are printed.
 #![tactic(auto)]
 
-ghost use Rattle.std.specs.Prelude.{◌≡◌, ℕ, ◌+◌, ◌<◌, ◌≤◌, ◌++◌, ◌∷◌, [], List, length, false};
+ghost use Rattle.std.specs.Prelude.{◌≡◌, ℕ, ◌+◌, ◌<◌, ◌≤◌, ◌++◌, List, length, false};
 ghost use Rattle.sym_print.specs.Held.{Held};
 ghost use Rattle.sym_print.specs.Unfold.{PartOf};
 ghost use Rattle.sym_print.specs.declared.detail.Detail.{Detail};
-ghost use Rattle.cpp_grammar.specs.Items as heads;
 ghost use Rattle.cpp_tree.specs.declared.node.Thunk.{Thunk};
 ghost use Rattle.cpp_grammar.specs.Operations as table;
 ghost use Rattle.cpp_term.specs.Items as items;
 ghost use Rattle.cpp_term.specs.Term.{Term};
 ghost use Rattle.cpp_term.specs.Parts as trees_;
-ghost use Rattle.cpp_term.specs.Parts.{as_item, says, text_part, operand_parts, operation_parts};
+ghost use Rattle.cpp_term.specs.Parts.{text_part, operand_parts, operation_parts};
 ghost use Rattle.cpp_tree.specs.Nodes.{tree_of, IsTable, IsThereBelow, is_again};
 ghost use Rattle.cpp_layout.specs.Texts.{fixed_text};
 ghost use Rattle.cpp_layout.specs.declared.texts.TheConstants.{COUNT};
@@ -129,23 +128,5 @@ impl Symbol {
         self.push_own_text(parts, operation.between);
         self.fill_operand(parts, operation.left, left, ctx);
         self.push_own_text(parts, operation.front);
-    }
-
-    /// The parts of the type of an expression.
-    pub(crate) fn fill_decltype<S: PartList<Context>>(
-        &self,
-        parts: &mut S,
-        expression: u32,
-        ctx: Context,
-    )
-        requires context { IsThereBelow (length self.now.table.nodes) ctx.argument }
-        requires expression { expression < length self.now.table.nodes }
-        requires room { 8 ≤ S.room parts.old }
-        ensures shows { Shows self.now ctx.detail (S.held parts.old) (S.held parts.new) (says "decltype(" ∷ as_item heads.left (context_of ctx) (tree_shown self.now ctx expression) ∷ says ")" ∷ []) }
-        ensures few { S.room parts.old ≤ S.room parts.new + 8 }
-    {
-        self.push_text(parts, texts::RIGHT);
-        self.push_item(parts, expression, form::LEFT, 0, ctx);
-        self.push_text(parts, texts::DECLTYPE);
     }
 }

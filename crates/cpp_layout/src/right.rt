@@ -2,44 +2,17 @@
 #![tactic(auto)]
 
 ghost use Rattle.std.specs.Prelude.{◌≡◌, ◌+◌, ◌<◌, ◌≤◌, length, false};
-ghost use Rattle.cpp_grammar.specs.Parts.{qualifier_text};
-ghost use Rattle.cpp_term.specs.Parts.{right_parts, function_right, qualified_right};
-ghost use Rattle.cpp_tree.specs.Nodes.{IsTable, qualifiers_of, mark_of, IsThereBelow, is_again, entry_at};
+ghost use Rattle.cpp_term.specs.Parts.{right_parts, qualified_right};
+ghost use Rattle.cpp_tree.specs.Nodes.{IsTable, qualifiers_of, IsThereBelow, is_again, entry_at};
 ghost use Rattle.cpp_layout.specs.Layout.{table_of, context_of, Shows, tree_shown};
 
 use crate::context::Context;
+use crate::form;
 use crate::symbol::Symbol;
-use crate::{form, texts};
-use cpp_tree::node::{Mark, Node, Qualifiers};
+use cpp_tree::node::{Node, Qualifiers};
 use sym_print::PartList;
 
 impl Symbol {
-    /// The right parts of a function's type.
-    pub(crate) fn fill_function_right<S: PartList<Context>>(
-        &self,
-        parts: &mut S,
-        qualifiers: Qualifiers,
-        mark: Mark,
-        noexcept: bool,
-        returned: u32,
-        parameters: u32,
-        ctx: Context,
-    )
-        requires context { IsThereBelow (length self.now.table.nodes) ctx.argument }
-        requires table { IsTable (table_of self.now) }
-        requires returned { returned < length self.now.table.nodes }
-        requires parameters { parameters < length self.now.table.nodes }
-        requires room { 8 ≤ S.room parts.old }
-        ensures shows { Shows self.now ctx.detail (S.held parts.old) (S.held parts.new) (function_right (context_of ctx) (qualifier_text (qualifiers_of qualifiers)) (mark_of mark) noexcept (tree_shown self.now ctx returned) (tree_shown self.now ctx parameters)) }
-        ensures few { S.room parts.old ≤ S.room parts.new + 8 }
-    {
-        self.push_item(parts, returned, form::RIGHT, 0, ctx);
-        self.push_suffix(parts, qualifiers, mark, noexcept);
-        self.push_text(parts, texts::RIGHT);
-        self.push_list(parts, parameters, form::FIRST, ctx);
-        self.push_text(parts, texts::LEFT);
-    }
-
     /// The right parts of a qualified type: a function has its qualifiers there.
     pub(crate) fn fill_qualified_right<S: PartList<Context>>(
         &self,

@@ -2,11 +2,10 @@
 #![tactic(auto)]
 
 ghost use Rattle.std.specs.Prelude.{◌+◌, ◌<◌, ◌≤◌, ◌∷◌, [], length};
-ghost use Rattle.sym_print.specs.Unfold.{text, sub};
+ghost use Rattle.sym_print.specs.Unfold.{sub};
 ghost use Rattle.cpp_grammar.specs.Items as heads;
 ghost use Rattle.cpp_term.specs.Items as items;
-ghost use Rattle.cpp_term.specs.Parts.{as_item, reference_parts, array_left, float_parts, member_parts, closing_right, left_parts, right_parts};
-ghost use Rattle.cpp_term.specs.Term as term;
+ghost use Rattle.cpp_term.specs.Parts.{as_item, reference_parts, float_parts};
 ghost use Rattle.cpp_term.specs.Reargued.{argument_or};
 ghost use Rattle.cpp_tree.specs.Nodes.{tree_if_there, tree_at, trees, IsTable, bytes_at, IsWithin, IsThereBelow};
 ghost use Rattle.cpp_layout.specs.Texts.{fixed_text};
@@ -19,29 +18,6 @@ use sym_core::Span;
 use sym_print::PartList;
 
 impl Symbol {
-    /// The left parts of a type and a text after them, which is another one after a function or an array.
-    pub(crate) fn fill_marked<S: PartList<Context>>(
-        &self,
-        parts: &mut S,
-        ty: u32,
-        behind: u16,
-        plain: u16,
-        ctx: Context,
-    )
-        requires context { IsThereBelow (length self.now.table.nodes) ctx.argument }
-        requires table { IsTable (table_of self.now) }
-        requires ty { ty < length self.now.table.nodes }
-        requires behind { 0 < length (fixed_text behind) }
-        requires plain { 0 < length (fixed_text plain) }
-        requires room { 8 ≤ S.room parts.old }
-        ensures shows { Shows self.now ctx.detail (S.held parts.old) (S.held parts.new) (marked (heads.is_funarr (items.head (context_of ctx) (tree_shown self.now ctx ty))) (as_item heads.left (context_of ctx) (tree_shown self.now ctx ty)) (fixed_text behind) (fixed_text plain)) }
-        ensures few { S.room parts.old ≤ S.room parts.new + 8 }
-    {
-        let is_function = self.is_function(ty, ctx);
-        self.push_either(parts, is_function, behind, plain);
-        self.push_item(parts, ty, form::LEFT, 0, ctx);
-    }
-
     /// The left parts of a reference: those of the type where it is one itself.
     pub(crate) fn fill_reference<S: PartList<Context>>(
         &self,
@@ -102,83 +78,6 @@ impl Symbol {
         );
     }
 
-    /// The left parts of a pointer to a member.
-    pub(crate) fn fill_member<S: PartList<Context>>(
-        &self,
-        parts: &mut S,
-        class: u32,
-        member: u32,
-        ctx: Context,
-    )
-        requires context { IsThereBelow (length self.now.table.nodes) ctx.argument }
-        requires table { IsTable (table_of self.now) }
-        requires class { class < length self.now.table.nodes }
-        requires member { member < length self.now.table.nodes }
-        requires room { 8 ≤ S.room parts.old }
-        ensures shows { Shows self.now ctx.detail (S.held parts.old) (S.held parts.new) (member_parts (context_of ctx) (tree_shown self.now ctx class) (tree_shown self.now ctx member)) }
-        ensures few { S.room parts.old ≤ S.room parts.new + 8 }
-    {
-        let is_function = self.is_function(member, ctx);
-        self.push_text(parts, texts::COLONS_STAR);
-        self.push_item(parts, class, form::LEFT, 0, ctx);
-        self.push_either(parts, is_function, texts::LEFT, texts::BLANK);
-        self.push_item(parts, member, form::LEFT, 0, ctx);
-    }
-
-    /// The left parts of an array.
-    pub(crate) fn fill_array<S: PartList<Context>>(&self, parts: &mut S, element: u32, ctx: Context)
-        requires context { IsThereBelow (length self.now.table.nodes) ctx.argument }
-        requires table { IsTable (table_of self.now) }
-        requires element { element < length self.now.table.nodes }
-        requires room { 8 ≤ S.room parts.old }
-        ensures shows { Shows self.now ctx.detail (S.held parts.old) (S.held parts.new) (array_left (context_of ctx) (tree_shown self.now ctx element)) }
-        ensures few { S.room parts.old ≤ S.room parts.new + 8 }
-    {
-        let is_function = self.is_function(element, ctx);
-        self.push_text_if(parts, !is_function, texts::BLANK);
-        self.push_item(parts, element, form::LEFT, 0, ctx);
-    }
-
-    /// The left parts of a type and a text after them.
-    pub(crate) fn fill_left_text<S: PartList<Context>>(
-        &self,
-        parts: &mut S,
-        ty: u32,
-        number: u16,
-        ctx: Context,
-    )
-        requires context { IsThereBelow (length self.now.table.nodes) ctx.argument }
-        requires ty { ty < length self.now.table.nodes }
-        requires number { 0 < length (fixed_text number) }
-        requires room { 8 ≤ S.room parts.old }
-        ensures shows { Shows self.now ctx.detail (S.held parts.old) (S.held parts.new) (sub (item_in (trees (table_of self.now)) ty 0 0 ctx) ∷ text (fixed_text number) ∷ []) }
-        ensures few { S.room parts.old ≤ S.room parts.new + 8 }
-    {
-        self.push_text(parts, number);
-        self.push_item(parts, ty, form::LEFT, 0, ctx);
-    }
-
-    /// The left parts of a vector.
-    pub(crate) fn fill_vector<S: PartList<Context>>(
-        &self,
-        parts: &mut S,
-        digits: Span,
-        element: u32,
-        ctx: Context,
-    )
-        requires context { IsThereBelow (length self.now.table.nodes) ctx.argument }
-        requires element { element < length self.now.table.nodes }
-        requires digits { IsWithin digits self.now.bytes }
-        requires room { 8 ≤ S.room parts.old }
-        ensures shows { Shows self.now ctx.detail (S.held parts.old) (S.held parts.new) (left_parts ctx.detail (context_of ctx) (term.vector (bytes_at self.now.bytes digits) (tree_shown self.now ctx element))) }
-        ensures few { S.room parts.old ≤ S.room parts.new + 8 }
-    {
-        self.push_text(parts, texts::RIGHT);
-        self.push_bytes(parts, digits);
-        self.push_text(parts, texts::VECTOR);
-        self.push_item(parts, element, form::LEFT, 0, ctx);
-    }
-
     /// The left parts of a floating type of so many bits.
     // <builtin-type> ::= DF <number> _ | DF <number> x | DF <number> b
     pub(crate) fn fill_float<S: PartList<Context>>(
@@ -201,62 +100,6 @@ impl Symbol {
             self.push_bytes(parts, digits);
             self.push_text(parts, texts::FLOAT);
         }
-    }
-
-    /// The right parts of a pointer or a reference, whose left ones opened a bracket before a function or an array.
-    pub(crate) fn fill_closing<S: PartList<Context>>(&self, parts: &mut S, ty: u32, ctx: Context)
-        requires context { IsThereBelow (length self.now.table.nodes) ctx.argument }
-        requires table { IsTable (table_of self.now) }
-        requires ty { ty < length self.now.table.nodes }
-        requires room { 8 ≤ S.room parts.old }
-        ensures shows { Shows self.now ctx.detail (S.held parts.old) (S.held parts.new) (closing_right (context_of ctx) (tree_shown self.now ctx ty)) }
-        ensures few { S.room parts.old ≤ S.room parts.new + 8 }
-    {
-        let is_function = self.is_function(ty, ctx);
-        self.push_item(parts, ty, form::RIGHT, 0, ctx);
-        self.push_text_if(parts, is_function, texts::RIGHT);
-    }
-
-    /// The right parts of an array.
-    pub(crate) fn fill_array_right<S: PartList<Context>>(
-        &self,
-        parts: &mut S,
-        digits: Span,
-        element: u32,
-        ctx: Context,
-    )
-        requires context { IsThereBelow (length self.now.table.nodes) ctx.argument }
-        requires element { element < length self.now.table.nodes }
-        requires digits { IsWithin digits self.now.bytes }
-        requires room { 8 ≤ S.room parts.old }
-        ensures shows { Shows self.now ctx.detail (S.held parts.old) (S.held parts.new) (right_parts (context_of ctx) (term.array (bytes_at self.now.bytes digits) (tree_shown self.now ctx element))) }
-        ensures few { S.room parts.old ≤ S.room parts.new + 8 }
-    {
-        self.push_item(parts, element, form::RIGHT, 0, ctx);
-        self.push_text(parts, texts::RIGHT_BRACKET);
-        self.push_bytes(parts, digits);
-        self.push_text(parts, texts::LEFT_BRACKET);
-    }
-
-    /// The right parts of an array whose length is a parameter.
-    pub(crate) fn fill_bounded_right<S: PartList<Context>>(
-        &self,
-        parts: &mut S,
-        bound: u32,
-        element: u32,
-        ctx: Context,
-    )
-        requires context { IsThereBelow (length self.now.table.nodes) ctx.argument }
-        requires bound { bound < length self.now.table.nodes }
-        requires element { element < length self.now.table.nodes }
-        requires room { 8 ≤ S.room parts.old }
-        ensures shows { Shows self.now ctx.detail (S.held parts.old) (S.held parts.new) (right_parts (context_of ctx) (term.bounded (tree_shown self.now ctx bound) (tree_shown self.now ctx element))) }
-        ensures few { S.room parts.old ≤ S.room parts.new + 8 }
-    {
-        self.push_item(parts, element, form::RIGHT, 0, ctx);
-        self.push_text(parts, texts::RIGHT_BRACKET);
-        self.push_item(parts, bound, form::LEFT, 0, ctx);
-        self.push_text(parts, texts::LEFT_BRACKET);
     }
 
     /// The parts of a parameter in a form: those of its argument, without an index.

@@ -11,7 +11,7 @@ use Rattle.sym_shape.specs.declared.rule.Rule.{Rule}
 use Rattle.sym_shape.specs.declared.rule.Sym.{Sym}
 use Rattle.sym_shape.specs.declared.rule.Sym.TheVariants.{Kind, Name, Number, Byte}
 use Rattle.sym_shape.specs.Table.{Table, Token, symbols_of}
-use Rattle.sym_shape.specs.Tree.{Tree, Forest, branch, empty, token, fixed, nothing, grown, spell, spell_all, IsTree, AreTrees, row_count, row_count_all, rows_of, rows_of_all}
+use Rattle.sym_shape.specs.Tree.{Tree, Forest, branch, empty, token, fixed, nothing, grown, spell, spell_all, IsTree, AreTrees, row_count, row_count_all, tree_count, rows_of, rows_of_all}
 use Rattle.sym_shape.proofs.Forests.{length-rows_of_all}
 use Rattle.sym_link.specs.Reading.{Open}
 use Rattle.sym_link.specs.Unfold.{standing}
@@ -71,9 +71,9 @@ ends_later first rest later = record {
     rows at number =
         let r = later.row (at + length (spell first)) (number + row_count first) in
         record {
-          others = rows_of first at number ++ r.others;
+          others = rows_of first (tree_count rest) at number ++ r.others;
           last = r.last;
-          is = ap (λ x. rows_of first at number ++ x) r.is ∙ sym (append_assoc (rows_of first at number) r.others (r.last ∷ []));
+          is = ap (λ x. rows_of first (tree_count rest) at number ++ x) r.is ∙ sym (append_assoc (rows_of first (tree_count rest) at number) r.others (r.last ∷ []));
           begins = omega (arith, r.begins, length-append (spell first) later.front);
           ends = omega (arith, r.ends, length-append (spell first) later.front);
         }
@@ -86,7 +86,7 @@ ends_here t = record {
   rest = t.behind ++ [];
   is = λ digits. refl;
   spelled = spells t.before t.own t.behind;
-  row = λ at number. record { others = []; last = record { rule = 65535; from = at + length t.before; to = at + length t.before + length t.own; end = number + 1 }; is = refl; begins = refl; ends = refl };
+  row = λ at number. record { others = []; last = record { rule = 65535; after = 0; from = at + length t.before; to = at + length t.before + length t.own; end = number + 1 }; is = refl; begins = refl; ends = refl };
 }
   where
     spells : (a b c : List ℕ) → (a ++ b ++ c) ++ [] ≡ a ++ (b ++ (c ++ []))

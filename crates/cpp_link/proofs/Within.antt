@@ -3,15 +3,11 @@
 use Rattle.std.proofs.Common.{ℕ, List, drop}
 use Rattle.std.specs.Prelude.{Result}
 use Rattle.sym_core.specs.declared.refusal.Refusal.{Refusal}
-use Rattle.sym_shape.specs.Tree.{Forest}
-use Rattle.sym_shape.specs.declared.rule.Row.{Row}
 use Rattle.sym_link.specs.declared.language.Frame.{Frame}
 use Rattle.sym_link.specs.Reading.{Open}
-use Rattle.sym_link.specs.Linking.{View, HasRoom, IsInside}
-use Rattle.sym_link.specs.Threads.{IsAt, IsOpenAt, GoesOn, ClosesAll, IsAhead, IsAheadToken, IsCount}
+use Rattle.sym_link.specs.Linking.{View, HasRoom}
+use Rattle.sym_link.specs.Threads.{IsAt, IsOpenAt, GoesOn, ClosesAll}
 use Rattle.cpp_term.specs.Values.{State, Around, Value}
-use Rattle.cpp_term.specs.Unfolding.{cpp}
-use Rattle.cpp_term.specs.Rescoping.{cpp_wide}
 use Rattle.cpp_link.specs.declared.linked.Linked.{Linked}
 use Rattle.cpp_link.specs.declared.part.Part.{Part}
 use Rattle.cpp_references.specs.declared.around.Surroundings.{Surroundings}
@@ -34,24 +30,6 @@ module _ {S : Type 0} (view : View Linked Part Surroundings Value S Around) (s :
   open_at_within frame parts is =
       record { rule = is.rule; known = is.known; state = is.state; at = at_within frame (drop frame.base parts) is.rule is.known is.state is.at }
 
-  pub inside_within : (frame : Frame Surroundings) (own : List Part) (rule : Open S Around) (known : List Value) (from : ℕ) (left : Forest) (state : S)
-      → IsInside (within view) s l frame own rule known from left state → IsInside view s l.linked frame own rule known from left state
-  inside_within frame own rule known from left state is =
-      record { number = is.number; place = is.place; kept = is.kept; parts = is.parts; holds = is.holds; stands = is.stands }
-
-  pub ahead_within : (rows : List Row) (frame : Frame Surroundings) (held : ℕ) (row : Row) (ahead : ℕ)
-      → IsAhead view s rows l.linked frame held row ahead → IsAhead (within view) s rows l frame held row ahead
-  ahead_within rows frame held row ahead is own around known from left state rule taken inner rest inside =
-      is own around known from left state rule taken inner rest (inside_within frame own around known from left state inside)
-
-  pub ahead_token_within : (frame : Frame Surroundings) (held ahead : ℕ) → IsAheadToken view s l.linked frame held ahead → IsAheadToken (within view) s l frame held ahead
-  ahead_token_within frame held ahead is own around known from left state t rest inside =
-      is own around known from left state t rest (inside_within frame own around known from left state inside)
-
-  pub count_within : (frame : Frame Surroundings) (held count : ℕ) → IsCount view s l.linked frame held count → IsCount (within view) s l frame held count
-  count_within frame held count is own around known from left state inside =
-      is own around known from left state (inside_within frame own around known from left state inside)
-
 module _ {S : Type 0} (view : View Linked Part Surroundings Value S Around) (s : List ℕ) (old new : Rescoping) where
   pub goes_within : (IsContext : Linked → Surroundings → Around → Type 0) (frame : Frame Surroundings) (parts new_parts : List Part) (result : Result Surroundings Refusal)
       → GoesOn view s IsContext old.linked new.linked frame parts new_parts result
@@ -70,22 +48,3 @@ pub at_plain : (s : List ℕ) (l : Linked) (frame : Frame Surroundings) (own : L
     → IsAt (wide_view s) s l frame own rule known state → IsAt (cpp_view s) s l frame own rule known state
 at_plain s l frame own rule known state is =
     record { there = is.there; number = is.number; place = is.place; kept = is.kept; parts = is.parts; holds = is.holds }
-
-inside_plain : (s : List ℕ) (l : Linked) (frame : Frame Surroundings) (own : List Part) (rule : Open State Around) (known : List Value) (from : ℕ) (left : Forest) (state : State)
-    → IsInside (wide_view s) s l frame own rule known from left state → IsInside (cpp_view s) s l frame own rule known from left state
-unfolding cpp cpp_wide
-inside_plain s l frame own rule known from left state is =
-    record { number = is.number; place = is.place; kept = is.kept; parts = is.parts; holds = is.holds; stands = is.stands }
-
-pub ahead_plain : (s : List ℕ) (rows : List Row) (l : Linked) (frame : Frame Surroundings) (held : ℕ) (row : Row) (ahead : ℕ)
-    → IsAhead (cpp_view s) s rows l frame held row ahead → IsAhead (wide_view s) s rows l frame held row ahead
-ahead_plain s rows l frame held row ahead is own around known from left state rule taken inner rest inside =
-    is own around known from left state rule taken inner rest (inside_plain s l frame own around known from left state inside)
-
-pub ahead_token_plain : (s : List ℕ) (l : Linked) (frame : Frame Surroundings) (held ahead : ℕ) → IsAheadToken (cpp_view s) s l frame held ahead → IsAheadToken (wide_view s) s l frame held ahead
-ahead_token_plain s l frame held ahead is own around known from left state t rest inside =
-    is own around known from left state t rest (inside_plain s l frame own around known from left state inside)
-
-pub count_plain : (s : List ℕ) (l : Linked) (frame : Frame Surroundings) (held count : ℕ) → IsCount (cpp_view s) s l frame held count → IsCount (wide_view s) s l frame held count
-count_plain s l frame held count is own around known from left state inside =
-    is own around known from left state (inside_plain s l frame own around known from left state inside)

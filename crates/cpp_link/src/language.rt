@@ -6,13 +6,14 @@ ghost use Rattle.sym_link.specs.Driving.{AreAll};
 ghost use Rattle.sym_link.specs.Linking.{HasRoom, IsOpen, OpensRoot, Opens, TakesToken, ClosesRule, Adds, AddsFew, Pays, KeepsRoom, NeedsRoom, TokenNeedsRoom, owed_behind, owed_next};
 ghost use Rattle.sym_link.specs.Room.{KeepRoom, OnlyForRoom};
 ghost use Rattle.sym_link.specs.Tally.{Tally};
-ghost use Rattle.sym_link.specs.Threads.{IsOpenAt, GoesOn, BeginsIn, ClosesAll, IsTaken, IsAhead, IsAheadToken, IsCount, AddsBefore};
+ghost use Rattle.sym_link.specs.Threads.{IsOpenAt, GoesOn, BeginsIn, ClosesAll, IsTaken, IsCount, IsAhead, AddsBefore};
 ghost use Rattle.cpp_link.specs.declared.part.Part.TheVariants as variants;
 ghost use Rattle.cpp_term.specs.Values.{Value, State, Around};
 ghost use Rattle.cpp_link.specs.View.{Surrounds};
 ghost use Rattle.cpp_link.specs.NodeCount.{cpp_counted};
 ghost use Rattle.cpp_link.specs.ViewLaws.{counted_laws, counted_threads};
 
+use crate::dispatch::{part_count, parts_ahead};
 use crate::linked::Linked;
 use crate::part::{Naming, Part, Scope, Surroundings};
 use sym_core::Refusal;
@@ -116,20 +117,6 @@ impl Threading for Linked {
         self.finish_rule(symbol, frame, parts)
     }
 
-    fn ahead(
-        &self,
-        symbol: &[u8],
-        rows: &[Row],
-        frame: &Frame<Surroundings>,
-        held: usize,
-        row: Row,
-    ) -> usize
-        requires place { row.from < length symbol.now }
-        ensures { IsAhead (cpp_counted symbol.now) symbol.now rows.now self.now frame.now held row result }
-    {
-        self.next_rule(symbol, rows, frame, held, row)
-    }
-
     fn text(&mut self, symbol: &[u8], row: Row) -> Result<Part, Refusal>
         requires from { row.from ≤ row.to }
         requires to { row.to ≤ length symbol.now }
@@ -143,16 +130,17 @@ impl Threading for Linked {
         Ok(self.text_at(symbol, row))
     }
 
-    fn ahead_token(&self, symbol: &[u8], frame: &Frame<Surroundings>, held: usize) -> usize
-        ensures { IsAheadToken (cpp_counted symbol.now) symbol.now self.now frame.now held result }
+    fn count(&self, rule: u16) -> usize
+        ensures { (s : List ℕ) → IsCount (cpp_counted s).table rule result }
     {
-        self.next_token(symbol, frame, held)
+        part_count(rule)
     }
 
-    fn count(&self, symbol: &[u8], frame: &Frame<Surroundings>, held: usize) -> usize
-        ensures { IsCount (cpp_counted symbol.now) symbol.now self.now frame.now held result }
+    #[inline(always)]
+    fn ahead(&self, rule: u16, held: usize, after: u8) -> usize
+        ensures { (s : List ℕ) → IsAhead (cpp_counted s).table rule held after result }
     {
-        self.count_parts(symbol, frame, held)
+        parts_ahead(rule, held, after)
     }
 
     ghost laws = { counted_threads };

@@ -1,7 +1,6 @@
 //! A C++ symbol's nodes, from its rows.
 #![tactic(auto)]
 
-pub mod ahead;
 pub mod begin;
 pub mod between;
 pub mod closing;
@@ -19,6 +18,7 @@ pub mod numbers;
 pub mod parameters;
 pub mod part;
 pub mod rescoping;
+mod row_steps;
 pub mod settling;
 pub mod shapes;
 pub mod signatures;

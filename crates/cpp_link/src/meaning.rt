@@ -17,7 +17,7 @@ use crate::families::{Family, family_of};
 use crate::linked::Linked;
 use crate::part::{Outcome, Part, Surroundings};
 use cpp_grammar::production::Production;
-use cpp_tree::node::{Node, Piece, Qualifiers};
+use cpp_tree::node::{Mark, Node, Piece, Qualifiers};
 
 /// A node to come, which is a tree.
 #[inline(always)]
@@ -41,6 +41,17 @@ pub(crate) fn piece(piece: Piece) -> Outcome
     ensures { result ≡ Outcome.Given (Part.Piece piece) }
 {
     Outcome::Given(Part::Piece(piece))
+}
+
+/// One more item before those of a signature.
+#[inline(always)]
+pub(crate) fn items(first: u32, rest: u32, mark: Mark) -> Outcome
+    ensures { result ≡ Outcome.Items (Node.Cell first rest) mark }
+{
+    Outcome::Items {
+        node: Node::Cell { first, rest },
+        mark,
+    }
 }
 
 /// The type of these qualifiers.

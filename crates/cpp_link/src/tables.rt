@@ -454,7 +454,7 @@ pub(crate) const PART_COUNTS: [u8; 222] = [
     2, // TaggedSource
 ];
 
-/// Whether parts without a row may be between those of each.
+/// Whether some part of each but the last may have no row: a fixed byte, or a kind that may be empty.
 pub(crate) const SKIPS_PARTS: [bool; 222] = [
     false, // Mark
     false, // InternalName
@@ -514,7 +514,7 @@ pub(crate) const SKIPS_PARTS: [bool; 222] = [
     false, // Discriminator
     false, // OneDigit
     false, // ManyDigits
-    false, // Lambda
+    true, // Lambda
     false, // Unnamed
     true, // RestrictType
     true, // VolatileType
@@ -554,7 +554,7 @@ pub(crate) const SKIPS_PARTS: [bool; 222] = [
     false, // RvalueItem
     false, // Constraint
     false, // Items
-    false, // Arguments
+    true, // Arguments
     false, // Tag
     true, // PackArgument
     true, // LiteralArgument
@@ -584,7 +584,7 @@ pub(crate) const SKIPS_PARTS: [bool; 222] = [
     true, // NestInstance
     false, // Conversion
     false, // OperatorNameWithC
-    false, // OwnArguments
+    true, // OwnArguments
     false, // NestedBase
     false, // BaseWithS
     false, // SourceBase
@@ -600,11 +600,11 @@ pub(crate) const SKIPS_PARTS: [bool; 222] = [
     false, // DeclaredArgument
     false, // LeveledParameter
     false, // OneLiteral
-    false, // OnePack
+    true, // OnePack
     false, // AnyType
     false, // ValueOf
     false, // OfConcept
-    false, // TemplateOf
+    true, // TemplateOf
     true, // PackOf
     false, // Declarations
     false, // Cast
@@ -615,22 +615,22 @@ pub(crate) const SKIPS_PARTS: [bool; 222] = [
     false, // Binary
     false, // Unary
     false, // OfType
-    false, // Call
+    true, // Call
     false, // Convert
     false, // DestructorName
     false, // OuterParameter
     false, // LeftFold
     false, // RightFold
-    false, // Braces
+    true, // Braces
     true, // Step
     false, // New
     false, // Conditional
-    false, // Requires
+    true, // Requires
     false, // RequiresOf
     false, // ExpandExpression
     false, // PackSize
     false, // Unresolved
-    false, // TypedBraces
+    true, // TypedBraces
     false, // ExpressionA
     false, // ExpressionC
     false, // ExpressionD

@@ -6,7 +6,7 @@ ghost use Rattle.sym_link.specs.Driving.{AreAll};
 ghost use Rattle.sym_link.specs.Linking.{HasRoom, IsOpen, OpensRoot, Opens, TakesToken, ClosesRule, Adds, AddsFew, Pays, KeepsRoom, NeedsRoom, TokenNeedsRoom, owed_behind, owed_next};
 ghost use Rattle.sym_link.specs.Room.{KeepRoom, OnlyForRoom};
 ghost use Rattle.sym_link.specs.Tally.{Tally};
-ghost use Rattle.sym_link.specs.Threads.{IsOpenAt, GoesOn, BeginsIn, ClosesAll, IsTaken, IsAhead, IsAheadToken, IsCount, AddsBefore};
+ghost use Rattle.sym_link.specs.Threads.{IsOpenAt, GoesOn, BeginsIn, ClosesAll, IsTaken, IsCount, IsAhead, AddsBefore};
 ghost use Rattle.cpp_link.specs.declared.part.Part.TheVariants as variants;
 ghost use Rattle.cpp_term.specs.Values.{Value, State, Around};
 ghost use Rattle.cpp_link.specs.Parts.{is_lambda};
@@ -16,7 +16,7 @@ ghost use Rattle.cpp_link.specs.RescopingLaws.{wide_laws, wide_threads};
 ghost use Rattle.cpp_link.specs.declared.rescoping.Rescoping.{Rescoping};
 
 use crate::between::quiet_parts;
-use crate::dispatch::production_of;
+use crate::dispatch::{part_count, parts_ahead, production_of};
 use crate::holders::{is_holder, is_inheriting, is_own_arguments};
 use crate::language::OUTSIDE;
 use crate::part::{Part, Surroundings};
@@ -185,20 +185,6 @@ impl Threading for Rescoping {
         self.linked.finish_rule(symbol, frame, parts)
     }
 
-    fn ahead(
-        &self,
-        symbol: &[u8],
-        rows: &[Row],
-        frame: &Frame<Surroundings>,
-        held: usize,
-        row: Row,
-    ) -> usize
-        requires place { row.from < length symbol.now }
-        ensures { IsAhead (wide_counted symbol.now) symbol.now rows.now self.now frame.now held row result }
-    {
-        self.linked.next_rule(symbol, rows, frame, held, row)
-    }
-
     fn text(&mut self, symbol: &[u8], row: Row) -> Result<Part, Refusal>
         requires from { row.from ≤ row.to }
         requires to { row.to ≤ length symbol.now }
@@ -212,16 +198,17 @@ impl Threading for Rescoping {
         Ok(self.linked.text_at(symbol, row))
     }
 
-    fn ahead_token(&self, symbol: &[u8], frame: &Frame<Surroundings>, held: usize) -> usize
-        ensures { IsAheadToken (wide_counted symbol.now) symbol.now self.now frame.now held result }
+    fn count(&self, rule: u16) -> usize
+        ensures { (s : List ℕ) → IsCount (wide_counted s).table rule result }
     {
-        self.linked.next_token(symbol, frame, held)
+        part_count(rule)
     }
 
-    fn count(&self, symbol: &[u8], frame: &Frame<Surroundings>, held: usize) -> usize
-        ensures { IsCount (wide_counted symbol.now) symbol.now self.now frame.now held result }
+    #[inline(always)]
+    fn ahead(&self, rule: u16, held: usize, after: u8) -> usize
+        ensures { (s : List ℕ) → IsAhead (wide_counted s).table rule held after result }
     {
-        self.linked.count_parts(symbol, frame, held)
+        parts_ahead(rule, held, after)
     }
 
     ghost laws = { wide_threads };

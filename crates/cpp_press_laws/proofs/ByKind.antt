@@ -5,8 +5,8 @@
 pub mod Rules
 pub mod Leaves
 pub mod Packs
-pub mod Suffixes
 pub mod LeafKinds
+pub mod LeafBranches
 pub mod Pieces
 pub mod PieceKinds
 pub mod Arguments

@@ -9,7 +9,6 @@ pub mod Lists
 pub mod References
 pub mod Arguments
 pub mod Solids
-pub mod Found
 pub mod Names
 pub mod Templates
 pub mod Nests

@@ -16,8 +16,6 @@ pub mod Encodings
 pub mod Symbols
 pub mod Pieces
 pub mod Locals
-pub mod Parameters
-pub mod Prefixes
 pub mod Slots
 pub mod Named
 pub mod Between

@@ -4,8 +4,7 @@ use Rattle.cpp_press_laws.specs.Pressing.{pressed}
 use Rattle.cpp_press_laws.specs.Apart.{spelled_components}
 use Rattle.cpp_press_laws.specs.PressLaws.{PressedIsRead}
 use Rattle.cpp_press_laws.proofs.EveryWay.Law.{fitting-symbol}
-use Rattle.cpp_press_laws.proofs.Components.Counting.{arguments-counted}
-use Rattle.cpp_press_laws.proofs.Components.FewComponents.{fitting-few}
+use Rattle.cpp_press_laws.proofs.Components.AddedTrees.{fitting-few, arguments-counted}
 use Rattle.cpp_press_laws.proofs.ByKind.Shapes.{symbol-read-fits}
 
 pub pressed-is-read : PressedIsRead

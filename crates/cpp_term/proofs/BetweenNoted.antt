@@ -36,7 +36,7 @@ use Rattle.cpp_term.specs.Unfolding as unfolded_
 use Rattle.cpp_term.specs.Rescoping as wide_
 use Rattle.cpp_term.specs.Annotated.{Place, around_place, place_in, in_own, argument_in, annotate, noted_scope, noted_value, noted_values, noted_prefix, noted_around}
 use Rattle.cpp_term.proofs.Notes.{both, open_noted, closed_noted}
-use Rattle.cpp_term.proofs.MeaningNoted.{part_noted, tree_part, tree_noted, text_noted, text_part_, prefix_tree_noted, Inside, lambda_noted, takes_encodings, is_of_none, made_inside, made_noted, listing_noted, listed_noted, meaning_noted}
+use Rattle.cpp_term.proofs.MeaningNoted.{part_noted, tree_part, tree_noted, text_noted, text_part, prefix_tree_noted, Inside, lambda_noted, takes_encodings, is_of_none, made_inside, made_noted, listing_noted, listed_noted, meaning_noted}
 use Rattle.cpp_term.proofs.StatesNoted.{IsOutside, Settled, own_place, Alike, alike_bind, Same, Moves, moves_none, moves_then, one_moves, type_moves, unqualified_moves, prefix_moves, Comes, get_noted, substituted_noted, wide_numbered_noted, held_moves, parameter_noted}
 
 -- what is inside has the same scope, or none
@@ -272,7 +272,7 @@ pub close_noted : (production : Production) (byte : ℕ) (around : Around) (plac
 unfolding close unfolded_.close parts_place has_signature
 close_noted Production.Substitution byte around place began first vs x y h settled same e =
     subst (λ bytes. Alike (Comes false around x y) (substituted around (place - 1) (slice_get x.candidates (counted_value Seq36 (text_of (part vs 0)))) x)
-    (reference_.substituted (noted_around false around) (place - 1) (slice_get y.candidates (counted_value Seq36 bytes)) y)) (sym (text_part_ (around_place false around) vs 0))
+    (reference_.substituted (noted_around false around) (place - 1) (slice_get y.candidates (counted_value Seq36 bytes)) y)) (sym (text_part (around_place false around) vs 0))
     (substituted_noted false around (place - 1) (slice_get x.candidates (counted_value Seq36 (text_of (part vs 0)))) (slice_get y.candidates (counted_value Seq36 (text_of (part vs 0)))) x y same.packs
     (get_noted false around x.candidates y.candidates (counted_value Seq36 (text_of (part vs 0))) same.all) (outside (slice_get x.candidates (counted_value Seq36 (text_of (part vs 0))))))
   where
@@ -444,7 +444,7 @@ pub wide_close_noted : (production : Production) (byte : ℕ) (around : Around) 
 unfolding close unfolded_.close close_wide wide_.close_wide parts_place has_signature meaning noted_.meaning unfolding_.behind unfolded_.behind noted_value
 wide_close_noted Production.Substitution byte around place began first vs x y h settled same e =
     subst (λ bytes. Alike (Comes true around x y) (numbered around (place - 1) (counted_value Seq36 (text_of (part vs 0))) x) (wide_.numbered (noted_around true around) (place - 1) (counted_value Seq36 bytes) y))
-    (sym (text_part_ (around_place true around) vs 0)) (wide_numbered_noted around (place - 1) (counted_value Seq36 (text_of (part vs 0))) x y settled same)
+    (sym (text_part (around_place true around) vs 0)) (wide_numbered_noted around (place - 1) (counted_value Seq36 (text_of (part vs 0))) x y settled same)
 wide_close_noted Production.Lambda byte around place began first vs x y h settled same e =
     record { value = own_lambda (around_place true around) byte around (noted_around true around) vs; moves = moves_none true around x x y y refl refl same.packs }
 wide_close_noted Production.Inheriting byte around place began first vs x y h settled same e = record {

@@ -219,6 +219,12 @@ static SYMBOLS: [[Sym; 5]; 11] = [
     START, WHOLE, CRATE, GENERIC, LETTER, REFERENCE, ARRAY, NAMED, LAST, MORE, LIFETIME,
 ];
 
+/// How many symbols come after each of them, up to an end.
+static AFTER: [u8; 55] = [
+    0, 0, 0, 0, 2, 1, 0, 0, 0, 1, 0, 0, 0, 0, 2, 1, 0, 0, 0, 0, 0, 0, 0, 0, 2, 1, 0, 0, 0, 3, 2, 1,
+    0, 0, 1, 0, 0, 0, 0, 0, 0, 0, 0, 0, 2, 1, 0, 0, 0, 1, 0, 0, 0, 0, 0,
+];
+
 /// The grammar.
 pub struct Paths;
 
@@ -256,6 +262,10 @@ impl Grammar for Paths {
 
     fn symbol(&self, place: u32) -> Option<Sym> {
         symbol_at(SYMBOLS.as_flattened(), place)
+    }
+
+    fn after(&self, place: u32) -> u8 {
+        AFTER[place as usize]
     }
 
     fn may_be_empty(&self, kind: u16) -> bool {

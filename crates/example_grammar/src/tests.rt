@@ -91,6 +91,7 @@ fn rows_are_in_order(rt: HostRuntime) -> Result<(), Fail> {
     let shape = read(rt.alloc(), &Paths, b"_TC3foo")?;
     let symbol = Row {
         rule: 0,
+        after: 0,
         from: 0,
         to: 7,
         end: 3,

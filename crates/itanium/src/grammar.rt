@@ -35,6 +35,11 @@ impl Grammar for Abi {
     }
 
     #[inline(always)]
+    fn after(&self, place: u32) -> u8 {
+        cpp_grammar::Abi.after(place)
+    }
+
+    #[inline(always)]
     fn may_be_empty(&self, kind: u16) -> bool {
         cpp_grammar::Abi.may_be_empty(kind)
     }
@@ -75,6 +80,11 @@ impl Grammar for Wide {
     #[inline(always)]
     fn symbol(&self, place: u32) -> Option<Sym> {
         cpp_grammar::Wide.symbol(place)
+    }
+
+    #[inline(always)]
+    fn after(&self, place: u32) -> u8 {
+        cpp_grammar::Wide.after(place)
     }
 
     #[inline(always)]

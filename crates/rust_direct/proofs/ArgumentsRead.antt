@@ -17,7 +17,7 @@ use Rattle.rust_direct.specs.declared.open.Open.TheVariants as opens
 use Rattle.rust_direct.specs.declared.open.Step.TheVariants as steps
 use Rattle.rust_direct.specs.declared.direct.Direct.{Direct}
 use Rattle.rust_direct.specs.Holes.{Comes, Expects, within, Wanted, path, other_path, type, kind_of, is_for_type, IsType, Ends}
-use Rattle.rust_direct.specs.Prints.{PathPrints, TypePrints, opening}
+use Rattle.rust_direct.specs.Prints.{PathPrints, TypePrints, opening, closing}
 use Rattle.rust_direct.specs.PrintsInForm.{PathHas, Holds, has_form, is_type, form_of, is_path}
 use Rattle.rust_direct.specs.Written.{Writes, Pushes}
 use Rattle.rust_direct.specs.WriterInvariant.{Stands, IsWriting, Keeps, parked_of, separator_of}
@@ -33,23 +33,23 @@ use Rattle.rust_direct.proofs.PathsRead.{form-held, path-says, stands-written, w
 -- ## What is opened
 
 -- the path is expected that arguments belong to
-pub generic-begun : (s : List ℕ) (old new : Direct) (is_value : Bool) → AwaitsPath s old → StandsAt s old.at (73 ∷ [])
+pub generic-begun : (brief : Bool) (s : List ℕ) (old new : Direct) (is_value : Bool) → AwaitsPath brief s old → StandsAt s old.at (73 ∷ [])
     → new.waiting.list.items ≡ old.waiting.list.items ++ opens.Generic is_value old.at ∷ []
     → new.waiting.room ≡ old.waiting.room → new.at ≡ old.at + 1 → new.text ≡ old.text → new.aside ≡ old.aside → new.is_aside ≡ old.is_aside
-    → new.notes ≡ old.notes → new.numbers ≡ old.numbers → Awaits s new false
-generic-begun s old new is_value awaits letter waiting room at text aside is_aside notes numbers =
+    → new.notes ≡ old.notes → new.numbers ≡ old.numbers → Awaits brief s new false
+generic-begun brief s old new is_value awaits letter waiting room at text aside is_aside notes numbers =
     let a = awaits.1 in
     let r = a.awaited in
     record {
       state = within Production.Generic a.state;
-      keeps = keeps-same s old new a.state text aside is_aside notes numbers room a.keeps;
+      keeps = keeps-same brief s old new a.state text aside is_aside notes numbers room a.keeps;
       awaited = record {
         wanted = path;
         is_for = refl;
         os = generic_awaits old.at a.state r.os;
         awaits = expects-moved s PATH (generic_awaits old.at a.state r.os) (old.at + 1) new.at (within Production.Generic a.state) (sym at)
             (generic-opens s r.wanted r.os old.at a.state r.awaits letter);
-        stands = waits-too s old.waiting.list.items new.waiting.list.items (opens.Generic is_value old.at) (generic_awaits old.at a.state r.os)
+        stands = waits-too brief s old.waiting.list.items new.waiting.list.items (opens.Generic is_value old.at) (generic_awaits old.at a.state r.os)
             new.text.list.items (parked_of new) waiting
             (r.os, (λ p here now comes. generic-goes-on s r.os old.at a.state p here now comes), rw (text, aside, is_aside) r.stands);
       };
@@ -57,8 +57,8 @@ generic-begun s old new is_value awaits letter waiting room at text aside is_asi
 
 -- ## Something waits from here on
 
-pub keeps-pushed : (s : List ℕ) (old new : Direct) (entry : Open) (st : State) → Pushes old new entry → Keeps s old st → Keeps s new st
-keeps-pushed s old new entry st p h = keeps-same s old new st p.text p.aside p.is_aside p.notes p.numbers p.room h
+pub keeps-pushed : (brief : Bool) (s : List ℕ) (old new : Direct) (entry : Open) (st : State) → Pushes old new entry → Keeps brief s old st → Keeps brief s new st
+keeps-pushed brief s old new entry st p h = keeps-same brief s old new st p.text p.aside p.is_aside p.notes p.numbers p.room h
 
 pub parked-pushed : (old new : Direct) (entry : Open) → Pushes old new entry → parked_of new ≡ parked_of old
 parked-pushed old new entry p = rw (p.aside, p.is_aside) refl
@@ -70,19 +70,19 @@ pub turned : (old new : Direct) (entry : Open) → Pushes old new entry → reve
 turned old new entry p = ap reverse p.waiting ∙ reverse-last old.waiting.list.items entry
 
 -- the path is read that arguments belong to
-pub generic-read : (s : List ℕ) (old middle new : Direct) (is_value : Bool) (place from : ℕ) (f : Forms)
-    → Arrives s old (opens.Generic is_value place) from f → has_form is_value f ≡ true → Writes old middle (opening is_value)
-    → Pushes middle new (opens.Argument place from is_value) → IsWriting s new (steps.Arguments true)
-generic-read s old middle new is_value place from f arrives is writes pushes =
+pub generic-read : (brief : Bool) (s : List ℕ) (old middle new : Direct) (is_value : Bool) (place from : ℕ) (f : Forms)
+    → Arrives brief s old (opens.Generic is_value place) from f → has_form is_value f ≡ true → Writes old middle (opening brief is_value)
+    → Pushes middle new (opens.Argument place from is_value) → IsWriting brief s new (steps.Arguments true)
+generic-read brief s old middle new is_value place from f arrives is writes pushes =
     let r = arrives.read in
-    let held = form-held is_value f r.v r.bytes is r.holds in
+    let held = form-held brief is_value f r.v r.bytes is r.holds in
     let p = held.0 in
     let waits = r.stands in
     let entry = opens.Argument place from is_value in
     let goes = waits.1 p old.at arrives.state (subst (λ v. Comes s r.os v old.at arrives.state) held.1 r.comes) in
     record {
       state = arrives.state;
-      keeps = keeps-pushed s middle new entry arrives.state pushes (keeps-written s old middle (opening is_value) arrives.state writes arrives.keeps);
+      keeps = keeps-pushed brief s middle new entry arrives.state pushes (keeps-written brief s old middle (opening brief is_value) arrives.state writes arrives.keeps);
       is_before = record {
         place = place;
         from = from;
@@ -97,23 +97,23 @@ generic-read s old middle new is_value place from f arrives is writes pushes =
         bytes = [];
         from_is = r.from_is;
         prints = held.2;
-        begin = none-begin;
-        written = ap (λ t. t.list.items) pushes.text ∙ writes.text ∙ ap (λ l. l ++ opening is_value) r.written
-            ∙ append_assoc r.front r.bytes (opening is_value) ∙ ap (λ l. r.front ++ l) (sym (append-nil (r.bytes ++ opening is_value)));
+        begin = none-begin brief;
+        written = ap (λ t. t.list.items) pushes.text ∙ writes.text ∙ ap (λ l. l ++ opening brief is_value) r.written
+            ∙ append_assoc r.front r.bytes (opening brief is_value) ∙ ap (λ l. r.front ++ l) (sym (append-nil (r.bytes ++ opening brief is_value)));
         goes = rw (pushes.at, writes.at) goes;
-        stands = rw (parked-pushed middle new entry pushes) (stands-written s old middle (opening is_value) waits.0 r.front writes waits.2);
+        stands = rw (parked-pushed middle new entry pushes) (stands-written brief s old middle (opening brief is_value) waits.0 r.front writes waits.2);
       };
     }
 
 -- ## Types
 
 -- what was read is a type
-pub type-held : (f : Forms) (v : Value) (bytes : List ℕ) → is_type f ≡ true → Holds f v bytes → (t : tree.Ty) × IsType v t × TypePrints t bytes
-type-held forms.Alike v bytes is h = (tree.path_type h.0, ap (λ u. as_type (Some u)) h.1, path-is-type h.0 bytes h.2.1)
-type-held forms.Valued v bytes is h = absurd (false≢true is)
-type-held forms.Plain v bytes is h = (tree.path_type h.0, ap (λ u. as_type (Some u)) h.1, path-is-type h.0 bytes h.2)
-type-held forms.Typed v bytes is h = h
-type-held forms.Unnamed v bytes is h = absurd (false≢true is)
+pub type-held : (brief : Bool) (f : Forms) (v : Value) (bytes : List ℕ) → is_type f ≡ true → Holds brief f v bytes → (t : tree.Ty) × IsType v t × TypePrints brief t bytes
+type-held brief forms.Alike v bytes is h = (tree.path_type h.0, ap (λ u. as_type (Some u)) h.1, path-is-type brief h.0 bytes h.2.1)
+type-held brief forms.Valued v bytes is h = absurd (false≢true is)
+type-held brief forms.Plain v bytes is h = (tree.path_type h.0, ap (λ u. as_type (Some u)) h.1, path-is-type brief h.0 bytes h.2)
+type-held brief forms.Typed v bytes is h = h
+type-held brief forms.Unnamed v bytes is h = absurd (false≢true is)
 
 -- a text that isn't empty
 pub filled-text : (text own : List ℕ) → text ≡ own → false ≡ nat_eq (length text) 0 → 1 ≤ length own
@@ -126,18 +126,18 @@ unfolding basic_text
 letter-there s at letter filled stands = stands (λ none. omega (arith, subst (λ b. 1 ≤ length (basic_text b)) none filled))
 
 -- a basic type is read
-pub basic-read : (s : List ℕ) (old middle : Direct) (from letter end : ℕ) → Awaits s old true → StandsAt s old.at (letter ∷ [])
+pub basic-read : (brief : Bool) (s : List ℕ) (old middle : Direct) (from letter end : ℕ) → Awaits brief s old true → StandsAt s old.at (letter ∷ [])
     → 1 ≤ length (basic_text letter) → from ≡ length old.text.list.items → end ≡ old.at + 1 → Writes (record old { at = end }) middle (basic_text letter)
-    → IsEnded s middle old.at from forms.Typed forms.Typed
-basic-read s old middle from letter end awaits stands filled from_is end_is writes =
+    → IsEnded brief s middle old.at from forms.Typed forms.Typed
+basic-read brief s old middle from letter end awaits stands filled from_is end_is writes =
     let r = awaits.awaited in
     let t = tree.basic letter in
     let bytes = basic_text letter in
-    let prints = basic-prints letter filled in
-    let told : Holds forms.Typed (a_type t) bytes = (t, refl, prints) in
+    let prints = basic-prints brief letter filled in
+    let told : Holds brief forms.Typed (a_type t) bytes = (t, refl, prints) in
     record {
       before = awaits.state;
-      keeps = keeps-written s (record old { at = end }) middle bytes awaits.state writes awaits.keeps;
+      keeps = keeps-written brief s (record old { at = end }) middle bytes awaits.state writes awaits.keeps;
       os = r.os;
       v = a_type t;
       front = old.text.list.items;
@@ -147,7 +147,7 @@ basic-read s old middle from letter end awaits stands filled from_is end_is writ
       says = told;
       holds = told;
       comes = of-type r.wanted r.is_for r.awaits;
-      stands = stands-written s (record old { at = end }) middle bytes r.os old.text.list.items writes r.stands;
+      stands = stands-written brief s (record old { at = end }) middle bytes r.os old.text.list.items writes r.stands;
     }
   where
     of-type : (w : Wanted) → is_for_type w ≡ true → Expects s (kind_of w) awaits.awaited.os old.at awaits.state
@@ -161,8 +161,8 @@ basic-read s old middle from letter end awaits stands filled from_is end_is writ
 -- ## Arguments
 
 -- a type is expected among arguments
-pub argument-awaited : (s : List ℕ) (w : Direct) (is_first : Bool) → AwaitsArgument s w is_first → IsWriting s w steps.Type
-argument-awaited s w is_first p =
+pub argument-awaited : (brief : Bool) (s : List ℕ) (w : Direct) (is_first : Bool) → AwaitsArgument brief s w is_first → IsWriting brief s w steps.Type
+argument-awaited brief s w is_first p =
     let l = p.listing in
     let g = l.goes in
     let st = within g.production p.state in
@@ -174,7 +174,7 @@ argument-awaited s w is_first p =
         is_for = refl;
         os = type_awaits w.at st g.inner;
         awaits = argument-opens s g.inner w.at st g.awaits;
-        stands = subst (λ ws. Stands s ws (type_awaits w.at st g.inner) w.text.list.items (parked_of w)) (sym l.open_is) (
+        stands = subst (λ ws. Stands brief s ws (type_awaits w.at st g.inner) w.text.list.items (parked_of w)) (sym l.open_is) (
           l.outer,
           l.front,
           l.p,
@@ -186,7 +186,7 @@ argument-awaited s w is_first p =
           l.prints,
           l.begin,
           p.written ∙ ap (λ b. b ++ separator_of is_first) l.written
-              ∙ append_assoc l.front (l.own ++ opening l.is_value ++ l.bytes) (separator_of is_first),
+              ∙ append_assoc l.front (l.own ++ opening brief l.is_value ++ l.bytes) (separator_of is_first),
           (λ v t at now is comes. argument-goes-on s l.outer l.place l.p l.made w.at p.state g w.at st v t at now is comes),
           l.stands,
         );
@@ -201,17 +201,17 @@ joined front own opened bytes separator more =
     ∙ ap (λ l. own ++ opened ++ l) (sym (append_assoc bytes separator more)))
 
 -- a type is read among arguments
-pub argument-read : (s : List ℕ) (old new : Direct) (place from here : ℕ) (is_value : Bool) (f : Forms)
-    → Arrives s old (opens.Argument place from is_value) here f → is_type f ≡ true → Pushes old new (opens.Argument place from is_value)
-    → IsWriting s new (steps.Arguments false)
-argument-read s old new place from here is_value f arrives is pushes =
+pub argument-read : (brief : Bool) (s : List ℕ) (old new : Direct) (place from here : ℕ) (is_value : Bool) (f : Forms)
+    → Arrives brief s old (opens.Argument place from is_value) here f → is_type f ≡ true → Pushes old new (opens.Argument place from is_value)
+    → IsWriting brief s new (steps.Arguments false)
+argument-read brief s old new place from here is_value f arrives is pushes =
     let r = arrives.read in
-    let held = type-held f r.v r.bytes is r.holds in
+    let held = type-held brief f r.v r.bytes is r.holds in
     let waits = r.stands in
     let entry = opens.Argument place from is_value in
     record {
       state = arrives.state;
-      keeps = keeps-pushed s old new entry arrives.state pushes arrives.keeps;
+      keeps = keeps-pushed brief s old new entry arrives.state pushes arrives.keeps;
       is_before = record {
         place = place;
         from = from;
@@ -226,21 +226,21 @@ argument-read s old new place from here is_value f arrives is pushes =
         bytes = waits.5 ++ waits.6 ++ r.bytes;
         from_is = waits.7;
         prints = waits.8;
-        begin = type-begins waits.4 waits.6 waits.5 held.0 r.bytes waits.9 held.2;
+        begin = type-begins brief waits.4 waits.6 waits.5 held.0 r.bytes waits.9 held.2;
         written = ap (λ t. t.list.items) pushes.text ∙ r.written ∙ ap (λ l. l ++ r.bytes) waits.10
-            ∙ joined waits.1 waits.3 (opening is_value) waits.5 waits.6 r.bytes;
+            ∙ joined waits.1 waits.3 (opening brief is_value) waits.5 waits.6 r.bytes;
         goes = rw pushes.at (waits.11 r.v held.0 old.at arrives.state held.1 r.comes);
         stands = rw (parked-pushed old new entry pushes) waits.12;
       };
     }
 
 -- the separator is written
-pub argument-separated : (s : List ℕ) (old new : Direct) → IsWriting s old (steps.Arguments false) → Writes old new (codes ", ") → AwaitsArgument s new false
-argument-separated s old new p writes =
+pub argument-separated : (brief : Bool) (s : List ℕ) (old new : Direct) → IsWriting brief s old (steps.Arguments false) → Writes old new (codes ", ") → AwaitsArgument brief s new false
+argument-separated brief s old new p writes =
     let l = p.is_before in
     record {
       state = p.state;
-      keeps = keeps-written s old new (codes ", ") p.state writes p.keeps;
+      keeps = keeps-written brief s old new (codes ", ") p.state writes p.keeps;
       before = old.text.list.items;
       written = writes.text;
       listing = record {
@@ -265,8 +265,8 @@ argument-separated s old new p writes =
     }
 
 -- no separator comes before the first one
-pub argument-first : (s : List ℕ) (w : Direct) → IsWriting s w (steps.Arguments true) → AwaitsArgument s w true
-argument-first s w p = record {
+pub argument-first : (brief : Bool) (s : List ℕ) (w : Direct) → IsWriting brief s w (steps.Arguments true) → AwaitsArgument brief s w true
+argument-first brief s w p = record {
   state = p.state;
   keeps = p.keeps;
   before = w.text.list.items;
@@ -275,15 +275,15 @@ argument-first s w p = record {
 }
 
 -- an erased lifetime is read among arguments
-pub lifetime-read : (s : List ℕ) (old middle : Direct) (is_first : Bool) (end : ℕ) → AwaitsArgument s old is_first → StandsAt s old.at (76 ∷ [])
+pub lifetime-read : (brief : Bool) (s : List ℕ) (old middle : Direct) (is_first : Bool) (end : ℕ) → AwaitsArgument brief s old is_first → StandsAt s old.at (76 ∷ [])
     → StandsAt s (old.at + 1) (95 ∷ []) → end ≡ old.at + 1 + 1 → Writes (record old { at = end }) middle (codes "'_")
-    → IsWriting s middle (steps.Arguments false)
-lifetime-read s old middle is_first end p letter mark end_is writes =
+    → IsWriting brief s middle (steps.Arguments false)
+lifetime-read brief s old middle is_first end p letter mark end_is writes =
     let l = p.listing in
     let separator = separator_of is_first in
     record {
       state = p.state;
-      keeps = keeps-written s (record old { at = end }) middle (codes "'_") p.state writes p.keeps;
+      keeps = keeps-written brief s (record old { at = end }) middle (codes "'_") p.state writes p.keeps;
       is_before = record {
         place = l.place;
         from = l.from;
@@ -298,59 +298,59 @@ lifetime-read s old middle is_first end p letter mark end_is writes =
         bytes = l.bytes ++ separator ++ codes "'_";
         from_is = l.from_is;
         prints = l.prints;
-        begin = lifetime-begins l.made separator l.bytes l.begin;
+        begin = lifetime-begins brief l.made separator l.bytes l.begin;
         written = writes.text ∙ ap (λ b. b ++ codes "'_") (p.written ∙ ap (λ b. b ++ separator) l.written
-            ∙ append_assoc l.front (l.own ++ opening l.is_value ++ l.bytes) separator)
-            ∙ joined l.front l.own (opening l.is_value) l.bytes separator (codes "'_");
+            ∙ append_assoc l.front (l.own ++ opening brief l.is_value ++ l.bytes) separator)
+            ∙ joined l.front l.own (opening brief l.is_value) l.bytes separator (codes "'_");
         goes = rw (writes.at, end_is) (lifetime-goes-on s l.outer l.place l.p l.made old.at p.state l.goes
             (stands-join s old.at (76 ∷ []) (95 ∷ []) letter mark));
         stands = rw (parked-written (record old { at = end }) middle (codes "'_") writes) l.stands;
       };
     }
 
-form-says : (is_value : Bool) (p : tree.Path) (bytes : List ℕ) → PathPrints is_value p bytes → PathHas (form_of is_value) p bytes × (is_path (form_of is_value) ≡ true)
-form-says true p bytes h = (h, refl)
-form-says false p bytes h = (h, refl)
+form-says : (brief : Bool) (is_value : Bool) (p : tree.Path) (bytes : List ℕ) → PathPrints brief is_value p bytes → PathHas brief (form_of is_value) p bytes × (is_path (form_of is_value) ≡ true)
+form-says brief true p bytes h = (h, refl)
+form-says brief false p bytes h = (h, refl)
 
-closed : (front own opened bytes : List ℕ) → front ++ (own ++ opened ++ bytes) ++ codes ">" ≡ front ++ (own ++ opened ++ bytes ++ codes ">")
-closed front own opened bytes = append_assoc front (own ++ opened ++ bytes) (codes ">")
+closed : (front own opened bytes ended : List ℕ) → front ++ (own ++ opened ++ bytes) ++ ended ≡ front ++ (own ++ opened ++ bytes ++ ended)
+closed front own opened bytes ended = append_assoc front (own ++ opened ++ bytes) ended
 
 -- the E of arguments is read
-arguments-written : (s : List ℕ) (old popped middle : Direct) (is_first : Bool) (p : IsWriting s old (steps.Arguments is_first))
+arguments-written : (brief : Bool) (s : List ℕ) (old popped middle : Direct) (is_first : Bool) (p : IsWriting brief s old (steps.Arguments is_first))
     → StandsAt s old.at (69 ∷ []) → reverse popped.waiting.list.items ≡ p.is_before.rest
     → popped.text ≡ old.text → popped.aside ≡ old.aside → popped.is_aside ≡ old.is_aside → popped.notes ≡ old.notes → popped.numbers ≡ old.numbers
     → popped.waiting.room ≡ old.waiting.room
-    → popped.at ≡ old.at + 1 → Writes popped middle (codes ">")
-    → IsEnded s middle p.is_before.place p.is_before.from (form_of p.is_before.is_value) (form_of p.is_before.is_value)
-arguments-written s old popped middle is_first p stands rest text aside is_aside notes numbers room at writes =
+    → popped.at ≡ old.at + 1 → Writes popped middle (closing brief)
+    → IsEnded brief s middle p.is_before.place p.is_before.from (form_of p.is_before.is_value) (form_of p.is_before.is_value)
+arguments-written brief s old popped middle is_first p stands rest text aside is_aside notes numbers room at writes =
     let l = p.is_before in
     let made = tree.generic l.p (l.made tree.no_arguments) in
-    let bytes = l.own ++ opening l.is_value ++ l.bytes ++ codes ">" in
-    let prints = generic-prints l.is_value l.p l.own (l.made tree.no_arguments) l.bytes l.prints (arguments-end l.made (separator_of is_first) l.bytes l.begin) in
-    let form = form-says l.is_value made bytes prints in
-    let told = path-says (form_of l.is_value) made bytes form.1 form.0 in
+    let bytes = l.own ++ opening brief l.is_value ++ l.bytes ++ closing brief in
+    let prints = generic-prints brief l.is_value l.p l.own (l.made tree.no_arguments) l.bytes l.prints (arguments-end brief l.made (separator_of is_first) l.bytes l.begin) in
+    let form = form-says brief l.is_value made bytes prints in
+    let told = path-says brief (form_of l.is_value) made bytes form.1 form.0 in
     record {
       before = p.state;
-      keeps = keeps-written s popped middle (codes ">") p.state writes (keeps-same s old popped p.state text aside is_aside notes numbers room p.keeps);
+      keeps = keeps-written brief s popped middle (closing brief) p.state writes (keeps-same brief s old popped p.state text aside is_aside notes numbers room p.keeps);
       os = l.outer;
       v = a_path made;
       front = l.front;
       bytes = bytes;
-      written = writes.text ∙ ap (λ t. t.list.items ++ codes ">") text ∙ ap (λ x. x ++ codes ">") l.written ∙ closed l.front l.own (opening l.is_value) l.bytes;
+      written = writes.text ∙ ap (λ t. t.list.items ++ closing brief) text ∙ ap (λ x. x ++ closing brief) l.written ∙ closed l.front l.own (opening brief l.is_value) l.bytes (closing brief);
       from_is = l.from_is;
       says = told.0;
       holds = told.1;
       comes = rw (writes.at, at) (arguments-close s l.outer l.place l.p l.made old.at p.state l.goes stands);
-      stands = stands-written s popped middle (codes ">") l.outer l.front writes (rw (rest, aside, is_aside) l.stands);
+      stands = stands-written brief s popped middle (closing brief) l.outer l.front writes (rw (rest, aside, is_aside) l.stands);
     }
 
-pub arguments-read : (s : List ℕ) (old popped middle : Direct) (is_first is_value : Bool) (place from : ℕ) (o : Option Open)
-    → IsWriting s old (steps.Arguments is_first) → StandsAt s old.at (69 ∷ [])
+pub arguments-read : (brief : Bool) (s : List ℕ) (old popped middle : Direct) (is_first is_value : Bool) (place from : ℕ) (o : Option Open)
+    → IsWriting brief s old (steps.Arguments is_first) → StandsAt s old.at (69 ∷ [])
     → old.waiting.list.items ≡ popped.waiting.list.items ++ option_to_list o → o ≡ Some (opens.Argument place from is_value)
     → popped.text ≡ old.text → popped.aside ≡ old.aside → popped.is_aside ≡ old.is_aside → popped.notes ≡ old.notes → popped.numbers ≡ old.numbers
     → popped.waiting.room ≡ old.waiting.room
-    → popped.at ≡ old.at + 1 → Writes popped middle (codes ">") → IsEnded s middle place from (form_of is_value) (form_of is_value)
-arguments-read s old popped middle is_first is_value place from o p stands items is text aside is_aside notes numbers room at writes =
+    → popped.at ≡ old.at + 1 → Writes popped middle (closing brief) → IsEnded brief s middle place from (form_of is_value) (form_of is_value)
+arguments-read brief s old popped middle is_first is_value place from o p stands items is text aside is_aside notes numbers room at writes =
     let l = p.is_before in
     let entry = opens.Argument place from is_value in
     let e : entry ∷ reverse popped.waiting.list.items ≡ opens.Argument l.place l.from l.is_value ∷ l.rest =
@@ -359,7 +359,7 @@ arguments-read s old popped middle is_first is_value place from o p stands items
     let same_from : l.from ≡ from = cc e in
     let same_value : l.is_value ≡ is_value = cc e in
     let same_rest : reverse popped.waiting.list.items ≡ l.rest = cc e in
-    subst (λ k. IsEnded s middle k from (form_of is_value) (form_of is_value)) same_place
-    (subst (λ k. IsEnded s middle l.place k (form_of is_value) (form_of is_value)) same_from
-    (subst (λ b. IsEnded s middle l.place l.from (form_of b) (form_of b)) same_value
-    (arguments-written s old popped middle is_first p stands same_rest text aside is_aside notes numbers room at writes)))
+    subst (λ k. IsEnded brief s middle k from (form_of is_value) (form_of is_value)) same_place
+    (subst (λ k. IsEnded brief s middle l.place k (form_of is_value) (form_of is_value)) same_from
+    (subst (λ b. IsEnded brief s middle l.place l.from (form_of b) (form_of b)) same_value
+    (arguments-written brief s old popped middle is_first p stands same_rest text aside is_aside notes numbers room at writes)))

@@ -46,16 +46,16 @@ integer-written s old middle new at digits minus n end sign begins hex is first 
 parked-noted : (old new : Direct) (place from : ℕ) (f : Forms) → Notes old new place from f → parked_of new ≡ parked_of old
 parked-noted old new place from f n = rw (n.aside, n.is_aside) refl
 
-stands-noted : (s : List ℕ) (old new : Direct) (place from : ℕ) (f : Forms) (os : List Opened) (text : List ℕ) → Notes old new place from f
-    → Stands s (reverse old.waiting.list.items) os text (parked_of old) → Stands s (reverse new.waiting.list.items) os text (parked_of new)
-stands-noted s old new place from f os text n h = rw (n.waiting, n.aside, n.is_aside) h
+stands-noted : (brief : Bool) (s : List ℕ) (old new : Direct) (place from : ℕ) (f : Forms) (os : List Opened) (text : List ℕ) → Notes old new place from f
+    → Stands brief s (reverse old.waiting.list.items) os text (parked_of old) → Stands brief s (reverse new.waiting.list.items) os text (parked_of new)
+stands-noted brief s old new place from f os text n h = rw (n.waiting, n.aside, n.is_aside) h
 
 -- ## Constants among arguments
 
-pub constant-read : (s : List ℕ) (old two three : Direct) (is_first : Bool) (place from end : ℕ) → AwaitsArgument s old is_first
+pub constant-read : (brief : Bool) (s : List ℕ) (old two three : Direct) (is_first : Bool) (place from end : ℕ) → AwaitsArgument brief s old is_first
     → StandsAt s old.at (75 ∷ []) → place ≡ old.at + 1 → from ≡ length old.text.list.items → WritesConstant s old two place end
-    → Notes two three place from forms.Unnamed → IsWriting s (record three { at = end }) (steps.Arguments false)
-constant-read s old two three is_first place from end awaits stands place_is from_is wrote notes =
+    → Notes two three place from forms.Unnamed → IsWriting brief s (record three { at = end }) (steps.Arguments false)
+constant-read brief s old two three is_first place from end awaits stands place_is from_is wrote notes =
     let l = awaits.listing in
     let st = awaits.state in
     let c = wrote.c in
@@ -64,8 +64,8 @@ constant-read s old two three is_first place from end awaits stands place_is fro
     let separator = separator_of is_first in
     record {
       state = with_ended place (a_constant c) st;
-      keeps = keeps-noted s two three place from forms.Unnamed st (a_constant c) old.text.list.items own notes
-          (keeps-written s old two own st writes awaits.keeps) writes.text from_is tt;
+      keeps = keeps-noted brief s two three place from forms.Unnamed st (a_constant c) old.text.list.items own notes
+          (keeps-written brief s old two own st writes awaits.keeps) writes.text from_is tt;
       is_before = record {
         place = l.place;
         from = l.from;
@@ -80,44 +80,44 @@ constant-read s old two three is_first place from end awaits stands place_is fro
         bytes = l.bytes ++ separator ++ own;
         from_is = l.from_is;
         prints = l.prints;
-        begin = constant-begins l.made separator l.bytes c own l.begin wrote.shows;
+        begin = constant-begins brief l.made separator l.bytes c own l.begin wrote.shows;
         written = ap (λ t. t.list.items) notes.text ∙ writes.text
             ∙ ap (λ b. b ++ own) (awaits.written ∙ ap (λ b. b ++ separator) l.written
-            ∙ append_assoc l.front (l.own ++ opening l.is_value ++ l.bytes) separator)
-            ∙ joined l.front l.own (opening l.is_value) l.bytes separator own;
+            ∙ append_assoc l.front (l.own ++ opening brief l.is_value ++ l.bytes) separator)
+            ∙ joined l.front l.own (opening brief l.is_value) l.bytes separator own;
         goes = subst (λ k. ArgumentsGoOn s l.outer l.place l.p (λ r. l.made (tree.constant_argument c r)) end (with_ended k (a_constant c) st)) (sym place_is)
             (constant-goes-on s l.outer l.place l.p l.made old.at st c end l.goes stands (subst (λ k. IsConstantAt s k c end) place_is wrote.comes));
-        stands = subst (λ k. Stands s l.rest l.outer l.front k)
+        stands = subst (λ k. Stands brief s l.rest l.outer l.front k)
             (sym (parked-noted two three place from forms.Unnamed notes ∙ parked-written old two own writes)) l.stands;
       };
     }
 
 -- ## Arrays
 
-pub array-begun : (s : List ℕ) (old middle new : Direct) (from end : ℕ) → Awaits s old true → StandsAt s old.at (65 ∷ [])
+pub array-begun : (brief : Bool) (s : List ℕ) (old middle new : Direct) (from end : ℕ) → Awaits brief s old true → StandsAt s old.at (65 ∷ [])
     → from ≡ length old.text.list.items → end ≡ old.at + 1 → Writes (record old { at = end }) middle (codes "[")
-    → Pushes middle new (opens.Array old.at from) → IsWriting s new steps.Type
-array-begun s old middle new from end awaits stands from_is end_is writes pushes =
+    → Pushes middle new (opens.Array old.at from) → IsWriting brief s new steps.Type
+array-begun brief s old middle new from end awaits stands from_is end_is writes pushes =
     let st = awaits.state in
     let r = awaits.awaited in
-    let goes = array-opens s r.os old.at st (type-expected s old awaits) stands in
+    let goes = array-opens s r.os old.at st (type-expected brief s old awaits) stands in
     let entry = opens.Array old.at from in
     record {
       state = within goes.production st;
-      keeps = keeps-pushed s middle new entry st pushes (keeps-written s (record old { at = end }) middle (codes "[") st writes awaits.keeps);
+      keeps = keeps-pushed brief s middle new entry st pushes (keeps-written brief s (record old { at = end }) middle (codes "[") st writes awaits.keeps);
       is_before = record {
         wanted = type;
         is_for = refl;
         os = goes.inner;
         awaits = expects-moved s TYPE goes.inner (old.at + 1) new.at (within goes.production st) (sym (pushes.at ∙ writes.at ∙ end_is)) goes.awaits;
-        stands = subst (λ ws. Stands s ws goes.inner new.text.list.items (parked_of new)) (sym (turned middle new entry pushes)) (
+        stands = subst (λ ws. Stands brief s ws goes.inner new.text.list.items (parked_of new)) (sym (turned middle new entry pushes)) (
           r.os,
           old.text.list.items,
           from_is,
           ap (λ t. t.list.items) pushes.text ∙ writes.text,
           goes.onward,
           rw (parked-pushed middle new entry pushes)
-              (stands-written s (record old { at = end }) middle (codes "[") r.os old.text.list.items writes r.stands),
+              (stands-written brief s (record old { at = end }) middle (codes "[") r.os old.text.list.items writes r.stands),
         );
       };
     }
@@ -129,14 +129,14 @@ arrayed front mark bytes middle own closing =
     ∙ append_assoc front (mark ++ bytes ++ middle) own) ∙ append_assoc front (mark ++ bytes ++ middle ++ own) closing
 
 -- the size of an array is read
-pub array-read : (s : List ℕ) (old one two three four : Direct) (place from here begins end : ℕ) (f : Forms) → Arrives s old (opens.Array place from) here f
+pub array-read : (brief : Bool) (s : List ℕ) (old one two three four : Direct) (place from here begins end : ℕ) (f : Forms) → Arrives brief s old (opens.Array place from) here f
     → is_type f ≡ true → Writes old one (codes "; ") → begins ≡ length one.text.list.items → WritesConstant s one two old.at end
     → Notes two three old.at begins forms.Unnamed → Writes (record three { at = end }) four (codes "]")
-    → IsEnded s four place from forms.Typed forms.Typed
-array-read s old one two three four place from here begins end f arrives is first begins_is wrote notes last =
+    → IsEnded brief s four place from forms.Typed forms.Typed
+array-read brief s old one two three four place from here begins end f arrives is first begins_is wrote notes last =
     let r = arrives.read in
     let st = arrives.state in
-    let held = type-held f r.v r.bytes is r.holds in
+    let held = type-held brief f r.v r.bytes is r.holds in
     let t = held.0 in
     let c = wrote.c in
     let own = wrote.own in
@@ -145,12 +145,12 @@ array-read s old one two three four place from here begins end f arrives is firs
     let after = with_ended old.at (a_constant c) st in
     let made = tree.array t c in
     let bytes = codes "[" ++ r.bytes ++ codes "; " ++ own ++ codes "]" in
-    let told : Holds forms.Typed (a_type made) bytes = (made, refl, array-prints t r.bytes c own held.2 wrote.shows) in
+    let told : Holds brief forms.Typed (a_type made) bytes = (made, refl, array-prints brief t r.bytes c own held.2 wrote.shows) in
     record {
       before = after;
-      keeps = keeps-written s (record three { at = end }) four (codes "]") after last
-          (keeps-noted s two three old.at begins forms.Unnamed st (a_constant c) one.text.list.items own notes
-          (keeps-written s one two own st wrote.writes (keeps-written s old one (codes "; ") st first arrives.keeps)) wrote.writes.text begins_is tt);
+      keeps = keeps-written brief s (record three { at = end }) four (codes "]") after last
+          (keeps-noted brief s two three old.at begins forms.Unnamed st (a_constant c) one.text.list.items own notes
+          (keeps-written brief s one two own st wrote.writes (keeps-written brief s old one (codes "; ") st first arrives.keeps)) wrote.writes.text begins_is tt);
       os = waits.0;
       v = a_type made;
       front = waits.1;
@@ -163,9 +163,9 @@ array-read s old one two three four place from here begins end f arrives is firs
       holds = told;
       comes = subst (λ k. Ends s waits.0 place (a_type made) k after) (sym last.at)
           (goes.passes c end after (wrote.comes goes.inner (within goes.production st) goes.awaits));
-      stands = stands-written s (record three { at = end }) four (codes "]") waits.0 waits.1 last
-          (stands-noted s two three old.at begins forms.Unnamed waits.0 waits.1 notes
-          (stands-written s one two own waits.0 waits.1 wrote.writes (stands-written s old one (codes "; ") waits.0 waits.1 first waits.5)));
+      stands = stands-written brief s (record three { at = end }) four (codes "]") waits.0 waits.1 last
+          (stands-noted brief s two three old.at begins forms.Unnamed waits.0 waits.1 notes
+          (stands-written brief s one two own waits.0 waits.1 wrote.writes (stands-written brief s old one (codes "; ") waits.0 waits.1 first waits.5)));
     }
 
 -- ## Truth values, and what isn't known

@@ -19,54 +19,54 @@ use Rattle.rust_direct.proofs.PathsRead.{path-held}
 use Rattle.rust_direct.proofs.PrintedPaths.{impl-prints, trait-prints}
 
 -- Where nothing is written yet of what isn't shown, its text may begin after any other.
-unbegun-any : (s : List ℕ) (waiting : List Open) (os : List Opened) (text any parked : List ℕ) → IsUnbegun waiting → Stands s waiting os text parked
-    → Stands s waiting os any parked
-unbegun-any s [] os text any parked is h = absurd is
-unbegun-any s (opens.Nest letter place ∷ rest) os text any parked is h = (h.0, h.1, unbegun-any s rest h.0 text any parked is h.2)
-unbegun-any s (opens.Generic is_value place ∷ rest) os text any parked is h = (h.0, h.1, unbegun-any s rest h.0 text any parked is h.2)
-unbegun-any s (opens.Other ∷ rest) os text any parked is h = h
-unbegun-any s (opens.Impl place ∷ rest) os text any parked is h = h
-unbegun-any s (opens.TraitImpl place ∷ rest) os text any parked is h = h
-unbegun-any s (opens.InnerImpl place ∷ rest) os text any parked is h = h
-unbegun-any s (opens.InnerTraitImpl place ∷ rest) os text any parked is h = h
-unbegun-any s (_ ∷ rest) os text any parked is h = absurd is
+unbegun-any : (brief : Bool) (s : List ℕ) (waiting : List Open) (os : List Opened) (text any parked : List ℕ) → IsUnbegun waiting → Stands brief s waiting os text parked
+    → Stands brief s waiting os any parked
+unbegun-any brief s [] os text any parked is h = absurd is
+unbegun-any brief s (opens.Nest letter place ∷ rest) os text any parked is h = (h.0, h.1, unbegun-any brief s rest h.0 text any parked is h.2)
+unbegun-any brief s (opens.Generic is_value place ∷ rest) os text any parked is h = (h.0, h.1, unbegun-any brief s rest h.0 text any parked is h.2)
+unbegun-any brief s (opens.Other ∷ rest) os text any parked is h = h
+unbegun-any brief s (opens.Impl place ∷ rest) os text any parked is h = h
+unbegun-any brief s (opens.TraitImpl place ∷ rest) os text any parked is h = h
+unbegun-any brief s (opens.InnerImpl place ∷ rest) os text any parked is h = h
+unbegun-any brief s (opens.InnerTraitImpl place ∷ rest) os text any parked is h = h
+unbegun-any brief s (_ ∷ rest) os text any parked is h = absurd is
 
 -- the path of an impl is expected
-pub inner-impl-begun : (s : List ℕ) (old new : Direct) (count end : ℕ) (plain : Bool) → AwaitsPath s old → StandsAt s old.at (77 ∷ [])
+pub inner-impl-begun : (brief : Bool) (s : List ℕ) (old new : Direct) (count end : ℕ) (plain : Bool) → AwaitsPath brief s old → StandsAt s old.at (77 ∷ [])
     → IsDisambiguatorAt s (old.at + 1) count end → IsUnbegun (reverse old.waiting.list.items) → Opens old new [] (opens.InnerImpl old.at) end
-    → IsWriting s new (steps.Path plain)
-inner-impl-begun s old new count end plain awaits letter counted unbegun opened =
+    → IsWriting brief s new (steps.Path plain)
+inner-impl-begun brief s old new count end plain awaits letter counted unbegun opened =
     let a = awaits.1 in
     let r = a.awaited in
     let entry = opens.InnerImpl old.at in
     let goes = impl-opens s r.wanted r.os old.at a.state count end r.awaits letter counted in
     record {
       state = within goes.production a.state;
-      keeps = keeps-opened s old new [] entry end a.state opened a.keeps;
+      keeps = keeps-opened brief s old new [] entry end a.state opened a.keeps;
       is_before = record {
         wanted = path;
         is_for = refl;
         os = goes.inner;
         awaits = rw opened.at_is goes.awaits;
-        stands = stands-opened s old new [] entry end goes.inner opened (
+        stands = stands-opened brief s old new [] entry end goes.inner opened (
           r.os,
           (λ q t. tree.inherent_impl count q t),
-          (λ value q t bytes without prints. impl-prints value count q t bytes without prints),
+          (λ value q t bytes without prints. impl-prints brief value count q t bytes without prints),
           goes.onward,
-          (λ any. unbegun-any s (reverse old.waiting.list.items) r.os old.text.list.items any (parked_of old) unbegun r.stands),
+          (λ any. unbegun-any brief s (reverse old.waiting.list.items) r.os old.text.list.items any (parked_of old) unbegun r.stands),
         );
       };
     }
 
 -- the path of an impl is read
-pub inner-impl-path-read : (s : List ℕ) (w : Direct) (place here : ℕ) (f : Forms) → Arrives s w (opens.InnerImpl place) here f → is_path f ≡ true
-    → AwaitsImplType s w place
-inner-impl-path-read s w place here f arrives is =
+pub inner-impl-path-read : (brief : Bool) (s : List ℕ) (w : Direct) (place here : ℕ) (f : Forms) → Arrives brief s w (opens.InnerImpl place) here f → is_path f ≡ true
+    → AwaitsImplType brief s w place
+inner-impl-path-read brief s w place here f arrives is =
     let r = arrives.read in
-    let held = path-held f r.v r.bytes is r.holds in
+    let held = path-held brief f r.v r.bytes is r.holds in
     let q = held.0 in
     let waits = r.stands in
-    let none = path-needs f q r.bytes held.2 in
+    let none = path-needs brief f q r.bytes held.2 in
     record {
       state = arrives.state;
       keeps = arrives.keeps;
@@ -78,38 +78,38 @@ inner-impl-path-read s w place here f arrives is =
     }
 
 -- the path of an impl of a trait is expected
-pub inner-trait-begun : (s : List ℕ) (old new : Direct) (count end : ℕ) (plain : Bool) → AwaitsPath s old → StandsAt s old.at (88 ∷ [])
+pub inner-trait-begun : (brief : Bool) (s : List ℕ) (old new : Direct) (count end : ℕ) (plain : Bool) → AwaitsPath brief s old → StandsAt s old.at (88 ∷ [])
     → IsDisambiguatorAt s (old.at + 1) count end → IsUnbegun (reverse old.waiting.list.items) → Opens old new [] (opens.InnerTraitImpl old.at) end
-    → IsWriting s new (steps.Path plain)
-inner-trait-begun s old new count end plain awaits letter counted unbegun opened =
+    → IsWriting brief s new (steps.Path plain)
+inner-trait-begun brief s old new count end plain awaits letter counted unbegun opened =
     let a = awaits.1 in
     let r = a.awaited in
     let entry = opens.InnerTraitImpl old.at in
     let goes = trait-opens s r.wanted r.os old.at a.state count end r.awaits letter counted in
     record {
       state = within goes.production a.state;
-      keeps = keeps-opened s old new [] entry end a.state opened a.keeps;
+      keeps = keeps-opened brief s old new [] entry end a.state opened a.keeps;
       is_before = record {
         wanted = path;
         is_for = refl;
         os = goes.inner;
         awaits = rw opened.at_is goes.awaits;
-        stands = stands-opened s old new [] entry end goes.inner opened (
+        stands = stands-opened brief s old new [] entry end goes.inner opened (
           r.os,
           (λ q t implements. tree.trait_impl count q t implements),
-          (λ q without value t implements bytes own prints of_trait. trait-prints value count q t implements bytes own without prints of_trait),
+          (λ q without value t implements bytes own prints of_trait. trait-prints brief value count q t implements bytes own without prints of_trait),
           goes.onward,
-          (λ any. unbegun-any s (reverse old.waiting.list.items) r.os old.text.list.items any (parked_of old) unbegun r.stands),
+          (λ any. unbegun-any brief s (reverse old.waiting.list.items) r.os old.text.list.items any (parked_of old) unbegun r.stands),
         );
       };
     }
 
 -- the path of an impl of a trait is read
-pub inner-trait-path-read : (s : List ℕ) (w : Direct) (place here : ℕ) (f : Forms) → Arrives s w (opens.InnerTraitImpl place) here f
-    → is_path f ≡ true → AwaitsTraitType s w place
-inner-trait-path-read s w place here f arrives is =
+pub inner-trait-path-read : (brief : Bool) (s : List ℕ) (w : Direct) (place here : ℕ) (f : Forms) → Arrives brief s w (opens.InnerTraitImpl place) here f
+    → is_path f ≡ true → AwaitsTraitType brief s w place
+inner-trait-path-read brief s w place here f arrives is =
     let r = arrives.read in
-    let held = path-held f r.v r.bytes is r.holds in
+    let held = path-held brief f r.v r.bytes is r.holds in
     let q = held.0 in
     let waits = r.stands in
     record {
@@ -117,7 +117,7 @@ inner-trait-path-read s w place here f arrives is =
       keeps = arrives.keeps;
       outer = waits.0;
       made = waits.1 q;
-      prints = waits.2 q (path-needs f q r.bytes held.2);
+      prints = waits.2 q (path-needs brief f q r.bytes held.2);
       goes = waits.3 q w.at arrives.state (subst (λ v. Comes s r.os v w.at arrives.state) held.1 r.comes);
       stands = waits.4 w.text.list.items;
     }

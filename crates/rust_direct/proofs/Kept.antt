@@ -17,8 +17,8 @@ use Rattle.rust_direct.specs.Holes.{with_ended}
 
 -- ## Notes
 
-note-stays : (written more : List ℕ) (n : Note) (v : Value) → IsNote written n v → IsNote (written ++ more) n v
-note-stays written more n v p = record {
+note-stays : (brief : Bool) (written more : List ℕ) (n : Note) (v : Value) → IsNote brief written n v → IsNote brief (written ++ more) n v
+note-stays brief written more n v p = record {
   front = p.front;
   bytes = p.bytes;
   back = p.back ++ more;
@@ -28,62 +28,62 @@ note-stays written more n v p = record {
   says = p.says;
 }
 
-ended-stays : (is_aside note_aside : Bool) (text aside more : List ℕ) (n : Note) (v : Value)
-    → IsNote (home is_aside note_aside text aside) n v → IsNote (home is_aside note_aside (text ++ more) aside) n v
-ended-stays true true text aside more n v p = note-stays text more n v p
-ended-stays false false text aside more n v p = note-stays text more n v p
-ended-stays true false text aside more n v p = p
-ended-stays false true text aside more n v p = p
+ended-stays : (brief : Bool) (is_aside note_aside : Bool) (text aside more : List ℕ) (n : Note) (v : Value)
+    → IsNote brief (home is_aside note_aside text aside) n v → IsNote brief (home is_aside note_aside (text ++ more) aside) n v
+ended-stays brief true true text aside more n v p = note-stays brief text more n v p
+ended-stays brief false false text aside more n v p = note-stays brief text more n v p
+ended-stays brief true false text aside more n v p = p
+ended-stays brief false true text aside more n v p = p
 
-noted-stays : (is_aside : Bool) (text aside more : List ℕ) (o : Option Note) (v : Option Value) → NotedAs is_aside text aside o v
-    → NotedAs is_aside (text ++ more) aside o v
-noted-stays is_aside text aside more None v p = absurd p
-noted-stays is_aside text aside more (Some n) None p = absurd p
-noted-stays is_aside text aside more (Some n) (Some v) p = ended-stays is_aside n.is_aside text aside more n v p
+noted-stays : (brief : Bool) (is_aside : Bool) (text aside more : List ℕ) (o : Option Note) (v : Option Value) → NotedAs brief is_aside text aside o v
+    → NotedAs brief is_aside (text ++ more) aside o v
+noted-stays brief is_aside text aside more None v p = absurd p
+noted-stays brief is_aside text aside more (Some n) None p = absurd p
+noted-stays brief is_aside text aside more (Some n) (Some v) p = ended-stays brief is_aside n.is_aside text aside more n v p
 
-numbered-stays : (is_aside : Bool) (text aside more : List ℕ) (notes : List Note) (v : Option Value) (number : Option ℕ)
-    → IsNumbered is_aside text aside notes v number → IsNumbered is_aside (text ++ more) aside notes v number
-numbered-stays is_aside text aside more notes v None p = tt
-numbered-stays is_aside text aside more notes v (Some zero) p = tt
-numbered-stays is_aside text aside more notes v (Some (suc k)) p = noted-stays is_aside text aside more (slice_get notes k) v p
+numbered-stays : (brief : Bool) (is_aside : Bool) (text aside more : List ℕ) (notes : List Note) (v : Option Value) (number : Option ℕ)
+    → IsNumbered brief is_aside text aside notes v number → IsNumbered brief is_aside (text ++ more) aside notes v number
+numbered-stays brief is_aside text aside more notes v None p = tt
+numbered-stays brief is_aside text aside more notes v (Some zero) p = tt
+numbered-stays brief is_aside text aside more notes v (Some (suc k)) p = noted-stays brief is_aside text aside more (slice_get notes k) v p
 
 -- notes stay so where more is written
-pub notes-stay : (is_aside : Bool) (text aside more : List ℕ) (notes : List Note) (numbers : List ℕ) (ended : List Ended)
-    → AreNotes is_aside text aside notes numbers ended → AreNotes is_aside (text ++ more) aside notes numbers ended
-notes-stay is_aside text aside more notes numbers ended p =
-    λ place. numbered-stays is_aside text aside more notes (ended_at ended place) (slice_get numbers place) (p place)
+pub notes-stay : (brief : Bool) (is_aside : Bool) (text aside more : List ℕ) (notes : List Note) (numbers : List ℕ) (ended : List Ended)
+    → AreNotes brief is_aside text aside notes numbers ended → AreNotes brief is_aside (text ++ more) aside notes numbers ended
+notes-stay brief is_aside text aside more notes numbers ended p =
+    λ place. numbered-stays brief is_aside text aside more notes (ended_at ended place) (slice_get numbers place) (p place)
 
 -- the same of a writer
-notes-written : (old new : Direct) (bytes : List ℕ) (st : State) → Writes old new bytes → AreNotesOf old st → AreNotesOf new st
-notes-written old new bytes st writes p =
+notes-written : (brief : Bool) (old new : Direct) (bytes : List ℕ) (st : State) → Writes old new bytes → AreNotesOf brief old st → AreNotesOf brief new st
+notes-written brief old new bytes st writes p =
     rw (writes.text, writes.aside, writes.is_aside, writes.notes, writes.numbers)
-    (notes-stay old.is_aside old.text.list.items old.aside.list.items bytes old.notes.list.items old.numbers.items st.ended p)
+    (notes-stay brief old.is_aside old.text.list.items old.aside.list.items bytes old.notes.list.items old.numbers.items st.ended p)
 
 -- ## A turn to the other text
 
-home-turned : (is_aside note_aside : Bool) (text aside : List ℕ) (n : Note) (v : Value)
-    → IsNote (home is_aside note_aside text aside) n v → IsNote (home (not is_aside) note_aside aside text) n v
-home-turned true true text aside n v p = p
-home-turned false false text aside n v p = p
-home-turned true false text aside n v p = p
-home-turned false true text aside n v p = p
+home-turned : (brief : Bool) (is_aside note_aside : Bool) (text aside : List ℕ) (n : Note) (v : Value)
+    → IsNote brief (home is_aside note_aside text aside) n v → IsNote brief (home (not is_aside) note_aside aside text) n v
+home-turned brief true true text aside n v p = p
+home-turned brief false false text aside n v p = p
+home-turned brief true false text aside n v p = p
+home-turned brief false true text aside n v p = p
 
-noted-turned : (is_aside : Bool) (text aside : List ℕ) (o : Option Note) (v : Option Value) → NotedAs is_aside text aside o v
-    → NotedAs (not is_aside) aside text o v
-noted-turned is_aside text aside None v p = absurd p
-noted-turned is_aside text aside (Some n) None p = absurd p
-noted-turned is_aside text aside (Some n) (Some v) p = home-turned is_aside n.is_aside text aside n v p
+noted-turned : (brief : Bool) (is_aside : Bool) (text aside : List ℕ) (o : Option Note) (v : Option Value) → NotedAs brief is_aside text aside o v
+    → NotedAs brief (not is_aside) aside text o v
+noted-turned brief is_aside text aside None v p = absurd p
+noted-turned brief is_aside text aside (Some n) None p = absurd p
+noted-turned brief is_aside text aside (Some n) (Some v) p = home-turned brief is_aside n.is_aside text aside n v p
 
-numbered-turned : (is_aside : Bool) (text aside : List ℕ) (notes : List Note) (v : Option Value) (number : Option ℕ)
-    → IsNumbered is_aside text aside notes v number → IsNumbered (not is_aside) aside text notes v number
-numbered-turned is_aside text aside notes v None p = tt
-numbered-turned is_aside text aside notes v (Some zero) p = tt
-numbered-turned is_aside text aside notes v (Some (suc k)) p = noted-turned is_aside text aside (slice_get notes k) v p
+numbered-turned : (brief : Bool) (is_aside : Bool) (text aside : List ℕ) (notes : List Note) (v : Option Value) (number : Option ℕ)
+    → IsNumbered brief is_aside text aside notes v number → IsNumbered brief (not is_aside) aside text notes v number
+numbered-turned brief is_aside text aside notes v None p = tt
+numbered-turned brief is_aside text aside notes v (Some zero) p = tt
+numbered-turned brief is_aside text aside notes v (Some (suc k)) p = noted-turned brief is_aside text aside (slice_get notes k) v p
 
-notes-turned : (is_aside : Bool) (text aside : List ℕ) (notes : List Note) (numbers : List ℕ) (ended : List Ended)
-    → AreNotes is_aside text aside notes numbers ended → AreNotes (not is_aside) aside text notes numbers ended
-notes-turned is_aside text aside notes numbers ended p =
-    λ place. numbered-turned is_aside text aside notes (ended_at ended place) (slice_get numbers place) (p place)
+notes-turned : (brief : Bool) (is_aside : Bool) (text aside : List ℕ) (notes : List Note) (numbers : List ℕ) (ended : List Ended)
+    → AreNotes brief is_aside text aside notes numbers ended → AreNotes brief (not is_aside) aside text notes numbers ended
+notes-turned brief is_aside text aside notes numbers ended p =
+    λ place. numbered-turned brief is_aside text aside notes (ended_at ended place) (slice_get numbers place) (p place)
 
 -- ## One more note
 
@@ -108,29 +108,29 @@ get-other (x ∷ xs) zero (suc j) y apart = refl
 get-other (x ∷ xs) (suc k) zero y apart = refl
 get-other (x ∷ xs) (suc k) (suc j) y apart = get-other xs k j y (λ e. apart (ap suc e))
 
-noted-more : (is_aside : Bool) (text aside : List ℕ) (notes : List Note) (n : Note) (k : ℕ) (o : Option Note) (v : Option Value)
-    → slice_get notes k ≡ o → NotedAs is_aside text aside o v → NotedAs is_aside text aside (slice_get (notes ++ n ∷ []) k) v
-noted-more is_aside text aside notes n k None v e p = absurd p
-noted-more is_aside text aside notes n k (Some x) v e p =
-    subst (λ o. NotedAs is_aside text aside o v) (sym (get-append notes k x (n ∷ []) e)) p
+noted-more : (brief : Bool) (is_aside : Bool) (text aside : List ℕ) (notes : List Note) (n : Note) (k : ℕ) (o : Option Note) (v : Option Value)
+    → slice_get notes k ≡ o → NotedAs brief is_aside text aside o v → NotedAs brief is_aside text aside (slice_get (notes ++ n ∷ []) k) v
+noted-more brief is_aside text aside notes n k None v e p = absurd p
+noted-more brief is_aside text aside notes n k (Some x) v e p =
+    subst (λ o. NotedAs brief is_aside text aside o v) (sym (get-append notes k x (n ∷ []) e)) p
 
-numbered-more : (is_aside : Bool) (text aside : List ℕ) (notes : List Note) (n : Note) (v : Option Value) (number : Option ℕ)
-    → IsNumbered is_aside text aside notes v number → IsNumbered is_aside text aside (notes ++ n ∷ []) v number
-numbered-more is_aside text aside notes n v None p = tt
-numbered-more is_aside text aside notes n v (Some zero) p = tt
-numbered-more is_aside text aside notes n v (Some (suc k)) p = noted-more is_aside text aside notes n k (slice_get notes k) v refl p
+numbered-more : (brief : Bool) (is_aside : Bool) (text aside : List ℕ) (notes : List Note) (n : Note) (v : Option Value) (number : Option ℕ)
+    → IsNumbered brief is_aside text aside notes v number → IsNumbered brief is_aside text aside (notes ++ n ∷ []) v number
+numbered-more brief is_aside text aside notes n v None p = tt
+numbered-more brief is_aside text aside notes n v (Some zero) p = tt
+numbered-more brief is_aside text aside notes n v (Some (suc k)) p = noted-more brief is_aside text aside notes n k (slice_get notes k) v refl p
 
 -- what ended at a place is noted
-pub notes-more : (is_aside : Bool) (text aside : List ℕ) (notes : List Note) (numbers : List ℕ) (ended : List Ended) (n : Note) (place : ℕ) (v : Value)
-    → AreNotes is_aside text aside notes numbers ended → place < length numbers → IsNote (home is_aside n.is_aside text aside) n v
-    → AreNotes is_aside text aside (notes ++ n ∷ []) (slice_set numbers place (length notes + 1)) (record { place = place; value = v } ∷ ended)
-notes-more is_aside text aside notes numbers ended n place v p inside is other = elim (cases_eq place other) [
+pub notes-more : (brief : Bool) (is_aside : Bool) (text aside : List ℕ) (notes : List Note) (numbers : List ℕ) (ended : List Ended) (n : Note) (place : ℕ) (v : Value)
+    → AreNotes brief is_aside text aside notes numbers ended → place < length numbers → IsNote brief (home is_aside n.is_aside text aside) n v
+    → AreNotes brief is_aside text aside (notes ++ n ∷ []) (slice_set numbers place (length notes + 1)) (record { place = place; value = v } ∷ ended)
+notes-more brief is_aside text aside notes numbers ended n place v p inside is other = elim (cases_eq place other) [
   | inl same ↦ here same
   | inr apart ↦ there apart
 ]
   where
     Is : Option Value → Option ℕ → Type 0
-    Is o number = IsNumbered is_aside text aside (notes ++ n ∷ []) o number
+    Is o number = IsNumbered brief is_aside text aside (notes ++ n ∷ []) o number
 
     one-more : (k : ℕ) → k + 1 ≡ suc k
     one-more k = omega arith
@@ -142,26 +142,26 @@ notes-more is_aside text aside notes numbers ended n place v p inside is other =
         (subst (λ k. Is (Some v) (slice_get (slice_set numbers place (length notes + 1)) k)) same
         (subst (λ o. Is (Some v) o) (sym (get-set numbers place (length notes + 1) inside))
         (subst (λ k. Is (Some v) (Some k)) (sym (one-more (length notes)))
-        (subst (λ o. NotedAs is_aside text aside o (Some v)) (sym (get-last notes n)) is))))
+        (subst (λ o. NotedAs brief is_aside text aside o (Some v)) (sym (get-last notes n)) is))))
 
     there : (place ≡ other → ⊥) → Is (ended_at (record { place = place; value = v } ∷ ended) other) (slice_get (slice_set numbers place (length notes + 1)) other)
     there apart =
         subst (λ o. Is o (slice_get (slice_set numbers place (length notes + 1)) other))
         (sym (ap (λ b. if b then Some v else ended_at ended other) (ne_eqb place other apart)))
         (subst (λ o. Is (ended_at ended other) o) (sym (get-other numbers place other (length notes + 1) (λ e. apart (sym e))))
-        (numbered-more is_aside text aside notes n (ended_at ended other) (slice_get numbers other) (p other)))
+        (numbered-more brief is_aside text aside notes n (ended_at ended other) (slice_get numbers other) (p other)))
 
 -- the same of a writer
-notes-noted : (old new : Direct) (place from : ℕ) (forms : Forms) (st : State) (v : Value) (front bytes : List ℕ) → Notes old new place from forms
-    → AreNotesOf old st → old.text.list.items ≡ front ++ bytes → from ≡ length front → Says forms v bytes → AreNotesOf new (with_ended place v st)
-notes-noted old new place from forms st v front bytes noted p written from_is says =
+notes-noted : (brief : Bool) (old new : Direct) (place from : ℕ) (forms : Forms) (st : State) (v : Value) (front bytes : List ℕ) → Notes old new place from forms
+    → AreNotesOf brief old st → old.text.list.items ≡ front ++ bytes → from ≡ length front → Says brief forms v bytes → AreNotesOf brief new (with_ended place v st)
+notes-noted brief old new place from forms st v front bytes noted p written from_is says =
     rw (noted.text, noted.aside, noted.is_aside, noted.notes, noted.numbers)
-    (notes-more old.is_aside old.text.list.items old.aside.list.items old.notes.list.items old.numbers.items st.ended
+    (notes-more brief old.is_aside old.text.list.items old.aside.list.items old.notes.list.items old.numbers.items st.ended
     (record { from = from; to = length old.text.list.items; forms = forms; is_aside = old.is_aside }) place v p noted.inside
     (at-home old.is_aside old.text.list.items old.aside.list.items written))
   where
     at-home : (is_aside : Bool) (text aside : List ℕ) → text ≡ front ++ bytes
-        → IsNote (home is_aside is_aside text aside) (record { from = from; to = length text; forms = forms; is_aside = is_aside }) v
+        → IsNote brief (home is_aside is_aside text aside) (record { from = from; to = length text; forms = forms; is_aside = is_aside }) v
     at-home true text aside e = record {
       front = front;
       bytes = bytes;
@@ -182,10 +182,10 @@ notes-noted old new place from forms st v front bytes noted p written from_is sa
     }
 
 -- nothing is noted at first
-pub none-noted : (is_aside : Bool) (text aside : List ℕ) (n : ℕ) (ended : List Ended) → AreNotes is_aside text aside [] (replicate n 0) ended
-none-noted is_aside text aside n ended = λ place. zeros n place (ended_at ended place)
+pub none-noted : (brief : Bool) (is_aside : Bool) (text aside : List ℕ) (n : ℕ) (ended : List Ended) → AreNotes brief is_aside text aside [] (replicate n 0) ended
+none-noted brief is_aside text aside n ended = λ place. zeros n place (ended_at ended place)
   where
-    zeros : (n place : ℕ) (v : Option Value) → IsNumbered is_aside text aside [] v (slice_get (replicate n 0) place)
+    zeros : (n place : ℕ) (v : Option Value) → IsNumbered brief is_aside text aside [] v (slice_get (replicate n 0) place)
     zeros zero place v = tt
     zeros (suc n) zero v = tt
     zeros (suc n) (suc place) v = zeros n place v
@@ -198,22 +198,22 @@ pub rooms-same : (s : List ℕ) (old new : Direct) → new.text.room ≡ old.tex
 rooms-same s old new text aside notes numbers waiting p = rw (text, aside, notes, numbers, waiting) p
 
 -- nothing changes but what is open, and its room stays
-pub keeps-same : (s : List ℕ) (old new : Direct) (st : State) → new.text ≡ old.text → new.aside ≡ old.aside → new.is_aside ≡ old.is_aside
-    → new.notes ≡ old.notes → new.numbers ≡ old.numbers → new.waiting.room ≡ old.waiting.room → Keeps s old st → Keeps s new st
-keeps-same s old new st text aside is_aside notes numbers waiting p = rw (text, aside, is_aside, notes, numbers, waiting) p
+pub keeps-same : (brief : Bool) (s : List ℕ) (old new : Direct) (st : State) → new.text ≡ old.text → new.aside ≡ old.aside → new.is_aside ≡ old.is_aside
+    → new.notes ≡ old.notes → new.numbers ≡ old.numbers → new.waiting.room ≡ old.waiting.room → Keeps brief s old st → Keeps brief s new st
+keeps-same brief s old new st text aside is_aside notes numbers waiting p = rw (text, aside, is_aside, notes, numbers, waiting) p
 
 -- more is written
-pub keeps-written : (s : List ℕ) (old new : Direct) (bytes : List ℕ) (st : State) → Writes old new bytes → Keeps s old st → Keeps s new st
-keeps-written s old new bytes st w p = (
-  notes-written old new bytes st w p.0,
+pub keeps-written : (brief : Bool) (s : List ℕ) (old new : Direct) (bytes : List ℕ) (st : State) → Writes old new bytes → Keeps brief s old st → Keeps brief s new st
+keeps-written brief s old new bytes st w p = (
+  notes-written brief old new bytes st w p.0,
   rooms-same s old new w.room (ap (λ l. l.room) w.aside) (ap (λ l. l.room) w.notes) (ap (λ l. length l.items) w.numbers)
       (ap (λ l. l.room) w.waiting) p.1,
 )
 
 -- the other text is written to
-pub keeps-turned : (s : List ℕ) (old new : Direct) (st : State) → new.text ≡ old.aside → new.aside ≡ old.text → new.is_aside ≡ not old.is_aside
-    → new.notes ≡ old.notes → new.numbers ≡ old.numbers → new.waiting.room ≡ old.waiting.room → Keeps s old st → Keeps s new st
-keeps-turned s old new st text aside is_aside notes numbers waiting p =
+pub keeps-turned : (brief : Bool) (s : List ℕ) (old new : Direct) (st : State) → new.text ≡ old.aside → new.aside ≡ old.text → new.is_aside ≡ not old.is_aside
+    → new.notes ≡ old.notes → new.numbers ≡ old.numbers → new.waiting.room ≡ old.waiting.room → Keeps brief s old st → Keeps brief s new st
+keeps-turned brief s old new st text aside is_aside notes numbers waiting p =
     let rooms : AreRooms s old.aside.room old.text.room old.notes.room (length old.numbers.items) old.waiting.room = record {
       text_is_within = p.1.aside_is_within;
       aside_is_within = p.1.text_is_within;
@@ -222,16 +222,16 @@ keeps-turned s old new st text aside is_aside notes numbers waiting p =
       waiting_is_within = p.1.waiting_is_within;
     } in
     rw (text, aside, is_aside, notes, numbers, waiting) (
-      notes-turned old.is_aside old.text.list.items old.aside.list.items old.notes.list.items old.numbers.items st.ended p.0,
+      notes-turned brief old.is_aside old.text.list.items old.aside.list.items old.notes.list.items old.numbers.items st.ended p.0,
       rooms,
     )
 
 -- something is noted
-pub keeps-noted : (s : List ℕ) (old new : Direct) (place from : ℕ) (forms : Forms) (st : State) (v : Value) (front bytes : List ℕ)
-    → Notes old new place from forms → Keeps s old st → old.text.list.items ≡ front ++ bytes → from ≡ length front → Says forms v bytes
-    → Keeps s new (with_ended place v st)
-keeps-noted s old new place from forms st v front bytes n p written from_is says = (
-  notes-noted old new place from forms st v front bytes n p.0 written from_is says,
+pub keeps-noted : (brief : Bool) (s : List ℕ) (old new : Direct) (place from : ℕ) (forms : Forms) (st : State) (v : Value) (front bytes : List ℕ)
+    → Notes old new place from forms → Keeps brief s old st → old.text.list.items ≡ front ++ bytes → from ≡ length front → Says brief forms v bytes
+    → Keeps brief s new (with_ended place v st)
+keeps-noted brief s old new place from forms st v front bytes n p written from_is says = (
+  notes-noted brief old new place from forms st v front bytes n p.0 written from_is says,
   rooms-same s old new (ap (λ l. l.room) n.text) (ap (λ l. l.room) n.aside) n.room
       (ap length n.numbers ∙ length-set old.numbers.items place (length old.notes.list.items + 1)) (ap (λ l. l.room) n.waiting) p.1,
 )

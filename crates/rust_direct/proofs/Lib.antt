@@ -1,3 +1,4 @@
+pub mod WrittenTexts
 pub mod PrintedPaths
 pub mod PrintedTypes
 pub mod PrintedSpecials

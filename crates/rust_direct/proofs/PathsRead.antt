@@ -21,65 +21,67 @@ use Rattle.rust_direct.specs.WriterInvariant.{Stands, IsWriting, parked_of}
 use Rattle.rust_direct.specs.Awaits.{Awaits, AwaitsPath, Arrives, IsEnded, IsEndedWithRoom}
 use Rattle.rust_direct.proofs.Kept.{keeps-same, keeps-written, keeps-noted, reverse-last}
 use Rattle.rust_direct.proofs.Moves.{expects-moved, identifier-comes, crate-comes, nest_awaits, nest-opens, nest-goes-on}
+use Rattle.sym_direct.specs.Marked.{IsUnmarked}
+use Rattle.rust_direct.proofs.WrittenTexts.{name-unmarked}
 use Rattle.rust_direct.proofs.PrintedPaths.{crate-prints, nested-prints, nested-room, unnamed-prints}
 
 -- ## What is known of what was read
 
 -- a path has a text in the forms that are named
-pub path-held : (f : Forms) (v : Value) (bytes : List ℕ) → is_path f ≡ true → Holds f v bytes → (p : tree.Path) × (v ≡ a_path p) × PathHas f p bytes
-path-held forms.Alike v bytes is h = h
-path-held forms.Valued v bytes is h = h
-path-held forms.Plain v bytes is h = h
-path-held forms.Typed v bytes is h = absurd (false≢true is)
-path-held forms.Unnamed v bytes is h = absurd (false≢true is)
+pub path-held : (brief : Bool) (f : Forms) (v : Value) (bytes : List ℕ) → is_path f ≡ true → Holds brief f v bytes → (p : tree.Path) × (v ≡ a_path p) × PathHas brief f p bytes
+path-held brief forms.Alike v bytes is h = h
+path-held brief forms.Valued v bytes is h = h
+path-held brief forms.Plain v bytes is h = h
+path-held brief forms.Typed v bytes is h = absurd (false≢true is)
+path-held brief forms.Unnamed v bytes is h = absurd (false≢true is)
 
 -- a path has a text in a form
-pub form-held : (value : Bool) (f : Forms) (v : Value) (bytes : List ℕ) → has_form value f ≡ true → Holds f v bytes
-    → (p : tree.Path) × (v ≡ a_path p) × PathPrints value p bytes
-form-held true forms.Alike v bytes is h = (h.0, h.1, h.2.0)
-form-held false forms.Alike v bytes is h = (h.0, h.1, h.2.1)
-form-held true forms.Valued v bytes is h = h
-form-held false forms.Valued v bytes is h = absurd (false≢true is)
-form-held true forms.Plain v bytes is h = absurd (false≢true is)
-form-held false forms.Plain v bytes is h = h
-form-held true forms.Typed v bytes is h = absurd (false≢true is)
-form-held false forms.Typed v bytes is h = absurd (false≢true is)
-form-held true forms.Unnamed v bytes is h = absurd (false≢true is)
-form-held false forms.Unnamed v bytes is h = absurd (false≢true is)
+pub form-held : (brief : Bool) (value : Bool) (f : Forms) (v : Value) (bytes : List ℕ) → has_form value f ≡ true → Holds brief f v bytes
+    → (p : tree.Path) × (v ≡ a_path p) × PathPrints brief value p bytes
+form-held brief true forms.Alike v bytes is h = (h.0, h.1, h.2.0)
+form-held brief false forms.Alike v bytes is h = (h.0, h.1, h.2.1)
+form-held brief true forms.Valued v bytes is h = h
+form-held brief false forms.Valued v bytes is h = absurd (false≢true is)
+form-held brief true forms.Plain v bytes is h = absurd (false≢true is)
+form-held brief false forms.Plain v bytes is h = h
+form-held brief true forms.Typed v bytes is h = absurd (false≢true is)
+form-held brief false forms.Typed v bytes is h = absurd (false≢true is)
+form-held brief true forms.Unnamed v bytes is h = absurd (false≢true is)
+form-held brief false forms.Unnamed v bytes is h = absurd (false≢true is)
 
 -- a path with its texts is noted and handed on
-pub path-says : (f : Forms) (p : tree.Path) (bytes : List ℕ) → is_path f ≡ true → PathHas f p bytes → Says f (a_path p) bytes × Holds f (a_path p) bytes
-path-says forms.Alike p bytes is h = ((p, refl, h), (p, refl, h))
-path-says forms.Valued p bytes is h = ((p, refl, h), (p, refl, h))
-path-says forms.Plain p bytes is h = ((p, refl, h), (p, refl, h))
-path-says forms.Typed p bytes is h = absurd h
-path-says forms.Unnamed p bytes is h = absurd h
+pub path-says : (brief : Bool) (f : Forms) (p : tree.Path) (bytes : List ℕ) → is_path f ≡ true → PathHas brief f p bytes → Says brief f (a_path p) bytes × Holds brief f (a_path p) bytes
+path-says brief forms.Alike p bytes is h = ((p, refl, h), (p, refl, h))
+path-says brief forms.Valued p bytes is h = ((p, refl, h), (p, refl, h))
+path-says brief forms.Plain p bytes is h = ((p, refl, h), (p, refl, h))
+path-says brief forms.Typed p bytes is h = absurd h
+path-says brief forms.Unnamed p bytes is h = absurd h
 
 -- ## What waits
 
 -- what is open stays so where a text is written
-pub stands-written : (s : List ℕ) (old new : Direct) (bytes : List ℕ) (os : List Opened) (text : List ℕ) → Writes old new bytes
-    → Stands s (reverse old.waiting.list.items) os text (parked_of old) → Stands s (reverse new.waiting.list.items) os text (parked_of new)
-stands-written s old new bytes os text writes h =
-    subst (λ w. Stands s (reverse w.list.items) os text (parked_of new)) (sym writes.waiting)
-    (subst (λ b. Stands s (reverse old.waiting.list.items) os text (cond b new.aside.list.items [])) (sym writes.is_aside)
-    (subst (λ a. Stands s (reverse old.waiting.list.items) os text (cond old.is_aside a.list.items [])) (sym writes.aside) h))
+pub stands-written : (brief : Bool) (s : List ℕ) (old new : Direct) (bytes : List ℕ) (os : List Opened) (text : List ℕ) → Writes old new bytes
+    → Stands brief s (reverse old.waiting.list.items) os text (parked_of old) → Stands brief s (reverse new.waiting.list.items) os text (parked_of new)
+stands-written brief s old new bytes os text writes h =
+    subst (λ w. Stands brief s (reverse w.list.items) os text (parked_of new)) (sym writes.waiting)
+    (subst (λ b. Stands brief s (reverse old.waiting.list.items) os text (cond b new.aside.list.items [])) (sym writes.is_aside)
+    (subst (λ a. Stands brief s (reverse old.waiting.list.items) os text (cond old.is_aside a.list.items [])) (sym writes.aside) h))
 
 -- what waited is this
-pub waited-for : (s : List ℕ) (w : Direct) (entry known : Open) (from : ℕ) (f : Forms) → entry ≡ known → Arrives s w entry from f → Arrives s w known from f
-waited-for s w entry known from f is = subst (λ e. Arrives s w e from f) is
+pub waited-for : (brief : Bool) (s : List ℕ) (w : Direct) (entry known : Open) (from : ℕ) (f : Forms) → entry ≡ known → Arrives brief s w entry from f → Arrives brief s w known from f
+waited-for brief s w entry known from f is = subst (λ e. Arrives brief s w e from f) is
 
 -- something waits from here on
-pub waits-too : (s : List ℕ) (old new : List Open) (entry : Open) (os : List Opened) (text parked : List ℕ) → new ≡ old ++ entry ∷ []
-    → Stands s (entry ∷ reverse old) os text parked → Stands s (reverse new) os text parked
-waits-too s old new entry os text parked is h = subst (λ ws. Stands s ws os text parked) (sym (ap reverse is ∙ reverse-last old entry)) h
+pub waits-too : (brief : Bool) (s : List ℕ) (old new : List Open) (entry : Open) (os : List Opened) (text parked : List ℕ) → new ≡ old ++ entry ∷ []
+    → Stands brief s (entry ∷ reverse old) os text parked → Stands brief s (reverse new) os text parked
+waits-too brief s old new entry os text parked is h = subst (λ ws. Stands brief s ws os text parked) (sym (ap reverse is ∙ reverse-last old entry)) h
 
 -- what was read is noted
-pub ended-writing : (s : List ℕ) (old new : Direct) (place from : ℕ) (noted f : Forms) → IsEnded s old place from noted f → Notes old new place from noted
-    → IsWriting s new (steps.Value from f)
-ended-writing s old new place from noted f p n = record {
+pub ended-writing : (brief : Bool) (s : List ℕ) (old new : Direct) (place from : ℕ) (noted f : Forms) → IsEnded brief s old place from noted f → Notes old new place from noted
+    → IsWriting brief s new (steps.Value from f)
+ended-writing brief s old new place from noted f p n = record {
   state = with_ended place p.v p.before;
-  keeps = keeps-noted s old new place from noted p.before p.v p.front p.bytes n p.keeps p.written p.from_is p.says;
+  keeps = keeps-noted brief s old new place from noted p.before p.v p.front p.bytes n p.keeps p.written p.from_is p.says;
   is_before = record {
     os = p.os;
     v = p.v;
@@ -95,18 +97,19 @@ ended-writing s old new place from noted f p n = record {
 
 -- ## Crates
 
-pub crate-ended : (s : List ℕ) (old middle : Direct) (from count behind_ : ℕ) (name : List ℕ) (end : ℕ) → AwaitsPath s old → StandsAt s old.at (67 ∷ [])
+pub crate-ended : (brief : Bool) (s : List ℕ) (old middle : Direct) (from count behind_ : ℕ) (name : List ℕ) (end : ℕ) → AwaitsPath brief s old → StandsAt s old.at (67 ∷ [])
     → IsDisambiguatorAt s (old.at + 1) count behind_ → IsNameAt s behind_ name end → 1 ≤ length name → from ≡ length old.text.list.items
-    → Writes old middle name → IsEnded s (record middle { at = end }) old.at from forms.Alike forms.Alike
-crate-ended s old middle from count behind_ name end awaits letter counted named filled from_is writes =
+    → Writes old middle name → IsEnded brief s (record middle { at = end }) old.at from forms.Alike forms.Alike
+crate-ended brief s old middle from count behind_ name end awaits letter counted named filled from_is writes =
     let a = awaits.1 in
     let r = a.awaited in
     let p = tree.crate_root (identifier count name) in
-    let has : PathHas forms.Alike p name = (crate-prints true count name filled, crate-prints false count name filled) in
-    let told = path-says forms.Alike p name refl has in
+    let plain = name-unmarked s behind_ name end named in
+    let has : PathHas brief forms.Alike p name = (crate-prints brief true count name filled plain, crate-prints brief false count name filled plain) in
+    let told = path-says brief forms.Alike p name refl has in
     record {
       before = a.state;
-      keeps = keeps-written s old middle name a.state writes a.keeps;
+      keeps = keeps-written brief s old middle name a.state writes a.keeps;
       os = r.os;
       v = a_path p;
       front = old.text.list.items;
@@ -116,74 +119,74 @@ crate-ended s old middle from count behind_ name end awaits letter counted named
       says = told.0;
       holds = told.1;
       comes = crate-comes s r.wanted r.os old.at a.state count behind_ name end r.awaits letter counted named;
-      stands = stands-written s old middle name r.os old.text.list.items writes r.stands;
+      stands = stands-written brief s old middle name r.os old.text.list.items writes r.stands;
     }
 
 -- ## Paths in a namespace
 
-pub nest-begun : (s : List ℕ) (old new : Direct) (b : ℕ) → AwaitsPath s old → StandsAt s old.at (78 ∷ [])
+pub nest-begun : (brief : Bool) (s : List ℕ) (old new : Direct) (b : ℕ) → AwaitsPath brief s old → StandsAt s old.at (78 ∷ [])
     → StandsAt s (old.at + 1) (b ∷ []) → is_namespace b ≡ true → new.waiting.list.items ≡ old.waiting.list.items ++ opens.Nest b old.at ∷ []
     → new.waiting.room ≡ old.waiting.room → new.at ≡ old.at + 1 + 1 → new.text ≡ old.text → new.aside ≡ old.aside → new.is_aside ≡ old.is_aside
-    → new.notes ≡ old.notes → new.numbers ≡ old.numbers → Awaits s new false
-nest-begun s old new b awaits letter there is waiting room at text aside is_aside notes numbers =
+    → new.notes ≡ old.notes → new.numbers ≡ old.numbers → Awaits brief s new false
+nest-begun brief s old new b awaits letter there is waiting room at text aside is_aside notes numbers =
     let a = awaits.1 in
     let r = a.awaited in
     record {
       state = within Production.Nested a.state;
-      keeps = keeps-same s old new a.state text aside is_aside notes numbers room a.keeps;
+      keeps = keeps-same brief s old new a.state text aside is_aside notes numbers room a.keeps;
       awaited = record {
         wanted = path;
         is_for = refl;
         os = nest_awaits b old.at a.state r.os;
         awaits = expects-moved s PATH (nest_awaits b old.at a.state r.os) (old.at + 1 + 1) new.at (within Production.Nested a.state) (sym at)
             (nest-opens s r.wanted r.os old.at b a.state r.awaits letter there is);
-        stands = waits-too s old.waiting.list.items new.waiting.list.items (opens.Nest b old.at) (nest_awaits b old.at a.state r.os) new.text.list.items
+        stands = waits-too brief s old.waiting.list.items new.waiting.list.items (opens.Nest b old.at) (nest_awaits b old.at a.state r.os) new.text.list.items
             (parked_of new) waiting
             (r.os, (λ p here now comes. nest-goes-on s r.os b old.at a.state p here now comes), rw (text, aside, is_aside) r.stands);
       };
     }
 
-nested-has : (f : Forms) (letter : ℕ) (p : tree.Path) (bytes : List ℕ) (count : ℕ) (name : List ℕ) → is_path f ≡ true → 97 ≤ letter → 1 ≤ length name
-    → PathHas f p bytes → PathHas f (tree.nested letter p (identifier count name)) (bytes ++ codes "::" ++ name)
-nested-has forms.Alike letter p bytes count name is lower filled h = (
-  nested-prints true letter p bytes count name (le-leb 97 letter lower) filled h.0,
-  nested-prints false letter p bytes count name (le-leb 97 letter lower) filled h.1,
+nested-has : (brief : Bool) (f : Forms) (letter : ℕ) (p : tree.Path) (bytes : List ℕ) (count : ℕ) (name : List ℕ) → is_path f ≡ true → 97 ≤ letter → 1 ≤ length name
+    → IsUnmarked name → PathHas brief f p bytes → PathHas brief f (tree.nested letter p (identifier count name)) (bytes ++ codes "::" ++ name)
+nested-has brief forms.Alike letter p bytes count name is lower filled plain h = (
+  nested-prints brief true letter p bytes count name (le-leb 97 letter lower) filled plain h.0,
+  nested-prints brief false letter p bytes count name (le-leb 97 letter lower) filled plain h.1,
 )
-nested-has forms.Valued letter p bytes count name is lower filled h = nested-prints true letter p bytes count name (le-leb 97 letter lower) filled h
-nested-has forms.Plain letter p bytes count name is lower filled h = nested-prints false letter p bytes count name (le-leb 97 letter lower) filled h
-nested-has forms.Typed letter p bytes count name is lower filled h = absurd (false≢true is)
-nested-has forms.Unnamed letter p bytes count name is lower filled h = absurd (false≢true is)
+nested-has brief forms.Valued letter p bytes count name is lower filled plain h = nested-prints brief true letter p bytes count name (le-leb 97 letter lower) filled plain h
+nested-has brief forms.Plain letter p bytes count name is lower filled plain h = nested-prints brief false letter p bytes count name (le-leb 97 letter lower) filled plain h
+nested-has brief forms.Typed letter p bytes count name is lower filled plain h = absurd (false≢true is)
+nested-has brief forms.Unnamed letter p bytes count name is lower filled plain h = absurd (false≢true is)
 
-nested-rooms : (f : Forms) (letter : ℕ) (p : tree.Path) (bytes : List ℕ) (count : ℕ) (name : List ℕ) → is_path f ≡ true → 97 ≤ letter → 1 ≤ length name
-    → PathHas f p bytes → HaveRoom f (tree.nested letter p (identifier count name)) (bytes ++ codes "::" ++ name)
-nested-rooms forms.Alike letter p bytes count name is lower filled h = (
-  nested-room true letter p bytes count name (le-leb 97 letter lower) filled h.0,
-  nested-room false letter p bytes count name (le-leb 97 letter lower) filled h.1,
+nested-rooms : (brief : Bool) (f : Forms) (letter : ℕ) (p : tree.Path) (bytes : List ℕ) (count : ℕ) (name : List ℕ) → is_path f ≡ true → 97 ≤ letter → 1 ≤ length name
+    → PathHas brief f p bytes → HaveRoom brief f (tree.nested letter p (identifier count name)) (bytes ++ codes "::" ++ name)
+nested-rooms brief forms.Alike letter p bytes count name is lower filled h = (
+  nested-room brief true letter p bytes count name (le-leb 97 letter lower) filled h.0,
+  nested-room brief false letter p bytes count name (le-leb 97 letter lower) filled h.1,
 )
-nested-rooms forms.Valued letter p bytes count name is lower filled h = nested-room true letter p bytes count name (le-leb 97 letter lower) filled h
-nested-rooms forms.Plain letter p bytes count name is lower filled h = nested-room false letter p bytes count name (le-leb 97 letter lower) filled h
-nested-rooms forms.Typed letter p bytes count name is lower filled h = absurd (false≢true is)
-nested-rooms forms.Unnamed letter p bytes count name is lower filled h = absurd (false≢true is)
+nested-rooms brief forms.Valued letter p bytes count name is lower filled h = nested-room brief true letter p bytes count name (le-leb 97 letter lower) filled h
+nested-rooms brief forms.Plain letter p bytes count name is lower filled h = nested-room brief false letter p bytes count name (le-leb 97 letter lower) filled h
+nested-rooms brief forms.Typed letter p bytes count name is lower filled h = absurd (false≢true is)
+nested-rooms brief forms.Unnamed letter p bytes count name is lower filled h = absurd (false≢true is)
 
 -- its name is read
-pub nest-named : (s : List ℕ) (old middle last : Direct) (letter place from : ℕ) (f : Forms) (count behind_ : ℕ) (name : List ℕ) (end : ℕ)
-    → Arrives s old (opens.Nest letter place) from f → is_path f ≡ true → 97 ≤ letter → IsDisambiguatorAt s old.at count behind_
+pub nest-named : (brief : Bool) (s : List ℕ) (old middle last : Direct) (letter place from : ℕ) (f : Forms) (count behind_ : ℕ) (name : List ℕ) (end : ℕ)
+    → Arrives brief s old (opens.Nest letter place) from f → is_path f ≡ true → 97 ≤ letter → IsDisambiguatorAt s old.at count behind_
     → IsNameAt s behind_ name end → 1 ≤ length name → Writes old middle (codes "::") → Writes middle last name
-    → IsEndedWithRoom s (record last { at = end }) place from f
-nest-named s old middle last letter place from f count behind_ name end arrives is lower counted named filled first second =
+    → IsEndedWithRoom brief s (record last { at = end }) place from f
+nest-named brief s old middle last letter place from f count behind_ name end arrives is lower counted named filled first second =
     let r = arrives.read in
-    let held = path-held f r.v r.bytes is r.holds in
+    let held = path-held brief f r.v r.bytes is r.holds in
     let p = held.0 in
     let made = tree.nested letter p (identifier count name) in
     let waits = r.stands in
     let goes = waits.1 p old.at arrives.state (subst (λ v. Comes s r.os v old.at arrives.state) held.1 r.comes) in
     let one = identifier-comes s goes.inner old.at (within Production.Nested arrives.state) count behind_ name end counted named goes.awaits in
-    let has = nested-has f letter p r.bytes count name is lower filled held.2 in
-    let told = path-says f made (r.bytes ++ codes "::" ++ name) is has in
-    let ended : IsEnded s (record last { at = end }) place from f f = record {
+    let has = nested-has brief f letter p r.bytes count name is lower filled (name-unmarked s behind_ name end named) held.2 in
+    let told = path-says brief f made (r.bytes ++ codes "::" ++ name) is has in
+    let ended : IsEnded brief s (record last { at = end }) place from f f = record {
       before = arrives.state;
-      keeps = keeps-written s middle last name arrives.state second
-          (keeps-written s old middle (codes "::") arrives.state first arrives.keeps);
+      keeps = keeps-written brief s middle last name arrives.state second
+          (keeps-written brief s old middle (codes "::") arrives.state first arrives.keeps);
       os = waits.0;
       v = a_path made;
       front = r.front;
@@ -194,28 +197,28 @@ nest-named s old middle last letter place from f count behind_ name end arrives 
       says = told.0;
       holds = told.1;
       comes = goes.onward one.0 (identifier count name) end (behind (within Production.Nested arrives.state)) one.1 one.2;
-      stands = stands-written s middle last name waits.0 r.front second (stands-written s old middle (codes "::") waits.0 r.front first waits.2);
+      stands = stands-written brief s middle last name waits.0 r.front second (stands-written brief s old middle (codes "::") waits.0 r.front first waits.2);
     } in
-    record { ended = ended; p = made; is = refl; has = has; room = nested-rooms f letter p r.bytes count name is lower filled held.2 }
+    record { ended = ended; p = made; is = refl; has = has; room = nested-rooms brief f letter p r.bytes count name is lower filled held.2 }
 
-unnamed-has : (f : Forms) (letter : ℕ) (p : tree.Path) (bytes : List ℕ) (count : ℕ) → 97 ≤ letter → PathHas f p bytes → HaveRoom f p bytes
-    → PathHas f (tree.nested letter p (identifier count [])) bytes
-unnamed-has forms.Alike letter p bytes count lower h room = (
-  unnamed-prints true letter p bytes count (le-leb 97 letter lower) h.0 room.0,
-  unnamed-prints false letter p bytes count (le-leb 97 letter lower) h.1 room.1,
+unnamed-has : (brief : Bool) (f : Forms) (letter : ℕ) (p : tree.Path) (bytes : List ℕ) (count : ℕ) → 97 ≤ letter → PathHas brief f p bytes → HaveRoom brief f p bytes
+    → PathHas brief f (tree.nested letter p (identifier count [])) bytes
+unnamed-has brief forms.Alike letter p bytes count lower h room = (
+  unnamed-prints brief true letter p bytes count (le-leb 97 letter lower) h.0 room.0,
+  unnamed-prints brief false letter p bytes count (le-leb 97 letter lower) h.1 room.1,
 )
-unnamed-has forms.Valued letter p bytes count lower h room = unnamed-prints true letter p bytes count (le-leb 97 letter lower) h room
-unnamed-has forms.Plain letter p bytes count lower h room = unnamed-prints false letter p bytes count (le-leb 97 letter lower) h room
-unnamed-has forms.Typed letter p bytes count lower h room = absurd h
-unnamed-has forms.Unnamed letter p bytes count lower h room = absurd h
+unnamed-has brief forms.Valued letter p bytes count lower h room = unnamed-prints brief true letter p bytes count (le-leb 97 letter lower) h room
+unnamed-has brief forms.Plain letter p bytes count lower h room = unnamed-prints brief false letter p bytes count (le-leb 97 letter lower) h room
+unnamed-has brief forms.Typed letter p bytes count lower h room = absurd h
+unnamed-has brief forms.Unnamed letter p bytes count lower h room = absurd h
 
 -- what has a form of a path is one
-is-of-path : (f : Forms) (p : tree.Path) (bytes : List ℕ) → PathHas f p bytes → is_path f ≡ true
-is-of-path forms.Alike p bytes h = refl
-is-of-path forms.Valued p bytes h = refl
-is-of-path forms.Plain p bytes h = refl
-is-of-path forms.Typed p bytes h = absurd h
-is-of-path forms.Unnamed p bytes h = absurd h
+is-of-path : (brief : Bool) (f : Forms) (p : tree.Path) (bytes : List ℕ) → PathHas brief f p bytes → is_path f ≡ true
+is-of-path brief forms.Alike p bytes h = refl
+is-of-path brief forms.Valued p bytes h = refl
+is-of-path brief forms.Plain p bytes h = refl
+is-of-path brief forms.Typed p bytes h = absurd h
+is-of-path brief forms.Unnamed p bytes h = absurd h
 
 -- what has no bytes between its places
 pub piece-empty : (s : List ℕ) (from to : ℕ) → to ≤ from → take (to - from) (drop from s) ≡ []
@@ -224,29 +227,29 @@ piece-empty s from to none =
     ap (λ n. take n (drop from s)) nothing
 
 -- Its name is read and noted, and an empty one follows, of what it is the parent of.
-pub unnamed-read : (s : List ℕ) (old noted taken : Direct) (place from : ℕ) (f : Forms) (o : Option Open) (letter outer end : ℕ)
-    → IsEndedWithRoom s old place from f → Notes old noted place from f
+pub unnamed-read : (brief : Bool) (s : List ℕ) (old noted taken : Direct) (place from : ℕ) (f : Forms) (o : Option Open) (letter outer end : ℕ)
+    → IsEndedWithRoom brief s old place from f → Notes old noted place from f
     → noted.waiting.list.items ≡ taken.waiting.list.items ++ option_to_list o → o ≡ Some (opens.Nest letter outer)
     → taken.text ≡ noted.text → taken.aside ≡ noted.aside → taken.is_aside ≡ noted.is_aside → taken.notes ≡ noted.notes
     → taken.numbers ≡ noted.numbers → taken.waiting.room ≡ noted.waiting.room → taken.at ≡ noted.at → 97 ≤ letter → IsNameAt s taken.at [] end
-    → IsEnded s (record taken { at = end }) outer from f f
-unnamed-read s old noted taken place from f o letter outer end h n items is text aside is_aside notes numbers room at lower named =
+    → IsEnded brief s (record taken { at = end }) outer from f f
+unnamed-read brief s old noted taken place from f o letter outer end h n items is text aside is_aside notes numbers room at lower named =
     let e = h.ended in
     let st = with_ended place e.v e.before in
     let turned : reverse old.waiting.list.items ≡ opens.Nest letter outer ∷ reverse taken.waiting.list.items =
     ap (λ w. reverse w.list.items) (sym n.waiting) ∙ ap reverse (items ∙ ap (λ x. taken.waiting.list.items ++ option_to_list x) is)
     ∙ reverse-last taken.waiting.list.items (opens.Nest letter outer) in
-    let waits : Stands s (opens.Nest letter outer ∷ reverse taken.waiting.list.items) e.os e.front (parked_of old) =
-    subst (λ ws. Stands s ws e.os e.front (parked_of old)) turned e.stands in
+    let waits : Stands brief s (opens.Nest letter outer ∷ reverse taken.waiting.list.items) e.os e.front (parked_of old) =
+    subst (λ ws. Stands brief s ws e.os e.front (parked_of old)) turned e.stands in
     let made = tree.nested letter h.p (identifier 0 []) in
     let goes = waits.1 h.p old.at st (subst (λ v. Comes s e.os v old.at st) h.is e.comes) in
     let one = identifier-comes s goes.inner old.at (within Production.Nested st) 0 old.at [] end (inl (refl, refl))
     (subst (λ k. IsNameAt s k [] end) (at ∙ n.at) named) goes.awaits in
-    let told = path-says f made e.bytes (is-of-path f h.p e.bytes h.has) (unnamed-has f letter h.p e.bytes 0 lower h.has h.room) in
+    let told = path-says brief f made e.bytes (is-of-path brief f h.p e.bytes h.has) (unnamed-has brief f letter h.p e.bytes 0 lower h.has h.room) in
     record {
       before = st;
-      keeps = keeps-same s noted (record taken { at = end }) st text aside is_aside notes numbers room
-          (keeps-noted s old noted place from f e.before e.v e.front e.bytes n e.keeps e.written e.from_is e.says);
+      keeps = keeps-same brief s noted (record taken { at = end }) st text aside is_aside notes numbers room
+          (keeps-noted brief s old noted place from f e.before e.v e.front e.bytes n e.keeps e.written e.from_is e.says);
       os = waits.0;
       v = a_path made;
       front = e.front;
@@ -261,11 +264,11 @@ unnamed-read s old noted taken place from f o letter outer end h n items is text
 
 -- ## What is expected
 
-pub plain-awaited : (s : List ℕ) (w : Direct) (is_value : Bool) → IsWriting s w (steps.Path is_value) → Awaits s w false
-plain-awaited s w is_value p = record { state = p.state; keeps = p.keeps; awaited = p.is_before }
+pub plain-awaited : (brief : Bool) (s : List ℕ) (w : Direct) (is_value : Bool) → IsWriting brief s w (steps.Path is_value) → Awaits brief s w false
+plain-awaited brief s w is_value p = record { state = p.state; keeps = p.keeps; awaited = p.is_before }
 
-pub type-awaited : (s : List ℕ) (w : Direct) → IsWriting s w steps.Type → Awaits s w true
-type-awaited s w p = record { state = p.state; keeps = p.keeps; awaited = p.is_before }
+pub type-awaited : (brief : Bool) (s : List ℕ) (w : Direct) → IsWriting brief s w steps.Type → Awaits brief s w true
+type-awaited brief s w p = record { state = p.state; keeps = p.keeps; awaited = p.is_before }
 
-pub type-path-awaited : (s : List ℕ) (w : Direct) → IsWriting s w steps.Type → AwaitsPath s w
-type-path-awaited s w p = (true, type-awaited s w p)
+pub type-path-awaited : (brief : Bool) (s : List ℕ) (w : Direct) → IsWriting brief s w steps.Type → AwaitsPath brief s w
+type-path-awaited brief s w p = (true, type-awaited brief s w p)

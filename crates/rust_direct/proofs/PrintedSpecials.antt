@@ -1,19 +1,21 @@
 -- Closures, shims and constants of which the text is known.
-use Rattle.std.proofs.Common.{◌≡◌, refl, ap, sym, ◌∙◌, ℕ, ◌+◌, ◌≤◌, List, [], ◌∷◌, ◌++◌, length, Bool, true, false, arith, codes, length-append, append-nil, append_assoc, nat_le}
+use Rattle.std.proofs.Common.{◌≡◌, refl, ap, sym, subst, ◌∙◌, ℕ, ◌+◌, ◌≤◌, List, [], ◌∷◌, ◌++◌, length, Bool, true, false, arith, codes, length-append, append-nil, append_assoc, nat_le}
 use Rattle.std.specs.Prelude.{decimal}
 use Rattle.std.proofs.lemmas.Fmt.{decimal_nonempty}
 use Rattle.sym_core.specs.Printed.{signed_text}
-use Rattle.sym_print.specs.declared.detail.Detail.TheVariants.{Full}
 use Rattle.sym_print.specs.Unshared.{Unshared, done, text_of, cost_of, cost_of_parts}
 use Rattle.sym_print.specs.Building.{◌then◌, ◌also◌}
 use Rattle.rust_tree.specs.Symbol.{Identifier, Path, nested, integer, boolean, placeholder, constant_argument, Arguments, Constant}
 use Rattle.rust_tree.specs.Need.{need}
 use Rattle.rust_tree.specs.Shown.{path_parts, constant_parts, arguments_from, namespace_text, name_behind, nested_name}
 use Rattle.rust_grammar.specs.Unfold.{greatest_u64}
-use Rattle.rust_direct.specs.Prints.{Shows, PathPrints, ArgumentsBegin}
+use Rattle.rust_direct.specs.Prints.{detail_by, IsWrittenAs, Spells, text_of_some, PathPrints, ArgumentsBegin}
 use Rattle.rust_direct.specs.Specials.{behind_colon, special_text}
 use Rattle.rust_direct.specs.Constants.{sign_text}
-use Rattle.rust_direct.proofs.PrintedPaths.{then-text, then-cost, one-text, one-cost}
+use Rattle.sym_direct.specs.Marked.{IsUnmarked}
+use Rattle.sym_direct.proofs.Seen.{unmarked-append}
+use Rattle.rust_direct.proofs.WrittenTexts.{then-text, written-before, written-spelled, one-written, after-others, decimal-unmarked}
+use Rattle.rust_direct.proofs.PrintedPaths.{then-cost, one-cost}
 
 -- ## Closures and shims
 
@@ -68,18 +70,19 @@ special-cost namespace name count = omega (
 )
 
 -- A closure or a shim prints its parent, its namespace, its name and its number.
-pub special-prints : (value : Bool) (letter : ℕ) (p : Path) (bytes : List ℕ) (count : ℕ) (name : List ℕ) → nat_le 97 letter ≡ false
-    → PathPrints value p bytes
-    → PathPrints value (nested letter p (named count name)) (bytes ++ special_text (namespace_text letter) name count)
+pub special-prints : (brief : Bool) (value : Bool) (letter : ℕ) (p : Path) (bytes : List ℕ) (count : ℕ) (name : List ℕ) → nat_le 97 letter ≡ false
+    → IsUnmarked (special_text (namespace_text letter) name count) → PathPrints brief value p bytes
+    → PathPrints brief value (nested letter p (named count name)) (bytes ++ special_text (namespace_text letter) name count)
 unfolding path_parts need
-special-prints value letter p bytes count name upper prints =
-    let parent = path_parts Full 0 value p in
+special-prints brief value letter p bytes count name upper plain prints =
+    let parent = path_parts (detail_by brief) 0 value p in
     let namespace = namespace_text letter in
     record {
       shows = record {
-        text_is = ap (λ l. text_of (parent also nested_name l letter (named count name) done)) upper
-            ∙ ap (λ l. l ++ text_of (codes "::{" then namespace then name_behind (codes ":") name (numbered count))) prints.shows.text_is
-            ∙ ap (λ l. bytes ++ l) (special-shown namespace name count);
+        text_is = subst (λ l. IsWrittenAs brief (text_of (parent also nested_name l letter (named count name) done)) (bytes ++ special_text namespace name count))
+            (sym upper)
+            (subst (λ l. IsWrittenAs brief (text_of parent ++ l) (bytes ++ special_text namespace name count)) (sym (special-shown namespace name count))
+            (written-before brief (text_of parent) bytes (special_text namespace name count) plain prints.shows.text_is));
         cost = omega (
           arith,
           prints.shows.cost,
@@ -94,12 +97,17 @@ special-prints value letter p bytes count name upper prints =
 
 -- ## Constants
 
+sign-unmarked : (minus : Bool) → IsUnmarked (sign_text minus)
+sign-unmarked true = refl
+sign-unmarked false = refl
+
 -- An integer prints its sign and its digits.
 pub integer-prints : (letter : ℕ) (minus : Bool) (n : ℕ) → n ≤ greatest_u64
-    → Shows (constant_parts (integer letter minus n)) (sign_text minus ++ decimal n)
+    → Spells (constant_parts (integer letter minus n)) (sign_text minus ++ decimal n)
 unfolding constant_parts
 integer-prints letter minus n small = record {
   text_is = then-text (signed_text minus n) done ∙ append-nil (signed_text minus n);
+  plain = unmarked-append (sign_text minus) (decimal n) (sign-unmarked minus) (decimal-unmarked n (omega (arith, small)));
   cost = omega (
     arith,
     then-cost (signed_text minus n) done,
@@ -108,29 +116,32 @@ integer-prints letter minus n small = record {
   );
 }
 
-pub false-prints : Shows (constant_parts (boolean false)) (codes "false")
+pub false-prints : Spells (constant_parts (boolean false)) (codes "false")
 unfolding constant_parts
-false-prints = record { text_is = refl; cost = omega arith }
+false-prints = record { text_is = refl; plain = refl; cost = omega arith }
 
-pub true-prints : Shows (constant_parts (boolean true)) (codes "true")
+pub true-prints : Spells (constant_parts (boolean true)) (codes "true")
 unfolding constant_parts
-true-prints = record { text_is = refl; cost = omega arith }
+true-prints = record { text_is = refl; plain = refl; cost = omega arith }
 
-pub placeholder-prints : Shows (constant_parts placeholder) (codes "_")
+pub placeholder-prints : Spells (constant_parts placeholder) (codes "_")
 unfolding constant_parts
-placeholder-prints = record { text_is = refl; cost = omega arith }
+placeholder-prints = record { text_is = refl; plain = refl; cost = omega arith }
 
 -- a constant after other arguments
-pub constant-begins : (made : Arguments → Arguments) (separator bytes : List ℕ) (c : Constant) (own : List ℕ) → ArgumentsBegin made separator bytes
-    → Shows (constant_parts c) own → ArgumentsBegin (λ r. made (constant_argument c r)) (codes ", ") (bytes ++ separator ++ own)
+pub constant-begins : (brief : Bool) (made : Arguments → Arguments) (separator bytes : List ℕ) (c : Constant) (own : List ℕ) → ArgumentsBegin brief made separator bytes
+    → Spells (constant_parts c) own → ArgumentsBegin brief (λ r. made (constant_argument c r)) (codes ", ") (bytes ++ separator ++ own)
 unfolding path_parts need
-constant-begins made separator bytes c own begin shows = record {
-  text_is = λ rest. begin.text_is (constant_argument c rest)
-      ∙ one-text separator bytes own [] (constant_parts c) (arguments_from Full 0 (codes ", ") rest) shows.text_is;
+constant-begins brief made separator bytes c own begin shows = record {
+  plain = refl;
+  text_is = λ rest more p. subst (λ l. IsWrittenAs brief (text_of_some (arguments_from (detail_by brief) 0 [] (made (constant_argument c rest)))) l)
+      (after-others bytes separator own more) (begin.text_is (constant_argument c rest) (separator ++ (own ++ more))
+      (one-written brief separator own more (constant_parts c) (arguments_from (detail_by brief) 0 (codes ", ") rest) begin.plain
+      (written-spelled brief (text_of (constant_parts c)) own shows.text_is shows.plain) p));
   cost = λ rest. omega (
     arith,
     begin.cost (constant_argument c rest),
-    one-cost separator bytes own (constant_parts c) (arguments_from Full 0 (codes ", ") rest) shows.cost,
+    one-cost separator bytes own (constant_parts c) (arguments_from (detail_by brief) 0 (codes ", ") rest) shows.cost,
   );
   needs_none = λ rest h. begin.needs_none (constant_argument c rest) h;
 }

@@ -1,5 +1,5 @@
 -- Closures and shims that were read and written.
-use Rattle.std.proofs.Common.{◌≡◌, ℕ, List, [], ◌∷◌, ◌++◌, length, true, false, refl, ap, sym, subst, ◌∙◌, append_assoc, append-nil, codes, nat_le}
+use Rattle.std.proofs.Common.{◌<◌, ◌≤◌, ◌^◌, inl, inr, arith, ◌≡◌, ℕ, List, [], ◌∷◌, ◌++◌, length, true, false, refl, ap, sym, subst, ◌∙◌, append_assoc, append-nil, codes, nat_le, Bool}
 use Rattle.std.specs.Prelude.{decimal}
 use Rattle.std.proofs.lemmas.Bool.{false≢true}
 use Rattle.rust_tree.specs.Symbol as tree
@@ -18,6 +18,8 @@ use Rattle.rust_direct.specs.Awaits.{Arrives, IsEnded}
 use Rattle.rust_direct.proofs.Kept.{keeps-written}
 use Rattle.rust_direct.proofs.Moves.{identifier-comes}
 use Rattle.rust_direct.proofs.PathsRead.{path-held, path-says, stands-written}
+use Rattle.sym_direct.specs.Marked.{IsUnmarked}
+use Rattle.rust_direct.proofs.WrittenTexts.{name-unmarked, namespace-unmarked, special-unmarked}
 use Rattle.rust_direct.proofs.PrintedSpecials.{special-prints}
 
 -- ## Texts one after another
@@ -70,23 +72,27 @@ special-written a b c d e f g namespace name count one two three four five six =
 
 -- ## Closures and shims
 
-special-has : (f : Forms) (letter : ℕ) (p : tree.Path) (bytes : List ℕ) (count : ℕ) (name : List ℕ) → is_path f ≡ true → nat_le 97 letter ≡ false
-    → PathHas f p bytes → PathHas f (tree.nested letter p (identifier count name)) (bytes ++ special_text (namespace_text letter) name count)
-special-has forms.Alike letter p bytes count name is upper h =
-    (special-prints true letter p bytes count name upper h.0, special-prints false letter p bytes count name upper h.1)
-special-has forms.Valued letter p bytes count name is upper h = special-prints true letter p bytes count name upper h
-special-has forms.Plain letter p bytes count name is upper h = special-prints false letter p bytes count name upper h
-special-has forms.Typed letter p bytes count name is upper h = absurd (false≢true is)
-special-has forms.Unnamed letter p bytes count name is upper h = absurd (false≢true is)
+few-count : (s : List ℕ) (at count end : ℕ) → IsDisambiguatorAt s at count end → count < 2 ^ 64
+few-count s at count end (inl none) = omega (arith, none.0)
+few-count s at count end (inr some) = omega (arith, some.4)
+
+special-has : (brief : Bool) (f : Forms) (letter : ℕ) (p : tree.Path) (bytes : List ℕ) (count : ℕ) (name : List ℕ) → is_path f ≡ true → nat_le 97 letter ≡ false
+    → IsUnmarked (special_text (namespace_text letter) name count) → PathHas brief f p bytes → PathHas brief f (tree.nested letter p (identifier count name)) (bytes ++ special_text (namespace_text letter) name count)
+special-has brief forms.Alike letter p bytes count name is upper plain h =
+    (special-prints brief true letter p bytes count name upper plain h.0, special-prints brief false letter p bytes count name upper plain h.1)
+special-has brief forms.Valued letter p bytes count name is upper plain h = special-prints brief true letter p bytes count name upper plain h
+special-has brief forms.Plain letter p bytes count name is upper plain h = special-prints brief false letter p bytes count name upper plain h
+special-has brief forms.Typed letter p bytes count name is upper plain h = absurd (false≢true is)
+special-has brief forms.Unnamed letter p bytes count name is upper plain h = absurd (false≢true is)
 
 -- its name and its number are read
-pub special-read : (s : List ℕ) (old middle : Direct) (letter place from : ℕ) (f : Forms) (count behind_ : ℕ) (name namespace : List ℕ) (end : ℕ)
-    → Arrives s old (opens.Nest letter place) from f → is_path f ≡ true → nat_le 97 letter ≡ false → IsDisambiguatorAt s old.at count behind_
+pub special-read : (brief : Bool) (s : List ℕ) (old middle : Direct) (letter place from : ℕ) (f : Forms) (count behind_ : ℕ) (name namespace : List ℕ) (end : ℕ)
+    → Arrives brief s old (opens.Nest letter place) from f → is_path f ≡ true → nat_le 97 letter ≡ false → 65 ≤ letter → IsDisambiguatorAt s old.at count behind_
     → IsNameAt s behind_ name end → namespace ≡ namespace_text letter → Writes old middle (special_text namespace name count)
-    → IsEnded s (record middle { at = end }) place from f f
-special-read s old middle letter place from f count behind_ name namespace end arrives is upper counted named named_so wrote =
+    → IsEnded brief s (record middle { at = end }) place from f f
+special-read brief s old middle letter place from f count behind_ name namespace end arrives is upper above counted named named_so wrote =
     let r = arrives.read in
-    let held = path-held f r.v r.bytes is r.holds in
+    let held = path-held brief f r.v r.bytes is r.holds in
     let p = held.0 in
     let made = tree.nested letter p (identifier count name) in
     let waits = r.stands in
@@ -94,10 +100,12 @@ special-read s old middle letter place from f count behind_ name namespace end a
     let writes : Writes old middle own = subst (λ l. Writes old middle (special_text l name count)) named_so wrote in
     let goes = waits.1 p old.at arrives.state (subst (λ v. Comes s r.os v old.at arrives.state) held.1 r.comes) in
     let one = identifier-comes s goes.inner old.at (within Production.Nested arrives.state) count behind_ name end counted named goes.awaits in
-    let told = path-says f made (r.bytes ++ own) is (special-has f letter p r.bytes count name is upper held.2) in
+    let plain = special-unmarked (namespace_text letter) name count (namespace-unmarked letter above) (name-unmarked s behind_ name end named)
+    (few-count s old.at count behind_ counted) in
+    let told = path-says brief f made (r.bytes ++ own) is (special-has brief f letter p r.bytes count name is upper plain held.2) in
     record {
       before = arrives.state;
-      keeps = keeps-written s old middle own arrives.state writes arrives.keeps;
+      keeps = keeps-written brief s old middle own arrives.state writes arrives.keeps;
       os = waits.0;
       v = a_path made;
       front = r.front;
@@ -107,5 +115,5 @@ special-read s old middle letter place from f count behind_ name namespace end a
       says = told.0;
       holds = told.1;
       comes = goes.onward one.0 (identifier count name) end (behind (within Production.Nested arrives.state)) one.1 one.2;
-      stands = stands-written s old middle own waits.0 r.front writes waits.2;
+      stands = stands-written brief s old middle own waits.0 r.front writes waits.2;
     }

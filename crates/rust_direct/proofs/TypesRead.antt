@@ -1,5 +1,5 @@
 -- Types that were read and written: those of one type, and those that came before.
-use Rattle.std.proofs.Common.{◌≡◌, ℕ, suc, ◌+◌, List, [], ◌∷◌, length, slice_get, true, Some, refl, ap, subst, ◌∙◌}
+use Rattle.std.proofs.Common.{◌≡◌, ℕ, suc, ◌+◌, List, [], ◌∷◌, length, slice_get, true, Some, refl, ap, subst, ◌∙◌, Bool}
 use Rattle.std.proofs.lemmas.Bool.{false≢true}
 use Rattle.sym_direct.specs.Holes.{StandsAt}
 use Rattle.rust_tree.specs.Symbol as tree
@@ -30,14 +30,14 @@ path-as-type (a_type (tree.path_type q)) p is = let same : q ≡ p = cc is in ap
 path-as-type _ p is = cc is
 
 -- what a note says of a type
-type-said : (f : Forms) (v : Value) (bytes : List ℕ) → is_type f ≡ true → Says f v bytes
-    → (t : tree.Ty) × (as_type (Some v) ≡ Some t) × TypePrints t bytes × Says f (a_type t) bytes
-type-said forms.Alike v bytes is h =
-    (tree.path_type h.0, path-as-type v h.0 h.1, path-is-type h.0 bytes h.2.1, (h.0, refl, h.2))
-type-said forms.Valued v bytes is h = absurd (false≢true is)
-type-said forms.Plain v bytes is h = (tree.path_type h.0, path-as-type v h.0 h.1, path-is-type h.0 bytes h.2, (h.0, refl, h.2))
-type-said forms.Typed v bytes is h = (h.0, h.1, h.2, (h.0, refl, h.2))
-type-said forms.Unnamed v bytes is h = absurd (false≢true is)
+type-said : (brief : Bool) (f : Forms) (v : Value) (bytes : List ℕ) → is_type f ≡ true → Says brief f v bytes
+    → (t : tree.Ty) × (as_type (Some v) ≡ Some t) × TypePrints brief t bytes × Says brief f (a_type t) bytes
+type-said brief forms.Alike v bytes is h =
+    (tree.path_type h.0, path-as-type v h.0 h.1, path-is-type brief h.0 bytes h.2.1, (h.0, refl, h.2))
+type-said brief forms.Valued v bytes is h = absurd (false≢true is)
+type-said brief forms.Plain v bytes is h = (tree.path_type h.0, path-as-type v h.0 h.1, path-is-type brief h.0 bytes h.2, (h.0, refl, h.2))
+type-said brief forms.Typed v bytes is h = (h.0, h.1, h.2, (h.0, refl, h.2))
+type-said brief forms.Unnamed v bytes is h = absurd (false≢true is)
 
 -- a type is expected as nothing else
 as-wanted : (w : Wanted) → is_for_type w ≡ true → kind_of w ≡ TYPE
@@ -45,30 +45,30 @@ as-wanted path e = absurd (false≢true e)
 as-wanted other_path e = absurd (false≢true e)
 as-wanted type e = refl
 
-pub type-expected : (s : List ℕ) (w : Direct) (a : Awaits s w true) → Expects s TYPE a.awaited.os w.at a.state
-type-expected s w a = subst (λ k. Expects s k a.awaited.os w.at a.state) (as-wanted a.awaited.wanted a.awaited.is_for) a.awaited.awaits
+pub type-expected : (brief : Bool) (s : List ℕ) (w : Direct) (a : Awaits brief s w true) → Expects s TYPE a.awaited.os w.at a.state
+type-expected brief s w a = subst (λ k. Expects s k a.awaited.os w.at a.state) (as-wanted a.awaited.wanted a.awaited.is_for) a.awaited.awaits
 
 -- a type is written once more
-pub type-repeated : (s : List ℕ) (old middle : Direct) (from n end k : ℕ) (note : Note) → Awaits s old true → StandsAt s old.at (66 ∷ [])
+pub type-repeated : (brief : Bool) (s : List ℕ) (old middle : Direct) (from n end k : ℕ) (note : Note) → Awaits brief s old true → StandsAt s old.at (66 ∷ [])
     → IsNumberAt s (old.at + 1) n end → slice_get old.numbers.items (n + 2) ≡ Some (suc k) → slice_get old.notes.list.items k ≡ Some note
     → is_type note.forms ≡ true → from ≡ length old.text.list.items
     → Writes old middle (piece (home old.is_aside note.is_aside old.text.list.items old.aside.list.items) note.from note.to)
-    → IsEnded s (record middle { at = end }) old.at from note.forms forms.Typed
-type-repeated s old middle from n end k note awaits letter number numbered noted is from_is writes =
+    → IsEnded brief s (record middle { at = end }) old.at from note.forms forms.Typed
+type-repeated brief s old middle from n end k note awaits letter number numbered noted is from_is writes =
     let r = awaits.awaited in
-    let found = note-found old awaits.state (n + 2) k note awaits.keeps.0 numbered noted in
+    let found = note-found brief old awaits.state (n + 2) k note awaits.keeps.0 numbered noted in
     let own = found.2 in
-    let said = type-said note.forms found.0 own.bytes is own.says in
+    let said = type-said brief note.forms found.0 own.bytes is own.says in
     let t = said.0 in
     let bytes = own.bytes in
     let same = (piece-found (home old.is_aside note.is_aside old.text.list.items old.aside.list.items) own.front own.bytes own.back note.from note.to
     own.written_is own.from_is own.to_is).2 in
     let write = subst (λ l. Writes old middle l) same writes in
-    let expects = type-expected s old awaits in
-    let holds : Holds forms.Typed (a_type t) bytes = (t, refl, said.2) in
+    let expects = type-expected brief s old awaits in
+    let holds : Holds brief forms.Typed (a_type t) bytes = (t, refl, said.2) in
     record {
       before = awaits.state;
-      keeps = keeps-written s old middle bytes awaits.state write awaits.keeps;
+      keeps = keeps-written brief s old middle bytes awaits.state write awaits.keeps;
       os = r.os;
       v = a_type t;
       front = old.text.list.items;
@@ -78,5 +78,5 @@ type-repeated s old middle from n end k note awaits letter number numbered noted
       says = said.3;
       holds = holds;
       comes = type-referred s r.os old.at awaits.state n end t expects letter number (ap as_type found.1 ∙ said.1) said.2.needs_none;
-      stands = stands-written s old middle bytes r.os old.text.list.items write r.stands;
+      stands = stands-written brief s old middle bytes r.os old.text.list.items write r.stands;
     }

@@ -21,75 +21,75 @@ pub record IsFresh (s : List ℕ) (w : Direct) : Type 0 where
   pub rooms : HasRooms s w
 
 -- a path, or a type, is expected
-pub record Awaits (s : List ℕ) (w : Direct) (for_type : Bool) : Type 0 where
+pub record Awaits (brief : Bool) (s : List ℕ) (w : Direct) (for_type : Bool) : Type 0 where
   pub state : State
-  pub keeps : Keeps s w state
-  pub awaited : IsAwaited s w state for_type
+  pub keeps : Keeps brief s w state
+  pub awaited : IsAwaited brief s w state for_type
 
-abbrev pub AwaitsPath : (s : List ℕ) → Direct → Type 0
-AwaitsPath s w = (for_type : Bool) × Awaits s w for_type
+abbrev pub AwaitsPath : (brief : Bool) (s : List ℕ) → Direct → Type 0
+AwaitsPath brief s w = (for_type : Bool) × Awaits brief s w for_type
 
 -- A path or a type is read, and what waited for it is taken out.
-pub record Arrives (s : List ℕ) (w : Direct) (entry : Open) (from : ℕ) (forms : Forms) : Type 0 where
+pub record Arrives (brief : Bool) (s : List ℕ) (w : Direct) (entry : Open) (from : ℕ) (forms : Forms) : Type 0 where
   pub state : State
-  pub keeps : Keeps s w state
-  pub read : IsRead s w state (entry ∷ reverse w.waiting.list.items) from forms
+  pub keeps : Keeps brief s w state
+  pub read : IsRead brief s w state (entry ∷ reverse w.waiting.list.items) from forms
 
 -- What began at a place is read, which is to be noted.
-pub record IsEnded (s : List ℕ) (w : Direct) (place from : ℕ) (noted forms : Forms) : Type 0 where
+pub record IsEnded (brief : Bool) (s : List ℕ) (w : Direct) (place from : ℕ) (noted forms : Forms) : Type 0 where
   pub before : State
-  pub keeps : Keeps s w before
+  pub keeps : Keeps brief s w before
   pub os : List Opened
   pub v : Value
   pub front : List ℕ
   pub bytes : List ℕ
   pub written : w.text.list.items ≡ front ++ bytes
   pub from_is : from ≡ length front
-  pub says : Says noted v bytes
-  pub holds : Holds forms v bytes
+  pub says : Says brief noted v bytes
+  pub holds : Holds brief forms v bytes
   pub comes : Comes s os v w.at (with_ended place v before)
-  pub stands : Stands s (reverse w.waiting.list.items) os front (parked_of w)
+  pub stands : Stands brief s (reverse w.waiting.list.items) os front (parked_of w)
 
 -- A path that began at a place is read and not noted yet, and one more that prints as it does is within the bound.
-pub record IsEndedWithRoom (s : List ℕ) (w : Direct) (place from : ℕ) (forms : Forms) : Type 0 where
-  pub ended : IsEnded s w place from forms forms
+pub record IsEndedWithRoom (brief : Bool) (s : List ℕ) (w : Direct) (place from : ℕ) (forms : Forms) : Type 0 where
+  pub ended : IsEnded brief s w place from forms forms
   pub p : tree.Path
   pub is : ended.v ≡ a_path p
-  pub has : PathHas forms p ended.bytes
-  pub room : HaveRoom forms p ended.bytes
+  pub has : PathHas brief forms p ended.bytes
+  pub room : HaveRoom brief forms p ended.bytes
 
 -- The path of an impl is read, which isn't shown: its type is expected, in angles.
-pub record AwaitsImplType (s : List ℕ) (w : Direct) (place : ℕ) : Type 0 where
+pub record AwaitsImplType (brief : Bool) (s : List ℕ) (w : Direct) (place : ℕ) : Type 0 where
   pub state : State
-  pub keeps : Keeps s w state
+  pub keeps : Keeps brief s w state
   pub outer : List Opened
   pub made : tree.Ty → tree.Path
-  pub prints : (value : Bool) (t : tree.Ty) (bytes : List ℕ) → TypePrints t bytes → PathPrints value (made t) (codes "<" ++ bytes ++ codes ">")
+  pub prints : (value : Bool) (t : tree.Ty) (bytes : List ℕ) → TypePrints brief t bytes → PathPrints brief value (made t) (codes "<" ++ bytes ++ codes ">")
   pub goes : TypeGoesOn s outer place (λ t. a_path (made t)) w.at state
-  pub stands : Stands s (reverse w.waiting.list.items) outer w.text.list.items (parked_of w)
+  pub stands : Stands brief s (reverse w.waiting.list.items) outer w.text.list.items (parked_of w)
 
 -- The same of an impl of a trait: after its type the trait is expected.
-pub record AwaitsTraitType (s : List ℕ) (w : Direct) (place : ℕ) : Type 0 where
+pub record AwaitsTraitType (brief : Bool) (s : List ℕ) (w : Direct) (place : ℕ) : Type 0 where
   pub state : State
-  pub keeps : Keeps s w state
+  pub keeps : Keeps brief s w state
   pub outer : List Opened
   pub made : tree.Ty → tree.Path → tree.Path
-  pub prints : TraitPrints made
+  pub prints : TraitPrints brief made
   pub goes : ImplementingGoesOn s outer place (λ t r. a_path (made t r)) w.at state
-  pub stands : Stands s (reverse w.waiting.list.items) outer w.text.list.items (parked_of w)
+  pub stands : Stands brief s (reverse w.waiting.list.items) outer w.text.list.items (parked_of w)
 
 -- the path of the symbol is read, and written
-pub record IsSymbolEnded (s : List ℕ) (w : Direct) : Type 0 where
+pub record IsSymbolEnded (brief : Bool) (s : List ℕ) (w : Direct) : Type 0 where
   pub state : State
-  pub keeps : Keeps s w state
+  pub keeps : Keeps brief s w state
   pub p : tree.Path
-  pub prints : PathPrints true p w.text.list.items
+  pub prints : PathPrints brief true p w.text.list.items
   pub ends : EndsSymbol s p w.at
 
 -- an argument is expected, after what separates it from the one before
-pub record AwaitsArgument (s : List ℕ) (w : Direct) (is_first : Bool) : Type 0 where
+pub record AwaitsArgument (brief : Bool) (s : List ℕ) (w : Direct) (is_first : Bool) : Type 0 where
   pub state : State
-  pub keeps : Keeps s w state
+  pub keeps : Keeps brief s w state
   pub before : List ℕ
   pub written : w.text.list.items ≡ before ++ separator_of is_first
-  pub listing : IsListing s w before state is_first
+  pub listing : IsListing brief s w before state is_first

@@ -1,7 +1,7 @@
 -- The bounds of a `dyn`, which have no bindings.
-use Rattle.std.specs.Prelude.{◌≡◌, ℕ, ◌+◌, ◌*◌, ◌≤◌, List, [], ◌∷◌, ◌++◌, length}
-use Rattle.sym_print.specs.declared.detail.Detail.TheVariants.{Full}
+use Rattle.std.specs.Prelude.{◌≡◌, ℕ, ◌+◌, ◌*◌, ◌≤◌, List, [], ◌∷◌, ◌++◌, length, Bool}
 use Rattle.sym_direct.specs.Holes.{StandsAt}
+use Rattle.sym_direct.specs.Marked.{IsUnmarked}
 use Rattle.rust_tree.specs.Symbol as tree
 use Rattle.rust_tree.specs.Need.{need_of_bounds}
 use Rattle.rust_tree.specs.Shown.{bounds_from}
@@ -9,13 +9,15 @@ use Rattle.rust_grammar.specs.declared.production.Production.{Production}
 use Rattle.rust_grammar.specs.declared.kind.TheConstants.{BOUNDS}
 use Rattle.rust_grammar.specs.Value.{State, a_type, some_bounds}
 use Rattle.rust_direct.specs.Holes.{Opened, Comes, Expects, Ends, within}
-use Rattle.rust_direct.specs.Prints.{text_of_some, cost_of_some}
+use Rattle.rust_direct.specs.Prints.{detail_by, IsWrittenAs, text_of_some, cost_of_some}
 
 -- Bounds so far have this text, whatever follows them; a separator comes before the next one.
-pub record BoundsBegin (made : tree.Bounds → tree.Bounds) (separator bytes : List ℕ) : Type 0 where
-  pub text_is : (rest : tree.Bounds) → text_of_some (bounds_from Full 0 [] (made rest)) ≡ bytes ++ text_of_some (bounds_from Full 0 separator rest)
+pub record BoundsBegin (brief : Bool) (made : tree.Bounds → tree.Bounds) (separator bytes : List ℕ) : Type 0 where
+  pub plain : IsUnmarked separator
+  pub text_is : (rest : tree.Bounds) (more : List ℕ) → IsWrittenAs brief (text_of_some (bounds_from (detail_by brief) 0 separator rest)) more
+      → IsWrittenAs brief (text_of_some (bounds_from (detail_by brief) 0 [] (made rest))) (bytes ++ more)
   pub cost : (rest : tree.Bounds)
-      → cost_of_some (bounds_from Full 0 [] (made rest)) ≤ 4 * length bytes + length separator + cost_of_some (bounds_from Full 0 separator rest)
+      → cost_of_some (bounds_from (detail_by brief) 0 [] (made rest)) ≤ 4 * length bytes + length separator + cost_of_some (bounds_from (detail_by brief) 0 separator rest)
   pub needs_none : (rest : tree.Bounds) → need_of_bounds rest ≡ 0 → need_of_bounds (made rest) ≡ 0
 
 -- Bounds go on after others, up to an E, after which comes a lifetime that is erased.

@@ -13,7 +13,7 @@ use Rattle.rust_grammar.specs.Value.{Value, State, a_type, a_constant}
 use Rattle.rust_grammar.specs.Unfold.{greatest_u64}
 use Rattle.rust_direct.specs.declared.direct.Direct.{Direct}
 use Rattle.rust_direct.specs.Holes.{Opened, Comes, Expects, Ends, IsType, within, with_ended}
-use Rattle.rust_direct.specs.Prints.{Shows}
+use Rattle.rust_direct.specs.Prints.{Spells}
 use Rattle.rust_direct.specs.Written.{Writes}
 
 -- one of these letters
@@ -55,7 +55,7 @@ BeginsInteger s at digits minus =
 pub record WritesConstant (s : List ℕ) (old new : Direct) (at end : ℕ) : Type 0 where
   pub c : tree.Constant
   pub own : List ℕ
-  pub shows : Shows (constant_parts c) own
+  pub shows : Spells (constant_parts c) own
   pub writes : Writes old new own
   pub comes : IsConstantAt s at c end
 

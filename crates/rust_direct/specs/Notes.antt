@@ -13,31 +13,31 @@ home true false text aside = aside
 home false true text aside = aside
 
 -- a note says where the text of this value is
-pub record IsNote (written : List ℕ) (n : Note) (v : Value) : Type 0 where
+pub record IsNote (brief : Bool) (written : List ℕ) (n : Note) (v : Value) : Type 0 where
   pub front : List ℕ
   pub bytes : List ℕ
   pub back : List ℕ
   pub written_is : written ≡ front ++ bytes ++ back
   pub from_is : n.from ≡ length front
   pub to_is : n.to ≡ length front + length bytes
-  pub says : Says n.forms v bytes
+  pub says : Says brief n.forms v bytes
 
 -- of what ended that began at a place
-abbrev pub NotesEnded : (is_aside : Bool) → (text aside : List ℕ) → Note → Option Value → Type 0
-NotesEnded is_aside text aside n None = ⊥
-NotesEnded is_aside text aside n (Some v) = IsNote (home is_aside n.is_aside text aside) n v
+abbrev pub NotesEnded : (brief : Bool) (is_aside : Bool) → (text aside : List ℕ) → Note → Option Value → Type 0
+NotesEnded brief is_aside text aside n None = ⊥
+NotesEnded brief is_aside text aside n (Some v) = IsNote brief (home is_aside n.is_aside text aside) n v
 
-abbrev pub NotedAs : (is_aside : Bool) → (text aside : List ℕ) → Option Note → Option Value → Type 0
-NotedAs is_aside text aside None v = ⊥
-NotedAs is_aside text aside (Some n) v = NotesEnded is_aside text aside n v
+abbrev pub NotedAs : (brief : Bool) (is_aside : Bool) → (text aside : List ℕ) → Option Note → Option Value → Type 0
+NotedAs brief is_aside text aside None v = ⊥
+NotedAs brief is_aside text aside (Some n) v = NotesEnded brief is_aside text aside n v
 
 -- a place with the number k + 1 has the note k; with 0 nothing is known of it
-abbrev pub IsNumbered : (is_aside : Bool) → (text aside : List ℕ) → List Note → Option Value → (number : Option ℕ) → Type 0
-IsNumbered is_aside text aside notes v None = Unit {0}
-IsNumbered is_aside text aside notes v (Some zero) = Unit {0}
-IsNumbered is_aside text aside notes v (Some (suc k)) = NotedAs is_aside text aside (slice_get notes k) v
+abbrev pub IsNumbered : (brief : Bool) (is_aside : Bool) → (text aside : List ℕ) → List Note → Option Value → (number : Option ℕ) → Type 0
+IsNumbered brief is_aside text aside notes v None = Unit {0}
+IsNumbered brief is_aside text aside notes v (Some zero) = Unit {0}
+IsNumbered brief is_aside text aside notes v (Some (suc k)) = NotedAs brief is_aside text aside (slice_get notes k) v
 
 -- each place's number leads to the text of what ended there
-abbrev pub AreNotes : (is_aside : Bool) → (text aside : List ℕ) → List Note → (numbers : List ℕ) → List Ended → Type 0
-AreNotes is_aside text aside notes numbers ended =
-    (place : ℕ) → IsNumbered is_aside text aside notes (ended_at ended place) (slice_get numbers place)
+abbrev pub AreNotes : (brief : Bool) (is_aside : Bool) → (text aside : List ℕ) → List Note → (numbers : List ℕ) → List Ended → Type 0
+AreNotes brief is_aside text aside notes numbers ended =
+    (place : ℕ) → IsNumbered brief is_aside text aside notes (ended_at ended place) (slice_get numbers place)

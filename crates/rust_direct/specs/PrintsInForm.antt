@@ -8,30 +8,30 @@ use Rattle.rust_direct.specs.declared.open.Forms.TheVariants as forms
 use Rattle.rust_direct.specs.Prints.{PathPrints, TypePrints, HasRoom}
 
 -- A path with this text in the forms that are named.
-abbrev pub PathHas : Forms → Path → (bytes : List ℕ) → Type 0
-PathHas forms.Alike p bytes = PathPrints true p bytes × PathPrints false p bytes
-PathHas forms.Valued p bytes = PathPrints true p bytes
-PathHas forms.Plain p bytes = PathPrints false p bytes
-PathHas _ p bytes = ⊥
+abbrev pub PathHas : (brief : Bool) → Forms → Path → (bytes : List ℕ) → Type 0
+PathHas brief forms.Alike p bytes = PathPrints brief true p bytes × PathPrints brief false p bytes
+PathHas brief forms.Valued p bytes = PathPrints brief true p bytes
+PathHas brief forms.Plain p bytes = PathPrints brief false p bytes
+PathHas brief _ p bytes = ⊥
 
 -- In the forms that are named it leaves room for one part more that has no text.
-abbrev pub HaveRoom : Forms → Path → (bytes : List ℕ) → Type 0
-HaveRoom forms.Alike p bytes = HasRoom true p bytes × HasRoom false p bytes
-HaveRoom forms.Valued p bytes = HasRoom true p bytes
-HaveRoom forms.Plain p bytes = HasRoom false p bytes
-HaveRoom _ p bytes = ⊥
+abbrev pub HaveRoom : (brief : Bool) → Forms → Path → (bytes : List ℕ) → Type 0
+HaveRoom brief forms.Alike p bytes = HasRoom brief true p bytes × HasRoom brief false p bytes
+HaveRoom brief forms.Valued p bytes = HasRoom brief true p bytes
+HaveRoom brief forms.Plain p bytes = HasRoom brief false p bytes
+HaveRoom brief _ p bytes = ⊥
 
 -- what a reference may name of a value that was written so
-abbrev pub Says : Forms → Value → (bytes : List ℕ) → Type 0
-Says forms.Typed v bytes = (t : Ty) × (as_type (Some v) ≡ Some t) × TypePrints t bytes
-Says forms.Unnamed v bytes = Unit {0}
-Says f v bytes = (p : Path) × (as_path (Some v) ≡ Some p) × PathHas f p bytes
+abbrev pub Says : (brief : Bool) → Forms → Value → (bytes : List ℕ) → Type 0
+Says brief forms.Typed v bytes = (t : Ty) × (as_type (Some v) ≡ Some t) × TypePrints brief t bytes
+Says brief forms.Unnamed v bytes = Unit {0}
+Says brief f v bytes = (p : Path) × (as_path (Some v) ≡ Some p) × PathHas brief f p bytes
 
 -- a path or a type that was read, with this text
-abbrev pub Holds : Forms → Value → (bytes : List ℕ) → Type 0
-Holds forms.Typed v bytes = (t : Ty) × (as_type (Some v) ≡ Some t) × TypePrints t bytes
-Holds forms.Unnamed v bytes = ⊥
-Holds f v bytes = (p : Path) × (v ≡ a_path p) × PathHas f p bytes
+abbrev pub Holds : (brief : Bool) → Forms → Value → (bytes : List ℕ) → Type 0
+Holds brief forms.Typed v bytes = (t : Ty) × (as_type (Some v) ≡ Some t) × TypePrints brief t bytes
+Holds brief forms.Unnamed v bytes = ⊥
+Holds brief f v bytes = (p : Path) × (v ≡ a_path p) × PathHas brief f p bytes
 
 -- the text is right in a form of a path: as it comes after a value, or elsewhere
 abbrev pub has_form : (value : Bool) → Forms → Bool

@@ -6,19 +6,20 @@ ghost use Rattle.sym_core.specs.Number.{FitsSymbol};
 ghost use Rattle.sym_direct.specs.Holes.{StandsAt};
 ghost use Rattle.rust_direct.specs.declared.open.Step.TheVariants as steps;
 ghost use Rattle.rust_direct.specs.declared.open.Open.TheVariants as opens;
-ghost use Rattle.rust_direct.specs.Prints.{opening};
+ghost use Rattle.rust_direct.specs.Prints.{opening, closing};
 ghost use Rattle.rust_direct.specs.Written.{Writes};
 ghost use Rattle.rust_direct.specs.WriterInvariant.{IsWriting};
 ghost use Rattle.rust_direct.specs.Awaits.{AwaitsArgument, Arrives};
 
 use crate::direct::Direct;
 use crate::open::{Forms, Open, Step, form_of, has_form, is_type};
-use sym_direct::byte_at;
+use crate::showing::Showing;
+use sym_direct::{CLOSES, OPENS, byte_at};
 
 impl Direct {
     /// The path is read that arguments belong to.
     // <path> = "I" <path> {<generic-arg>} "E"
-    pub(crate) fn generic_ended(
+    pub(crate) fn generic_ended<S: Showing>(
         &mut self,
         _s: &[u8],
         from: usize,
@@ -26,13 +27,13 @@ impl Direct {
         is_value: bool,
         place: usize,
     ) -> Option<Step>
-        requires { Arrives _s.now self.old (opens.Generic is_value place) from forms }
-        ensures { IfSome result (IsWriting _s.now self.new) }
+        requires { Arrives S.IS_BRIEF _s.now self.old (opens.Generic is_value place) from forms }
+        ensures { IfSome result (IsWriting S.IS_BRIEF _s.now self.new) }
     {
         if !has_form(is_value, forms) {
             return None;
         }
-        self.push_opening(is_value)?;
+        self.push_opening::<S>(is_value)?;
         self.waiting.push(Open::Argument {
             place,
             from,
@@ -41,59 +42,73 @@ impl Direct {
         Some(Step::Arguments { is_first: true })
     }
 
-    /// Writes what comes before arguments.
+    /// Writes what comes before arguments: a mark where they aren't to be shown.
     #[inline(always)]
-    fn push_opening(&mut self, is_value: bool) -> Option<()>
-        ensures { OnSome result (Writes self.old self.new (opening is_value)) }
+    fn push_opening<S: Showing>(&mut self, is_value: bool) -> Option<()>
+        ensures { OnSome result (Writes self.old self.new (opening S.IS_BRIEF is_value)) }
     {
+        if S::IS_BRIEF {
+            return self.push_byte(OPENS);
+        }
         if is_value {
             return self.push(b"::<");
         }
         self.push_byte(b'<')
     }
 
+    /// Writes what comes after them.
+    #[inline(always)]
+    fn push_closing<S: Showing>(&mut self) -> Option<()>
+        ensures { OnSome result (Writes self.old self.new (closing S.IS_BRIEF)) }
+    {
+        if S::IS_BRIEF {
+            return self.push_byte(CLOSES);
+        }
+        self.push_byte(b'>')
+    }
+
     /// Reads an argument, or the end of arguments.
     // <path> = "I" <path> {<generic-arg>} "E"
-    pub(crate) fn argument_at(&mut self, s: &[u8], is_first: bool) -> Option<Step>
+    pub(crate) fn argument_at<S: Showing>(&mut self, s: &[u8], is_first: bool) -> Option<Step>
         requires fits { FitsSymbol s.now }
-        requires writing { IsWriting s.now self.old (steps.Arguments is_first) }
-        ensures { IfSome result (IsWriting s.now self.new) }
+        requires writing { IsWriting S.IS_BRIEF s.now self.old (steps.Arguments is_first) }
+        ensures { IfSome result (IsWriting S.IS_BRIEF s.now self.new) }
     {
         let byte = byte_at(s, self.at);
         if byte == b'E' {
-            return self.arguments_ended(s, is_first);
+            return self.arguments_ended::<S>(s, is_first);
         }
         if is_first {
-            return self.next_argument(s, byte, true);
+            return self.next_argument::<S>(s, byte, true);
         }
         self.push_pair(b',', b' ')?;
-        self.next_argument(s, byte, false)
+        self.next_argument::<S>(s, byte, false)
     }
 
     /// Reads an argument, up to the first type that is in it.
     // <generic-arg> = <lifetime> | <type> | "K" <const>
     #[inline(always)]
-    fn next_argument(&mut self, s: &[u8], byte: u8, is_first: bool) -> Option<Step>
+    fn next_argument<S: Showing>(&mut self, s: &[u8], byte: u8, is_first: bool) -> Option<Step>
         requires fits { FitsSymbol s.now }
         requires letter { byte ≢ 0 → StandsAt s.now self.old.at (byte ∷ []) }
-        requires awaits { AwaitsArgument s.now self.old is_first }
-        ensures { IfSome result (IsWriting s.now self.new) }
+        requires awaits { AwaitsArgument S.IS_BRIEF s.now self.old is_first }
+        ensures { IfSome result (IsWriting S.IS_BRIEF s.now self.new) }
     {
         if byte == b'L' {
-            return self.lifetime_argument(s, is_first);
+            return self.lifetime_argument::<S>(s, is_first);
         }
         if byte == b'K' {
-            return self.constant_argument(s, is_first);
+            return self.constant_argument::<S>(s, is_first);
         }
         Some(Step::Type)
     }
 
     /// An erased lifetime among arguments: another one is given up.
     // <generic-arg> = <lifetime>
-    fn lifetime_argument(&mut self, s: &[u8], _is_first: bool) -> Option<Step>
+    fn lifetime_argument<S: Showing>(&mut self, s: &[u8], _is_first: bool) -> Option<Step>
         requires letter { StandsAt s.now self.old.at (76 ∷ []) }
-        requires awaits { AwaitsArgument s.now self.old _is_first }
-        ensures { IfSome result (IsWriting s.now self.new) }
+        requires awaits { AwaitsArgument S.IS_BRIEF s.now self.old _is_first }
+        ensures { IfSome result (IsWriting S.IS_BRIEF s.now self.new) }
     {
         let digits = self.at.checked_add(1)?;
         if byte_at(s, digits) != b'_' {
@@ -106,10 +121,10 @@ impl Direct {
 
     /// The E of arguments.
     // <path> = "I" <path> {<generic-arg>} "E"
-    fn arguments_ended(&mut self, s: &[u8], _is_first: bool) -> Option<Step>
+    fn arguments_ended<S: Showing>(&mut self, s: &[u8], _is_first: bool) -> Option<Step>
         requires letter { StandsAt s.now self.old.at (69 ∷ []) }
-        requires writing { IsWriting s.now self.old (steps.Arguments _is_first) }
-        ensures { IfSome result (IsWriting s.now self.new) }
+        requires writing { IsWriting S.IS_BRIEF s.now self.old (steps.Arguments _is_first) }
+        ensures { IfSome result (IsWriting S.IS_BRIEF s.now self.new) }
     {
         match self.waiting.pop()? {
             Open::Argument {
@@ -118,9 +133,9 @@ impl Direct {
                 is_value,
             } => {
                 self.at = self.at.checked_add(1)?;
-                self.push_byte(b'>')?;
+                self.push_closing::<S>()?;
                 let forms = form_of(is_value);
-                self.ended(s, place, from, forms, forms)
+                self.ended::<S>(s, place, from, forms, forms)
             }
             _ => None,
         }
@@ -128,7 +143,7 @@ impl Direct {
 
     /// A type is read that is an argument.
     // <generic-arg> = <type>
-    pub(crate) fn argument_ended(
+    pub(crate) fn argument_ended<S: Showing>(
         &mut self,
         _s: &[u8],
         _here: usize,
@@ -137,8 +152,8 @@ impl Direct {
         from: usize,
         is_value: bool,
     ) -> Option<Step>
-        requires { Arrives _s.now self.old (opens.Argument place from is_value) _here forms }
-        ensures { IfSome result (IsWriting _s.now self.new) }
+        requires { Arrives S.IS_BRIEF _s.now self.old (opens.Argument place from is_value) _here forms }
+        ensures { IfSome result (IsWriting S.IS_BRIEF _s.now self.new) }
     {
         if !is_type(forms) {
             return None;

@@ -10,15 +10,16 @@ ghost use Rattle.rust_direct.specs.Awaits.{Awaits, Arrives};
 
 use crate::direct::Direct;
 use crate::open::{Forms, Open, Step, has_form};
+use crate::showing::Showing;
 use sym_direct::byte_at;
 
 impl Direct {
     /// The path of the first bound follows.
     // <type> = "D" <dyn-bounds> <lifetime>
-    pub(crate) fn begin_dyn(&mut self, s: &[u8]) -> Option<Step>
+    pub(crate) fn begin_dyn<S: Showing>(&mut self, s: &[u8]) -> Option<Step>
         requires letter { StandsAt s.now self.old.at (68 ∷ []) }
-        requires awaits { Awaits s.now self.old true }
-        ensures { IfSome result (IsWriting s.now self.new) }
+        requires awaits { Awaits S.IS_BRIEF s.now self.old true }
+        ensures { IfSome result (IsWriting S.IS_BRIEF s.now self.new) }
     {
         let place = self.at;
         let from = self.text.len();
@@ -29,7 +30,7 @@ impl Direct {
 
     /// The path of a bound is read: another one follows, or the E. Bindings are given up.
     // <dyn-bounds> = [<binder>] {<dyn-trait>} "E"
-    pub(crate) fn bound_ended(
+    pub(crate) fn bound_ended<S: Showing>(
         &mut self,
         s: &[u8],
         here: usize,
@@ -37,14 +38,14 @@ impl Direct {
         place: usize,
         from: usize,
     ) -> Option<Step>
-        requires { Arrives s.now self.old (opens.Dyn place from) here forms }
-        ensures { IfSome result (IsWriting s.now self.new) }
+        requires { Arrives S.IS_BRIEF s.now self.old (opens.Dyn place from) here forms }
+        ensures { IfSome result (IsWriting S.IS_BRIEF s.now self.new) }
     {
         if !has_form(false, forms) {
             return None;
         }
         if byte_at(s, self.at) == b'E' {
-            return self.bounds_ended(s, here, forms, place, from);
+            return self.bounds_ended::<S>(s, here, forms, place, from);
         }
         self.push(b" + ")?;
         self.waiting.push(Open::Dyn { place, from })?;
@@ -53,7 +54,7 @@ impl Direct {
 
     /// The E of bounds, and an erased lifetime: another one is given up.
     // <type> = "D" <dyn-bounds> <lifetime>
-    fn bounds_ended(
+    fn bounds_ended<S: Showing>(
         &mut self,
         s: &[u8],
         _here: usize,
@@ -63,8 +64,8 @@ impl Direct {
     ) -> Option<Step>
         requires letter { StandsAt s.now self.old.at (69 ∷ []) }
         requires form { has_form false _forms ≡ true }
-        requires arrives { Arrives s.now self.old (opens.Dyn place from) _here _forms }
-        ensures { IfSome result (IsWriting s.now self.new) }
+        requires arrives { Arrives S.IS_BRIEF s.now self.old (opens.Dyn place from) _here _forms }
+        ensures { IfSome result (IsWriting S.IS_BRIEF s.now self.new) }
     {
         let lifetime = self.at.checked_add(1)?;
         if byte_at(s, lifetime) != b'L' {
@@ -75,6 +76,6 @@ impl Direct {
             return None;
         }
         self.at = digits.checked_add(1)?;
-        self.ended(s, place, from, Forms::Typed, Forms::Typed)
+        self.ended::<S>(s, place, from, Forms::Typed, Forms::Typed)
     }
 }

@@ -11,6 +11,7 @@ ghost use Rattle.rust_direct.specs.Awaits.{Awaits, AwaitsArgument, Arrives};
 
 use crate::direct::Direct;
 use crate::open::{Forms, Open, Step, is_type};
+use crate::showing::Showing;
 use crate::tokens::hex_at;
 use sym_direct::byte_at;
 
@@ -49,11 +50,15 @@ fn is_unsigned(letter: u8) -> bool
 impl Direct {
     /// A constant among arguments.
     // <generic-arg> = "K" <const>
-    pub(crate) fn constant_argument(&mut self, s: &[u8], _is_first: bool) -> Option<Step>
+    pub(crate) fn constant_argument<S: Showing>(
+        &mut self,
+        s: &[u8],
+        _is_first: bool,
+    ) -> Option<Step>
         requires fits { FitsSymbol s.now }
         requires letter { StandsAt s.now self.old.at (75 ∷ []) }
-        requires awaits { AwaitsArgument s.now self.old _is_first }
-        ensures { IfSome result (IsWriting s.now self.new) }
+        requires awaits { AwaitsArgument S.IS_BRIEF s.now self.old _is_first }
+        ensures { IfSome result (IsWriting S.IS_BRIEF s.now self.new) }
     {
         let place = self.at.checked_add(1)?;
         let from = self.text.len();
@@ -64,10 +69,10 @@ impl Direct {
     }
 
     // <type> = "A" <type> <const>
-    pub(crate) fn begin_array(&mut self, s: &[u8]) -> Option<Step>
+    pub(crate) fn begin_array<S: Showing>(&mut self, s: &[u8]) -> Option<Step>
         requires letter { StandsAt s.now self.old.at (65 ∷ []) }
-        requires awaits { Awaits s.now self.old true }
-        ensures { IfSome result (IsWriting s.now self.new) }
+        requires awaits { Awaits S.IS_BRIEF s.now self.old true }
+        ensures { IfSome result (IsWriting S.IS_BRIEF s.now self.new) }
     {
         let place = self.at;
         let from = self.text.len();
@@ -79,7 +84,7 @@ impl Direct {
 
     /// The type of an array is read, and its size follows.
     // <type> = "A" <type> <const>
-    pub(crate) fn array_ended(
+    pub(crate) fn array_ended<S: Showing>(
         &mut self,
         s: &[u8],
         _here: usize,
@@ -88,8 +93,8 @@ impl Direct {
         from: usize,
     ) -> Option<Step>
         requires fits { FitsSymbol s.now }
-        requires arrives { Arrives s.now self.old (opens.Array place from) _here forms }
-        ensures { IfSome result (IsWriting s.now self.new) }
+        requires arrives { Arrives S.IS_BRIEF s.now self.old (opens.Array place from) _here forms }
+        ensures { IfSome result (IsWriting S.IS_BRIEF s.now self.new) }
     {
         if !is_type(forms) {
             return None;
@@ -101,7 +106,7 @@ impl Direct {
         self.note(size, begins, Forms::Unnamed)?;
         self.at = end;
         self.push_byte(b']')?;
-        self.ended(s, place, from, Forms::Typed, Forms::Typed)
+        self.ended::<S>(s, place, from, Forms::Typed, Forms::Typed)
     }
 
     /// Reads and writes the constant at a place, and answers the place after it.

@@ -12,19 +12,20 @@ ghost use Rattle.rust_direct.specs.Awaits.{AwaitsPath, AwaitsImplType, Arrives};
 use crate::direct::Direct;
 use crate::hashes::disambiguator_end;
 use crate::open::{Closing, Forms, Open, Step, is_path, is_type};
+use crate::showing::Showing;
 
 impl Direct {
     // <path> = "M" <impl-path> <type>
-    pub(crate) fn begin_impl(&mut self, s: &[u8]) -> Option<Step>
+    pub(crate) fn begin_impl<S: Showing>(&mut self, s: &[u8]) -> Option<Step>
         requires fits { FitsSymbol s.now }
         requires letter { StandsAt s.now self.old.at (77 ∷ []) }
-        requires awaits { AwaitsPath s.now self.old }
-        ensures { IfSome result (IsWriting s.now self.new) }
+        requires awaits { AwaitsPath S.IS_BRIEF s.now self.old }
+        ensures { IfSome result (IsWriting S.IS_BRIEF s.now self.new) }
     {
         let place = self.at;
         let behind = disambiguator_end(s, place.checked_add(1)?)?;
         if self.is_aside {
-            return self.begin_inner_impl(s, behind);
+            return self.begin_inner_impl::<S>(s, behind);
         }
         self.at = behind;
         self.waiting.push(Open::Impl { place })?;
@@ -34,15 +35,15 @@ impl Direct {
 
     /// The path of an impl is read, and its type follows.
     // <path> = "M" <impl-path> <type>
-    pub(crate) fn impl_ended(
+    pub(crate) fn impl_ended<S: Showing>(
         &mut self,
         _s: &[u8],
         _here: usize,
         forms: Forms,
         place: usize,
     ) -> Option<Step>
-        requires { Arrives _s.now self.old (opens.Impl place) _here forms }
-        ensures { IfSome result (IsWriting _s.now self.new) }
+        requires { Arrives S.IS_BRIEF _s.now self.old (opens.Impl place) _here forms }
+        ensures { IfSome result (IsWriting S.IS_BRIEF _s.now self.new) }
     {
         if !is_path(forms) {
             return None;
@@ -51,33 +52,33 @@ impl Direct {
             return None;
         }
         self.turn();
-        self.begin_impl_type(_s, place)
+        self.begin_impl_type::<S>(_s, place)
     }
 
     /// The path of an impl that isn't shown itself is read, and its type follows.
     // <path> = "M" <impl-path> <type>
-    pub(crate) fn inner_impl_ended(
+    pub(crate) fn inner_impl_ended<S: Showing>(
         &mut self,
         _s: &[u8],
         _here: usize,
         forms: Forms,
         place: usize,
     ) -> Option<Step>
-        requires { Arrives _s.now self.old (opens.InnerImpl place) _here forms }
-        ensures { IfSome result (IsWriting _s.now self.new) }
+        requires { Arrives S.IS_BRIEF _s.now self.old (opens.InnerImpl place) _here forms }
+        ensures { IfSome result (IsWriting S.IS_BRIEF _s.now self.new) }
     {
         if !is_path(forms) {
             return None;
         }
-        self.begin_impl_type(_s, place)
+        self.begin_impl_type::<S>(_s, place)
     }
 
     /// The type of an impl is in angles.
     // <path> = "M" <impl-path> <type>
     #[inline(always)]
-    fn begin_impl_type(&mut self, _s: &[u8], place: usize) -> Option<Step>
-        requires { AwaitsImplType _s.now self.old place }
-        ensures { IfSome result (IsWriting _s.now self.new) }
+    fn begin_impl_type<S: Showing>(&mut self, _s: &[u8], place: usize) -> Option<Step>
+        requires { AwaitsImplType S.IS_BRIEF _s.now self.old place }
+        ensures { IfSome result (IsWriting S.IS_BRIEF _s.now self.new) }
     {
         let from = self.text.len();
         self.push_byte(b'<')?;
@@ -92,7 +93,7 @@ impl Direct {
     /// The type of an impl is read.
     // <path> = "M" <impl-path> <type>
     #[inline(always)]
-    pub(crate) fn angle_ended(
+    pub(crate) fn angle_ended<S: Showing>(
         &mut self,
         s: &[u8],
         _here: usize,
@@ -100,13 +101,13 @@ impl Direct {
         place: usize,
         from: usize,
     ) -> Option<Step>
-        requires { Arrives s.now self.old (opens.Wrap place from closings.Angle) _here forms }
-        ensures { IfSome result (IsWriting s.now self.new) }
+        requires { Arrives S.IS_BRIEF s.now self.old (opens.Wrap place from closings.Angle) _here forms }
+        ensures { IfSome result (IsWriting S.IS_BRIEF s.now self.new) }
     {
         if !is_type(forms) {
             return None;
         }
         self.push_byte(b'>')?;
-        self.ended(s, place, from, Forms::Alike, Forms::Alike)
+        self.ended::<S>(s, place, from, Forms::Alike, Forms::Alike)
     }
 }

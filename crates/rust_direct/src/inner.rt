@@ -9,6 +9,7 @@ ghost use Rattle.rust_direct.specs.Awaits.{AwaitsPath};
 
 use crate::direct::Direct;
 use crate::open::{Open, Step};
+use crate::showing::Showing;
 
 impl Direct {
     /// Whether nothing is written yet of what isn't shown: for what is read only paths wait whose texts begin with its own.
@@ -34,11 +35,11 @@ impl Direct {
     /// The path of an impl follows that isn't shown itself.
     // <path> = "M" <impl-path> <type>
     #[inline(never)]
-    pub(crate) fn begin_inner_impl(&mut self, _s: &[u8], behind: usize) -> Option<Step>
+    pub(crate) fn begin_inner_impl<S: Showing>(&mut self, _s: &[u8], behind: usize) -> Option<Step>
         requires letter { StandsAt _s.now self.old.at (77 ∷ []) }
         requires behind { HasDisambiguator _s.now (self.old.at + 1) behind }
-        requires awaits { AwaitsPath _s.now self.old }
-        ensures { IfSome result (IsWriting _s.now self.new) }
+        requires awaits { AwaitsPath S.IS_BRIEF _s.now self.old }
+        ensures { IfSome result (IsWriting S.IS_BRIEF _s.now self.new) }
     {
         if !self.is_unbegun() {
             return None;
@@ -51,11 +52,15 @@ impl Direct {
     /// The path of an impl of a trait follows that isn't shown itself.
     // <path> = "X" <impl-path> <type> <path>
     #[inline(never)]
-    pub(crate) fn begin_inner_trait_impl(&mut self, _s: &[u8], behind: usize) -> Option<Step>
+    pub(crate) fn begin_inner_trait_impl<S: Showing>(
+        &mut self,
+        _s: &[u8],
+        behind: usize,
+    ) -> Option<Step>
         requires letter { StandsAt _s.now self.old.at (88 ∷ []) }
         requires behind { HasDisambiguator _s.now (self.old.at + 1) behind }
-        requires awaits { AwaitsPath _s.now self.old }
-        ensures { IfSome result (IsWriting _s.now self.new) }
+        requires awaits { AwaitsPath S.IS_BRIEF _s.now self.old }
+        ensures { IfSome result (IsWriting S.IS_BRIEF _s.now self.new) }
     {
         if !self.is_unbegun() {
             return None;

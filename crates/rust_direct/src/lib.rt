@@ -15,6 +15,7 @@ mod inner;
 mod names;
 mod open;
 mod paths;
+mod showing;
 mod specials;
 mod symbols;
 mod tokens;
@@ -27,3 +28,4 @@ mod writing;
 
 pub use direct::Direct;
 pub use open::Step;
+pub use showing::{Brief, Showing, Whole};

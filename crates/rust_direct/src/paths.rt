@@ -13,6 +13,7 @@ use crate::direct::Direct;
 use crate::hashes::disambiguator_end;
 use crate::names::name_at;
 use crate::open::{Forms, Open, Step, is_path};
+use crate::showing::Showing;
 use crate::tokens::{is_namespace, number_at};
 use sym_direct::byte_at;
 
@@ -20,18 +21,18 @@ impl Direct {
     /// Reads a path, up to the first that is in it.
     // <path> = "C" <identifier> | "N" <namespace> <path> <identifier> | "I" <path> {<generic-arg>} "E" | "M" <impl-path> <type>
     //        | "X" <impl-path> <type> <path> | "Y" <type> <path> | <backref>
-    pub(crate) fn path_at(&mut self, s: &[u8], is_value: bool) -> Option<Step>
+    pub(crate) fn path_at<S: Showing>(&mut self, s: &[u8], is_value: bool) -> Option<Step>
         requires fits { FitsSymbol s.now }
-        requires writing { IsWriting s.now self.old (steps.Path is_value) }
-        ensures { IfSome result (IsWriting s.now self.new) }
+        requires writing { IsWriting S.IS_BRIEF s.now self.old (steps.Path is_value) }
+        ensures { IfSome result (IsWriting S.IS_BRIEF s.now self.new) }
     {
-        self.begin_outer(s, is_value)?;
+        self.begin_outer::<S>(s, is_value)?;
         match byte_at(s, self.at) {
-            b'C' => self.crate_root(s),
-            b'B' => self.path_again(s),
-            b'M' => self.begin_impl(s),
-            b'X' => self.begin_trait_impl(s),
-            b'Y' => self.begin_trait(s),
+            b'C' => self.crate_root::<S>(s),
+            b'B' => self.path_again::<S>(s),
+            b'M' => self.begin_impl::<S>(s),
+            b'X' => self.begin_trait_impl::<S>(s),
+            b'Y' => self.begin_trait::<S>(s),
             _ => None,
         }
     }
@@ -39,14 +40,14 @@ impl Direct {
     /// Reads the first bytes of the paths that are around the innermost one.
     // <path> = "N" <namespace> <path> <identifier> | "I" <path> {<generic-arg>} "E"
     #[inline(always)]
-    fn begin_outer(&mut self, s: &[u8], is_value: bool) -> Option<()>
-        requires { Awaits s.now self.old false }
-        ensures { OnSome result (Awaits s.now self.new false) }
+    fn begin_outer<S: Showing>(&mut self, s: &[u8], is_value: bool) -> Option<()>
+        requires { Awaits S.IS_BRIEF s.now self.old false }
+        ensures { OnSome result (Awaits S.IS_BRIEF s.now self.new false) }
     {
         'paths: loop {
             match byte_at(s, self.at) {
-                b'N' => self.begin_nest(s)?,
-                b'I' => self.begin_generic(s, is_value)?,
+                b'N' => self.begin_nest::<S>(s)?,
+                b'I' => self.begin_generic::<S>(s, is_value)?,
                 _ => return Some(()),
             }
         }
@@ -54,11 +55,11 @@ impl Direct {
 
     // <path> = "C" <identifier>
     #[inline(always)]
-    pub(crate) fn crate_root(&mut self, s: &[u8]) -> Option<Step>
+    pub(crate) fn crate_root<S: Showing>(&mut self, s: &[u8]) -> Option<Step>
         requires fits { FitsSymbol s.now }
         requires letter { StandsAt s.now self.old.at (67 ∷ []) }
-        requires awaits { AwaitsPath s.now self.old }
-        ensures { IfSome result (IsWriting s.now self.new) }
+        requires awaits { AwaitsPath S.IS_BRIEF s.now self.old }
+        ensures { IfSome result (IsWriting S.IS_BRIEF s.now self.new) }
     {
         let place = self.at;
         let from = self.text.len();
@@ -69,15 +70,15 @@ impl Direct {
         }
         self.push(&s[name.from..name.to])?;
         self.at = name.end;
-        self.ended(s, place, from, Forms::Alike, Forms::Alike)
+        self.ended::<S>(s, place, from, Forms::Alike, Forms::Alike)
     }
 
     // <path> = "N" <namespace> <path> <identifier>
     #[inline(always)]
-    pub(crate) fn begin_nest(&mut self, s: &[u8]) -> Option<()>
+    pub(crate) fn begin_nest<S: Showing>(&mut self, s: &[u8]) -> Option<()>
         requires letter { StandsAt s.now self.old.at (78 ∷ []) }
-        requires awaits { AwaitsPath s.now self.old }
-        ensures awaits { OnSome result (Awaits s.now self.new false) }
+        requires awaits { AwaitsPath S.IS_BRIEF s.now self.old }
+        ensures awaits { OnSome result (Awaits S.IS_BRIEF s.now self.new false) }
         ensures onward { OnSome result (self.old.at < self.new.at) }
     {
         let place = self.at;
@@ -94,7 +95,7 @@ impl Direct {
     /// The parent of a path in a namespace is read: its name follows.
     // <path> = "N" <namespace> <path> <identifier>
     #[inline(always)]
-    pub(crate) fn nest_ended(
+    pub(crate) fn nest_ended<S: Showing>(
         &mut self,
         s: &[u8],
         from: usize,
@@ -104,8 +105,8 @@ impl Direct {
     ) -> Option<()>
         requires fits { FitsSymbol s.now }
         requires lower { 97 ≤ letter }
-        requires arrives { Arrives s.now self.old (opens.Nest letter place) from forms }
-        ensures writing { OnSome result (IsWriting s.now self.new (steps.Value from forms)) }
+        requires arrives { Arrives S.IS_BRIEF s.now self.old (opens.Nest letter place) from forms }
+        ensures writing { OnSome result (IsWriting S.IS_BRIEF s.now self.new (steps.Value from forms)) }
         ensures waiting { OnSome result (length self.new.waiting.list.items ≤ length self.old.waiting.list.items) }
     {
         if !is_path(forms) {
@@ -119,22 +120,28 @@ impl Direct {
         self.push_pair(b':', b':')?;
         self.push(&s[name.from..name.to])?;
         self.at = name.end;
-        self.named_ended(s, place, from, forms)
+        self.named_ended::<S>(s, place, from, forms)
     }
 
     /// A name is written, and an empty one may follow.
     // <path> = "N" <namespace> <path> <identifier>
     #[inline(always)]
-    fn named_ended(&mut self, s: &[u8], place: usize, from: usize, forms: Forms) -> Option<()>
+    fn named_ended<S: Showing>(
+        &mut self,
+        s: &[u8],
+        place: usize,
+        from: usize,
+        forms: Forms,
+    ) -> Option<()>
         requires fits { FitsSymbol s.now }
-        requires ended { IsEndedWithRoom s.now self.old place from forms }
-        ensures writing { OnSome result (IsWriting s.now self.new (steps.Value from forms)) }
+        requires ended { IsEndedWithRoom S.IS_BRIEF s.now self.old place from forms }
+        ensures writing { OnSome result (IsWriting S.IS_BRIEF s.now self.new (steps.Value from forms)) }
         ensures waiting { OnSome result (length self.new.waiting.list.items ≤ length self.old.waiting.list.items) }
     {
         if byte_at(s, self.at) == b'0' {
             if let Some(Open::Nest { letter, .. }) = self.waiting.as_slice().last() {
                 if *letter >= b'a' {
-                    return self.unnamed_ended(s, place, from, forms);
+                    return self.unnamed_ended::<S>(s, place, from, forms);
                 }
             }
         }
@@ -145,10 +152,16 @@ impl Direct {
     /// The empty name of what a path is the parent of, as that of a constructor or of a type's constant: it prints nothing.
     // <path> = "N" <namespace> <path> <identifier>
     #[inline(never)]
-    fn unnamed_ended(&mut self, s: &[u8], parent: usize, from: usize, forms: Forms) -> Option<()>
+    fn unnamed_ended<S: Showing>(
+        &mut self,
+        s: &[u8],
+        parent: usize,
+        from: usize,
+        forms: Forms,
+    ) -> Option<()>
         requires fits { FitsSymbol s.now }
-        requires ended { IsEndedWithRoom s.now self.old parent from forms }
-        ensures writing { OnSome result (IsWriting s.now self.new (steps.Value from forms)) }
+        requires ended { IsEndedWithRoom S.IS_BRIEF s.now self.old parent from forms }
+        ensures writing { OnSome result (IsWriting S.IS_BRIEF s.now self.new (steps.Value from forms)) }
         ensures waiting { OnSome result (length self.new.waiting.list.items ≤ length self.old.waiting.list.items) }
     {
         self.note(parent, from, forms)?;
@@ -170,11 +183,11 @@ impl Direct {
     }
 
     // <path> = <backref>
-    fn path_again(&mut self, s: &[u8]) -> Option<Step>
+    fn path_again<S: Showing>(&mut self, s: &[u8]) -> Option<Step>
         requires fits { FitsSymbol s.now }
         requires letter { StandsAt s.now self.old.at (66 ∷ []) }
-        requires awaits { Awaits s.now self.old false }
-        ensures { IfSome result (IsWriting s.now self.new) }
+        requires awaits { Awaits S.IS_BRIEF s.now self.old false }
+        ensures { IfSome result (IsWriting S.IS_BRIEF s.now self.new) }
     {
         let place = self.at;
         let from = self.text.len();
@@ -185,15 +198,15 @@ impl Direct {
         }
         self.repeat(note)?;
         self.at = end;
-        self.ended(s, place, from, note.forms, note.forms)
+        self.ended::<S>(s, place, from, note.forms, note.forms)
     }
 
     // <path> = "I" <path> {<generic-arg>} "E"
     #[inline(always)]
-    pub(crate) fn begin_generic(&mut self, _s: &[u8], is_value: bool) -> Option<()>
+    pub(crate) fn begin_generic<S: Showing>(&mut self, _s: &[u8], is_value: bool) -> Option<()>
         requires letter { StandsAt _s.now self.old.at (73 ∷ []) }
-        requires awaits { AwaitsPath _s.now self.old }
-        ensures awaits { OnSome result (Awaits _s.now self.new false) }
+        requires awaits { AwaitsPath S.IS_BRIEF _s.now self.old }
+        ensures awaits { OnSome result (Awaits S.IS_BRIEF _s.now self.new false) }
         ensures onward { OnSome result (self.old.at < self.new.at) }
     {
         let place = self.at;

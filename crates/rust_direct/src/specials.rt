@@ -1,6 +1,6 @@
 // Closures, shims, and other things that a compiler made.
 
-ghost use Rattle.std.specs.Prelude.{◌≡◌, ◌<◌, decimal, true};
+ghost use Rattle.std.specs.Prelude.{◌≡◌, ◌<◌, ◌≤◌, decimal, true};
 ghost use Rattle.std.specs.Option.{IfSome, OnSome};
 ghost use Rattle.sym_core.specs.Number.{FitsSymbol};
 ghost use Rattle.rust_tree.specs.Shown.{namespace_text};
@@ -14,6 +14,7 @@ ghost use Rattle.rust_direct.specs.Awaits.{Arrives};
 use crate::direct::Direct;
 use crate::names::name_at;
 use crate::open::{Forms, Step, is_path};
+use crate::showing::Showing;
 use crate::tokens::disambiguator_at;
 use itoa::Buffer;
 
@@ -21,7 +22,7 @@ impl Direct {
     /// The parent of a path in a namespace of the compiler's own is read.
     // <namespace> = "C" | "S" | <A-Z> | ..
     #[tactic(auto, unfolding(rust_tree::specs::Shown::namespace_text))]
-    pub(crate) fn special_ended(
+    pub(crate) fn special_ended<S: Showing>(
         &mut self,
         s: &[u8],
         from: usize,
@@ -30,22 +31,22 @@ impl Direct {
         place: usize,
     ) -> Option<Step>
         requires fits { FitsSymbol s.now }
-        requires arrives { Arrives s.now self.old (opens.Nest letter place) from forms }
-        ensures { IfSome result (IsWriting s.now self.new) }
+        requires arrives { Arrives S.IS_BRIEF s.now self.old (opens.Nest letter place) from forms }
+        ensures { IfSome result (IsWriting S.IS_BRIEF s.now self.new) }
     {
-        if letter >= b'a' || !is_path(forms) {
+        if letter < b'A' || letter >= b'a' || !is_path(forms) {
             return None;
         }
         match letter {
-            b'C' => self.special_named(s, from, forms, letter, place, b"closure"),
-            b'S' => self.special_named(s, from, forms, letter, place, b"shim"),
-            _ => self.special_named(s, from, forms, letter, place, &[letter]),
+            b'C' => self.special_named::<S>(s, from, forms, letter, place, b"closure"),
+            b'S' => self.special_named::<S>(s, from, forms, letter, place, b"shim"),
+            _ => self.special_named::<S>(s, from, forms, letter, place, &[letter]),
         }
     }
 
     /// Its number and its name follow.
     // <path> = "N" <namespace> <path> <identifier>
-    fn special_named(
+    fn special_named<S: Showing>(
         &mut self,
         s: &[u8],
         from: usize,
@@ -56,16 +57,17 @@ impl Direct {
     ) -> Option<Step>
         requires fits { FitsSymbol s.now }
         requires special { _letter < 97 }
+        requires upper { 65 ≤ _letter }
         requires path { is_path forms ≡ true }
-        requires arrives { Arrives s.now self.old (opens.Nest _letter place) from forms }
+        requires arrives { Arrives S.IS_BRIEF s.now self.old (opens.Nest _letter place) from forms }
         requires text { namespace.now ≡ namespace_text _letter }
-        ensures { IfSome result (IsWriting s.now self.new) }
+        ensures { IfSome result (IsWriting S.IS_BRIEF s.now self.new) }
     {
         let (count, behind) = disambiguator_at(s, self.at)?;
         let name = name_at(s, behind)?;
         self.push_special(namespace, &s[name.from..name.to], count)?;
         self.at = name.end;
-        self.ended(s, place, from, forms, forms)
+        self.ended::<S>(s, place, from, forms, forms)
     }
 
     /// Writes what follows the parent.

@@ -4,11 +4,12 @@ ghost use Rattle.std.specs.Prelude.{◌≡◌, ℕ, ◌≤◌, ◌+◌, ◌*◌,
 ghost use Rattle.std.specs.Option.{IfSome, OnSome};
 ghost use Rattle.sym_core.specs.Number.{FitsSymbol};
 ghost use Rattle.rust_direct.specs.declared.open.Open.TheVariants as opens;
-ghost use Rattle.rust_direct.specs.WriterInvariant.{IsWriting};
+ghost use Rattle.rust_direct.specs.WriterInvariant.{IsWriting, IsWhole, IsShown, HasRooms};
 ghost use Rattle.rust_direct.specs.Awaits.{IsFresh, Arrives, IsSymbolEnded};
 
 use crate::direct::Direct;
 use crate::open::{Forms, Open, Step, has_form, is_path};
+use crate::showing::Showing;
 use crate::tokens::is_suffix;
 use std::alloc::Global;
 use std::mem;
@@ -57,75 +58,75 @@ impl Direct {
     /// Takes a step: an argument, its type, the path that this is, and the end of what waited for it, as far as they come.
     // A step for each of these took 11 % more instructions.
     #[inline(always)]
-    pub fn take(&mut self, s: &[u8], step: Step) -> Option<Step>
+    pub fn take<S: Showing>(&mut self, s: &[u8], step: Step) -> Option<Step>
         requires fits { FitsSymbol s.now }
-        requires writing { IsWriting s.now self.old step }
-        ensures { IfSome result (IsWriting s.now self.new) }
+        requires writing { IsWriting S.IS_BRIEF s.now self.old step }
+        ensures { IfSome result (IsWriting S.IS_BRIEF s.now self.new) }
     {
-        let behind_argument = self.take_argument(s, step)?;
-        let behind_type = self.take_type(s, behind_argument)?;
-        let behind_path = self.take_path(s, behind_type)?;
-        self.take_value(s, behind_path)
+        let behind_argument = self.take_argument::<S>(s, step)?;
+        let behind_type = self.take_type::<S>(s, behind_argument)?;
+        let behind_path = self.take_path::<S>(s, behind_type)?;
+        self.take_value::<S>(s, behind_path)
     }
 
     /// Begins an argument, if one is next.
     #[inline(always)]
-    fn take_argument(&mut self, s: &[u8], step: Step) -> Option<Step>
+    fn take_argument<S: Showing>(&mut self, s: &[u8], step: Step) -> Option<Step>
         requires fits { FitsSymbol s.now }
-        requires writing { IsWriting s.now self.old step }
-        ensures { IfSome result (IsWriting s.now self.new) }
+        requires writing { IsWriting S.IS_BRIEF s.now self.old step }
+        ensures { IfSome result (IsWriting S.IS_BRIEF s.now self.new) }
     {
         match step {
-            Step::Arguments { is_first } => self.argument_at(s, is_first),
+            Step::Arguments { is_first } => self.argument_at::<S>(s, is_first),
             other => Some(other),
         }
     }
 
     /// Begins a type, if one is next.
     #[inline(always)]
-    fn take_type(&mut self, s: &[u8], step: Step) -> Option<Step>
+    fn take_type<S: Showing>(&mut self, s: &[u8], step: Step) -> Option<Step>
         requires fits { FitsSymbol s.now }
-        requires writing { IsWriting s.now self.old step }
-        ensures { IfSome result (IsWriting s.now self.new) }
+        requires writing { IsWriting S.IS_BRIEF s.now self.old step }
+        ensures { IfSome result (IsWriting S.IS_BRIEF s.now self.new) }
     {
         match step {
-            Step::Type => self.type_at(s),
+            Step::Type => self.type_at::<S>(s),
             other => Some(other),
         }
     }
 
     /// Begins a path, if one is next.
     #[inline(always)]
-    fn take_path(&mut self, s: &[u8], step: Step) -> Option<Step>
+    fn take_path<S: Showing>(&mut self, s: &[u8], step: Step) -> Option<Step>
         requires fits { FitsSymbol s.now }
-        requires writing { IsWriting s.now self.old step }
-        ensures { IfSome result (IsWriting s.now self.new) }
+        requires writing { IsWriting S.IS_BRIEF s.now self.old step }
+        ensures { IfSome result (IsWriting S.IS_BRIEF s.now self.new) }
     {
         match step {
-            Step::Path { is_value } => self.path_at(s, is_value),
+            Step::Path { is_value } => self.path_at::<S>(s, is_value),
             other => Some(other),
         }
     }
 
     /// Hands on what is read, if that is next.
     #[inline(always)]
-    fn take_value(&mut self, s: &[u8], step: Step) -> Option<Step>
+    fn take_value<S: Showing>(&mut self, s: &[u8], step: Step) -> Option<Step>
         requires fits { FitsSymbol s.now }
-        requires writing { IsWriting s.now self.old step }
-        ensures { IfSome result (IsWriting s.now self.new) }
+        requires writing { IsWriting S.IS_BRIEF s.now self.old step }
+        ensures { IfSome result (IsWriting S.IS_BRIEF s.now self.new) }
     {
         match step {
-            Step::Value { from, forms } => self.pass(s, from, forms),
+            Step::Value { from, forms } => self.pass::<S>(s, from, forms),
             other => Some(other),
         }
     }
 
     /// Reads the first bytes of a symbol, if it isn't too long.
     // <symbol-name> = "_R" <path> [<instantiating-crate>] [<vendor-specific-suffix>]
-    pub fn begin(&mut self, s: &[u8]) -> Option<Step>
+    pub fn begin<S: Showing>(&mut self, s: &[u8]) -> Option<Step>
         requires fits { FitsSymbol s.now }
         requires fresh { IsFresh s.now self.old }
-        ensures { IfSome result (IsWriting s.now self.new) }
+        ensures { IfSome result (IsWriting S.IS_BRIEF s.now self.new) }
     {
         if s.len() > LONGEST || byte_at(s, 0) != b'_' || byte_at(s, 1) != b'R' {
             return None;
@@ -151,10 +152,15 @@ impl Direct {
 
     /// The path of a symbol is read: that of the crate that asked for it follows, or the end.
     // <symbol-name> = "_R" <path> [<instantiating-crate>] [<vendor-specific-suffix>]
-    pub(crate) fn symbol_ended(&mut self, s: &[u8], _from: usize, forms: Forms) -> Option<Step>
+    pub(crate) fn symbol_ended<S: Showing>(
+        &mut self,
+        s: &[u8],
+        _from: usize,
+        forms: Forms,
+    ) -> Option<Step>
         requires fits { FitsSymbol s.now }
-        requires arrives { Arrives s.now self.old opens.Symbol _from forms }
-        ensures { IfSome result (IsWriting s.now self.new) }
+        requires arrives { Arrives S.IS_BRIEF s.now self.old opens.Symbol _from forms }
+        ensures { IfSome result (IsWriting S.IS_BRIEF s.now self.new) }
     {
         if !has_form(true, forms) {
             return None;
@@ -163,7 +169,7 @@ impl Direct {
             return None;
         }
         if !byte_at(s, self.at).is_ascii_uppercase() {
-            return self.finish(s);
+            return self.finish::<S>(s);
         }
         self.waiting.push(Open::Other)?;
         self.turn();
@@ -172,10 +178,15 @@ impl Direct {
 
     /// The path of the crate that asked for a symbol is read.
     // <symbol-name> = "_R" <path> [<instantiating-crate>] [<vendor-specific-suffix>]
-    pub(crate) fn other_ended(&mut self, s: &[u8], _from: usize, forms: Forms) -> Option<Step>
+    pub(crate) fn other_ended<S: Showing>(
+        &mut self,
+        s: &[u8],
+        _from: usize,
+        forms: Forms,
+    ) -> Option<Step>
         requires fits { FitsSymbol s.now }
-        requires arrives { Arrives s.now self.old opens.Other _from forms }
-        ensures { IfSome result (IsWriting s.now self.new) }
+        requires arrives { Arrives S.IS_BRIEF s.now self.old opens.Other _from forms }
+        ensures { IfSome result (IsWriting S.IS_BRIEF s.now self.new) }
     {
         if !is_path(forms) {
             return None;
@@ -184,28 +195,28 @@ impl Direct {
             return None;
         }
         self.turn();
-        self.finish(s)
+        self.finish::<S>(s)
     }
 
     /// The end of a symbol, after the text of its path: most have no suffix.
     // <symbol-name> = "_R" <path> [<instantiating-crate>] [<vendor-specific-suffix>]
     #[inline(always)]
-    fn finish(&mut self, s: &[u8]) -> Option<Step>
-        requires { IsSymbolEnded s.now self.old }
-        ensures { IfSome result (IsWriting s.now self.new) }
+    fn finish<S: Showing>(&mut self, s: &[u8]) -> Option<Step>
+        requires { IsSymbolEnded S.IS_BRIEF s.now self.old }
+        ensures { IfSome result (IsWriting S.IS_BRIEF s.now self.new) }
     {
         if self.at == s.len() {
             return Some(Step::Ended);
         }
-        self.push_suffix(s)
+        self.push_suffix::<S>(s)
     }
 
     /// The suffix of a symbol.
     // <vendor-specific-suffix> = ("." | "$") <suffix>
     #[inline(never)]
-    fn push_suffix(&mut self, s: &[u8]) -> Option<Step>
-        requires { IsSymbolEnded s.now self.old }
-        ensures { IfSome result (IsWriting s.now self.new) }
+    fn push_suffix<S: Showing>(&mut self, s: &[u8]) -> Option<Step>
+        requires { IsSymbolEnded S.IS_BRIEF s.now self.old }
+        ensures { IfSome result (IsWriting S.IS_BRIEF s.now self.new) }
     {
         let suffix = s.get(self.at..)?;
         if !is_suffix(suffix) {
@@ -215,6 +226,19 @@ impl Direct {
         self.push(suffix)?;
         self.push(b")")?;
         Some(Step::Ended)
+    }
+
+    /// Leaves out of what was written what isn't to be shown.
+    #[inline(always)]
+    pub fn show<S: Showing>(&mut self, _s: &[u8]) -> Option<()>
+        requires { IsWhole S.IS_BRIEF _s.now self.old.text.list.items }
+        ensures shown { OnSome result (IsShown S.IS_BRIEF _s.now (length self.old.text.list.items) self.new.text.list.items) }
+        ensures rooms { HasRooms _s.now self.old → HasRooms _s.now self.new }
+    {
+        if S::IS_BRIEF {
+            return self.text.leave_out_marked();
+        }
+        Some(())
     }
 
     /// Writes to the other of the two texts from here on.

@@ -11,19 +11,20 @@ ghost use Rattle.rust_direct.specs.Awaits.{AwaitsPath, AwaitsTraitType, Arrives}
 use crate::direct::Direct;
 use crate::hashes::disambiguator_end;
 use crate::open::{Forms, Open, Step, has_form, is_path, is_type};
+use crate::showing::Showing;
 
 impl Direct {
     // <path> = "X" <impl-path> <type> <path>
-    pub(crate) fn begin_trait_impl(&mut self, s: &[u8]) -> Option<Step>
+    pub(crate) fn begin_trait_impl<S: Showing>(&mut self, s: &[u8]) -> Option<Step>
         requires fits { FitsSymbol s.now }
         requires letter { StandsAt s.now self.old.at (88 ∷ []) }
-        requires awaits { AwaitsPath s.now self.old }
-        ensures { IfSome result (IsWriting s.now self.new) }
+        requires awaits { AwaitsPath S.IS_BRIEF s.now self.old }
+        ensures { IfSome result (IsWriting S.IS_BRIEF s.now self.new) }
     {
         let place = self.at;
         let behind = disambiguator_end(s, place.checked_add(1)?)?;
         if self.is_aside {
-            return self.begin_inner_trait_impl(s, behind);
+            return self.begin_inner_trait_impl::<S>(s, behind);
         }
         self.at = behind;
         self.waiting.push(Open::TraitImpl { place })?;
@@ -33,15 +34,15 @@ impl Direct {
 
     /// The path of an impl of a trait is read, and its type follows.
     // <path> = "X" <impl-path> <type> <path>
-    pub(crate) fn trait_impl_ended(
+    pub(crate) fn trait_impl_ended<S: Showing>(
         &mut self,
         _s: &[u8],
         _here: usize,
         forms: Forms,
         place: usize,
     ) -> Option<Step>
-        requires { Arrives _s.now self.old (opens.TraitImpl place) _here forms }
-        ensures { IfSome result (IsWriting _s.now self.new) }
+        requires { Arrives S.IS_BRIEF _s.now self.old (opens.TraitImpl place) _here forms }
+        ensures { IfSome result (IsWriting S.IS_BRIEF _s.now self.new) }
     {
         if !is_path(forms) {
             return None;
@@ -50,33 +51,33 @@ impl Direct {
             return None;
         }
         self.turn();
-        self.begin_trait_type(_s, place)
+        self.begin_trait_type::<S>(_s, place)
     }
 
     /// The path of an impl of a trait that isn't shown itself is read, and its type follows.
     // <path> = "X" <impl-path> <type> <path>
-    pub(crate) fn inner_trait_impl_ended(
+    pub(crate) fn inner_trait_impl_ended<S: Showing>(
         &mut self,
         _s: &[u8],
         _here: usize,
         forms: Forms,
         place: usize,
     ) -> Option<Step>
-        requires { Arrives _s.now self.old (opens.InnerTraitImpl place) _here forms }
-        ensures { IfSome result (IsWriting _s.now self.new) }
+        requires { Arrives S.IS_BRIEF _s.now self.old (opens.InnerTraitImpl place) _here forms }
+        ensures { IfSome result (IsWriting S.IS_BRIEF _s.now self.new) }
     {
         if !is_path(forms) {
             return None;
         }
-        self.begin_trait_type(_s, place)
+        self.begin_trait_type::<S>(_s, place)
     }
 
     /// The type that implements a trait comes after an angle.
     // <path> = "X" <impl-path> <type> <path>
     #[inline(always)]
-    fn begin_trait_type(&mut self, _s: &[u8], place: usize) -> Option<Step>
-        requires { AwaitsTraitType _s.now self.old place }
-        ensures { IfSome result (IsWriting _s.now self.new) }
+    fn begin_trait_type<S: Showing>(&mut self, _s: &[u8], place: usize) -> Option<Step>
+        requires { AwaitsTraitType S.IS_BRIEF _s.now self.old place }
+        ensures { IfSome result (IsWriting S.IS_BRIEF _s.now self.new) }
     {
         let from = self.text.len();
         self.push_byte(b'<')?;
@@ -85,10 +86,10 @@ impl Direct {
     }
 
     // <path> = "Y" <type> <path>
-    pub(crate) fn begin_trait(&mut self, s: &[u8]) -> Option<Step>
+    pub(crate) fn begin_trait<S: Showing>(&mut self, s: &[u8]) -> Option<Step>
         requires letter { StandsAt s.now self.old.at (89 ∷ []) }
-        requires awaits { AwaitsPath s.now self.old }
-        ensures { IfSome result (IsWriting s.now self.new) }
+        requires awaits { AwaitsPath S.IS_BRIEF s.now self.old }
+        ensures { IfSome result (IsWriting S.IS_BRIEF s.now self.new) }
     {
         let place = self.at;
         let from = self.text.len();
@@ -99,7 +100,7 @@ impl Direct {
 
     /// The type is read that implements a trait, and the trait follows.
     // <path> = "X" <impl-path> <type> <path> | "Y" <type> <path>
-    pub(crate) fn implementing_ended(
+    pub(crate) fn implementing_ended<S: Showing>(
         &mut self,
         _s: &[u8],
         _here: usize,
@@ -107,8 +108,8 @@ impl Direct {
         place: usize,
         from: usize,
     ) -> Option<Step>
-        requires { Arrives _s.now self.old (opens.Implementing place from) _here forms }
-        ensures { IfSome result (IsWriting _s.now self.new) }
+        requires { Arrives S.IS_BRIEF _s.now self.old (opens.Implementing place from) _here forms }
+        ensures { IfSome result (IsWriting S.IS_BRIEF _s.now self.new) }
     {
         if !is_type(forms) {
             return None;
@@ -120,7 +121,7 @@ impl Direct {
 
     /// The trait is read that a type implements.
     // <path> = "X" <impl-path> <type> <path> | "Y" <type> <path>
-    pub(crate) fn implemented_ended(
+    pub(crate) fn implemented_ended<S: Showing>(
         &mut self,
         s: &[u8],
         _here: usize,
@@ -128,13 +129,13 @@ impl Direct {
         place: usize,
         from: usize,
     ) -> Option<Step>
-        requires { Arrives s.now self.old (opens.Implemented place from) _here forms }
-        ensures { IfSome result (IsWriting s.now self.new) }
+        requires { Arrives S.IS_BRIEF s.now self.old (opens.Implemented place from) _here forms }
+        ensures { IfSome result (IsWriting S.IS_BRIEF s.now self.new) }
     {
         if !has_form(false, forms) {
             return None;
         }
         self.push_byte(b'>')?;
-        self.ended(s, place, from, Forms::Alike, Forms::Alike)
+        self.ended::<S>(s, place, from, Forms::Alike, Forms::Alike)
     }
 }

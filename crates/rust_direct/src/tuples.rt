@@ -9,6 +9,7 @@ ghost use Rattle.rust_direct.specs.Awaits.{Awaits, Arrives};
 
 use crate::direct::Direct;
 use crate::open::{Forms, Open, Step, is_type};
+use crate::showing::Showing;
 use sym_direct::byte_at;
 
 /// What closes a tuple after its first type, and after another one.
@@ -22,10 +23,10 @@ fn tuple_end(is_first: bool) -> &'static [u8]
 impl Direct {
     /// The first type of a tuple follows: one without types is given up.
     // <type> = "T" {<type>} "E"
-    pub(crate) fn begin_tuple(&mut self, s: &[u8]) -> Option<Step>
+    pub(crate) fn begin_tuple<S: Showing>(&mut self, s: &[u8]) -> Option<Step>
         requires letter { StandsAt s.now self.old.at (84 ∷ []) }
-        requires awaits { Awaits s.now self.old true }
-        ensures { IfSome result (IsWriting s.now self.new) }
+        requires awaits { Awaits S.IS_BRIEF s.now self.old true }
+        ensures { IfSome result (IsWriting S.IS_BRIEF s.now self.new) }
     {
         let place = self.at;
         let from = self.text.len();
@@ -44,7 +45,7 @@ impl Direct {
 
     /// A type of a tuple is read: another one follows, or the E.
     // <type> = "T" {<type>} "E"
-    pub(crate) fn element_ended(
+    pub(crate) fn element_ended<S: Showing>(
         &mut self,
         s: &[u8],
         here: usize,
@@ -53,14 +54,14 @@ impl Direct {
         from: usize,
         is_first: bool,
     ) -> Option<Step>
-        requires { Arrives s.now self.old (opens.Tuple place from is_first) here forms }
-        ensures { IfSome result (IsWriting s.now self.new) }
+        requires { Arrives S.IS_BRIEF s.now self.old (opens.Tuple place from is_first) here forms }
+        ensures { IfSome result (IsWriting S.IS_BRIEF s.now self.new) }
     {
         if !is_type(forms) {
             return None;
         }
         if byte_at(s, self.at) == b'E' {
-            return self.tuple_ended(s, here, forms, place, from, is_first);
+            return self.tuple_ended::<S>(s, here, forms, place, from, is_first);
         }
         self.push_pair(b',', b' ')?;
         self.waiting.push(Open::Tuple {
@@ -73,7 +74,7 @@ impl Direct {
 
     /// The E of a tuple.
     // <type> = "T" {<type>} "E"
-    fn tuple_ended(
+    fn tuple_ended<S: Showing>(
         &mut self,
         s: &[u8],
         _here: usize,
@@ -83,14 +84,14 @@ impl Direct {
         is_first: bool,
     ) -> Option<Step>
         requires letter { StandsAt s.now self.old.at (69 ∷ []) }
-        requires arrives { Arrives s.now self.old (opens.Tuple place from is_first) _here forms }
-        ensures { IfSome result (IsWriting s.now self.new) }
+        requires arrives { Arrives S.IS_BRIEF s.now self.old (opens.Tuple place from is_first) _here forms }
+        ensures { IfSome result (IsWriting S.IS_BRIEF s.now self.new) }
     {
         if !is_type(forms) {
             return None;
         }
         self.at = self.at.checked_add(1)?;
         self.push(tuple_end(is_first))?;
-        self.ended(s, place, from, Forms::Typed, Forms::Typed)
+        self.ended::<S>(s, place, from, Forms::Typed, Forms::Typed)
     }
 }

@@ -11,6 +11,7 @@ ghost use Rattle.rust_direct.specs.Awaits.{Awaits};
 
 use crate::direct::Direct;
 use crate::open::{Forms, Step, is_type};
+use crate::showing::Showing;
 use crate::tokens::number_at;
 use sym_direct::byte_at;
 
@@ -49,43 +50,43 @@ impl Direct {
     /// Reads a type, up to the first that is in it.
     // <type> = <basic-type> | <path> | "S" <type> | "T" {<type>} "E" | "R" [<lifetime>] <type> | "Q" [<lifetime>] <type> | "P" <type>
     //        | "O" <type> | <backref> | ..
-    pub(crate) fn type_at(&mut self, s: &[u8]) -> Option<Step>
+    pub(crate) fn type_at<S: Showing>(&mut self, s: &[u8]) -> Option<Step>
         requires fits { FitsSymbol s.now }
-        requires writing { IsWriting s.now self.old steps.Type }
-        ensures { IfSome result (IsWriting s.now self.new) }
+        requires writing { IsWriting S.IS_BRIEF s.now self.old steps.Type }
+        ensures { IfSome result (IsWriting S.IS_BRIEF s.now self.new) }
     {
         match byte_at(s, self.at) {
-            b'C' => self.crate_root(s),
+            b'C' => self.crate_root::<S>(s),
             b'N' => {
-                self.begin_nest(s)?;
+                self.begin_nest::<S>(s)?;
                 Some(Step::Path { is_value: false })
             }
             b'I' => {
-                self.begin_generic(s, false)?;
+                self.begin_generic::<S>(s, false)?;
                 Some(Step::Path { is_value: false })
             }
-            b'M' => self.begin_impl(s),
-            b'X' => self.begin_trait_impl(s),
-            b'Y' => self.begin_trait(s),
-            b'R' => self.begin_shared(s),
-            b'Q' => self.begin_mutable(s),
-            b'P' => self.begin_const(s),
-            b'O' => self.begin_mut(s),
-            b'S' => self.begin_slice(s),
-            b'T' => self.begin_tuple(s),
-            b'B' => self.type_again(s),
-            b'A' => self.begin_array(s),
-            b'D' => self.begin_dyn(s),
-            letter => self.basic(s, letter),
+            b'M' => self.begin_impl::<S>(s),
+            b'X' => self.begin_trait_impl::<S>(s),
+            b'Y' => self.begin_trait::<S>(s),
+            b'R' => self.begin_shared::<S>(s),
+            b'Q' => self.begin_mutable::<S>(s),
+            b'P' => self.begin_const::<S>(s),
+            b'O' => self.begin_mut::<S>(s),
+            b'S' => self.begin_slice::<S>(s),
+            b'T' => self.begin_tuple::<S>(s),
+            b'B' => self.type_again::<S>(s),
+            b'A' => self.begin_array::<S>(s),
+            b'D' => self.begin_dyn::<S>(s),
+            letter => self.basic::<S>(s, letter),
         }
     }
 
     // <basic-type> = "a" | "b" | ..
     #[inline(always)]
-    fn basic(&mut self, s: &[u8], letter: u8) -> Option<Step>
+    fn basic<S: Showing>(&mut self, s: &[u8], letter: u8) -> Option<Step>
         requires letter { letter ≢ 0 → StandsAt s.now self.old.at (letter ∷ []) }
-        requires awaits { Awaits s.now self.old true }
-        ensures { IfSome result (IsWriting s.now self.new) }
+        requires awaits { Awaits S.IS_BRIEF s.now self.old true }
+        ensures { IfSome result (IsWriting S.IS_BRIEF s.now self.new) }
     {
         let text = basic_text(letter);
         if text.is_empty() {
@@ -95,15 +96,15 @@ impl Direct {
         let from = self.text.len();
         self.at = place.checked_add(1)?;
         self.push(text)?;
-        self.ended(s, place, from, Forms::Typed, Forms::Typed)
+        self.ended::<S>(s, place, from, Forms::Typed, Forms::Typed)
     }
 
     // <type> = <backref>
-    fn type_again(&mut self, s: &[u8]) -> Option<Step>
+    fn type_again<S: Showing>(&mut self, s: &[u8]) -> Option<Step>
         requires fits { FitsSymbol s.now }
         requires letter { StandsAt s.now self.old.at (66 ∷ []) }
-        requires awaits { Awaits s.now self.old true }
-        ensures { IfSome result (IsWriting s.now self.new) }
+        requires awaits { Awaits S.IS_BRIEF s.now self.old true }
+        ensures { IfSome result (IsWriting S.IS_BRIEF s.now self.new) }
     {
         let place = self.at;
         let from = self.text.len();
@@ -114,6 +115,6 @@ impl Direct {
         }
         self.repeat(note)?;
         self.at = end;
-        self.ended(s, place, from, note.forms, Forms::Typed)
+        self.ended::<S>(s, place, from, note.forms, Forms::Typed)
     }
 }

@@ -8,15 +8,16 @@ ghost use Rattle.rust_direct.specs.Awaits.{Arrives};
 
 use crate::direct::Direct;
 use crate::open::{Forms, Open, Step};
+use crate::showing::Showing;
 
 impl Direct {
     /// Takes out what waits for a path or a type that is read. What waits for the name of a path in a namespace has it first, and then
     /// takes that path's place.
     #[inline(always)]
-    fn take_waiting(&mut self, s: &[u8], from: usize, forms: Forms) -> Option<Open>
+    fn take_waiting<S: Showing>(&mut self, s: &[u8], from: usize, forms: Forms) -> Option<Open>
         requires fits { FitsSymbol s.now }
-        requires writing { IsWriting s.now self.old (steps.Value from forms) }
-        ensures { IfSome result (λ entry. Arrives s.now self.new entry from forms) }
+        requires writing { IsWriting S.IS_BRIEF s.now self.old (steps.Value from forms) }
+        ensures { IfSome result (λ entry. Arrives S.IS_BRIEF s.now self.new entry from forms) }
     {
         'names: loop {
             let entry = self.waiting.pop()?;
@@ -26,58 +27,60 @@ impl Direct {
             if letter < b'a' {
                 return Some(entry);
             }
-            self.nest_ended(s, from, forms, letter, place)?;
+            self.nest_ended::<S>(s, from, forms, letter, place)?;
         }
     }
 
     /// Hands a path or a type on to what waits for it.
-    pub(crate) fn pass(&mut self, s: &[u8], from: usize, forms: Forms) -> Option<Step>
+    pub(crate) fn pass<S: Showing>(&mut self, s: &[u8], from: usize, forms: Forms) -> Option<Step>
         requires fits { FitsSymbol s.now }
-        requires writing { IsWriting s.now self.old (steps.Value from forms) }
-        ensures { IfSome result (IsWriting s.now self.new) }
+        requires writing { IsWriting S.IS_BRIEF s.now self.old (steps.Value from forms) }
+        ensures { IfSome result (IsWriting S.IS_BRIEF s.now self.new) }
     {
-        match self.take_waiting(s, from, forms)? {
-            Open::Symbol => self.symbol_ended(s, from, forms),
-            Open::Other => self.other_ended(s, from, forms),
-            Open::Nest { letter, place } => self.special_ended(s, from, forms, letter, place),
-            Open::Generic { is_value, place } => self.generic_ended(
+        match self.take_waiting::<S>(s, from, forms)? {
+            Open::Symbol => self.symbol_ended::<S>(s, from, forms),
+            Open::Other => self.other_ended::<S>(s, from, forms),
+            Open::Nest { letter, place } => self.special_ended::<S>(s, from, forms, letter, place),
+            Open::Generic { is_value, place } => self.generic_ended::<S>(
                 s, from, forms, is_value, place,
             ),
             Open::Argument {
                 place,
                 from: begins,
                 is_value,
-            } => self.argument_ended(s, from, forms, place, begins, is_value),
-            Open::Impl { place } => self.impl_ended(s, from, forms, place),
+            } => self.argument_ended::<S>(s, from, forms, place, begins, is_value),
+            Open::Impl { place } => self.impl_ended::<S>(s, from, forms, place),
             Open::Wrap {
                 place,
                 from: begins,
                 closing,
-            } => self.wrap_ended(s, from, forms, place, begins, closing),
+            } => self.wrap_ended::<S>(s, from, forms, place, begins, closing),
             Open::Dyn {
                 place,
                 from: begins,
-            } => self.bound_ended(s, from, forms, place, begins),
+            } => self.bound_ended::<S>(s, from, forms, place, begins),
             Open::Array {
                 place,
                 from: begins,
-            } => self.array_ended(s, from, forms, place, begins),
-            Open::TraitImpl { place } => self.trait_impl_ended(s, from, forms, place),
-            Open::InnerImpl { place } => self.inner_impl_ended(s, from, forms, place),
-            Open::InnerTraitImpl { place } => self.inner_trait_impl_ended(s, from, forms, place),
+            } => self.array_ended::<S>(s, from, forms, place, begins),
+            Open::TraitImpl { place } => self.trait_impl_ended::<S>(s, from, forms, place),
+            Open::InnerImpl { place } => self.inner_impl_ended::<S>(s, from, forms, place),
+            Open::InnerTraitImpl { place } => self.inner_trait_impl_ended::<S>(
+                s, from, forms, place,
+            ),
             Open::Implementing {
                 place,
                 from: begins,
-            } => self.implementing_ended(s, from, forms, place, begins),
+            } => self.implementing_ended::<S>(s, from, forms, place, begins),
             Open::Implemented {
                 place,
                 from: begins,
-            } => self.implemented_ended(s, from, forms, place, begins),
+            } => self.implemented_ended::<S>(s, from, forms, place, begins),
             Open::Tuple {
                 place,
                 from: begins,
                 is_first,
-            } => self.element_ended(s, from, forms, place, begins, is_first),
+            } => self.element_ended::<S>(s, from, forms, place, begins, is_first),
         }
     }
 }

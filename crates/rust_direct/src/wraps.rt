@@ -11,6 +11,7 @@ ghost use Rattle.rust_direct.specs.Awaits.{Awaits, Arrives};
 
 use crate::direct::Direct;
 use crate::open::{Closing, Forms, Open, Step, is_type};
+use crate::showing::Showing;
 use sym_direct::byte_at;
 
 /// The place after an erased lifetime, or the same place where none is there.
@@ -32,10 +33,10 @@ fn behind_erased(s: &[u8], at: usize) -> Option<usize>
 
 impl Direct {
     // <type> = "R" [<lifetime>] <type>
-    pub(crate) fn begin_shared(&mut self, s: &[u8]) -> Option<Step>
+    pub(crate) fn begin_shared<S: Showing>(&mut self, s: &[u8]) -> Option<Step>
         requires letter { StandsAt s.now self.old.at (82 ∷ []) }
-        requires awaits { Awaits s.now self.old true }
-        ensures { IfSome result (IsWriting s.now self.new) }
+        requires awaits { Awaits S.IS_BRIEF s.now self.old true }
+        ensures { IfSome result (IsWriting S.IS_BRIEF s.now self.new) }
     {
         let behind = behind_erased(s, self.at.checked_add(1)?)?;
         let entry = self.wrap(Closing::Nothing);
@@ -44,10 +45,10 @@ impl Direct {
     }
 
     // <type> = "Q" [<lifetime>] <type>
-    pub(crate) fn begin_mutable(&mut self, s: &[u8]) -> Option<Step>
+    pub(crate) fn begin_mutable<S: Showing>(&mut self, s: &[u8]) -> Option<Step>
         requires letter { StandsAt s.now self.old.at (81 ∷ []) }
-        requires awaits { Awaits s.now self.old true }
-        ensures { IfSome result (IsWriting s.now self.new) }
+        requires awaits { Awaits S.IS_BRIEF s.now self.old true }
+        ensures { IfSome result (IsWriting S.IS_BRIEF s.now self.new) }
     {
         let behind = behind_erased(s, self.at.checked_add(1)?)?;
         let entry = self.wrap(Closing::Nothing);
@@ -56,10 +57,10 @@ impl Direct {
     }
 
     // <type> = "P" <type>
-    pub(crate) fn begin_const(&mut self, s: &[u8]) -> Option<Step>
+    pub(crate) fn begin_const<S: Showing>(&mut self, s: &[u8]) -> Option<Step>
         requires letter { StandsAt s.now self.old.at (80 ∷ []) }
-        requires awaits { Awaits s.now self.old true }
-        ensures { IfSome result (IsWriting s.now self.new) }
+        requires awaits { Awaits S.IS_BRIEF s.now self.old true }
+        ensures { IfSome result (IsWriting S.IS_BRIEF s.now self.new) }
     {
         let behind = self.at.checked_add(1)?;
         let entry = self.wrap(Closing::Nothing);
@@ -68,10 +69,10 @@ impl Direct {
     }
 
     // <type> = "O" <type>
-    pub(crate) fn begin_mut(&mut self, s: &[u8]) -> Option<Step>
+    pub(crate) fn begin_mut<S: Showing>(&mut self, s: &[u8]) -> Option<Step>
         requires letter { StandsAt s.now self.old.at (79 ∷ []) }
-        requires awaits { Awaits s.now self.old true }
-        ensures { IfSome result (IsWriting s.now self.new) }
+        requires awaits { Awaits S.IS_BRIEF s.now self.old true }
+        ensures { IfSome result (IsWriting S.IS_BRIEF s.now self.new) }
     {
         let behind = self.at.checked_add(1)?;
         let entry = self.wrap(Closing::Nothing);
@@ -80,10 +81,10 @@ impl Direct {
     }
 
     // <type> = "S" <type>
-    pub(crate) fn begin_slice(&mut self, s: &[u8]) -> Option<Step>
+    pub(crate) fn begin_slice<S: Showing>(&mut self, s: &[u8]) -> Option<Step>
         requires letter { StandsAt s.now self.old.at (83 ∷ []) }
-        requires awaits { Awaits s.now self.old true }
-        ensures { IfSome result (IsWriting s.now self.new) }
+        requires awaits { Awaits S.IS_BRIEF s.now self.old true }
+        ensures { IfSome result (IsWriting S.IS_BRIEF s.now self.new) }
     {
         let behind = self.at.checked_add(1)?;
         let entry = self.wrap(Closing::Bracket);
@@ -104,7 +105,7 @@ impl Direct {
     }
 
     /// The type is read that something waited for.
-    pub(crate) fn wrap_ended(
+    pub(crate) fn wrap_ended<S: Showing>(
         &mut self,
         s: &[u8],
         here: usize,
@@ -113,20 +114,20 @@ impl Direct {
         from: usize,
         closing: Closing,
     ) -> Option<Step>
-        requires { Arrives s.now self.old (opens.Wrap place from closing) here forms }
-        ensures { IfSome result (IsWriting s.now self.new) }
+        requires { Arrives S.IS_BRIEF s.now self.old (opens.Wrap place from closing) here forms }
+        ensures { IfSome result (IsWriting S.IS_BRIEF s.now self.new) }
     {
         match closing {
-            Closing::Nothing => self.bare_ended(s, here, forms, place, from),
-            Closing::Bracket => self.bracket_ended(s, here, forms, place, from),
-            Closing::Angle => self.angle_ended(s, here, forms, place, from),
+            Closing::Nothing => self.bare_ended::<S>(s, here, forms, place, from),
+            Closing::Bracket => self.bracket_ended::<S>(s, here, forms, place, from),
+            Closing::Angle => self.angle_ended::<S>(s, here, forms, place, from),
         }
     }
 
     /// The type of a reference or a pointer is read.
     // <type> = "R" [<lifetime>] <type> | "Q" [<lifetime>] <type> | "P" <type> | "O" <type>
     #[inline(always)]
-    fn bare_ended(
+    fn bare_ended<S: Showing>(
         &mut self,
         s: &[u8],
         _here: usize,
@@ -134,19 +135,19 @@ impl Direct {
         place: usize,
         from: usize,
     ) -> Option<Step>
-        requires { Arrives s.now self.old (opens.Wrap place from closings.Nothing) _here forms }
-        ensures { IfSome result (IsWriting s.now self.new) }
+        requires { Arrives S.IS_BRIEF s.now self.old (opens.Wrap place from closings.Nothing) _here forms }
+        ensures { IfSome result (IsWriting S.IS_BRIEF s.now self.new) }
     {
         if !is_type(forms) {
             return None;
         }
-        self.ended(s, place, from, Forms::Typed, Forms::Typed)
+        self.ended::<S>(s, place, from, Forms::Typed, Forms::Typed)
     }
 
     /// The type of a slice's elements is read.
     // <type> = "S" <type>
     #[inline(always)]
-    fn bracket_ended(
+    fn bracket_ended<S: Showing>(
         &mut self,
         s: &[u8],
         _here: usize,
@@ -154,13 +155,13 @@ impl Direct {
         place: usize,
         from: usize,
     ) -> Option<Step>
-        requires { Arrives s.now self.old (opens.Wrap place from closings.Bracket) _here forms }
-        ensures { IfSome result (IsWriting s.now self.new) }
+        requires { Arrives S.IS_BRIEF s.now self.old (opens.Wrap place from closings.Bracket) _here forms }
+        ensures { IfSome result (IsWriting S.IS_BRIEF s.now self.new) }
     {
         if !is_type(forms) {
             return None;
         }
         self.push_byte(b']')?;
-        self.ended(s, place, from, Forms::Typed, Forms::Typed)
+        self.ended::<S>(s, place, from, Forms::Typed, Forms::Typed)
     }
 }

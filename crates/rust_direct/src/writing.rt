@@ -9,6 +9,7 @@ ghost use Rattle.rust_direct.specs.Awaits.{IsEnded};
 
 use crate::direct::Direct;
 use crate::open::{Forms, Note, Open, Step};
+use crate::showing::Showing;
 
 impl Direct {
     /// Writes a text.
@@ -72,7 +73,7 @@ impl Direct {
 
     /// What began at a place is read: it is noted, and handed on.
     #[inline(always)]
-    pub(crate) fn ended(
+    pub(crate) fn ended<S: Showing>(
         &mut self,
         _s: &[u8],
         place: usize,
@@ -80,8 +81,8 @@ impl Direct {
         noted: Forms,
         forms: Forms,
     ) -> Option<Step>
-        requires { IsEnded _s.now self.old place from noted forms }
-        ensures { IfSome result (IsWriting _s.now self.new) }
+        requires { IsEnded S.IS_BRIEF _s.now self.old place from noted forms }
+        ensures { IfSome result (IsWriting S.IS_BRIEF _s.now self.new) }
     {
         self.note(place, from, noted)?;
         Some(Step::Value { from, forms })

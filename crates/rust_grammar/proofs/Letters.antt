@@ -1,17 +1,17 @@
 -- The tables are held against the grammar at each kind and byte, by computing.
-use Rattle.std.proofs.Common.{◌≡◌, ℕ, ◌+◌, ◌-◌, ◌*◌, ◌<◌, ◌≤◌, get_or, List, map, leb, ltb, ◌&&◌, Bool, true, Option, Some, None, refl, ap, sym, ◌∙◌}
+use Rattle.std.proofs.Common.{◌≡◌, ℕ, ◌+◌, ◌-◌, ◌*◌, ◌<◌, ◌≤◌, get_or, List, length, map, leb, ltb, ◌&&◌, Bool, true, Option, Some, None, refl, ap, sym, ◌∙◌}
 use Rattle.std.proofs.lemmas.Bool.{and_parts, leb-true, ltb-true}
 use Rattle.std.specs.List.{range_with_len}
 use Rattle.std.specs.Option.{option_map}
 use Rattle.sym_shape.specs.declared.rule.Rule.{Rule}
-use Rattle.sym_shape.specs.Listing.{listed_in, letter_below, unless_blank}
+use Rattle.sym_shape.specs.Listing.{listed_in, letter_below, unless_blank, counts_after}
 use Rattle.sym_shape.specs.Sheet.{choice_at}
 use Rattle.sym_shape.specs.Table.{symbols_of}
-use Rattle.sym_shape.proofs.Listed.{alike_at, alike_in}
+use Rattle.sym_shape.proofs.Listed.{alike_at, alike_in, after_at}
 use Rattle.rust_grammar.specs.Listed.{listed_rule}
 use Rattle.rust_grammar.specs.Rules.{kinds, no_kind}
 use Rattle.rust_grammar.specs.declared.table.Head.{Head}
-use Rattle.rust_grammar.specs.declared.table.TheConstants.{LETTERS, SYMBOLS}
+use Rattle.rust_grammar.specs.declared.table.TheConstants.{LETTERS, SYMBOLS, AFTER}
 
 -- the letter of a kind's row below a byte; `row` stands for what isn't there
 unfoldable pub letter : List ℕ → ℕ → ℕ → Option ℕ
@@ -56,3 +56,10 @@ places head = refl
 
 pub place_at : (head : Head) (n : ℕ) → n < 49 → listed_in SYMBOLS (n * 6 + 6) ≡ symbols_of (listed_rule head n)
 place_at head n = alike_at (λ n. listed_in SYMBOLS (n * 6 + 6)) (λ n. symbols_of (listed_rule head n)) 49 n (places head)
+
+-- what the code lists of each place is how many symbols come after it
+after_each : AFTER ≡ counts_after SYMBOLS
+after_each = refl
+
+pub after_place : (place : ℕ) → get_or AFTER place 0 ≡ length (listed_in SYMBOLS (place + 1))
+after_place place = ap (λ counts. get_or counts place 0) after_each ∙ after_at SYMBOLS place

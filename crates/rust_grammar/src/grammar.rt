@@ -37,6 +37,11 @@ impl Grammar for V0 {
     }
 
     #[inline(always)]
+    fn after(&self, place: u32) -> u8 {
+        table::after(place)
+    }
+
+    #[inline(always)]
     fn may_be_empty(&self, kind: u16) -> bool {
         table::may_be_empty(kind)
     }

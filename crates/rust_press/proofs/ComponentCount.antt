@@ -1,5 +1,6 @@
 -- Components that are apart, each the tree of a node, are at most as many as the nodes.
 use Rattle.std.proofs.Common.{◌≡◌, ℕ, zero, suc, ◌+◌, ◌≤◌, length, List, [], ◌∷◌, slice_get, Some, None, true, false, ap, arith, sym, subst, ◌∙◌}
+use Rattle.std.proofs.lemmas.Option.{same_Some}
 use Rattle.rust_tree.specs.Tree.{Tree, of_symbol}
 use Rattle.rust_tree.specs.Symbol as tree
 use Rattle.rust_tree.specs.Layout.{ReadSymbol, trees_of}
@@ -23,9 +24,6 @@ without (suc k) (t ∷ ts) = t ∷ without k ts
 none-some : {t : Tree} → None ≡ Some t → ⊥
 none-some bad = cc
 
-some-one : {a b : Tree} → Some a ≡ Some b → a ≡ b
-some-one h = cc
-
 one-less : (all : List Tree) (k : ℕ) (t : Tree) → slice_get all k ≡ Some t → length all ≡ length (without k all) + 1
 unfolding without
 one-less [] k t is = absurd (none-some is)
@@ -37,7 +35,7 @@ still-there : (all : List Tree) (k j : ℕ) (t u : Tree) → slice_get all k ≡
     → (m : ℕ) × (slice_get (without k all) m ≡ Some u)
 unfolding without
 still-there [] k j t u here there apart = absurd (none-some here)
-still-there (x ∷ xs) zero zero t u here there apart = absurd (apart (some-one (sym here ∙ there)))
+still-there (x ∷ xs) zero zero t u here there apart = absurd (apart (same_Some _ _ (sym here ∙ there)))
 still-there (x ∷ xs) zero (suc j) t u here there apart = (j, there)
 still-there (x ∷ xs) (suc k) zero t u here there apart = (0, there)
 still-there (x ∷ xs) (suc k) (suc j) t u here there apart = let more = still-there xs k j t u here there apart in (suc more.0, more.1)

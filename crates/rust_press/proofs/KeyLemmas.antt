@@ -1,5 +1,7 @@
 -- Keys of nodes, and what a map of them is after one more.
 use Rattle.std.proofs.Common.{◌≡◌, ℕ, zero, suc, ◌<◌, ◌≤◌, length, List, [], ◌∷◌, ◌++◌, slice_get, get_or, Some, Bool, true, false, refl, ap, arith, sym, subst, ◌∙◌, length-append, Ordering}
+use Rattle.std.proofs.lemmas.Option.{same_Some}
+use Rattle.rust_tree.proofs.Trees.{got-there}
 use Rattle.std.specs.Prelude.{map, nat_lt}
 use Rattle.std.specs.BTreeMap.{BTreeMap, get}
 use Rattle.std.specs.Cmp.Lexicographic.{slice_cmp}
@@ -59,12 +61,9 @@ equal-lists [] [] long each = refl
 equal-lists [] (y ∷ ys) long each = absurd (omega (arith, long))
 equal-lists (x ∷ xs) [] long each = absurd (omega (arith, long))
 equal-lists (x ∷ xs) (y ∷ ys) long each =
-    let one : x ≡ y = some-one (each 0 (omega arith)) in
+    let one : x ≡ y = same_Some _ _ (each 0 (omega arith)) in
     let more : xs ≡ ys = equal-lists xs ys (omega (arith, long)) (λ k low. each (suc k) (omega (arith, low))) in
     rw (one, more) refl
-  where
-    some-one : Some x ≡ Some y → x ≡ y
-    some-one h = cc
 
 equal-numbers : (xs ys : List ℕ) → length xs ≡ length ys → ((k : ℕ) → k < length xs → number_at xs k ≡ number_at ys k) → xs ≡ ys
 equal-numbers [] [] long each = refl
@@ -168,15 +167,10 @@ taken-over all ns a b given h same = record {
   long = ap length (sym same.parts) ∙ h.long;
 }
 
-own-tree : (all : List Tree) (i : ℕ) → i < length all → (t : Tree) × (slice_get all i ≡ Some t)
-own-tree [] i low = absurd (omega (arith, low))
-own-tree (t ∷ all) zero low = (t, refl)
-own-tree (t ∷ all) (suc i) low = own-tree all i (omega (arith, low))
-
 -- nodes with equal fields have equal trees
 fields-tree : (y : ReadSymbol) (i j : ℕ) → i < length (trees_of y) → j < length (trees_of y) → fields_at y i ≡ fields_at y j
     → slice_get (trees_of y) i ≡ slice_get (trees_of y) j
-fields-tree y i j low other same = go (own-tree (trees_of y) i low) (own-tree (trees_of y) j other)
+fields-tree y i j low other same = go (got-there (trees_of y) i low) (got-there (trees_of y) j other)
   where
     go : ((t : Tree) × (slice_get (trees_of y) i ≡ Some t)) → ((t : Tree) × (slice_get (trees_of y) j ≡ Some t)) → slice_get (trees_of y) i ≡ slice_get (trees_of y) j
     go (t, here) (u, there) =

@@ -1,5 +1,5 @@
 -- How pressing a rule follows from pressing its parts.
-use Rattle.std.proofs.Common.{◌≡◌, ℕ, ◌+◌, ◌<◌, ◌≤◌, length, List, [], ◌∷◌, ◌++◌, Option, Some, None, Bool, true, false, refl, ap, arith, sym, subst, ◌∙◌, length-append, append_assoc, append-nil}
+use Rattle.std.proofs.Common.{◌≡◌, ℕ, ◌+◌, ◌<◌, ◌≤◌, length, List, [], ◌∷◌, ◌++◌, Option, Some, None, Bool, true, false, Ok, refl, ap, arith, sym, subst, ◌∙◌, length-append, append_assoc, append-nil}
 use Rattle.std.specs.Prelude.{◌==◌, if◌then◌else◌, slice_index}
 use Rattle.std.proofs.lemmas.Bool.{eqb-true, eq-eqb}
 use Rattle.sym_core.specs.declared.NumberKind.{NumberKind}
@@ -10,14 +10,15 @@ use Rattle.sym_shape.specs.declared.rule.Rule.{Rule}
 use Rattle.sym_shape.specs.declared.rule.Sym.{Sym}
 use Rattle.sym_shape.specs.declared.rule.Sym.TheVariants.{Kind, Name, Number, Byte}
 use Rattle.sym_shape.specs.Table.{symbols_of}
-use Rattle.sym_shape.specs.Tree.{branch, empty, token, fixed, grown, AreTrees}
+use Rattle.sym_shape.specs.Tree.{Tree as Shape, branch, empty, token, fixed, grown, spell, IsTree, AreTrees}
+use Rattle.sym_link.specs.Unfold as linked
 use Rattle.sym_shape.specs.Tree as shape
 use Rattle.rust_tree.specs.Tree.{Tree}
 use Rattle.rust_grammar.specs.declared.production.Production.{Production}
 use Rattle.rust_grammar.specs.Productions.{production_of}
 use Rattle.rust_grammar.specs.Rules.{v0_table}
 use Rattle.rust_grammar.specs.Value.{Value, Ended}
-use Rattle.rust_grammar.specs.Unfold.{ended_at, At, byte_at, bound_behind, is_minus, meaning_of, plain, ends, token_of}
+use Rattle.rust_grammar.specs.Unfold.{v0, ended_at, At, byte_at, bound_behind, is_minus, meaning_of, plain, ends, token_of}
 use Rattle.sym_spell.specs.Pressing.{◌and◌, text, letter, nothing}
 use Rattle.rust_press.specs.Pressing.{Component, Pressed, Pressing, spelled_out}
 use Rattle.rust_press.specs.PressLaws.{as_value, AreListed, Agrees, state_of, Reads, Presses, ReadsRow, PressesRow}
@@ -250,61 +251,44 @@ chains-plain s bound inside minus kind byte rule row R value small found eats pa
 
 -- ## Leaves
 
-pub empty-presses : (s : List ℕ) (bound : ℕ) (inside : Option Production) (minus : Bool) (kind : ℕ) → v0_table.may_be_empty kind ≡ true
-    → Presses s bound inside minus (Kind kind) nothing (λ values. values ≡ [])
-empty-presses s bound inside minus kind is_one front back place components ended is-at from agrees is = record {
-  shape = empty;
-  spelled = refl;
-  shaped = is_one;
-  values = [];
+-- a shape without rules, which ends nothing
+pub leaf-reads : (s : List ℕ) (bound : ℕ) (inside : Option Production) (minus : Bool) (symbol : Sym) (place : ℕ) (components : List Component) (ended : List Ended)
+    → (leaf : Shape) (bytes : List ℕ) (values : List Value) → spell leaf ≡ bytes → IsTree v0_table symbol leaf
+    → linked.unfold_tree (v0 s) bound place leaf (state_of ended inside minus) ≡ Ok (linked.found values (state_of ended inside minus))
+    → Agrees components ended place → Reads s bound inside minus symbol (λ others. others ≡ values) place ended (text bytes place components)
+leaf-reads s bound inside minus symbol place components ended leaf bytes values spelled shaped unfolds agrees = record {
+  shape = leaf;
+  spelled = spelled;
+  shaped = shaped;
+  values = values;
   good = refl;
   state = state_of ended inside minus;
-  unfolds = refl;
-  agrees = agrees-at components ended place (place + 0) (omega arith) agrees;
+  unfolds = unfolds;
+  agrees = agrees-later components ended place (place + length bytes) (omega arith) agrees;
   keeps = λ p low. refl;
 }
 
+pub empty-presses : (s : List ℕ) (bound : ℕ) (inside : Option Production) (minus : Bool) (kind : ℕ) → v0_table.may_be_empty kind ≡ true
+    → Presses s bound inside minus (Kind kind) nothing (λ values. values ≡ [])
+empty-presses s bound inside minus kind is_one front back place components ended is-at from agrees is =
+    leaf-reads s bound inside minus (Kind kind) place components ended empty [] [] refl is_one refl agrees
+
 pub byte-presses : (s : List ℕ) (bound : ℕ) (inside : Option Production) (minus : Bool) (byte : ℕ) → Presses s bound inside minus (Byte byte) (letter byte) (λ values. values ≡ [])
-byte-presses s bound inside minus byte front back place components ended is-at from agrees is = record {
-  shape = fixed byte;
-  spelled = refl;
-  shaped = refl;
-  values = [];
-  good = refl;
-  state = state_of ended inside minus;
-  unfolds = refl;
-  agrees = agrees-later components ended place (place + 1) (omega arith) agrees;
-  keeps = λ p low. refl;
-}
+byte-presses s bound inside minus byte front back place components ended is-at from agrees is =
+    leaf-reads s bound inside minus (Byte byte) place components ended (fixed byte) (byte ∷ []) [] refl refl refl agrees
 
 pub number-presses : (s : List ℕ) (bound : ℕ) (inside : Option Production) (minus : Bool) (kind : NumberKind) (own : List ℕ) → AreDigitsOf kind own → ending_of kind ≡ 95 ∷ []
     → Presses s bound inside minus (Number kind) (text (own ++ 95 ∷ [])) (λ values. values ≡ token_of inside minus own ∷ [])
-number-presses s bound inside minus kind own digits ends front back place components ended is-at from agrees is = record {
-  shape = token (record { before = []; own = own; behind = 95 ∷ [] });
-  spelled = refl;
-  shaped = record { bare = refl; digits = digits; ends = sym ends };
-  values = token_of inside minus own ∷ [];
-  good = refl;
-  state = state_of ended inside minus;
-  unfolds = refl;
-  agrees = agrees-later components ended place (place + length (own ++ 95 ∷ [])) (omega arith) agrees;
-  keeps = λ p low. refl;
-}
+number-presses s bound inside minus kind own digits ends front back place components ended is-at from agrees is =
+    leaf-reads s bound inside minus (Number kind) place components ended (token (record { before = []; own = own; behind = 95 ∷ [] })) (own ++ 95 ∷ []) (token_of inside minus own ∷ [])
+    refl (record { bare = refl; digits = digits; ends = sym ends }) refl agrees
 
 pub name-presses : (s : List ℕ) (bound : ℕ) (inside : Option Production) (minus : Bool) (digits separator own : List ℕ)
     → IsName Rust (record { before = digits ++ separator; own = own; behind = [] })
     → Presses s bound inside minus Name (text (digits ++ separator ++ own)) (λ values. values ≡ token_of inside minus own ∷ [])
-name-presses s bound inside minus digits separator own is_name front back place components ended is-at from agrees is = record {
-  shape = token (record { before = digits ++ separator; own = own; behind = [] });
-  spelled = append-nil (digits ++ separator ++ own);
-  shaped = is_name;
-  values = token_of inside minus own ∷ [];
-  good = refl;
-  state = state_of ended inside minus;
-  unfolds = refl;
-  agrees = agrees-later components ended place (place + length (digits ++ separator ++ own)) (omega arith) agrees;
-  keeps = λ p low. refl;
-}
+name-presses s bound inside minus digits separator own is_name front back place components ended is-at from agrees is =
+    leaf-reads s bound inside minus Name place components ended (token (record { before = digits ++ separator; own = own; behind = [] })) (digits ++ separator ++ own) (token_of inside minus own ∷ [])
+    (append-nil (digits ++ separator ++ own)) is_name refl agrees
 
 -- a rule that is a letter
 pub letter-presses : (s : List ℕ) (bound : ℕ) (inside : Option Production) (minus : Bool) (kind byte : ℕ) (rule : Rule) (value : Value)

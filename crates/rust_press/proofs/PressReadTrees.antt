@@ -1,5 +1,7 @@
 -- What is read of a tree of the grammar can be spelled.
 use Rattle.std.proofs.Common.{◌≡◌, ℕ, zero, suc, ◌+◌, ◌<◌, ◌≤◌, length, List, [], ◌∷◌, ◌++◌, Option, Some, None, Bool, true, false, Ok, refl, ap, arith, sym, subst, ◌∙◌, length-append, append_assoc, append-nil}
+use Rattle.std.proofs.lemmas.Option.{same_Some}
+use Rattle.std.proofs.Math.Seq.{drop-append_seam}
 use Rattle.std.specs.Prelude.{◌==◌, if◌then◌else◌, nat_lt, codes, ◌&&◌, ◌*◌, not, Result, Err, get_or}
 use Rattle.std.proofs.lemmas.Bool.{ltb-true, and_parts}
 use Rattle.sym_core.specs.declared.NumberKind.TheVariants.{Base62, Hex}
@@ -195,14 +197,11 @@ fitting byte c (Some p) is fits inside =
     let more = and_parts (fits_bytes (expected p) c) (list_all (takes_token p) (symbols_of c.rule)) both.1 in
     record { production = p; is = is; inner = both.0; bytes = λ ranges h. go (expected p) h ranges refl more.0; tokens = more.1 }
   where
-    some-one : {a b : List ByteRange} → Some a ≡ Some b → a ≡ b
-    some-one h = cc
-
     go : (o : Option (List ByteRange)) → {ranges : List ByteRange} → o ≡ Some ranges → (others : List ByteRange) → ranges ≡ others → fits_bytes o c ≡ true → (c.rule.eats ≡ true) × (in_ranges others byte ≡ true)
     go None h others same pass = cc
     go (Some rs) h others same pass =
         let both = and_parts c.rule.eats (are_covered (classes_of c) rs) pass in
-        (both.0, subst (λ l. in_ranges l byte ≡ true) (some-one h ∙ same) (are_covered_in (classes_of c) rs byte both.1 inside))
+        (both.0, subst (λ l. in_ranges l byte ≡ true) (same_Some _ _ h ∙ same) (are_covered_in (classes_of c) rs byte both.1 inside))
 
 choice-fits : (cs : List Choice) (byte : ℕ) (rule : Rule) → fit_choices cs ≡ true → choice_at cs byte ≡ Some rule → IsFitting byte rule
 unfolding fit_choices
@@ -211,12 +210,9 @@ choice-fits (c ∷ cs) byte rule fits is =
     let both = and_parts (fits_choice (production_of c.rule.number) c) (fit_choices cs) fits in
     go (in_ranges (classes_of c) byte) refl is both.0 (λ h. choice-fits cs byte rule both.1 h)
   where
-    some-one : {a b : Rule} → Some a ≡ Some b → a ≡ b
-    some-one h = cc
-
     go : (t : Bool) → in_ranges (classes_of c) byte ≡ t → (if t then Some c.rule else choice_at cs byte) ≡ Some rule → fits_choice (production_of c.rule.number) c ≡ true
         → (choice_at cs byte ≡ Some rule → IsFitting byte rule) → IsFitting byte rule
-    go true inside is pass more = subst (IsFitting byte) (some-one is) (fitting byte c (production_of c.rule.number) refl pass inside)
+    go true inside is pass more = subst (IsFitting byte) (same_Some _ _ is) (fitting byte c (production_of c.rule.number) refl pass inside)
     go false inside is pass more = more is
 
 kind-fits : (n : ℕ) (ks : List KindSheet) (k byte : ℕ) (rule : Rule) → fit_kinds n ks ≡ true → inner_kind (n + k) ≡ true → choice_at (get_or ks k no_kind).choices byte ≡ Some rule → IsFitting byte rule
@@ -297,10 +293,6 @@ plain_symbol _ = true
 
 plain-token : (p : Production) (x : Sym) → takes_token p x ≡ true → plain_symbol x ≡ true
 plain-token rules.PlainName (Kind k) h = h
-plain-token rules.PunycodeName (Kind k) h = h
-plain-token rules.SignedConstant (Kind k) h = h
-plain-token rules.UnsignedConstant (Kind k) h = h
-plain-token rules.CharConstant (Kind k) h = h
 plain-token _ (Kind k) h = h
 plain-token p Name h = refl
 plain-token p (Number kind) h = refl
@@ -375,9 +367,6 @@ none-spelled : (rest : Forest) → AreTrees v0_table [] rest → spell_all rest 
 none-spelled shape.nothing are = refl
 none-spelled (grown first rest) are = absurd are
 
-pub one-rule : {a b : Rule} → Some a ≡ Some b → a ≡ b
-one-rule h = cc
-
 -- the rest of a suffix
 suffix-rest : (tree : Shape) → IsTree v0_table (Kind 5) tree → AreSuffixBytes (spell tree)
 suffix-rest empty is = tt
@@ -386,7 +375,7 @@ suffix-rest (fixed c) is = absurd is
 suffix-rest (branch rule taken shape.nothing) (takes, are) = go (in_ranges suffix_bytes takes.byte) takes.found
   where
     go : (t : Bool) → (if t then Some (taking rules.SuffixByte (Kind 5 ∷ [])) else None) ≡ Some rule → AreSuffixBytes (taken ++ [])
-    go true is = absurd (subst (λ r. AreTrees v0_table (symbols_of r) shape.nothing) (sym (one-rule is)) are)
+    go true is = absurd (subst (λ r. AreTrees v0_table (symbols_of r) shape.nothing) (sym (same_Some _ _ is)) are)
     go false is = cc
 suffix-rest (branch rule taken (grown first rest)) (takes, are) = go (in_ranges suffix_bytes takes.byte) refl takes.found (λ is. suffix-rest first is)
   where
@@ -394,8 +383,8 @@ suffix-rest (branch rule taken (grown first rest)) (takes, are) = go (in_ranges 
         → AreSuffixBytes (taken ++ (spell first ++ spell_all rest))
     go false inside is more = cc
     go true inside is more =
-        let trees : AreTrees v0_table (Kind 5 ∷ []) (grown first rest) = subst (λ r. AreTrees v0_table (symbols_of r) (grown first rest)) (sym (one-rule is)) are in
-        let eats : rule.eats ≡ true = ap (λ r. r.eats) (sym (one-rule is)) in
+        let trees : AreTrees v0_table (Kind 5 ∷ []) (grown first rest) = subst (λ r. AreTrees v0_table (symbols_of r) (grown first rest)) (sym (same_Some _ _ is)) are in
+        let eats : rule.eats ≡ true = ap (λ r. r.eats) (sym (same_Some _ _ is)) in
         rw (taken-byte rule.eats taken takes.byte takes.takes eats, none-spelled rest trees.1, append-nil (spell first)) ((takes.is_byte, inside), more trees.0)
 
 -- its first byte
@@ -409,8 +398,8 @@ suffix-first (branch rule taken parts) (takes, are) = go (in_ranges suffix_bytes
         → (b : ℕ) × (taken ++ spell_all parts ≡ b ∷ []) × (b < 256) × (in_ranges suffix_bytes b ≡ true)
     go false inside is = cc
     go true inside is =
-        let trees : AreTrees v0_table [] parts = subst (λ r. AreTrees v0_table (symbols_of r) parts) (sym (one-rule is)) are in
-        let eats : rule.eats ≡ true = ap (λ r. r.eats) (sym (one-rule is)) in
+        let trees : AreTrees v0_table [] parts = subst (λ r. AreTrees v0_table (symbols_of r) parts) (sym (same_Some _ _ is)) are in
+        let eats : rule.eats ≡ true = ap (λ r. r.eats) (sym (same_Some _ _ is)) in
         (takes.byte, rw (taken-byte rule.eats taken takes.byte takes.takes eats, none-spelled parts trees) refl, takes.is_byte, inside)
 
 dot-alone : (b : ℕ) → in_ranges (each (codes ".")) b ≡ true → b ≡ 46
@@ -431,8 +420,8 @@ suffix-spelled (branch rule taken parts) (takes, are) = go (in_ranges (each (cod
     go : (t : Bool) → in_ranges (each (codes ".")) takes.byte ≡ t → (if t then Some (taking rules.Suffix (Kind 4 ∷ Kind 5 ∷ [])) else None) ≡ Some rule → IsSpellableSuffix (taken ++ spell_all parts)
     go false inside is = cc
     go true inside is =
-        let trees : AreTrees v0_table (Kind 4 ∷ Kind 5 ∷ []) parts = subst (λ r. AreTrees v0_table (symbols_of r) parts) (sym (one-rule is)) are in
-        let eats : rule.eats ≡ true = ap (λ r. r.eats) (sym (one-rule is)) in
+        let trees : AreTrees v0_table (Kind 4 ∷ Kind 5 ∷ []) parts = subst (λ r. AreTrees v0_table (symbols_of r) parts) (sym (same_Some _ _ is)) are in
+        let eats : rule.eats ≡ true = ap (λ r. r.eats) (sym (same_Some _ _ is)) in
         let two = two-parts (Kind 4) (Kind 5) parts trees in
         let first = suffix-first two.0 two.3 in
         rw (taken-byte rule.eats taken takes.byte takes.takes eats, two.2, first.1, append-nil (spell two.1)) (dot-alone takes.byte inside, ((first.2, first.3), suffix-rest two.1 two.4))
@@ -494,18 +483,14 @@ suffix-read s place (branch rule taken parts) state front is-at is (takes, are) 
     go : (t : Bool) → (if t then Some (taking rules.Suffix (Kind 4 ∷ Kind 5 ∷ [])) else None) ≡ Some rule → Holds (λ f. MaybeSuffix f.value) (unfold_tree (v0 s) 0 place (branch rule taken parts) state)
     go false found-it = cc
     go true found-it =
-        let there : drop place s ≡ spell (branch rule taken parts) = rw (is, is-at) (front-dropped front (taken ++ spell_all parts)) in
+        let there : drop place s ≡ spell (branch rule taken parts) = rw (is, is-at) (drop-append_seam front (taken ++ spell_all parts)) in
         let good : IsSpellableSuffix (drop place s) = subst IsSpellableSuffix (sym there) (suffix-spelled (branch rule taken parts) (takes, are)) in
         holds-then (λ f. Unit {0}) _ (unfold_forest (v0 s) (standing rule taken place 0 state) [] (place + length taken) parts state) _ (anything _)
-        (λ inner g. subst (λ r. Holds (λ f. MaybeSuffix f.value) (meaning_of (production_of r.number) (at_rule s (standing rule taken place 0 state) inner.state) inner.value >>= alone)) (one-rule found-it) good)
+        (λ inner g. subst (λ r. Holds (λ f. MaybeSuffix f.value) (meaning_of (production_of r.number) (at_rule s (standing rule taken place 0 state) inner.state) inner.value >>= alone)) (same_Some _ _ found-it) good)
       where
         anything : {A : Type 0} (m : Result A Refusal) → Holds (λ x. Unit {0}) m
         anything (Ok x) = tt
         anything (Err e) = tt
-
-        front-dropped : (fs bytes : List ℕ) → drop (length fs) (fs ++ bytes) ≡ bytes
-        front-dropped [] bytes = refl
-        front-dropped (c ∷ cs) bytes = front-dropped cs bytes
 
 abbrev pub symbol_rule : Rule
 symbol_rule = taking rules.Symbol (Byte 82 ∷ Kind 1 ∷ Kind 2 ∷ Kind 3 ∷ [])
@@ -568,15 +553,15 @@ whole-shape (branch rule taken parts) (takes, are) = go (in_ranges (each (codes 
     go : (t : Bool) → (if t then Some symbol_rule else None) ≡ Some rule → IsWholeShape (branch rule taken parts)
     go false is = cc
     go true is =
-        let trees : AreTrees v0_table (Byte 82 ∷ Kind 1 ∷ Kind 2 ∷ Kind 3 ∷ []) parts = subst (λ r. AreTrees v0_table (symbols_of r) parts) (sym (one-rule is)) are in
-        let eats : rule.eats ≡ true = ap (λ r. r.eats) (sym (one-rule is)) in
+        let trees : AreTrees v0_table (Byte 82 ∷ Kind 1 ∷ Kind 2 ∷ Kind 3 ∷ []) parts = subst (λ r. AreTrees v0_table (symbols_of r) parts) (sym (same_Some _ _ is)) are in
+        let eats : rule.eats ≡ true = ap (λ r. r.eats) (sym (same_Some _ _ is)) in
         let four = four-parts parts trees in
         record {
           byte = takes.byte;
           path = four.0;
           other = four.1;
           suffix = four.2;
-          is = whole-is rule taken parts takes.byte four.0 four.1 four.2 (sym (one-rule is)) (taken-byte rule.eats taken takes.byte takes.takes eats) four.3;
+          is = whole-is rule taken parts takes.byte four.0 four.1 four.2 (sym (same_Some _ _ is)) (taken-byte rule.eats taken takes.byte takes.takes eats) four.3;
           path_is = four.4;
           other_is = four.5;
           suffix_is = four.6;

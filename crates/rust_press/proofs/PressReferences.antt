@@ -1,5 +1,6 @@
 -- A reference that pressing writes is read as what it stands for.
 use Rattle.std.proofs.Common.{◌≡◌, ℕ, ◌+◌, ◌-◌, ◌<◌, ◌≤◌, inl, inr, length, List, [], ◌∷◌, ◌++◌, Option, Some, None, Bool, true, false, Ok, refl, ap, arith, sym, subst, ◌∙◌, length-append, append-nil}
+use Rattle.std.proofs.lemmas.Option.{same_Some}
 use Rattle.std.proofs.lemmas.Bool.{le-leb}
 use Rattle.sym_core.specs.declared.NumberKind.TheVariants.{Base62}
 use Rattle.sym_shape.specs.declared.rule.Rule.{Rule}
@@ -35,11 +36,8 @@ pub found-at : (own : Tree) (ended : List Ended) (place p : ℕ) (cs : List Comp
 found-at own ended place p [] are found = cc
 found-at own ended place p (c ∷ cs) (there, from, to, rest) found = go (first_place own cs) refl found (λ is. found-at own ended place p cs rest is)
   where
-    some-one : {a b : ℕ} → Some a ≡ Some b → a ≡ b
-    some-one h = cc
-
     here : (b : Bool) → same_tree own c.own ≡ b → elim b as (λ _. Option ℕ) [ true ↦ Some c.place | false ↦ None ] ≡ Some p → FoundAt own ended place p
-    here true same is = subst (λ q. FoundAt own ended place q) (some-one is) (record { there = there ∙ ap (λ t. Some (as_value t)) (sym (equal-tree own c.own same)); from = from; to = to })
+    here true same is = subst (λ q. FoundAt own ended place q) (same_Some _ _ is) (record { there = there ∙ ap (λ t. Some (as_value t)) (sym (equal-tree own c.own same)); from = from; to = to })
     here false same is = cc
 
     go : (o : Option ℕ) → first_place own cs ≡ o → elim o as (λ _. Option ℕ) [ Some q ↦ Some q | None ↦ elim (same_tree own c.own) [ true ↦ Some c.place | false ↦ None ] ] ≡ Some p

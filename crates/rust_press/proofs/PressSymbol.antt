@@ -1,5 +1,6 @@
 -- A pressed symbol is a shape of the grammar that is read as that symbol.
 use Rattle.std.proofs.Common.{◌≡◌, ℕ, ◌+◌, ◌<◌, ◌≤◌, length, List, [], ◌∷◌, ◌++◌, Option, Some, None, Bool, true, false, Ok, refl, ap, arith, sym, ◌∙◌, length-append, append_assoc, append-nil}
+use Rattle.std.proofs.Math.Seq.{drop-append_seam}
 use Rattle.sym_shape.specs.declared.rule.Sym.TheVariants.{Kind, Byte}
 use Rattle.rust_tree.specs.Symbol as tree
 use Rattle.rust_tree.specs.Need.{need}
@@ -21,7 +22,7 @@ use Rattle.sym_spell.specs.Pressing.{text}
 use Rattle.rust_press.specs.Pressing.{Component, Pressed, press_path, press_other, pressed, spell_path}
 use Rattle.rust_press.specs.Spellable.{IsSpellable, IsSpellableSuffix}
 use Rattle.rust_press.specs.PressLaws.{IsClosedOther, IsSpellableSymbol, IsReadAs}
-use Rattle.rust_press.proofs.PressParts.{agrees-later, agrees-at, empty-presses}
+use Rattle.rust_press.proofs.PressParts.{agrees-later, empty-presses, leaf-reads}
 use Rattle.rust_press.proofs.PressReferences.{paths-1, paths-2, path-presses}
 use Rattle.rust_press.proofs.PressKept.{path-kept}
 
@@ -59,29 +60,15 @@ abbrev suffix_values : List ℕ → List Value
 suffix_values [] = []
 suffix_values bytes = value.a_suffix bytes ∷ []
 
-front-dropped : (front bytes : List ℕ) → drop (length front) (front ++ bytes) ≡ bytes
-front-dropped [] bytes = refl
-front-dropped (c ∷ cs) bytes = front-dropped cs bytes
-
 -- a suffix at the end of a symbol
 suffix-reads : (s front : List ℕ) (place : ℕ) (components : List Component) (ended : List Ended) (inside : Option Production) (minus : Bool) (bytes : List ℕ)
     → place ≡ length front → s ≡ front ++ bytes → Agrees components ended place → IsSpellableSuffix bytes
     → Reads s 0 inside minus (Kind 3) (λ values. values ≡ suffix_values bytes) place ended (text bytes place components)
-suffix-reads s front place components ended inside minus [] is-at is agrees good = record {
-  shape = empty;
-  spelled = refl;
-  shaped = refl;
-  values = [];
-  good = refl;
-  state = state_of ended inside minus;
-  unfolds = refl;
-  agrees = agrees-at components ended place (place + 0) (omega arith) agrees;
-  keeps = λ p low. refl;
-}
+suffix-reads s front place components ended inside minus [] is-at is agrees good = leaf-reads s 0 inside minus (Kind 3) place components ended empty [] [] refl refl refl agrees
 suffix-reads s front place components ended inside minus (dot ∷ []) is-at is agrees good = absurd good
 suffix-reads s front place components ended inside minus (dot ∷ b ∷ bs) is-at is agrees good =
     let more = rest-passes s bs (place + 1 + 1) (state_of ended (Some rules.Suffix) false) in
-    let there : drop place s ≡ dot ∷ b ∷ bs = rw (is, is-at) (front-dropped front (dot ∷ b ∷ bs)) in
+    let there : drop place s ≡ dot ∷ b ∷ bs = rw (is, is-at) (drop-append_seam front (dot ∷ b ∷ bs)) in
     record {
       shape = branch (taking rules.Suffix (Kind 4 ∷ Kind 5 ∷ [])) (dot ∷ []) (grown (branch (taking rules.SuffixByte []) (b ∷ []) shape.nothing) (grown (rest_shape bs) shape.nothing));
       spelled = ap (λ l. dot ∷ b ∷ l) (append-nil (spell (rest_shape bs)) ∙ rest-spelled bs);

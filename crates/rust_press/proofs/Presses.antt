@@ -19,8 +19,8 @@ unfoldable are_pressed : List Row → Bool
 are_pressed [] = true
 are_pressed (row ∷ rows) = same_bytes (press row.symbol) row.wanted && same_bytes (press row.wanted) row.wanted && are_pressed rows
 
-abbrev rows_0 : List Row
-rows_0 =
+abbrev rows : List Row
+rows =
     presses "_RINvC3foo3barNtC3foo1ANtC3foo1AE" "_RINvC3foo3barNtB2_1ABb_E" ∷
     presses "_RNvXC3fooNtC3foo1ANtC3foo1B3baz" "_RNvXC3fooNtB2_1ANtB2_1B3baz" ∷
     presses "_RINvC3foo3barRL_hE" "_RINvC3foo3barRhE" ∷
@@ -41,14 +41,6 @@ rows_0 =
     presses "_RMINtC1B1__zNzNvC2_1as_u1a3stdTEKc0041_EB1_" "_RMINtC1B1__zNzNvC2_1as_u1a3stdTEKc41_EB1_" ∷
     presses "_RXCu7caf_dmaB0_IBa_umRL_Bh_NzBe_u8gdel_5qaE" "_RXCu7caf_dmaB0_IB0_umRuNzB0_u8gdel_5qaE" ∷
     presses "_RNANSYDG_XYeMC2__xBb_FG_KCAhy_ECs_3stdBt_C1_0EL_C3stds0_3std1A" "_RNANSYDG_XYeMC2__xBb_FG_KCAhy0_ECs_3stdBu_C1_0EL_C3stds0_3std1A" ∷
-    []
-
-right_0 : are_pressed rows_0 ≡ true
-unfolding are_pressed front_digits number_at name_from separated length_digits read_sym read_all press_read press hexadecimal hexadecimal_before need need_of_arguments need_of_type need_of_types need_of_bounds need_of_bindings
-right_0 = refl
-
-abbrev rows_1 : List Row
-rows_1 =
     presses "_RINvXNvYvMYDG1_XIIYB6_Cs_1BEEBg_Bf_EL_Bu_C1A3stdB5_Be_4coreE" "_RINvXNvYvMYDG1_XIIYvCs_1BEEBg_Bf_EL_Bf_C1A3stdB5_Be_4coreE" ∷
     presses "_RIICs0_3fooDG_B1_p3fooB1_EL_EL_Bc_ACs_4corea03_E" "_RIICs0_3fooDG_B1_p3fooB1_EL_EL_B1_ACs_4corea3_E" ∷
     presses "_RNtNCMst_NANtIMNtNtXNvNtC4cores1_1xu7caf_dmaFEBm_NzNtIIBk_EL_Kt03_Eu1as_3foo3foo0TEE3bar1_0o1B4coreNCIB_SBf_eC3barlE0" "_RNtNCMst_NANtIMNtNtXNvNtC4cores1_1xu7caf_dmaFEBm_NzNtIIBk_EL_Kt3_Eu1as_3foo3foo0TEE3bar1_0o1B4coreNCIB_SBf_eC3barlE0" ∷
@@ -69,14 +61,6 @@ rows_1 =
     presses "_RNZNvXs1_INSC1__1BeDG_EL_TQL_oEEhB7_1A1x" "_RNZNvXs1_INSC1__1BeDG_EL_TQoEEhB7_1A1x" ∷
     presses "_RNzINtINtNvC2_1as_2__x1__FG0_EB5_RL_mKb0_B9_Es1_3barE1x" "_RNzINtINtNvC2_1as_2__x1__FG0_EB5_RmKb0_B9_Es1_3barE1x" ∷
     presses "_RIC2__xTIINtB0_1xL_FG0_vEuB0_PBn_EhEhEKb0_E" "_RIC2__xTIINtB0_1xL_FG0_vEuB0_PuEhEhEKb0_E" ∷
-    []
-
-right_1 : are_pressed rows_1 ≡ true
-unfolding are_pressed front_digits number_at name_from separated length_digits read_sym read_all press_read press hexadecimal hexadecimal_before need need_of_arguments need_of_type need_of_types need_of_bounds need_of_bindings
-right_1 = refl
-
-abbrev rows_2 : List Row
-rows_2 =
     presses "_RNvNANANANCXIYQL_iNCC3foo3fooL_EeBi_s_4core02_1a1_B3bar" "_RNvNANANANCXIYQiNCC3foo3fooL_EeBg_s_4core02_1a1B3bar" ∷
     presses "_RIC4coreL_Kc0041_B0_RL_ODG_MNANAC3std4coreu1zINtXs_Bs_TFBs_EuBs_EINSIMCs0_1__FG0_EABN_B9_E4coreB1d_DG0_EL0_B12_Es3d6_1xECs_1Ap1__SQBI_C2__xEL_E" "_RIC4coreL_Kc41_B0_RODG_MNANAC3std4coreu1zINtXs_Bo_TFBo_EuBo_EINSIMCs0_1__FG0_EABo_B9_E4coreB19_DG0_EL0_BY_Es3d6_1xECs_1Ap1__SQBE_C2__xEL_E" ∷
     presses "_RXNtC3std3stdSRL_RRL_B2_INvC3bar1__Cs3d6_3foouBn_E" "_RXNtC3std3stdSRRRB2_INvC3bar1__Cs3d6_3foouBj_E" ∷
@@ -97,14 +81,6 @@ rows_2 =
     presses "_RNzIINSNSNACs_3foo1Au8_999999994coreKnnff_QL_uB3_hEEst_3std" "_RNzIINSNSNACs_3foo1Au8_999999994coreKnnff_QuB3_hEEst_3std" ∷
     presses "_RINtMNAC3stdst_2__xFG_KCFB5_ADEL_pohEQL_B5_Eust_1AE" "_RINtMNAC3stdst_2__xFG_KCFB5_ADEL_pohEQB5_Eust_1AE" ∷
     presses "_RMCs1_1AFG0_UDINtC4core1__Ep4coreSC3barp2_1aRL0_ARL_NtC1A3stdnn1_EL1_Bd_Eu" "_RMCs1_1AFG0_UDINtC4core1__Ep4coreSC3barp2_1aRL0_ARNtC1A3stdnn1_EL1_Bd_Eu" ∷
-    []
-
-right_2 : are_pressed rows_2 ≡ true
-unfolding are_pressed front_digits number_at name_from separated length_digits read_sym read_all press_read press hexadecimal hexadecimal_before need need_of_arguments need_of_type need_of_types need_of_bounds need_of_bindings
-right_2 = refl
-
-abbrev rows_3 : List Row
-rows_3 =
     presses "_RNtYTueOB4_vEXIC3fooKtff_SFeB6_B2_uEB9_B9_EuBc_s_3bar" "_RNtYTueOevEXIC3fooKtff_SFeeB2_uEvvEuBa_s_3bar" ∷
     presses "_RIYINtNCNCC1A3bars1_1_02_1aENvNzIB6_E1__3stdBs_QL_FG0_EB8_OjB6_E" "_RIYINtNCNCC1A3bars1_1_02_1aENvNzIB6_E1__3stdBs_QFG0_EB8_OjB6_E" ∷
     presses "_RMIIC3barKxndeadbeef_NzNZC2__xs_2__x1__EQL_Bl_Eh" "_RMIIC3barKxndeadbeef_NzNZC2__xs_2__x1__EQBl_Eh" ∷
@@ -125,14 +101,6 @@ rows_3 =
     presses "_RIIC2__xKxn1_NCINSCs0_4core2__xEs3d6_1xETBd_RTBb_RL_BD_B0_nEEuRNvBD_u1_0Ktffffffffffffffffffffffffffffffff_E" "_RIIC2__xKxn1_NCINSCs0_4core2__xEs3d6_1xETBd_RTBb_RBd_B0_nEEuRNvBd_u1_0Ktffffffffffffffffffffffffffffffff_E" ∷
     presses "_RIC1xQeRL_SuuFKCODNvB0_2_1ap3foooEL_EuE" "_RIC1xQeRSuuFKCODNvB0_2_1ap3foooEL_EuE" ∷
     presses "_RINCC1xs0_1xKln1_Kadeadbeef_RL_FG_EQL_RB0_SBt_E" "_RINCC1xs0_1xKln1_Kadeadbeef_RFG_EQRB0_SBr_E" ∷
-    []
-
-right_3 : are_pressed rows_3 ≡ true
-unfolding are_pressed front_digits number_at name_from separated length_digits read_sym read_all press_read press hexadecimal hexadecimal_before need need_of_arguments need_of_type need_of_types need_of_bounds need_of_bindings
-right_3 = refl
-
-abbrev rows_4 : List Row
-rows_4 =
     presses "_RNCNvMs3d6_NvNZIC4coreRL_FEuKc27_Es3d6_01BQL_NvC1Ast_3foo2_1au4__5qa" "_RNCNvMs3d6_NvNZIC4coreRFEuKc27_Es3d6_01BQNvC1Ast_3foo2_1au4__5qa" ∷
     presses "_RXC1xRL_iIC1xDG0_C1__EL_Cu3tdaRL_DG0_EL_RhE" "_RXC1xRiIB0_DG0_C1__EL_Cu3tdaRDG0_EL_RhE" ∷
     presses "_RNtIC3stdB2_DG0_YDG0_NtB2_1Apu1_0B7_p0PFG_UxRTEENCIINtNzNzINvBj_1__IBl_BG_EB14_E3foo1__1BEEu1__EL0_BN_EL_Kmffffffffffffffffffffffffffffffff_E1xC4core" "_RNtIC3stdB2_DG0_YDG0_NtB2_1Apu1_0B2_p0PFG_UxRTEENCIINtNzNzINvBj_1__IB2_BG_EB2_E3foo1__1BEEu1__EL0_BN_EL_Kmffffffffffffffffffffffffffffffff_E1xC4core" ∷
@@ -153,14 +121,6 @@ rows_4 =
     presses "_RMNvIIINSMNtNZC3foost_3std2__xB8_2__xEFG0_FKCeEhhENtXMIB7_Kc27_FKCEB0J_RL0_BR_RL0_B5_EfINvBs_3fooFG0_EuB1x_Kc0041_Cs_1AENCB1O_3bar1xEEst_2__xPc" "_RMNvIIINSMNtNZC3foost_3std2__xB8_2__xEFG0_FKCeEhhENtXMIB7_Kc27_FKCEhRL0_B7_RL0_B5_EfINvB8_3fooFG0_EuB1u_Kc41_Cs_1AENCB1J_3bar1xEEst_2__xPc" ∷
     presses "_RNSNtICs_0Kc7f_NtNvB4_3bars0_3barORAPC1xB9_Ksn_E3foost_1x" "_RNSNtICs_0Kc7f_NtNvB4_3bars0_3barORAPC1xB9_Ks0_E3foost_1x" ∷
     presses "_RYQIIC1xKpB3_EeEYQL_Xs0_NZNZCu2a_s_u3tda3barBm_IC1ABG_QL_B0_EB3_" "_RYQIIC1xKpB3_EeEYQXs0_NZNZCu2a_s_u3tda3barBk_IC1ABk_QB0_EB3_" ∷
-    []
-
-right_4 : are_pressed rows_4 ≡ true
-unfolding are_pressed front_digits number_at name_from separated length_digits read_sym read_all press_read press hexadecimal hexadecimal_before need need_of_arguments need_of_type need_of_types need_of_bounds need_of_bindings
-right_4 = refl
-
-abbrev rows_5 : List Row
-rows_5 =
     presses "_RIC1_0INvNZINvYRL_AB0_b0_NzMB0_Bh_s0_4core3fooAoc_B0_hE0s0_1BEKhff_EB7_" "_RIC1_0INvNZINvYRAB0_b0_NzMB0_B0_s0_4core3fooAoc0_B0_hE0s0_1BEKhff_EB7_" ∷
     presses "_RIXNvIXC2__xB5_B5_OuBg_uE2__xBa_MYBr_B5_eE" "_RIXNvIXC2__xB5_B5_OuBg_uE2__xB5_MYB5_B5_eE" ∷
     presses "_RC3stdIIMNZYB_IC4coreL_Es3d6_1xFEvEB5_QL_hE" "_RC3stdIIMNZYB_IC4coreL_Es3d6_1xFEvEB5_QhE" ∷
@@ -182,6 +142,6 @@ rows_5 =
     presses "_RINZC3foo3barSINZNZIXst_INtC1xu1__Knffffffffffffffffffffffffffffffff_EBp_C1_0E1_01_0EL_Bf_B16_EC1__" "_RINZC3foo3barSINZNZIXst_INtC1xu1__Knffffffffffffffffffffffffffffffff_EBp_C1_0E1_01_0EL_Bf_Bp_EC1__" ∷
     []
 
-right_5 : are_pressed rows_5 ≡ true
+right : are_pressed rows ≡ true
 unfolding are_pressed front_digits number_at name_from separated length_digits read_sym read_all press_read press hexadecimal hexadecimal_before need need_of_arguments need_of_type need_of_types need_of_bounds need_of_bindings
-right_5 = refl
+right = refl

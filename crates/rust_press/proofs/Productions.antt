@@ -8,7 +8,7 @@ use Rattle.rust_tree.specs.Hexadecimal.{hexadecimal}
 use Rattle.sym_spell.specs.Pressing.{text, letter, nothing}
 use Rattle.sym_spell.specs.Digits.{digits_of}
 use Rattle.rust_press.specs.Pressing.{Pressing, number16, mark_if, press_name, press_disambiguator, press_binder, press_identifier, press_lifetime, some_lifetime, press_abi, component, spell_constant, press_constant, type_or_reference, spell_path, spell_type, press_path, press_arguments, press_types, press_bounds, press_bindings}
-use Rattle.std.proofs.lemmas.Bool.{eqb-true}
+use Rattle.std.proofs.lemmas.Bool.{eqb-true, false≢true}
 use Rattle.rust_press.specs.Same.{same_tree}
 use Rattle.rust_press.proofs.Sameness.{path-itself, type-itself, constant-itself}
 use Rattle.rust_press.specs.Spelled.{number_bytes, count_bytes, lifetime_bytes, mark_bytes, name_bytes, integer_bytes, letter_bytes, is_component, type_numbers, constant_numbers, numbers_bytes, text_bytes, front_bytes, end_bytes, front, end}
@@ -17,16 +17,7 @@ use Rattle.rust_press.proofs.TreeSpellings.{IsText, Spells, step, is-text, count
 
 type-as-part : (t : tree.Ty) → type_or_reference t (spell_type t) ≡ press_tree (type_part t)
 type-as-part (tree.path_type p) = refl
-type-as-part (tree.basic l) = refl
-type-as-part (tree.array t k) = refl
-type-as-part (tree.slice t) = refl
-type-as-part (tree.tuple ts) = refl
-type-as-part (tree.shared_reference l t) = refl
-type-as-part (tree.mutable_reference l t) = refl
-type-as-part (tree.const_pointer t) = refl
-type-as-part (tree.mut_pointer t) = refl
-type-as-part (tree.function n u a ts r) = refl
-type-as-part (tree.dyn n bs l) = refl
+type-as-part _ = refl
 
 -- how a node's tree is spelled where it is spelled out; a path as a type is its path
 abbrev pub spelling_of : Tree → Pressing
@@ -213,15 +204,12 @@ path-is (tree.crate_root own) = go own.name.punycode
     go : (b : Bool) → is_component (if b then 1 else 0) ≡ true
     go true = refl
     go false = refl
-path-is (tree.inherent_impl d p t) = refl
-path-is (tree.trait_impl d p t q) = refl
-path-is (tree.trait_definition t q) = refl
 path-is (tree.nested n p own) = go own.name.punycode
   where
     go : (b : Bool) → is_component (if b then 6 else 5) ≡ true
     go true = refl
     go false = refl
-path-is (tree.generic p a) = refl
+path-is _ = refl
 
 function-is : (n : ℕ) (u : Bool) (a : tree.Abi) (ts : tree.Tys) (r : tree.Ty) → is_component (fields_of (of_type (tree.function n u a ts r))).production ≡ true
 unfolding is_component
@@ -241,31 +229,18 @@ binding-is false = refl
 pub component-is : (t : Tree) → is_component (fields_of t).production ≡ is_compared t
 unfolding is_component
 component-is (of_path p) = path-is p
-component-is (of_arguments tree.no_arguments) = refl
-component-is (of_arguments (tree.lifetime_argument l a)) = refl
-component-is (of_arguments (tree.constant_argument k a)) = refl
-component-is (of_arguments (tree.type_argument t a)) = refl
-component-is (of_type (tree.basic l)) = refl
-component-is (of_type (tree.path_type p)) = refl
-component-is (of_type (tree.array t k)) = refl
-component-is (of_type (tree.slice t)) = refl
-component-is (of_type (tree.tuple ts)) = refl
-component-is (of_type (tree.shared_reference l t)) = refl
-component-is (of_type (tree.mutable_reference l t)) = refl
-component-is (of_type (tree.const_pointer t)) = refl
-component-is (of_type (tree.mut_pointer t)) = refl
 component-is (of_type (tree.function n u a ts r)) = function-is n u a ts r
-component-is (of_type (tree.dyn n bs l)) = refl
-component-is (of_types tree.no_types) = refl
-component-is (of_types (tree.more_types t ts)) = refl
-component-is (of_bounds tree.no_bounds) = refl
-component-is (of_bounds (tree.more_bounds p b bs)) = refl
-component-is (of_bindings tree.no_bindings) = refl
+component-is (of_type _) = refl
 component-is (of_bindings (tree.more_bindings name t rest)) = binding-is name.punycode
-component-is (of_constant (tree.integer t m n)) = refl
-component-is (of_constant (tree.boolean b)) = refl
-component-is (of_constant (tree.character c)) = refl
+component-is (of_bindings _) = refl
+component-is (of_arguments tree.no_arguments) = refl
+component-is (of_arguments _) = refl
+component-is (of_types tree.no_types) = refl
+component-is (of_types _) = refl
+component-is (of_bounds tree.no_bounds) = refl
+component-is (of_bounds _) = refl
 component-is (of_constant tree.placeholder) = refl
+component-is (of_constant _) = refl
 component-is (of_symbol s) = refl
 
 -- what is compared is a component, and nothing else is
@@ -274,55 +249,23 @@ looked_at true t = component t (spelling_of t)
 looked_at false t = spelling_of t
 
 looked : (t : Tree) → press_tree t ≡ looked_at (is_compared t) t
-looked (of_path p) = refl
-looked (of_arguments a) = refl
-looked (of_type (tree.basic l)) = refl
 looked (of_type (tree.path_type p)) = refl
-looked (of_type (tree.array t k)) = refl
-looked (of_type (tree.slice t)) = refl
-looked (of_type (tree.tuple ts)) = refl
-looked (of_type (tree.shared_reference l t)) = refl
-looked (of_type (tree.mutable_reference l t)) = refl
-looked (of_type (tree.const_pointer t)) = refl
-looked (of_type (tree.mut_pointer t)) = refl
-looked (of_type (tree.function n u a ts r)) = refl
-looked (of_type (tree.dyn n bs l)) = refl
-looked (of_types ts) = refl
-looked (of_bounds bs) = refl
-looked (of_bindings b) = refl
-looked (of_constant (tree.integer t m n)) = refl
-looked (of_constant (tree.boolean b)) = refl
-looked (of_constant (tree.character c)) = refl
+looked (of_type _) = refl
 looked (of_constant tree.placeholder) = refl
-looked (of_symbol s) = refl
+looked (of_constant _) = refl
+looked _ = refl
 
 pub looked-as : (t : Tree) (b : Bool) → is_component (fields_of t).production ≡ b → press_tree t ≡ looked_at b t
 looked-as t b is = looked t ∙ ap (λ c. looked_at c t) (sym (component-is t) ∙ is)
+
+not-compared : (t : Tree) → is_compared t ≡ false → is_component (fields_of t).production ≡ true → same_tree t t ≡ true
+not-compared t none is = absurd (false≢true (sym none ∙ sym (component-is t) ∙ is))
 
 pub compared-itself : (t : Tree) → is_component (fields_of t).production ≡ true → same_tree t t ≡ true
 compared-itself (of_path p) is = path-itself p
 compared-itself (of_type t) is = type-itself t
 compared-itself (of_constant k) is = constant-itself k
-compared-itself (of_arguments a) is = false-true (sym (component-is (of_arguments a)) ∙ is)
-  where
-    false-true : false ≡ true → same_tree (of_arguments a) (of_arguments a) ≡ true
-    false-true bad = cc
-compared-itself (of_types ts) is = false-true (sym (component-is (of_types ts)) ∙ is)
-  where
-    false-true : false ≡ true → same_tree (of_types ts) (of_types ts) ≡ true
-    false-true bad = cc
-compared-itself (of_bounds bs) is = false-true (sym (component-is (of_bounds bs)) ∙ is)
-  where
-    false-true : false ≡ true → same_tree (of_bounds bs) (of_bounds bs) ≡ true
-    false-true bad = cc
-compared-itself (of_bindings b) is = false-true (sym (component-is (of_bindings b)) ∙ is)
-  where
-    false-true : false ≡ true → same_tree (of_bindings b) (of_bindings b) ≡ true
-    false-true bad = cc
-compared-itself (of_symbol s) is = false-true (sym (component-is (of_symbol s)) ∙ is)
-  where
-    false-true : false ≡ true → same_tree (of_symbol s) (of_symbol s) ≡ true
-    false-true bad = cc
+compared-itself t is = not-compared t refl is
 
 -- only components have something after their parts
 test-off : (p k : ℕ) → is_component k ≡ true → is_component p ≡ false → (p == k) ≡ false
@@ -340,49 +283,31 @@ end-none p m s not = rw (test-off p 5 refl not, test-off p 6 refl not, test-off 
 
 part-weight : (t : tree.Ty) → weight_of_tree (type_part t) ≤ weight_of_type t
 part-weight (tree.path_type p) = omega arith
-part-weight (tree.basic l) = omega arith
-part-weight (tree.array t k) = omega arith
-part-weight (tree.slice t) = omega arith
-part-weight (tree.tuple ts) = omega arith
-part-weight (tree.shared_reference l t) = omega arith
-part-weight (tree.mutable_reference l t) = omega arith
-part-weight (tree.const_pointer t) = omega arith
-part-weight (tree.mut_pointer t) = omega arith
-part-weight (tree.function n u a ts r) = omega arith
-part-weight (tree.dyn n bs l) = omega arith
+part-weight _ = omega arith
 
 pub parts-weight : (t : Tree) → 2 + weight_of_trees (fields_of t).parts ≤ weight_of_tree t
-parts-weight (of_path (tree.crate_root own)) = omega arith
 parts-weight (of_path (tree.inherent_impl d p t)) = omega (arith, part-weight t)
 parts-weight (of_path (tree.trait_impl d p t q)) = omega (arith, part-weight t)
 parts-weight (of_path (tree.trait_definition t q)) = omega (arith, part-weight t)
-parts-weight (of_path (tree.nested n p own)) = omega arith
-parts-weight (of_path (tree.generic p a)) = omega arith
-parts-weight (of_arguments tree.no_arguments) = omega arith
-parts-weight (of_arguments (tree.lifetime_argument l a)) = omega arith
-parts-weight (of_arguments (tree.constant_argument k a)) = omega arith
+parts-weight (of_path _) = omega arith
 parts-weight (of_arguments (tree.type_argument t a)) = omega (arith, part-weight t)
-parts-weight (of_type (tree.basic l)) = omega arith
-parts-weight (of_type (tree.path_type p)) = omega arith
+parts-weight (of_arguments _) = omega arith
 parts-weight (of_type (tree.array t k)) = omega (arith, part-weight t)
 parts-weight (of_type (tree.slice t)) = omega (arith, part-weight t)
-parts-weight (of_type (tree.tuple ts)) = omega arith
 parts-weight (of_type (tree.shared_reference l t)) = omega (arith, part-weight t)
 parts-weight (of_type (tree.mutable_reference l t)) = omega (arith, part-weight t)
 parts-weight (of_type (tree.const_pointer t)) = omega (arith, part-weight t)
 parts-weight (of_type (tree.mut_pointer t)) = omega (arith, part-weight t)
 parts-weight (of_type (tree.function n u a ts r)) = omega (arith, part-weight r)
-parts-weight (of_type (tree.dyn n bs l)) = omega arith
-parts-weight (of_types tree.no_types) = omega arith
+parts-weight (of_type _) = omega arith
 parts-weight (of_types (tree.more_types t ts)) = omega (arith, part-weight t)
-parts-weight (of_bounds tree.no_bounds) = omega arith
-parts-weight (of_bounds (tree.more_bounds p b bs)) = omega arith
-parts-weight (of_bindings tree.no_bindings) = omega arith
+parts-weight (of_types _) = omega arith
 parts-weight (of_bindings (tree.more_bindings name t rest)) = omega (arith, part-weight t)
-parts-weight (of_constant (tree.integer t m n)) = omega arith
-parts-weight (of_constant (tree.boolean b)) = omega arith
-parts-weight (of_constant (tree.character c)) = omega arith
+parts-weight (of_bindings _) = omega arith
+parts-weight (of_bounds tree.no_bounds) = omega arith
+parts-weight (of_bounds _) = omega arith
 parts-weight (of_constant tree.placeholder) = omega arith
+parts-weight (of_constant _) = omega arith
 parts-weight (of_symbol s) = go s.instantiating
   where
     go : (other : Option tree.Path) → 2 + weight_of_trees (of_path s.path ∷ other_part other) ≤ 3 + weight s.path + weight_of_other other

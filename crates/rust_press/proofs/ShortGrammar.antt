@@ -28,7 +28,7 @@ use Rattle.rust_press.specs.Subtrees.{IsTypeValue}
 use Rattle.rust_tree.specs.Need.{need, need_of_type}
 use Rattle.rust_press.proofs.PressTokens.{minus_values}
 use Rattle.rust_press.proofs.PressRead.{Holds, bounded-then}
-use Rattle.rust_press.proofs.PressKept.{crate-means, inherent-means, trait-means, definition-means, nested-means, generic-means, lifetime-argument-means, constant-argument-means, type-argument-means, array-means, slice-means, const-means, mut-means, function-means, dyn-means, tuple-means, more-types-means, bounds-means, binding-means}
+use Rattle.rust_press.proofs.PressKept.{crate-root-means, inherent-impl-means, trait-impl-means, trait-definition-means, nested-means, generic-means, lifetime-argument-means, constant-argument-means, type-argument-means, array-means, slice-means, const-pointer-means, mut-pointer-means, function-means, dyn-means, tuple-means, more-types-means, more-bounds-means, more-bindings-means}
 use Rattle.rust_press.proofs.ShortParts.{ended_tree, spelled, is_compared, pressed_as, type-pressed, found-listed}
 use Rattle.rust_press.proofs.ShortRules.{Sort, Part, unsaid_part, path_part, other_part, namespace_part, disambiguator_part, identifier_part, name_part, arguments_part, type_part, types_part, some_lifetime_part, lifetime_part, binder_part, unsafe_part, abi_part, abi_name_part, bounds_part, bindings_part, constant_part, minus_part, truth_part, parts, sort_of, some_lifetime_values, known_lifetime, Made, makes_plain, makes_text, makes_tree, makes_again, Closes, AllClose, own_of, least_all, closes-0, closes-1, closes-2, closes-3, closes-4, closes-5}
 
@@ -115,10 +115,10 @@ path-made few_parts at h path byte out big m means =
 
 forms-close : AllClose a_path path_forms
 forms-close =
-    closes-1 a_path _ (Some rules.Crate) (Kind 8) refl refl (omega arith) (λ at i. path-made 1 at _ (tree.crate_root i) 67 refl (omega arith) _ (crate-means i.disambiguator i.name at))
-    then closes-3 a_path _ (Some rules.InherentImpl) (Kind 7) (Kind 1) (Kind 11) refl refl (omega arith) (λ at d p t. path-made 2 at _ (tree.inherent_impl d p t.0) 77 refl (omega arith) _ (inherent-means d p t.0 t.1 t.2 at))
-    then closes-4 a_path _ (Some rules.TraitImpl) (Kind 7) (Kind 1) (Kind 11) (Kind 1) refl refl (omega arith) (λ at d p t r. path-made 3 at _ (tree.trait_impl d p t.0 r) 88 refl (omega arith) _ (trait-means d p t.0 r t.1 t.2 at))
-    then closes-2 a_path _ (Some rules.TraitDefinition) (Kind 11) (Kind 1) refl refl (omega arith) (λ at t r. path-made 2 at _ (tree.trait_definition t.0 r) 89 refl (omega arith) _ (definition-means t.0 r t.1 t.2 at))
+    closes-1 a_path _ (Some rules.Crate) (Kind 8) refl refl (omega arith) (λ at i. path-made 1 at _ (tree.crate_root i) 67 refl (omega arith) _ (crate-root-means i.disambiguator i.name at))
+    then closes-3 a_path _ (Some rules.InherentImpl) (Kind 7) (Kind 1) (Kind 11) refl refl (omega arith) (λ at d p t. path-made 2 at _ (tree.inherent_impl d p t.0) 77 refl (omega arith) _ (inherent-impl-means d p t.0 t.1 t.2 at))
+    then closes-4 a_path _ (Some rules.TraitImpl) (Kind 7) (Kind 1) (Kind 11) (Kind 1) refl refl (omega arith) (λ at d p t r. path-made 3 at _ (tree.trait_impl d p t.0 r) 88 refl (omega arith) _ (trait-impl-means d p t.0 r t.1 t.2 at))
+    then closes-2 a_path _ (Some rules.TraitDefinition) (Kind 11) (Kind 1) refl refl (omega arith) (λ at t r. path-made 2 at _ (tree.trait_definition t.0 r) 89 refl (omega arith) _ (trait-definition-means t.0 r t.1 t.2 at))
     then closes-3 a_path _ (Some rules.Nested) (Kind 6) (Kind 1) (Kind 8) refl refl (omega arith) (λ at n p i. path-made 3 at _ (tree.nested n p i) 78 refl (omega arith) _ (nested-means n p i.disambiguator i.name at))
     then closes-3 a_path _ (Some rules.Generic) (Kind 1) (Kind 10) (Byte 69) refl refl (omega arith) (λ at p a none. path-made 2 at _ (tree.generic p a) 73 refl (omega arith) _ (generic-means p a at))
     then tt
@@ -164,8 +164,8 @@ own-types-close =
     then closes-1 a_type _ (Some rules.Tuple) (Kind 12) refl refl (omega arith) (λ at ts. type-made 1 at _ (tree.tuple ts) 84 refl (λ _. omega arith) _ (tuple-means ts at))
     then closes-2 a_type _ (Some rules.SharedReference) (Kind 13) (Kind 11) refl refl (omega arith) (λ at l t. type-made 1 at _ (tree.shared_reference (known_lifetime l) t.0) 82 refl (λ _. omega arith) _ (shared-known l t.0 t.1 t.2 at))
     then closes-2 a_type _ (Some rules.MutableReference) (Kind 13) (Kind 11) refl refl (omega arith) (λ at l t. type-made 1 at _ (tree.mutable_reference (known_lifetime l) t.0) 81 refl (λ _. omega arith) _ (mutable-known l t.0 t.1 t.2 at))
-    then closes-1 a_type _ (Some rules.ConstPointer) (Kind 11) refl refl (omega arith) (λ at t. type-made 1 at _ (tree.const_pointer t.0) 80 refl (λ _. omega arith) _ (const-means t.0 t.1 t.2 at))
-    then closes-1 a_type _ (Some rules.MutPointer) (Kind 11) refl refl (omega arith) (λ at t. type-made 1 at _ (tree.mut_pointer t.0) 79 refl (λ _. omega arith) _ (mut-means t.0 t.1 t.2 at))
+    then closes-1 a_type _ (Some rules.ConstPointer) (Kind 11) refl refl (omega arith) (λ at t. type-made 1 at _ (tree.const_pointer t.0) 80 refl (λ _. omega arith) _ (const-pointer-means t.0 t.1 t.2 at))
+    then closes-1 a_type _ (Some rules.MutPointer) (Kind 11) refl refl (omega arith) (λ at t. type-made 1 at _ (tree.mut_pointer t.0) 79 refl (λ _. omega arith) _ (mut-pointer-means t.0 t.1 t.2 at))
     then closes-5 a_type _ (Some rules.Function) (Kind 15) (Kind 16) (Kind 17) (Kind 12) (Kind 11) refl refl (omega arith) (λ at n u a ts t. type-made 2 at _ (tree.function n u a ts t.0) 70 refl (λ _. omega arith) _ (function-means n u a ts t.0 t.1 t.2 at))
     then closes-3 a_type _ (Some rules.Dyn) (Kind 15) (Kind 19) (Kind 14) refl refl (omega arith) (λ at n bs l. type-made 2 at _ (tree.dyn n bs l) 68 refl (λ _. omega arith) _ (dyn-means n bs l at))
     then tt
@@ -290,12 +290,12 @@ type-lists-close =
 bounds-close : AllClose (sort_of bounds_part) bounds_rules
 bounds-close =
     closes-0 (sort_of bounds_part) _ (Some rules.BoundsEnd) refl refl (omega arith) (λ at. plain-made (sort_of bounds_part) 1 0 at _ (value.some_bounds tree.no_bounds) tree.no_bounds (69 ∷ []) refl (omega arith) refl _ refl)
-    then closes-3 (sort_of bounds_part) _ (Some rules.BoundsMore) (Kind 1) (Kind 20) (Kind 19) refl refl (omega arith) (λ at p b bs. chain-made (sort_of bounds_part) 2 at _ (value.some_bounds (tree.more_bounds p b bs)) (tree.more_bounds p b bs) refl refl _ (bounds-means p b bs at))
+    then closes-3 (sort_of bounds_part) _ (Some rules.BoundsMore) (Kind 1) (Kind 20) (Kind 19) refl refl (omega arith) (λ at p b bs. chain-made (sort_of bounds_part) 2 at _ (value.some_bounds (tree.more_bounds p b bs)) (tree.more_bounds p b bs) refl refl _ (more-bounds-means p b bs at))
     then tt
 
 bindings-close : AllClose (sort_of bindings_part) bindings_rules
 bindings-close =
-    closes-3 (sort_of bindings_part) _ (Some rules.Binding) (Kind 9) (Kind 11) (Kind 20) refl refl (omega arith) (λ at m t b. plain-made (sort_of bindings_part) 1 2 at _ (value.some_bindings (tree.more_bindings m t.0 b)) (tree.more_bindings m t.0 b) (112 ∷ []) refl (omega arith) refl _ (binding-means m t.0 b t.1 t.2 at))
+    closes-3 (sort_of bindings_part) _ (Some rules.Binding) (Kind 9) (Kind 11) (Kind 20) refl refl (omega arith) (λ at m t b. plain-made (sort_of bindings_part) 1 2 at _ (value.some_bindings (tree.more_bindings m t.0 b)) (tree.more_bindings m t.0 b) (112 ∷ []) refl (omega arith) refl _ (more-bindings-means m t.0 b t.1 t.2 at))
     then tt
 
 -- ## Marks

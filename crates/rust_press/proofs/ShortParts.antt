@@ -2,6 +2,7 @@
 -- and the components that end in it. `ShortRules` has what a rule makes of its parts, `ShortGrammar` each rule of the grammar, and
 -- `ShortSymbol` the induction over a symbol's shape.
 use Rattle.std.proofs.Common.{◌≡◌, ◌⊎◌, ℕ, zero, suc, ◌+◌, ◌-◌, ◌*◌, ◌≤◌, inl, inr, length, List, [], ◌∷◌, Option, Some, None, Bool, true, false, refl, ap, arith, sym, subst, ◌∙◌, length-append}
+use Rattle.std.proofs.lemmas.Option.{same_Some}
 use Rattle.rust_tree.specs.Symbol as tree
 use Rattle.rust_tree.specs.Tree.{Tree, of_path, of_type, of_constant}
 use Rattle.rust_tree.specs.Fields.{type_part}
@@ -72,11 +73,8 @@ pub found-listed : (es : List Ended) (place : ℕ) (v : Value) (own : Tree) → 
 found-listed [] place v own is made = cc
 found-listed (e ∷ es) place v own is made = go (e.place == place) is (λ h. found-listed es place v own h made)
   where
-    some-one : {a b : Value} → Some a ≡ Some b → a ≡ b
-    some-one h = cc
-
     go : (b : Bool) → (if b then Some e.value else ended_at es place) ≡ Some v → (ended_at es place ≡ Some v → Listed own es) → Listed own (e ∷ es)
-    go true is earlier = inl (ap ended_tree (some-one is) ∙ made)
+    go true is earlier = inl (ap ended_tree (same_Some _ _ is) ∙ made)
     go false is earlier = inr (earlier is)
 
 -- ## References
@@ -93,11 +91,8 @@ place-has : (own : Tree) (cs : List Component) (place : ℕ) → AreLow cs → f
 place-has own [] place low is = cc
 place-has own (c ∷ cs) place low is = go (first_place own cs) refl is (λ found. place-has own cs place low.1 found)
   where
-    some-one : {a b : ℕ} → Some a ≡ Some b → a ≡ b
-    some-one h = cc
-
     here : (b : Bool) → same_tree own c.own ≡ b → elim b as (λ _. Option ℕ) [ true ↦ Some c.place | false ↦ None ] ≡ Some place → Has own (c ∷ cs) × (place ≤ reach)
-    here true same found = (inl (sym (equal-tree own c.own same)), omega (arith, low.0, some-one found))
+    here true same found = (inl (sym (equal-tree own c.own same)), omega (arith, low.0, same_Some _ _ found))
     here false same found = cc
 
     go : (o : Option ℕ) → first_place own cs ≡ o

@@ -1,5 +1,6 @@
 -- A symbol is pressed in at most four bytes for each of its own: by induction over its shape.
 use Rattle.std.proofs.Common.{◌≡◌, ℕ, ◌+◌, ◌*◌, ◌≤◌, length, List, [], ◌∷◌, ◌++◌, Option, Some, None, Bool, true, false, Ok, refl, ap, arith, sym, subst, ◌∙◌, length-append}
+use Rattle.std.proofs.lemmas.Option.{same_Some}
 use Rattle.std.proofs.lemmas.List.{length-drop}
 use Rattle.sym_core.specs.declared.TheConstants.{MOST_BYTES}
 use Rattle.std.specs.Prelude.{if◌then◌else◌, get_or, Result, Err, drop, codes}
@@ -29,7 +30,7 @@ use Rattle.rust_tree.specs.Symbol as tree
 use Rattle.rust_grammar.specs.Value.{Value, State, Ended}
 use Rattle.rust_grammar.specs.Unfold.{v0, At, bound_behind, is_minus, meaning, meaning_of, at_rule, at_first, symbol_of, unfolded, token_of, value62, value16}
 use Rattle.rust_press.specs.Pressing.{Pressing, digits62, digits16, press_path, press_other, pressed}
-use Rattle.rust_press.proofs.PressReadTrees.{symbol_rule, one-rule, whole-shape}
+use Rattle.rust_press.proofs.PressReadTrees.{symbol_rule, whole-shape}
 use Rattle.rust_press.proofs.PressSymbol.{other_values}
 use Rattle.sym_demangle.specs.Mangled.{misshapen, well_shaped}
 use Rattle.rust_press.specs.Short.{PressedIsShort}
@@ -133,11 +134,8 @@ closes-at : (S : Sort) (cs : List Choice) (byte : ℕ) (rule : Rule) → AllClos
 closes-at S [] byte rule are is = cc
 closes-at S (c ∷ cs) byte rule (one, rest) is = go (in_ranges (classes_of c) byte) is (λ h. closes-at S cs byte rule rest h)
   where
-    some-one : {a b : Rule} → Some a ≡ Some b → a ≡ b
-    some-one h = cc
-
     go : (t : Bool) → (if t then Some c.rule else choice_at cs byte) ≡ Some rule → (choice_at cs byte ≡ Some rule → Closes S rule) → Closes S rule
-    go true found more = subst (Closes S) (some-one found) one
+    go true found more = subst (Closes S) (same_Some _ _ found) one
     go false found more = more found
 
 own-long : (eats : Bool) (taken : List ℕ) (byte : ℕ) → taken ≡ (if eats then byte ∷ [] else []) → length taken ≡ (if eats then 1 else 0)
@@ -236,7 +234,7 @@ suffix-read s place (branch rule taken parts) state long (takes, are) = go (in_r
     go true found-it =
         let short : length (drop place s) ≤ length (taken ++ spell_all parts) = omega (arith, long, length-drop place s) in
         holds-then (λ f. Unit {0}) _ (unfold_forest (v0 s) (standing rule taken place 0 state) [] (place + length taken) parts state) _ (anything _)
-        (λ inner g. subst (λ r. Holds (λ f. IsSuffix (length (taken ++ spell_all parts)) f.value) (meaning_of (production_of r.number) (at_rule s (standing rule taken place 0 state) inner.state) inner.value >>= alone)) (one-rule found-it) short)
+        (λ inner g. subst (λ r. Holds (λ f. IsSuffix (length (taken ++ spell_all parts)) f.value) (meaning_of (production_of r.number) (at_rule s (standing rule taken place 0 state) inner.state) inner.value >>= alone)) (same_Some _ _ found-it) short)
 
 -- The values of the parts of a symbol, whose path, other path and suffix have so many bytes.
 record AreParts (a b d : ℕ) (values : List Value) : Type 0 where

@@ -1,11 +1,12 @@
 -- The steps of the writer keep what is written and what is still to be written.
 use Rattle.std.proofs.Common.{◌≡◌, ℕ, zero, suc, ◌+◌, ◌-◌, ◌<◌, ◌≤◌, ◌^◌, inl, inr, length, List, [], ◌∷◌, ◌++◌, drop, slice_get, slice_set, Option, Some, None, Bool, true, false, refl, ap, arith, sym, subst, ◌∙◌, append_assoc, length-append}
+use Rattle.std.proofs.lemmas.Option.{same_Some, slice_get_within}
 use Rattle.std.specs.Prelude.{◌==◌, map, get_or, slice_index_or}
 use Rattle.sym_core.specs.declared.Span.{Span}
 use Rattle.rust_tree.specs.declared.view.Node.{Node}
 use Rattle.rust_tree.specs.Nodes.{bytes_at, symbol_in}
 use Rattle.sym_spell.proofs.Counting.{entries-front}
-use Rattle.rust_tree.proofs.Trees.{length-trees}
+use Rattle.rust_tree.proofs.Trees.{got-there, length-trees}
 use Rattle.std.specs.Option.{option_to_list}
 use Rattle.std.proofs.lemmas.Bool.{eqb-true, eq-eqb}
 use Rattle.rust_tree.specs.Symbol as tree
@@ -126,14 +127,6 @@ plain-step t old p cs small is =
 
 -- ## A step at a node
 
-own-tree : (all : List Tree) (i : ℕ) → i < length all → (t : Tree) × (slice_get all i ≡ Some t)
-own-tree [] i low = absurd (omega (arith, low))
-own-tree (t ∷ ts) zero low = (t, refl)
-own-tree (t ∷ ts) (suc i) low = own-tree ts i (omega (arith, low))
-
-some-one : {A : Type 0} {a b : A} → Some a ≡ Some b → a ≡ b
-some-one h = cc
-
 -- what a step at a node leaves
 pub record Left (y : ReadSymbol) (numbers : List ℕ) (whole : Pressed) (older new : List Task) (node : ℕ) (places : List (Option ℕ)) (after : List ℕ) : Type 0 where
   pub goes : Goes y numbers whole new places after
@@ -171,7 +164,7 @@ known-left : (y : ReadSymbol) (numbers : List ℕ) (whole : Pressed) (older new 
     → At y numbers whole older node t places out cs → is_component (fields_of t).production ≡ true → slice_get places (number_at numbers node) ≡ Some (Some place)
     → new ≡ older → after ≡ out ++ reference_bytes place → Left y numbers whole older new node places after
 known-left y numbers whole older new node t places out after cs place at is known same written_is =
-    let first : first_place t cs ≡ Some place = some-one (sym (at.places_are node t at.there) ∙ known) in
+    let first : first_place t cs ≡ Some place = same_Some _ _ (sym (at.places_are node t at.there) ∙ known) in
     node-left y numbers whole older new node t places out after (reference_bytes place) cs at
     (known-step t (press_tasks y older) place (length out) cs is first ∙ ap (λ l. (text (reference_bytes place) and press_tasks y l) (length out) cs) (sym same)) written_is
     (subst (AreTasks y) (sym same) at.tasks) (omega (arith, ap (weight_of_tasks y) same, parts-weight t))
@@ -181,7 +174,7 @@ new-left : (y : ReadSymbol) (numbers : List ℕ) (whole : Pressed) (older new : 
     → number_in (fields_of t) 0 < 2 ^ 64 → ArePushed y (fields_of t).parts (older ++ Task.Ended node (length out) ∷ []) new → after ≡ out ++ front (fields_of t)
     → Left y numbers whole older new node places after
 new-left y numbers whole older new node t places out after cs at is unknown small pushed written_is =
-    let first : first_place t cs ≡ None = some-one (sym (at.places_are node t at.there) ∙ unknown) in
+    let first : first_place t cs ≡ None = same_Some _ _ (sym (at.places_are node t at.there) ∙ unknown) in
     let ended : Task = Task.Ended node (length out) in
     let given : fields_at y node ≡ fields_of t = fields-there y node t at.there in
     node-left y numbers whole older new node t places out after (front (fields_of t)) cs at
@@ -226,7 +219,7 @@ pub node-goes : (y : ReadSymbol) (numbers : List ℕ) (whole : Pressed) (tasks o
     → Goes y numbers whole new places after × (weight_of_tasks y new < weight_of_tasks y tasks)
 node-goes y numbers whole tasks older new node places out after g is s =
     let split = tasks-less y older (Task.Node node) (subst (AreTasks y) is g.nodes) in
-    let own = own-tree (trees_of y) node split.0 in
+    let own = got-there (trees_of y) node split.0 in
     let t : Tree = own.0 in
     let same : press_tasks y tasks (length out) g.components ≡ (press_tree t and press_tasks y older) (length out) g.components =
     ap (λ l. press_tasks y l (length out) g.components) is ∙ tasks-push y older (Task.Node node) (length out) g.components
@@ -276,14 +269,6 @@ none-there places k n same low o is never = rw (sym same) (go places n (omega (a
     go (p ∷ ps) (suc m) low o is never = go ps m (omega (arith, low)) o is never
 
 -- ## The end of a component
-
-pub place-within : {A : Type 0} (ps : List A) (k : ℕ) (x : A) → slice_get ps k ≡ Some x → k < length ps
-place-within [] k x is = absurd (never is)
-  where
-    never : None ≡ Some x → ⊥
-    never bad = cc
-place-within (p ∷ ps) zero x is = omega arith
-place-within (p ∷ ps) (suc k) x is = omega (arith, place-within ps k x is)
 
 set-here : {A : Type 0} (ps : List A) (k : ℕ) (x : A) → k < length ps → slice_get (slice_set ps k x) k ≡ Some x
 set-here [] k x low = absurd (omega (arith, low))
@@ -345,7 +330,7 @@ place-goes places k j place t u None other here there numbers trees olds itself 
     same : (o : Option ℕ) → None ≡ o → t ≡ u → k ≡ j → slice_get (slice_set places k (Some place)) j ≡ Some (one-later o (same_tree u t) place)
     same (Some q) bad e one = absurd (none-some bad)
     same None is e one =
-        ap (slice_get (slice_set places k (Some place))) (sym one) ∙ set-here places k (Some place) (place-within places k None here)
+        ap (slice_get (slice_set places k (Some place))) (sym one) ∙ set-here places k (Some place) (slice_get_within places k None here)
         ∙ ap (λ b. Some (one-later None b place)) (sym (subst (λ v. same_tree v t ≡ true) e itself))
 
     go : (b : Bool) → (k == j) ≡ b → slice_get (placed places k place) j ≡ Some (one-later other (same_tree u t) place)
@@ -360,13 +345,13 @@ places-go : (y : ReadSymbol) (numbers : List ℕ) (node : ℕ) (t : Tree) (place
     → ArePlaces y numbers (placed places (number_at numbers node) place) (record { place = place; own = t } ∷ cs)
 places-go y numbers node t place places cs are there itself known i u at =
     place-goes places (number_at numbers node) (number_at numbers i) place t u (first_place t cs) (first_place u cs) (known node t there) (known i u at)
-    (λ e. some-one (sym there ∙ are.same node i (low node t there) (low i u at) e ∙ at))
+    (λ e. same_Some _ _ (sym there ∙ are.same node i (low node t there) (low i u at) e ∙ at))
     (λ e. are.equal node i (low node t there) (low i u at) (there ∙ ap Some e ∙ sym at))
     (λ e. ap (λ v. first_place v cs) e) itself
     ∙ ap Some (sym (later-is u t place cs))
   where
     low : (m : ℕ) (v : Tree) → slice_get (trees_of y) m ≡ Some v → m < length numbers
-    low m v is = omega (arith, are.long, place-within (trees_of y) m v is)
+    low m v is = omega (arith, are.long, slice_get_within (trees_of y) m v is)
 
 ending-then : (t : Tree) (place : ℕ) (old : Pressing) (p : ℕ) (cs : List Component) → ((ending place t and old) p cs).bytes ≡ (old p (record { place = place; own = t } ∷ cs)).bytes
 ending-then t place old p cs = let none : p + 0 ≡ p = omega arith in ap (λ q. (old q (record { place = place; own = t } ∷ cs)).bytes) none
@@ -381,7 +366,7 @@ pub end-goes : (y : ReadSymbol) (numbers : List ℕ) (whole : Pressed) (tasks ol
     → Goes y numbers whole older left after × (weight_of_tasks y older < weight_of_tasks y tasks)
 end-goes y numbers whole tasks older node place places left out after are g is set bytes =
     let split = tasks-less y older (Task.Ended node place) (subst (AreTasks y) is g.nodes) in
-    let own = own-tree (trees_of y) node split.0.0 in
+    let own = got-there (trees_of y) node split.0.0 in
     let t : Tree = own.0 in
     let given : fields_at y node ≡ fields_of t = fields-there y node t own.1 in
     let itself : same_tree t t ≡ true = compared-itself t (sym (ap (λ h. is_component h.production) given) ∙ split.0.1) in
@@ -416,7 +401,7 @@ pub goes-first : (y : ReadSymbol) (numbers : List ℕ) (tasks : List Task) (plac
     → Goes y numbers (press_root y) tasks places out
 goes-first y numbers tasks places out root count is low first none empty below = rw (first, none) (record {
   components = [];
-  places_are = λ i u at. empty (number_at numbers i) (below i (place-within (trees_of y) i u at));
+  places_are = λ i u at. empty (number_at numbers i) (below i (slice_get_within (trees_of y) i u at));
   of_nodes = tt;
   nodes = tasks-more y [] (Task.Node root) (no-tasks y) low;
   bytes = ap (λ one. one.bytes) (nothing-and-at (press_some (slice_get (trees_of y) root)) 0 []) ∙ ap (λ m. (press_some (slice_get (trees_of y) m) 0 []).bytes) is;
@@ -464,11 +449,11 @@ pub record IsThere (y : ReadSymbol) (numbers : List ℕ) (places : List (Option 
 is-there : (y : ReadSymbol) (numbers : List ℕ) (whole : Pressed) (tasks : List Task) (places : List (Option ℕ)) (out : List ℕ) (k : ℕ) → Goes y numbers whole tasks places out
     → AreNumbers (trees_of y) numbers → k < length (trees_of y) → IsThere y numbers places k
 is-there y numbers whole tasks places out k g are low =
-    let own = own-tree (trees_of y) k low in
+    let own = got-there (trees_of y) k low in
     record {
       node = omega (arith, low, length-trees y.bytes y.table.nodes);
       number = omega (arith, low, are.long);
-      place = place-within places (number_at numbers k) (first_place own.0 g.components) (g.places_are k own.0 own.1);
+      place = slice_get_within places (number_at numbers k) (first_place own.0 g.components) (g.places_are k own.0 own.1);
     }
 
 pub node-there : (y : ReadSymbol) (numbers : List ℕ) (whole : Pressed) (tasks older : List Task) (places : List (Option ℕ)) (out : List ℕ) (k : ℕ) → Goes y numbers whole tasks places out

@@ -77,10 +77,9 @@ unfoldable are_right : List Row → Bool
 are_right [] = true
 are_right (row ∷ rows) = is_right row.detail row.symbol row.cost row.wanted && are_right rows
 
--- ## At the edges of the rules
-
-abbrev rows_0 : List Row
-rows_0 =
+abbrev rows : List Row
+rows =
+    -- at the edges of the rules
     -- name that begins with a digit
     prints "_RNvC6_123foo3bar" (codes "123foo::bar") 14 ∷
     -- dyn with a binding
@@ -121,14 +120,6 @@ rows_0 =
     refers_badly Detail.Full "_RINvC3foo3barShNvBc_1xE" 18 ∷
     -- empty name
     prints "_RNvC0_3foo" (codes "::foo") 8 ∷
-    []
-
-right_rows_0 : are_right rows_0 ≡ true
-unfolding digits basic_text numbered_lifetime lifetime_text character_text constant_parts lifetime_parts namespace_text names_from path_parts bound_parts symbol_parts hyphenated need same_bytes same_refusal same_answer is_right are_right
-right_rows_0 = refl
-
-abbrev rows_1 : List Row
-rows_1 =
     -- empty parent
     prints "_RNvC03foo" (codes "::foo") 8 ∷
     -- dyn no bounds
@@ -169,14 +160,6 @@ rows_1 =
     prints "_RINvC3foo3barSeE" (codes "foo::bar::<[str]>") 24 ∷
     -- one tuple
     prints "_RINvC3foo3barTeEE" (codes "foo::bar::<(str,)>") 26 ∷
-    []
-
-right_rows_1 : are_right rows_1 ≡ true
-unfolding digits basic_text numbered_lifetime lifetime_text character_text constant_parts lifetime_parts namespace_text names_from path_parts bound_parts symbol_parts hyphenated need same_bytes same_refusal same_answer is_right are_right
-right_rows_1 = refl
-
-abbrev rows_2 : List Row
-rows_2 =
     -- constant reference
     prints "_RINvC3foo3barKj7_KBc_E" (codes "foo::bar::<7, 7>") 24 ∷
     -- not a constant
@@ -217,14 +200,6 @@ rows_2 =
     refers_badly Detail.Full "_RNvNvB_3foo3bar" 6 ∷
     -- misaligned
     prints "_RINvC3foo3barB0_E" (codes "foo::bar::<foo::bar>") 27 ∷
-    []
-
-right_rows_2 : are_right rows_2 ≡ true
-unfolding digits basic_text numbered_lifetime lifetime_text character_text constant_parts lifetime_parts namespace_text names_from path_parts bound_parts symbol_parts hyphenated need same_bytes same_refusal same_answer is_right are_right
-right_rows_2 = refl
-
-abbrev rows_3 : List Row
-rows_3 =
     -- inherent
     prints "_RNvMC3fooINtB2_1AhE3baz" (codes "<foo::A<u8>>::baz") 25 ∷
     -- trait definition
@@ -247,16 +222,7 @@ rows_3 =
     briefly "_RINvC3foo3barDG_INtB2_1ARL0_hEp1xhEL_E" (codes "foo::bar") 12 ∷
     -- brief binding
     briefly "_RNvMC3fooDNtB2_1Ap1xhEL_3baz" (codes "<dyn foo::A>::baz") 25 ∷
-    []
-
-right_rows_3 : are_right rows_3 ≡ true
-unfolding digits basic_text numbered_lifetime lifetime_text character_text constant_parts lifetime_parts namespace_text names_from path_parts bound_parts symbol_parts hyphenated need same_bytes same_refusal same_answer is_right are_right
-right_rows_3 = refl
-
--- ## Symbols of each kind
-
-abbrev rows_4 : List Row
-rows_4 =
+    -- symbols of each kind
     prints "_RC2__x" (codes "_x") 4 ∷
     prints "_RC0" (codes "") 2 ∷
     prints "_RC1x" (codes "x") 3 ∷
@@ -277,14 +243,6 @@ rows_4 =
     prints "_RNZNtC3bars_3stds1_1__" (codes "bar::std::{Z:_#3}") 21 ∷
     prints "_RC3std" (codes "std") 5 ∷
     briefly "_RIXs_C1BAhh1_IXXNtNvCs_3bar3std4coreiBe_RhIIC1xDG_Bd_EL_Kb1_EEEE.$_" (codes "<[u8; 1] as <&u8 as x>> (.$_)") 42 ∷
-    []
-
-right_rows_4 : are_right rows_4 ≡ true
-unfolding digits basic_text numbered_lifetime lifetime_text character_text constant_parts lifetime_parts namespace_text names_from path_parts bound_parts symbol_parts hyphenated need same_bytes same_refusal same_answer is_right are_right
-right_rows_4 = refl
-
-abbrev rows_5 : List Row
-rows_5 =
     prints "_RNzIC0E3bar" (codes "::<>::bar") 13 ∷
     prints "_RMC4coreB0_" (codes "<core>") 9 ∷
     prints "_RIC1BKa03_Kxff_E" (codes "B::<3, 255>") 18 ∷
@@ -305,14 +263,6 @@ rows_5 =
     briefly "_RYoNvNtCs0_03bars3d6_1x" (codes "<u128 as ::bar::x>") 24 ∷
     prints "_RMNvCst_1A1_0FOB2_Eh" (codes "<fn(*mut A) -> u8>") 26 ∷
     prints "_RNvNvCs_4cores_1__0" (codes "core::_") 11 ∷
-    []
-
-right_rows_5 : are_right rows_5 ≡ true
-unfolding digits basic_text numbered_lifetime lifetime_text character_text constant_parts lifetime_parts namespace_text names_from path_parts bound_parts symbol_parts hyphenated need same_bytes same_refusal same_answer is_right are_right
-right_rows_5 = refl
-
-abbrev rows_6 : List Row
-rows_6 =
     briefly "_RNZC3foos_2__x" (codes "foo::{Z:_x#1}") 16 ∷
     prints "_RCs_1__" (codes "_") 3 ∷
     prints "_RIC1ARB0_Ksn03_RL_pDB0_NZB4_2_1aMC3fooAABi_in1_b0_EL_E" (codes "A::<&A, -3, &_, dyn A + A::{Z:1a#0} + <[[A; -1]; false]>>") 85 ∷
@@ -324,14 +274,13 @@ rows_6 =
     briefly "_RNSYuNSC3stdst_3foo3bar" (codes "<() as std::{shim:foo#31}>::{shim:bar#0}") 46 ∷
     []
 
-right_rows_6 : are_right rows_6 ≡ true
+right : are_right rows ≡ true
 unfolding digits basic_text numbered_lifetime lifetime_text character_text constant_parts lifetime_parts namespace_text names_from path_parts bound_parts symbol_parts hyphenated need same_bytes same_refusal same_answer is_right are_right
-right_rows_6 = refl
+right = refl
 
--- ## Names in punycode
-
-abbrev rows_7 : List Row
-rows_7 =
+abbrev punycode_rows : List Row
+punycode_rows =
+    -- names in punycode
     -- punycode in the middle
     prints "_RNvNtNtC7mycrateu8gdel_5qa6escher4bach" (109 ∷ 121 ∷ 99 ∷ 114 ∷ 97 ∷ 116 ∷ 101 ∷ 58 ∷ 58 ∷ 103 ∷ 195 ∷ 182 ∷ 100 ∷ 101 ∷ 108 ∷ 58 ∷ 58 ∷ 101 ∷ 115 ∷ 99 ∷ 104 ∷ 101 ∷ 114 ∷ 58 ∷ 58 ∷ 98 ∷ 97 ∷ 99 ∷ 104 ∷ []) 34 ∷
     -- punycode end
@@ -347,14 +296,6 @@ rows_7 =
     prints "_RNtNCC3foo2__xst_u3tda" (102 ∷ 111 ∷ 111 ∷ 58 ∷ 58 ∷ 123 ∷ 99 ∷ 108 ∷ 111 ∷ 115 ∷ 117 ∷ 114 ∷ 101 ∷ 58 ∷ 95 ∷ 120 ∷ 35 ∷ 48 ∷ 125 ∷ 58 ∷ 58 ∷ 195 ∷ 188 ∷ []) 27 ∷
     prints "_RNvNzC2_1au4__5qa4core" (codes "1a::punycode{_5qa}::core") 28 ∷
     briefly "_RNCC1Au1aB1_" (codes "A::{closure:punycode{a}#0}") 29 ∷
-    []
-
-right_rows_7 : are_right rows_7 ≡ true
-unfolding digits basic_text numbered_lifetime lifetime_text character_text constant_parts lifetime_parts namespace_text names_from path_parts bound_parts symbol_parts hyphenated need decode insert_all read_integer digit_value adapt scale is_xid_continue in_ranges xid_continue_ranges encode same_bytes same_refusal same_answer is_right are_right
-right_rows_7 = refl
-
-abbrev rows_8 : List Row
-rows_8 =
     prints "_RINvCu9Bcher_kvas_2__xE" (66 ∷ 195 ∷ 188 ∷ 99 ∷ 104 ∷ 101 ∷ 114 ∷ 58 ∷ 58 ∷ 95 ∷ 120 ∷ 58 ∷ 58 ∷ 60 ∷ 62 ∷ []) 19 ∷
     briefly "_RNACst_3baru1a" (codes "bar::{A:punycode{a}#0}") 25 ∷
     prints "_RNANtCs0_u8gdel_5qas_1A3bar" (103 ∷ 195 ∷ 182 ∷ 100 ∷ 101 ∷ 108 ∷ 58 ∷ 58 ∷ 65 ∷ 58 ∷ 58 ∷ 123 ∷ 65 ∷ 58 ∷ 98 ∷ 97 ∷ 114 ∷ 35 ∷ 48 ∷ 125 ∷ []) 24 ∷
@@ -369,6 +310,6 @@ rows_8 =
     briefly "_RNtCu3tdas_2_1aB1_" (195 ∷ 188 ∷ 58 ∷ 58 ∷ 49 ∷ 97 ∷ []) 9 ∷
     []
 
-right_rows_8 : are_right rows_8 ≡ true
+punycode_right : are_right punycode_rows ≡ true
 unfolding digits basic_text numbered_lifetime lifetime_text character_text constant_parts lifetime_parts namespace_text names_from path_parts bound_parts symbol_parts hyphenated need decode insert_all read_integer digit_value adapt scale is_xid_continue in_ranges xid_continue_ranges encode same_bytes same_refusal same_answer is_right are_right
-right_rows_8 = refl
+punycode_right = refl

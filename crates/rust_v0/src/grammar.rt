@@ -36,6 +36,11 @@ impl Grammar for V0 {
     }
 
     #[inline(always)]
+    fn after(&self, place: u32) -> u8 {
+        rust_grammar::V0.after(place)
+    }
+
+    #[inline(always)]
     fn may_be_empty(&self, kind: u16) -> bool {
         rust_grammar::V0.may_be_empty(kind)
     }

@@ -2,13 +2,15 @@
 ghost use Rattle.std.specs.Prelude.{◌≡◌, None};
 ghost use Rattle.std.specs.Option.{IfSome};
 ghost use Rattle.sym_core.specs.Number.{FitsSymbol};
-ghost use Rattle.sym_print.specs.declared.detail.Detail.TheVariants.{Full};
+ghost use Rattle.sym_print.specs.declared.detail.Detail.TheVariants.{Full, Brief};
 ghost use Rattle.sym_demangle.specs.Mangled.{answer};
+ghost use Rattle.rust_grammar.specs.Mangled.{v0_mangled};
 ghost use Rattle.sym_languages.specs.Languages.{answers_by, language_answer_by};
 ghost use Rattle.sym_calls.specs.Calls.{EndsAs, IsTextWritten, answered, asked_of, ending_of, name_told, press_told, text_told};
 
 use crate::flags::{Asked, asked_of};
 use crate::outcome::{FLAGS, Outcome, alone, no_memory, of_refusal, write};
+use rust_short_way::write_brief;
 use rust_v0::V0;
 use std::alloc::Global;
 use sym_core::Refusal;
@@ -118,8 +120,20 @@ fn write_less<C: Cpp>(
     Some(write(C::text(&direct), buffer))
 }
 
-/// The same in its language, where a short way writes what is asked for: a C++ symbol, or a Rust symbol with its arguments, since it
-/// has no parameters.
+/// The same of a Rust symbol without its generic arguments.
+fn brief_once(alloc: Global, symbol: &[u8], limit: u32, buffer: &mut [u8]) -> Option<Outcome>
+    requires { FitsSymbol symbol.now }
+    ensures told { IfSome result (λ outcome. IsTextWritten (answer v0_mangled Brief symbol.now limit) buffer.old (ending_of outcome buffer.new)) }
+    ensures same { result ≡ None → buffer.new ≡ buffer.old }
+{
+    let mut direct = V0::direct(alloc);
+    if !write_brief(&mut direct, symbol, limit) {
+        return None;
+    }
+    Some(write(V0::text(&direct), buffer))
+}
+
+/// The same in its language. A Rust symbol has no parameters.
 fn short_once<C: Cpp>(
     alloc: Global,
     languages: &Languages<C>,
@@ -138,7 +152,7 @@ fn short_once<C: Cpp>(
         },
         Lang::Rust => {
             if !languages.detail.has_arguments() {
-                return None;
+                return brief_once(alloc, symbol, languages.limit, buffer);
             }
             write_short::<V0>(alloc, symbol, languages.limit, buffer)
         }

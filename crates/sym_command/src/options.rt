@@ -13,7 +13,7 @@ use sym_print::Detail;
 const DEFAULT_LIMIT: u32 = 1_000_000;
 
 const VERSION: &str =
-    "0.1.0 (C++ by the Itanium ABI 5.1, Rust v0 by RFC 2603; proved with rattle-kit-13f)";
+    "0.1.0 (C++ by the Itanium ABI 5.1, Rust v0 by RFC 2603; proved with rattle-kit-13b)";
 
 /// What help shows after the options.
 const EXAMPLES: &str = "\

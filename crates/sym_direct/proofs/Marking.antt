@@ -35,18 +35,18 @@ not-chosen true xs ys is = cc is
 abbrev unless_closed : (depth byte : ℕ) (bytes : List ℕ) → List ℕ
 unless_closed depth byte bytes = elim (nat_eq byte closes) [ true ↦ visible (depth - 1) bytes | false ↦ unless_within depth byte (visible depth bytes) ]
 
-visible-opened : (depth byte : ℕ) (bytes : List ℕ) → nat_eq byte opens ≡ true → visible depth (byte ∷ bytes) ≡ visible (depth + 1) bytes
+pub visible-opened : (depth byte : ℕ) (bytes : List ℕ) → nat_eq byte opens ≡ true → visible depth (byte ∷ bytes) ≡ visible (depth + 1) bytes
 unfolding visible
 visible-opened depth byte bytes is = chosen (nat_eq byte opens) (visible (depth + 1) bytes) (unless_closed depth byte bytes) is
 
-visible-closed : (depth byte : ℕ) (bytes : List ℕ) → nat_eq byte opens ≡ false → nat_eq byte closes ≡ true
+pub visible-closed : (depth byte : ℕ) (bytes : List ℕ) → nat_eq byte opens ≡ false → nat_eq byte closes ≡ true
     → visible depth (byte ∷ bytes) ≡ visible (depth - 1) bytes
 unfolding visible
 visible-closed depth byte bytes other is =
     not-chosen (nat_eq byte opens) (visible (depth + 1) bytes) (unless_closed depth byte bytes) other
     ∙ chosen (nat_eq byte closes) (visible (depth - 1) bytes) (unless_within depth byte (visible depth bytes)) is
 
-visible-other : (depth byte : ℕ) (bytes : List ℕ) → nat_eq byte opens ≡ false → nat_eq byte closes ≡ false
+pub visible-other : (depth byte : ℕ) (bytes : List ℕ) → nat_eq byte opens ≡ false → nat_eq byte closes ≡ false
     → visible depth (byte ∷ bytes) ≡ unless_within depth byte (visible depth bytes)
 unfolding visible
 visible-other depth byte bytes one two =

@@ -1,5 +1,5 @@
 -- Texts with stretches that are to be left out. A mark is before such a stretch, and another one after it; others may be in it.
-use Rattle.std.specs.Prelude.{◌≢◌, ℕ, zero, suc, ◌+◌, ◌-◌, List, [], ◌∷◌, true, false, nat_eq}
+use Rattle.std.specs.Prelude.{◌≡◌, ◌≢◌, ℕ, zero, suc, ◌+◌, ◌-◌, List, [], ◌∷◌, ◌++◌, Bool, true, false, ◌||◌, nat_eq}
 use Rattle.std.specs.List.{All}
 
 -- the mark before a stretch, and the one after it
@@ -24,6 +24,26 @@ visible depth (byte ∷ bytes) = elim (nat_eq byte opens) [
     | false ↦ unless_within depth byte (visible depth bytes)
   ]
 ]
+
+-- the byte is a mark
+abbrev pub is_mark : ℕ → Bool
+is_mark byte = nat_eq byte opens || nat_eq byte closes
+
+-- no byte of a text is a mark
+abbrev pub is_unmarked : List ℕ → Bool
+is_unmarked [] = true
+is_unmarked (byte ∷ bytes) = elim (is_mark byte) [ true ↦ false | false ↦ is_unmarked bytes ]
+
+abbrev pub IsUnmarked : List ℕ → Type 0
+IsUnmarked bytes = is_unmarked bytes ≡ true
+
+-- in a stretch nothing is left of the bytes
+abbrev pub IsHidden : List ℕ → Type 0
+IsHidden bytes = (depth : ℕ) (rest : List ℕ) → visible (suc depth) (bytes ++ rest) ≡ visible (suc depth) rest
+
+-- outside of all stretches this is left of them
+abbrev pub IsSeenAs : (bytes shown : List ℕ) → Type 0
+IsSeenAs bytes shown = (rest : List ℕ) → visible 0 (bytes ++ rest) ≡ shown ++ visible 0 rest
 
 -- none of the bytes is a 0
 abbrev pub HasNoZero : List ℕ → Type 0

@@ -2,13 +2,16 @@
 ghost use Rattle.std.specs.Prelude.{◌≡◌, Ok, true};
 ghost use Rattle.sym_core.specs.Number.{FitsSymbol};
 ghost use Rattle.sym_print.specs.Details.{has_arguments};
+ghost use Rattle.sym_print.specs.declared.detail.Detail.TheVariants.{Brief};
 ghost use Rattle.sym_demangle.specs.Mangled.{IsAnswer, answer};
+ghost use Rattle.rust_grammar.specs.Mangled.{v0_mangled};
 ghost use Rattle.sym_filter.specs.Demangled.{IsAppended, IsDemangled};
 ghost use Rattle.sym_languages.specs.Languages.{AreCounts, AreCountsBy, language_answer_by};
 
 use crate::counted::Counted;
 use cpp_direct::Direct;
 use itanium::{Abi, Wide, write_less};
+use rust_short_way::write_brief;
 use rust_v0::V0;
 use std::alloc::{AllocError, Global};
 use sym_core::Refusal;
@@ -50,8 +53,9 @@ pub struct Languages<C: Cpp> {
 pub struct Lists<C: Cpp> {
     pub cpp: Workspace<C>,
     pub rust: Workspace<V0>,
-    // those of the short way where less than all is shown
+    // those of the short ways where less than all is shown
     less: C::Direct,
+    brief: rust_direct::Direct,
 }
 
 impl<C: Cpp> Lists<C> {
@@ -60,6 +64,7 @@ impl<C: Cpp> Lists<C> {
             cpp: Workspace::new(alloc),
             rust: Workspace::new(alloc),
             less: C::direct(alloc),
+            brief: V0::direct(alloc),
         }
     }
 
@@ -113,14 +118,13 @@ impl<C: Cpp> Demangler for Languages<C> {
             Lang::Cpp => append_cpp(lists, symbol, self.limit, self.detail, out),
             Lang::Rust => {
                 let detail = with_parameters(self.detail);
-                append_in(&mut lists.rust, symbol, self.limit, detail, out)
+                append_rust(lists, symbol, self.limit, detail, out)
             }
         }
     }
 }
 
-/// A detail with parameters that shows as much else. A Rust symbol, which has none, has the same text in it, and goes the short way
-/// where arguments are shown.
+/// A detail with parameters that shows as much else. A Rust symbol, which has none, has the same text in it.
 fn with_parameters(detail: Detail) -> Detail
     ensures { has_arguments result ≡ has_arguments detail }
 {
@@ -147,6 +151,40 @@ fn append_cpp<C: Cpp>(
         return Ok(());
     }
     append_in(&mut lists.cpp, symbol, limit, detail, out)
+}
+
+/// Appends the text of a Rust symbol, where it has one.
+fn append_rust<C: Cpp>(
+    lists: &mut Lists<C>,
+    symbol: &[u8],
+    limit: u32,
+    detail: Detail,
+    out: &mut Vec<u8>,
+) -> Result<(), Refusal>
+    requires { FitsSymbol symbol.now }
+    ensures { IsAppended (answer v0_mangled detail symbol.now limit) out.old.items out.new.items result }
+{
+    match detail {
+        Detail::Brief => append_brief(lists, symbol, limit, out),
+        _ => append_in(&mut lists.rust, symbol, limit, detail, out),
+    }
+}
+
+/// Appends the text of a Rust symbol without its generic arguments, where it has one: by a short way, if the symbol goes that.
+fn append_brief<C: Cpp>(
+    lists: &mut Lists<C>,
+    symbol: &[u8],
+    limit: u32,
+    out: &mut Vec<u8>,
+) -> Result<(), Refusal>
+    requires { FitsSymbol symbol.now }
+    ensures { IsAppended (answer v0_mangled Brief symbol.now limit) out.old.items out.new.items result }
+{
+    if write_brief(&mut lists.brief, symbol, limit) {
+        out.extend_from_slice(lists.brief.text())?;
+        return Ok(());
+    }
+    append_in(&mut lists.rust, symbol, limit, Detail::Brief, out)
 }
 
 /// Appends the text of a symbol of a mangling, where it has one.

@@ -6,7 +6,7 @@ use Rattle.sym_core.specs.declared.refusal.Refusal.{Refusal}
 use Rattle.sym_shape.specs.declared.rule.Row.{Row}
 use Rattle.sym_shape.specs.declared.rule.Rule.{Rule}
 use Rattle.sym_shape.specs.Table.{Token, bytes_of}
-use Rattle.sym_shape.specs.Tree.{Tree, Forest, branch, token, grown, spell_all, row_count_all, rows_of_all}
+use Rattle.sym_shape.specs.Tree.{Tree, Forest, branch, token, grown, spell_all, row_count_all, rows_of_all, tree_count}
 use Rattle.sym_link.specs.declared.language.Frame.{Frame}
 use Rattle.sym_link.specs.Reading.{Found, ◌>>=◌}
 use Rattle.sym_link.specs.Machine as machine
@@ -16,7 +16,8 @@ use Rattle.sym_link.specs.Driving.{AreAll, Fails}
 use Rattle.sym_link.specs.Linking.{View, IsLinking, HasRoom, TokenTakesMemory, IsOpen, IsRuleRow, IsTokenRow, values_at_once, owed_behind, owed_next, next_of, taken_in, Adds, AddsFew, ClosesRule, TakesToken, Opens, OpensRoot}
 use Rattle.sym_link.specs.Stepping.{link_steps, link_steps_all, Due, waiting, starting, no_part_has_row, closes_at_once, CountsClose, CountsToken}
 use Rattle.sym_link.specs.Following.{Follows, FollowsAfter, StaysWithin, CanClose, CanTake, CanBegin, EndsWith, IsShape, IsFresh, IsOnWay, IsDone, HoldsAll, Moves, CountsMove, IsDriving, IsStepTo, meaning_of}
-use Rattle.sym_link.proofs.Standing.{NextPart, a_rule, a_token, next_part, skip_from, skip_count, stands_within, stands_end, stands_inner, stands_skip, rows_length_all}
+use Rattle.sym_link.proofs.Standing.{NextPart, a_rule, a_token, next_part, skip_from, skip_count, stands_within, stands_end, stands_inner, stands_skip}
+use Rattle.sym_shape.proofs.Forests.{length-rows_of_all}
 use Rattle.sym_link.proofs.Stepping.{some_row, none_at_once, token_at_once, rule_not_at_once, token_not_at_once, push_due, some_due, chosen}
 use Rattle.sym_link.proofs.Cases.{as_many}
 use Rattle.sym_link.proofs.Following.{Innermost, innermost, close_follows, close_fails}
@@ -94,6 +95,7 @@ pub record RuleNext {N P K V S C : Type 0} (view : View N P K V S C) (s : List �
   pub rest : Forest
   pub left_is : skipped i.top.left ≡ grown (branch rule taken inner) rest
   pub row_is : IsRuleRow shape row rule taken inner (skipped_from i.top.from i.top.left)
+  pub after : row.after ≡ tree_count rest
   pub row_end : row.end ≡ next + 1 + row_count_all inner
   pub no_token : row.rule < 65535
   pub more : next < length shape
@@ -106,6 +108,7 @@ pub record TokenNext {N P K V S C : Type 0} (view : View N P K V S C) (s : List 
   pub rest : Forest
   pub left_is : skipped i.top.left ≡ grown (token t) rest
   pub row_is : IsTokenRow s row t (skipped_from i.top.from i.top.left)
+  pub after : row.after ≡ tree_count rest
   pub is_token : row.rule ≡ 65535
   pub more : next < length shape
 
@@ -151,7 +154,8 @@ next_row view s shape whole due nodes next lower code parts row d laws follows o
           inner = inner;
           rest = rest;
           left_is = left_is;
-          row_is = rule_row_is shape next place rule taken inner _ row d rows row_is;
+          row_is = rule_row_is shape next (tree_count rest) place rule taken inner _ row d rows row_is;
+          after = ap (λ r. r.after) is;
           row_end = ap (λ r. r.end) is;
           no_token = omega (arith, ap (λ r. r.rule) is, inner_number view s shape whole due nodes next lower code parts i rule taken inner rest laws left_is);
           more = (dropped_next shape _ next _ rows).1;
@@ -166,6 +170,7 @@ next_row view s shape whole due nodes next lower code parts row d laws follows o
           left_is = left_is;
           row_is = token_row_is s shape next (skipped_from i.top.from i.top.left) t _ row d view.table (length view.reading.rowless) i.top.rule _ rest rows row_is
               (token_stands view s shape whole due nodes next lower code parts i t rest left_is);
+          after = ap (λ r. r.after) is;
           is_token = ap (λ r. r.rule) is;
           more = (dropped_next shape _ next _ rows).1;
         })
@@ -258,7 +263,7 @@ row_ends shape place row rule taken inner is =
       ap (λ x. length x) is.rows_are,
       length-drop is.number shape,
       length-append (rows_of_all inner (place + length taken) (is.number + 1)) is.more,
-      rows_length_all inner (place + length taken) (is.number + 1),
+      length-rows_of_all inner (place + length taken) (is.number + 1),
     )
 
 -- what is asked where a rule begins
@@ -312,14 +317,14 @@ token_taken view s shape whole due old new next codes code parts new_parts row d
     let i = t.i in
     subst (λ fs. Follows view s shape whole (waiting left) new (next + 1) fs new_parts) (sym last.1)
     (token_follows view s shape whole due old new next last.0 code parts new_parts laws adds.0 i t.t t.rest row.to t.left_is (omega (arith, t.row_is.to, t.row_is.from))
-    (takes i.top.rule i.known i.top.from i.top.left i.state t.t t.rest i.inside t.left_is t.row_is) adds.1
+    (takes i.top.rule i.known i.top.from i.top.left i.state t.t t.rest i.inside t.left_is t.row_is t.after) adds.1
     (pays i.reached (omega (arith, i.before, t.row_is.from, skip_from i.top.from i.top.left)) (early_base view s shape whole due old next last.0 code parts i) i.paid) left
     (taken_counts due code.end next (row_count_all t.rest) left (omega (arith, i.end, sym (skip_count i.top.left) ∙ ap row_count_all t.left_is)) counts))
 token_taken view s shape whole due old new next codes code parts new_parts row d (Err e) laws last follows open_still row_is is_token takes adds pays left counts =
     let t = token_next view s shape whole due old next codes code parts row d laws last follows open_still row_is is_token in
     let i = t.i in
     token_fails view s shape whole due old next last.0 code parts e i t.t t.rest t.left_is
-    (takes i.top.rule i.known i.top.from i.top.left i.state t.t t.rest i.inside t.left_is t.row_is)
+    (takes i.top.rule i.known i.top.from i.top.left i.state t.t t.rest i.inside t.left_is t.row_is t.after)
 
 pub rule_begun : {N P K V S C : Type 0} (view : View N P K V S C) (s : List ℕ) (shape : List Row) (whole : Result (Found (List V) S) Refusal) (left : ℕ)
     (old new : N) (next : ℕ) (codes : List (Frame K)) (code opened : Frame K) (parts new_parts : List P) (row d : Row) → IsLinking view → (last : EndsWith codes code)
@@ -334,7 +339,7 @@ rule_begun view s shape whole left old new next codes code opened parts new_part
     subst (λ fs. Follows view s shape whole (starting left (view.size old + 2)) new (next + 1) (fs ++ opened ∷ []) new_parts) (sym last.1)
     (enter_follows view s shape whole left old new next last.0 code opened parts new_parts laws adds.0 i r.rule r.taken r.inner r.rest r.left_is
     (number ∙ r.row_is.rule_is) (place ∙ r.row_is.from) (end ∙ r.row_end) base
-    (opens i.top.rule i.known i.top.from i.top.left i.state r.rule r.taken r.inner r.rest i.inside r.left_is r.row_is) adds.1
+    (opens i.top.rule i.known i.top.from i.top.left i.state r.rule r.taken r.inner r.rest i.inside r.left_is r.row_is r.after) adds.1
     (subst (λ p. view.IsPaid new p) r.row_is.from (pays i.reached (omega (arith, i.before, r.row_is.from, skip_from i.top.from i.top.left)) i.paid)))
 
 pub rule_refused : {N P K V S C : Type 0} (view : View N P K V S C) (s : List ℕ) (shape : List Row) (whole : Result (Found (List V) S) Refusal) (due : Due)
@@ -345,7 +350,7 @@ rule_refused view s shape whole due old new next codes code parts new_parts row 
     let r = rule_next view s shape whole due old next codes code parts row d laws last follows open_still row_is no_token in
     let i = r.i in
     enter_fails view s shape whole due old next last.0 code parts e i r.rule r.taken r.inner r.rest r.left_is
-    (opens i.top.rule i.known i.top.from i.top.left i.state r.rule r.taken r.inner r.rest i.inside r.left_is r.row_is)
+    (opens i.top.rule i.known i.top.from i.top.left i.state r.rule r.taken r.inner r.rest i.inside r.left_is r.row_is r.after)
 
 -- a rule that doesn't close at once is open at the end of the step that begins it
 pub begun_waits : {N P K V S C : Type 0} (view : View N P K V S C) (s : List ℕ) (shape : List Row) (whole : Result (Found (List V) S) Refusal) (left most : ℕ)
@@ -455,7 +460,7 @@ token_within view s shape whole left most old new next lower code parts new_part
     let i = t.i in
     let n = length view.reading.rowless in
     let at_once = one_token view s shape whole (starting left most) old next lower code parts row t ends in
-    let (known, state, read, holds, own, parts_are, are) = takes i.top.rule i.known i.top.from i.top.left i.state t.t t.rest i.inside t.left_is t.row_is in
+    let (known, state, read, holds, own, parts_are, are) = takes i.top.rule i.known i.top.from i.top.left i.state t.t t.rest i.inside t.left_is t.row_is t.after in
     let count : length known ≡ length i.known + values_in n (passed_by i.top.left) + 1 =
     of_ok (next_of view.reading i.top.rule i.known i.top.from i.top.left i.state >>= taken_in view.reading t.t (skipped_from i.top.from i.top.left)) (found known state)
     (λ f. length f.value ≡ length i.known + values_in n (passed_by i.top.left) + 1) read
@@ -497,7 +502,7 @@ root_at : {N P K V S C : Type 0} (view : View N P K V S C) (s : List ℕ) (shape
 root_at view s shape tree row d laws is row_is =
     let r = root_of view.table tree is.is_tree laws.starts in
     let rows = root_row view.table s shape tree is r in
-    (r, rule_row_is shape 0 0 r.rule r.taken r.inner [] row d rows row_is, ap (λ x. x.end) (row_is ∙ (dropped_one shape _ 0 _ d rows).2), (dropped_next shape _ 0 _ rows).1)
+    (r, rule_row_is shape 0 0 0 r.rule r.taken r.inner [] row d rows row_is, ap (λ x. x.end) (row_is ∙ (dropped_one shape _ 0 _ d rows).2), (dropped_next shape _ 0 _ rows).1)
 
 pub root_asks : {N P K V S C : Type 0} (view : View N P K V S C) (s : List ℕ) (shape : List Row) (nodes : N) (codes : List (Frame K)) (parts : List P) (row d : Row) → IsLinking view
     → CanBegin view s shape nodes 0 codes parts → row ≡ slice_index_or shape 0 d → RootAsks view s shape nodes row

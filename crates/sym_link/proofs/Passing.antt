@@ -6,20 +6,21 @@ use Rattle.sym_core.specs.declared.refusal.Refusal.{Refusal}
 use Rattle.sym_shape.specs.declared.rule.Row.{Row}
 use Rattle.sym_shape.specs.declared.rule.Rule.{Rule}
 use Rattle.sym_shape.specs.declared.rule.Sym.TheVariants.{Kind}
-use Rattle.sym_shape.specs.Tree.{Forest, branch, empty, token, fixed, nothing, grown, spell_all, IsTree}
+use Rattle.sym_shape.specs.Tree.{Tree, Forest, branch, empty, token, fixed, nothing, grown, spell_all, IsTree, row_count_all, tree_count}
 use Rattle.sym_link.specs.declared.language.Frame.{Frame}
-use Rattle.sym_shape.specs.Table.{Token}
+use Rattle.sym_shape.specs.Table.{Token, symbols_of}
 use Rattle.sym_link.specs.Reading.{Found, Open, Reading, ◌>>=◌}
 use Rattle.sym_link.specs.Unfold.{found, standing}
-use Rattle.sym_link.specs.Parts.{skipped, skipped_from, joined}
+use Rattle.sym_link.specs.Parts.{skipped, skipped_from, joined, Stands}
 use Rattle.sym_link.specs.Machine.{Passed, passed, ended}
 use Rattle.sym_link.specs.Driving.{AreAll, Fails}
 use Rattle.sym_link.specs.Linking.{View, IsInside, IsRuleRow, IsTokenRow, taken_in, Takes, next_of, Begun, begun, Begins, Puts, Adds, owed_behind, owed_next}
-use Rattle.sym_link.specs.Threads.{skips, IsThere, IsAt, IsOpenAt, GoesOn, BeginsIn, ClosesAll, IsTaken, IsThreading, Passing, Passes}
+use Rattle.sym_link.specs.Threads.{skips, IsThere, IsAt, IsOpenAt, GoesOn, BeginsIn, ClosesAll, IsTaken, IsCount, IsAhead, IsThreading, Passing, Passes}
 use Rattle.sym_link.proofs.Cases.{as_many}
 use Rattle.sym_link.proofs.Lists.{all_push, all_stay, dropped_front, taken_front}
 use Rattle.sym_link.proofs.Following.{fails_carried}
-use Rattle.sym_link.proofs.Standing.{stands_next, tree_next}
+use Rattle.sym_link.proofs.Standing.{stands_next, tree_next, all_passed, count_joined}
+use Rattle.sym_shape.proofs.Forests.{count_trees}
 use Rattle.sym_link.proofs.Taking.{of_ok}
 
 -- the parts after the one that is passed, and where they are
@@ -163,7 +164,7 @@ module _ {N P K V S C : Type 0} (view : View N P K V S C) (s : List ℕ) (laws :
   open_first = record { rule = rule; known = known; state = state; at = first_at }
 
   -- nothing is passed yet
-  pub passing_first : (to : ℕ) → to ≡ length known + skips left → Passing view s old frame (take frame.base parts) parts to (passed view.reading rule known from left state)
+  passing_first : (to : ℕ) → to ≡ length known + skips left → Passing view s old frame (take frame.base parts) parts to (passed view.reading rule known from left state)
   passing_first to to_is = record {
     rule = rule;
     known = known;
@@ -176,6 +177,35 @@ module _ {N P K V S C : Type 0} (view : View N P K V S C) (s : List ℕ) (laws :
     coming = refl;
     count = sym to_is;
   }
+
+  -- each part has one value
+  one_each : Stands view.table s 1 rule (length known) from left
+  one_each = subst (λ n. Stands view.table s n rule (length known) from left) laws.one is.stands
+
+  -- before the next part that has a row, after which there are so many parts
+  pub row_first : (held after to : ℕ) → IsAhead view.table frame.rule held after to → held ≡ length parts - frame.base → (next : Tree) (rest : Forest) → skipped left ≡ grown next rest
+      → after ≡ tree_count rest → Passing view s old frame (take frame.base parts) parts to (passed view.reading rule known from left state)
+  row_first held after to ahead held_is next rest left_is told =
+      let known_is : held ≡ length known = held_is ∙ own_length view s old frame parts rule known state first_at in
+      passing_first to (omega (
+        arith,
+        known_is,
+        ahead one_each.kind rule.rule rule.taken one_each.is_kind one_each.takes (sym is.number) one_each.passed left rest next one_each.trees
+            (sym one_each.counted ∙ sym known_is) left_is told,
+      ))
+
+  -- before the end of the rule
+  pub close_first : (count : ℕ) → IsCount view.table frame.rule count → row_count_all left ≡ 0
+      → Passing view s old frame (take frame.base parts) parts count (passed view.reading rule known from left state)
+  close_first count is_count none =
+      passing_first count (omega (
+        arith,
+        is_count one_each.kind rule.rule rule.taken one_each.is_kind one_each.takes (sym is.number),
+        count_trees view.table (symbols_of rule.rule) (joined one_each.passed left) one_each.trees,
+        count_joined one_each.passed left,
+        one_each.counted,
+        all_passed left none,
+      ))
 
   -- where parts were passed the frame is that of the rule still
   pub passed_at : (middle : N) (passed_parts : List P) (p : Passed V S) → view.Grows old middle → AreAll (view.IsPart middle) (drop frame.base passed_parts) p.known → view.Holds middle p.state

@@ -1,5 +1,5 @@
 -- A rule is in a symbol, and so are its parts.
-use Rattle.std.proofs.Common.{◌≡◌, refl, sym, ◌∙◌, ap, subst, arith, ℕ, ◌+◌, ◌<◌, ◌≤◌, List, [], ◌∷◌, ◌++◌, length, take, drop, append_assoc, append-nil, length-append, length-drop, add-zero}
+use Rattle.std.proofs.Common.{◌≡◌, refl, sym, ◌∙◌, ap, subst, arith, ℕ, ◌+◌, ◌-◌, ◌<◌, Bool, true, false, not, ◌&&◌, ◌||◌, ◌≤◌, List, [], ◌∷◌, ◌++◌, length, take, drop, append_assoc, append-nil, length-append, length-drop, add-zero}
 use Rattle.std.proofs.Math.Seq.{drop-append_seam, take-append_seam}
 use Rattle.std.proofs.lemmas.List.{drop-drop}
 use Rattle.sym_shape.specs.declared.rule.Rule.{Rule}
@@ -7,13 +7,16 @@ use Rattle.sym_shape.specs.declared.rule.Sym.{Sym}
 use Rattle.sym_shape.specs.declared.rule.Sym.TheVariants.{Kind, Name, Number, Byte}
 use Rattle.sym_shape.specs.Table.{Table, Token, symbols_of, bytes_of}
 use Rattle.sym_shape.specs.Law.{IsSymbol, AreSymbols}
-use Rattle.sym_shape.specs.Tree.{Tree, Forest, branch, empty, token, fixed, nothing, grown, spell, spell_all, TakesRule, IsTree, AreTrees, row_count, row_count_all, rows_of, rows_of_all}
+use Rattle.sym_shape.specs.Tree.{Tree, Forest, branch, empty, token, fixed, nothing, grown, spell, spell_all, TakesRule, IsTree, AreTrees, row_count_all, rows_of_all, tree_count}
 use Rattle.sym_link.specs.Reading.{Open}
 use Rattle.sym_link.specs.Unfold.{standing}
 use Rattle.sym_link.specs.Machine.{HasRowNext}
 use Rattle.sym_link.specs.Owing.{Owes, cost_all}
 use Rattle.sym_link.specs.Sound.{IsSound}
 use Rattle.sym_link.specs.Parts.{skipped, passed_by, skipped_from, joined, values_in, Stands}
+use Rattle.sym_link.specs.Threads.{skips, IsCount, IsAhead}
+use Rattle.std.proofs.lemmas.Bool.{false≢true, and_parts}
+use Rattle.sym_shape.proofs.Forests.{count_trees}
 
 -- ## Parts without a row that are skipped
 
@@ -234,24 +237,100 @@ token_own s place t more here =
 
 -- ## Rows
 
-mutual
-  pub rows_length : (t : Tree) (at number : ℕ) → length (rows_of t at number) ≡ row_count t
-  rows_length (branch rule taken parts) at number = omega (arith, rows_length_all parts (at + length taken) (number + 1))
-  rows_length empty at number = refl
-  rows_length (token t) at number = refl
-  rows_length (fixed byte) at number = refl
-
-  pub rows_length_all : (f : Forest) (at number : ℕ) → length (rows_of_all f at number) ≡ row_count_all f
-  rows_length_all nothing at number = refl
-  rows_length_all (grown t f) at number =
-      omega (arith, length-append (rows_of t at number) (rows_of_all f (at + length (spell t)) (number + row_count t)), rows_length t at number, rows_length_all f (at + length (spell t)) (number + row_count t))
-
 pub no_rows : (left : Forest) (from number : ℕ) → row_count_all left ≡ 0 → rows_of_all left from number ≡ []
 no_rows nothing from number none = refl
 no_rows (grown empty rest) from number none = no_rows rest (from + 0) (number + 0) (omega (arith, none))
 no_rows (grown (fixed byte) rest) from number none = no_rows rest (from + 1) (number + 0) (omega (arith, none))
 no_rows (grown (token t) rest) from number none = absurd (omega (arith, none))
 no_rows (grown (branch rule taken parts) rest) from number none = absurd (omega (arith, none))
+
+-- where no row is left, each part that is left is passed
+pub all_passed : (left : Forest) → row_count_all left ≡ 0 → skips left ≡ tree_count left
+all_passed nothing none = refl
+all_passed (grown empty rest) none = omega (arith, all_passed rest (omega (arith, none)))
+all_passed (grown (fixed byte) rest) none = omega (arith, all_passed rest (omega (arith, none)))
+all_passed (grown (token t) rest) none = absurd (omega (arith, none))
+all_passed (grown (branch rule taken parts) rest) none = absurd (omega (arith, none))
+
+-- and else those before the next one that has a row
+some_passed : (left rest : Forest) (next : Tree) → skipped left ≡ grown next rest → skips left + 1 + tree_count rest ≡ tree_count left
+some_passed nothing rest next is = cc
+some_passed (grown empty others) rest next is = omega (arith, some_passed others rest next is)
+some_passed (grown (fixed byte) others) rest next is = omega (arith, some_passed others rest next is)
+some_passed (grown (token t) others) rest next is = omega (arith, ap tree_count is)
+some_passed (grown (branch rule taken parts) others) rest next is = omega (arith, ap tree_count is)
+
+pub count_joined : (passed left : Forest) → tree_count (joined passed left) ≡ values_in 1 passed + tree_count left
+count_joined nothing left = omega arith
+count_joined (grown empty passed) left = omega (arith, count_joined passed left)
+count_joined (grown (fixed byte) passed) left = omega (arith, count_joined passed left)
+count_joined (grown (token t) passed) left = omega (arith, count_joined passed left)
+count_joined (grown (branch rule taken parts) passed) left = omega (arith, count_joined passed left)
+
+-- where a rule's parts are counted, so are those before the next one that has a row
+pub ahead_by_count : (g : Table) (number held after count : ℕ) → IsCount g number count → IsAhead g number held after (count - (after + 1))
+ahead_by_count g number held after count is_count kind rule taken is_kind takes number_is parts left rest next trees held_is left_is told =
+    omega (
+      arith,
+      is_count kind rule taken is_kind takes number_is,
+      count_trees g (symbols_of rule) (joined parts left) trees,
+      count_joined parts left,
+      some_passed left rest next left_is,
+      held_is,
+      told,
+    )
+
+-- a symbol always has a row
+abbrev has_row : Table → Sym → Bool
+has_row g (Kind k) = not (g.may_be_empty k)
+has_row g (Byte c) = false
+has_row g x = true
+
+abbrev are_none : List Sym → Bool
+are_none [] = true
+are_none (x ∷ xs) = false
+
+-- each of these symbols but the last has one
+abbrev pub are_rows : Table → List Sym → Bool
+are_rows g [] = true
+are_rows g (x ∷ xs) = (are_none xs || has_row g x) && are_rows g xs
+
+-- where each part of a rule but the last has a row, the next one has
+pub ahead_by_rows : (g : Table) (number held after : ℕ)
+    → ((kind : ℕ) (rule : Rule) (taken : List ℕ) → kind < g.kinds → TakesRule g kind rule taken → rule.number ≡ number → are_rows g (symbols_of rule) ≡ true)
+    → IsAhead g number held after held
+ahead_by_rows g number held after rows kind rule taken is_kind takes number_is parts left rest next trees held_is left_is told =
+    omega (arith, none_skipped (symbols_of rule) parts left trees (rows kind rule taken is_kind takes number_is) left_is)
+  where
+    rowless : (x : Sym) (xs : List Sym) → has_row g x ≡ false → are_rows g (x ∷ xs) ≡ true → are_none xs ≡ true
+    rowless x [] none all = refl
+    rowless x (y ∷ xs) none all = absurd (false≢true (sym none ∙ (and_parts (has_row g x) (are_rows g (y ∷ xs)) all).0))
+
+    last : (x : Sym) (xs : List Sym) (f : Forest) → has_row g x ≡ false → are_rows g (x ∷ xs) ≡ true → AreTrees g xs f → skipped f ≡ grown next rest → ⊥
+    last x [] nothing none all trees is = cc
+    last x [] (grown t f) none all trees is = trees
+    last x (y ∷ xs) f none all trees is = false≢true (rowless x (y ∷ xs) none all)
+
+    first : (xs : List Sym) (left : Forest) → AreTrees g xs left → are_rows g xs ≡ true → skipped left ≡ grown next rest → skips left ≡ 0
+    first xs nothing trees all is = refl
+    first xs (grown (token t) f) trees all is = refl
+    first xs (grown (branch r t i) f) trees all is = refl
+    first (Kind k ∷ xs) (grown empty f) trees all is = absurd (last (Kind k) xs f (ap not trees.0) all trees.1 is)
+    first (Byte c ∷ xs) (grown (fixed b) f) trees all is = absurd (last (Byte c) xs f refl all trees.1 is)
+    first [] (grown empty f) trees all is = absurd trees
+    first [] (grown (fixed b) f) trees all is = absurd trees
+    first (Byte c ∷ xs) (grown empty f) trees all is = absurd trees.0
+    first (Kind k ∷ xs) (grown (fixed b) f) trees all is = absurd trees.0
+    first (Name ∷ xs) (grown empty f) trees all is = absurd trees.0
+    first (Name ∷ xs) (grown (fixed b) f) trees all is = absurd trees.0
+    first (Number n ∷ xs) (grown empty f) trees all is = absurd trees.0
+    first (Number n ∷ xs) (grown (fixed b) f) trees all is = absurd trees.0
+
+    none_skipped : (xs : List Sym) (parts left : Forest) → AreTrees g xs (joined parts left) → are_rows g xs ≡ true → skipped left ≡ grown next rest → skips left ≡ 0
+    none_skipped xs nothing left trees all is = first xs left trees all is
+    none_skipped (x ∷ xs) (grown t parts) left trees all is =
+        none_skipped xs parts left trees.1 (and_parts (are_none xs || has_row g x) (are_rows g xs) all).1 is
+    none_skipped [] (grown t parts) left trees all is = absurd trees
 
 -- What comes next where some row is left: a rule or a token.
 pub data NextPart : Forest → Type 0 where

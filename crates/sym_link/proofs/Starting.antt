@@ -23,7 +23,8 @@ use Rattle.sym_link.specs.Following.{IsShape, meaning_of, HoldsAll, left_from, F
 use Rattle.sym_link.proofs.Lists.{no_last}
 use Rattle.sym_link.proofs.Results.{ok_any}
 use Rattle.sym_link.proofs.Opening.{root_outcome}
-use Rattle.sym_link.proofs.Standing.{stands_end, rows_length}
+use Rattle.sym_shape.proofs.Forests.{length-rows_of}
+use Rattle.sym_link.proofs.Standing.{stands_end}
 use Rattle.sym_link.proofs.Stepping.{root_due}
 use Rattle.sym_link.proofs.Following.{Innermost}
 use Rattle.sym_link.proofs.Taking.{dropped_next, of_ok}
@@ -47,11 +48,11 @@ root_of g (fixed byte) is full = absurd is
 
 -- the first row
 pub root_row : (g : Table) (s : List ℕ) (shape : List Row) (tree : Tree) → IsShape g s shape tree → (r : IsRoot g tree)
-    → drop 0 shape ≡ record { rule = r.rule.number; from = 0; to = 0 + length (r.taken ++ spell_all r.inner); end = 0 + 1 + row_count_all r.inner }
+    → drop 0 shape ≡ record { rule = r.rule.number; after = 0; from = 0; to = 0 + length (r.taken ++ spell_all r.inner); end = 0 + 1 + row_count_all r.inner }
     ∷ (rows_of_all r.inner (0 + length r.taken) (0 + 1) ++ [])
 root_row g s shape tree is r =
-    is.rows_are ∙ ap (λ t. rows_of t 0 0) r.tree_is
-    ∙ ap (λ rs. record { rule = r.rule.number; from = 0; to = 0 + length (r.taken ++ spell_all r.inner); end = 0 + 1 + row_count_all r.inner } ∷ rs)
+    is.rows_are ∙ ap (λ t. rows_of t 0 0 0) r.tree_is
+    ∙ ap (λ rs. record { rule = r.rule.number; after = 0; from = 0; to = 0 + length (r.taken ++ spell_all r.inner); end = 0 + 1 + row_count_all r.inner } ∷ rs)
     (sym (append-nil (rows_of_all r.inner (0 + length r.taken) (0 + 1))))
 
 -- the rule that begins, around which nothing is known
@@ -120,7 +121,7 @@ root_follows view s shape tree old new opened laws is fits r no_node number plac
         arith,
         no_node,
         added,
-        subst (λ x. cost view.owes tree ≤ view.most (length x)) is.spelled (laws.few tree is.is_tree (rw is.spelled (omega (arith, fits, ap (λ x. length x) is.rows_are, rows_length tree 0 0)))),
+        subst (λ x. cost view.owes tree ≤ view.most (length x)) is.spelled (laws.few tree is.is_tree (rw is.spelled (omega (arith, fits, ap (λ x. length x) is.rows_are, length-rows_of tree 0 0 0)))),
         ap (λ t. cost view.owes t) r.tree_is,
         ap (λ o. view.owes o.rule.number 0) count.1.2,
       );

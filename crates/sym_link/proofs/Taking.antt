@@ -7,7 +7,7 @@ use Rattle.sym_core.specs.declared.refusal.Refusal.{Refusal}
 use Rattle.sym_shape.specs.declared.rule.Row.{Row}
 use Rattle.sym_shape.specs.declared.rule.Rule.{Rule}
 use Rattle.sym_shape.specs.Table.{Table, Token, bytes_of}
-use Rattle.sym_shape.specs.Tree.{Forest, branch, token, grown, spell, spell_all, row_count_all, rows_of_all}
+use Rattle.sym_shape.specs.Tree.{Forest, branch, token, grown, spell, spell_all, row_count_all, rows_of_all, tree_count}
 use Rattle.sym_link.specs.declared.language.Frame.{Frame}
 use Rattle.sym_link.specs.Reading.{Found, Open, ◌>>=◌}
 use Rattle.sym_link.specs.Unfold.{found}
@@ -62,7 +62,7 @@ skipped_end from left next is =
 
 rule_pending : {V S C : Type 0} (top : machine.Frame V S C) (frames : List (machine.Frame V S C)) (from number : ℕ) (rule : Rule) (taken : List ℕ) (parts rest : Forest)
     → machine.pending (machine.frame top.rule from (grown (branch rule taken parts) rest) top.outer ∷ frames) number
-    ≡ record { rule = rule.number; from = from; to = from + length (taken ++ spell_all parts); end = number + 1 + row_count_all parts }
+    ≡ record { rule = rule.number; after = tree_count rest; from = from; to = from + length (taken ++ spell_all parts); end = number + 1 + row_count_all parts }
     ∷ (rows_of_all parts (from + length taken) (number + 1)
     ++ machine.pending (machine.frame top.rule (from + length (taken ++ spell_all parts)) rest top.outer ∷ frames) (number + 1 + row_count_all parts))
 rule_pending top frames from number rule taken parts rest =
@@ -72,7 +72,7 @@ rule_pending top frames from number rule taken parts rest =
 
 token_pending : {V S C : Type 0} (top : machine.Frame V S C) (frames : List (machine.Frame V S C)) (from number : ℕ) (t : Token) (rest : Forest)
     → machine.pending (machine.frame top.rule from (grown (token t) rest) top.outer ∷ frames) number
-    ≡ record { rule = 65535; from = from + length t.before; to = from + length t.before + length t.own; end = number + 1 }
+    ≡ record { rule = 65535; after = tree_count rest; from = from + length t.before; to = from + length t.before + length t.own; end = number + 1 }
     ∷ machine.pending (machine.frame top.rule (from + length (bytes_of t)) rest top.outer ∷ frames) (number + 1)
 token_pending top frames from number t rest =
     let second : number + (1 + row_count_all rest) ≡ number + 1 + row_count_all rest = omega arith in
@@ -98,6 +98,7 @@ pub the_rule_row : {N P K V S C : Type 0} (view : View N P K V S C) (s : List �
     (rule : Rule) (taken : List ℕ) (inner rest : Forest) → skipped i.top.left ≡ grown (branch rule taken inner) rest
     → drop next shape ≡ record {
       rule = rule.number;
+      after = tree_count rest;
       from = skipped_from i.top.from i.top.left;
       to = skipped_from i.top.from i.top.left + length (taken ++ spell_all inner);
       end = next + 1 + row_count_all inner;
@@ -110,11 +111,11 @@ the_rule_row view s shape whole due nodes next lower code parts i rule taken inn
     ∙ rule_pending i.top i.frames place next rule taken inner rest
 
 -- what the row at this number says
-pub rule_row_is : (shape : List Row) (next place : ℕ) (rule : Rule) (taken : List ℕ) (inner : Forest) (more : List Row) (row d : Row)
-    → drop next shape ≡ record { rule = rule.number; from = place; to = place + length (taken ++ spell_all inner); end = next + 1 + row_count_all inner }
+pub rule_row_is : (shape : List Row) (next after place : ℕ) (rule : Rule) (taken : List ℕ) (inner : Forest) (more : List Row) (row d : Row)
+    → drop next shape ≡ record { rule = rule.number; after = after; from = place; to = place + length (taken ++ spell_all inner); end = next + 1 + row_count_all inner }
     ∷ (rows_of_all inner (place + length taken) (next + 1) ++ more)
     → row ≡ slice_index_or shape next d → IsRuleRow shape row rule taken inner place
-rule_row_is shape next place rule taken inner more row d rows row_is =
+rule_row_is shape next after place rule taken inner more row d rows row_is =
     let here = dropped_one shape _ next _ d rows in
     let is = row_is ∙ here.2 in
     record {
@@ -258,6 +259,7 @@ pub the_token_row : {N P K V S C : Type 0} (view : View N P K V S C) (s : List �
     (t : Token) (rest : Forest) → skipped i.top.left ≡ grown (token t) rest
     → drop next shape ≡ record {
       rule = 65535;
+      after = tree_count rest;
       from = skipped_from i.top.from i.top.left + length t.before;
       to = skipped_from i.top.from i.top.left + length t.before + length t.own;
       end = next + 1;
@@ -280,7 +282,7 @@ token_stands view s shape whole due nodes next lower code parts i t rest left_is
 
 -- what the row at this number says
 pub token_row_is : {S C : Type 0} (s : List ℕ) (shape : List Row) (next place : ℕ) (t : Token) (more : List Row) (row d : Row) (g : Table) (n : ℕ) (rule : Open S C) (held : ℕ) (rest : Forest)
-    → drop next shape ≡ record { rule = 65535; from = place + length t.before; to = place + length t.before + length t.own; end = next + 1 } ∷ more
+    → drop next shape ≡ record { rule = 65535; after = tree_count rest; from = place + length t.before; to = place + length t.before + length t.own; end = next + 1 } ∷ more
     → row ≡ slice_index_or shape next d → Stands g s n rule held place (grown (token t) rest) → IsTokenRow s row t place
 token_row_is s shape next place t more row d g n rule held rest rows row_is stands =
     let is = row_is ∙ (dropped_one shape more next _ d rows).2 in

@@ -15,7 +15,7 @@ use Rattle.sym_link.specs.Machine.{Passed, passed, ended}
 use Rattle.sym_link.specs.Parts.{Stands}
 use Rattle.sym_link.specs.Driving.{Fails}
 use Rattle.sym_link.specs.Linking.{View, IsLinking, HasRoom, IsInside, Begun, begun, next_of, taken_in, Begins, Takes, Gives, Puts, OpensRoot, Opens, TakesToken, ClosesRule}
-use Rattle.sym_link.specs.Threads.{IsAt, IsOpenAt, Goes, GoesOn, BeginsAs, BeginsIn, ClosesAll, IsTaken, IsAhead, IsAheadToken, IsCount, IsThreading}
+use Rattle.sym_link.specs.Threads.{IsAt, IsOpenAt, Goes, GoesOn, BeginsAs, BeginsIn, ClosesAll, IsTaken, IsThreading}
 use Rattle.sym_link.specs.Following.{IsDone, meaning_of}
 use Rattle.sym_link.specs.Tally.{Tally, tally, Makes, untallied, tallied, tallied_view, closing_makes, nodes_in, nodes_in_all}
 use Rattle.sym_link.proofs.Steps.{bind_assoc, bind_same}
@@ -404,19 +404,6 @@ module _ {N P K V S C : Type 0} (view : View N P K V S C) (makes : Makes V S C) 
   text_tallied s old new row result size taken now t place is_row holds =
       gives_tallied new result (view.reading.token place t now.state) now.nodes (size_same old new result now.nodes holds.1 size) (taken now.state t place is_row holds.0)
 
-  -- which part comes next
-  pub ahead_tallied : (s : List ℕ) (rows : List Row) (nodes : N) (frame : Frame K) (held : ℕ) (row : Row) (ahead : ℕ) → IsAhead view s rows nodes frame held row ahead → IsAhead counted s rows nodes frame held row ahead
-  ahead_tallied s rows nodes frame held row ahead is own around known from left now rule taken inner rest inside =
-      is own (untallied around) known from left now.state rule taken inner rest (inside_untallied view makes s nodes frame own around known from left now inside)
-
-  pub ahead_token_tallied : (s : List ℕ) (nodes : N) (frame : Frame K) (held ahead : ℕ) → IsAheadToken view s nodes frame held ahead → IsAheadToken counted s nodes frame held ahead
-  ahead_token_tallied s nodes frame held ahead is own around known from left now t rest inside =
-      is own (untallied around) known from left now.state t rest (inside_untallied view makes s nodes frame own around known from left now inside)
-
-  pub count_tallied : (s : List ℕ) (nodes : N) (frame : Frame K) (held count : ℕ) → IsCount view s nodes frame held count → IsCount counted s nodes frame held count
-  count_tallied s nodes frame held count is own around known from left now inside =
-      is own (untallied around) known from left now.state (inside_untallied view makes s nodes frame own around known from left now inside)
-
   -- a symbol that is linked has as many nodes as were counted
   pub done_nodes : (s : List ℕ) (rows : List Row) (shape : Tree) (nodes : N) (parts : List P) (count : Result (Found (List V) (Tally S)) Refusal → ℕ)
       → ((read : Found (List V) (Tally S)) → count (Ok read) ≡ read.state.nodes)
@@ -431,17 +418,17 @@ module _ {N P K V S C : Type 0} (view : View N P K V S C) (number : ℕ → ℕ)
 
   pub opens_tallied : (s : List ℕ) (rows : List Row) (old new : N) (frame : Frame K) (parts new_parts : List P) (row : Row) (result : Result K Refusal) → OnOk result (view.size new ≡ view.size old)
       → Opens view s rows old new frame parts new_parts row result → Opens closing_view s rows old new frame parts new_parts row result
-  opens_tallied s rows old new frame parts new_parts row result size opens around known from left now rule taken inner rest inside left_is row_is =
+  opens_tallied s rows old new frame parts new_parts row result size opens around known from left now rule taken inner rest inside left_is row_is after =
       subst (Begins closing_view new _ new_parts result) (sym (next_begun view.reading number around known from left now.state now.nodes rule taken _ inner))
       (begins_tallied view (closing_makes number) new _ new_parts result _ now.nodes (size_same view (closing_makes number) old new result now.nodes inside.holds.1 size)
-      (opens (untallied around) known from left now.state rule taken inner rest (inside_untallied view (closing_makes number) s old frame _ around known from left now inside) left_is row_is))
+      (opens (untallied around) known from left now.state rule taken inner rest (inside_untallied view (closing_makes number) s old frame _ around known from left now inside) left_is row_is after))
 
   pub token_tallied : (s : List ℕ) (old new : N) (frame : Frame K) (parts new_parts : List P) (row : Row) (result : Result (Unit {0}) Refusal) → OnOk result (view.size new ≡ view.size old)
       → TakesToken view s old new frame parts new_parts row result → TakesToken closing_view s old new frame parts new_parts row result
-  token_tallied s old new frame parts new_parts row result size takes around known from left now t rest inside left_is row_is =
+  token_tallied s old new frame parts new_parts row result size takes around known from left now t rest inside left_is row_is after =
       subst (Takes closing_view new _ new_parts result) (sym (next_taken view.reading number around known from left now.state now.nodes t _))
       (takes_tallied view (closing_makes number) new _ new_parts result _ now.nodes (size_same view (closing_makes number) old new result now.nodes inside.holds.1 size)
-      (takes (untallied around) known from left now.state t rest (inside_untallied view (closing_makes number) s old frame _ around known from left now inside) left_is row_is))
+      (takes (untallied around) known from left now.state t rest (inside_untallied view (closing_makes number) s old frame _ around known from left now inside) left_is row_is after))
 
   pub close_tallied : (s : List ℕ) (old new : N) (frame : Frame K) (parts new_parts : List P) (result : Result (Unit {0}) Refusal)
       → OnOk result (view.size new ≡ view.size old + number frame.rule)

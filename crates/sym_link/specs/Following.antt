@@ -20,7 +20,7 @@ use Rattle.sym_link.specs.Stepping.{link_steps, closes_at_once, Due, waiting, st
 pub record IsShape (g : Table) (s : List ℕ) (rows : List Row) (tree : Tree) : Type 0 where
   pub is_tree : IsTree g (Kind 0) tree
   pub spelled : spell tree ≡ s
-  pub rows_are : rows ≡ rows_of tree 0 0
+  pub rows_are : rows ≡ rows_of tree 0 0 0
 
 -- what a whole symbol means
 abbrev pub meaning_of : {N P K V S C : Type 0} → View N P K V S C → Tree → Result (Found (List V) S) Refusal

@@ -8,7 +8,7 @@ use Rattle.sym_shape.specs.declared.rule.Row.{Row}
 use Rattle.sym_shape.specs.declared.rule.Rule.{Rule}
 use Rattle.sym_shape.specs.Table.{Table, Token}
 use Rattle.sym_shape.specs.declared.rule.Sym.TheVariants.{Kind}
-use Rattle.sym_shape.specs.Tree.{Tree, Forest, branch, token, grown, IsTree, row_count, row_count_all, rows_of_all, spell, spell_all}
+use Rattle.sym_shape.specs.Tree.{Tree, Forest, branch, token, grown, IsTree, row_count, row_count_all, rows_of_all, spell, spell_all, tree_count}
 use Rattle.sym_link.specs.declared.language.Frame.{Frame}
 use Rattle.sym_link.specs.Room.{Listed, one_by_one, KeepRoom, OnlyForRoom}
 use Rattle.sym_link.specs.Reading.{Found, Open, Next, Reading, ◌>>=◌}
@@ -186,7 +186,7 @@ abbrev pub Opens : {N P K V S C : Type 0} → View N P K V S C → (s : List ℕ
 Opens {V = V} {S = S} {C = C} view s rows old new frame parts new_parts row result =
     (around : Open S C) (known : List V) (from : ℕ) (left : Forest) (state : S) (rule : Rule) (taken : List ℕ) (inner rest : Forest)
     → IsInside view s old frame (drop frame.base parts) around known from left state
-    → skipped left ≡ grown (branch rule taken inner) rest → IsRuleRow rows row rule taken inner (skipped_from from left)
+    → skipped left ≡ grown (branch rule taken inner) rest → IsRuleRow rows row rule taken inner (skipped_from from left) → row.after ≡ tree_count rest
     → Begins view new (take frame.base parts) new_parts result
     (next_of view.reading around known from left state >>= begun view.reading rule taken (skipped_from from left) inner)
 
@@ -195,7 +195,7 @@ abbrev pub TakesToken : {N P K V S C : Type 0} → View N P K V S C → (s : Lis
 TakesToken {V = V} {S = S} {C = C} view s old new frame parts new_parts row result =
     (around : Open S C) (known : List V) (from : ℕ) (left : Forest) (state : S) (t : Token) (rest : Forest)
     → IsInside view s old frame (drop frame.base parts) around known from left state
-    → skipped left ≡ grown (token t) rest → IsTokenRow s row t (skipped_from from left)
+    → skipped left ≡ grown (token t) rest → IsTokenRow s row t (skipped_from from left) → row.after ≡ tree_count rest
     → Takes view new (take frame.base parts) new_parts result
     (next_of view.reading around known from left state >>= taken_in view.reading t (skipped_from from left))
 

@@ -3,16 +3,16 @@ use Rattle.std.specs.Prelude.{◌≡◌, ℕ, ◌+◌, ◌<◌, ◌≤◌, List,
 use Rattle.sym_core.specs.declared.refusal.Refusal.{Refusal}
 use Rattle.sym_shape.specs.declared.rule.Row.{Row}
 use Rattle.sym_shape.specs.declared.rule.Rule.{Rule}
-use Rattle.sym_shape.specs.Table.{Table, Token}
+use Rattle.sym_shape.specs.Table.{Table, Token, symbols_of}
 use Rattle.sym_shape.specs.declared.rule.Sym.TheVariants.{Kind}
-use Rattle.sym_shape.specs.Tree.{Forest, branch, empty, token, fixed, grown, row_count_all, spell_all, TakesRule, IsTree}
+use Rattle.sym_shape.specs.Tree.{Tree, Forest, branch, empty, fixed, grown, spell_all, TakesRule, IsTree, AreTrees, tree_count}
+use Rattle.sym_link.specs.Parts.{skipped, joined, values_in}
 use Rattle.sym_link.specs.declared.language.Frame.{Frame}
 use Rattle.sym_link.specs.Reading.{Open, Next}
 use Rattle.sym_link.specs.Unfold.{standing}
 use Rattle.sym_link.specs.Machine.{Passed, passed}
-use Rattle.sym_link.specs.Parts.{skipped, skipped_from}
 use Rattle.sym_link.specs.Driving.{AreAll, Fails}
-use Rattle.sym_link.specs.Linking.{View, IsLinking, IsInside, IsRuleRow, IsTokenRow, Gives, Puts, AddsFew}
+use Rattle.sym_link.specs.Linking.{View, IsLinking, IsRuleRow, IsTokenRow, Gives, Puts, AddsFew}
 
 -- how many parts without a row come first
 abbrev pub skips : Forest → ℕ
@@ -124,22 +124,13 @@ abbrev pub IsTaken : {N P K V S C : Type 0} → View N P K V S C → (s : List �
 IsTaken {S = S} view s old new row result =
     (state : S) (t : Token) (place : ℕ) → IsTokenRow s row t place → view.Holds old state → Gives view new result (view.reading.token place t state)
 
--- this is the number of the next part that has a row, where the next row is that of a rule, or of a token, or where there is none
-abbrev pub IsAhead : {N P K V S C : Type 0} → View N P K V S C → (s : List ℕ) → (rows : List Row) → (nodes : N) → Frame K → (held : ℕ) → Row → (ahead : ℕ) → Type 0
-IsAhead {P = P} {V = V} {S = S} {C = C} view s rows nodes frame held row ahead =
-    (own : List P) (around : Open S C) (known : List V) (from : ℕ) (left : Forest) (state : S) (rule : Rule) (taken : List ℕ) (inner rest : Forest)
-    → IsInside view s nodes frame own around known from left state → length own ≡ held
-    → skipped left ≡ grown (branch rule taken inner) rest → IsRuleRow rows row rule taken inner (skipped_from from left)
-    → ahead ≡ length known + skips left
+-- the rule of the grammar that has this number, if any, has so many parts
+abbrev pub IsCount : Table → (number count : ℕ) → Type 0
+IsCount g number count = (kind : ℕ) (rule : Rule) (taken : List ℕ) → kind < g.kinds → TakesRule g kind rule taken → rule.number ≡ number → length (symbols_of rule) ≡ count
 
-abbrev pub IsAheadToken : {N P K V S C : Type 0} → View N P K V S C → (s : List ℕ) → (nodes : N) → Frame K → (held : ℕ) → (ahead : ℕ) → Type 0
-IsAheadToken {P = P} {V = V} {S = S} {C = C} view s nodes frame held ahead =
-    (own : List P) (around : Open S C) (known : List V) (from : ℕ) (left : Forest) (state : S) (t : Token) (rest : Forest)
-    → IsInside view s nodes frame own around known from left state → length own ≡ held
-    → skipped left ≡ grown (token t) rest → ahead ≡ length known + skips left
-
-abbrev pub IsCount : {N P K V S C : Type 0} → View N P K V S C → (s : List ℕ) → (nodes : N) → Frame K → (held : ℕ) → (count : ℕ) → Type 0
-IsCount {P = P} {V = V} {S = S} {C = C} view s nodes frame held count =
-    (own : List P) (around : Open S C) (known : List V) (from : ℕ) (left : Forest) (state : S)
-    → IsInside view s nodes frame own around known from left state → length own ≡ held → row_count_all left ≡ 0
-    → count ≡ length known + skips left
+-- where so many parts of that rule are passed, so many of them come before the next one that has a row, after which there are so many
+abbrev pub IsAhead : Table → (number held after ahead : ℕ) → Type 0
+IsAhead g number held after ahead =
+    (kind : ℕ) (rule : Rule) (taken : List ℕ) → kind < g.kinds → TakesRule g kind rule taken → rule.number ≡ number
+    → (parts left rest : Forest) (next : Tree) → AreTrees g (symbols_of rule) (joined parts left) → values_in 1 parts ≡ held
+    → skipped left ≡ grown next rest → after ≡ tree_count rest → ahead ≡ held + skips left

@@ -207,13 +207,10 @@ fn advance<L: Linking>(
         → Moves (L.view symbol.now) symbol.now rows.now tree taken language.new frames.new.items parts.new.items result }
     ensures few { (L.view symbol.now).size language.new ≤ (L.view symbol.now).size language.old + 2 }
     ensures counts { CountsMove (length rows.now) next (length frames.old.items) (length frames.new.items) result }
-    ensures language { result ≡ Ok None → language.new ≡ language.old }
-    ensures frames { result ≡ Ok None → frames.new.items ≡ frames.old.items }
-    ensures parts { result ≡ Ok None → parts.new.items ≡ parts.old.items }
-    // Nothing is left to do exactly where no rule is open any more.
+    // Nothing is left to do exactly where no rule is open any more, and then nothing is done.
     ensures over { frames.old.items ≡ [] → 0 < next → result ≡ Ok None }
-    ensures closed { result ≡ Ok None → frames.old.items ≡ [] }
-    ensures begun { result ≡ Ok None → 0 < next }
+    ensures none { result ≡ Ok None
+        → (frames.old.items ≡ []) × (0 < next) × (language.new ≡ language.old) × (frames.new.items ≡ frames.old.items) × (parts.new.items ≡ parts.old.items) }
     ensures keeps { KeepsAllRoom (L.view symbol.now) language.old language.new frames.old frames.new parts.old parts.new }
     ensures full { NeedsSomeRoom (L.view symbol.now) symbol.now language.old language.new frames.old frames.new parts.old parts.new result }
 {

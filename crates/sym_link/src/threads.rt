@@ -11,7 +11,7 @@ ghost use Rattle.sym_link.specs.Machine.{Passed};
 ghost use Rattle.sym_link.specs.Driving.{AreAll};
 ghost use Rattle.sym_link.specs.Linking.{View, HasRoom, IsOpen, Opens, TakesToken, ClosesRule, Adds, AddsFew, Pays, KeepsRoom, NeedsRoom, TokenNeedsRoom, owed_behind, owed_next};
 ghost use Rattle.sym_link.specs.Room.{KeepRoom, OnlyForRoom};
-ghost use Rattle.sym_link.specs.Threads.{IsOpenAt, GoesOn, BeginsIn, ClosesAll, IsTaken, IsAhead, IsAheadToken, IsCount, IsThreading, AddsBefore, Passing, PassesOne, Passes};
+ghost use Rattle.sym_link.specs.Threads.{IsOpenAt, GoesOn, BeginsIn, ClosesAll, IsTaken, IsCount, IsAhead, IsThreading, AddsBefore, Passing, PassesOne, Passes};
 
 use crate::language::Frame;
 use sym_core::Refusal;
@@ -96,18 +96,6 @@ pub trait Threading {
         ensures keeps { KeepsRoom (view symbol.now) self.old self.new parts.old parts.new }
         ensures full { NeedsRoom (view symbol.now) self.old self.new parts.old parts.new result };
 
-    /// The number of the next part with a row in the frame's rule: a rule's, of which so many parts have begun.
-    fn ahead(
-        &self,
-        symbol: &[u8],
-        rows: &[Row],
-        frame: &Frame<Self::Kept>,
-        held: usize,
-        row: Row,
-    ) -> usize
-        requires place { row.from < length symbol.now }
-        ensures { IsAhead (view symbol.now) symbol.now rows.now self.now frame.now held row result };
-
     /// What a token stands for.
     fn text(&mut self, symbol: &[u8], row: Row) -> Result<Self::Part, Refusal>
         requires from { row.from ≤ row.to }
@@ -119,13 +107,14 @@ pub trait Threading {
         ensures keeps { KeepRoom ((view symbol.now).lists self.old) ((view symbol.now).lists self.new) }
         ensures full { OnlyForRoom ⊥ ((view symbol.now).lists self.old) ((view symbol.now).lists self.new) result };
 
-    /// The number of the next part with a row in the frame's rule: a token's, of which so many parts have begun.
-    fn ahead_token(&self, symbol: &[u8], frame: &Frame<Self::Kept>, held: usize) -> usize
-        ensures { IsAheadToken (view symbol.now) symbol.now self.now frame.now held result };
+    /// How many parts the rule with a number has.
+    fn count(&self, rule: u16) -> usize
+        ensures { (s : List ℕ) → IsCount (view s).table rule result };
 
-    /// How many parts the frame's rule has, once no rows remain.
-    fn count(&self, symbol: &[u8], frame: &Frame<Self::Kept>, held: usize) -> usize
-        ensures { IsCount (view symbol.now) symbol.now self.now frame.now held result };
+    /// How many parts of the rule with a number come before the next one that has a row, where so many have begun, and so
+    /// many come after it.
+    fn ahead(&self, rule: u16, held: usize, after: u8) -> usize
+        ensures { (s : List ℕ) → IsAhead (view s).table rule held after result };
 
     ghost laws: { (s : List ℕ) → IsThreading (view s) };
 }
@@ -207,7 +196,7 @@ pub fn enter_by<L: Threading>(
     ensures keeps { KeepsRoom (L.view symbol.now) language.old language.new parts.old parts.new }
     ensures full { NeedsRoom (L.view symbol.now) language.old language.new parts.old parts.new result }
 {
-    let to = language.ahead(symbol, rows, frame, parts.len() - frame.base, row);
+    let to = language.ahead(frame.rule, parts.len() - frame.base, row.after);
     pass(language, symbol, frame, parts, to)?;
     let context = language.between(symbol, frame, parts)?;
     let kept = language.begin(symbol, rows, context, row)?;
@@ -233,7 +222,7 @@ pub fn close_by<L: Threading>(
     ensures keeps { KeepsRoom (L.view symbol.now) language.old language.new parts.old parts.new }
     ensures full { NeedsRoom (L.view symbol.now) language.old language.new parts.old parts.new result }
 {
-    let to = language.count(symbol, frame, parts.len() - frame.base);
+    let to = language.count(frame.rule);
     pass(language, symbol, frame, parts, to)?;
     language.finish(symbol, frame, parts)?;
     Ok(())
@@ -259,7 +248,7 @@ pub fn token_by<L: Threading>(
     ensures keeps { KeepsRoom (L.view symbol.now) language.old language.new parts.old parts.new }
     ensures full { TokenNeedsRoom (L.view symbol.now) symbol.now language.old language.new frame.now parts.old parts.new row result }
 {
-    let to = language.ahead_token(symbol, frame, parts.len() - frame.base);
+    let to = language.ahead(frame.rule, parts.len() - frame.base, row.after);
     pass(language, symbol, frame, parts, to)?;
     language.between(symbol, frame, parts)?;
     let part = language.text(symbol, row)?;

@@ -11,7 +11,7 @@ use Rattle.sym_shape.specs.declared.rule.Sym.TheVariants.{Kind, Name, Number, By
 use Rattle.sym_shape.specs.Table.{Table, symbols_of}
 use Rattle.sym_shape.specs.Tree.{Tree, IsTree, spell, IsWellShaped, BeginsWellShaped, IsFirstBad, IsMalformed}
 use Rattle.sym_shape.specs.Law.{IsLawful}
-use Rattle.sym_shape.specs.Reading.{Entry, Symbol, Close, closed, TakesNone, open_row, place_behind, place_row, rule_stack}
+use Rattle.sym_shape.specs.Reading.{Entry, Symbol, Close, closed, TakesNone, open_row, place_behind, place_row, rule_stack, symbols_left}
 use Rattle.sym_shape.specs.Reader.{IsParse, FindsToken}
 use Rattle.sym_shape.specs.Decided.{AreBytes, Decided}
 use Rattle.sym_shape.proofs.Lists.{true_or}
@@ -58,9 +58,9 @@ at_kind g lawful s bytes n below steps at k stack rows left h = elim (cases_lt a
   where
     at_symbols : at < length s → (rule : Rule) → g.rule k (get_or s at 0) ≡ Some rule → (xs : List Sym) → symbols_of rule ≡ xs → Decided g s
     at_symbols more rule e [] none =
-        below (steps + 1) (place_behind rule at) stack (rows ++ open_row rule at (place_behind rule at) (length rows + 1) ∷ []) (omega arith) (step_leaf g lawful true s steps at k (get_or s at 0) rule stack rows none more refl (bytes at) e h)
+        below (steps + 1) (place_behind rule at) stack (rows ++ open_row rule (symbols_left stack) at (place_behind rule at) (length rows + 1) ∷ []) (omega arith) (step_leaf g lawful true s steps at k (get_or s at 0) rule stack rows none more refl (bytes at) e h)
     at_symbols more rule e (x ∷ xs) some =
-        below (steps + 1) (place_behind rule at) (rule_stack stack (length rows) rule) (rows ++ open_row rule at at 0 ∷ []) (omega arith) (step_rule g lawful true s steps at k (get_or s at 0) 0 rule stack rows (ap beginning some) more refl (bytes at) e h)
+        below (steps + 1) (place_behind rule at) (rule_stack stack (length rows) rule) (rows ++ open_row rule (symbols_left stack) at at 0 ∷ []) (omega arith) (step_rule g lawful true s steps at k (get_or s at 0) 0 rule stack rows (ap beginning some) more refl (bytes at) e h)
 
     at_rule : at < length s → (found : Option Rule) → g.rule k (get_or s at 0) ≡ found → Decided g s
     at_rule more None e = at_no_rule g lawful s n below steps at k stack rows left (takes_none g k true s at (inr refl) (λ lt. e)) h
@@ -69,7 +69,7 @@ at_kind g lawful s bytes n below steps at k stack rows left h = elim (cases_lt a
 -- a name or a number
 at_token : (g : Table) (lawful : IsLawful g) (s : List ℕ) (n : ℕ) → Ends g s n → (steps at : ℕ) (x : Sym) (stack : List Entry) (rows : List Row) → 14 + 18 * length s ≤ steps + suc n → (found : Result TokenPlace ℕ) → FindsToken g.names x s at found → IsParse g true s steps at (Symbol x ∷ stack) rows → Decided g s
 at_token g lawful s n below steps at x stack rows left (Ok place) read h =
-    below (steps + 1) place.end stack (rows ++ place_row place (length rows) ∷ []) (omega arith) (step_token g lawful true s steps at x place stack rows read (inr refl) h)
+    below (steps + 1) place.end stack (rows ++ place_row (symbols_left stack) place (length rows) ∷ []) (omega arith) (step_token g lawful true s steps at x place stack rows read (inr refl) h)
 at_token g lawful s n below steps at x stack rows left (Err bad) breaks h =
     inr (bad, refuse_token g lawful true s steps at bad x stack rows breaks.0 breaks.1 (inr refl) h)
 

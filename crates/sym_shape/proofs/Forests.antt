@@ -2,7 +2,7 @@
 use Rattle.std.proofs.Common.{◌≡◌, ℕ, ◌+◌, List, [], ◌∷◌, ◌++◌, length, refl, ap, sym, ◌∙◌, arith, append_assoc, length-append}
 use Rattle.sym_shape.specs.declared.rule.Sym.{Sym}
 use Rattle.sym_shape.specs.Table.{Table}
-use Rattle.sym_shape.specs.Tree.{Tree, branch, empty, token, fixed, Forest, nothing, grown, spell, spell_all, AreTrees, row_count, row_count_all, rows_of, rows_of_all}
+use Rattle.sym_shape.specs.Tree.{Tree, branch, empty, token, fixed, Forest, nothing, grown, spell, spell_all, AreTrees, row_count, row_count_all, tree_count, rows_of, rows_of_all}
 
 -- one forest after another
 abbrev pub joined : Forest → Forest → Forest
@@ -18,6 +18,13 @@ AreTrees-joined g [] ys nothing b p q = q
 AreTrees-joined g (x ∷ xs) ys (grown t a) b p q = (p.0, AreTrees-joined g xs ys a b p.1 q)
 AreTrees-joined g [] ys (grown t a) b p q = absurd p
 AreTrees-joined g (x ∷ xs) ys nothing b p q = absurd p
+
+-- as many trees as symbols
+pub count_trees : (g : Table) (xs : List Sym) (f : Forest) → AreTrees g xs f → tree_count f ≡ length xs
+count_trees g [] nothing p = refl
+count_trees g (x ∷ xs) (grown t f) p = omega (arith, count_trees g xs f p.1)
+count_trees g [] (grown t f) p = absurd p
+count_trees g (x ∷ xs) nothing p = absurd p
 
 -- a forest for two lists of symbols
 pub record Halves (g : Table) (xs ys : List Sym) (f : Forest) : Type 0 where
@@ -46,13 +53,13 @@ same_halves g (x ∷ xs) nothing b v w p q e = absurd p
 same_halves g (x ∷ xs) (grown s a) nothing v w p q e = absurd q
 
 mutual
-  pub length-rows_of : (t : Tree) (at number : ℕ) → length (rows_of t at number) ≡ row_count t
-  length-rows_of (branch rule taken parts) at number = omega (arith, length-rows_of_all parts (at + length taken) (number + 1))
-  length-rows_of empty at number = refl
-  length-rows_of (token t) at number = refl
-  length-rows_of (fixed byte) at number = refl
+  pub length-rows_of : (t : Tree) (after at number : ℕ) → length (rows_of t after at number) ≡ row_count t
+  length-rows_of (branch rule taken parts) after at number = omega (arith, length-rows_of_all parts (at + length taken) (number + 1))
+  length-rows_of empty after at number = refl
+  length-rows_of (token t) after at number = refl
+  length-rows_of (fixed byte) after at number = refl
 
   pub length-rows_of_all : (f : Forest) (at number : ℕ) → length (rows_of_all f at number) ≡ row_count_all f
   length-rows_of_all nothing at number = refl
   length-rows_of_all (grown t f) at number =
-      omega (arith, length-append (rows_of t at number) (rows_of_all f (at + length (spell t)) (number + row_count t)), length-rows_of t at number, length-rows_of_all f (at + length (spell t)) (number + row_count t))
+      omega (arith, length-append (rows_of t (tree_count f) at number) (rows_of_all f (at + length (spell t)) (number + row_count t)), length-rows_of t (tree_count f) at number, length-rows_of_all f (at + length (spell t)) (number + row_count t))

@@ -11,10 +11,10 @@ use Rattle.sym_shape.specs.declared.frame.Frame.{Frame}
 use Rattle.sym_shape.specs.Table.{Table, symbols_of}
 use Rattle.sym_shape.specs.Tree.{IsMalformed, BeginsWellShaped}
 use Rattle.sym_shape.specs.Law.{IsLawful}
-use Rattle.sym_shape.specs.Reading.{Symbol, Close, entries_of, closed, IsKnown, TakesNone, place_behind, rule_stack, open_row, place_row, lone_rows}
+use Rattle.sym_shape.specs.Reading.{Symbol, Close, entries_of, closed, IsKnown, TakesNone, place_behind, rule_stack, symbols_left, open_row, place_row, lone_rows}
 use Rattle.sym_shape.specs.Frame.{passed, HasNext, HasLast, rule_frame, unfolded, IsTaken}
 use Rattle.sym_shape.specs.Reader.{IsParse, ReadsToken, BreaksToken, IsWholeToken}
-use Rattle.sym_shape.proofs.Moves.{closed_at, beginning}
+use Rattle.sym_shape.proofs.Moves.{closed_at, beginning, left-pushed}
 use Rattle.sym_shape.proofs.Steps.{step_close, step_byte, step_empty, step_rule, step_leaf, step_token, refuse_behind, refuse_byte, refuse_kind, refuse_token, found_waits, broken_waits, token_within}
 
 -- the parse with these frames
@@ -27,6 +27,14 @@ unfolded_next listed f (q ∷ fs) x h = ap (λ xs. entries_of xs ++ Close f.row 
 
 unfolded_end : (listed : ℕ → List Sym) (f q : Frame) (fs : List Frame) → listed f.place ≡ [] → unfolded listed f (q ∷ fs) ≡ Close f.row ∷ unfolded listed q fs
 unfolded_end listed f q fs e = ap (λ xs. entries_of xs ++ Close f.row ∷ unfolded listed q fs) e
+
+pub left_in : (listed : ℕ → List Sym) (f : Frame) (fs : List Frame) → symbols_left (unfolded listed f fs) ≡ length (listed f.place)
+left_in listed f [] = left-entries (listed f.place)
+  where
+    left-entries : (xs : List Sym) → symbols_left (entries_of xs) ≡ length xs
+    left-entries [] = refl
+    left-entries (x ∷ xs) = omega (arith, left-entries xs)
+left_in listed f (q ∷ fs) = left-pushed (listed f.place) f.row (unfolded listed q fs)
 
 reverse_last : {X : Type 0} (xs : List X) (x : X) → reverse (xs ++ x ∷ []) ≡ x ∷ reverse xs
 reverse_last xs x = reverse-append xs (x ∷ [])
@@ -72,24 +80,29 @@ some_begins : (xs : List Sym) → 0 < length xs → beginning xs ≡ 1
 some_begins [] lt = absurd (omega arith)
 some_begins (x ∷ xs) lt = refl
 
-pub frame_rule : (listed : ℕ → List Sym) (g : Table) (lawful : IsLawful g) (ended : Bool) (bytes : List ℕ) (steps at k b slot : ℕ) (rule : Rule) (top frame : Frame) (below deeper : List Frame) (rows made : List Row) → IsFramed listed g ended bytes steps at top below rows → HasNext listed top (Kind k) → at < length bytes → get_or bytes at 0 ≡ b → b < 256 → g.rule k b ≡ Some rule → listed slot ≡ symbols_of rule → IsTaken rule slot (passed top) at below rows frame deeper made → IsFramed listed g ended bytes (steps + 1) (place_behind rule at) frame deeper made
-frame_rule listed g lawful ended bytes steps at k b slot rule top frame below deeper rows made h next lt found byte chosen stands (inl entered) =
+pub frame_rule : (listed : ℕ → List Sym) (g : Table) (lawful : IsLawful g) (ended : Bool) (bytes : List ℕ) (steps at k b slot after : ℕ) (rule : Rule) (top frame : Frame) (below deeper : List Frame) (rows made : List Row) → IsFramed listed g ended bytes steps at top below rows → HasNext listed top (Kind k) → at < length bytes → get_or bytes at 0 ≡ b → b < 256 → g.rule k b ≡ Some rule → listed slot ≡ symbols_of rule → after ≡ length (listed (top.place + 1)) → IsTaken rule slot after (passed top) at below rows frame deeper made → IsFramed listed g ended bytes (steps + 1) (place_behind rule at) frame deeper made
+frame_rule listed g lawful ended bytes steps at k b slot after rule top frame below deeper rows made h next lt found byte chosen stands told (inl entered) =
     let under = unfolded listed (passed top) (reverse below) in
+    let left : after ≡ symbols_left under = told ∙ sym (left_in listed (passed top) (reverse below)) in
+    let row = ap (λ n. rows ++ open_row rule n at at 0 ∷ []) left in
     let read = step_rule g lawful ended bytes steps at k b 0 rule under rows (some_begins (symbols_of rule) entered.3) lt found byte chosen (asks listed g ended bytes steps at top below rows (Kind k) h next) in
     let frames : unfolded listed frame (reverse deeper) ≡ rule_stack under (length rows) rule =
     ap₂ (λ f fs. unfolded listed f (reverse fs)) entered.1 entered.0 ∙ ap (λ fs. unfolded listed (rule_frame slot (length rows)) fs) (reverse_last below (passed top)) ∙ ap (λ xs. entries_of xs ++ Close (length rows) ∷ under) stands in
-    subst (λ rs. IsFramed listed g ended bytes (steps + 1) (place_behind rule at) frame deeper rs) (sym entered.2) (subst (λ es. IsParse g ended bytes (steps + 1) (place_behind rule at) es (rows ++ open_row rule at at 0 ∷ [])) (sym frames) read)
-frame_rule listed g lawful ended bytes steps at k b slot rule top frame below deeper rows made h next lt found byte chosen stands (inr leaf) =
+    subst (λ rs. IsFramed listed g ended bytes (steps + 1) (place_behind rule at) frame deeper rs) (sym (entered.2 ∙ row)) (subst (λ es. IsParse g ended bytes (steps + 1) (place_behind rule at) es (rows ++ open_row rule (symbols_left under) at at 0 ∷ [])) (sym frames) read)
+frame_rule listed g lawful ended bytes steps at k b slot after rule top frame below deeper rows made h next lt found byte chosen stands told (inr leaf) =
     let under = unfolded listed (passed top) (reverse below) in
     let place = place_behind rule at in
-    let ended_row = rows ++ open_row rule at place (length rows + 1) ∷ [] in
+    let left : after ≡ symbols_left under = told ∙ sym (left_in listed (passed top) (reverse below)) in
+    let row = ap (λ n. rows ++ open_row rule n at place (length rows + 1) ∷ []) left in
+    let ended_row = rows ++ open_row rule (symbols_left under) at place (length rows + 1) ∷ [] in
     let none : symbols_of rule ≡ [] = ap (λ n. take n rule.symbols) leaf.0 in
     let whole = step_leaf g lawful ended bytes steps at k b rule under rows none lt found byte chosen (asks listed g ended bytes steps at top below rows (Kind k) h next) in
-    subst (λ rs. IsFramed listed g ended bytes (steps + 1) place frame deeper rs) (sym leaf.3) (subst (λ f. IsFramed listed g ended bytes (steps + 1) place f deeper ended_row) (sym leaf.2) (subst (λ fs. IsFramed listed g ended bytes (steps + 1) place (passed top) fs ended_row) (sym leaf.1) whole))
+    subst (λ rs. IsFramed listed g ended bytes (steps + 1) place frame deeper rs) (sym (leaf.3 ∙ row)) (subst (λ f. IsFramed listed g ended bytes (steps + 1) place f deeper ended_row) (sym leaf.2) (subst (λ fs. IsFramed listed g ended bytes (steps + 1) place (passed top) fs ended_row) (sym leaf.1) whole))
 
-pub frame_token : (listed : ℕ → List Sym) (g : Table) (lawful : IsLawful g) (ended : Bool) (bytes : List ℕ) (steps at : ℕ) (x : Sym) (place : TokenPlace) (top : Frame) (below : List Frame) (rows made : List Row) → IsFramed listed g ended bytes steps at top below rows → HasNext listed top x → ReadsToken g.names x (drop at bytes) at place → IsKnown ended bytes place.end → made ≡ rows ++ place_row place (length rows) ∷ [] → IsFramed listed g ended bytes (steps + 1) place.end (passed top) below made
-frame_token listed g lawful ended bytes steps at x place top below rows made h next read known is =
-    subst (λ rs. IsFramed listed g ended bytes (steps + 1) place.end (passed top) below rs) (sym is) (step_token g lawful ended bytes steps at x place (unfolded listed (passed top) (reverse below)) rows read known (asks listed g ended bytes steps at top below rows x h next))
+pub frame_token : (listed : ℕ → List Sym) (g : Table) (lawful : IsLawful g) (ended : Bool) (bytes : List ℕ) (steps at after : ℕ) (x : Sym) (place : TokenPlace) (top : Frame) (below : List Frame) (rows made : List Row) → IsFramed listed g ended bytes steps at top below rows → HasNext listed top x → ReadsToken g.names x (drop at bytes) at place → IsKnown ended bytes place.end → after ≡ length (listed (top.place + 1)) → made ≡ rows ++ place_row after place (length rows) ∷ [] → IsFramed listed g ended bytes (steps + 1) place.end (passed top) below made
+frame_token listed g lawful ended bytes steps at after x place top below rows made h next read known told is =
+    let row = ap (λ n. rows ++ place_row n place (length rows) ∷ []) (told ∙ sym (left_in listed (passed top) (reverse below))) in
+    subst (λ rs. IsFramed listed g ended bytes (steps + 1) place.end (passed top) below rs) (sym (is ∙ row)) (step_token g lawful ended bytes steps at x place (unfolded listed (passed top) (reverse below)) rows read known (asks listed g ended bytes steps at top below rows x h next))
 
 one_more : (b : Bool) (at : ℕ) → cond b (at + 1) at ≤ at + 1
 one_more true at = omega arith
@@ -104,22 +117,24 @@ lone_within names x rule ended bytes at place lt whole =
     token_within names x bytes (place_behind rule at) place (behind_within rule at (length bytes) lt) whole.0
 
 -- a rule is taken whose only symbol is a token, the token is read, and the rule's row ends
-pub frame_lone : (listed : ℕ → List Sym) (g : Table) (lawful : IsLawful g) (ended : Bool) (bytes : List ℕ) (steps at k b : ℕ) (rule : Rule) (x : Sym) (place : TokenPlace) (top : Frame) (below : List Frame) (rows made : List Row) → IsFramed listed g ended bytes steps at top below rows → HasNext listed top (Kind k) → at < length bytes → get_or bytes at 0 ≡ b → b < 256 → g.rule k b ≡ Some rule → symbols_of rule ≡ x ∷ [] → IsWholeToken g.names x ended bytes (place_behind rule at) place → made ≡ rows ++ lone_rows rule at place (length rows) → IsFramed listed g ended bytes (steps + 3) place.end (passed top) below made
-frame_lone listed g lawful ended bytes steps at k b rule x place top below rows made h next lt found byte chosen lone whole is =
+pub frame_lone : (listed : ℕ → List Sym) (g : Table) (lawful : IsLawful g) (ended : Bool) (bytes : List ℕ) (steps at k b after : ℕ) (rule : Rule) (x : Sym) (place : TokenPlace) (top : Frame) (below : List Frame) (rows made : List Row) → IsFramed listed g ended bytes steps at top below rows → HasNext listed top (Kind k) → at < length bytes → get_or bytes at 0 ≡ b → b < 256 → g.rule k b ≡ Some rule → symbols_of rule ≡ x ∷ [] → IsWholeToken g.names x ended bytes (place_behind rule at) place → after ≡ length (listed (top.place + 1)) → made ≡ rows ++ lone_rows rule after at place (length rows) → IsFramed listed g ended bytes (steps + 3) place.end (passed top) below made
+frame_lone listed g lawful ended bytes steps at k b after rule x place top below rows made h next lt found byte chosen lone whole told is =
     let under = unfolded listed (passed top) (reverse below) in
+    let left : symbols_left under ≡ after = left_in listed (passed top) (reverse below) ∙ sym told in
     let number = length rows in
-    let opened = rows ++ open_row rule at at 0 ∷ [] in
-    let count : length opened ≡ number + 1 = length-append rows (open_row rule at at 0 ∷ []) in
-    let token = place_row place (length opened) in
+    let opened = rows ++ open_row rule (symbols_left under) at at 0 ∷ [] in
+    let count : length opened ≡ number + 1 = length-append rows (open_row rule (symbols_left under) at at 0 ∷ []) in
+    let token = place_row 0 place (length opened) in
     let taken = step_rule g lawful ended bytes steps at k b 0 rule under rows (ap beginning lone) lt found byte chosen (asks listed g ended bytes steps at top below rows (Kind k) h next) in
     let asked = subst (λ xs. IsParse g ended bytes (steps + 1) (place_behind rule at) (entries_of xs ++ Close number ∷ under) opened) lone taken in
     let read = step_token g lawful ended bytes (steps + 1) (place_behind rule at) x place (Close number ∷ under) opened whole.0 whole.1 asked in
     let closes = step_close g ended bytes (steps + 1 + 1) place.end number under (opened ++ token ∷ []) read in
     let size : length (opened ++ token ∷ []) ≡ number + 2 = omega (arith, length-append opened (token ∷ []), count) in
-    let row : closed (opened ++ token ∷ []) number place.end (length (opened ++ token ∷ [])) ≡ rows ++ lone_rows rule at place number =
-    ap (λ rs. closed rs number place.end (length (opened ++ token ∷ []))) (append_assoc rows (open_row rule at at 0 ∷ []) (token ∷ []))
-    ∙ closed_at rows (open_row rule at at 0) (token ∷ []) place.end (length (opened ++ token ∷ []))
-    ∙ ap₂ (λ m n. rows ++ open_row rule at place.end m ∷ place_row place n ∷ []) size count in
+    let row : closed (opened ++ token ∷ []) number place.end (length (opened ++ token ∷ [])) ≡ rows ++ lone_rows rule after at place number =
+    ap (λ rs. closed rs number place.end (length (opened ++ token ∷ []))) (append_assoc rows (open_row rule (symbols_left under) at at 0 ∷ []) (token ∷ []))
+    ∙ closed_at rows (open_row rule (symbols_left under) at at 0) (token ∷ []) place.end (length (opened ++ token ∷ []))
+    ∙ ap₂ (λ m n. rows ++ open_row rule (symbols_left under) at place.end m ∷ place_row 0 place n ∷ []) size count
+    ∙ ap (λ n. rows ++ lone_rows rule n at place number) left in
     subst (λ n. IsFramed listed g ended bytes n place.end (passed top) below made) (omega arith) (subst (λ rs. IsFramed listed g ended bytes (steps + 1 + 1 + 1) place.end (passed top) below rs) (row ∙ sym is) closes)
 
 -- refusals

@@ -15,7 +15,7 @@ grown_rows old new s rows grows h = (h.0, grows h.0 h.1, h.2, h.3)
 
 pub grown_same : (old new : Table) (lawful : IsLawful new) (s : List ℕ) (rows others : List Row) → GrowsInto old new → AreRowsOf old s rows → AreRowsOf new s others → others ≡ rows
 grown_same old new lawful s rows others grows h k =
-    k.3 ∙ ap (λ tree. rows_of tree 0 0) (one_tree new lawful k.0 h.0 k.1 (grows h.0 h.1) (k.2 ∙ sym h.2)) ∙ sym h.3
+    k.3 ∙ ap (λ tree. rows_of tree 0 0 0) (one_tree new lawful k.0 h.0 k.1 (grows h.0 h.1) (k.2 ∙ sym h.2)) ∙ sym h.3
 
 grown_begins : (old new : Table) (front : List ℕ) → GrowsInto old new → BeginsWellShaped old front → BeginsWellShaped new front
 grown_begins old new front grows h = (h.0, (h.1.0, grows h.1.0 h.1.1, h.1.2))

@@ -1,10 +1,12 @@
 -- Rows of letters, and lists that are compared at each place by computing.
-use Rattle.std.proofs.Common.{◌≡◌, ℕ, ◌-◌, ◌<◌, ◌≤◌, get_or, slice_get, List, map, length, cond, Some, None, ap, sym, ◌∙◌, arith}
-use Rattle.std.proofs.lemmas.Bool.{lt-ltb, le-ltb, ne_eqb}
+use Rattle.std.proofs.Common.{◌≡◌, ℕ, zero, suc, ◌+◌, ◌-◌, ◌<◌, ◌≤◌, get_or, slice_get, List, [], ◌∷◌, map, length, cond, Some, None, inl, inr, ap, sym, refl, ◌∙◌, subst, drop, arith}
+use Rattle.std.proofs.lemmas.Bool.{lt-ltb, le-ltb, ne_eqb, cases_lt}
+use Rattle.std.proofs.lemmas.List.{drop_all}
 use Rattle.std.proofs.lemmas.List.FromFn.{get_or-map-range_with_len}
 use Rattle.std.proofs.lemmas.Option.{slice_get_past, slice_get-get_or}
 use Rattle.std.specs.List.{range_with_len}
-use Rattle.sym_shape.specs.Listing.{letter_below, unless_blank}
+use Rattle.sym_shape.specs.Listing.{letter_below, unless_blank, up_to_end, listed_in, counts_after, StandsAt}
+use Rattle.sym_shape.specs.declared.rule.Sym.{Sym}
 
 -- no letter comes before a row or after it
 pub no_letter_before : (row : List ℕ) (byte : ℕ) → byte < 36 → letter_below row byte ≡ None
@@ -33,6 +35,21 @@ pub letter_in : (row : List ℕ) (byte d : ℕ) → length row ≡ 87 → 36 ≤
 unfolding unless_blank
 letter_in row byte d long low high full =
     letter_there row byte d long low high ∙ ap (λ b. cond b None (Some (get_or row (byte - 36) d))) (ne_eqb (get_or row (byte - 36) d) 32 full)
+
+-- a place at which a symbol is listed is within the list
+pub place_within : (symbols : List Sym) (place : ℕ) (x : Sym) → StandsAt (listed_in symbols) place x → place < length symbols
+place_within symbols place x there = elim (cases_lt place (length symbols)) [
+  | inl less ↦ less
+  | inr past ↦ absurd (omega (arith, ap length (sym (ap up_to_end (drop_all place symbols past)) ∙ there.left)))
+]
+
+-- how many symbols of its rule come after the one at a place
+pub after_at : (symbols : List Sym) (place : ℕ) → get_or (counts_after symbols) place 0 ≡ length (listed_in symbols (place + 1))
+after_at [] place = ap (λ xs. length (up_to_end xs)) (sym (drop_all {X = Sym} (place + 1) [] (omega arith)))
+after_at (x ∷ xs) zero = refl
+after_at (x ∷ xs) (suc n) =
+    let later : suc (n + 1) ≡ suc n + 1 = omega arith in
+    subst (λ k. get_or (counts_after xs) n 0 ≡ length (up_to_end (drop k (x ∷ xs)))) later (after_at xs n)
 
 -- two functions that agree on all numbers below n, by lists
 pub alike_at : {X : Type 0} (f g : ℕ → X) (n k : ℕ) → map f (range_with_len 0 n) ≡ map g (range_with_len 0 n) → k < n → f k ≡ g k

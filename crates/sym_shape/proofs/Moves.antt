@@ -8,11 +8,11 @@ use Rattle.sym_shape.specs.declared.rule.Sym.{Sym}
 use Rattle.sym_shape.specs.declared.rule.Sym.TheVariants.{Kind, Name, Number, Byte}
 use Rattle.sym_shape.specs.Reading.{Entry, Symbol, Close}
 use Rattle.sym_shape.specs.Table.{Table, Token, symbols_of, bytes_of, IsToken}
-use Rattle.sym_shape.specs.Tree.{branch, empty, token, fixed, Forest, nothing, grown, spell, spell_all, IsTree, AreTrees, TakesRule, rows_of, rows_of_all, row_count, row_count_all, read_steps_all, IsWellShaped}
+use Rattle.sym_shape.specs.Tree.{branch, empty, token, fixed, Forest, nothing, grown, spell, spell_all, IsTree, AreTrees, TakesRule, rows_of, rows_of_all, row_count, row_count_all, tree_count, read_steps_all, IsWellShaped}
 use Rattle.sym_shape.specs.Law.{AreSymbols, IsLawful}
-use Rattle.sym_shape.specs.Reading.{symbols_in, entries_of, closed, finished, steps_left, AreOpen, IsFollowed, Agrees, IsReading, IsCompleted, Spell, open_row, TakesNone}
+use Rattle.sym_shape.specs.Reading.{symbols_in, entries_of, closed, symbols_left, finished, steps_left, AreOpen, IsFollowed, Agrees, IsReading, IsCompleted, Spell, open_row, TakesNone}
 use Rattle.sym_shape.proofs.Lists.{true_or, filled}
-use Rattle.sym_shape.proofs.Forests.{joined, spell_all-joined, AreTrees-joined, halves, length-rows_of, length-rows_of_all}
+use Rattle.sym_shape.proofs.Forests.{joined, spell_all-joined, AreTrees-joined, halves, count_trees, length-rows_of, length-rows_of_all}
 use Rattle.sym_shape.proofs.Tokens.{MayFollow}
 use Rattle.sym_shape.proofs.Firsts.{branch_first, branch_filled, forest_first}
 use Rattle.sym_shape.proofs.Uniqueness.{chosen_rule}
@@ -49,18 +49,23 @@ same_finished es f m n rows others p q = cc
 same_rows_of_all : (f : Forest) (at m n : ℕ) → m ≡ n → rows_of_all f at m ≡ rows_of_all f at n
 same_rows_of_all f at m n p = cc
 
+pub left-pushed : (xs : List Sym) (i : ℕ) (es : List Entry) → symbols_left (entries_of xs ++ Close i ∷ es) ≡ length xs
+left-pushed [] i es = refl
+left-pushed (x ∷ xs) i es = omega (arith, left-pushed xs i es)
+
 -- a rule's parts are read one after another
-finished-pushed : (g : Table) (xs : List Sym) (es : List Entry) (parts f : Forest) (at : ℕ) (rows : List Row) → AreTrees g xs parts → finished (entries_of xs ++ es) (joined parts f) at rows ≡ finished es f (at + length (spell_all parts)) (rows ++ rows_of_all parts at (length rows))
-finished-pushed g [] es nothing f at rows p = same_finished es f at (at + 0) rows (rows ++ []) (omega arith) (sym (append-nil rows))
-finished-pushed g (x ∷ xs) es (grown t parts) f at rows p =
-    let first = rows_of t at (length rows) in
-    let later = finished-pushed g xs es parts f (at + length (spell t)) (rows ++ first) p.1 in
-    let count : length (rows ++ first) ≡ length rows + row_count t = length-append rows first ∙ ap (λ n. length rows + n) (length-rows_of t at (length rows)) in
+finished-pushed : (g : Table) (xs : List Sym) (i : ℕ) (es : List Entry) (parts f : Forest) (at : ℕ) (rows : List Row) → AreTrees g xs parts → finished (entries_of xs ++ Close i ∷ es) (joined parts f) at rows ≡ finished (Close i ∷ es) f (at + length (spell_all parts)) (rows ++ rows_of_all parts at (length rows))
+finished-pushed g [] i es nothing f at rows p = same_finished (Close i ∷ es) f at (at + 0) rows (rows ++ []) (omega arith) (sym (append-nil rows))
+finished-pushed g (x ∷ xs) i es (grown t parts) f at rows p =
+    let first = rows_of t (tree_count parts) at (length rows) in
+    let after : symbols_left (entries_of xs ++ Close i ∷ es) ≡ tree_count parts = left-pushed xs i es ∙ sym (count_trees g xs parts p.1) in
+    let later = finished-pushed g xs i es parts f (at + length (spell t)) (rows ++ first) p.1 in
+    let count : length (rows ++ first) ≡ length rows + row_count t = length-append rows first ∙ ap (λ n. length rows + n) (length-rows_of t (tree_count parts) at (length rows)) in
     let lists : (rows ++ first) ++ rows_of_all parts (at + length (spell t)) (length (rows ++ first)) ≡ rows ++ (first ++ rows_of_all parts (at + length (spell t)) (length rows + row_count t)) =
     append_assoc rows first _ ∙ ap (λ rs. rows ++ (first ++ rs)) (same_rows_of_all parts (at + length (spell t)) _ _ count) in
-    later ∙ same_finished es f _ _ _ _ (omega (arith, length-append (spell t) (spell_all parts))) lists
-finished-pushed g [] es (grown t parts) f at rows p = absurd p
-finished-pushed g (x ∷ xs) es nothing f at rows p = absurd p
+    rw after (later ∙ same_finished (Close i ∷ es) f _ _ _ _ (omega (arith, length-append (spell t) (spell_all parts))) lists)
+finished-pushed g [] i es (grown t parts) f at rows p = absurd p
+finished-pushed g (x ∷ xs) i es nothing f at rows p = absurd p
 
 steps_left-pushed : (g : Table) (xs : List Sym) (es : List Entry) (parts f : Forest) → AreTrees g xs parts → steps_left (entries_of xs ++ es) (joined parts f) ≡ read_steps_all parts + steps_left es f
 steps_left-pushed g [] es nothing f p = omega arith
@@ -156,18 +161,18 @@ token_continues g lawful ended (Number kind) t xs nothing q w known followed is 
 token_continues g lawful ended x t xs (grown s f) q w known followed is settled agrees p e = absurd p.0
 
 -- the row of a token
-abbrev pub token_row : Token → ℕ → ℕ → Row
-token_row t at number = record { rule = 65535; from = at + length t.before; to = at + length t.before + length t.own; end = number + 1 }
+abbrev pub token_row : Token → (after at number : ℕ) → Row
+token_row t after at number = record { rule = 65535; after = after; from = at + length t.before; to = at + length t.before + length t.own; end = number + 1 }
 
 -- a token is read
-pub takes_token : (g : Table) (n : ℕ) (lawful : IsLawful g) (ended : Bool) (p q : List ℕ) (x : Sym) (t : Token) (es : List Entry) (rows : List Row) → IsToken g.names x t → IsSettled g ended x t q → IsReading g n ended p (bytes_of t ++ q) (Symbol x ∷ es) rows → IsReading g (n + 1) ended (p ++ bytes_of t) q es (rows ++ token_row t (length p) (length rows) ∷ [])
+pub takes_token : (g : Table) (n : ℕ) (lawful : IsLawful g) (ended : Bool) (p q : List ℕ) (x : Sym) (t : Token) (es : List Entry) (rows : List Row) → IsToken g.names x t → IsSettled g ended x t q → IsReading g n ended p (bytes_of t ++ q) (Symbol x ∷ es) rows → IsReading g (n + 1) ended (p ++ bytes_of t) q es (rows ++ token_row t (symbols_left es) (length p) (length rows) ∷ [])
 takes_token g n lawful ended p q x t es rows is settled r = record {
   known = r.known.1;
   followed = r.followed.1;
-  opened = AreOpen-more es _ _ (omega (arith, length-append rows (token_row t (length p) (length rows) ∷ []))) r.opened;
+  opened = AreOpen-more es _ _ (omega (arith, length-append rows (token_row t (symbols_left es) (length p) (length rows) ∷ []))) r.opened;
   sound = λ f trees. (
       let old = r.sound (grown (token t) f) (tree_of x is, trees) in
-      completed g p (bytes_of t) (spell_all f) es f rows (token_row t (length p) (length rows) ∷ []) (n + (1 + steps_left es f)) (n + 1 + steps_left es f) (omega arith) old);
+      completed g p (bytes_of t) (spell_all f) es f rows (token_row t (symbols_left es) (length p) (length rows) ∷ []) (n + (1 + steps_left es f)) (n + 1 + steps_left es f) (omega arith) old);
   complete = λ w agrees whole. (
       let old = r.complete (bytes_of t ++ w) (agrees_behind ended (bytes_of t) q w agrees) (subst (λ v. IsWellShaped g v) (append_assoc p (bytes_of t) w) whole) in
       token_continues g lawful ended x t (symbols_in es) old.0 q w r.known r.followed is settled agrees old.1 old.2);
@@ -247,30 +252,30 @@ begins_so rule b q w ended agrees some =
 
 -- the parts of a rule are read and its row is ended
 rule_rows : (g : Table) (rule : Rule) (taken : List ℕ) (es : List Entry) (front back : Forest) (at to end : ℕ) (rows : List Row) → AreTrees g (symbols_of rule) front →
-    finished (entries_of (symbols_of rule) ++ Close (length rows) ∷ es) (joined front back) (at + length taken) (rows ++ open_row rule at to end ∷ [])
+    finished (entries_of (symbols_of rule) ++ Close (length rows) ∷ es) (joined front back) (at + length taken) (rows ++ open_row rule (symbols_left es) at to end ∷ [])
     ≡ finished (Symbol (Kind 0) ∷ es) (grown (branch rule taken front) back) at rows
 rule_rows g rule taken es front back at to end rows p =
-    let begun = rows ++ open_row rule at to end ∷ [] in
+    let begun = rows ++ open_row rule (symbols_left es) at to end ∷ [] in
     let place = at + length taken in
-    let counted : length begun ≡ length rows + 1 = length-append rows (open_row rule at to end ∷ []) in
+    let counted : length begun ≡ length rows + 1 = length-append rows (open_row rule (symbols_left es) at to end ∷ []) in
     let parts = rows_of_all front place (length rows + 1) in
-    let read = finished-pushed g (symbols_of rule) (Close (length rows) ∷ es) front back place begun p in
+    let read = finished-pushed g (symbols_of rule) (length rows) es front back place begun p in
     let stop = place + length (spell_all front) in
-    let regrouped : begun ++ rows_of_all front place (length begun) ≡ rows ++ open_row rule at to end ∷ parts =
-    append_assoc rows (open_row rule at to end ∷ []) _ ∙ ap (λ rs. rows ++ open_row rule at to end ∷ rs) (same_rows_of_all front place _ _ counted) in
-    let many : length (rows ++ open_row rule at to end ∷ parts) ≡ length rows + 1 + row_count_all front =
-    omega (arith, length-append rows (open_row rule at to end ∷ parts), length-rows_of_all front place (length rows + 1)) in
+    let regrouped : begun ++ rows_of_all front place (length begun) ≡ rows ++ open_row rule (symbols_left es) at to end ∷ parts =
+    append_assoc rows (open_row rule (symbols_left es) at to end ∷ []) _ ∙ ap (λ rs. rows ++ open_row rule (symbols_left es) at to end ∷ rs) (same_rows_of_all front place _ _ counted) in
+    let many : length (rows ++ open_row rule (symbols_left es) at to end ∷ parts) ≡ length rows + 1 + row_count_all front =
+    omega (arith, length-append rows (open_row rule (symbols_left es) at to end ∷ parts), length-rows_of_all front place (length rows + 1)) in
     let reach : stop ≡ at + length (taken ++ spell_all front) = omega (arith, length-append taken (spell_all front)) in
-    let ended : closed (begun ++ rows_of_all front place (length begun)) (length rows) stop (length (begun ++ rows_of_all front place (length begun))) ≡ rows ++ rows_of (branch rule taken front) at (length rows) =
-    ap (λ rs. closed rs (length rows) stop (length rs)) regrouped ∙ closed_at rows (open_row rule at to end) parts stop _ ∙ ap₂ (λ m n. rows ++ record { rule = rule.number; from = at; to = m; end = n } ∷ parts) reach many in
+    let ended : closed (begun ++ rows_of_all front place (length begun)) (length rows) stop (length (begun ++ rows_of_all front place (length begun))) ≡ rows ++ rows_of (branch rule taken front) (symbols_left es) at (length rows) =
+    ap (λ rs. closed rs (length rows) stop (length rs)) regrouped ∙ closed_at rows (open_row rule (symbols_left es) at to end) parts stop _ ∙ ap₂ (λ m n. rows ++ record { rule = rule.number; after = symbols_left es; from = at; to = m; end = n } ∷ parts) reach many in
     read ∙ same_finished es back _ _ _ _ reach ended
 
 -- a rule is taken
-pub takes_rule : (g : Table) (n : ℕ) (lawful : IsLawful g) (ended : Bool) (p q : List ℕ) (k b to end : ℕ) (rule : Rule) (es : List Entry) (rows : List Row) → b < 256 → g.rule k b ≡ Some rule → ((rest : List ℕ) × (taken_by rule b ++ q ≡ b ∷ rest)) → IsReading g n ended p (taken_by rule b ++ q) (Symbol (Kind k) ∷ es) rows → IsReading g (n + beginning (symbols_of rule)) ended (p ++ taken_by rule b) q (entries_of (symbols_of rule) ++ Close (length rows) ∷ es) (rows ++ open_row rule (length p) to end ∷ [])
+pub takes_rule : (g : Table) (n : ℕ) (lawful : IsLawful g) (ended : Bool) (p q : List ℕ) (k b to end : ℕ) (rule : Rule) (es : List Entry) (rows : List Row) → b < 256 → g.rule k b ≡ Some rule → ((rest : List ℕ) × (taken_by rule b ++ q ≡ b ∷ rest)) → IsReading g n ended p (taken_by rule b ++ q) (Symbol (Kind k) ∷ es) rows → IsReading g (n + beginning (symbols_of rule)) ended (p ++ taken_by rule b) q (entries_of (symbols_of rule) ++ Close (length rows) ∷ es) (rows ++ open_row rule (symbols_left es) (length p) to end ∷ [])
 takes_rule g n lawful ended p q k b to end rule es rows is_byte found begins r =
     let law = lawful.rule k b rule r.known.0 is_byte found in
     let path = sym (symbols_in-pushed (symbols_of rule) (length rows) es) in
-    let counted : length (rows ++ open_row rule (length p) to end ∷ []) ≡ length rows + 1 = length-append rows (open_row rule (length p) to end ∷ []) in
+    let counted : length (rows ++ open_row rule (symbols_left es) (length p) to end ∷ []) ≡ length rows + 1 = length-append rows (open_row rule (symbols_left es) (length p) to end ∷ []) in
     record {
       known = subst (λ xs. AreSymbols g xs) path (symbols_pushed g (symbols_of rule) (symbols_in es) law.symbols r.known.1);
       followed = subst (λ xs. IsFollowed g xs) path (followed_pushed g k (symbols_of rule) (symbols_in es) law.after r.followed);
@@ -282,7 +287,7 @@ takes_rule g n lawful ended p q k b to end rule es rows is_byte found begins r =
           let spelled : spell_all f ≡ spell_all parts.front ++ spell_all parts.back = ap spell_all parts.is ∙ spell_all-joined parts.front parts.back in
           let text : spell old.0 ≡ (p ++ taken_by rule b) ++ spell_all f =
           old.2 ∙ ap (λ u. p ++ u) (append_assoc (taken_by rule b) (spell_all parts.front) (spell_all parts.back)) ∙ sym (append_assoc p (taken_by rule b) (spell_all parts.front ++ spell_all parts.back)) ∙ ap (λ u. (p ++ taken_by rule b) ++ u) (sym spelled) in
-          let made = ap (λ h. finished (entries_of (symbols_of rule) ++ Close (length rows) ∷ es) h (length (p ++ taken_by rule b)) (rows ++ open_row rule (length p) to end ∷ [])) parts.is
+          let made = ap (λ h. finished (entries_of (symbols_of rule) ++ Close (length rows) ∷ es) h (length (p ++ taken_by rule b)) (rows ++ open_row rule (symbols_left es) (length p) to end ∷ [])) parts.is
           ∙ same_finished (entries_of (symbols_of rule) ++ Close (length rows) ∷ es) _ _ _ _ _ (length-append p (taken_by rule b)) refl
           ∙ rule_rows g rule (taken_by rule b) es parts.front parts.back (length p) to end rows parts.fronts in
           let counted = ap (λ h. n + beginning (symbols_of rule) + steps_left (entries_of (symbols_of rule) ++ Close (length rows) ∷ es) h) parts.is

@@ -11,7 +11,7 @@ use Rattle.sym_core.specs.declared.TokenPlace.{TokenPlace}
 use Rattle.sym_shape.specs.Table.{Table, symbols_of, bytes_of}
 use Rattle.sym_shape.specs.Tree.{IsMalformed, AreRowsOf, AreStepsOf, BeginsWellShaped, read_steps}
 use Rattle.sym_shape.specs.Law.{IsChain, IsLawfulRule, IsLawful}
-use Rattle.sym_shape.specs.Reading.{entries_of, closed, IsReading, IsCounted, StandsOn, IsKnown, TakesNone, place_behind, rule_stack, open_row, place_row}
+use Rattle.sym_shape.specs.Reading.{entries_of, closed, IsReading, IsCounted, StandsOn, IsKnown, TakesNone, place_behind, rule_stack, symbols_left, open_row, place_row}
 use Rattle.sym_shape.specs.Reader.{IsParse, ReadsToken, BreaksToken, IsStep, MakesRow}
 use Rattle.sym_core.specs.declared.refusal.Refusal.{Refusal}
 use Rattle.sym_core.specs.declared.refusal.Refusal.TheVariants.{Memory}
@@ -160,7 +160,7 @@ record IsBegun (g : Table) (ended : Bool) (bytes : List ℕ) (begun steps at : �
   pub reading : IsReading g begun ended (take at bytes) (drop at bytes) stack rows
   pub counted : IsCounted g steps at stack (length rows)
 
-begin_rule : (g : Table) (lawful : IsLawful g) (ended : Bool) (bytes : List ℕ) (steps at k b end : ℕ) (rule : Rule) (stack : List Entry) (rows : List Row) → at < length bytes → get_or bytes at 0 ≡ b → b < 256 → g.rule k b ≡ Some rule → IsParse g ended bytes steps at (Symbol (Kind k) ∷ stack) rows → IsBegun g ended bytes (steps + beginning (symbols_of rule)) (steps + 1) (place_behind rule at) (rule_stack stack (length rows) rule) (rows ++ open_row rule at at end ∷ [])
+begin_rule : (g : Table) (lawful : IsLawful g) (ended : Bool) (bytes : List ℕ) (steps at k b end : ℕ) (rule : Rule) (stack : List Entry) (rows : List Row) → at < length bytes → get_or bytes at 0 ≡ b → b < 256 → g.rule k b ≡ Some rule → IsParse g ended bytes steps at (Symbol (Kind k) ∷ stack) rows → IsBegun g ended bytes (steps + beginning (symbols_of rule)) (steps + 1) (place_behind rule at) (rule_stack stack (length rows) rule) (rows ++ open_row rule (symbols_left stack) at at end ∷ [])
 begin_rule g lawful ended bytes steps at k b end rule stack rows lt is byte found h =
     elim (true_or rule.eats) [ inl eats ↦ eaten eats | inr chains ↦ chained chains ]
   where
@@ -179,70 +179,70 @@ begin_rule g lawful ended bytes steps at k b end rule stack rows lt is byte foun
     law : IsLawfulRule g k rule
     law = lawful.rule k b rule reading.known.0 byte found
 
-    more : length (rows ++ open_row rule at at end ∷ []) ≡ length rows + 1
-    more = length-append rows (open_row rule at at end ∷ [])
+    more : length (rows ++ open_row rule (symbols_left stack) at at end ∷ []) ≡ length rows + 1
+    more = length-append rows (open_row rule (symbols_left stack) at at end ∷ [])
 
-    moved : (q : List ℕ) → drop at bytes ≡ taken_by rule b ++ q → IsReading g (steps + beginning (symbols_of rule)) ended (take at bytes ++ taken_by rule b) q (rule_stack stack (length rows) rule) (rows ++ open_row rule at at end ∷ [])
+    moved : (q : List ℕ) → drop at bytes ≡ taken_by rule b ++ q → IsReading g (steps + beginning (symbols_of rule)) ended (take at bytes ++ taken_by rule b) q (rule_stack stack (length rows) rule) (rows ++ open_row rule (symbols_left stack) at at end ∷ [])
     moved q e =
         let begins : (rest : List ℕ) × (taken_by rule b ++ q ≡ b ∷ rest) = (drop (at + 1) bytes, sym e ∙ split) in
         let read = takes_rule g steps lawful ended (take at bytes) q k b at end rule stack rows byte found begins (subst (λ u. IsReading g steps ended (take at bytes) u (Symbol (Kind k) ∷ stack) rows) e reading) in
-        subst (λ n. IsReading g (steps + beginning (symbols_of rule)) ended (take at bytes ++ taken_by rule b) q (entries_of (symbols_of rule) ++ Close (length rows) ∷ stack) (rows ++ open_row rule n at end ∷ [])) place read
+        subst (λ n. IsReading g (steps + beginning (symbols_of rule)) ended (take at bytes ++ taken_by rule b) q (entries_of (symbols_of rule) ++ Close (length rows) ∷ stack) (rows ++ open_row rule (symbols_left stack) n at end ∷ [])) place read
 
-    eaten : rule.eats ≡ true → IsBegun g ended bytes (steps + beginning (symbols_of rule)) (steps + 1) (place_behind rule at) (rule_stack stack (length rows) rule) (rows ++ open_row rule at at end ∷ [])
+    eaten : rule.eats ≡ true → IsBegun g ended bytes (steps + beginning (symbols_of rule)) (steps + 1) (place_behind rule at) (rule_stack stack (length rows) rule) (rows ++ open_row rule (symbols_left stack) at at end ∷ [])
     eaten eats =
         let takes : taken_by rule b ≡ b ∷ [] = ap (λ c. cond c (b ∷ []) []) eats in
         let to : place_behind rule at ≡ at + 1 = ap (λ c. cond c (at + 1) at) eats in
         let piece = cut bytes at (b ∷ []) (drop (at + 1) bytes) h.within split in
         let read = moved (drop (at + 1) bytes) (split ∙ ap (λ v. v ++ drop (at + 1) bytes) (sym takes)) in
-        let read_one = subst (λ v. IsReading g (steps + beginning (symbols_of rule)) ended (take at bytes ++ v) (drop (at + 1) bytes) (rule_stack stack (length rows) rule) (rows ++ open_row rule at at end ∷ [])) takes read in
+        let read_one = subst (λ v. IsReading g (steps + beginning (symbols_of rule)) ended (take at bytes ++ v) (drop (at + 1) bytes) (rule_stack stack (length rows) rule) (rows ++ open_row rule (symbols_left stack) at at end ∷ [])) takes read in
         let count = count_eats g steps at (Symbol (Kind k)) (Close (length rows)) (symbols_of rule) stack (length rows) counted (omega (arith, law.count, length-take rule.count rule.symbols)) in
-        subst (λ n. IsBegun g ended bytes (steps + beginning (symbols_of rule)) (steps + 1) n (rule_stack stack (length rows) rule) (rows ++ open_row rule at at end ∷ [])) (sym to) (record {
+        subst (λ n. IsBegun g ended bytes (steps + beginning (symbols_of rule)) (steps + 1) n (rule_stack stack (length rows) rule) (rows ++ open_row rule (symbols_left stack) at at end ∷ [])) (sym to) (record {
           within = omega arith;
           reading = goes_on g ended bytes at (b ∷ []) (drop (at + 1) bytes) _ _ piece read_one;
           counted = subst (λ n. IsCounted g (steps + 1) (at + 1) (rule_stack stack (length rows) rule) n) (sym more) count;
         })
 
-    chained : rule.eats ≡ false → IsBegun g ended bytes (steps + beginning (symbols_of rule)) (steps + 1) (place_behind rule at) (rule_stack stack (length rows) rule) (rows ++ open_row rule at at end ∷ [])
+    chained : rule.eats ≡ false → IsBegun g ended bytes (steps + beginning (symbols_of rule)) (steps + 1) (place_behind rule at) (rule_stack stack (length rows) rule) (rows ++ open_row rule (symbols_left stack) at at end ∷ [])
     chained chains =
         let takes : taken_by rule b ≡ [] = ap (λ c. cond c (b ∷ []) []) chains in
         let to : place_behind rule at ≡ at = ap (λ c. cond c (at + 1) at) chains in
         let read = moved (drop at bytes) (ap (λ v. v ++ drop at bytes) (sym takes)) in
-        let read_none = subst (λ v. IsReading g (steps + beginning (symbols_of rule)) ended v (drop at bytes) (rule_stack stack (length rows) rule) (rows ++ open_row rule at at end ∷ [])) (ap (λ v. take at bytes ++ v) takes ∙ append-nil (take at bytes)) read in
+        let read_none = subst (λ v. IsReading g (steps + beginning (symbols_of rule)) ended v (drop at bytes) (rule_stack stack (length rows) rule) (rows ++ open_row rule (symbols_left stack) at at end ∷ [])) (ap (λ v. take at bytes ++ v) takes ∙ append-nil (take at bytes)) read in
         let count = count_chain g lawful k rule steps at (Close (length rows)) (symbols_of rule) stack (length rows) reading.known.0 (law.chain chains) counted in
-        subst (λ n. IsBegun g ended bytes (steps + beginning (symbols_of rule)) (steps + 1) n (rule_stack stack (length rows) rule) (rows ++ open_row rule at at end ∷ [])) (sym to) (record {
+        subst (λ n. IsBegun g ended bytes (steps + beginning (symbols_of rule)) (steps + 1) n (rule_stack stack (length rows) rule) (rows ++ open_row rule (symbols_left stack) at at end ∷ [])) (sym to) (record {
           within = h.within;
           reading = read_none;
           counted = subst (λ n. IsCounted g (steps + 1) at (rule_stack stack (length rows) rule) n) (sym more) count;
         })
 
 -- a rule that has symbols is taken
-pub step_rule : (g : Table) (lawful : IsLawful g) (ended : Bool) (bytes : List ℕ) (steps at k b end : ℕ) (rule : Rule) (stack : List Entry) (rows : List Row) → beginning (symbols_of rule) ≡ 1 → at < length bytes → get_or bytes at 0 ≡ b → b < 256 → g.rule k b ≡ Some rule → IsParse g ended bytes steps at (Symbol (Kind k) ∷ stack) rows → IsParse g ended bytes (steps + 1) (place_behind rule at) (rule_stack stack (length rows) rule) (rows ++ open_row rule at at end ∷ [])
+pub step_rule : (g : Table) (lawful : IsLawful g) (ended : Bool) (bytes : List ℕ) (steps at k b end : ℕ) (rule : Rule) (stack : List Entry) (rows : List Row) → beginning (symbols_of rule) ≡ 1 → at < length bytes → get_or bytes at 0 ≡ b → b < 256 → g.rule k b ≡ Some rule → IsParse g ended bytes steps at (Symbol (Kind k) ∷ stack) rows → IsParse g ended bytes (steps + 1) (place_behind rule at) (rule_stack stack (length rows) rule) (rows ++ open_row rule (symbols_left stack) at at end ∷ [])
 step_rule g lawful ended bytes steps at k b end rule stack rows some lt is byte found h =
     let begun = begin_rule g lawful ended bytes steps at k b end rule stack rows lt is byte found h in
     record {
       within = begun.within;
-      reading = subst (λ n. IsReading g (steps + n) ended (take (place_behind rule at) bytes) (drop (place_behind rule at) bytes) (rule_stack stack (length rows) rule) (rows ++ open_row rule at at end ∷ [])) some begun.reading;
+      reading = subst (λ n. IsReading g (steps + n) ended (take (place_behind rule at) bytes) (drop (place_behind rule at) bytes) (rule_stack stack (length rows) rule) (rows ++ open_row rule (symbols_left stack) at at end ∷ [])) some begun.reading;
       counted = begun.counted;
     }
 
 -- a rule without symbols is taken, and its row ends at once
-pub step_leaf : (g : Table) (lawful : IsLawful g) (ended : Bool) (bytes : List ℕ) (steps at k b : ℕ) (rule : Rule) (stack : List Entry) (rows : List Row) → symbols_of rule ≡ [] → at < length bytes → get_or bytes at 0 ≡ b → b < 256 → g.rule k b ≡ Some rule → IsParse g ended bytes steps at (Symbol (Kind k) ∷ stack) rows → IsParse g ended bytes (steps + 1) (place_behind rule at) stack (rows ++ open_row rule at (place_behind rule at) (length rows + 1) ∷ [])
+pub step_leaf : (g : Table) (lawful : IsLawful g) (ended : Bool) (bytes : List ℕ) (steps at k b : ℕ) (rule : Rule) (stack : List Entry) (rows : List Row) → symbols_of rule ≡ [] → at < length bytes → get_or bytes at 0 ≡ b → b < 256 → g.rule k b ≡ Some rule → IsParse g ended bytes steps at (Symbol (Kind k) ∷ stack) rows → IsParse g ended bytes (steps + 1) (place_behind rule at) stack (rows ++ open_row rule (symbols_left stack) at (place_behind rule at) (length rows + 1) ∷ [])
 step_leaf g lawful ended bytes steps at k b rule stack rows none lt is byte found h =
     let place = place_behind rule at in
-    let opened = rows ++ open_row rule at at 0 ∷ [] in
-    let count : length opened ≡ length rows + 1 = length-append rows (open_row rule at at 0 ∷ []) in
+    let opened = rows ++ open_row rule (symbols_left stack) at at 0 ∷ [] in
+    let count : length opened ≡ length rows + 1 = length-append rows (open_row rule (symbols_left stack) at at 0 ∷ []) in
     let begun = begin_rule g lawful ended bytes steps at k b 0 rule stack rows lt is byte found h in
     let bare = subst (λ xs. IsReading g (steps + beginning xs) ended (take place bytes) (drop place bytes) (entries_of xs ++ Close (length rows) ∷ stack) opened) none begun.reading in
     let reached : length (take place bytes) ≡ place = length-take-le place bytes begun.within in
-    let row : closed opened (length rows) (length (take place bytes)) (length opened) ≡ rows ++ open_row rule at place (length rows + 1) ∷ [] = closed_at rows (open_row rule at at 0) [] (length (take place bytes)) (length opened) ∙ ap₂ (λ m n. rows ++ open_row rule at m n ∷ []) reached count in
-    let size : length (rows ++ open_row rule at place (length rows + 1) ∷ []) ≡ length rows + 1 = length-append rows (open_row rule at place (length rows + 1) ∷ []) in
+    let row : closed opened (length rows) (length (take place bytes)) (length opened) ≡ rows ++ open_row rule (symbols_left stack) at place (length rows + 1) ∷ [] = closed_at rows (open_row rule (symbols_left stack) at at 0) [] (length (take place bytes)) (length opened) ∙ ap₂ (λ m n. rows ++ open_row rule (symbols_left stack) at m n ∷ []) reached count in
+    let size : length (rows ++ open_row rule (symbols_left stack) at place (length rows + 1) ∷ []) ≡ length rows + 1 = length-append rows (open_row rule (symbols_left stack) at place (length rows + 1) ∷ []) in
     let ends = closes g (steps + 0) ended (take place bytes) (drop place bytes) (length rows) stack opened bare in
     let counted : IsCounted g (steps + 1) place (entries_of [] ++ Close (length rows) ∷ stack) (length opened) = subst (λ xs. IsCounted g (steps + 1) place (entries_of xs ++ Close (length rows) ∷ stack) (length opened)) none begun.counted in
     record {
       within = begun.within;
-      reading = subst (λ n. IsReading g n ended (take place bytes) (drop place bytes) stack (rows ++ open_row rule at place (length rows + 1) ∷ [])) (omega arith)
+      reading = subst (λ n. IsReading g n ended (take place bytes) (drop place bytes) stack (rows ++ open_row rule (symbols_left stack) at place (length rows + 1) ∷ [])) (omega arith)
           (subst (λ rs. IsReading g (steps + 0 + 1) ended (take place bytes) (drop place bytes) stack rs) row ends);
-      counted = leaf_counted g (steps + 1) place (Close (length rows)) stack (length opened) (length (rows ++ open_row rule at place (length rows + 1) ∷ [])) counted (no_chains_closed g counted.chains (length rows) stack counted.stands) (omega (arith, size, count));
+      counted = leaf_counted g (steps + 1) place (Close (length rows)) stack (length opened) (length (rows ++ open_row rule (symbols_left stack) at place (length rows + 1) ∷ [])) counted (no_chains_closed g counted.chains (length rows) stack counted.stands) (omega (arith, size, count));
     }
 
 told_at : (ended : Bool) (bytes : List ℕ) (at : ℕ) (rest : List ℕ) → IsKnown ended bytes at → drop at bytes ≡ rest → rest ≡ [] → ended ≡ true
@@ -255,7 +255,7 @@ some_bytes : (u : List ℕ) → (u ≡ [] → ⊥) → 0 < length u
 some_bytes [] h = absurd (h refl)
 some_bytes (b ∷ u) h = omega arith
 
-pub step_token : (g : Table) (lawful : IsLawful g) (ended : Bool) (bytes : List ℕ) (steps at : ℕ) (x : Sym) (place : TokenPlace) (stack : List Entry) (rows : List Row) → ReadsToken g.names x (drop at bytes) at place → IsKnown ended bytes place.end → IsParse g ended bytes steps at (Symbol x ∷ stack) rows → IsParse g ended bytes (steps + 1) place.end stack (rows ++ place_row place (length rows) ∷ [])
+pub step_token : (g : Table) (lawful : IsLawful g) (ended : Bool) (bytes : List ℕ) (steps at : ℕ) (x : Sym) (place : TokenPlace) (stack : List Entry) (rows : List Row) → ReadsToken g.names x (drop at bytes) at place → IsKnown ended bytes place.end → IsParse g ended bytes steps at (Symbol x ∷ stack) rows → IsParse g ended bytes (steps + 1) place.end stack (rows ++ place_row (symbols_left stack) place (length rows) ∷ [])
 step_token g lawful ended bytes steps at x place stack rows r known h =
     let piece = cut bytes at (bytes_of r.token) r.rest h.within r.split in
     let behind : drop place.end bytes ≡ r.rest = ap (λ n. drop n bytes) r.end ∙ piece.back in
@@ -264,14 +264,14 @@ step_token g lawful ended bytes steps at x place stack rows r known h =
     let counted = eat_entry g steps at (length (bytes_of r.token)) (Symbol x) stack (length rows) 1 h.counted (some_bytes (bytes_of r.token) (token_filled g x r.token r.is)) (omega arith) in
     let read = goes_on g ended bytes at (bytes_of r.token) r.rest stack _ piece (takes_token g steps lawful ended (take at bytes) r.rest x r.token stack rows r.is only reading) in
     let start : length (take at bytes) ≡ at = length-take-le at bytes h.within in
-    let row : token_row r.token (length (take at bytes)) (length rows) ≡ place_row place (length rows) =
-    ap (λ n. token_row r.token n (length rows)) start ∙ ap₂ (λ m n. record { rule = 65535; from = m; to = n; end = length rows + 1 }) (sym r.from) (sym r.to) in
-    let made : length (rows ++ place_row place (length rows) ∷ []) ≡ length rows + 1 = length-append rows (place_row place (length rows) ∷ []) in
+    let row : token_row r.token (symbols_left stack) (length (take at bytes)) (length rows) ≡ place_row (symbols_left stack) place (length rows) =
+    ap (λ n. token_row r.token (symbols_left stack) n (length rows)) start ∙ ap₂ (λ m n. record { rule = 65535; after = symbols_left stack; from = m; to = n; end = length rows + 1 }) (sym r.from) (sym r.to) in
+    let made : length (rows ++ place_row (symbols_left stack) place (length rows) ∷ []) ≡ length rows + 1 = length-append rows (place_row (symbols_left stack) place (length rows) ∷ []) in
     record {
       within = omega (arith, piece.within, r.end);
-      reading = subst (λ n. IsReading g (steps + 1) ended (take n bytes) (drop n bytes) stack (rows ++ place_row place (length rows) ∷ [])) (sym r.end)
+      reading = subst (λ n. IsReading g (steps + 1) ended (take n bytes) (drop n bytes) stack (rows ++ place_row (symbols_left stack) place (length rows) ∷ [])) (sym r.end)
           (subst (λ v. IsReading g (steps + 1) ended (take (at + length (bytes_of r.token)) bytes) (drop (at + length (bytes_of r.token)) bytes) stack (rows ++ v ∷ [])) row read);
-      counted = subst (λ n. IsCounted g (steps + 1) n stack (length (rows ++ place_row place (length rows) ∷ []))) (sym r.end) (subst (λ n. IsCounted g (steps + 1) (at + length (bytes_of r.token)) stack n) (sym made) counted);
+      counted = subst (λ n. IsCounted g (steps + 1) n stack (length (rows ++ place_row (symbols_left stack) place (length rows) ∷ []))) (sym r.end) (subst (λ n. IsCounted g (steps + 1) (at + length (bytes_of r.token)) stack n) (sym made) counted);
     }
 
 -- refusals at the place that is reached

@@ -29,8 +29,9 @@ unfolded listed frame (f ∷ fs) = entries_of (listed frame.place) ++ Close fram
 abbrev pub HasLast : List Frame → Frame → Type 0
 HasLast frames frame = (front : List Frame) × (frames ≡ front ++ frame ∷ [])
 
--- A rule is taken after whose kind the top frame goes on: its frame is then on top, or it is a leaf, whose row has ended.
-abbrev pub IsTaken : Rule → ℕ → Frame → ℕ → List Frame → List Row → Frame → List Frame → List Row → Type 0
-IsTaken rule place top at below rows frame deeper made =
-    ((deeper ≡ below ++ top ∷ []) × (frame ≡ rule_frame place (length rows)) × (made ≡ rows ++ open_row rule at at 0 ∷ []) × (0 < length (symbols_of rule)))
-    ⊎ ((rule.count ≡ 0) × (deeper ≡ below) × (frame ≡ top) × (made ≡ rows ++ open_row rule at (place_behind rule at) (length rows + 1) ∷ []))
+-- A rule is taken after whose kind the top frame goes on with so many symbols: its frame is then on top, or it is a leaf, whose row
+-- has ended.
+abbrev pub IsTaken : Rule → (place after : ℕ) → Frame → ℕ → List Frame → List Row → Frame → List Frame → List Row → Type 0
+IsTaken rule place after top at below rows frame deeper made =
+    ((deeper ≡ below ++ top ∷ []) × (frame ≡ rule_frame place (length rows)) × (made ≡ rows ++ open_row rule after at at 0 ∷ []) × (0 < length (symbols_of rule)))
+    ⊎ ((rule.count ≡ 0) × (deeper ≡ below) × (frame ≡ top) × (made ≡ rows ++ open_row rule after at (place_behind rule at) (length rows + 1) ∷ []))

@@ -1,5 +1,5 @@
 -- The rules of a grammar as code lists them: a row of letters for each kind, and the symbols of all rules in one list.
-use Rattle.std.specs.Prelude.{◌≡◌, ℕ, zero, suc, ◌+◌, ◌-◌, ◌<◌, nat_lt, nat_eq, List, [], ◌∷◌, drop, Option, Some, None, cond}
+use Rattle.std.specs.Prelude.{◌≡◌, ℕ, zero, suc, ◌+◌, ◌-◌, ◌<◌, nat_lt, nat_eq, List, [], ◌∷◌, length, drop, Option, Some, None, cond}
 use Rattle.std.specs.List.{slice_get}
 use Rattle.sym_shape.specs.declared.listing.TheConstants.{FIRST, BLANK}
 use Rattle.sym_shape.specs.declared.rule.Sym.{Sym}
@@ -23,6 +23,11 @@ up_to_end (Number kind ∷ xs) = Number kind ∷ up_to_end xs
 -- those of a list from a place on
 abbrev pub listed_in : List Sym → ℕ → List Sym
 listed_in symbols place = up_to_end (drop place symbols)
+
+-- how many symbols of its rule come after each one of a list
+abbrev pub counts_after : List Sym → List ℕ
+counts_after [] = []
+counts_after (x ∷ xs) = length (up_to_end xs) ∷ counts_after xs
 
 -- the letter that is at a place of a row, if one is
 unfoldable pub unless_blank : Option ℕ → Option ℕ

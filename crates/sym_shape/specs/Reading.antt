@@ -33,8 +33,8 @@ closed (row ∷ rows) zero at end = record row { to = at; end = end } ∷ rows
 closed (row ∷ rows) (suc i) at end = row ∷ closed rows i at end
 
 -- the row of a rule, before it is ended
-abbrev pub open_row : Rule → ℕ → ℕ → ℕ → Row
-open_row rule at to end = record { rule = rule.number; from = at; to = to; end = end }
+abbrev pub open_row : Rule → (after at to end : ℕ) → Row
+open_row rule after at to end = record { rule = rule.number; after = after; from = at; to = to; end = end }
 
 -- after the byte that a rule takes, or at the same place
 abbrev pub place_behind : Rule → ℕ → ℕ
@@ -45,19 +45,25 @@ abbrev pub rule_stack : List Entry → ℕ → Rule → List Entry
 rule_stack stack number rule = entries_of (symbols_of rule) ++ Close number ∷ stack
 
 -- the row of a token, by its place
-abbrev pub place_row : TokenPlace → ℕ → Row
-place_row place number = record { rule = TOKEN; from = place.from; to = place.to; end = number + 1 }
+abbrev pub place_row : (after : ℕ) → TokenPlace → (number : ℕ) → Row
+place_row after place number = record { rule = TOKEN; after = after; from = place.from; to = place.to; end = number + 1 }
 
 -- the rows of a rule at a place whose only symbol is a token, and of the token
-abbrev pub lone_rows : Rule → ℕ → TokenPlace → ℕ → List Row
-lone_rows rule at place number = open_row rule at place.end (number + 2) ∷ place_row place (number + 1) ∷ []
+abbrev pub lone_rows : Rule → (after at : ℕ) → TokenPlace → (number : ℕ) → List Row
+lone_rows rule after at place number = open_row rule after at place.end (number + 2) ∷ place_row 0 place (number + 1) ∷ []
+
+-- how many symbols of the same rule are to be read
+abbrev pub symbols_left : List Entry → ℕ
+symbols_left [] = 0
+symbols_left (Close i ∷ es) = 0
+symbols_left (Symbol x ∷ es) = 1 + symbols_left es
 
 -- the rows once these trees are read for the symbols on the stack
 abbrev pub finished : List Entry → Forest → ℕ → List Row → List Row
 finished [] f at rows = rows
 finished (Close i ∷ es) f at rows = finished es f at (closed rows i at (length rows))
 finished (Symbol x ∷ es) nothing at rows = rows
-finished (Symbol x ∷ es) (grown t f) at rows = finished es f (at + length (spell t)) (rows ++ rows_of t at (length rows))
+finished (Symbol x ∷ es) (grown t f) at rows = finished es f (at + length (spell t)) (rows ++ rows_of t (symbols_left es) at (length rows))
 
 -- the steps to take where these trees are read for the symbols on the stack
 abbrev pub steps_left : List Entry → Forest → ℕ
@@ -89,7 +95,7 @@ Agrees ended (b ∷ q) w = (rest : List ℕ) × (w ≡ b ∷ rest)
 
 -- a tree of the start kind spells p and then what the forest spells, and these are its rows and its steps
 abbrev pub IsCompleted : Table → List ℕ → List ℕ → List Row → ℕ → Type 0
-IsCompleted g p w rows steps = (tree : Tree) × IsTree g (Kind 0) tree × (spell tree ≡ p ++ w) × (rows ≡ rows_of tree 0 0) × (steps ≡ read_steps tree)
+IsCompleted g p w rows steps = (tree : Tree) × IsTree g (Kind 0) tree × (spell tree ≡ p ++ w) × (rows ≡ rows_of tree 0 0 0) × (steps ≡ read_steps tree)
 
 -- these symbols spell the bytes
 abbrev pub Spell : Table → List Sym → List ℕ → Type 0

@@ -98,21 +98,26 @@ abbrev mutual
   read_steps_all nothing = 0
   read_steps_all (grown tree rest) = read_steps tree + read_steps_all rest
 
--- the rows of a tree that begins at a place, the first of them with this number
-abbrev mutual
-  pub rows_of : Tree → ℕ → ℕ → List Row
-  rows_of (branch rule taken parts) at number =
-      record { rule = rule.number; from = at; to = at + length (taken ++ spell_all parts); end = number + 1 + row_count_all parts }
-      ∷ rows_of_all parts (at + length taken) (number + 1)
-  rows_of empty at number = []
-  rows_of (token t) at number =
-      record { rule = TOKEN; from = at + length t.before; to = at + length t.before + length t.own; end = number + 1 } ∷ []
-  rows_of (fixed byte) at number = []
+-- how many trees there are
+abbrev pub tree_count : Forest → ℕ
+tree_count nothing = 0
+tree_count (grown tree rest) = 1 + tree_count rest
 
-  pub rows_of_all : Forest → ℕ → ℕ → List Row
+-- the rows of a tree after which there are so many others in its rule, and which begins at a place, the first row with this number
+abbrev mutual
+  pub rows_of : Tree → (after at number : ℕ) → List Row
+  rows_of (branch rule taken parts) after at number =
+      record { rule = rule.number; after = after; from = at; to = at + length (taken ++ spell_all parts); end = number + 1 + row_count_all parts }
+      ∷ rows_of_all parts (at + length taken) (number + 1)
+  rows_of empty after at number = []
+  rows_of (token t) after at number =
+      record { rule = TOKEN; after = after; from = at + length t.before; to = at + length t.before + length t.own; end = number + 1 } ∷ []
+  rows_of (fixed byte) after at number = []
+
+  pub rows_of_all : Forest → (at number : ℕ) → List Row
   rows_of_all nothing at number = []
   rows_of_all (grown tree rest) at number =
-      rows_of tree at number ++ rows_of_all rest (at + length (spell tree)) (number + row_count tree)
+      rows_of tree (tree_count rest) at number ++ rows_of_all rest (at + length (spell tree)) (number + row_count tree)
 
 -- so many steps the reader takes for the one tree that spells the symbol
 abbrev pub AreStepsOf : Table → List ℕ → ℕ → Type 0
@@ -120,4 +125,4 @@ AreStepsOf g s steps = (tree : Tree) → IsTree g (Kind 0) tree → spell tree �
 
 -- these are the rows of the one tree that spells the symbol
 abbrev pub AreRowsOf : Table → List ℕ → List Row → Type 0
-AreRowsOf g s rows = (tree : Tree) × IsTree g (Kind 0) tree × (spell tree ≡ s) × (rows ≡ rows_of tree 0 0)
+AreRowsOf g s rows = (tree : Tree) × IsTree g (Kind 0) tree × (spell tree ≡ s) × (rows ≡ rows_of tree 0 0 0)

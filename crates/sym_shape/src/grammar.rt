@@ -1,5 +1,5 @@
 // What a grammar tells the reader.
-ghost use Rattle.std.specs.Prelude.{◌≡◌, ℕ, ◌<◌, ◌∷◌, [], List, IfSome, MatchOption};
+ghost use Rattle.std.specs.Prelude.{◌≡◌, ℕ, ◌+◌, ◌<◌, ◌∷◌, [], List, length, IfSome, MatchOption};
 ghost use Rattle.sym_shape.specs.declared.rule.Sym.{Sym};
 ghost use Rattle.sym_shape.specs.declared.rule.Sym.TheVariants.{Kind};
 ghost use Rattle.sym_shape.specs.Listing.{StandsAt};
@@ -37,6 +37,11 @@ pub trait Grammar {
     /// The symbol at a place of the list, or none where a rule's symbols end.
     fn symbol(&self, place: u32) -> Option<Sym>
         ensures { MatchOption result (listed place ≡ []) (StandsAt listed place) };
+
+    /// How many symbols of its rule come after the one at a place.
+    fn after(&self, place: u32) -> u8
+        requires { (x : Sym) × StandsAt listed place x }
+        ensures { result ≡ length (listed (place + 1)) };
 
     /// Whether the kind may stand for no bytes.
     fn may_be_empty(&self, kind: u16) -> bool

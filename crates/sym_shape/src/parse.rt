@@ -86,8 +86,8 @@ fn behind(rule: &Rule, at: usize) -> usize
     if rule.eats { at + 1 } else { at }
 }
 
-/// Takes a rule whose symbols are at a place of the list, after whose kind the top frame goes on. The rule's frame is
-/// then on top, unless it is a leaf, whose row has ended.
+/// Takes a rule whose symbols are at a place of the list, after whose kind the top frame goes on, with so many symbols. The
+/// rule's frame is then on top, unless it is a leaf, whose row has ended.
 #[inline(always)]
 fn take_rule(
     below: &mut Vec<Frame>,
@@ -95,11 +95,12 @@ fn take_rule(
     top: &mut Frame,
     rule: &Rule,
     place: u32,
+    after: u8,
     at: usize,
 ) -> Result<(), Refusal>
     requires few { length rows.old.items + 1 < 2 ^ 32 }
     requires at { at + 1 < 2 ^ 32 }
-    ensures taken { OnOk result (IsTaken rule.now place top.old at below.old.items rows.old.items top.new below.new.items rows.new.items) }
+    ensures taken { OnOk result (IsTaken rule.now place after top.old at below.old.items rows.old.items top.new below.new.items rows.new.items) }
     ensures one { length rows.new.items ≤ length rows.old.items + 1 }
     ensures memory { OnErr result (result ≡ Err Refusal.Memory) }
     ensures keeps_rules { vec_capacity below.old ≤ vec_capacity below.new }
@@ -111,6 +112,7 @@ fn take_rule(
     if rule.count == 0 {
         rows.push(Row {
             rule: rule.number,
+            after,
             from,
             to: behind(rule, at) as u32,
             end: number + 1,
@@ -119,6 +121,7 @@ fn take_rule(
     }
     rows.push(Row {
         rule: rule.number,
+        after,
         from,
         to: from,
         end: 0,
@@ -129,12 +132,12 @@ fn take_rule(
     Ok(())
 }
 
-/// Puts a token's row after the others.
-fn push_token(rows: &mut Vec<Row>, place: TokenPlace) -> Result<(), Refusal>
+/// Puts the row of a token, after which its rule has so many symbols, after the others.
+fn push_token(rows: &mut Vec<Row>, after: u8, place: TokenPlace) -> Result<(), Refusal>
     requires few { length rows.old.items + 1 < 2 ^ 32 }
     requires own { place.from < 2 ^ 32 }
     requires place { place.to < 2 ^ 32 }
-    ensures row { OnOk result (rows.new.items ≡ rows.old.items ++ place_row place (length rows.old.items) ∷ []) }
+    ensures row { OnOk result (rows.new.items ≡ rows.old.items ++ place_row after place (length rows.old.items) ∷ []) }
     ensures one { length rows.new.items ≤ length rows.old.items + 1 }
     ensures memory { OnErr result (result ≡ Err Refusal.Memory) }
     ensures keeps { vec_capacity rows.old ≤ vec_capacity rows.new }
@@ -143,6 +146,7 @@ fn push_token(rows: &mut Vec<Row>, place: TokenPlace) -> Result<(), Refusal>
     let end = rows.len() as u32 + 1;
     rows.push(Row {
         rule: TOKEN,
+        after,
         from: place.from as u32,
         to: place.to as u32,
         end,
@@ -154,6 +158,7 @@ fn push_token(rows: &mut Vec<Row>, place: TokenPlace) -> Result<(), Refusal>
 fn push_rule_with_token(
     rows: &mut Vec<Row>,
     rule: &Rule,
+    after: u8,
     at: usize,
     place: TokenPlace,
 ) -> Result<(), Refusal>
@@ -162,7 +167,7 @@ fn push_rule_with_token(
     requires own { place.from < 2 ^ 32 }
     requires place { place.to < 2 ^ 32 }
     requires end { place.end < 2 ^ 32 }
-    ensures rows { OnOk result (rows.new.items ≡ rows.old.items ++ lone_rows rule.now at place (length rows.old.items)) }
+    ensures rows { OnOk result (rows.new.items ≡ rows.old.items ++ lone_rows rule.now after at place (length rows.old.items)) }
     ensures same { OnErr result (rows.new.items ≡ rows.old.items) }
     ensures memory { OnErr result (result ≡ Err Refusal.Memory) }
     ensures keeps { vec_capacity rows.old ≤ vec_capacity rows.new }
@@ -172,12 +177,14 @@ fn push_rule_with_token(
     rows.reserve(2)?;
     rows.push_reserved(Row {
         rule: rule.number,
+        after,
         from: at as u32,
         to: place.end as u32,
         end,
     });
     rows.push_reserved(Row {
         rule: TOKEN,
+        after: 0,
         from: place.from as u32,
         to: place.to as u32,
         end,
@@ -401,7 +408,8 @@ impl Parse {
                 Some(symbol) => {
                     match complete_token(grammar, symbol, bytes, behind(&rule, at), ended) {
                         Some(place) => {
-                            push_rule_with_token(&mut self.rows, &rule, at, place)?;
+                            let after = grammar.after(self.top.place);
+                            push_rule_with_token(&mut self.rows, &rule, after, at, place)?;
                             self.top.place += 1;
                             Ok(further(progress, place.end, 3))
                         }
@@ -410,6 +418,7 @@ impl Parse {
                 }
                 None => {
                     let place = grammar.place(kind, bytes[at]);
+                    let after = grammar.after(self.top.place);
                     self.top.place += 1;
                     take_rule(
                         &mut self.below,
@@ -417,6 +426,7 @@ impl Parse {
                         &mut self.top,
                         &rule,
                         place,
+                        after,
                         at,
                     )?;
                     Ok(further(progress, behind(&rule, at), 1))
@@ -458,7 +468,7 @@ impl Parse {
             },
             _ => match complete_token(grammar, symbol, bytes, progress.at, ended) {
                 Some(place) => {
-                    push_token(&mut self.rows, place)?;
+                    push_token(&mut self.rows, grammar.after(self.top.place), place)?;
                     self.top.place += 1;
                     Ok(further(progress, place.end, 1))
                 }
@@ -509,11 +519,11 @@ impl Parse {
             Some(Sym::Kind(kind)) => self.read_kind(grammar, kind, bytes, ended),
             Some(Sym::Name) => {
                 let found = find_name(bytes, self.at, grammar.name_class());
-                self.read_token::<G>(Sym::Name, found, bytes, ended)
+                self.read_token(grammar, Sym::Name, found, bytes, ended)
             }
             Some(Sym::Number(kind)) => {
                 let found = find_number(bytes, self.at, kind);
-                self.read_token::<G>(Sym::Number(kind), found, bytes, ended)
+                self.read_token(grammar, Sym::Number(kind), found, bytes, ended)
             }
         }
     }
@@ -591,6 +601,7 @@ impl Parse {
             Some(next) => match grammar.rule(kind, next) {
                 Some(rule) => {
                     let place = grammar.place(kind, next);
+                    let after = grammar.after(self.top.place);
                     self.top.place += 1;
                     take_rule(
                         &mut self.below,
@@ -598,6 +609,7 @@ impl Parse {
                         &mut self.top,
                         &rule,
                         place,
+                        after,
                         self.at,
                     )?;
                     self.at = behind(&rule, self.at);
@@ -634,6 +646,7 @@ impl Parse {
     /// Reads a token, or says where it breaks off. One that ends with the bytes may still go on.
     fn read_token<G: Grammar>(
         &mut self,
+        grammar: &G,
         symbol: Sym,
         found: Result<TokenPlace, usize>,
         bytes: &[u8],
@@ -650,7 +663,7 @@ impl Parse {
         match found {
             Ok(place) if may_go_on(place.end, bytes, ended) => Ok(true),
             Ok(place) => {
-                push_token(&mut self.rows, place)?;
+                push_token(&mut self.rows, grammar.after(self.top.place), place)?;
                 self.top.place += 1;
                 self.at = place.end;
                 Ok(false)

@@ -27,6 +27,8 @@ pub struct Rule {
 pub struct Row {
     /// The number of the rule, or `TOKEN`.
     pub rule: u16,
+    /// How many symbols of the rule around it come after the one that it was read for.
+    pub after: u8,
     /// Where the bytes of its subtree begin; of a name its own bytes, of a number its digits.
     pub from: u32,
     /// Where they end.

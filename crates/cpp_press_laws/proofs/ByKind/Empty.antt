@@ -22,7 +22,7 @@ use Rattle.cpp_press_laws.proofs.ByKind.Known.{KindRead, ShapeRead}
 nothing-read : (kind : Kind) → may_be_empty kind ≡ true → (around : Around) (state : State) → KindRead kind around nothing_there state state
 unfolding may_be_empty no_items discriminator_of text_of
 nothing-read Kind.MaybeSuffix may around state = (refl, tt)
-nothing-read Kind.SuffixMore may around state = tt
+nothing-read Kind.SuffixMore may around state = (refl, tt)
 nothing-read Kind.MaybeRestrict may around state = refl
 nothing-read Kind.MaybeVolatile may around state = refl
 nothing-read Kind.MaybeConst may around state = refl

@@ -1,5 +1,5 @@
 -- Encodings that were read fit: their names and types are read in surroundings of their own.
-use Rattle.std.proofs.Common.{◌≡◌, ℕ, ◌+◌, ◌<◌, ◌≤◌, inl, inr, length, List, [], ◌∷◌, ◌++◌, Bool, true, false, Some, Ok, refl, ap, sym, subst, ◌∙◌, arith, lit≤}
+use Rattle.std.proofs.Common.{◌≡◌, ℕ, ◌+◌, ◌<◌, ◌≤◌, inl, inr, length, List, [], ◌∷◌, ◌++◌, Bool, true, false, Ok, refl, ap, sym, subst, ◌∙◌, arith, lit≤}
 use Rattle.std.proofs.lemmas.Bool.{false≢true}
 use Rattle.std.proofs.lemmas.List.{append_assoc}
 use Rattle.sym_shape.specs.declared.rule.Sym.{Sym}
@@ -34,7 +34,7 @@ use Rattle.cpp_press_laws.proofs.Fits.Symbols.{StaysBehind, WholeFits, guard-fit
 use Rattle.cpp_press_laws.proofs.Fits.Sorts.{Meant, Later}
 use Rattle.cpp_press_laws.proofs.Fits.Places.{Ended, ended-as}
 use Rattle.cpp_press_laws.proofs.ByKind.LeafKinds.{own-byte, only-at}
-use Rattle.cpp_press_laws.proofs.ByKind.Known.{EncodingRead, SpecialRead, KindRead, BranchRead, InFront, ShapeRead, OpenedRead, opened-read, kind-comes}
+use Rattle.cpp_press_laws.proofs.ByKind.Known.{EncodingRead, SpecialRead, KindRead, BranchRead, InFront, ShapeRead, opened-read, by-parts}
 
 -- ## Candidates around an encoding and in it
 
@@ -260,45 +260,16 @@ encoding-branch rule taken parts all around at old v new front is e =
 
 -- ## What comes after a G
 
-special-name-read : (around : Around) (at : ℕ) (old : State) (v : Value) (new : State)
-    → OpenedRead Kind.SpecialAfterG around at old v new Production.SpecialName → KindRead Kind.SpecialAfterG around v old new
-unfolding alternatives parts_of between number_of_kind meaning part unfolding_.behind is_chain
-special-name-read around at old v new o outer =
-    let g = o.goes tt in
-    let byte : ℕ = byte_of o.taken in
-    let letter : byte ≡ 86 = own-byte Production.SpecialName o.taken o.byte o.takes refl ∙ only-at Kind.SpecialAfterG Production.SpecialName 86 refl o.byte o.chosen in
-    kind-comes Kind.SpecialAfterG Production.SpecialName tt byte around at old (g.value ∷ []) g.after v new g.onward
-    (λ out. (
-      g.value,
-      ap (λ b. tree (of_name b (tree_of g.value) (qualifiers_of g.value) (ref_of g.value)) true) letter,
-      g.read Kind.CompleteName refl out,
-    )) outer
-
 pub special-after-g-branch : BranchRead Kind.SpecialAfterG
-unfolding alternatives
+unfolding alternatives parts_of between number_of_kind meaning part unfolding_.behind is_chain
 special-after-g-branch rule taken parts all around at old v new front is e =
     let o = opened-read Kind.SpecialAfterG rule taken parts all around at old v new front is e in
-    special-name-read around at old v new o
+    let letter : byte_of o.taken ≡ 86 =
+    own-byte Production.SpecialName o.taken o.byte o.takes refl ∙ only-at Kind.SpecialAfterG Production.SpecialName 86 refl o.byte o.chosen in
+    by-parts (λ w s. KindRead Kind.SpecialAfterG around w old s) Production.SpecialName tt tt o (λ w s name outer.
+    (w, ap (λ b. tree (of_name b (tree_of w) (qualifiers_of w) (ref_of w)) true) letter, name Kind.CompleteName refl outer))
 
 -- ## What comes after a T
-
--- a type's table and the like
-special-type-read : (around : Around) (at : ℕ) (old : State) (v : Value) (new : State)
-    → OpenedRead Kind.Special around at old v new Production.SpecialType → KindRead Kind.Special around v old new
-unfolding parts_of between number_of_kind meaning part unfolding_.behind is_chain
-special-type-read around at old v new o outer =
-    let g = o.goes tt in
-    let byte : ℕ = byte_of o.taken in
-    let same : byte ≡ o.byte = own-byte Production.SpecialType o.taken o.byte o.takes refl in
-    kind-comes Kind.Special Production.SpecialType tt byte around at old (g.value ∷ []) g.after v new g.onward
-    (λ out. inl (
-      byte,
-      tree_of g.value,
-      refl,
-      subst (λ b. b < 256) (sym same) o.small,
-      subst (λ b. choose Kind.Special b ≡ Some Production.SpecialType) (sym same) o.chosen,
-      g.read Kind.Type refl out,
-    )) outer
 
 -- an encoding after offsets, which leave the state as it is
 thunk-read : (around : Around) (kind : Thunk) (v : Value) (old mid new : State) → IsSpellableThunk kind → mid ≡ old
@@ -306,56 +277,27 @@ thunk-read : (around : Around) (kind : Thunk) (v : Value) (old mid new : State) 
 thunk-read around kind v old mid new good same one =
     inr (kind, tree_of v, refl, good, subst (λ s. WholeFits around (tree_of v) s new) same one.fits)
 
-non-virtual-read : (around : Around) (at : ℕ) (old : State) (v : Value) (new : State)
-    → OpenedRead Kind.Special around at old v new Production.NonVirtualThunk → KindRead Kind.Special around v old new
-unfolding parts_of between number_of_kind meaning part unfolding_.behind
-non-virtual-read around at old v new o outer =
-    let n = o.goes tt in
-    let b = n.onward in
-    let e = b.onward in
-    let offset = n.read Kind.Integer refl in
-    kind-comes Kind.Special Production.NonVirtualThunk tt (byte_of o.taken) around at old (n.value ∷ b.value ∷ e.value ∷ []) e.after v new
-    e.onward
-    (λ out. thunk-read around (adjusting (non_virtual (signed_of n.value))) e.value old b.after e.after offset.1 (b.read.0 ∙ offset.0)
-    (e.read Kind.Encoding refl)) outer
-
-virtual-read : (around : Around) (at : ℕ) (old : State) (v : Value) (new : State)
-    → OpenedRead Kind.Special around at old v new Production.VirtualThunk → KindRead Kind.Special around v old new
-unfolding parts_of between number_of_kind meaning part unfolding_.behind
-virtual-read around at old v new o outer =
-    let n = o.goes tt in
-    let b = n.onward in
-    let m = b.onward in
-    let c = m.onward in
-    let e = c.onward in
-    let offset = n.read Kind.Integer refl in
-    let table = m.read Kind.Integer refl in
-    kind-comes Kind.Special Production.VirtualThunk tt (byte_of o.taken) around at old
-    (n.value ∷ b.value ∷ m.value ∷ c.value ∷ e.value ∷ []) e.after v new e.onward
-    (λ out. thunk-read around (adjusting (by_table (signed_of n.value) (signed_of m.value))) e.value old c.after e.after (offset.1, table.1)
-    (c.read.0 ∙ table.0 ∙ b.read.0 ∙ offset.0) (e.read Kind.Encoding refl)) outer
-
-covariant-read : (around : Around) (at : ℕ) (old : State) (v : Value) (new : State)
-    → OpenedRead Kind.Special around at old v new Production.CovariantThunk → KindRead Kind.Special around v old new
-unfolding parts_of between number_of_kind meaning part unfolding_.behind
-covariant-read around at old v new o outer =
-    let a = o.goes tt in
-    let b = a.onward in
-    let e = b.onward in
-    let this = a.read Kind.CallOffset refl in
-    let result = b.read Kind.CallOffset refl in
-    kind-comes Kind.Special Production.CovariantThunk tt (byte_of o.taken) around at old (a.value ∷ b.value ∷ e.value ∷ []) e.after v new
-    e.onward
-    (λ out. thunk-read around (covariant (adjustment_of a.value) (adjustment_of b.value)) e.value old b.after e.after (this.1, result.1)
-    (result.0 ∙ this.0) (e.read Kind.Encoding refl)) outer
-
--- what follows a T, where its parts were read so
+-- a type's table and the like, and thunks, where their parts were read so
 pub special-branch : BranchRead Kind.Special
-unfolding alternatives
+unfolding alternatives parts_of between number_of_kind meaning part unfolding_.behind is_chain
 special-branch rule taken parts all around at old v new front is e =
     elim (opened-read Kind.Special rule taken parts all around at old v new front is e) [
-      | inl o ↦ special-type-read around at old v new o
-      | inr (inl o) ↦ non-virtual-read around at old v new o
-      | inr (inr (inl o)) ↦ virtual-read around at old v new o
-      | inr (inr (inr o)) ↦ covariant-read around at old v new o
+      | inl o ↦
+          let same : byte_of o.taken ≡ o.byte = own-byte Production.SpecialType o.taken o.byte o.takes refl in
+          by-parts (λ w s. KindRead Kind.Special around w old s) Production.SpecialType tt tt o (λ w s type outer.
+          inl (byte_of o.taken, tree_of w, refl, omega (arith, same, o.small), ap (choose Kind.Special) same ∙ o.chosen, type Kind.Type refl outer))
+      | inr (inl o) ↦ by-parts (λ w s. KindRead Kind.Special around w old s) Production.NonVirtualThunk tt tt o (λ n s read b t mark w u one outer.
+          let offset = read Kind.Integer refl in
+          thunk-read around (adjusting (non_virtual (signed_of n))) w old t u offset.1 (mark.0 ∙ offset.0) (one Kind.Encoding refl))
+      | inr (inr (inl o)) ↦ by-parts (λ w s. KindRead Kind.Special around w old s) Production.VirtualThunk tt tt o
+          (λ n s read b t mark m u more c r end w q one outer.
+          let offset = read Kind.Integer refl in
+          let table = more Kind.Integer refl in
+          thunk-read around (adjusting (by_table (signed_of n) (signed_of m))) w old r q (offset.1, table.1)
+          (end.0 ∙ table.0 ∙ mark.0 ∙ offset.0) (one Kind.Encoding refl))
+      | inr (inr (inr o)) ↦ by-parts (λ w s. KindRead Kind.Special around w old s) Production.CovariantThunk tt tt o
+          (λ a s read b t more w u one outer.
+          let this = read Kind.CallOffset refl in
+          let result = more Kind.CallOffset refl in
+          thunk-read around (covariant (adjustment_of a) (adjustment_of b)) w old t u (this.1, result.1) (result.0 ∙ this.0) (one Kind.Encoding refl))
     ]

@@ -30,7 +30,7 @@ use Rattle.cpp_grammar.proofs.Growing.{same_choice, each_below, below as below_,
 use Rattle.cpp_press_laws.proofs.ByKind.AbiTrees.{known, tree_good}
 use Rattle.cpp_press_laws.specs.Pressing.{is_encoding}
 use Rattle.cpp_press_laws.specs.Fits.{in_type, in_name_with, any_type, names_type, begins_name, names_function, IsSpellableOffset, IsSpellableThunk, IsSpellableDiscriminator, IsSpellableSuffix}
-use Rattle.cpp_press_laws.specs.Spellable.{IsSpellableName, IsSpellableNumber}
+use Rattle.cpp_press_laws.specs.Spellable.{IsSpellableName, IsSpellableNumber, AreSuffixBytes}
 use Rattle.cpp_press_laws.proofs.ByKind.Leaves.{name-read}
 use Rattle.cpp_press_laws.proofs.ByKind.LeafKinds.{byte-read, number-read}
 use Rattle.cpp_press_laws.proofs.ByKind.Steps.{lambdas-go}
@@ -86,8 +86,8 @@ GuardRead around v old new =
 abbrev pub KindRead : Kind → Around → Value → (old new : State) → Type 0
 KindRead Kind.Symbol around v old new = Unit {0}
 KindRead Kind.MaybeSuffix around v old new = (new ≡ old) × IsSpellableSuffix (text_of v)
-KindRead Kind.SuffixFirst around v old new = Unit {0}
-KindRead Kind.SuffixMore around v old new = Unit {0}
+KindRead Kind.SuffixFirst around v old new = (new ≡ old) × IsSpellableSuffix (46 ∷ text_of v)
+KindRead Kind.SuffixMore around v old new = (new ≡ old) × AreSuffixBytes (text_of v)
 KindRead Kind.Encoding around v old new = EncodingRead around v old new
 KindRead Kind.Special around v old new = around.prefix ≡ outermost → SpecialRead around v old new
 KindRead Kind.SpecialMark around v old new = new ≡ old
@@ -510,13 +510,6 @@ pub fits-by-parts : (k : Kind) (p : Production) → IsPlain p → StaysInside p 
     → Parts p around at (λ ws t. KindFits k around (Meant p (byte_of o.taken) around ws) old (Later p (byte_of o.taken) around old ws t)) (parts_of p) [] old
     → KindFits k around v old new
 fits-by-parts k p plain stays {kind} {around} {at} {old} {v} {new} o holds = by-parts (λ w s. KindFits k around w old s) p plain stays o holds
-
--- of a kind
-pub kind-comes : (kind : Kind) (p : Production) → IsPlain p → (byte : ℕ) (around : Around) (at : ℕ) (old : State) (vs : List Value)
-    (mid : State) (v : Value) (new : State) → close p byte around at old vs mid ≡ Ok (found v new)
-    → KindRead kind around (Meant p byte around vs) old (Later p byte around old vs mid) → KindRead kind around v old new
-kind-comes kind p plain byte around at old vs mid v new e one =
-    comes-as (λ w s. KindRead kind around w old s) p plain byte around at old vs mid v new e one
 
 -- what is known of each branch of a kind, where its parts were read
 abbrev pub BranchTo : Kind → (Around → Value → (old new : State) → Type 0) → Type 0

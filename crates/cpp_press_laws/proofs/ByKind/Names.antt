@@ -1,10 +1,8 @@
 -- Names that were read, with or without arguments: as types, and as an encoding's own name.
-use Rattle.std.proofs.Common.{◌≡◌, ℕ, ◌+◌, ◌-◌, inl, inr, length, [], ◌∷◌, Bool, true, false, refl, ap, sym, subst}
+use Rattle.std.proofs.Common.{◌≡◌, ℕ, ◌-◌, inl, inr, Bool, true, false, refl, ap, sym, subst}
 use Rattle.sym_shape.specs.declared.rule.Sym.TheVariants.{Kind as OfKind}
-use Rattle.sym_shape.specs.Tree.{spell}
 use Rattle.cpp_grammar.specs.declared.kind.Kind.{Kind}
 use Rattle.cpp_grammar.specs.declared.production.Production.{Production}
-use Rattle.cpp_grammar.specs.KindNumbers.{ARGUMENTS_ALONE}
 use Rattle.cpp_grammar.specs.Grammar.{alternatives, number_of_kind, parts_of}
 use Rattle.cpp_grammar.specs.Term.{Term, in_std, parameter}
 use Rattle.cpp_grammar.specs.Values.{State, outermost, Around, prefix_tree, prefix_listed, Value, tree, tree_of, piece_of, is_listed, is_there, qualifiers_of, ref_of, part}
@@ -23,7 +21,7 @@ use Rattle.cpp_press_laws.proofs.Fits.Sorts.{NameRead, KindFits}
 use Rattle.cpp_press_laws.proofs.Fits.Typed.{abbreviated-type, name-type, parameter-name}
 use Rattle.cpp_press_laws.proofs.Fits.Own.{piece-solid, piece-own, nest-solid, std-own, named-own}
 use Rattle.cpp_press_laws.proofs.ByKind.Pieces.{type-begins, begins-function}
-use Rattle.cpp_press_laws.proofs.ByKind.Known.{OwnNameRead, InFront, PartRead, PartsRead, OpenedRead, opened-read, comes-as, by-parts, BranchRead}
+use Rattle.cpp_press_laws.proofs.ByKind.Known.{OwnNameRead, InFront, OpenedRead, opened-read, by-parts, BranchRead}
 use Rattle.cpp_press_laws.proofs.ByKind.Pieced.{PieceRead, renamed, source-comes, internal-comes, local-type-comes, operator-comes}
 use Rattle.cpp_press_laws.proofs.ByKind.Nests.{parameter-goes}
 
@@ -111,16 +109,10 @@ pub parameter-solid : (takes : Slot → Bool) (kind : Kind) (around : Around) (a
     → OpenedRead kind around at old v new Production.Parameter → SolidFits takes around v old new
 unfolding parts_of number_of_kind between tree_of is_listed meaning part unfolding_.behind parameter_so_far parameter_named listed_so_far
 parameter-solid takes kind around at old v new front outer o =
-    let a = o.goes tt in
-    let k : ℕ = index_of a.value in
-    parameter-goes around at k a.after (λ next. PartRead (OfKind ARGUMENTS_ALONE) a.others (at + length o.taken + length (spell a.shape)) next
-    (PartsRead Production.Parameter (byte_of o.taken) around at old v new [])) (SolidFits takes around v old new)
-    (λ s named b. comes-as (λ w u. SolidFits takes around w old u) Production.Parameter tt (byte_of o.taken) around at old
-    (tree (parameter k) true ∷ b.value ∷ []) b.after v new b.onward
-    (name-type takes around (tree (parameter k) true) b.value old s b.after
-    (parameter-name around k old s (subst (λ u. ParameterNamed around k u s) a.read.0 named) front.placed.lambda)
-    (b.read Kind.ArgumentsAlone refl)))
-    a.onward
+    by-parts (λ w s. SolidFits takes around w old s) Production.Parameter tt tt o (λ w s digits. parameter-goes around at (index_of w) s _ (λ t named b q more.
+    name-type takes around (tree (parameter (index_of w)) true) b old t q
+    (parameter-name around (index_of w) old t (subst (λ u. ParameterNamed around (index_of w) u t) digits.0 named) front.placed.lambda)
+    (more Kind.ArgumentsAlone refl)))
 
 -- a parameter as an argument, after the T
 parameter-argument : (around : Around) (at : ℕ) (old : State) (v : Value) (new : State)
@@ -128,16 +120,11 @@ parameter-argument : (around : Around) (at : ℕ) (old : State) (v : Value) (new
     → OpenedRead Kind.ArgumentAfterT around at old v new Production.ParameterArgument → SolidFits takes_all around v old new
 unfolding parts_of number_of_kind between tree_of is_listed meaning part unfolding_.behind parameter_so_far parameter_named listed_so_far
 parameter-argument around at old v new front o =
-    let a = o.goes tt in
-    let k : ℕ = index_of a.value in
-    parameter-goes around (at - 1) k a.after (λ next. PartRead (OfKind ARGUMENTS_ALONE) a.others (at + length o.taken + length (spell a.shape)) next
-    (PartsRead Production.ParameterArgument (byte_of o.taken) around at old v new [])) (SolidFits takes_all around v old new)
-    (λ s named b. comes-as (λ w u. SolidFits takes_all around w old u) Production.ParameterArgument tt (byte_of o.taken) around at old
-    (tree (parameter k) true ∷ b.value ∷ []) b.after v new b.onward
-    (name-type takes_all around (tree (parameter k) true) b.value old s b.after
-    (parameter-name around k old s (subst (λ u. ParameterNamed around k u s) a.read.0 named) front.placed.lambda)
-    (b.read Kind.ArgumentsAlone refl)))
-    a.onward
+    by-parts (λ w s. SolidFits takes_all around w old s) Production.ParameterArgument tt tt o (λ w s digits.
+    parameter-goes around (at - 1) (index_of w) s _ (λ t named b q more.
+    name-type takes_all around (tree (parameter (index_of w)) true) b old t q
+    (parameter-name around (index_of w) old t (subst (λ u. ParameterNamed around (index_of w) u t) digits.0 named) front.placed.lambda)
+    (more Kind.ArgumentsAlone refl)))
 
 pub argument-after-t-branch : BranchRead Kind.ArgumentAfterT
 unfolding alternatives

@@ -1,12 +1,9 @@
 -- Names between N and E that were read, part by part: what is read after the name so far makes a name that fits in each of its ways.
-use Rattle.std.proofs.Common.{◌≡◌, ℕ, ◌+◌, inl, inr, length, [], ◌∷◌, Bool, true, false, Result, Ok, Err, refl, sym, subst}
+use Rattle.std.proofs.Common.{◌≡◌, ℕ, inl, inr, [], ◌∷◌, Bool, true, false, Result, Ok, Err, refl, sym, subst}
 use Rattle.sym_core.specs.declared.refusal.Refusal.{Refusal}
-use Rattle.sym_shape.specs.declared.rule.Sym.TheVariants.{Kind as OfKind}
-use Rattle.sym_shape.specs.Tree.{spell}
 use Rattle.sym_link.specs.Reading.{Next, ◌>>=◌}
 use Rattle.cpp_grammar.specs.declared.kind.Kind.{Kind}
 use Rattle.cpp_grammar.specs.declared.production.Production.{Production}
-use Rattle.cpp_grammar.specs.KindNumbers.{NEST_REST_ALONE}
 use Rattle.cpp_grammar.specs.Grammar.{alternatives, number_of_kind, parts_of}
 use Rattle.cpp_grammar.specs.Term.{Term, in_std, instance, parameter, source}
 use Rattle.cpp_grammar.specs.Values.{State, Around, prefix_tree, prefix_listed, Value, tree, tree_of, piece_of, text_of, part}
@@ -14,7 +11,6 @@ use Rattle.cpp_grammar.specs.References.{appended, with_prefix, parameter_named}
 use Rattle.cpp_grammar.specs.Between.{after, inside, extended, applied, no_items, named_so_far, listed_so_far, parameter_so_far, index_of, between}
 use Rattle.cpp_grammar.specs.Meaning.{meaning}
 use Rattle.cpp_grammar.specs.Unfolding as unfolding_
-use Rattle.cpp_grammar.specs.Unfolding.{byte_of}
 use Rattle.cpp_press_laws.specs.Pressing.{is_encoding}
 use Rattle.cpp_press_laws.specs.Fits.{begins_name, names_type, names_function, names_member}
 use Rattle.cpp_press_laws.proofs.Fits.Read.{Wherever}
@@ -24,8 +20,8 @@ use Rattle.cpp_press_laws.proofs.Fits.Solids.{LambdasAreBare, ParameterNamed, pa
 use Rattle.cpp_press_laws.proofs.Fits.Rests.{NestRead, SoFarFits, component-read, std-read}
 use Rattle.cpp_press_laws.proofs.Fits.Firsts.{BeginsName, named-so-far, parameter-so-far, piece-so-far, arguments-so-far}
 use Rattle.cpp_press_laws.proofs.ByKind.Pieces.{type-begins, begins-function, function-member}
-use Rattle.cpp_press_laws.proofs.ByKind.Rules.{OneOf, OnGoing}
-use Rattle.cpp_press_laws.proofs.ByKind.Known.{KindRead, PartRead, PartsRead, OpenedRead, opened-read, comes-as, by-parts, BranchRead}
+use Rattle.cpp_press_laws.proofs.ByKind.Rules.{OneOf}
+use Rattle.cpp_press_laws.proofs.ByKind.Known.{KindRead, OpenedRead, opened-read, by-parts, BranchRead, Unless}
 use Rattle.cpp_press_laws.proofs.ByKind.Pieced.{PieceRead, renamed, name-piece, source-comes, internal-comes, local-type-comes, other-operator-comes, operator-with-c-comes, constructor-comes, destructor-comes}
 
 -- ## After a name
@@ -182,32 +178,25 @@ nest-piece around p old mid w new begins names one rest =
     rest around (extended around.prefix p) false old refl (piece-so-far around p old mid begins names one)
 
 -- what follows after a parameter, which was named
-pub parameter-goes : (around : Around) (at k : ℕ) (state : State) (rest : Next Value State Around → Type 0) (R : Type 0)
+pub parameter-goes : (around : Around) (at k : ℕ) (state : State) (rest : Next Value State Around → Type 0)
     → ((s : State) → ParameterNamed around k state s
-    → rest (record { values = tree (parameter k) true ∷ []; context = after (parameter k) true around; state = s }) → R)
-    → OnGoing (parameter_so_far around at k [] state) rest → R
+    → rest (record { values = tree (parameter k) true ∷ []; context = after (parameter k) true around; state = s }))
+    → Unless (parameter_so_far around at k [] state) rest
 unfolding parameter_so_far listed_so_far
-parameter-goes around at k state rest R further goes = go (parameter_named around at k state) refl goes
+parameter-goes around at k state rest further = go (parameter_named around at k state) refl
   where
-    go : (r : Result State Refusal) → parameter_named around at k state ≡ r
-        → OnGoing (r >>= λ s. listed_so_far around (parameter k) [] s) rest → R
-    go (Ok s) is h = further s (parameter-names around at k state s is) h
-    go (Err d) is h = absurd h
+    go : (r : Result State Refusal) → parameter_named around at k state ≡ r → Unless (r >>= λ s. listed_so_far around (parameter k) [] s) rest
+    go (Ok s) is = further s (parameter-names around at k state s is)
+    go (Err d) is = tt
 
 -- a parameter that wasn't refused
 nest-parameter : (around : Around) (at : ℕ) (old : State) (v : Value) (new : State) → LambdasAreBare around
     → OpenedRead Kind.Nest around at old v new Production.NestParameter → NestRead around v old new
 unfolding parts_of number_of_kind between parameter_so_far listed_so_far meaning part unfolding_.behind
 nest-parameter around at old v new bare o =
-    let a = o.goes tt in
-    let k : ℕ = index_of a.value in
-    parameter-goes around at k a.after (λ next. PartRead (OfKind NEST_REST_ALONE) a.others (at + length o.taken + length (spell a.shape)) next
-    (PartsRead Production.NestParameter (byte_of o.taken) around at old v new [])) (NestRead around v old new)
-    (λ s named b. comes-as (λ w u. NestRead around w old u) Production.NestParameter tt (byte_of o.taken) around at old
-    (tree (parameter k) true ∷ b.value ∷ []) b.after v new b.onward
-    (b.read Kind.NestRestAlone refl around (parameter k) true old refl
-    (parameter-so-far around k old s (subst (λ u. ParameterNamed around k u s) a.read.0 named) bare)))
-    a.onward
+    by-parts (λ w s. NestRead around w old s) Production.NestParameter tt tt o (λ w s digits. parameter-goes around at (index_of w) s _ (λ t named b q more.
+    more Kind.NestRestAlone refl around (parameter (index_of w)) true old refl
+    (parameter-so-far around (index_of w) old t (subst (λ u. ParameterNamed around (index_of w) u t) digits.0 named) bare)))
 
 pub nest-branch : BranchRead Kind.Nest
 unfolding alternatives parts_of number_of_kind between named_so_far begins_name meaning part unfolding_.behind

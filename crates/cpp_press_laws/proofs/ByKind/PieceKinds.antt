@@ -1,4 +1,4 @@
--- The pieces of names that were read, of each kind, and the leaves, as it is known of their kinds.
+-- The pieces of names that were read, as it is known of their kinds.
 use Rattle.std.proofs.Common.{◌≡◌, ℕ, ◌+◌, ◌-◌, ◌<◌, inl, inr, length, List, [], ◌∷◌, Bool, true, false, slice_get, Some, Result, Ok, Err, refl, ap, arith, lit≤, sym, subst, ◌∙◌}
 use Rattle.std.specs.Prelude.{nat_lt, ◌^◌}
 use Rattle.std.proofs.lemmas.Bool.{false≢true}
@@ -29,10 +29,10 @@ use Rattle.cpp_press_laws.proofs.Fits.Names.{PieceFits}
 use Rattle.cpp_press_laws.proofs.ByKind.Rules.{OneOf, OnGoing}
 use Rattle.cpp_press_laws.proofs.ByKind.Leaves.{leaf-same}
 use Rattle.cpp_press_laws.proofs.ByKind.Pieces.{source-fits, operator-fits, literal-operator-fits, unnamed-fits, ShutOrInside, lambda-fits, begins-function}
-use Rattle.cpp_press_laws.proofs.ByKind.LeafKinds.{own-byte, LetterRead, mark-read, letter-read, literal-letter-read, integer-read, offset-read, discriminator-read, discriminator-rest-read, OnlyMarks}
+use Rattle.cpp_press_laws.proofs.ByKind.LeafKinds.{own-byte, digits-behind}
 use Rattle.cpp_grammar.proofs.Growing.{same_choice, each_below}
 use Rattle.cpp_grammar.proofs.ClosedParts.{StaysInside}
-use Rattle.cpp_press_laws.proofs.ByKind.Known.{KindRead, MarkRead, PartRead, PartsRead, OpenedRead, opened-read, taken-among, comes-as, by-parts, BranchTo, BranchRead}
+use Rattle.cpp_press_laws.proofs.ByKind.Known.{KindRead, MarkRead, PartRead, PartsRead, OpenedRead, opened-read, taken-among, comes-as, by-parts, BranchRead}
 
 -- a piece of a name, of the sort that is there
 abbrev PieceAs : (names : Term → Bool) → Around → Value → (old new : State) → Type 0
@@ -249,15 +249,6 @@ last-digits (branch rule taken parts) f around at state v new is trees e digits 
 last-digits empty f around at state v new is trees e digits = absurd is
 last-digits (fixed b) f around at state v new is trees e digits = absurd is
 
--- other parts before it don't count
-digits-behind : (t : Shape) (f : Forest) (own : List ℕ) → ((digits : List ℕ) → last_token f digits ≡ own) → (digits : List ℕ)
-    → last_token (grown t f) digits ≡ own
-unfolding last_token
-digits-behind (token t) f own last digits = last t.own
-digits-behind (branch rule taken parts) f own last digits = last digits
-digits-behind empty f own last digits = last digits
-digits-behind (fixed b) f own last digits = last digits
-
 -- the same of the parts as they come before the rest
 digits-split : (f : Forest) (t : Shape) (others : Forest) (own : List ℕ) → f ≡ grown t others
     → ((digits : List ℕ) → last_token (grown t others) digits ≡ own) → (digits : List ℕ) → last_token f digits ≡ own
@@ -342,41 +333,4 @@ anonymous-branch rule taken parts all around at old v new front is e =
     elim (opened-read Kind.Anonymous rule taken parts all around at old v new front is e) [
       | inl o ↦ lambda-type around at old v new o
       | inr o ↦ unnamed-type around at old v new o
-    ]
-
--- ## Leaves
-
-pub integer-branch : BranchRead Kind.Integer
-integer-branch rule taken parts all around at old v new front is e = integer-read (branch rule taken parts) around at old new v is e
-
-pub call-offset-branch : BranchRead Kind.CallOffset
-call-offset-branch rule taken parts all around at old v new front is e = offset-read (branch rule taken parts) around at old new v is e
-
-pub discriminator-branch : BranchRead Kind.MaybeDiscriminator
-discriminator-branch rule taken parts all around at old v new front is e =
-    discriminator-read (branch rule taken parts) around at old new v is e
-
-pub discriminator-rest-branch : BranchRead Kind.DiscriminatorRest
-discriminator-rest-branch rule taken parts all around at old v new front is e =
-    discriminator-rest-read (branch rule taken parts) around at old new v is e
-
--- a kind of marks, of which nothing is asked
-pub mark-branch : (kind : Kind) → OnlyMarks (alternatives kind) → BranchTo kind (λ around v old new. new ≡ old)
-mark-branch kind only rule taken parts all around at old v new front is e = (mark-read kind only (branch rule taken parts) around at old new v is e).0
-
-marked : (kind : Kind) (v : Value) (old new : State) → (new ≡ old) × LetterRead kind v → MarkRead kind v old new
-marked kind v old new one = (one.0, one.1.0, one.1.1.0, one.1.1.1)
-
--- a kind of letters
-pub letter-branch : (kind : Kind) → OnlyMarks (alternatives kind) → abi.may_be_empty (number_of_kind kind) ≡ false
-    → BranchTo kind (λ around v old new. MarkRead kind v old new)
-letter-branch kind only full rule taken parts all around at old v new front is e =
-    marked kind v old new (letter-read kind only full (branch rule taken parts) around at old new v is e)
-
-pub operator-after-l-branch : BranchRead Kind.OperatorAfterL
-operator-after-l-branch rule taken parts all around at old v new front is e =
-    let one = literal-letter-read (branch rule taken parts) around at old new v is e in
-    elim one.1 [
-      | inl letter_ ↦ inl (marked Kind.OperatorAfterL v old new (one.0, letter_))
-      | inr name ↦ inr (name.0, one.0, name.1, name.2)
     ]

@@ -20,6 +20,7 @@ use Rattle.cpp_press_laws.proofs.Fits.Types.{may-closed}
 use Rattle.cpp_press_laws.proofs.Fits.Lists.{ParametersFit}
 use Rattle.cpp_press_laws.proofs.Fits.Names.{PieceFits}
 use Rattle.cpp_press_laws.proofs.Fits.Encodings.{stands-moved, functions-bare}
+use Rattle.std.proofs.Math.Bool.{and-true}
 
 -- ## Pieces without parts
 
@@ -95,10 +96,6 @@ functions-shut scope read [] (c ∷ cs) shut before inner = (
     go (inr here) (inr later) = absurd (omega (arith, here, later))
 functions-shut scope read (c ∷ cs) more shut before inner = (before.0, functions-shut scope read cs more shut before.1 inner.1)
 
-and-true : (b : Bool) → b && true ≡ false → b ≡ false
-and-true false h = refl
-and-true true h = h
-
 -- what is in the signature of a lambda has no free parameters, and nothing open is made there
 pub signature-fitted : (around : Around) (F : Fitting) (s : ℕ → Spelling) (t whole : Term) (old new : State) (more : List Candidate)
     → is_open whole ≡ is_open t → new.candidates ≡ old.candidates ++ more → ShutOrInside around.encoding more
@@ -115,7 +112,7 @@ signature-fitted around F s t whole old new more same grows shut one = record {
       }) allows in
       record {
         fits = p.fits;
-        may = may-closed (pressed_at n around) allowed whole (same ∙ and-true (is_open t) p.may.lambda);
+        may = may-closed (pressed_at n around) allowed whole (same ∙ sym (and-true (is_open t)) ∙ p.may.lambda);
         complete = p.complete;
         among = p.among;
         functions = subst (FunctionsStand around.scope around.encoding) (sym grows)
@@ -131,13 +128,10 @@ unfolding fits_of piece_fits fits_nowhere ways_of piece_ways no_ways is_open
 lambda-fits around t k old new more grows shut good one =
     let whole : Term = lambda t k in
     let end : List ℕ = codes "E" ++ ordinal (k - 1) in
-    let F : Fitting = λ inner. (fits_of t).as_parameters item_type (in_signature inner) in
     let s : ℕ → Spelling = λ n. (ways_of n t).as_parameters in
-    refitted around (λ inner allowed place cs. F inner allowed (place + 2) cs) ((fits_of whole).as_piece)
-    (λ n. text (codes "Ul") and s n and text end) whole whole old new (λ n allowed place cs fits. (fits, good)) (λ n allowed may. may)
-    (bytes-fitted around F (codes "Ul") (λ n. s n and text end) whole old new
-    (fitted-bytes around F s end whole old new
+    refitted (bytes-fitted (codes "Ul") (fitted-bytes end
     (signature-fitted around ((fits_of t).as_parameters item_type) s t whole old new more refl grows shut one)))
+    (λ n allowed place cs fits. (fits, good))
 
 -- ## Which pieces are where
 

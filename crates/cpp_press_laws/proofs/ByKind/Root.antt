@@ -1,24 +1,24 @@
 -- A symbol that was read fits from its first byte on, where its parts were read.
-use Rattle.std.proofs.Common.{◌≡◌, [], ◌∷◌, Ok, refl, ap, sym, subst, ◌∙◌, arith}
+use Rattle.std.proofs.Common.{◌≡◌, ℕ, List, [], ◌∷◌, None, Ok, refl, ap, sym, subst, ◌∙◌, arith}
 use Rattle.std.proofs.lemmas.Bool.{false≢true}
 use Rattle.sym_shape.specs.declared.rule.Sym.TheVariants.{Kind as OfKind}
 use Rattle.sym_shape.specs.Tree.{Tree as Shape, branch, empty, token, fixed, IsTree}
-use Rattle.sym_link.specs.Reading.{Found}
+use Rattle.sym_link.specs.Reading.{Found, ◌>>=◌}
 use Rattle.sym_link.specs.Unfold.{found, unfold_tree}
 use Rattle.cpp_grammar.specs.declared.kind.Kind.{Kind}
 use Rattle.cpp_grammar.specs.declared.production.Production.{Production}
 use Rattle.cpp_grammar.specs.Grammar.{number_of_kind, alternatives, parts_of, may_be_empty}
 use Rattle.cpp_grammar.specs.Table.{abi}
-use Rattle.cpp_grammar.specs.Term.{Term}
+use Rattle.cpp_grammar.specs.Term.{Term, symbol}
 use Rattle.cpp_grammar.specs.Values.{State, Value, tree_of, text_of, part}
 use Rattle.cpp_grammar.specs.Between.{between}
 use Rattle.cpp_grammar.specs.Meaning.{meaning}
-use Rattle.cpp_grammar.specs.Unfolding.{cpp, byte_of, first_around, first_state, first_tree, unfold_cpp}
+use Rattle.cpp_grammar.specs.Unfolding.{cpp, byte_of, behind, first_around, first_state, first_tree, unfold_cpp}
 use Rattle.cpp_grammar.proofs.Choosing.{empty_at_kind}
 use Rattle.cpp_grammar.proofs.ClosedStates.{ok_same, behind_bind}
 use Rattle.cpp_grammar.proofs.ClosedTrees.{is_encoding as holds_encoding}
 use Rattle.cpp_press_laws.specs.PressLaws.{IsReadFrom}
-use Rattle.cpp_press_laws.specs.Fits.{SymbolFits}
+use Rattle.cpp_press_laws.specs.Fits.{SymbolFits, IsSpellableSuffix}
 use Rattle.cpp_press_laws.proofs.ByKind.Rules.{all-of, kind-at, one-value}
 use Rattle.cpp_press_laws.proofs.ByKind.Packs.{shape-kept}
 use Rattle.cpp_press_laws.proofs.Fits.Rests.{symbol-fits}
@@ -34,9 +34,16 @@ first-front = record {
   prefix = tt;
 }
 
-symbol-arm : (v : Value) (new : State) → OpenedRead Kind.Symbol first_around 0 first_state v new Production.Symbol → SymbolFits (tree_of v)
-unfolding parts_of between meaning part tree_of first_around first_state
-symbol-arm v new o =
+-- what holds of an encoding that fits, with a suffix, and of the state after it
+abbrev pub OfSymbols : (Q : Term → State → Type 0) → Type 0
+OfSymbols Q =
+    (e : Term) (suffix : List ℕ) (new : State) → WholeFits first_around e first_state new → new.packs ≡ None → IsSpellableSuffix suffix
+    → Q (symbol e suffix) new
+
+symbol-arm : (Q : Term → State → Type 0) → OfSymbols Q → (v : Value) (new : State)
+    → OpenedRead Kind.Symbol first_around 0 first_state v new Production.Symbol → Q (tree_of v) new
+unfolding parts_of between meaning behind part tree_of first_around first_state
+symbol-arm Q each v new o =
     let a = o.goes tt in
     let b = a.onward in
     let c = b.onward in
@@ -44,33 +51,41 @@ symbol-arm v new o =
     let packs : b.after.packs ≡ a.after.packs =
     shape-kept b.shape first_around _ a.after (found (b.value ∷ []) b.after) refl b.unfolds in
     let before : a.after ≡ first_state = a.read.0 in
-    comes-as (λ w s. SymbolFits (tree_of w)) Production.Symbol tt (byte_of o.taken) first_around 0 first_state
-    (a.value ∷ b.value ∷ c.value ∷ [])
-    c.after v new c.onward
-    (symbol-fits (tree_of b.value) (text_of c.value) b.after
-    (subst (λ s. WholeFits first_around (tree_of b.value) s b.after) before e.fits) (packs ∙ ap (λ s. s.packs) before)
-    (c.read Kind.MaybeSuffix refl).1)
+    let last = c.read Kind.MaybeSuffix refl in
+    comes-as (λ w s. Q (tree_of w) s) Production.Symbol tt (byte_of o.taken) first_around 0 first_state
+    (a.value ∷ b.value ∷ c.value ∷ []) c.after v new c.onward
+    (subst (λ s. Q (symbol (tree_of b.value) (text_of c.value)) s) (sym last.0)
+    (each (tree_of b.value) (text_of c.value) b.after
+    (subst (λ s. WholeFits first_around (tree_of b.value) s b.after) before e.fits) (packs ∙ ap (λ s. s.packs) before) last.1))
 
--- what a symbol of the grammar is read as fits
-symbol-read : ((t : Shape) → ShapeRead t) → (shape : Shape) (v : Value) (new : State)
+-- so of what a symbol of the grammar is read as
+symbol-read : (Q : Term → State → Type 0) → OfSymbols Q → ((t : Shape) → ShapeRead t) → (shape : Shape) (v : Value) (new : State)
     → IsTree abi (OfKind (number_of_kind Kind.Symbol)) shape
-    → unfold_tree cpp first_around 0 shape first_state ≡ Ok (found (v ∷ []) new) → SymbolFits (tree_of v)
+    → unfold_tree cpp first_around 0 shape first_state ≡ Ok (found (v ∷ []) new) → Q (tree_of v) new
 unfolding alternatives may_be_empty
-symbol-read read (branch rule taken parts) v new is e =
+symbol-read Q each read (branch rule taken parts) v new is e =
     let o = opened-read Kind.Symbol rule taken parts (all-of ShapeRead read parts) first_around 0 first_state v new first-front is e in
-    symbol-arm v new o
-symbol-read read empty v new is e =
+    symbol-arm Q each v new o
+symbol-read Q each read empty v new is e =
     absurd (false≢true (sym (empty_at_kind (number_of_kind Kind.Symbol) Kind.Symbol (kind-at Kind.Symbol)) ∙ is))
-symbol-read read (token t) v new is e = absurd is
-symbol-read read (fixed b) v new is e = absurd is
+symbol-read Q each read (token t) v new is e = absurd is
+symbol-read Q each read (fixed b) v new is e = absurd is
 
--- what a symbol is read as fits, where every shape was read
-pub read-fits : ((t : Shape) → ShapeRead t) → (shape : Shape) (t : Term) → IsReadFrom shape t → SymbolFits t
+-- and of what a symbol is read as, where every shape was read
+pub read-as : (Q : Term → State → Type 0) → OfSymbols Q → ((t : Shape) → ShapeRead t) → (shape : Shape) (t : Term) → IsReadFrom shape t
+    → (r : Found (List Value) State) → unfold_tree cpp first_around 0 shape first_state ≡ Ok r → Q t r.state
 unfolding unfold_cpp first_tree number_of_kind
+read-as Q each read shape t (is, e) r unfolds =
+    let one = one-value shape first_around 0 first_state r unfolds in
+    let same : tree_of one.value ≡ t =
+    ap (λ w. first_tree (Found.value w)) (sym one.is) ∙ ok_same (first_tree r.value) t
+    (sym (ap (λ w. w >>= λ whole. Ok (first_tree whole.value)) unfolds) ∙ e) in
+    subst (λ u. Q u r.state) same
+    (symbol-read Q each read shape one.value r.state is (unfolds ∙ ap (λ w. Ok w) one.is))
+
+-- it fits
+pub read-fits : ((t : Shape) → ShapeRead t) → (shape : Shape) (t : Term) → IsReadFrom shape t → SymbolFits t
+unfolding unfold_cpp first_tree
 read-fits read shape t (is, e) =
     let whole = behind_bind (unfold_tree cpp first_around 0 shape first_state) (λ r. Ok (first_tree r.value)) t e in
-    let one = one-value shape first_around 0 first_state whole.value whole.is in
-    let same : tree_of one.value ≡ t =
-    ap (λ r. first_tree (Found.value r)) (sym one.is) ∙ ok_same (first_tree whole.value.value) t whole.next in
-    subst SymbolFits same
-    (symbol-read read shape one.value whole.value.state is (whole.is ∙ ap (λ r. Ok r) one.is))
+    read-as (λ u s. SymbolFits u) symbol-fits read shape t (is, e) whole.value whole.is

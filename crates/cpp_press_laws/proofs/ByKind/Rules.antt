@@ -233,18 +233,6 @@ mutual
   every-part P step none own byte nothing = tt
   every-part P step none own byte (grown t f) = (every-shape P step none own byte t, every-part P step none own byte f)
 
--- ## Values
-
--- what a production comes to after parts that came to this
-pub closed-as : (p : Production) (byte : ℕ) (around : Around) (at : ℕ) (began : State) (vs : List Value) (s : State)
-    (inner r : Found (List Value) State) (one : Found Value State) (m : Value) (new : State) → found vs s ≡ inner
-    → close p byte around at began vs s ≡ Ok (found m new) → close p byte around at began inner.value inner.state ≡ Ok one
-    → r ≡ found (one.value ∷ []) one.state → r ≡ found (m ∷ []) new
-closed-as p byte around at began vs s inner r one m new same means closes comes =
-    let whole : found m new ≡ one =
-    ok_same (found m new) one (sym means ∙ ap (λ i. close p byte around at began i.value i.state) same ∙ closes) in
-    comes ∙ ap (λ o. found (o.value ∷ []) o.state) (sym whole)
-
 -- what holds of all shapes holds of each of a forest
 pub all-of : (P : Shape → Type 0) → ((t : Shape) → P t) → (f : Forest) → AllOf P f
 all-of P holds nothing = tt

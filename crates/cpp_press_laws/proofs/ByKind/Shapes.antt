@@ -23,14 +23,14 @@ use Rattle.cpp_press_laws.proofs.Fits.Types.{complex-fits}
 use Rattle.cpp_press_laws.proofs.Fits.Lists.{parameters-fit, function-fits}
 use Rattle.cpp_press_laws.proofs.Fits.Solids.{vendor-fits}
 use Rattle.cpp_press_laws.proofs.ByKind.Rules.{AllOf, OneOf, every-shape}
-use Rattle.cpp_press_laws.proofs.ByKind.Suffixes.{suffix-read}
+use Rattle.cpp_press_laws.proofs.ByKind.LeafBranches.{letter-branch, mark-branch, operator-after-l-branch, integer-branch, call-offset-branch, discriminator-branch, discriminator-rest-branch, suffix-more-branch, suffix-first-branch, suffix-branch}
 use Rattle.cpp_press_laws.proofs.ByKind.Known.{InFront, ShapeRead, OpenedRead, opened-read, taken-among, BranchRead, fits-by-parts}
 use Rattle.cpp_press_laws.proofs.ByKind.Types.{type-branch, plain-branch, item-branch, argument-branch, parameter-branch, item-d-branch, after-d-branch}
 use Rattle.cpp_press_laws.proofs.ByKind.Solids.{builtin-arm, literal-arm, array-rest-branch, any-array-branch, pointer-arm, member-arm, function-rest-branch, after-r-branch, after-o-branch, items-branch}
 use Rattle.cpp_press_laws.proofs.ByKind.References.{abbreviation-branch}
 use Rattle.cpp_press_laws.proofs.ByKind.Empty.{empty-read}
 use Rattle.cpp_press_laws.proofs.ByKind.Root.{read-fits}
-use Rattle.cpp_press_laws.proofs.ByKind.PieceKinds.{mark-branch, letter-branch, source-or-local-branch, unqualified-branch, operator-branch, other-operator-branch, anonymous-branch, integer-branch, call-offset-branch, discriminator-branch, discriminator-rest-branch, operator-after-l-branch}
+use Rattle.cpp_press_laws.proofs.ByKind.PieceKinds.{source-or-local-branch, unqualified-branch, operator-branch, other-operator-branch, anonymous-branch}
 use Rattle.cpp_press_laws.proofs.ByKind.Arguments.{argument-list-branch, arguments-first-branch, pack-list-branch, literal-branch, literal-after-d-branch, addressed-literal-branch, addressed-branch, expression-after-a-branch, expression-branch}
 use Rattle.cpp_press_laws.proofs.ByKind.Nests.{nest-branch, nest-after-s-branch, nest-rest-branch, nest-rest-alone-branch, nest-rest-or-end-branch, nest-more-or-end-branch, nest-tail-branch, component-branch, component-after-c-branch, constructor-after-c-branch}
 use Rattle.cpp_press_laws.proofs.ByKind.Names.{arguments-branch, maybe-arguments-branch, arguments-alone-branch, argument-after-t-branch, type-after-s-branch, type-in-std-branch, maybe-tags-branch, name-after-s-branch, with-s-solid, parameter-solid, nested-solid, source-solid, local-type-name-solid, source-own, internal-own, local-type-own, operator-own, with-s-own}
@@ -101,7 +101,7 @@ literal-type-branch rule taken parts all around at old v new front is e outer =
       | inr (inr (inr (inr (inr (inr (inr (inr o))))))) ↦ source-solid takes_literals Kind.LiteralType around at old v new front outer o
     ]
 
--- ## Names of encodings, and suffixes
+-- ## Names of encodings
 
 complete-name-branch : BranchRead Kind.CompleteName
 unfolding alternatives
@@ -116,18 +116,14 @@ complete-name-branch rule taken parts all around at old v new front is e outer =
       | inr (inr (inr (inr (inr (inr o))))) ↦ source-own around at old v new outer o
     ]
 
-suffix-branch : BranchRead Kind.MaybeSuffix
-unfolding number_of_kind
-suffix-branch rule taken parts all around at old v new front is e = suffix-read (branch rule taken parts) around at old new v is e
-
 -- ## All kinds
 
 kind-branch : (kind : Kind) → BranchRead kind
 unfolding alternatives abi sheet sheet_with may_be_empty kinds number_of_kind
 kind-branch Kind.Symbol = λ rule taken parts all around at old v new front is e. tt
 kind-branch Kind.MaybeSuffix = suffix-branch
-kind-branch Kind.SuffixFirst = λ rule taken parts all around at old v new front is e. tt
-kind-branch Kind.SuffixMore = λ rule taken parts all around at old v new front is e. tt
+kind-branch Kind.SuffixFirst = suffix-first-branch
+kind-branch Kind.SuffixMore = suffix-more-branch
 kind-branch Kind.Encoding = encoding-branch
 kind-branch Kind.Special = special-branch
 kind-branch Kind.CallOffset = call-offset-branch
@@ -146,8 +142,8 @@ kind-branch Kind.NestRestAlone = nest-rest-alone-branch
 kind-branch Kind.NestTail = nest-tail-branch
 kind-branch Kind.Component = component-branch
 kind-branch Kind.ConstructorAfterC = constructor-after-c-branch
-kind-branch Kind.ConstructorDigit = letter-branch Kind.ConstructorDigit (refl, tt) refl
-kind-branch Kind.DestructorDigit = letter-branch Kind.DestructorDigit (refl, tt) refl
+kind-branch Kind.ConstructorDigit = letter-branch Kind.ConstructorDigit (refl, tt)
+kind-branch Kind.DestructorDigit = letter-branch Kind.DestructorDigit (refl, tt)
 kind-branch Kind.Abbreviation = abbreviation-branch
 kind-branch Kind.Entity = entity-branch
 kind-branch Kind.TypeEntity = type-entity-branch
@@ -180,19 +176,19 @@ kind-branch Kind.LiteralAfterD = literal-after-d-branch
 kind-branch Kind.MaybeZero = mark-branch Kind.MaybeZero (refl, tt)
 kind-branch Kind.LiteralType = literal-type-branch
 kind-branch Kind.Operator = operator-branch
-kind-branch Kind.OperatorAfterN = letter-branch Kind.OperatorAfterN (refl, tt) refl
-kind-branch Kind.OperatorAfterD = letter-branch Kind.OperatorAfterD (refl, tt) refl
-kind-branch Kind.OperatorAfterA = letter-branch Kind.OperatorAfterA (refl, tt) refl
-kind-branch Kind.OperatorAfterP = letter-branch Kind.OperatorAfterP (refl, tt) refl
-kind-branch Kind.OperatorAfterC = letter-branch Kind.OperatorAfterC (refl, tt) refl
-kind-branch Kind.OperatorAfterM = letter-branch Kind.OperatorAfterM (refl, tt) refl
-kind-branch Kind.OperatorAfterR = letter-branch Kind.OperatorAfterR (refl, tt) refl
-kind-branch Kind.OperatorAfterO = letter-branch Kind.OperatorAfterO (refl, tt) refl
-kind-branch Kind.OperatorAfterE = letter-branch Kind.OperatorAfterE (refl, tt) refl
+kind-branch Kind.OperatorAfterN = letter-branch Kind.OperatorAfterN (refl, tt)
+kind-branch Kind.OperatorAfterD = letter-branch Kind.OperatorAfterD (refl, tt)
+kind-branch Kind.OperatorAfterA = letter-branch Kind.OperatorAfterA (refl, tt)
+kind-branch Kind.OperatorAfterP = letter-branch Kind.OperatorAfterP (refl, tt)
+kind-branch Kind.OperatorAfterC = letter-branch Kind.OperatorAfterC (refl, tt)
+kind-branch Kind.OperatorAfterM = letter-branch Kind.OperatorAfterM (refl, tt)
+kind-branch Kind.OperatorAfterR = letter-branch Kind.OperatorAfterR (refl, tt)
+kind-branch Kind.OperatorAfterO = letter-branch Kind.OperatorAfterO (refl, tt)
+kind-branch Kind.OperatorAfterE = letter-branch Kind.OperatorAfterE (refl, tt)
 kind-branch Kind.OperatorAfterL = operator-after-l-branch
-kind-branch Kind.OperatorAfterS = letter-branch Kind.OperatorAfterS (refl, tt) refl
-kind-branch Kind.OperatorAfterI = letter-branch Kind.OperatorAfterI (refl, tt) refl
-kind-branch Kind.OperatorAfterG = letter-branch Kind.OperatorAfterG (refl, tt) refl
+kind-branch Kind.OperatorAfterS = letter-branch Kind.OperatorAfterS (refl, tt)
+kind-branch Kind.OperatorAfterI = letter-branch Kind.OperatorAfterI (refl, tt)
+kind-branch Kind.OperatorAfterG = letter-branch Kind.OperatorAfterG (refl, tt)
 kind-branch Kind.NestRestOrEnd = nest-rest-or-end-branch
 kind-branch Kind.ComponentAfterC = component-after-c-branch
 kind-branch Kind.OtherOperator = other-operator-branch

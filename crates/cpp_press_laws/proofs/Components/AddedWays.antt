@@ -1,20 +1,212 @@
--- What a tree that fits adds or finds in each of its ways, by sorts of trees.
-use Rattle.std.proofs.Common.{◌≡◌, ℕ, ◌+◌, inl, inr, length, List, [], ◌++◌, Option, Some, None, Bool, true, false, refl}
+-- What fits adds the components in it, or finds them, and so many bytes more than components: of spellings, and of a tree in each of
+-- its ways, by sorts of trees.
+use Rattle.std.proofs.Common.{sym, ◌∙◌, arith, ◌≡◌, ℕ, ◌+◌, ◌≤◌, inl, inr, length, List, [], ◌++◌, Option, Some, None, Bool, true, false, refl, ◌⊎◌, ◌∷◌, subst, length-append}
 use Rattle.std.specs.Prelude.{codes}
-use Rattle.sym_spell.specs.Pressing as spell
 use Rattle.sym_spell.specs.Pressing.{◌and◌, text}
-use Rattle.cpp_grammar.specs.Term.{Qualifiers, RefQualifier, Term}
+use Rattle.std.proofs.lemmas.Bool.{false≢true}
+use Rattle.cpp_grammar.specs.Term.{Qualifiers, RefQualifier, Term, string_literal}
+use Rattle.cpp_grammar.specs.Scope.{count, arguments_of}
 use Rattle.cpp_grammar.specs.Values.{Around}
 use Rattle.cpp_press_laws.specs.Texts.{name_letters}
-use Rattle.cpp_press_laws.specs.Components.{Component, Spelling, first_equal, reference, ended, spelled_out, component}
-use Rattle.cpp_press_laws.specs.Pressing.{Ways, no_ways, type_ways, template_before, entity_text, begun, encoding_ways, piece_ways, argument_ways}
-use Rattle.cpp_press_laws.proofs.Components.Parts.{IsComponent, Shut, Inside, Whole, Unqualified}
+use Rattle.cpp_press_laws.specs.Components.{Component, Spelling, first_equal, seq_id, reference, spelled_out, component, ended, referred}
+use Rattle.cpp_press_laws.specs.Pressing.{Ways, no_ways, type_ways, template_before, entity_text, begun, encoding_ways, piece_ways, argument_ways, in_N_and_E, with_letters}
+use Rattle.cpp_press_laws.specs.Subtrees.{Written, written}
+use Rattle.cpp_press_laws.proofs.Components.Parts.{IsComponent, Shut, Inside, Whole, Unqualified, Has, has-before, has-itself, has-closed, found-stands}
 use Rattle.cpp_press_laws.proofs.Components.KnownTrees.{In}
-use Rattle.cpp_press_laws.proofs.Components.Complete.{Complete}
-use Rattle.cpp_press_laws.specs.Fits.{Standing, Fitting, as_component, as_reference, as_template, behind_bytes, Slot, any_type, bare_type, item_type, parameter_type, literal_type, Role, letters_of, Fits, nowhere, fits_nowhere, type_fits, piece_fits, argument_fits, encoding_fits}
+use Rattle.cpp_press_laws.specs.Fits.{Standing, Fitting, as_component, as_reference, as_template, behind_bytes, Slot, any_type, bare_type, item_type, parameter_type, literal_type, Role, letters_of, Fits, nowhere, fits_nowhere, type_fits, piece_fits, argument_fits, encoding_fits, Behind, IsWithoutLetters, by_letters}
 use Rattle.cpp_press_laws.proofs.Fitting as fit
 use Rattle.cpp_press_laws.proofs.Fitting.{Fit}
-use Rattle.cpp_press_laws.proofs.Components.Adding.{AddsParts, Adds, Either, No, both-added, fewer-added, tree-found, outside-added, text-adds, component-adds, template-adds, nested-template-adds}
+use Rattle.cpp_press_laws.proofs.Components.Complete.{Complete, complete-ended, complete-has}
+
+-- so many bytes more than components are added
+abbrev pub FewBy : ℕ → List Component → Written → Type 0
+FewBy k cs w = length w.components + k ≤ length cs + length w.bytes
+
+-- From these components to those after what is written, among which these trees are, if the components in each come before.
+pub record AddsParts (k n : ℕ) (P : Term → Type 0) (cs : List Component) (w : Written) : Type 0 where
+  pub complete : Complete cs → Complete w.components
+  pub has : Complete cs → (x : Term) → P x → Has n x w.components
+  pub keeps : (m : ℕ) (x : Term) → Has m x cs → Has m x w.components
+  pub few : FewBy k cs w
+
+-- a spelling that fits adds these trees or finds them
+abbrev pub Adds : (k n : ℕ) → (P : Term → Type 0) → Standing → Spelling → Type 0
+Adds k n P F spelling = (place : ℕ) (cs : List Component) → F place cs → AddsParts k n P cs (spelling place cs)
+
+abbrev pub Either : (P Q : Term → Type 0) → (x : Term) → Type 0
+Either P Q x = P x ⊎ Q x
+
+abbrev pub No : (x : Term) → Type 0
+No x = ⊥
+
+-- ## Lists
+
+pub none-added : {n : ℕ} {cs : List Component} (k : ℕ) (bytes : List ℕ) → k ≤ length bytes → AddsParts k n No cs (written bytes cs)
+none-added k bytes le =
+    record { complete = λ all. all; has = λ all x none. absurd none; keeps = λ m x has. has; few = omega (arith, le) }
+
+pub both-added : {n : ℕ} {P Q : Term → Type 0} {cs : List Component} {w v : Written} (k m l : ℕ) → l ≤ k + m → AddsParts k n P cs w
+    → AddsParts m n Q w.components v → AddsParts l n (Either P Q) cs (written (w.bytes ++ v.bytes) v.components)
+both-added {n} {P} {Q} {cs} {w} {v} k m l le a b = record {
+  complete = λ all. b.complete (a.complete all);
+  has = λ all x is. elim is [ inl one ↦ b.keeps n x (a.has all x one) | inr other ↦ b.has (a.complete all) x other ];
+  keeps = λ o x has. b.keeps o x (a.keeps o x has);
+  few = omega (arith, le, a.few, b.few, length-append w.bytes v.bytes);
+}
+
+pub fewer-added : {k n : ℕ} {P Q : Term → Type 0} {cs : List Component} {w : Written} → AddsParts k n P cs w → In Q P → AddsParts k n Q cs w
+fewer-added a more = record { complete = a.complete; has = λ all x is. a.has all x (more x is); keeps = a.keeps; few = a.few }
+
+-- after fixed bytes, and before them
+pub after-bytes : {n : ℕ} {P : Term → Type 0} {cs : List Component} {w : Written} (k m : ℕ) (bytes : List ℕ) → m ≤ length bytes + k
+    → AddsParts k n P cs w → AddsParts m n P cs (written (bytes ++ w.bytes) w.components)
+after-bytes {n} {P} {cs} {w} k m bytes le a =
+    record { complete = a.complete; has = a.has; keeps = a.keeps; few = omega (arith, le, a.few, length-append bytes w.bytes) }
+
+pub before-bytes : {n : ℕ} {P : Term → Type 0} {cs : List Component} {w : Written} (k m : ℕ) (bytes : List ℕ) → m ≤ length bytes + k
+    → AddsParts k n P cs w → AddsParts m n P cs (written (w.bytes ++ bytes) w.components)
+before-bytes {n} {P} {cs} {w} k m bytes le a =
+    record { complete = a.complete; has = a.has; keeps = a.keeps; few = omega (arith, le, a.few, length-append w.bytes bytes) }
+
+pub nested-added : {n : ℕ} {P : Term → Type 0} {cs : List Component} {w : Written} (k : ℕ) (letters : List ℕ) → AddsParts k n P cs w
+    → AddsParts k n P cs (written ((codes "N" ++ letters) ++ (w.bytes ++ codes "E")) w.components)
+nested-added k letters a = after-bytes k k (codes "N" ++ letters) (omega arith) (before-bytes k k (codes "E") (omega arith) a)
+
+pub fewer-by : {n : ℕ} {P : Term → Type 0} {cs : List Component} {w : Written} (k m : ℕ) → m ≤ k → AddsParts k n P cs w → AddsParts m n P cs w
+fewer-by k m le a = after-bytes k m [] (omega (arith, le)) a
+
+-- a tree that is spelled out becomes a component
+pub tree-ended : {n : ℕ} {own : Term} {cs : List Component} {w : Written} (bytes : List ℕ) → length w.bytes ≤ length bytes
+    → AddsParts 2 n (Inside own) cs w
+    → AddsParts 1 n (Whole own) cs (written bytes (w.components ++ record { tree = own; encoding = n } ∷ []))
+tree-ended {n} {own} {cs} {w} bytes le a =
+    let one : List Component = record { tree = own; encoding = n } ∷ [] in
+    record {
+      complete = λ all. complete-ended n own w.components (a.complete all) (a.has all);
+      has = λ all x is. elim is [
+        | inl same ↦ subst (λ y. Has n y (w.components ++ one)) (sym same.1) (has-itself n own w.components)
+        | inr i ↦ has-before n x w.components one (a.has all x i)
+      ];
+      keeps = λ m x has. has-before m x w.components one (a.keeps m x has);
+      few = omega (arith, le, a.few, length-append w.components one);
+    }
+
+pub tree-found : {n : ℕ} {own : Term} {cs : List Component} (number : ℕ) (bytes : List ℕ) → first_equal n own 0 cs ≡ Some number
+    → 1 ≤ length bytes → AddsParts 1 n (Whole own) cs (written bytes cs)
+tree-found {n} {own} {cs} number bytes is some = record {
+  complete = λ all. all;
+  has = λ all. complete-has n own cs all (found-stands n own 0 number cs is);
+  keeps = λ m x has. has;
+  few = omega (arith, some);
+}
+
+-- outside of an encoding, what has no free parameters
+pub outside-added : {k n m : ℕ} {P : Term → Type 0} {cs : List Component} {w : Written} → AddsParts k n P cs w
+    → AddsParts k m (λ x. Shut (P x) x) cs w
+outside-added {k} {n} {m} {P} {cs} {w} a =
+    record { complete = a.complete; has = λ all x s. has-closed n m x w.components s.0 (a.has all x s.1); keeps = a.keeps; few = a.few }
+
+-- ## Places
+
+pub behind-and : (first rest : Spelling) (G : Standing) (place : ℕ) (cs : List Component) → Behind (first and rest) G place cs
+    → Behind first (Behind rest G) place cs
+behind-and first rest G place cs fits =
+    let f : Written = first place cs in
+    let g : Written = rest (place + length f.bytes) f.components in
+    let same : place + length (f.bytes ++ g.bytes) ≡ place + length f.bytes + length g.bytes = omega
+    (arith, length-append f.bytes g.bytes) in
+    subst (λ p. G p g.components) same fits
+
+pub at-once : (G : Standing) (place : ℕ) (cs : List Component) → G (place + 0) cs → G place cs
+at-once G place cs fits = let same : place + 0 ≡ place = omega arith in subst (λ p. G p cs) same fits
+
+-- ## Spellings
+
+pub and-adds : {n : ℕ} {P Q : Term → Type 0} {F G : Standing} {first rest : Spelling} (k m l : ℕ) → l ≤ k + m → Adds k n P F first
+    → Adds m n Q G rest → Adds l n (Either P Q) (λ place cs. F place cs × Behind first G place cs) (first and rest)
+and-adds {n} {P} {Q} {F} {G} {first} {rest} k m l le one more place cs (fits, behind) =
+    let f : Written = first place cs in
+    both-added k m l le (one place cs fits) (more (place + length f.bytes) f.components behind)
+
+pub component-adds : (n : ℕ) (own : Term) (F : Standing) (spelling : Spelling) → Adds 2 n (Inside own) F spelling
+    → Adds 1 n (Whole own) (λ place cs. first_equal n own 0 cs ≡ None → F place cs) (component n own spelling)
+unfolding component reference spelled_out ended
+component-adds n own F spelling one place cs fits = go (first_equal n own 0 cs) refl
+  where
+    go : (o : Option ℕ) → first_equal n own 0 cs ≡ o → AddsParts 1 n (Whole own) cs (elim o as (λ _. Written)
+        [ Some number ↦ reference number place cs | None ↦ spelled_out n own spelling place cs ])
+    go (Some number) is = tree-found number (codes "S" ++ seq_id number ++ codes "_") is (omega arith)
+    go None is =
+        let w : Written = spelling place cs in
+        tree-ended (w.bytes ++ []) (omega (arith, length-append w.bytes [])) (one place cs (fits is))
+
+-- a template name and its arguments, without an N
+pub whole-adds : (m n : ℕ) (own : Term) (Q : Term → Type 0) (F G : Standing) (between arguments : Spelling) → Adds 2 n (Inside own) F between
+    → Adds m n Q G arguments → (place : ℕ) (cs : List Component) → F place cs → Behind between (Behind (ended n own) G) place cs
+    → AddsParts m n (Either (Whole own) Q) cs ((between and ended n own and arguments) place cs)
+unfolding ended
+whole-adds m n own Q F G between arguments one more place cs fits behind =
+    let f : Written = between place cs in
+    let now : List Component = f.components ++ record { tree = own; encoding = n } ∷ [] in
+    both-added 1 m m (omega arith) (tree-ended f.bytes (omega arith) (one place cs fits)) (more (place + length f.bytes + 0) now behind)
+
+abbrev pub TemplateFits : (n : ℕ) → Term → (F : Standing) → (front : Spelling) → (G : Standing) → Standing
+TemplateFits n own F front G place cs =
+    ((number : ℕ) → first_equal n own 0 cs ≡ Some number → Behind (reference number) G place cs)
+    × (first_equal n own 0 cs ≡ None → F place cs × Behind (front and ended n own) G place cs)
+
+-- after a reference where the name comes before, or else spelled out
+referred-adds : (m n : ℕ) (own : Term) (Q : Term → Type 0) (G : Standing) (arguments other : Spelling) → Adds m n Q G arguments
+    → (place : ℕ) (cs : List Component)
+    → ((number : ℕ) → first_equal n own 0 cs ≡ Some number → Behind (reference number) G place cs)
+    → (first_equal n own 0 cs ≡ None → AddsParts m n (Either (Whole own) Q) cs (other place cs))
+    → AddsParts m n (Either (Whole own) Q) cs (referred n own arguments other place cs)
+unfolding referred reference
+referred-adds m n own Q G arguments other more place cs found new = go (first_equal n own 0 cs) refl
+  where
+    go : (o : Option ℕ) → first_equal n own 0 cs ≡ o → AddsParts m n (Either (Whole own) Q) cs (elim o as (λ _. Written)
+        [ Some number ↦ (reference number and arguments) place cs | None ↦ other place cs ])
+    go (Some number) is =
+        let bytes : List ℕ = codes "S" ++ seq_id number ++ codes "_" in
+        both-added 1 m m (omega arith) (tree-found number bytes is (omega arith)) (more (place + length bytes) cs (found number is))
+    go None is = new is
+
+pub template-adds : (m n : ℕ) (own : Term) (Q : Term → Type 0) (F G : Standing) (between arguments : Spelling)
+    → Adds 2 n (Inside own) F between → Adds m n Q G arguments
+    → Adds m n (Either (Whole own) Q) (TemplateFits n own F between G) (template_before n own false between arguments)
+unfolding template_before
+template-adds m n own Q F G between arguments one more place cs (found, new) =
+    referred-adds m n own Q G arguments (between and ended n own and arguments) more place cs found
+    (λ none. whole-adds m n own Q F G between arguments one more place cs (new none).0
+    (behind-and between (ended n own) G place cs (new none).1))
+
+-- the same between N and E where the name is spelled out
+pub nested-template-adds : (m n : ℕ) (own : Term) (Q : Term → Type 0) (F G : Standing) (between arguments : Spelling)
+    → Adds 2 n (Inside own) F between → Adds m n Q G arguments
+    → Adds m n (Either (Whole own) Q) (TemplateFits n own (λ place cs. F (place + 1) cs) (text (codes "N") and between) G)
+    (template_before n own true between arguments)
+unfolding template_before in_N_and_E
+nested-template-adds m n own Q F G between arguments one more place cs (found, new) =
+    referred-adds m n own Q G arguments (in_N_and_E [] (between and ended n own and arguments)) more place cs found
+    (λ none. nested-added m [] (whole-adds m n own Q F G between arguments one more (place + 1) cs (new none).0
+    (behind-and (text (codes "N")) between (Behind (ended n own) G) place cs
+    (behind-and (text (codes "N") and between) (ended n own) G place cs (new none).1))))
+
+-- a name that is without letters or with them
+pub letters-add : (k m : ℕ) → m ≤ k → (letters : List ℕ) (n : ℕ) (P : Term → Type 0) (around : Around) (allowed : Option ℕ) (F G : Fitting)
+    (own between : Spelling) → Adds k n P (F around allowed) own → Adds k n P (G around allowed) between
+    → Adds m n P (by_letters letters F G around allowed) (with_letters letters own between)
+unfolding by_letters with_letters in_N_and_E
+letters-add k m le [] n P around allowed F G own between one two place cs fits = fewer-by k m le (one place cs fits)
+letters-add k m le (l ∷ ls) n P around allowed F G own between one two place cs fits =
+    fewer-by k m le (nested-added k (l ∷ ls) (two (place + length (codes "N" ++ l ∷ ls)) cs fits))
+
+-- a name that has no letters
+pub no-letters-add : (k : ℕ) (letters : List ℕ) (n : ℕ) (P : Term → Type 0) (F : Standing) (own between : Spelling) → Adds k n P F own
+    → Adds 0 n P (λ place cs. IsWithoutLetters letters × F place cs) (with_letters letters own between)
+unfolding with_letters
+no-letters-add k [] n P F own between one place cs fits = fewer-by k 0 (omega arith) (one place cs fits.1)
+no-letters-add k (l ∷ ls) n P F own between one place cs fits = absurd fits.0
 
 -- right under qualifiers a type has a way of its own
 unfoldable pub way_at : Slot → Ways → Spelling
@@ -30,180 +222,195 @@ abbrev pub IsNotBare : Slot → Type 0
 IsNotBare bare_type = ⊥
 IsNotBare _ = Unit {0}
 
+-- how many arguments a name ends in
+unfoldable pub arguments_count : Term → ℕ
+arguments_count t = elim (arguments_of t) as (λ _. ℕ) [ None ↦ 0 | Some a ↦ count a ]
+
+-- the bytes that a piece of a name has at least
+unfoldable pub surplus : Term → ℕ
+surplus string_literal = 1
+surplus _ = 2
+
+pub surplus-some : (p : Term) → 1 ≤ surplus p
+unfolding surplus
+surplus-some string_literal = omega arith
+surplus-some _ = omega arith
+
+-- of a piece that may be a name
+pub surplus-named : (f : Term → Bool) → f string_literal ≡ false → (p : Term) → f p ≡ true → 2 ≤ surplus p
+unfolding surplus
+surplus-named f never string_literal is = absurd (false≢true (sym never ∙ is))
+surplus-named f never _ is = omega arith
+
 -- what a tree adds or finds in each of its ways, where it fits
 abbrev pub AddAt : Fit → (t : Term) → Fits → (ℕ → Ways) → Type 0
 AddAt fit.as_type t f w =
     (slot : Slot) (around : Around) (allowed : Option ℕ)
-    → Adds around.encoding (AtSlot slot t) (f.as_type slot around allowed) (way_at slot (w around.encoding))
+    → Adds 1 around.encoding (AtSlot slot t) (f.as_type slot around allowed) (way_at slot (w around.encoding))
 AddAt fit.as_prefix t f w =
     (around : Around) (allowed : Option ℕ)
-    → Adds around.encoding (Whole t) (f.as_prefix around allowed) (w around.encoding).as_prefix
+    → Adds 1 around.encoding (Whole t) (f.as_prefix around allowed) (w around.encoding).as_prefix
 AddAt fit.as_prefix_template t f w =
     (around : Around) (allowed : Option ℕ)
-    → Adds around.encoding (Whole t) (f.as_prefix_template around allowed) (w around.encoding).as_prefix
+    → Adds 1 around.encoding (Whole t) (f.as_prefix_template around allowed) (w around.encoding).as_prefix
 AddAt fit.between t f w =
     (around : Around) (allowed : Option ℕ)
-    → Adds around.encoding (Inside t) (f.between around allowed) (w around.encoding).between_N_and_E
+    → Adds 2 around.encoding (Inside t) (f.between around allowed) (w around.encoding).between_N_and_E
 AddAt fit.between_template t f w =
     (around : Around) (allowed : Option ℕ)
-    → Adds around.encoding (Inside t) (f.between_template around allowed) (w around.encoding).between_N_and_E
+    → Adds 2 around.encoding (Inside t) (f.between_template around allowed) (w around.encoding).between_N_and_E
 AddAt fit.as_entity t f w =
     (role : Role) (around : Around) (allowed : Option ℕ)
-    → Adds around.encoding (Inside t) (f.as_entity role around allowed) (entity_text t (letters_of role)
+    → Adds (arguments_count t) around.encoding (Inside t) (f.as_entity role around allowed) (entity_text t (letters_of role)
     (w around.encoding).between_N_and_E)
 AddAt fit.as_entity_template t f w =
     (around : Around) (allowed : Option ℕ)
-    → Adds around.encoding (Inside t) (f.as_entity_template around allowed) (w around.encoding).between_N_and_E
+    → Adds 2 around.encoding (Inside t) (f.as_entity_template around allowed) (w around.encoding).between_N_and_E
 AddAt fit.as_piece t f w =
     (around : Around) (allowed : Option ℕ)
-    → Adds around.encoding (Inside t) (f.as_piece around allowed) (w around.encoding).as_piece
-AddAt fit.as_encoding t f w = (allowed : Option ℕ) (n m : ℕ) → Adds m (Inside t) (f.as_encoding allowed) (w n).as_encoding
+    → Adds (surplus t) around.encoding (Inside t) (f.as_piece around allowed) (w around.encoding).as_piece
+AddAt fit.as_encoding t f w = (allowed : Option ℕ) (n m : ℕ) → Adds 0 m (Inside t) (f.as_encoding allowed) (w n).as_encoding
 AddAt fit.as_name t f w =
     (q : Qualifiers) (ref : RefQualifier) (around : Around) (allowed : Option ℕ)
-    → Adds around.encoding (Inside t) (f.as_name q ref around allowed) ((w around.encoding).as_name (name_letters q ref))
+    → Adds (arguments_count t) around.encoding (Inside t) (f.as_name q ref around allowed) ((w around.encoding).as_name (name_letters q ref))
 AddAt fit.as_argument t f w =
     (in_pack : Bool) (around : Around) (allowed : Option ℕ)
-    → Adds around.encoding (Whole t) (f.as_argument in_pack around allowed) (w around.encoding).as_argument
+    → Adds 1 around.encoding (Whole t) (f.as_argument in_pack around allowed) (w around.encoding).as_argument
 AddAt fit.as_parameters t f w =
     (slot : Slot) → IsNotBare slot → (around : Around) (allowed : Option ℕ)
-    → Adds around.encoding (Inside t) (f.as_parameters slot around allowed) (w around.encoding).as_parameters
+    → Adds 0 around.encoding (Inside t) (f.as_parameters slot around allowed) (w around.encoding).as_parameters
 AddAt fit.as_more_parameters t f w =
     (slot : Slot) → IsNotBare slot → (around : Around) (allowed : Option ℕ)
-    → Adds around.encoding (Inside t) (f.as_more_parameters slot around allowed) (w around.encoding).as_more_parameters
+    → Adds 0 around.encoding (Inside t) (f.as_more_parameters slot around allowed) (w around.encoding).as_more_parameters
 AddAt fit.as_elements t f w =
     (in_pack : Bool) (around : Around) (allowed : Option ℕ)
-    → Adds around.encoding (Inside t) (f.as_elements in_pack around allowed) (w around.encoding).as_elements
+    → Adds (count t) around.encoding (Inside t) (f.as_elements in_pack around allowed) (w around.encoding).as_elements
 
 abbrev pub AddsAt : (t : Term) → Fits → (ℕ → Ways) → Type 0
 AddsAt t f w = (each : Fit) → AddAt each t f w
 
 pub record WaysAdd (t : Term) (f : Fits) (w : ℕ → Ways) : Type 1 where
   pub at : AddsAt t f w
-  pub before : (typed : Bool) (around : Around) (allowed : Option ℕ) (G : Fitting) (arguments : Spelling) (Q : Term → Type 0)
-      → Adds around.encoding Q (G around allowed) arguments
-      → Adds around.encoding (Either (Whole t) Q) (f.before typed G around allowed) ((w around.encoding).before typed arguments)
+  pub before : (typed : Bool) (m : ℕ) (around : Around) (allowed : Option ℕ) (G : Fitting) (arguments : Spelling) (Q : Term → Type 0)
+      → Adds m around.encoding Q (G around allowed) arguments
+      → Adds m around.encoding (Either (Whole t) Q) (f.before typed G around allowed) ((w around.encoding).before typed arguments)
 
 -- ## Parts
 
 -- a component that fits
 pub in-component : (around : Around) (allowed : Option ℕ) (own : Term) (spelled : Fitting) (s : Spelling)
-    → Adds around.encoding (Inside own) (spelled around allowed) s
-    → Adds around.encoding (Whole own) (as_component own spelled around allowed) (component around.encoding own s)
-in-component around allowed own spelled s one place cs fits complete =
-    component-adds around.encoding own (spelled around allowed) s one place cs fits.1 complete
+    → Adds 2 around.encoding (Inside own) (spelled around allowed) s
+    → Adds 1 around.encoding (Whole own) (as_component own spelled around allowed) (component around.encoding own s)
+in-component around allowed own spelled s one place cs fits =
+    component-adds around.encoding own (spelled around allowed) s one place cs fits.1
 
-pub nowhere-adds : (n : ℕ) (P : Term → Type 0) (s : Spelling) → Adds n P (λ place cs. ⊥) s
-nowhere-adds n P s place cs fits complete = absurd fits
+pub nowhere-adds : (k n : ℕ) (P : Term → Type 0) (s : Spelling) → Adds k n P (λ place cs. ⊥) s
+nowhere-adds k n P s place cs fits = absurd fits
 
 pub reference-adds : (around : Around) (allowed : Option ℕ) (own : Term) (s : Spelling)
-    → Adds around.encoding (Whole own) (as_reference own around allowed) (component around.encoding own s)
+    → Adds 1 around.encoding (Whole own) (as_reference own around allowed) (component around.encoding own s)
 reference-adds around allowed own s =
-    in-component around allowed own (λ around allowed place cs. ⊥) s (nowhere-adds around.encoding (Inside own) s)
+    in-component around allowed own (λ around allowed place cs. ⊥) s (nowhere-adds 2 around.encoding (Inside own) s)
 
 -- fewer trees
-pub fewer-adds : (n : ℕ) (P Q : Term → Type 0) (F : Standing) (s : Spelling) → In Q P → Adds n P F s → Adds n Q F s
-fewer-adds n P Q F s more one place cs fits complete = fewer-added n P Q cs (s place cs).components more (one place cs fits complete)
+pub fewer-adds : (k n : ℕ) (P Q : Term → Type 0) (F : Standing) (s : Spelling) → In Q P → Adds k n P F s → Adds k n Q F s
+fewer-adds k n P Q F s more one place cs fits = fewer-added (one place cs fits) more
 
 -- a spelling that adds nothing of a tree in which nothing is
-pub leaf-adds : (n : ℕ) (P : Term → Type 0) (F : Standing) (bytes : List ℕ) → In P No → Adds n P F (text bytes)
-leaf-adds n P F bytes none = fewer-adds n No P F (text bytes) none (text-adds n F bytes)
+pub leaf-adds : (k n : ℕ) (P : Term → Type 0) (F : Standing) (bytes : List ℕ) → k ≤ length bytes → In P No → Adds k n P F (text bytes)
+leaf-adds k n P F bytes long none place cs fits = fewer-added (none-added k bytes long) none
 
 pub no-whole : (t : Term) → (IsComponent t → ⊥) → In (Inside t) No → In (Whole t) No
 no-whole t never none x (inl same) = never same.0
 no-whole t never none x (inr i) = none x i
 
-abbrev followed_by : Spelling → (place : ℕ) → spell.Pressed Component → spell.Pressed Component
-followed_by rest place w =
-    let g = rest (place + length w.bytes) w.components in record { bytes = w.bytes ++ g.bytes; components = g.components }
-
 -- a template name that comes before, and its arguments
-pub found-and-adds : (around : Around) (allowed : Option ℕ) (own : Term) (front : ℕ → Spelling) (G : Fitting) (s arguments : Spelling)
-    (Q : Term → Type 0) → Adds around.encoding Q (G around allowed) arguments
-    → Adds around.encoding (Either (Whole own) Q) (as_template own nowhere front G around allowed)
+pub found-and-adds : (m : ℕ) (around : Around) (allowed : Option ℕ) (own : Term) (front : ℕ → Spelling) (G : Fitting) (s arguments : Spelling)
+    (Q : Term → Type 0) → Adds m around.encoding Q (G around allowed) arguments
+    → Adds m around.encoding (Either (Whole own) Q) (as_template own nowhere front G around allowed)
     (component around.encoding own s and arguments)
-unfolding component reference spelled_out ended
-found-and-adds around allowed own front G s arguments Q more place cs fits complete = go (first_equal around.encoding own 0 cs) refl
+unfolding component reference
+found-and-adds m around allowed own front G s arguments Q more place cs fits = go (first_equal around.encoding own 0 cs) refl
   where
     go : (o : Option ℕ) → first_equal around.encoding own 0 cs ≡ o
-        → AddsParts around.encoding (Either (Whole own) Q) cs (followed_by arguments place (elim o as (λ _. spell.Pressed Component)
-        [ Some number ↦ reference number place cs | None ↦ spelled_out around.encoding own s place cs ])).components
+        → (let w = elim o as (λ _. Written) [
+          | Some number ↦ reference number place cs
+          | None ↦ spelled_out around.encoding own s place cs
+        ] in
+        let rest = arguments (place + length w.bytes) w.components in
+        AddsParts m around.encoding (Either (Whole own) Q) cs (written (w.bytes ++ rest.bytes) rest.components))
     go (Some number) is =
-        let r : spell.Pressed Component = reference number place cs in
-        both-added around.encoding (Whole own) Q cs cs (arguments (place + length r.bytes) cs).components
-        (tree-found around.encoding number own cs is complete)
-        (more (place + length r.bytes) cs (fits.1 number is) complete)
+        let bytes : List ℕ = codes "S" ++ seq_id number ++ codes "_" in
+        both-added 1 m m (omega arith) (tree-found number bytes is (omega arith)) (more (place + length bytes) cs (fits.1 number is))
     go None is = absurd (fits.2 is).0
 
-pub in-template : (around : Around) (allowed : Option ℕ) (own : Term) (spelled : Fitting) (between : ℕ → Spelling) (G : Fitting)
-    (arguments : Spelling) (Q : Term → Type 0) → Adds around.encoding (Inside own) (spelled around allowed) (between around.encoding)
-    → Adds around.encoding Q (G around allowed) arguments
-    → Adds around.encoding (Either (Whole own) Q) (as_template own spelled between G around allowed)
+pub in-template : (m : ℕ) (around : Around) (allowed : Option ℕ) (own : Term) (spelled : Fitting) (between : ℕ → Spelling) (G : Fitting)
+    (arguments : Spelling) (Q : Term → Type 0) → Adds 2 around.encoding (Inside own) (spelled around allowed) (between around.encoding)
+    → Adds m around.encoding Q (G around allowed) arguments
+    → Adds m around.encoding (Either (Whole own) Q) (as_template own spelled between G around allowed)
     (template_before around.encoding own false (between around.encoding) arguments)
-in-template around allowed own spelled between G arguments Q one more place cs fits complete =
-    template-adds around.encoding own Q (spelled around allowed) (G around allowed) (between around.encoding) arguments one more place cs
-    (fits.1, fits.2) complete
+in-template m around allowed own spelled between G arguments Q one more place cs fits =
+    template-adds m around.encoding own Q (spelled around allowed) (G around allowed) (between around.encoding) arguments one more place cs
+    (fits.1, fits.2)
 
-pub in-nested-template : (around : Around) (allowed : Option ℕ) (own : Term) (spelled : Fitting) (between : ℕ → Spelling) (G : Fitting)
-    (arguments : Spelling) (Q : Term → Type 0) → Adds around.encoding (Inside own) (spelled around allowed) (between around.encoding)
-    → Adds around.encoding Q (G around allowed) arguments
-    → Adds around.encoding (Either (Whole own) Q) (as_template own (behind_bytes (codes "N") spelled) (λ n. text
+pub in-nested-template : (m : ℕ) (around : Around) (allowed : Option ℕ) (own : Term) (spelled : Fitting) (between : ℕ → Spelling) (G : Fitting)
+    (arguments : Spelling) (Q : Term → Type 0) → Adds 2 around.encoding (Inside own) (spelled around allowed) (between around.encoding)
+    → Adds m around.encoding Q (G around allowed) arguments
+    → Adds m around.encoding (Either (Whole own) Q) (as_template own (behind_bytes (codes "N") spelled) (λ n. text
     (codes "N") and between n) G around allowed)
     (template_before around.encoding own true (between around.encoding) arguments)
-in-nested-template around allowed own spelled between G arguments Q one more place cs fits complete =
-    nested-template-adds around.encoding own Q (spelled around allowed) (G around allowed)
+in-nested-template m around allowed own spelled between G arguments Q one more place cs fits =
+    nested-template-adds m around.encoding own Q (spelled around allowed) (G around allowed)
     (between around.encoding) arguments one more place cs
-    (fits.1, fits.2) complete
+    (fits.1, fits.2)
 
 -- ## The ways of each sort
 
-pub component-at : (slot : Slot) (n : ℕ) (t : Term) (F : Standing) (w : Ways) → In (Unqualified t) (Whole t) → Adds n (Whole t) F w.as_type
-    → Adds n (Whole t) F w.under_qualifiers → Adds n (AtSlot slot t) F (way_at slot w)
+pub component-at : {n : ℕ} {t : Term} {F : Standing} (slot : Slot) (w : Ways) → In (Unqualified t) (Whole t) → Adds 1 n (Whole t) F w.as_type
+    → Adds 1 n (Whole t) F w.under_qualifiers → Adds 1 n (AtSlot slot t) F (way_at slot w)
 unfolding way_at
-component-at any_type n t F w same one other = one
-component-at bare_type n t F w same one other = fewer-adds n (Whole t) (Unqualified t) F w.under_qualifiers same other
-component-at item_type n t F w same one other = one
-component-at parameter_type n t F w same one other = one
-component-at literal_type n t F w same one other = one
+component-at any_type w same one other = one
+component-at {n} {t} {F} bare_type w same one other = fewer-adds 1 n (Whole t) (Unqualified t) F w.under_qualifiers same other
+component-at item_type w same one other = one
+component-at parameter_type w same one other = one
+component-at literal_type w same one other = one
 
 -- what is nowhere
 pub nowhere-ways-add : (t : Term) (w : ℕ → Ways) → WaysAdd t fits_nowhere w
 unfolding fits_nowhere
 nowhere-ways-add t w = record {
   at = each;
-  before = λ typed around allowed G arguments Q more place cs fits complete. absurd fits;
+  before = λ typed m around allowed G arguments Q more place cs fits. absurd fits;
 }
   where
     each : AddsAt t fits_nowhere w
-    each fit.as_type = λ slot around allowed place cs fits complete. absurd fits
-    each fit.as_prefix = λ around allowed place cs fits complete. absurd fits
-    each fit.as_prefix_template = λ around allowed place cs fits complete. absurd fits
-    each fit.between = λ around allowed place cs fits complete. absurd fits
-    each fit.between_template = λ around allowed place cs fits complete. absurd fits
-    each fit.as_entity = λ role around allowed place cs fits complete. absurd fits
-    each fit.as_entity_template = λ around allowed place cs fits complete. absurd fits
-    each fit.as_piece = λ around allowed place cs fits complete. absurd fits
-    each fit.as_encoding = λ allowed n m place cs fits complete. absurd fits
-    each fit.as_name = λ q ref around allowed place cs fits complete. absurd fits
-    each fit.as_argument = λ in_pack around allowed place cs fits complete. absurd fits
-    each fit.as_parameters = λ slot other around allowed place cs fits complete. absurd fits
-    each fit.as_more_parameters = λ slot other around allowed place cs fits complete. absurd fits
-    each fit.as_elements = λ in_pack around allowed place cs fits complete. absurd fits
+    each fit.as_type = λ slot around allowed place cs fits. absurd fits
+    each fit.as_prefix = λ around allowed place cs fits. absurd fits
+    each fit.as_prefix_template = λ around allowed place cs fits. absurd fits
+    each fit.between = λ around allowed place cs fits. absurd fits
+    each fit.between_template = λ around allowed place cs fits. absurd fits
+    each fit.as_entity = λ role around allowed place cs fits. absurd fits
+    each fit.as_entity_template = λ around allowed place cs fits. absurd fits
+    each fit.as_piece = λ around allowed place cs fits. absurd fits
+    each fit.as_encoding = λ allowed n m place cs fits. absurd fits
+    each fit.as_name = λ q ref around allowed place cs fits. absurd fits
+    each fit.as_argument = λ in_pack around allowed place cs fits. absurd fits
+    each fit.as_parameters = λ slot other around allowed place cs fits. absurd fits
+    each fit.as_more_parameters = λ slot other around allowed place cs fits. absurd fits
+    each fit.as_elements = λ in_pack around allowed place cs fits. absurd fits
 
 pub type-ways-add : (t : Term) (spelled : Slot → Fitting) (s : ℕ → Spelling) → In (Unqualified t) (Whole t)
     → ((slot : Slot) (around : Around) (allowed : Option ℕ)
-    → Adds around.encoding (Inside t) (spelled slot around allowed) (s around.encoding))
+    → Adds 2 around.encoding (Inside t) (spelled slot around allowed) (s around.encoding))
     → WaysAdd t (type_fits t spelled) (λ n. type_ways (component n t (s n)))
 unfolding type_fits fits_nowhere type_ways no_ways
 type-ways-add t spelled s same one = record {
   at = each;
-  before = λ typed around allowed G arguments Q more. found-and-adds around allowed t (λ n. text []) G (s around.encoding) arguments Q more;
+  before = λ typed m around allowed G arguments Q more. found-and-adds m around allowed t (λ n. text []) G (s around.encoding) arguments Q more;
 }
   where
     each : AddsAt t (type_fits t spelled) (λ n. type_ways (component n t (s n)))
-    each fit.as_type = λ slot around allowed. component-at slot around.encoding t (as_component t (spelled slot) around allowed)
-        (type_ways (component around.encoding t (s around.encoding))) same
-        (in-component around allowed t (spelled slot) (s around.encoding) (one slot around allowed))
-        (in-component around allowed t (spelled slot) (s around.encoding) (one slot around allowed))
+    each fit.as_type = λ slot around allowed. component-at slot _ same (in-component around allowed t (spelled slot) (s around.encoding) (one slot around allowed)) (in-component around allowed t (spelled slot) (s around.encoding) (one slot around allowed))
     each fit.as_prefix = λ around allowed. reference-adds around allowed t (s around.encoding)
     each fit.as_prefix_template = λ around allowed. reference-adds around allowed t (s around.encoding)
     each fit.as_argument = λ in_pack around allowed. in-component around allowed t (spelled item_type) (s around.encoding)
@@ -211,7 +418,7 @@ type-ways-add t spelled s same one = record {
     each w = (nowhere-ways-add t (λ n. type_ways (component n t (s n)))).at w
 
 pub piece-ways-add : (t : Term) (fitting : Fitting) (s : ℕ → Spelling)
-    → ((around : Around) (allowed : Option ℕ) → Adds around.encoding (Inside t) (fitting around allowed) (s around.encoding))
+    → ((around : Around) (allowed : Option ℕ) → Adds (surplus t) around.encoding (Inside t) (fitting around allowed) (s around.encoding))
     → WaysAdd t (piece_fits fitting) (λ n. piece_ways (s n))
 unfolding piece_fits fits_nowhere piece_ways no_ways
 piece-ways-add t fitting s one = record {
@@ -225,7 +432,7 @@ piece-ways-add t fitting s one = record {
 
 pub argument-ways-add : (t : Term) (fitting : Bool → Fitting) (s : ℕ → Spelling) → In (Whole t) (Inside t)
     → ((in_pack : Bool) (around : Around) (allowed : Option ℕ)
-    → Adds around.encoding (Inside t) (fitting in_pack around allowed) (s around.encoding))
+    → Adds 1 around.encoding (Inside t) (fitting in_pack around allowed) (s around.encoding))
     → WaysAdd t (argument_fits fitting) (λ n. argument_ways (s n))
 unfolding argument_fits fits_nowhere argument_ways no_ways
 argument-ways-add t fitting s same one = record {
@@ -234,15 +441,15 @@ argument-ways-add t fitting s same one = record {
 }
   where
     each : AddsAt t (argument_fits fitting) (λ n. argument_ways (s n))
-    each fit.as_argument = λ in_pack around allowed. fewer-adds around.encoding (Inside t) (Whole t) (fitting in_pack around allowed)
+    each fit.as_argument = λ in_pack around allowed. fewer-adds 1 around.encoding (Inside t) (Whole t) (fitting in_pack around allowed)
         (s around.encoding) same
         (one in_pack around allowed)
     each w = (nowhere-ways-add t (λ n. argument_ways (s n))).at w
 
 pub encoding-ways-add : (t : Term) (standing : (allowed : Option ℕ) → Standing) (s : (encoding : ℕ) → Spelling) (raw : Term → Type 0)
     → In (Inside t) (λ x. Shut (raw x) x)
-    → ((allowed : Option ℕ) (place : ℕ) (cs : List Component) → standing allowed place cs → Complete cs
-    → AddsParts place raw cs (s place place cs).components)
+    → ((allowed : Option ℕ) (place : ℕ) (cs : List Component) → standing allowed place cs
+    → AddsParts 0 place raw cs (s place place cs))
     → WaysAdd t (encoding_fits standing) (λ n. encoding_ways s)
 unfolding encoding_fits fits_nowhere encoding_ways no_ways begun
 encoding-ways-add t standing s raw same one = record {
@@ -251,6 +458,5 @@ encoding-ways-add t standing s raw same one = record {
 }
   where
     each : AddsAt t (encoding_fits standing) (λ n. encoding_ways s)
-    each fit.as_encoding = λ allowed n m place cs fits complete. fewer-added m (λ x. Shut (raw x) x) (Inside t) cs (s place place cs).components same
-        (outside-added place m raw cs (s place place cs).components (one allowed place cs fits complete))
+    each fit.as_encoding = λ allowed n m place cs fits. fewer-added (outside-added (one allowed place cs fits)) same
     each w = (nowhere-ways-add t (λ n. encoding_ways s)).at w

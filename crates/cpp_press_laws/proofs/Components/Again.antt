@@ -17,8 +17,7 @@ use Rattle.cpp_press_laws.proofs.Components.Complete.{Complete, complete-has}
 use Rattle.cpp_press_laws.specs.Fits.{Slot, any_type, bare_type, parameter_type, IsBuiltin, IsAbbreviation, type_fits, piece_fits, argument_fits, encoding_fits, fits_nowhere, fits_of, PacksFit, MayBeReferred}
 use Rattle.cpp_press_laws.proofs.Slots.{each-slot}
 use Rattle.cpp_press_laws.proofs.Fitting as fit
-use Rattle.cpp_press_laws.proofs.Components.Adding.{AddsParts}
-use Rattle.cpp_press_laws.proofs.Components.AddedWays.{IsNotBare, way_at}
+use Rattle.cpp_press_laws.proofs.Components.AddedWays.{AddsParts, IsNotBare, way_at}
 use Rattle.cpp_press_laws.proofs.Components.AddedTrees.{adds}
 
 -- a type in a function type: it's no component, or one whose packs are those of the whole
@@ -104,10 +103,10 @@ items-again (list first rest) around allowed packs items fits shut place cs comp
     (is_open rest) around.in_lambda shut)
     place cs (λ x w. has x (inl w)) in
     let w : spell.Pressed Component = (ways_of n first).as_type place cs in
-    let a : AddsParts n (Whole first) cs w.components = ((adds first).at fit.as_type) parameter_type around allowed place cs one complete in (
+    let a : AddsParts 1 n (Whole first) cs w = ((adds first).at fit.as_type) parameter_type around allowed place cs one in (
       one,
       items-again rest around allowed packs items.1 fits (right-shut (is_open first) (is_open rest) around.in_lambda shut)
-          (place + length w.bytes) w.components a.complete (λ x i. a.keeps n x (has x (inr i))),
+          (place + length w.bytes) w.components (a.complete complete) (λ x i. a.keeps n x (has x (inr i))),
     )
 items-again (symbol e suffix) around allowed packs items fits shut place cs complete has = absurd items
 items-again _ around allowed packs items fits shut place cs complete has = absurd items
@@ -138,11 +137,11 @@ function-again c_linkage noexcept ref returned parameters around allowed stands 
     let one = item-again returned any_type tt around allowed packs stands.0 may.packs
     (left-shut (is_open returned) (is_open parameters) around.in_lambda may.lambda) (place + length marks) cs (λ x w. all x (inr (inl w))) in
     let w : spell.Pressed Component = (ways_of n returned).as_type (place + length marks) cs in
-    let a : AddsParts n (Whole returned) cs w.components = ((adds returned).at fit.as_type) any_type around allowed
-    (place + length marks) cs one complete in (
+    let a : AddsParts 1 n (Whole returned) cs w = ((adds returned).at fit.as_type) any_type around allowed
+    (place + length marks) cs one in (
       one,
       parameters-again parameters around allowed packs stands.1 stands.2 may.packs
           (right-shut (is_open returned) (is_open parameters) around.in_lambda may.lambda) (place + length
-          (marks ++ w.bytes)) w.components a.complete
+          (marks ++ w.bytes)) w.components (a.complete complete)
           (λ x i. a.keeps n x (all x (inr (inr i)))),
     )

@@ -1,26 +1,20 @@
 -- Lists of components in which each is with the components in it, and the candidates of a reader that are in such a list.
-use Rattle.std.proofs.Common.{◌≡◌, ℕ, ◌+◌, ◌<◌, ◌≤◌, ◌⊎◌, inl, inr, length, List, [], ◌∷◌, ◌++◌, Bool, true, false, refl, ap, arith, sym, subst, ◌∙◌, length-append}
-use Rattle.std.specs.Prelude.{cond, ◌&&◌, ◌||◌}
-use Rattle.std.proofs.lemmas.Bool.{true≢false}
+use Rattle.std.proofs.Common.{◌≡◌, ℕ, ◌+◌, ◌<◌, ◌≤◌, ◌⊎◌, inl, inr, length, List, [], ◌∷◌, ◌++◌, Bool, true, false, refl, ap, arith, sym, subst, ◌∙◌, length-append, zero, suc, Option, Some, None}
+use Rattle.std.specs.Prelude.{cond, ◌&&◌, ◌||◌, slice_get}
+use Rattle.std.proofs.lemmas.Bool.{true≢false, or_parts}
 use Rattle.cpp_grammar.specs.Term.{Term, symbol, alone, in_std, within, instance, local, holder, tagged, of_default, inheriting, lambda, conversion, pointer, lvalue, rvalue, array, constrained, bounded, member_pointer, function_type, qualified, vector, complex, decltype, expansion, integer, operation, pack, list}
 use Rattle.cpp_grammar.specs.Scope.{is_open}
 use Rattle.cpp_grammar.specs.Values.{Candidate}
 use Rattle.cpp_grammar.specs.References.{is_function_type}
 use Rattle.cpp_press_laws.specs.Fits.{has_letters}
-use Rattle.cpp_press_laws.specs.Components.{Component, Spelling, components_of, is_same}
-use Rattle.cpp_press_laws.proofs.Components.Parts.{IsComponent, ItselfOr, PrefixOr, UnqualifiedOr, Inside, Whole, Has, has-before, has-either, has-itself, same-means, has-closed, prefix-whole}
+use Rattle.cpp_press_laws.specs.Components.{Component, Spelling, components_of, is_same, first_equal, reference, ended, spelled_out, component}
+use Rattle.cpp_press_laws.proofs.Components.Parts.{IsComponent, ItselfOr, PrefixOr, UnqualifiedOr, Inside, Whole, Has, has-before, has-either, has-itself, same-means, has-closed, prefix-whole, found-stands}
 use Rattle.cpp_press_laws.proofs.Components.Known.{KeepsTo, known-has}
-use Rattle.cpp_press_laws.proofs.Short.Worth.{is_among, has-among, is_again, full, worth, worths, full-some, worths-one}
+use Rattle.cpp_press_laws.proofs.Short.Worth.{is_among, has-among, is_again, full, worth, worths, full-some, worths-one, worths-append}
+use Rattle.sym_spell.specs.Pressing as spell
+use Rattle.sym_spell.specs.Pressing.{◌and◌}
 
 -- ## What is in a closed tree is closed
-
-left-shut : (a b : Bool) → a || b ≡ false → a ≡ false
-left-shut false b h = refl
-left-shut true b h = absurd (true≢false h)
-
-right-shut : (a b : Bool) → a || b ≡ false → b ≡ false
-right-shut false b h = h
-right-shut true b h = absurd (true≢false h)
 
 itself-shut : (t x : Term) (inside : Type 0) → is_open t ≡ false → (inside → is_open x ≡ false) → ItselfOr t inside x → is_open x ≡ false
 itself-shut t x inside closed more (inl same) = ap is_open same.1 ∙ closed
@@ -42,13 +36,13 @@ inside-shut (symbol e suffix) x closed i = i.0
 inside-shut (alone p) x closed i = inside-shut p x closed i
 inside-shut (in_std p) x closed i = inside-shut p x closed i
 inside-shut (within prefix p) x closed (inl i) =
-    prefix-shut prefix x (Inside prefix x) (left-shut (is_open prefix) (is_open p) closed) (inside-shut prefix x (left-shut (is_open prefix) (is_open p) closed)) i
+    prefix-shut prefix x (Inside prefix x) (or_parts (is_open prefix) (is_open p) closed).0 (inside-shut prefix x (or_parts (is_open prefix) (is_open p) closed).0) i
 inside-shut (within prefix p) x closed (inr i) =
-    inside-shut p x (right-shut (is_open prefix) (is_open p) closed) i
+    inside-shut p x (or_parts (is_open prefix) (is_open p) closed).1 i
 inside-shut (instance template arguments) x closed (inl i) =
-    itself-shut template x (Inside template x) (left-shut (is_open template) (is_open arguments) closed) (inside-shut template x (left-shut (is_open template) (is_open arguments) closed)) i
+    itself-shut template x (Inside template x) (or_parts (is_open template) (is_open arguments) closed).0 (inside-shut template x (or_parts (is_open template) (is_open arguments) closed).0) i
 inside-shut (instance template arguments) x closed (inr i) =
-    inside-shut arguments x (right-shut (is_open template) (is_open arguments) closed) i
+    inside-shut arguments x (or_parts (is_open template) (is_open arguments) closed).1 i
 inside-shut (local e entity discriminator) x closed (inl s) = s.0
 inside-shut (local e entity discriminator) x closed (inr i) = inside-shut entity x closed i
 inside-shut (holder name) x closed i = prefix-shut name x (Inside name x) closed (inside-shut name x closed) i
@@ -63,17 +57,17 @@ inside-shut (lvalue type) x closed i = itself-shut type x (Inside type x) closed
 inside-shut (rvalue type) x closed i = itself-shut type x (Inside type x) closed (inside-shut type x closed) i
 inside-shut (array digits type) x closed i = itself-shut type x (Inside type x) closed (inside-shut type x closed) i
 inside-shut (bounded bound type) x closed (inl i) =
-    itself-shut bound x (Inside bound x) (left-shut (is_open bound) (is_open type) closed) (inside-shut bound x (left-shut (is_open bound) (is_open type) closed)) i
+    itself-shut bound x (Inside bound x) (or_parts (is_open bound) (is_open type) closed).0 (inside-shut bound x (or_parts (is_open bound) (is_open type) closed).0) i
 inside-shut (bounded bound type) x closed (inr i) =
-    itself-shut type x (Inside type x) (right-shut (is_open bound) (is_open type) closed) (inside-shut type x (right-shut (is_open bound) (is_open type) closed)) i
+    itself-shut type x (Inside type x) (or_parts (is_open bound) (is_open type) closed).1 (inside-shut type x (or_parts (is_open bound) (is_open type) closed).1) i
 inside-shut (member_pointer class member) x closed (inl i) =
-    itself-shut class x (Inside class x) (left-shut (is_open class) (is_open member) closed) (inside-shut class x (left-shut (is_open class) (is_open member) closed)) i
+    itself-shut class x (Inside class x) (or_parts (is_open class) (is_open member) closed).0 (inside-shut class x (or_parts (is_open class) (is_open member) closed).0) i
 inside-shut (member_pointer class member) x closed (inr i) =
-    itself-shut member x (Inside member x) (right-shut (is_open class) (is_open member) closed) (inside-shut member x (right-shut (is_open class) (is_open member) closed)) i
+    itself-shut member x (Inside member x) (or_parts (is_open class) (is_open member) closed).1 (inside-shut member x (or_parts (is_open class) (is_open member) closed).1) i
 inside-shut (function_type c_linkage noexcept ref returned parameters) x closed (inl i) =
-    itself-shut returned x (Inside returned x) (left-shut (is_open returned) (is_open parameters) closed) (inside-shut returned x (left-shut (is_open returned) (is_open parameters) closed)) i
+    itself-shut returned x (Inside returned x) (or_parts (is_open returned) (is_open parameters) closed).0 (inside-shut returned x (or_parts (is_open returned) (is_open parameters) closed).0) i
 inside-shut (function_type c_linkage noexcept ref returned parameters) x closed (inr i) =
-    inside-shut parameters x (right-shut (is_open returned) (is_open parameters) closed) i
+    inside-shut parameters x (or_parts (is_open returned) (is_open parameters) closed).1 i
 inside-shut (qualified q type) x closed i = unqualified-shut type x (Inside type x) closed (inside-shut type x closed) i
 inside-shut (vector digits type) x closed i = itself-shut type x (Inside type x) closed (inside-shut type x closed) i
 inside-shut (complex type) x closed i = itself-shut type x (Inside type x) closed (inside-shut type x closed) i
@@ -81,14 +75,14 @@ inside-shut (decltype operand) x closed i = itself-shut operand x (Inside operan
 inside-shut (expansion pattern) x closed i = itself-shut pattern x (Inside pattern x) closed (inside-shut pattern x closed) i
 inside-shut (integer type value) x closed i = itself-shut type x (Inside type x) closed (inside-shut type x closed) i
 inside-shut (operation one two u w) x closed (inl i) =
-    itself-shut u x (Inside u x) (left-shut (is_open u) (is_open w) closed) (inside-shut u x (left-shut (is_open u) (is_open w) closed)) i
+    itself-shut u x (Inside u x) (or_parts (is_open u) (is_open w) closed).0 (inside-shut u x (or_parts (is_open u) (is_open w) closed).0) i
 inside-shut (operation one two u w) x closed (inr i) =
-    itself-shut w x (Inside w x) (right-shut (is_open u) (is_open w) closed) (inside-shut w x (right-shut (is_open u) (is_open w) closed)) i
+    itself-shut w x (Inside w x) (or_parts (is_open u) (is_open w) closed).1 (inside-shut w x (or_parts (is_open u) (is_open w) closed).1) i
 inside-shut (pack elements) x closed i = inside-shut elements x closed i
 inside-shut (list first rest) x closed (inl i) =
-    itself-shut first x (Inside first x) (left-shut (is_open first) (is_open rest) closed) (inside-shut first x (left-shut (is_open first) (is_open rest) closed)) i
+    itself-shut first x (Inside first x) (or_parts (is_open first) (is_open rest) closed).0 (inside-shut first x (or_parts (is_open first) (is_open rest) closed).0) i
 inside-shut (list first rest) x closed (inr i) =
-    inside-shut rest x (right-shut (is_open first) (is_open rest) closed) i
+    inside-shut rest x (or_parts (is_open first) (is_open rest) closed).1 i
 inside-shut _ x closed i = first_of (assumption i, search i)
 
 -- ## Complete lists
@@ -282,3 +276,49 @@ each-inner read pressed inner own (c ∷ cs) components before among = (
 pub among-inner : (read pressed inner own : ℕ) (cs : List Candidate) (components : List Component) → AllBefore inner cs → StandAmong read pressed cs components
     → StandAmong inner own cs components
 among-inner read pressed inner own cs components before among = (each-inner read pressed inner own cs components before among.0, among.1)
+
+-- What was read becomes a candidate: its parts' candidates are among the components after its spelling, so with it they are
+-- among those after the component that it is.
+pub component-among : (read n : ℕ) (in_lambda : Bool) (t : Term) (spelling : Spelling) → IsComponent t → KeepsTo Unit n (Whole t) spelling → (place : ℕ)
+    (cs : List Component) (candidates : List Candidate) → n ≤ place → Complete cs → StandAmong read n candidates (spelling place cs).components
+    → StandAmong read n (candidates ++ record { tree = t; encoding = read; in_lambda = in_lambda; is_held = false } ∷ []) (component n t spelling place cs).components
+unfolding component reference spelled_out ended
+component-among read n in_lambda t spelling is keeps place cs candidates le complete among = go (first_equal n t 0 cs) refl
+  where
+    go : (o : Option ℕ) → first_equal n t 0 cs ≡ o
+        → StandAmong read n (candidates ++ record { tree = t; encoding = read; in_lambda = in_lambda; is_held = false } ∷ []) (spell.Pressed.components (elim o as
+        (λ _. spell.Pressed Component)
+        [ Some number ↦ reference number place cs | None ↦ spelled_out n t spelling place cs ]))
+    go (Some number) found =
+        let has : Has n t cs = found-stands n t 0 number cs found in
+        let stands : (x : Term) → Whole t x → Has n x cs = complete-has n t cs complete has in
+        let added = keeps place cs le (λ x whole may. stands x whole) in
+        among-known read n in_lambda t candidates cs is has (
+          each-others read n candidates (spelling place cs).components cs
+              (nothing-new n (Whole t) spelling keeps place cs le stands) among.0,
+          (
+            omega (arith, among.1.0, ap length added.split, length-append cs added.added),
+            omega (arith, among.1.1, ap (worths []) added.split, worths-append [] cs added.added),
+          ),
+        )
+    go None new = among-ended read n in_lambda t candidates (spelling place cs).components is among
+
+each-named : (read n number : ℕ) (c : Candidate) (candidates : List Candidate) (components : List Component) → EachStands read n candidates components
+    → slice_get candidates number ≡ Some c → (is_open c.tree ≡ false) ⊎ (c.encoding ≡ read) → IsComponent c.tree × Has n c.tree components
+each-named read n number c [] components among at may = absurd cc
+each-named read n zero c (d ∷ ds) components among at may =
+    let same : d ≡ c = cc in
+    subst (λ x. (is_open x.tree ≡ false) ⊎ (x.encoding ≡ read) → IsComponent x.tree × Has n x.tree components) same
+    (λ m. (among.0.0, among.0.1 m)) may
+each-named read n (suc number) c (d ∷ ds) components among at may = each-named read n number c ds components among.1 at may
+
+-- What a reference may name is among the components: it's a candidate that is closed, or of the same encoding.
+pub named-stands : (read n number : ℕ) (c : Candidate) (candidates : List Candidate) (components : List Component) → StandAmong read n candidates components
+    → slice_get candidates number ≡ Some c → (is_open c.tree ≡ false) ⊎ (c.encoding ≡ read) → IsComponent c.tree × Has n c.tree components
+named-stands read n number c candidates components among at may = each-named read n number c candidates components among.0 at may
+
+-- ## Packs
+
+-- a length is allowed at least if the expansion has named it
+abbrev pub Allows : (allowed packs : Option ℕ) → Type 0
+Allows allowed packs = (m : ℕ) → packs ≡ Some m → allowed ≡ Some m

@@ -1,6 +1,6 @@
 -- Encodings as prefixes: none is one.
-use Rattle.std.proofs.Common.{◌≡◌, ℕ, List, Option, Bool, true, false, refl, ap, ◌∙◌, arith}
-use Rattle.std.proofs.lemmas.Bool.{false≢true}
+use Rattle.std.proofs.Common.{◌≡◌, ℕ, List, Option, true, false, ap, ◌∙◌, arith}
+use Rattle.std.proofs.lemmas.Bool.{false≢true, false_from_ne_true}
 use Rattle.sym_spell.specs.Pressing.{◌and◌, nothing}
 use Rattle.cpp_grammar.specs.Term.{Term, symbol}
 use Rattle.cpp_grammar.specs.Values.{Around}
@@ -28,11 +28,8 @@ no-encoding-fits _ around allowed place cs is fits = first_of (cc, assumption fi
 -- what fits as a prefix is no encoding
 pub no-encoding : (x : Term) (around : Around) (allowed : Option ℕ) (place : ℕ) (cs : List Component)
     → (fits_of x).as_prefix around allowed place cs → is_encoding x ≡ false
-no-encoding x around allowed place cs fits = go (is_encoding x) (λ is. no-encoding-fits x around allowed place cs is fits)
-  where
-    go : (b : Bool) → (b ≡ true → ⊥) → b ≡ false
-    go true never = absurd (never refl)
-    go false never = refl
+no-encoding x around allowed place cs fits =
+    false_from_ne_true (is_encoding x) (λ is. no-encoding-fits x around allowed place cs is fits)
 
 -- an encoding has no free parameters
 pub encoding-shut : (e : Term) → is_encoding e ≡ true → is_open e ≡ false

@@ -1,6 +1,7 @@
 -- The components in a tree, and what is among components.
 use Rattle.std.proofs.Common.{◌≡◌, ℕ, ◌+◌, ◌⊎◌, inl, inr, List, [], ◌∷◌, ◌++◌, Option, Some, None, Bool, true, false, refl, sym, ◌∙◌}
 use Rattle.std.specs.Prelude.{not, ◌&&◌, ◌||◌, nat_eq}
+use Rattle.std.proofs.Math.Bool.{and-true}
 use Rattle.std.proofs.lemmas.Bool.{eq-eqb, eqb-true, and_parts, false≢true}
 use Rattle.cpp_grammar.specs.Term.{Term, symbol, function, object, special, thunk, of_name, construction, clone, alone, in_std, within, instance, local, holder, tagged, of_default, parameter, inheriting, lambda, generic_lambda, conversion, vendor, pointer, lvalue, rvalue, array, constrained, bounded, member_pointer, function_type, qualified, vector, complex, decltype, expansion, integer, encoding_literal, address_of, operation, pack, list}
 use Rattle.cpp_grammar.specs.Scope.{is_open}
@@ -159,10 +160,6 @@ same-means n x c same =
     go false b is h = inl refl
     go true true is h = inr (eqb-true c.encoding n is)
     go true false is h = absurd (false≢true h)
-
-and-true : (b : Bool) → b && true ≡ b
-and-true true = refl
-and-true false = refl
 
 same-closed : (n : ℕ) (x : Term) (c : Component) → is_open x ≡ false → is_same n x c ≡ same_tree x c.tree
 unfolding is_same

@@ -1,54 +1,40 @@
 -- Local names and encodings are read in each of their ways.
-use Rattle.std.proofs.Common.{◌≡◌, ℕ, ◌+◌, ◌≤◌, length, List, [], ◌∷◌, ◌++◌, Option, Some, None, Bool, true, false, refl, ap, arith, sym, subst, ◌∙◌, append-nil, append_assoc, length-append}
+use Rattle.std.proofs.Common.{◌≡◌, ℕ, ◌+◌, ◌≤◌, length, List, [], ◌∷◌, ◌++◌, Option, Some, None, Bool, true, false, refl, ap, arith, sym, subst, append-nil, length-append, ◌∙◌}
 use Rattle.std.specs.Prelude.{codes}
 use Rattle.sym_shape.specs.declared.rule.Sym.TheVariants.{Kind as OfKind}
 use Rattle.sym_spell.specs.Pressing.{◌and◌, text, nothing}
 use Rattle.cpp_grammar.specs.declared.kind.Kind.{Kind}
-use Rattle.cpp_grammar.specs.KindNumbers.{ENCODING, CALL_OFFSET, COMPLETE_NAME, MAYBE_DISCRIMINATOR, TYPE, ITEM, ITEMS}
+use Rattle.cpp_grammar.specs.KindNumbers.{ENCODING, COMPLETE_NAME, ITEMS}
 use Rattle.cpp_grammar.specs.Grammar.{kinds, may_be_empty}
-use Rattle.cpp_grammar.specs.Term.{Adjustment, non_virtual, by_table, Thunk, adjusting, covariant, function, object, special, thunk, of_name, absent, Qualifiers, RefQualifier, local, Term, nil, list, instance}
+use Rattle.cpp_grammar.specs.Term.{Thunk, function, object, special, thunk, of_name, absent, Qualifiers, RefQualifier, local, Term, nil, list, instance}
 use Rattle.cpp_grammar.specs.Scope.{count, arguments_of, has_return_type}
 use Rattle.cpp_grammar.specs.Values.{Around, Value, nothing_there, tree, tree_of}
 use Rattle.cpp_grammar.specs.References.{is_function_type}
 use Rattle.cpp_grammar.specs.Between.{in_name, in_types, after, no_items}
 use Rattle.cpp_grammar.specs.Meaning.{encoding_of, parameters}
 use Rattle.cpp_grammar.specs.Texts.{special_front}
-use Rattle.cpp_press_laws.specs.Texts.{offset_text, thunk_text, name_letters, special_code, discriminator_text, signed_text}
+use Rattle.cpp_press_laws.specs.Texts.{thunk_text, name_letters, special_code, discriminator_text}
 use Rattle.cpp_press_laws.specs.Components.{Component, Spelling, component}
 use Rattle.cpp_press_laws.specs.Pressing.{begun, encoding_ways, in_N_and_E, is_one_piece, entity_text, local_text, ways_of, no_ways, type_ways}
 use Rattle.cpp_press_laws.specs.Subtrees.{Written, written, ReadsAt, Is, HasRoom, IsSmall}
-use Rattle.cpp_press_laws.proofs.ReadBack.Reading.{empty-reads}
-use Rattle.cpp_press_laws.proofs.ReadBack.Types.{same-written}
-use Rattle.cpp_press_laws.proofs.ReadBack.Arguments.{items-more, integer-reads}
+use Rattle.cpp_press_laws.proofs.ReadBack.Reading.{empty-reads, elsewhere, same-written}
+use Rattle.cpp_press_laws.proofs.ReadBack.Arguments.{items-more}
 use Rattle.cpp_press_laws.proofs.ReadBack.Names.{Extends}
 use Rattle.cpp_press_laws.proofs.Components.Keeping.{Keeps, keeps-text, keeps-and, keeps-front, keeps-behind, keeps}
 use Rattle.cpp_press_laws.proofs.ReadBack.Slots.{room-first, room-rest, ReadsAs, solid_kind, in-slot, fitting-in}
 use Rattle.cpp_press_laws.proofs.ReadBack.Named.{ItemsRead}
 use Rattle.cpp_press_laws.proofs.ReadBack.Between.{ExtendsWith, extends-with-behind-s, prefix-behind-s}
 use Rattle.cpp_press_laws.proofs.ReadBack.Templates.{TypeRules, slot-rules}
-use Rattle.cpp_press_laws.proofs.EveryWay.Every.{NameReads, EntityReads, template-value, Leads, slot_way, typed-argument, reads-encoding, referred-before, reads-nowhere}
+use Rattle.cpp_press_laws.proofs.EveryWay.Every.{NameReads, EntityReads, template-value, Leads, typed-argument, reads-encoding, referred-before, reads-nowhere}
 use Rattle.cpp_press_laws.proofs.EveryWay.Types.{Reading, ReadingAt}
-use Rattle.cpp_press_laws.specs.Fits.{IsSpellableOffset, IsSpellableThunk, either, Role, in_type, in_name_with, letters_of, IsSpellableDiscriminator, Slot, any_type, bare_type, item_type, parameter_type, literal_type, Fitting, as_component, nowhere, Behind, type_fits, fits_nowhere, fits_of}
+use Rattle.cpp_press_laws.specs.Fits.{either, Role, in_type, in_name_with, letters_of, IsSpellableDiscriminator, Slot, any_type, bare_type, item_type, parameter_type, literal_type, Fitting, as_component, nowhere, Behind, type_fits, fits_nowhere, fits_of}
 use Rattle.cpp_press_laws.proofs.Slots.{each-slot}
 use Rattle.cpp_press_laws.proofs.Spots as spot
-use Rattle.cpp_press_laws.proofs.ReadBack.Symbols.{discriminator_value, no-discriminator, one-digit, many-digits, local-type, local-name, encoding-reads, guard-reads, special-reads, special-type, non-virtual-thunk, virtual-thunk, covariant-thunk, non-virtual-offset, virtual-offset}
-use Rattle.cpp_grammar.specs.Values.{qualifiers_of, ref_of, named, adjusted}
+use Rattle.cpp_press_laws.proofs.ReadBack.Symbols.{local-type, local-name, encoding-reads, guard-reads, special-reads, special-type, discriminator-reads, thunk-reads}
+use Rattle.cpp_grammar.specs.Values.{qualifiers_of, ref_of, named}
 use Rattle.cpp_press_laws.proofs.Components.Keeping.{keeps-local, keeps-N-and-E, keeps-choice}
 
 -- ## Local names
-
-discriminator-reads : (around : Around) (allowed : Option ℕ) (d : Option (List ℕ)) (place : ℕ) (cs : List Component)
-    → IsSpellableDiscriminator d
-    → ReadsAt around allowed (OfKind MAYBE_DISCRIMINATOR) (Is (discriminator_value d)) place cs (written (discriminator_text d) cs)
-unfolding discriminator_text
-discriminator-reads around allowed None place cs h = no-discriminator around allowed place cs
-discriminator-reads around allowed (Some []) place cs h = many-digits around allowed [] place cs h
-discriminator-reads around allowed (Some (d ∷ [])) place cs h = one-digit around allowed d place cs h.0 h.1
-discriminator-reads around allowed (Some (d ∷ e ∷ ds)) place cs h =
-    same-written around allowed (OfKind MAYBE_DISCRIMINATOR) (Is (discriminator_value (Some (d ∷ e ∷ ds)))) place cs cs
-    (95 ∷ 95 ∷ (((d ∷ e ∷ ds) ++ []) ++ (95 ∷ []))) (95 ∷ 95 ∷ ((d ∷ e ∷ ds) ++ (95 ∷ [])))
-    (ap (λ l. 95 ∷ 95 ∷ (l ++ (95 ∷ []))) (append-nil (d ∷ e ∷ ds)))
-    (many-digits around allowed (d ∷ e ∷ ds) place cs h)
 
 abbrev local_spelling : ℕ → (e entity : Term) → Option (List ℕ) → (letters : List ℕ) → Spelling
 local_spelling n e entity d letters = local_text (ways_of n e).as_encoding entity (ways_of n entity).between_N_and_E d letters
@@ -69,22 +55,15 @@ keeps-entity n entity letters =
     keeps-choice (is_one_piece entity) (ways_of n entity).between_N_and_E (in_N_and_E letters (ways_of n entity).between_N_and_E)
     (keeps entity n).between_N_and_E (keeps-N-and-E letters (ways_of n entity).between_N_and_E (keeps entity n).between_N_and_E)
 
--- the encoding, the entity and the discriminator
-record LocalParts (role : Role) (around : Around) (allowed : Option ℕ) (e entity : Term) (d : Option (List ℕ)) (place : ℕ)
-    (cs : List Component)
-    (first second : Written) : Type 0 where
-  one : ReadsAt around allowed (OfKind ENCODING) (Is (tree e true)) (place + 1) cs first
-  two : EntityReads role (after e true around) allowed entity (place + 1 + length first.bytes + 1) first.components second
-  three : ReadsAt (after e true around) allowed (OfKind MAYBE_DISCRIMINATOR) (Is (discriminator_value d))
-      (place + 1 + length first.bytes + 1 + length second.bytes)
-      second.components (written (discriminator_text d) second.components)
-
+-- the encoding and the entity
 local-parts : (e entity : Term) (d : Option (List ℕ)) → Reading e → Reading entity → (role : Role) (around : Around) (allowed : Option ℕ)
     (place : ℕ) (cs : List Component) → IsSmall around → HasRoom (local_spelling around.encoding e entity d (letters_of role) place cs)
     → local_fits e entity d role around allowed place cs
     → (let first = (ways_of around.encoding e).as_encoding (place + 1) cs in
-    LocalParts role around allowed e entity d place cs first
-    (entity_spelling around.encoding entity (letters_of role) (place + 1 + length first.bytes + 1) first.components))
+    let at = place + 1 + length first.bytes + 1 in
+    ReadsAt around allowed (OfKind ENCODING) (Is (tree e true)) (place + 1) cs first
+    × EntityReads role (after e true around) allowed entity at first.components
+    (entity_spelling around.encoding entity (letters_of role) at first.components))
 unfolding local_text after
 local-parts e entity d re rn role around allowed place cs small room h =
     let n : ℕ = around.encoding in
@@ -95,19 +74,16 @@ local-parts e entity d re rn role around allowed place cs small room h =
     let at : ℕ = place + 1 + length first.bytes + 1 in
     let inner = room-rest (text (codes "Z")) (spelled and text (codes "E") and name and end) place cs room in
     let behind = room-rest spelled (text (codes "E") and name and end) (place + 1) cs inner in
-    let named_room = room-rest (text (codes "E")) (name and end) (place + 1 + length first.bytes) first.components behind in
-    record {
-      one = (re.at spot.as_encoding) around allowed (place + 1) cs small
+    let named_room = room-rest (text (codes "E")) (name and end) (place + 1 + length first.bytes) first.components behind in (
+      (re.at spot.as_encoding) around allowed (place + 1) cs small
           (room-first spelled (text (codes "E") and name and end) (place + 1) cs
           (keeps-front (codes "E") (name and end) (keeps-behind name (discriminator_text d) (keeps-entity n entity
-          (letters_of role)))) inner) h.0;
-      two = (rn.at spot.as_entity) role (after e true around) allowed at first.components small
+          (letters_of role)))) inner) h.0,
+      (rn.at spot.as_entity) role (after e true around) allowed at first.components small
           (room-first name end at first.components (keeps-text _) named_room)
           (subst (λ q. (fits_of entity).as_entity role (after e true around) allowed q first.components)
-          (omega (arith, length-append first.bytes (69 ∷ []))) h.1);
-      three = discriminator-reads (after e true around) allowed d (at + length (name at first.components).bytes)
-          (name at first.components).components h.2;
-    }
+          (omega (arith, length-append first.bytes (69 ∷ []))) h.1),
+    )
 
 local-typed : (e entity : Term) (d : Option (List ℕ)) → Reading e → Reading entity → (k : ℕ) → TypeRules k → (around : Around)
     (allowed : Option ℕ) (place : ℕ) (cs : List Component) → IsSmall around → HasRoom (local_spelling around.encoding e entity d [] place cs)
@@ -120,8 +96,8 @@ local-typed e entity d re rn k rules around allowed place cs small room h =
     let second : Written = entity_spelling n entity [] (place + 1 + length first.bytes + 1) first.components in
     let p = local-parts e entity d re rn in_type around allowed place cs small room h in
     local-type k around allowed e entity false d place cs first second (written
-    (discriminator_text d) second.components) rules.locals p.one p.two
-    p.three
+    (discriminator_text d) second.components) rules.locals p.0 p.1
+    (discriminator-reads (after e true around) allowed d _ second.components h.2)
 
 local-as-name : (e entity : Term) (d : Option (List ℕ)) → Reading e → Reading entity → (q : Qualifiers) (ref : RefQualifier) (around : Around)
     (allowed : Option ℕ) (place : ℕ) (cs : List Component) → IsSmall around
@@ -135,13 +111,13 @@ local-as-name e entity d re rn q ref around allowed place cs small room h =
     let second : Written = entity_spelling n entity (name_letters q ref) (place + 1 + length first.bytes + 1) first.components in
     let p = local-parts e entity d re rn (in_name_with q ref) around allowed place cs small room h in
     record {
-      value = named (local e (tree_of p.two.value) d) (qualifiers_of p.two.value) (ref_of p.two.value);
-      tree_is = ap (λ x. local e x d) p.two.tree_is;
-      qualifiers_are = p.two.qualifiers_are;
-      ref_is = p.two.ref_is;
-      reads = local-name around allowed e p.two.value d place cs first second (written
-          (discriminator_text d) second.components) p.one p.two.reads
-          p.three;
+      value = named (local e (tree_of p.1.value) d) (qualifiers_of p.1.value) (ref_of p.1.value);
+      tree_is = ap (λ x. local e x d) p.1.tree_is;
+      qualifiers_are = p.1.qualifiers_are;
+      ref_is = p.1.ref_is;
+      reads = local-name around allowed e p.1.value d place cs first second (written
+          (discriminator_text d) second.components) p.0 p.1.reads
+          (discriminator-reads (after e true around) allowed d _ second.components h.2);
     }
 
 keeps-local-spelling : (n : ℕ) (e entity : Term) (d : Option (List ℕ)) (letters : List ℕ) → Keeps (local_spelling n e entity d letters)
@@ -170,12 +146,8 @@ reads-local e entity d re rn = record {
         (λ fits enough. s.adds place cs (local_spelling around.encoding e entity d [] place cs)
         (local-typed e entity d re rn (solid_kind slot) (slot-rules slot) around allowed place cs small enough fits))
 
-    as_types : (slot : Slot) → Leads (λ n. slot_way slot (ways_of n (local e entity d))) ((fits_of (local e entity d)).as_type slot)
-        (λ around allowed. ReadsAs slot around allowed (local e entity d))
-    as_types = each-slot _ (whole any_type) (whole bare_type) (whole item_type) (whole parameter_type) (whole literal_type)
-
     each : ReadingAt (local e entity d)
-    each spot.as_type = as_types
+    each spot.as_type = each-slot _ (whole any_type) (whole bare_type) (whole item_type) (whole parameter_type) (whole literal_type)
     each spot.as_prefix = λ around allowed place cs small room h.
         fitting-in around allowed (local e entity d) (Extends around allowed (local e entity d)) place cs
         (local_spelling around.encoding e entity d []) nowhere
@@ -256,8 +228,7 @@ items-whole around allowed ps place cs w i =
     (i.one.bytes ++ i.rest.bytes) ds))
     i.components
     (items-more around allowed i.first i.items i.last place cs i.one i.rest i.are
-    (subst (λ q. ReadsAt around allowed (OfKind ITEM) (Is (tree i.first true)) q cs i.one) (omega arith) i.reads_one)
-    (subst (λ q. ReadsAt around allowed (OfKind ITEMS) (Is i.last) q i.one.components i.rest) (omega arith) i.reads_rest)))
+    (elsewhere (omega arith) i.reads_one) (elsewhere (omega arith) i.reads_rest)))
 
 -- with a return type before the parameters
 returned-items : (name r ps : Term) (q : Qualifiers) (ref : RefQualifier) → Reading r → Reading ps → (around : Around) (allowed : Option ℕ)
@@ -279,10 +250,10 @@ returned-items name r ps q ref rr rp around allowed v place cs small room a b c 
       last = tree (list r (list i.first i.items)) true;
       means = encoding-returned v name r (list i.first i.items) ps q ref a b c has i.means;
       reads = items-more around allowed r (list i.first i.items) (tree (list i.first i.items) true) place cs w x refl
-          (subst (λ p. ReadsAt around allowed (OfKind ITEM) (Is (tree r true)) p cs w) (omega arith)
+          (elsewhere (omega arith)
           (rr.at spot.as_type item_type around allowed place cs small
           (room-first (ways_of n r).as_type (ways_of n ps).as_parameters place cs (keeps ps n).as_parameters room) one))
-          (subst (λ p. ReadsAt around allowed (OfKind ITEMS) (Is (tree (list i.first i.items) true)) p w.components x) (omega arith)
+          (elsewhere (omega arith)
           (items-whole around allowed ps (place + length w.bytes) w.components x i));
     }
 
@@ -303,7 +274,7 @@ plain-items name ps q ref rp around allowed v place cs small room a b c has two 
     record {
       last = tree (list i.first i.items) true;
       means = encoding-plain v name i.first i.items ps q ref a b c has i.means;
-      reads = subst (λ p. ReadsAt around allowed (OfKind ITEMS) (Is (tree (list i.first i.items) true)) p cs x) (omega arith)
+      reads = elsewhere (omega arith)
           (items-whole around allowed ps (place + 0) cs x i);
     }
 
@@ -352,12 +323,10 @@ reads-function counts name r ps q ref rn rr rp =
     (omega (arith, length-append first.bytes (b at first.components).bytes)) h.2) in
     subst (λ x. ReadsAt around allowed (OfKind ENCODING) (Is (tree x true)) here cs ((a and b and c) here cs)) i.means
     (encoding-reads around allowed v.value i.last here cs first ((b and c) at first.components)
-    (subst (λ p. ReadsAt (in_name here) allowed (OfKind COMPLETE_NAME) (Is v.value) p cs first) (omega arith) v.reads)
+    (elsewhere (omega arith) v.reads)
     (subst (λ x. ReadsAt (in_types here x) allowed (OfKind ITEMS) (Is i.last) (here + 0 + length first.bytes) first.components
     ((b and c) at first.components)) (sym v.tree_is)
-    (subst (λ p. ReadsAt (in_types here name) allowed (OfKind ITEMS) (Is i.last) p first.components ((b and c) at first.components))
-    (omega arith)
-    i.reads))))
+    (elsewhere (omega arith) i.reads))))
 
 pub reads-object : (name : Term) (q : Qualifiers) (ref : RefQualifier) → Reading name → Reading (object name q ref)
 unfolding ways_of fits_of encoding_ways begun no_ways in_name no_items kinds may_be_empty
@@ -367,12 +336,10 @@ reads-object name q ref rn =
     let v = (rn.at spot.as_name) q ref (in_name here) allowed here cs (name-small here) room h in
     subst (λ x. ReadsAt around allowed (OfKind ENCODING) (Is (tree x true)) here cs first)
     (encoding-object v.value name q ref v.tree_is v.qualifiers_are v.ref_is)
-    (same-written around allowed (OfKind ENCODING) (Is (tree (encoding_of v.value nil) true)) here cs first.components
-    (first.bytes ++ []) first.bytes
-    (append-nil first.bytes)
+    (same-written (append-nil first.bytes)
     (encoding-reads around allowed v.value nothing_there here cs first (written [] first.components)
-    (subst (λ p. ReadsAt (in_name here) allowed (OfKind COMPLETE_NAME) (Is v.value) p cs first) (omega arith) v.reads)
-    (empty-reads (in_types here (tree_of v.value)) allowed ITEMS Kind.Items (here + 0 + length first.bytes) first.components refl refl))))
+    (elsewhere (omega arith) v.reads)
+    (empty-reads Kind.Items refl refl))))
 
 of-name-is : (v : Value) (l : ℕ) (name : Term) (q : Qualifiers) (ref : RefQualifier) → tree_of v ≡ name → qualifiers_of v ≡ q → ref_of v ≡ ref
     → of_name l (tree_of v) (qualifiers_of v) (ref_of v) ≡ of_name l name q ref
@@ -390,7 +357,7 @@ reads-of-name l name q ref rn =
     (subst (λ x. ReadsAt around allowed (OfKind ENCODING) (Is (tree x true)) here cs (written (71 ∷ 86 ∷ w.bytes) w.components))
     (of-name-is v.value 86 name q ref v.tree_is v.qualifiers_are v.ref_is)
     (guard-reads around allowed v.value here cs w
-    (subst (λ p. ReadsAt (in_name here) allowed (OfKind COMPLETE_NAME) (Is v.value) p cs w) (omega arith) v.reads))))
+    (elsewhere (omega arith) v.reads))))
 
 pub reads-special : (l : ℕ) (t : Term) → Reading t → Reading (special l t)
 unfolding ways_of fits_of encoding_ways begun no_ways in_name
@@ -399,78 +366,11 @@ reads-special l t r =
     let w : Written = (ways_of here t).as_type (here + 2) cs in
     special-reads around allowed (tree (special l t) true) here cs (written (l ∷ w.bytes) w.components)
     (special-type (in_name here) allowed l t (here + 1) cs w h.0 h.1
-    (subst (λ p. ReadsAt (in_name here) allowed (OfKind TYPE) (Is (tree t true)) p cs w) (omega arith)
+    (elsewhere (omega arith)
     (r.at spot.as_type any_type (in_name here) allowed (here + 2) cs (name-small here)
     (room-rest (text (codes "T" ++ l ∷ [])) (ways_of here t).as_type here cs room) h.2))))
 
 -- ## Thunks
-
-two-offsets : (a b x : List ℕ) → a ++ (95 ∷ (b ++ (95 ∷ x))) ≡ ((a ++ (95 ∷ [])) ++ b) ++ (95 ∷ x)
-two-offsets a b x = sym (append_assoc a (95 ∷ []) (b ++ (95 ∷ x))) ∙ sym (append_assoc (a ++ (95 ∷ [])) b (95 ∷ x))
-
-offset-reads : (around : Around) (allowed : Option ℕ) (a : Adjustment) (place : ℕ) (cs : List Component) → IsSpellableOffset a
-    → ReadsAt around allowed (OfKind CALL_OFFSET) (Is (adjusted a)) place cs (written (offset_text a) cs)
-unfolding offset_text
-offset-reads around allowed (non_virtual n) place cs h =
-    non-virtual-offset around allowed n place cs (written (signed_text n) cs) (integer-reads around allowed n (place + 1) cs h)
-offset-reads around allowed (by_table n m) place cs h =
-    same-written around allowed (OfKind CALL_OFFSET) (Is (adjusted (by_table n m))) place cs cs
-    (118 ∷ (signed_text n ++ (95 ∷ (signed_text m ++ (95 ∷ []))))) (118 ∷ (((signed_text n ++ (95 ∷ [])) ++ signed_text m) ++ (95 ∷ [])))
-    (ap (λ l. 118 ∷ l) (two-offsets (signed_text n) (signed_text m) []))
-    (virtual-offset around allowed n m place cs (written (signed_text n) cs) (written (signed_text m) cs)
-    (integer-reads around allowed n (place + 1) cs h.0) (integer-reads around allowed m (place + 1 + length (signed_text n) + 1) cs h.1))
-
-thunk-reads : (kind : Thunk) (around : Around) (allowed : Option ℕ) (e : Term) (place : ℕ) (cs : List Component) (w : Written)
-    → IsSpellableThunk kind
-    → ReadsAt (in_name place) allowed (OfKind ENCODING) (Is (tree e true)) (place + length (thunk_text kind)) cs w
-    → ReadsAt around allowed (OfKind ENCODING) (Is (tree (thunk kind e) true)) place cs (written (thunk_text kind ++ w.bytes) w.components)
-unfolding thunk_text offset_text
-thunk-reads (adjusting (non_virtual n)) around allowed e place cs w h one =
-    same-written around allowed (OfKind ENCODING) (Is (tree (thunk (adjusting (non_virtual n)) e) true)) place cs w.components
-    (84 ∷ 104 ∷ (signed_text n ++ (95 ∷ w.bytes))) (84 ∷ 104 ∷ ((signed_text n ++ (95 ∷ [])) ++ w.bytes))
-    (ap (λ l. 84 ∷ 104 ∷ l) (sym (append_assoc (signed_text n) (95 ∷ []) w.bytes)))
-    (special-reads around allowed (tree (thunk (adjusting (non_virtual n)) e) true) place cs
-    (written (104 ∷ (signed_text n ++ (95 ∷ w.bytes))) w.components)
-    (non-virtual-thunk (in_name place) allowed n e (place + 1) cs (written (signed_text n) cs) w
-    (integer-reads (in_name place) allowed n (place + 1 + 1) cs h)
-    (subst (λ p. ReadsAt (in_name place) allowed (OfKind ENCODING) (Is (tree e true)) p cs w) (omega (
-      arith,
-      length-append (signed_text n)
-          (95 ∷ []),
-    )) one)))
-thunk-reads (adjusting (by_table n m)) around allowed e place cs w h one =
-    same-written around allowed (OfKind ENCODING) (Is (tree (thunk (adjusting (by_table n m)) e) true)) place cs w.components
-    (84 ∷ 118 ∷ (signed_text n ++ (95 ∷ (signed_text m ++ (95 ∷ w.bytes)))))
-    (84 ∷ 118 ∷ ((((signed_text n ++ (95 ∷ [])) ++ signed_text m) ++ (95 ∷ [])) ++ w.bytes))
-    (ap (λ l. 84 ∷ 118 ∷ l) (two-offsets (signed_text n) (signed_text m) w.bytes
-    ∙ sym (append_assoc ((signed_text n ++ (95 ∷ [])) ++ signed_text m) (95 ∷ []) w.bytes)))
-    (special-reads around allowed (tree (thunk (adjusting (by_table n m)) e) true) place cs
-    (written (118 ∷ (signed_text n ++ (95 ∷ (signed_text m ++ (95 ∷ w.bytes))))) w.components)
-    (virtual-thunk (in_name place) allowed n m e (place + 1) cs (written (signed_text n) cs) (written (signed_text m) cs) w
-    (integer-reads (in_name place) allowed n (place + 1 + 1) cs h.0)
-    (integer-reads (in_name place) allowed m (place + 1 + 1 + length (signed_text n) + 1) cs h.1)
-    (subst (λ p. ReadsAt (in_name place) allowed (OfKind ENCODING) (Is (tree e true)) p cs w)
-    (omega (
-      arith,
-      length-append ((signed_text n ++ (95 ∷ [])) ++ signed_text m) (95 ∷ []),
-      length-append (signed_text n ++ (95 ∷ [])) (signed_text m),
-      length-append (signed_text n) (95 ∷ []),
-    )) one)))
-thunk-reads (covariant a b) around allowed e place cs w h one =
-    same-written around allowed (OfKind ENCODING) (Is (tree (thunk (covariant a b) e) true)) place cs w.components
-    (84 ∷ 99 ∷ (offset_text a ++ (offset_text b ++ w.bytes))) (84 ∷ 99 ∷ ((offset_text a ++ offset_text b) ++ w.bytes))
-    (ap (λ l. 84 ∷ 99 ∷ l) (sym (append_assoc (offset_text a) (offset_text b) w.bytes)))
-    (special-reads around allowed (tree (thunk (covariant a b) e) true) place cs
-    (written (99 ∷ (offset_text a ++ (offset_text b ++ w.bytes))) w.components)
-    (covariant-thunk (in_name place) allowed a b e (place + 1) cs (written (offset_text a) cs) (written (offset_text b) cs) w
-    (offset-reads (in_name place) allowed a (place + 1 + 1) cs h.0)
-    (offset-reads (in_name place) allowed b (place + 1 + 1 + length (offset_text a)) cs h.1)
-    (subst (λ p. ReadsAt (in_name place) allowed (OfKind ENCODING) (Is (tree e true)) p cs w) (omega (
-      arith,
-      length-append (offset_text a)
-          (offset_text b),
-    ))
-    one)))
 
 pub reads-thunk : (kind : Thunk) (e : Term) → Reading e → Reading (thunk kind e)
 unfolding ways_of fits_of encoding_ways begun no_ways in_name

@@ -3,7 +3,7 @@ use Rattle.std.proofs.Common.{◌≡◌, ℕ, ◌+◌, ◌≤◌, length, List, 
 use Rattle.std.specs.Prelude.{codes, ◌&&◌}
 use Rattle.sym_shape.specs.declared.rule.Sym.TheVariants.{Kind as OfKind}
 use Rattle.sym_spell.specs.Pressing.{◌and◌, text}
-use Rattle.cpp_grammar.specs.KindNumbers.{ENCODING, TYPE_ENTITY, ITEM, ARGUMENT_LIST, PACK_LIST, COMPLETE_NAME, ENTITY, ITEMS}
+use Rattle.cpp_grammar.specs.KindNumbers.{ENCODING, TYPE_ENTITY, COMPLETE_NAME, ENTITY, ITEMS}
 use Rattle.cpp_grammar.specs.Term.{Qualifiers, RefQualifier, any_value, Term, instance, list}
 use Rattle.cpp_grammar.specs.Values.{Around, Value, tree, tree_of, qualifiers_of, ref_of, unqualified}
 use Rattle.cpp_grammar.specs.References.{is_function_type}
@@ -14,10 +14,8 @@ use Rattle.cpp_press_laws.specs.Components.{Component, Spelling, first_equal, se
 use Rattle.cpp_press_laws.specs.Pressing.{Ways, no_ways, type_ways, is_one_piece, entity_text}
 use Rattle.cpp_press_laws.specs.Subtrees.{greatest, Written, written, ReadsAt, Is, HasRoom, IsSmall}
 use Rattle.cpp_press_laws.proofs.ReadBack.References.{found-first, number-refers}
-use Rattle.cpp_press_laws.proofs.ReadBack.Types.{more}
-use Rattle.cpp_press_laws.proofs.ReadBack.Arguments.{items_value, type-argument, type-element}
+use Rattle.cpp_press_laws.proofs.ReadBack.Arguments.{items_value, any-argument, item-as-argument, list_kind}
 use Rattle.cpp_press_laws.proofs.ReadBack.Names.{SoFar, Extends}
-use Rattle.cpp_press_laws.proofs.ReadBack.Parameters.{RestReads}
 use Rattle.cpp_press_laws.proofs.Components.Keeping.{Keeps, keeps-component, keeps-and}
 use Rattle.cpp_press_laws.proofs.ReadBack.Slots.{few-before, ReadsAs, is_bare, in-slot, fitting-in}
 use Rattle.cpp_press_laws.proofs.ReadBack.Named.{PieceReads, ItemsRead}
@@ -27,6 +25,8 @@ use Rattle.cpp_press_laws.specs.Fits.{Slot, any_type, bare_type, item_type, para
 use Rattle.cpp_press_laws.proofs.Slots.{each-slot}
 use Rattle.cpp_press_laws.proofs.Spots as spot
 use Rattle.cpp_press_laws.proofs.Spots.{Spot}
+use Rattle.cpp_press_laws.proofs.ReadBack.Reading.{elsewhere, more}
+use Rattle.cpp_press_laws.proofs.ReadBack.Functions.{RestReads}
 
 -- ## What is read
 
@@ -55,11 +55,6 @@ template-value false around allowed k t place cs w one =
 abbrev pub EntityReads : Role → Around → Option ℕ → Term → (place : ℕ) → List Component → Written → Type 0
 EntityReads in_type around allowed t place cs w = ReadsAt around allowed (OfKind TYPE_ENTITY) (Is (tree t false)) place cs w
 EntityReads (in_name_with q ref) around allowed t place cs w = NameReads around allowed ENTITY t q ref place cs w
-
--- elements of a pack, or arguments
-abbrev pub list_kind : (in_pack : Bool) → ℕ
-list_kind true = PACK_LIST
-list_kind false = ARGUMENT_LIST
 
 -- as one more element before others
 abbrev pub ArgumentReads : Bool → Around → Option ℕ → Term → (place : ℕ) → List Component → Written → Type 0
@@ -219,14 +214,8 @@ reads-encoding t ways standing one = record {
 -- a type as an argument
 pub typed-argument : (in_pack : Bool) (around : Around) (allowed : Option ℕ) (t : Term) (place : ℕ) (cs : List Component) (w : Written)
     → ReadsAs item_type around allowed t place cs w → ArgumentReads in_pack around allowed t place cs w
-typed-argument true around allowed t place cs w one items last rest are two =
-    type-element around allowed t items last place cs w rest are
-    (subst (λ q. ReadsAt around allowed (OfKind ITEM) (Is (tree t true)) q cs w) (omega arith) one)
-    (subst (λ q. ReadsAt around allowed (OfKind PACK_LIST) (Is last) q w.components rest) (omega arith) two)
-typed-argument false around allowed t place cs w one items last rest are two =
-    type-argument around allowed t items last place cs w rest are
-    (subst (λ q. ReadsAt around allowed (OfKind ITEM) (Is (tree t true)) q cs w) (omega arith) one)
-    (subst (λ q. ReadsAt around allowed (OfKind ARGUMENT_LIST) (Is last) q w.components rest) (omega arith) two)
+typed-argument in_pack around allowed t place cs w one items last rest are two =
+    any-argument in_pack around allowed t items last place cs w rest are (item-as-argument (elsewhere (omega arith) one)) (elsewhere (omega arith) two)
 
 -- a component before its arguments, of which only a reference is there
 pub referred-before : (typed : Bool) (k : ℕ) (around : Around) (allowed : Option ℕ) (t : Term) → TemplateKind typed k → (place : ℕ)
@@ -289,12 +278,8 @@ reads-type t spelling spelled other keeps out = record {
         fitting-in around allowed t (ReadsAs slot around allowed t) place cs (spelling around.encoding) (spelled slot) s.behind_s
         (keeps around.encoding) room h (λ fits enough. out slot around allowed place cs small enough fits)
 
-    as_types : (slot : Slot) → Leads (λ n. slot_way slot (type_ways (component n t (spelling n)))) (as_component t (spelled slot))
-        (λ around allowed. ReadsAs slot around allowed t)
-    as_types = each-slot _ (whole any_type) (whole bare_type) (whole item_type) (whole parameter_type) (whole literal_type)
-
     each : ReadsSpots t (λ n. type_ways (component n t (spelling n))) (type_fits t spelled)
-    each spot.as_type = as_types
+    each spot.as_type = each-slot _ (whole any_type) (whole bare_type) (whole item_type) (whole parameter_type) (whole literal_type)
     each spot.as_prefix = λ around allowed place cs small room h.
         fitting-in around allowed t (Extends around allowed t) place cs (spelling around.encoding) nowhere (prefix-behind-s around allowed t)
         (keeps around.encoding) room h (λ none enough. absurd none)
@@ -303,5 +288,5 @@ reads-type t spelling spelled other keeps out = record {
         (extends-with-behind-s around allowed t) (keeps around.encoding) room h (λ none enough. absurd none)
     each spot.as_argument = λ in_pack around allowed place cs small room h.
         typed-argument in_pack around allowed t place cs (component around.encoding t (spelling around.encoding) place cs)
-        (as_types item_type around allowed place cs small room h)
+        (whole item_type around allowed place cs small room h)
     each w = (reads-nowhere t (λ n. type_ways (component n t (spelling n)))).at w

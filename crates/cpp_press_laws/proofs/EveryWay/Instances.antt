@@ -11,13 +11,12 @@ use Rattle.cpp_press_laws.specs.Texts.{name_letters}
 use Rattle.cpp_press_laws.specs.Components.{Component, Spelling, ended, component}
 use Rattle.cpp_press_laws.specs.Pressing.{ways_of, no_ways, name_ways, in_N_and_E, is_one_piece, entity_text}
 use Rattle.cpp_press_laws.specs.Subtrees.{Written, HasRoom, IsSmall}
-use Rattle.cpp_press_laws.proofs.ReadBack.Types.{more}
 use Rattle.cpp_press_laws.proofs.ReadBack.Names.{SoFar, Extends}
 use Rattle.cpp_press_laws.proofs.Components.Keeping.{Keeps, keeps-text, keeps-and, keeps-front, keeps-behind, keeps-ended, choice, keeps, keeps_before}
 use Rattle.cpp_press_laws.proofs.ReadBack.Slots.{room-first, room-rest, ReadsAs, solid_kind, in-slot, fitting-in}
 use Rattle.cpp_press_laws.proofs.ReadBack.Between.{ElementsRead, ExtendsWith, extends-with-behind-s, prefix-behind-s}
 use Rattle.cpp_press_laws.proofs.ReadBack.Templates.{slot-rules, TemplateKind, of_elements, ReadElements, elements-room}
-use Rattle.cpp_press_laws.proofs.EveryWay.Every.{referred-before, OnePiece, TemplateReads, template-value, EntityReads, Leads, slot_way, typed-argument, reads-nowhere}
+use Rattle.cpp_press_laws.proofs.EveryWay.Every.{referred-before, OnePiece, TemplateReads, template-value, EntityReads, Leads, typed-argument, reads-nowhere}
 use Rattle.cpp_press_laws.proofs.EveryWay.Types.{Reading, ReadingAt}
 use Rattle.cpp_press_laws.proofs.Components.Encodings.{no-encoding}
 use Rattle.cpp_press_laws.proofs.EveryWay.Std.{entity-nested}
@@ -26,6 +25,7 @@ use Rattle.cpp_press_laws.specs.Fits.{nowhere, Slot, any_type, bare_type, item_t
 use Rattle.cpp_press_laws.proofs.Slots.{each-slot}
 use Rattle.cpp_press_laws.proofs.Spots as spot
 use Rattle.cpp_press_laws.proofs.ReadBack.Arguments.{items_value}
+use Rattle.cpp_press_laws.proofs.ReadBack.Reading.{more}
 
 pub items-kept : (t : Term) → no_items (items_value t) ≡ t
 unfolding no_items tree_of
@@ -186,12 +186,8 @@ reads-instance t a rt ra = record {
         (λ fits enough. s.adds place cs ((ways_of n t).before true (spelled_arguments n a) place cs)
         (instance-own t a rt ra true (solid_kind slot) (slot-rules slot) around allowed place cs small enough fits))
 
-    as_types : (slot : Slot) → Leads (λ n. slot_way slot (ways_of n (instance t a))) ((fits_of (instance t a)).as_type slot)
-        (λ around allowed. ReadsAs slot around allowed (instance t a))
-    as_types = each-slot _ (whole any_type) (whole bare_type) (whole item_type) (whole parameter_type) (whole literal_type)
-
     each : ReadingAt (instance t a)
-    each spot.as_type = as_types
+    each spot.as_type = each-slot _ (whole any_type) (whole bare_type) (whole item_type) (whole parameter_type) (whole literal_type)
     each spot.as_prefix = λ around allowed place cs small room h.
         let n : ℕ = around.encoding in
         let prefix : Spelling = (ways_of n t).as_prefix in

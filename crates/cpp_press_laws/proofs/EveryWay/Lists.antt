@@ -6,7 +6,7 @@ use Rattle.sym_spell.specs.Pressing.{◌and◌, text}
 use Rattle.cpp_grammar.specs.declared.kind.Kind.{Kind}
 use Rattle.cpp_grammar.specs.declared.production.Production.{Production}
 use Rattle.cpp_grammar.specs.KindNumbers.{TYPE, PLAIN, ITEM, AFTER_D, SOLID, ITEMS, ARGUMENT_LIST, PACK_LIST}
-use Rattle.cpp_grammar.specs.Grammar.{in_ranges, among, is_in, pick, alternatives, choose, kinds, is_chain, may_be_empty}
+use Rattle.cpp_grammar.specs.Grammar.{kinds, may_be_empty}
 use Rattle.cpp_grammar.specs.Term.{RefQualifier, Term, builtin, function_type, nil, list, instance}
 use Rattle.cpp_grammar.specs.Values.{Around, nothing_there, tree}
 use Rattle.cpp_grammar.specs.References.{is_function_type}
@@ -16,18 +16,17 @@ use Rattle.cpp_press_laws.specs.Texts.{mark_letter}
 use Rattle.cpp_press_laws.specs.Components.{Component, Spelling, component}
 use Rattle.cpp_press_laws.specs.Pressing.{ways_of, no_ways, type_ways, function_text}
 use Rattle.cpp_press_laws.specs.Subtrees.{Written, written, ReadsAt, Is, HasRoom, IsSmall}
-use Rattle.cpp_press_laws.proofs.ReadBack.Reading.{takes-byte, empty-reads}
-use Rattle.cpp_press_laws.proofs.ReadBack.Types.{more, function-under-qualifiers, noexcept-under-qualifiers}
+use Rattle.cpp_press_laws.proofs.ReadBack.Reading.{takes-byte, empty-reads, elsewhere, more, grammar}
+use Rattle.cpp_press_laws.proofs.ReadBack.Types.{function-under-qualifiers, noexcept-under-qualifiers, types-parameter}
 use Rattle.cpp_press_laws.proofs.ReadBack.Solids.{builtin-solid}
-use Rattle.cpp_press_laws.proofs.ReadBack.Functions.{function-solid, noexcept-behind-d}
-use Rattle.cpp_press_laws.proofs.ReadBack.Arguments.{items_value, items-more}
+use Rattle.cpp_press_laws.proofs.ReadBack.Functions.{function-solid, noexcept-behind-d, mark_bytes, RestReads, end-reads, rest-item}
+use Rattle.cpp_press_laws.proofs.ReadBack.Arguments.{items_value, items-more, list_kind}
 use Rattle.cpp_press_laws.proofs.ReadBack.Names.{Extends}
-use Rattle.cpp_press_laws.proofs.ReadBack.Parameters.{RestReads, end-reads, none-read}
 use Rattle.cpp_press_laws.proofs.Components.Keeping.{Keeps, keeps-text, keeps-and, keeps-front, keeps-behind, keeps}
 use Rattle.cpp_press_laws.proofs.ReadBack.Slots.{room-first, room-rest, ReadsAs, is_bare, in-slot, fitting-in}
 use Rattle.cpp_press_laws.proofs.ReadBack.Between.{ExtendsWith, extends-with-behind-s, prefix-behind-s}
-use Rattle.cpp_press_laws.proofs.EveryWay.Every.{template-value, ListReads, list_kind, with_end, Leads, slot_way, typed-argument, referred-before, reads-nowhere}
-use Rattle.cpp_press_laws.proofs.EveryWay.Types.{Reading, ReadingAt, solid-in-all, with-d-in-all}
+use Rattle.cpp_press_laws.proofs.EveryWay.Every.{template-value, ListReads, with_end, Leads, slot_way, typed-argument, referred-before, reads-nowhere, ParametersRead}
+use Rattle.cpp_press_laws.proofs.EveryWay.Types.{Reading, ReadingAt, solid-in-all, with-d-in}
 use Rattle.cpp_press_laws.proofs.EveryWay.Instances.{items-kept}
 use Rattle.cpp_press_laws.specs.Fits.{takes_all, Slot, any_type, bare_type, item_type, parameter_type, literal_type, takes_all, Fitting, as_component, nowhere, Behind, type_fits, fits_nowhere, fits_of}
 use Rattle.cpp_press_laws.proofs.Spots as spot
@@ -37,14 +36,24 @@ use Rattle.cpp_press_laws.proofs.Spots as spot
 -- no parameters are spelled as a void
 void-item : (around : Around) (allowed : Option ℕ) (place : ℕ) (cs : List Component)
     → ReadsAt around allowed (OfKind ITEM) (Is (tree (builtin (118 ∷ [])) true)) place cs (written (118 ∷ []) cs)
-unfolding choose alternatives pick is_in in_ranges among kinds is_chain is_function_type
+unfolding grammar is_function_type
 void-item around allowed place cs =
     (in-slot item_type around allowed (builtin (118 ∷ [])) refl).keeps place cs (written (118 ∷ []) cs)
     (builtin-solid SOLID around allowed 118 place cs (takes-byte SOLID Kind.Solid Production.Builtin 118 refl refl (omega arith) refl))
 
 empty-list : (k : ℕ) (kind : Kind) (around : Around) (allowed : Option ℕ) (place : ℕ) (cs : List Component) → slice_get kinds k ≡ Some kind
     → may_be_empty kind ≡ true → ListReads k around allowed nil place cs (written [] cs)
-empty-list k kind around allowed place cs at may = (items-kept nil, empty-reads around allowed k kind place cs at may)
+empty-list k kind around allowed place cs at may = (items-kept nil, empty-reads kind at may)
+
+-- no parameters of a function type
+none-read : (around : Around) (allowed : Option ℕ) (ref : RefQualifier) (place : ℕ) (cs : List Component)
+    → RestReads around allowed (list (builtin (118 ∷ [])) nil) ref place cs (written (118 ∷ (mark_letter ref ++ codes "E")) cs)
+unfolding grammar ways_of type_ways
+none-read around allowed ref place cs =
+    rest-item around allowed (builtin (118 ∷ [])) nil ref place cs (written (118 ∷ []) cs) (written (mark_letter ref ++ codes "E") cs)
+    ((types-parameter around allowed (builtin (118 ∷ []))).solid.keeps (place + 0) cs (written (118 ∷ []) cs)
+    (builtin-solid SOLID around allowed 118 (place + 0 + 0) cs (takes-byte SOLID Kind.Solid Production.Builtin 118 refl refl (omega arith) refl)))
+    (end-reads around allowed ref (place + 0 + 1) cs)
 
 pub reads-nil : Reading nil
 unfolding ways_of fits_of fits_nowhere no_ways parameters is_void is_nil no_items kinds may_be_empty
@@ -70,7 +79,7 @@ reads-nil = record {
       split = refl;
       components = refl;
       reads_one = void-item around allowed place cs;
-      reads_rest = empty-reads around allowed ITEMS Kind.Items (place + 1) cs refl refl;
+      reads_rest = empty-reads Kind.Items refl refl;
     }
     each spot.as_more_items = λ around allowed place cs small room h. empty-list ITEMS Kind.Items around allowed place cs refl refl
     each spot.as_parameters = λ ref around allowed place cs small room h.
@@ -142,10 +151,10 @@ reads-list f r rf rr = record {
         (room-rest (ways_of n f).as_type (ways_of n r).as_more_parameters place cs room) h.1 in (
           items-kept (list f r),
           items-more around allowed f r (items_value r) place cs one rest m.0
-              (subst (λ q. ReadsAt around allowed (OfKind ITEM) (Is (tree f true)) q cs one) (omega arith)
+              (elsewhere (omega arith)
               (rf.at spot.as_type item_type around allowed place cs small
               (room-first (ways_of n f).as_type (ways_of n r).as_more_parameters place cs (keeps r n).as_more_parameters room) h.0))
-              (subst (λ q. ReadsAt around allowed (OfKind ITEMS) (Is (items_value r)) q one.components rest) (omega arith) m.1),
+              (elsewhere (omega arith) m.1),
         )
     each spot.as_parameters = λ ref around allowed place cs small room h.
         (list f r, kept-parameters f r h.0, rest-more ref around allowed place cs small room h.1)
@@ -186,40 +195,30 @@ keeps-function n c_linkage noexcept ref a ps =
     (keeps-behind (ways_of n ps).as_parameters (mark_letter ref ++ codes "E") (keeps ps n).as_parameters))
 
 -- the return type, and the parameters with the end
-record FunctionParts (around : Around) (allowed : Option ℕ) (ref : RefQualifier) (a ps : Term) (at : ℕ) (cs : List Component)
-    (one rest : Written) : Type 0 where
-  items : Term
-  means : parameters items ≡ ps
-  reads_one : ReadsAt around allowed (OfKind TYPE) (Is (tree a true)) at cs one
-  reads_rest : RestReads around allowed items ref (at + length one.bytes) one.components (with_end ref rest)
-
 function-parts : (c_linkage noexcept : Bool) (ref : RefQualifier) (a ps : Term) → Reading a → Reading ps
     → (around : Around) (allowed : Option ℕ)
     (place : ℕ) (cs : List Component) → IsSmall around → HasRoom (function_spelling around.encoding c_linkage noexcept ref a ps place cs)
     → function_fits c_linkage noexcept a ps around allowed place cs
     → (let at = place + length (marks_of c_linkage noexcept) in
     let one = (ways_of around.encoding a).as_type at cs in
-    FunctionParts around allowed ref a ps at cs one ((ways_of around.encoding ps).as_parameters (at + length one.bytes) one.components))
+    ReadsAt around allowed (OfKind TYPE) (Is (tree a true)) at cs one
+    × ParametersRead ref around allowed ps (at + length one.bytes) one.components
+    ((ways_of around.encoding ps).as_parameters (at + length one.bytes) one.components))
 function-parts c_linkage noexcept ref a ps ra rp around allowed place cs small room h =
     let n : ℕ = around.encoding in
     let front : List ℕ = marks_of c_linkage noexcept in
     let end : Spelling = text (mark_letter ref ++ codes "E") in
     let at : ℕ = place + length front in
     let one : Written = (ways_of n a).as_type at cs in
-    let inner = room-rest (text front) ((ways_of n a).as_type and (ways_of n ps).as_parameters and end) place cs room in
-    let p = (rp.at spot.as_parameters) ref around allowed (at + length one.bytes) one.components small
-    (room-first (ways_of n ps).as_parameters end (at + length one.bytes) one.components (keeps-text _)
-    (room-rest (ways_of n a).as_type ((ways_of n ps).as_parameters and end) at cs inner))
-    (subst (λ q. (fits_of ps).as_parameters parameter_type around allowed q one.components)
-    (omega (arith, length-append front one.bytes)) h.1) in
-    record {
-      items = p.0;
-      means = p.1;
-      reads_one = (ra.at spot.as_type) any_type around allowed at cs small
+    let inner = room-rest (text front) ((ways_of n a).as_type and (ways_of n ps).as_parameters and end) place cs room in (
+      (ra.at spot.as_type) any_type around allowed at cs small
           (room-first (ways_of n a).as_type ((ways_of n ps).as_parameters and end) at cs
-          (keeps-behind (ways_of n ps).as_parameters (mark_letter ref ++ codes "E") (keeps ps n).as_parameters) inner) h.0;
-      reads_rest = p.2;
-    }
+          (keeps-behind (ways_of n ps).as_parameters (mark_letter ref ++ codes "E") (keeps ps n).as_parameters) inner) h.0,
+      (rp.at spot.as_parameters) ref around allowed (at + length one.bytes) one.components small
+          (room-first (ways_of n ps).as_parameters end (at + length one.bytes) one.components (keeps-text _)
+          (room-rest (ways_of n a).as_type ((ways_of n ps).as_parameters and end) at cs inner))
+          (subst (λ q. (fits_of ps).as_parameters parameter_type around allowed q one.components) (omega (arith, length-append front one.bytes)) h.1),
+    )
 
 -- what is read after no byte, or after the D of a noexcept
 abbrev FunctionReads : (noexcept : Bool) → Around → Option ℕ → Term → ℕ → List Component → Written → Type 0
@@ -234,47 +233,26 @@ function-reads : (c_linkage noexcept : Bool) (ref : RefQualifier) (a ps : Term) 
     → function_fits c_linkage noexcept a ps around allowed place cs
     → FunctionReads noexcept around allowed (function_type c_linkage noexcept ref a ps) place cs
     (function_spelling around.encoding c_linkage noexcept ref a ps place cs)
-function-reads true false ref a ps ra rp around allowed place cs small room h =
-    let p = function-parts true false ref a ps ra rp around allowed place cs small room h in
-    let one : Written = (ways_of around.encoding a).as_type (place + 2) cs in
-    let rest : Written = (ways_of around.encoding ps).as_parameters (place + 2 + length one.bytes) one.components in
-    subst (λ x. ReadsAt around allowed (OfKind SOLID) (Is (tree (function_type true false ref a x) false)) place cs
-    (function_spelling around.encoding true false ref a ps place cs)) p.means
-    (function-solid around allowed true a p.items ref place cs one (with_end ref rest)
-    (subst (λ q. ReadsAt around allowed (OfKind TYPE) (Is (tree a true)) q cs one) (omega arith) p.reads_one)
-    (subst (λ q. RestReads around allowed p.items ref q one.components (with_end ref rest)) (omega arith) p.reads_rest))
-function-reads false false ref a ps ra rp around allowed place cs small room h =
-    let p = function-parts false false ref a ps ra rp around allowed place cs small room h in
-    let one : Written = (ways_of around.encoding a).as_type (place + 1) cs in
-    let rest : Written = (ways_of around.encoding ps).as_parameters (place + 1 + length one.bytes) one.components in
-    subst (λ x. ReadsAt around allowed (OfKind SOLID) (Is (tree (function_type false false ref a x) false)) place cs
-    (function_spelling around.encoding false false ref a ps place cs)) p.means
-    (function-solid around allowed false a p.items ref place cs one (with_end ref rest)
-    (subst (λ q. ReadsAt around allowed (OfKind TYPE) (Is (tree a true)) q cs one) (omega arith) p.reads_one)
-    (subst (λ q. RestReads around allowed p.items ref q one.components (with_end ref rest)) (omega arith) p.reads_rest))
-function-reads true true ref a ps ra rp around allowed place cs small room h =
-    let p = function-parts true true ref a ps ra rp around allowed place cs small room h in
-    let one : Written = (ways_of around.encoding a).as_type (place + 4) cs in
-    let rest : Written = (ways_of around.encoding ps).as_parameters (place + 4 + length one.bytes) one.components in
-    let inner : Written = written (111 ∷ 70 ∷ 89 ∷ (one.bytes ++ (with_end ref rest).bytes)) rest.components in (
+function-reads c_linkage false ref a ps ra rp around allowed place cs small room h =
+    let p = function-parts c_linkage false ref a ps ra rp around allowed place cs small room h in
+    let at : ℕ = place + length (marks_of c_linkage false) in
+    let one : Written = (ways_of around.encoding a).as_type at cs in
+    let rest : Written = (ways_of around.encoding ps).as_parameters (at + length one.bytes) one.components in
+    subst (λ x. ReadsAt around allowed (OfKind SOLID) (Is (tree (function_type c_linkage false ref a x) false)) place cs
+    (function_spelling around.encoding c_linkage false ref a ps place cs)) p.1.1
+    (function-solid around allowed c_linkage a p.1.0 ref place cs one (with_end ref rest)
+    (elsewhere (omega arith) p.0) (elsewhere (omega arith) p.1.2))
+function-reads c_linkage true ref a ps ra rp around allowed place cs small room h =
+    let p = function-parts c_linkage true ref a ps ra rp around allowed place cs small room h in
+    let at : ℕ = place + length (marks_of c_linkage true) in
+    let one : Written = (ways_of around.encoding a).as_type at cs in
+    let rest : Written = (ways_of around.encoding ps).as_parameters (at + length one.bytes) one.components in
+    let inner : Written = written (111 ∷ 70 ∷ (mark_bytes c_linkage 89 ++ (one.bytes ++ (with_end ref rest).bytes))) rest.components in (
       inner,
       refl,
-      subst (λ x. ReadsAt around allowed (OfKind AFTER_D) (Is (tree (function_type true true ref a x) false)) (place + 1) cs inner) p.means
-          (noexcept-behind-d around allowed true a p.items ref (place + 1) cs one (with_end ref rest)
-          (subst (λ q. ReadsAt around allowed (OfKind TYPE) (Is (tree a true)) q cs one) (omega arith) p.reads_one)
-          (subst (λ q. RestReads around allowed p.items ref q one.components (with_end ref rest)) (omega arith) p.reads_rest)),
-    )
-function-reads false true ref a ps ra rp around allowed place cs small room h =
-    let p = function-parts false true ref a ps ra rp around allowed place cs small room h in
-    let one : Written = (ways_of around.encoding a).as_type (place + 3) cs in
-    let rest : Written = (ways_of around.encoding ps).as_parameters (place + 3 + length one.bytes) one.components in
-    let inner : Written = written (111 ∷ 70 ∷ (one.bytes ++ (with_end ref rest).bytes)) rest.components in (
-      inner,
-      refl,
-      subst (λ x. ReadsAt around allowed (OfKind AFTER_D) (Is (tree (function_type false true ref a x) false)) (place + 1) cs inner) p.means
-          (noexcept-behind-d around allowed false a p.items ref (place + 1) cs one (with_end ref rest)
-          (subst (λ q. ReadsAt around allowed (OfKind TYPE) (Is (tree a true)) q cs one) (omega arith) p.reads_one)
-          (subst (λ q. RestReads around allowed p.items ref q one.components (with_end ref rest)) (omega arith) p.reads_rest)),
+      subst (λ x. ReadsAt around allowed (OfKind AFTER_D) (Is (tree (function_type c_linkage true ref a x) false)) (place + 1) cs inner) p.1.1
+          (noexcept-behind-d around allowed c_linkage a p.1.0 ref (place + 1) cs one (with_end ref rest)
+          (elsewhere (omega arith) p.0) (elsewhere (omega arith) p.1.2)),
     )
 
 -- a function type as a component
@@ -285,7 +263,7 @@ function-in : (noexcept : Bool) (slot : Slot) (around : Around) (allowed : Optio
 function-in false slot around allowed t place cs w all bare one = solid-in-all slot around allowed t place cs w all bare one
 function-in true slot around allowed t place cs w all bare (inner, is, one) =
     subst (λ v. ReadsAs slot around allowed t place cs (written v.bytes (more around v.components t))) (sym is)
-    (with-d-in-all slot around allowed t place cs inner all bare one)
+    ((with-d-in slot around allowed t all bare).0 place cs inner one)
 
 -- and right under qualifiers
 function-bare : (noexcept : Bool) (around : Around) (allowed : Option ℕ) (t : Term) (place : ℕ) (cs : List Component) (w : Written)
@@ -293,7 +271,7 @@ function-bare : (noexcept : Bool) (around : Around) (allowed : Option ℕ) (t : 
     → ReadsAt around allowed (OfKind PLAIN) (Is (tree t true)) place cs w
 function-bare false around allowed t place cs w is one =
     function-under-qualifiers around allowed t place cs w is
-    (subst (λ q. ReadsAt around allowed (OfKind SOLID) (Is (tree t false)) q cs w) (omega arith) one)
+    (elsewhere (omega arith) one)
 function-bare true around allowed t place cs w is (inner, same, one) =
     subst (λ v. ReadsAt around allowed (OfKind PLAIN) (Is (tree t true)) place cs v) (sym same)
     (noexcept-under-qualifiers around allowed t place cs inner is one)

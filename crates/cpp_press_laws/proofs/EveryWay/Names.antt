@@ -1,13 +1,12 @@
 -- Names of a piece, alone and after St, are read in each of their ways.
-use Rattle.std.proofs.Common.{◌≡◌, ℕ, ◌+◌, length, List, [], ◌∷◌, ◌++◌, Option, Bool, true, false, refl, ap, arith, sym, subst, ◌∙◌, append-nil, append_assoc, length-append}
+use Rattle.std.proofs.Common.{◌≡◌, ℕ, ◌+◌, length, List, [], ◌∷◌, ◌++◌, Option, Bool, true, false, refl, ap, arith, sym, subst, ◌∙◌, append_assoc, length-append}
 use Rattle.std.specs.Prelude.{cond, codes}
 use Rattle.sym_shape.specs.declared.rule.Sym.TheVariants.{Kind as OfKind}
 use Rattle.sym_shape.specs.Tree.{TakesRule}
 use Rattle.sym_spell.specs.Pressing.{◌and◌, text}
 use Rattle.cpp_grammar.specs.declared.kind.Kind.{Kind}
 use Rattle.cpp_grammar.specs.declared.production.Production.{Production}
-use Rattle.cpp_grammar.specs.KindNumbers.{COMPLETE_NAME, NEST, ARGUMENT_LIST}
-use Rattle.cpp_grammar.specs.Grammar.{in_ranges, among, is_in, pick, alternatives, choose, kinds, is_chain}
+use Rattle.cpp_grammar.specs.KindNumbers.{COMPLETE_NAME, ARGUMENT_LIST}
 use Rattle.cpp_grammar.specs.Table.{abi, rule_of}
 use Rattle.cpp_grammar.specs.Term.{Qualifiers, RefQualifier, any_value, lvalue_only, rvalue_only, Term, alone, instance}
 use Rattle.cpp_grammar.specs.Values.{outermost, Around, Value, tree, named, tree_of, qualifiers_of, ref_of, unqualified}
@@ -17,17 +16,16 @@ use Rattle.cpp_press_laws.specs.Texts.{qualifier_letters, mark_letter, name_lett
 use Rattle.cpp_press_laws.specs.Components.{Component, Spelling, ended, component}
 use Rattle.cpp_press_laws.specs.Pressing.{ways_of, no_ways, name_ways, with_letters, in_N_and_E, template_before}
 use Rattle.cpp_press_laws.specs.Subtrees.{Written, written, ReadsAt, Is, HasRoom}
-use Rattle.cpp_press_laws.proofs.ReadBack.Reading.{takes-byte}
-use Rattle.cpp_press_laws.proofs.ReadBack.Types.{more}
+use Rattle.cpp_press_laws.proofs.ReadBack.Reading.{takes-byte, more, elsewhere, grammar, same-written}
 use Rattle.cpp_press_laws.proofs.ReadBack.Functions.{mark_bytes}
 use Rattle.cpp_press_laws.proofs.ReadBack.Names.{SoFar, Extends, nest-whole}
-use Rattle.cpp_press_laws.proofs.ReadBack.Encodings.{ref_bytes, nested-name}
+use Rattle.cpp_press_laws.proofs.ReadBack.Encodings.{nested-name}
 use Rattle.cpp_press_laws.proofs.Components.Keeping.{keeps-text, keeps-and, keeps-ended, keeps}
 use Rattle.cpp_press_laws.proofs.ReadBack.Slots.{room-first, room-rest, ReadsAs, solid_kind, in-slot, fitting-in}
 use Rattle.cpp_press_laws.proofs.ReadBack.Named.{NameRule, own-rule}
 use Rattle.cpp_press_laws.proofs.ReadBack.Between.{ElementsRead, named-piece, ExtendsWith, extends-with-behind-s, prefix-behind-s, prefix-piece, prefix-with-piece}
 use Rattle.cpp_press_laws.proofs.ReadBack.Templates.{slot-rules, TemplateKind, of_elements, ReadElements, elements-room, template-reads}
-use Rattle.cpp_press_laws.proofs.EveryWay.Every.{NameReads, TemplateReads, template-value, Leads, slot_way, typed-argument, reads-nowhere}
+use Rattle.cpp_press_laws.proofs.EveryWay.Every.{NameReads, TemplateReads, template-value, Leads, typed-argument, reads-nowhere}
 use Rattle.cpp_press_laws.proofs.EveryWay.Types.{Reading, ReadingAt}
 use Rattle.cpp_press_laws.specs.Fits.{Slot, any_type, bare_type, item_type, parameter_type, literal_type, Fitting, as_component, one_piece, names_type, names_function, begins_name, IsWithoutLetters, by_letters, fits_nowhere, fits_of}
 use Rattle.cpp_press_laws.proofs.Slots.{each-slot}
@@ -35,63 +33,32 @@ use Rattle.cpp_press_laws.proofs.Spots as spot
 
 -- ## Letters
 
-mark-letters : (b : Bool) (byte : ℕ) → mark_bytes b byte ≡ cond b (byte ∷ []) []
-mark-letters true byte = refl
-mark-letters false byte = refl
-
-ref-letters : (ref : RefQualifier) → ref_bytes ref ≡ mark_letter ref
-unfolding mark_letter
-ref-letters any_value = refl
-ref-letters lvalue_only = refl
-ref-letters rvalue_only = refl
-
 letters-joined : (a b c d x : List ℕ) → a ++ (b ++ (c ++ (d ++ x))) ≡ ((a ++ b ++ c) ++ d) ++ x
 letters-joined a b c d x =
     sym (append_assoc a b (c ++ (d ++ x))) ∙ sym (append_assoc (a ++ b) c (d ++ x)) ∙ sym (append_assoc ((a ++ b) ++ c) d x)
-
--- the letters of a name between N and E
-letters-are : (q : Qualifiers) (ref : RefQualifier) (x : List ℕ)
-    → mark_bytes q.restrict 114 ++ (mark_bytes q.volatile 86 ++ (mark_bytes q.const 75 ++ (ref_bytes ref ++ x))) ≡ name_letters q ref ++ x
-unfolding name_letters qualifier_letters
-letters-are q ref x =
-    letters-joined (mark_bytes q.restrict 114) (mark_bytes q.volatile 86) (mark_bytes q.const 75) (ref_bytes ref) x
-    ∙ ap (λ l. ((l ++ mark_bytes q.volatile 86 ++ mark_bytes q.const 75) ++ ref_bytes ref) ++ x) (mark-letters q.restrict 114)
-    ∙ ap (λ l. ((cond q.restrict (114 ∷ []) [] ++ l ++ mark_bytes q.const 75) ++ ref_bytes ref) ++ x) (mark-letters q.volatile 86)
-    ∙ ap (λ l. ((cond q.restrict (114 ∷ []) [] ++ cond q.volatile (86 ∷ []) [] ++ l) ++ ref_bytes ref) ++ x) (mark-letters q.const 75)
-    ∙ ap (λ l. ((cond q.restrict (114 ∷ []) [] ++ cond q.volatile (86 ∷ []) [] ++ cond q.const (75 ∷ []) []) ++ l) ++ x) (ref-letters ref)
 
 -- a name between N and E, after the letters of its encoding
 pub letters-nested : (k : ℕ) (around : Around) (allowed : Option ℕ) (t : Term) (q : Qualifiers) (ref : RefQualifier) (place : ℕ)
     (cs : List Component) (w : Written) → TakesRule abi k (rule_of Production.NestedName) (78 ∷ [])
     → SoFar around allowed t false 18 (place + length (78 ∷ name_letters q ref)) cs w
     → NameReads around allowed k t q ref place cs (written ((78 ∷ name_letters q ref) ++ (w.bytes ++ (69 ∷ []))) w.components)
-unfolding tree_of qualifiers_of ref_of
+unfolding tree_of qualifiers_of ref_of name_letters qualifier_letters
 letters-nested k around allowed t q ref place cs w takes so_far =
+    let r : List ℕ = mark_bytes q.restrict 114 in
+    let v : List ℕ = mark_bytes q.volatile 86 in
+    let c : List ℕ = mark_bytes q.const 75 in
+    let m : List ℕ = mark_letter ref in
     let whole : Written = written (w.bytes ++ (69 ∷ [])) w.components in
-    let at : ℕ = place + length (78 ∷ name_letters q ref) in
     record {
       value = named t q ref;
       tree_is = refl;
       qualifiers_are = refl;
       ref_is = refl;
-      reads = subst (λ l. ReadsAt around allowed (OfKind k) (Is (named t q ref)) place cs (written (78 ∷ l) w.components))
-          (letters-are q ref whole.bytes)
+      reads = same-written (ap (λ l. 78 ∷ l) (letters-joined r v c m whole.bytes))
           (nested-name k around allowed t false q.restrict q.volatile q.const ref place cs whole takes
-          (subst (λ p. ReadsAt around allowed (OfKind NEST) (Is (tree t false)) p cs whole) (there whole.bytes)
-          (nest-whole around allowed t at cs w so_far)));
+          (elsewhere (omega (arith, length-append ((r ++ v) ++ c) m, length-append (r ++ v) c, length-append r v))
+          (nest-whole around allowed t (place + length (78 ∷ name_letters q ref)) cs w so_far)));
     }
-  where
-    there : (x : List ℕ) → place + length (78 ∷ name_letters q ref) ≡ place + 1 + length (mark_bytes q.restrict 114)
-        + length (mark_bytes q.volatile 86) + length (mark_bytes q.const 75) + length (ref_bytes ref)
-    there x = omega (
-      arith,
-      ap length (letters-are q ref []),
-      ap length (append-nil (name_letters q ref)),
-      length-append (mark_bytes q.restrict 114) (mark_bytes q.volatile 86 ++ (mark_bytes q.const 75 ++ (ref_bytes ref ++ []))),
-      length-append (mark_bytes q.volatile 86) (mark_bytes q.const 75 ++ (ref_bytes ref ++ [])),
-      length-append (mark_bytes q.const 75) (ref_bytes ref ++ []),
-      length-append (ref_bytes ref) [],
-    )
 
 -- without letters there are no qualifiers and no mark
 pub without-letters : (q : Qualifiers) (ref : RefQualifier) → name_letters q ref ≡ [] → (unqualified ≡ q) × (any_value ≡ ref)
@@ -138,7 +105,7 @@ no-qualifiers k around allowed t q ref place cs w none one =
     }
 
 takes-nested-name : TakesRule abi 8 (rule_of Production.NestedName) (78 ∷ [])
-unfolding choose alternatives pick is_in in_ranges among kinds is_chain
+unfolding grammar
 takes-nested-name = takes-byte COMPLETE_NAME Kind.CompleteName Production.NestedName 78 refl refl (omega arith) refl
 
 -- the room of a name after letters
@@ -240,12 +207,8 @@ reads-alone p r = record {
         (named-piece around allowed (solid_kind slot) p (alone p) place cs ((ways_of around.encoding p).as_piece place cs)
         (r.at spot.as_piece around allowed place cs small enough fits.2) ((slot-rules slot).names p fits.1) (outermost-alone around p fits.0)).bare)
 
-    as_types : (slot : Slot) → Leads (λ n. slot_way slot (ways_of n (alone p))) ((fits_of (alone p)).as_type slot)
-        (λ around allowed. ReadsAs slot around allowed (alone p))
-    as_types = each-slot _ (whole any_type) (whole bare_type) (whole item_type) (whole parameter_type) (whole literal_type)
-
     each : ReadingAt (alone p)
-    each spot.as_type = as_types
+    each spot.as_type = each-slot _ (whole any_type) (whole bare_type) (whole item_type) (whole parameter_type) (whole literal_type)
     each spot.as_prefix = λ around allowed place cs small room h.
         fitting-in around allowed (alone p) (Extends around allowed (alone p)) place cs (ways_of around.encoding p).as_piece
         (one_piece outermost (begins_name p) (fits_of p).as_piece)

@@ -6,9 +6,9 @@ use Rattle.sym_shape.specs.declared.rule.Sym.TheVariants.{Kind as OfKind}
 use Rattle.sym_spell.specs.Pressing.{◌and◌, text}
 use Rattle.cpp_grammar.specs.declared.kind.Kind.{Kind}
 use Rattle.cpp_grammar.specs.declared.production.Production.{Production}
-use Rattle.cpp_grammar.specs.KindNumbers.{ENCODING, SOLID, ARGUMENT_LIST, PACK_LIST, LITERAL, LITERAL_TYPE, ARGUMENT}
+use Rattle.cpp_grammar.specs.KindNumbers.{SOLID, LITERAL, LITERAL_TYPE, ARGUMENT}
 use Rattle.cpp_grammar.specs.Grammar.{choose, kinds, is_chain}
-use Rattle.cpp_grammar.specs.Term.{Signed, Term, abbreviation, parameter, source, operator, literal_operator, constructor, destructor, lambda, unnamed, builtin, integer, boolean, null_pointer, encoding_literal, address_of, pack, list, instance}
+use Rattle.cpp_grammar.specs.Term.{Signed, Term, abbreviation, parameter, source, operator, literal_operator, constructor, destructor, lambda, unnamed, builtin, integer, boolean, null_pointer, encoding_literal, address_of, pack, instance}
 use Rattle.cpp_grammar.specs.Scope.{count}
 use Rattle.cpp_grammar.specs.Values.{Around, tree}
 use Rattle.cpp_grammar.specs.References.{is_function_type}
@@ -17,12 +17,11 @@ use Rattle.cpp_press_laws.specs.Texts.{ordinal, signed_text}
 use Rattle.cpp_press_laws.specs.Components.{Component, Spelling, component}
 use Rattle.cpp_press_laws.specs.Pressing.{ways_of, no_ways, type_ways, piece_ways, argument_ways}
 use Rattle.cpp_press_laws.specs.Subtrees.{Written, written, ReadsAt, Is, HasRoom, IsSmall}
-use Rattle.cpp_press_laws.proofs.ReadBack.Reading.{takes-byte}
-use Rattle.cpp_press_laws.proofs.ReadBack.Types.{same-written, more}
+use Rattle.cpp_press_laws.proofs.ReadBack.Reading.{takes-byte, elsewhere, same-written, more}
 use Rattle.cpp_press_laws.proofs.ReadBack.Solids.{builtin-solid, builtin-behind-d}
 use Rattle.cpp_press_laws.proofs.ReadBack.Functions.{IsInScope, parameter-solid}
-use Rattle.cpp_press_laws.proofs.ReadBack.Arguments.{items_value, any-argument, any-element, integer-reads}
-use Rattle.cpp_press_laws.proofs.ReadBack.Literals.{boolean-literal, null-literal, char-literal, encoding-literal, literal-argument, literal-element, pack-argument, address-reads}
+use Rattle.cpp_press_laws.proofs.ReadBack.Arguments.{items_value, any-argument, integer-reads}
+use Rattle.cpp_press_laws.proofs.ReadBack.Literals.{boolean-literal, null-literal, char-literal, encoding-literal, literal-argument, pack-argument, address-reads}
 use Rattle.cpp_press_laws.proofs.ReadBack.Names.{Extends}
 use Rattle.cpp_press_laws.proofs.ReadBack.Solids.{abbreviation-behind-s}
 use Rattle.cpp_press_laws.proofs.Components.Keeping.{keeps-text}
@@ -30,8 +29,8 @@ use Rattle.cpp_press_laws.proofs.ReadBack.Slots.{room-first, room-rest, ReadsAs,
 use Rattle.cpp_press_laws.proofs.ReadBack.Named.{source-reads, operator-piece-reads, literal-operator-piece-reads, constructor-piece-reads, destructor-piece-reads, lambda-piece-reads, unnamed-piece-reads}
 use Rattle.cpp_press_laws.proofs.ReadBack.Between.{ExtendsWith, extends-with-behind-s, prefix-behind-s, prefix-parameter, prefix-with-parameter}
 use Rattle.cpp_press_laws.proofs.ReadBack.Templates.{slot-rules, TemplateKind, InstancedAt, instanced-behind-s, parameter-instanced, of_elements, elements-room}
-use Rattle.cpp_press_laws.proofs.EveryWay.Every.{template-value, ArgumentReads, Leads, slot_way, typed-argument, reads-piece, reads-argument, reads-nowhere}
-use Rattle.cpp_press_laws.proofs.EveryWay.Types.{Reading, ReadingAt, with-d-kept}
+use Rattle.cpp_press_laws.proofs.EveryWay.Every.{template-value, ArgumentReads, Leads, typed-argument, reads-piece, reads-argument, reads-nowhere}
+use Rattle.cpp_press_laws.proofs.EveryWay.Types.{Reading, ReadingAt, with-d-in}
 use Rattle.cpp_press_laws.specs.Fits.{Slot, any_type, bare_type, item_type, parameter_type, literal_type, takes_all, IsBuiltin, IsAbbreviation, NamesArgument, Fitting, as_component, nowhere, type_fits, fits_nowhere, fits_of}
 use Rattle.cpp_press_laws.proofs.Slots.{each-slot}
 use Rattle.cpp_press_laws.proofs.Spots as spot
@@ -94,46 +93,25 @@ with-d : (slot : Slot) (around : Around) (allowed : Option ℕ) (d b place : ℕ
 unfolding is_function_type
 with-d slot around allowed d b place cs all is =
     subst (λ x. ReadsAs slot around allowed (builtin (x ∷ b ∷ [])) place cs (written (x ∷ b ∷ []) cs)) (sym is.0)
-    (with-d-kept slot around allowed (builtin (68 ∷ b ∷ [])) place cs (written (b ∷ []) cs) all refl
+    ((with-d-in slot around allowed (builtin (68 ∷ b ∷ [])) all refl).1 place cs (written (b ∷ []) cs)
     (builtin-behind-d around allowed b (place + 1) cs is.1 is.2))
 
 builtin-in : (slot : Slot) (around : Around) (allowed : Option ℕ) (code : List ℕ) (place : ℕ) (cs : List Component) → IsBuiltin slot code
     → ReadsAs slot around allowed (builtin code) place cs (written code cs)
 unfolding takes_all is_function_type kinds is_chain
-builtin-in any_type around allowed (b ∷ []) place cs is =
-    (in-slot any_type around allowed (builtin (b ∷ [])) refl).keeps place cs (written (b ∷ []) cs)
-    (builtin-solid SOLID around allowed b place cs (takes-byte SOLID Kind.Solid Production.Builtin b refl is.1 is.0 refl))
-builtin-in bare_type around allowed (b ∷ []) place cs is =
-    (in-slot bare_type around allowed (builtin (b ∷ [])) refl).keeps place cs (written (b ∷ []) cs)
-    (builtin-solid SOLID around allowed b place cs (takes-byte SOLID Kind.Solid Production.Builtin b refl is.1 is.0 refl))
-builtin-in item_type around allowed (b ∷ []) place cs is =
-    (in-slot item_type around allowed (builtin (b ∷ [])) refl).keeps place cs (written (b ∷ []) cs)
-    (builtin-solid SOLID around allowed b place cs (takes-byte SOLID Kind.Solid Production.Builtin b refl is.1 is.0 refl))
-builtin-in parameter_type around allowed (b ∷ []) place cs is =
-    (in-slot parameter_type around allowed (builtin (b ∷ [])) refl).keeps place cs (written (b ∷ []) cs)
-    (builtin-solid SOLID around allowed b place cs (takes-byte SOLID Kind.Solid Production.Builtin b refl is.1 is.0 refl))
 builtin-in literal_type around allowed (b ∷ []) place cs is =
     (in-slot literal_type around allowed (builtin (b ∷ [])) refl).keeps place cs (written (b ∷ []) cs)
     (builtin-solid LITERAL_TYPE around allowed b place cs (takes-byte LITERAL_TYPE Kind.LiteralType Production.Builtin b refl is.1 is.0 refl))
-builtin-in any_type around allowed (d ∷ b ∷ []) place cs is = with-d any_type around allowed d b place cs refl is
-builtin-in bare_type around allowed (d ∷ b ∷ []) place cs is = with-d bare_type around allowed d b place cs refl is
-builtin-in item_type around allowed (d ∷ b ∷ []) place cs is = with-d item_type around allowed d b place cs refl is
-builtin-in parameter_type around allowed (d ∷ b ∷ []) place cs is = with-d parameter_type around allowed d b place cs refl is
+builtin-in slot around allowed (b ∷ []) place cs is =
+    (in-slot slot around allowed (builtin (b ∷ [])) refl).keeps place cs (written (b ∷ []) cs)
+    (builtin-solid SOLID around allowed b place cs (takes-byte SOLID Kind.Solid Production.Builtin b refl is.1 is.0 refl))
 builtin-in literal_type around allowed (d ∷ b ∷ []) place cs is = λ n good.
     subst (λ x. ReadsAt around allowed (OfKind LITERAL) (Is (tree (integer (builtin (x ∷ b ∷ [])) n) true)) place cs
     (written (x ∷ b ∷ signed_text n) cs)) (sym is.0)
     (char-literal around allowed b n place cs is.1 is.2 good (written (signed_text n) cs)
     (integer-reads around allowed n (place + 1 + 1) cs good))
-builtin-in any_type around allowed [] place cs is = absurd is
-builtin-in any_type around allowed (d ∷ b ∷ x ∷ xs) place cs is = absurd is
-builtin-in bare_type around allowed [] place cs is = absurd is
-builtin-in bare_type around allowed (d ∷ b ∷ x ∷ xs) place cs is = absurd is
-builtin-in item_type around allowed [] place cs is = absurd is
-builtin-in item_type around allowed (d ∷ b ∷ x ∷ xs) place cs is = absurd is
-builtin-in parameter_type around allowed [] place cs is = absurd is
-builtin-in parameter_type around allowed (d ∷ b ∷ x ∷ xs) place cs is = absurd is
-builtin-in literal_type around allowed [] place cs is = absurd is
-builtin-in literal_type around allowed (d ∷ b ∷ x ∷ xs) place cs is = absurd is
+builtin-in slot around allowed (d ∷ b ∷ []) place cs is = with-d slot around allowed d b place cs refl is
+builtin-in slot around allowed code place cs is = absurd is
 
 pub reads-builtin : (code : List ℕ) → Reading (builtin code)
 unfolding ways_of fits_of fits_nowhere type_ways no_ways
@@ -142,12 +120,8 @@ reads-builtin code = record {
   before = (reads-nowhere (builtin code) (λ n. ways_of n (builtin code))).before;
 }
   where
-    as_types : (slot : Slot) → Leads (λ n. slot_way slot (ways_of n (builtin code))) ((fits_of (builtin code)).as_type slot)
-        (λ around allowed. ReadsAs slot around allowed (builtin code))
-    as_types = each-slot _ (λ around allowed place cs small room h. builtin-in any_type around allowed code place cs h) (λ around allowed place cs small room h. builtin-in bare_type around allowed code place cs h) (λ around allowed place cs small room h. builtin-in item_type around allowed code place cs h) (λ around allowed place cs small room h. builtin-in parameter_type around allowed code place cs h) (λ around allowed place cs small room h. builtin-in literal_type around allowed code place cs h)
-
     each : ReadingAt (builtin code)
-    each spot.as_type = as_types
+    each spot.as_type = each-slot _ (λ around allowed place cs small room h. builtin-in any_type around allowed code place cs h) (λ around allowed place cs small room h. builtin-in bare_type around allowed code place cs h) (λ around allowed place cs small room h. builtin-in item_type around allowed code place cs h) (λ around allowed place cs small room h. builtin-in parameter_type around allowed code place cs h) (λ around allowed place cs small room h. builtin-in literal_type around allowed code place cs h)
     each spot.as_argument = λ in_pack around allowed place cs small room h.
         typed-argument in_pack around allowed (builtin code) place cs (written code cs) (builtin-in item_type around allowed code place cs h)
     each w = (reads-nowhere (builtin code) (λ n. ways_of n (builtin code))).at w
@@ -170,12 +144,8 @@ reads-abbreviation l = record {
         (in-slot slot around allowed (abbreviation l) refl).behind_s place cs (written (l ∷ []) cs)
         (abbreviation-behind-s around allowed l (place + 1) cs h.0 h.1)
 
-    as_types : (slot : Slot) → Leads (λ n. slot_way slot (ways_of n (abbreviation l))) ((fits_of (abbreviation l)).as_type slot)
-        (λ around allowed. ReadsAs slot around allowed (abbreviation l))
-    as_types = each-slot _ (λ around allowed place cs small room h. whole any_type around allowed place cs h) (λ around allowed place cs small room h. whole bare_type around allowed place cs h) (λ around allowed place cs small room h. whole item_type around allowed place cs h) (λ around allowed place cs small room h. whole parameter_type around allowed place cs h) (λ around allowed place cs small room h. whole literal_type around allowed place cs h)
-
     each : ReadingAt (abbreviation l)
-    each spot.as_type = as_types
+    each spot.as_type = each-slot _ (λ around allowed place cs small room h. whole any_type around allowed place cs h) (λ around allowed place cs small room h. whole bare_type around allowed place cs h) (λ around allowed place cs small room h. whole item_type around allowed place cs h) (λ around allowed place cs small room h. whole parameter_type around allowed place cs h) (λ around allowed place cs small room h. whole literal_type around allowed place cs h)
     each spot.as_prefix = λ around allowed place cs small room h.
         prefix-behind-s around allowed (abbreviation l) place cs (written (l ∷ []) cs)
         (abbreviation-behind-s around allowed l (place + 1) cs h.0 h.1)
@@ -239,12 +209,8 @@ reads-parameter j = record {
         (λ fits enough. s.keeps place cs (written (84 ∷ ordinal j) (more around cs (parameter j)))
         (parameter-solid (solid_kind slot) around allowed j place cs (in-scope around allowed j small fits) (slot-rules slot).parameters))
 
-    as_types : (slot : Slot) → Leads (λ n. slot_way slot (ways_of n (parameter j))) ((fits_of (parameter j)).as_type slot)
-        (λ around allowed. ReadsAs slot around allowed (parameter j))
-    as_types = each-slot _ (whole any_type) (whole bare_type) (whole item_type) (whole parameter_type) (whole literal_type)
-
     each : ReadingAt (parameter j)
-    each spot.as_type = as_types
+    each spot.as_type = each-slot _ (whole any_type) (whole bare_type) (whole item_type) (whole parameter_type) (whole literal_type)
     each spot.as_prefix = λ around allowed place cs small room h.
         fitting-in around allowed (parameter j) (Extends around allowed (parameter j)) place cs (parameter_spelling j) (parameter_fits j)
         (prefix-behind-s around allowed (parameter j)) (keeps-text _) room h
@@ -263,16 +229,9 @@ reads-parameter j = record {
 literal-in : (in_pack : Bool) (around : Around) (allowed : Option ℕ) (t : Term) (place : ℕ) (cs : List Component) (w : Written)
     → ReadsAt around allowed (OfKind LITERAL) (Is (tree t true)) (place + 1) cs w
     → ArgumentReads in_pack around allowed t place cs (written (76 ∷ (w.bytes ++ (69 ∷ []))) w.components)
-literal-in true around allowed t place cs w one items last rest are two =
-    same-written around allowed (OfKind PACK_LIST) (Is (tree (list t items) true)) place cs rest.components (76 ∷ (w.bytes ++ (69 ∷ rest.bytes)))
-    (76 ∷ ((w.bytes ++ (69 ∷ [])) ++ rest.bytes)) (ap (λ l. 76 ∷ l) (sym (append_assoc w.bytes (69 ∷ []) rest.bytes)))
-    (literal-element around allowed t items last place cs w rest are one
-    (subst (λ q. ReadsAt around allowed (OfKind PACK_LIST) (Is last) q w.components rest) (omega (arith, length-append w.bytes (69 ∷ []))) two))
-literal-in false around allowed t place cs w one items last rest are two =
-    same-written around allowed (OfKind ARGUMENT_LIST) (Is (tree (list t items) true)) place cs rest.components (76 ∷ (w.bytes ++ (69 ∷ rest.bytes)))
-    (76 ∷ ((w.bytes ++ (69 ∷ [])) ++ rest.bytes)) (ap (λ l. 76 ∷ l) (sym (append_assoc w.bytes (69 ∷ []) rest.bytes)))
-    (literal-argument around allowed t items last place cs w rest are one
-    (subst (λ q. ReadsAt around allowed (OfKind ARGUMENT_LIST) (Is last) q w.components rest) (omega (arith, length-append w.bytes (69 ∷ []))) two))
+literal-in in_pack around allowed t place cs w one items last rest are two =
+    same-written (ap (λ l. 76 ∷ l) (sym (append_assoc w.bytes (69 ∷ []) rest.bytes)))
+    (literal-argument in_pack around allowed t items last place cs w rest are one (elsewhere (omega (arith, length-append w.bytes (69 ∷ []))) two))
 
 pub reads-integer : (t : Term) (n : Signed) → Reading t → Reading (integer t n)
 unfolding ways_of fits_of argument_ways no_ways
@@ -313,21 +272,15 @@ reads-encoding-literal e r =
     let w : Written = (ways_of m e).as_encoding (place + 3) cs in
     literal-in in_pack around allowed (encoding_literal e) place cs (written (95 ∷ 90 ∷ w.bytes) w.components)
     (encoding-literal around allowed e (place + 1) cs w
-    (subst (λ q. ReadsAt around allowed (OfKind ENCODING) (Is (tree e true)) q cs w) (omega arith)
+    (elsewhere (omega arith)
     (r.at spot.as_encoding around allowed (place + 3) cs small
     (room-first (ways_of m e).as_encoding (text (codes "E")) (place + 3) cs (keeps-text (codes "E"))
     (room-rest (text (codes "L_Z")) ((ways_of m e).as_encoding and text (codes "E")) place cs room)) h))))
 
 address-in : (in_pack : Bool) (around : Around) (allowed : Option ℕ) (t : Term) (place : ℕ) (cs : List Component) (w : Written)
     → ReadsAt around allowed (OfKind ARGUMENT) (Is (tree t true)) place cs w → ArgumentReads in_pack around allowed t place cs w
-address-in true around allowed t place cs w one items last rest are two =
-    any-element around allowed t items last place cs w rest are
-    (subst (λ q. ReadsAt around allowed (OfKind ARGUMENT) (Is (tree t true)) q cs w) (omega arith) one)
-    (subst (λ q. ReadsAt around allowed (OfKind PACK_LIST) (Is last) q w.components rest) (omega arith) two)
-address-in false around allowed t place cs w one items last rest are two =
-    any-argument around allowed t items last place cs w rest are
-    (subst (λ q. ReadsAt around allowed (OfKind ARGUMENT) (Is (tree t true)) q cs w) (omega arith) one)
-    (subst (λ q. ReadsAt around allowed (OfKind ARGUMENT_LIST) (Is last) q w.components rest) (omega arith) two)
+address-in in_pack around allowed t place cs w one items last rest are two =
+    any-argument in_pack around allowed t items last place cs w rest are (elsewhere (omega arith) one) (elsewhere (omega arith) two)
 
 pub reads-address : (e : Term) → Reading e → Reading (address_of e)
 unfolding ways_of fits_of argument_ways no_ways
@@ -338,7 +291,7 @@ reads-address e r =
     address-in in_pack around allowed (address_of e) place cs
     (written (88 ∷ 97 ∷ 100 ∷ 76 ∷ 95 ∷ 90 ∷ (w.bytes ++ (69 ∷ 69 ∷ []))) w.components)
     (address-reads around allowed e place cs w
-    (subst (λ q. ReadsAt around allowed (OfKind ENCODING) (Is (tree e true)) q cs w) (omega arith)
+    (elsewhere (omega arith)
     (r.at spot.as_encoding around allowed (place + 6) cs small
     (room-first (ways_of m e).as_encoding (text (codes "EE")) (place + 6) cs (keeps-text (codes "EE"))
     (room-rest (text (codes "XadL_Z")) ((ways_of m e).as_encoding and text (codes "EE")) place cs room)) h))))
@@ -360,8 +313,6 @@ reads-pack a r = reads-argument (pack a) _ _ go
         let one = (r.at spot.as_elements) true around allowed (place + 1) cs small
         (room-first (ways_of m a).as_elements (text (codes "E")) (place + 1) cs (keeps-text (codes "E"))
         (room-rest (text (codes "J")) ((ways_of m a).as_elements and text (codes "E")) place cs room)) h.1 in
-        same-written around allowed (OfKind ARGUMENT_LIST) (Is (tree (list (pack a) items) true)) place cs rest.components
-        (74 ∷ (w.bytes ++ (69 ∷ rest.bytes))) (74 ∷ ((w.bytes ++ (69 ∷ [])) ++ rest.bytes))
-        (ap (λ l. 74 ∷ l) (sym (append_assoc w.bytes (69 ∷ []) rest.bytes)))
+        same-written (ap (λ l. 74 ∷ l) (sym (append_assoc w.bytes (69 ∷ []) rest.bytes)))
         (pack-argument around allowed a items (items_value a) last place cs w rest one.0 are one.1
-        (subst (λ q. ReadsAt around allowed (OfKind ARGUMENT_LIST) (Is last) q w.components rest) (omega (arith, length-append w.bytes (69 ∷ []))) two))
+        (elsewhere (omega (arith, length-append w.bytes (69 ∷ []))) two))

@@ -6,7 +6,6 @@ use Rattle.sym_spell.specs.Pressing.{◌and◌, text}
 use Rattle.cpp_grammar.specs.declared.kind.Kind.{Kind}
 use Rattle.cpp_grammar.specs.declared.production.Production.{Production}
 use Rattle.cpp_grammar.specs.KindNumbers.{COMPLETE_NAME, ENTITY, TYPE_ENTITY, SOURCE_OR_LOCAL}
-use Rattle.cpp_grammar.specs.Grammar.{in_ranges, among, is_in, pick, alternatives, choose, kinds, is_chain}
 use Rattle.cpp_grammar.specs.Term.{any_value, Term, in_std, instance, operator, literal_operator, source, lambda, unnamed}
 use Rattle.cpp_grammar.specs.Values.{Around, Value, tree, unqualified}
 use Rattle.cpp_grammar.specs.References.{is_function_type}
@@ -15,15 +14,14 @@ use Rattle.cpp_press_laws.specs.Texts.{qualifier_letters, mark_letter, name_lett
 use Rattle.cpp_press_laws.specs.Components.{Component, Spelling, ended, component}
 use Rattle.cpp_press_laws.specs.Pressing.{ways_of, no_ways, name_ways, in_N_and_E, template_before, is_operator, is_one_piece, entity_text}
 use Rattle.cpp_press_laws.specs.Subtrees.{Written, written, ReadsAt, Is, HasRoom, IsSmall}
-use Rattle.cpp_press_laws.proofs.ReadBack.Reading.{takes-byte}
-use Rattle.cpp_press_laws.proofs.ReadBack.Types.{more}
+use Rattle.cpp_press_laws.proofs.ReadBack.Reading.{takes-byte, more, grammar}
 use Rattle.cpp_press_laws.proofs.ReadBack.Names.{SoFar, Extends}
 use Rattle.cpp_press_laws.proofs.Components.Keeping.{Keeps, keeps-and, keeps-front, keeps-ended, keeps-choice, keeps-N-and-E, choice, keeps}
 use Rattle.cpp_press_laws.proofs.ReadBack.Slots.{room-first, room-rest, ReadsAs, solid_kind, in-slot, fitting-in}
 use Rattle.cpp_press_laws.proofs.ReadBack.Named.{std-rule, std-type-rule, PieceReads}
 use Rattle.cpp_press_laws.proofs.ReadBack.Between.{in_I_and_E, Named, named-std, named-std-type, Nested, nested-std, whole-nested, ExtendsWith, extends-with-behind-s, prefix-behind-s, prefix-nested, prefix-with-nested}
 use Rattle.cpp_press_laws.proofs.ReadBack.Templates.{TypeRules, slot-rules, TemplateKind, of_elements, ReadElements, template-reads}
-use Rattle.cpp_press_laws.proofs.EveryWay.Every.{NameReads, TemplateReads, template-value, EntityReads, Leads, slot_way, typed-argument, reads-nowhere}
+use Rattle.cpp_press_laws.proofs.EveryWay.Every.{NameReads, TemplateReads, template-value, EntityReads, Leads, typed-argument, reads-nowhere}
 use Rattle.cpp_press_laws.proofs.EveryWay.Types.{Reading, ReadingAt}
 use Rattle.cpp_press_laws.proofs.EveryWay.Names.{letters-nested, nested-room, name-by-letters, elements-behind}
 use Rattle.cpp_press_laws.specs.Fits.{Slot, any_type, bare_type, item_type, parameter_type, literal_type, Fitting, as_component, behind_bytes, Behind, names_function, begins_name, Role, in_type, in_name_with, letters_of, fits_nowhere, fits_of}
@@ -37,7 +35,7 @@ pub entity-nested : (role : Role) (around : Around) (allowed : Option ℕ) (t : 
     → SoFar around allowed t false 18 (place + length (codes "N" ++ letters_of role)) cs (between (place + length
     (codes "N" ++ letters_of role)) cs)
     → EntityReads role around allowed t place cs (in_N_and_E (letters_of role) between place cs)
-unfolding letters_of in_N_and_E choose alternatives pick is_in in_ranges among kinds is_chain
+unfolding letters_of in_N_and_E grammar
 entity-nested in_type around allowed t place cs between so_far =
     whole-nested TYPE_ENTITY around allowed t place cs (between (place + 1) cs)
     (takes-byte TYPE_ENTITY Kind.TypeEntity Production.NestedType 78 refl refl (omega arith) refl) so_far
@@ -53,7 +51,7 @@ no-letters-at-all = refl
 pub template-nested : (typed : Bool) (k : ℕ) (around : Around) (allowed : Option ℕ) (t : Term) → TemplateKind typed k → (place : ℕ)
     (cs : List Component) (w : Written) → SoFar around allowed t false 18 (place + 1) cs w
     → TemplateReads typed around allowed k t place cs (written (78 ∷ (w.bytes ++ (69 ∷ []))) w.components)
-unfolding choose alternatives pick is_in in_ranges among kinds is_chain
+unfolding grammar
 template-nested true k around allowed t rules place cs w so_far = whole-nested k around allowed t place cs w rules.nested so_far
 template-nested false k around allowed t eight place cs w so_far =
     subst (λ j. NameReads around allowed j t unqualified any_value place cs (written (78 ∷ (w.bytes ++ (69 ∷ []))) w.components)) (sym eight)
@@ -219,12 +217,8 @@ reads-in-std p r = record {
         (λ fits enough. s.adds place cs (spelled place cs)
         (std-type-reads p r (is_operator p) refl (solid_kind slot) (slot-rules slot) around allowed place cs small enough fits))
 
-    as_types : (slot : Slot) → Leads (λ n. slot_way slot (ways_of n (in_std p))) ((fits_of (in_std p)).as_type slot)
-        (λ around allowed. ReadsAs slot around allowed (in_std p))
-    as_types = each-slot _ (whole any_type) (whole bare_type) (whole item_type) (whole parameter_type) (whole literal_type)
-
     each : ReadingAt (in_std p)
-    each spot.as_type = as_types
+    each spot.as_type = each-slot _ (whole any_type) (whole bare_type) (whole item_type) (whole parameter_type) (whole literal_type)
     each spot.as_prefix = λ around allowed place cs small room h.
         fitting-in around allowed (in_std p) (Extends around allowed (in_std p)) place cs (std_spelling around.encoding p) (std_fits p)
         (prefix-behind-s around allowed (in_std p)) (keeps-std around.encoding p) room h

@@ -1,31 +1,27 @@
 -- Types are read in each of their ways.
-use Rattle.std.proofs.Common.{◌≡◌, ℕ, ◌+◌, length, List, [], ◌∷◌, ◌++◌, Option, Bool, true, false, refl, ap, arith, sym, subst, ◌∙◌, append-nil, append_assoc, length-append}
-use Rattle.std.specs.Prelude.{codes, ◌&&◌, ◌||◌}
+use Rattle.std.proofs.Common.{◌≡◌, ℕ, ◌+◌, length, List, [], ◌∷◌, ◌++◌, Option, Bool, true, false, refl, ap, arith, sym, subst, append_assoc, length-append, Some, ◌∙◌}
+use Rattle.std.specs.Prelude.{codes, ◌&&◌, ◌||◌, slice_get}
 use Rattle.sym_shape.specs.declared.rule.Sym.TheVariants.{Kind as OfKind}
 use Rattle.sym_shape.specs.Tree.{TakesRule}
 use Rattle.sym_spell.specs.Pressing.{◌and◌, text}
 use Rattle.cpp_grammar.specs.declared.kind.Kind.{Kind}
 use Rattle.cpp_grammar.specs.declared.production.Production.{Production}
 use Rattle.cpp_grammar.specs.KindNumbers.{TYPE, PLAIN, ITEM, ITEM_BUT_REF, ITEM_AFTER_D, AFTER_D, SOLID}
-use Rattle.cpp_grammar.specs.Grammar.{in_ranges, among, is_in, pick, number_of_kind, alternatives, choose, kinds, parts_of, is_chain}
+use Rattle.cpp_grammar.specs.Grammar.{choose, kinds, is_chain}
 use Rattle.cpp_grammar.specs.Table.{abi, rule_of}
 use Rattle.cpp_grammar.specs.Term.{Qualifiers, Term, tagged, vendor, pointer, lvalue, rvalue, array, member_pointer, qualified, vector, complex, expansion}
-use Rattle.cpp_grammar.specs.Values.{Around, tree, tree_of, is_listed, part}
-use Rattle.cpp_grammar.specs.References.{is_function_type, with_type}
-use Rattle.cpp_grammar.specs.Between.{between, under_expansion}
-use Rattle.cpp_grammar.specs.Meaning.{meaning, listed_value}
-use Rattle.cpp_grammar.specs.Unfolding as unfolding_
-use Rattle.cpp_grammar.specs.Unfolding.{opening, close}
+use Rattle.cpp_grammar.specs.Values.{Around, tree}
+use Rattle.cpp_grammar.specs.References.{is_function_type}
+use Rattle.cpp_grammar.specs.Between.{under_expansion}
 use Rattle.cpp_press_laws.specs.Components.{Component}
 use Rattle.cpp_press_laws.specs.Texts.{counted, qualifier_letters}
 use Rattle.cpp_press_laws.specs.Pressing.{ways_of}
 use Rattle.cpp_press_laws.specs.Subtrees.{Written, written, ReadsAt, Is, HasRoom}
-use Rattle.cpp_press_laws.proofs.ReadBack.Reading.{takes-byte}
-use Rattle.cpp_press_laws.proofs.ReadBack.Types.{more, wraps, types-any, types-bare, types-item, types-parameter}
-use Rattle.cpp_press_laws.proofs.ReadBack.Solids.{vendor-solid, pointer-solid, complex-solid, member-pointer-solid, array-solid, lvalue-reads, rvalue-reads}
-use Rattle.cpp_press_laws.proofs.ReadBack.Functions.{qualified_with, const-reads, volatile-reads, restrict-reads, vector-behind-d, rest-lvalue, rest-rvalue}
+use Rattle.cpp_press_laws.proofs.ReadBack.Reading.{takes-byte, elsewhere, grammar, more, same-written}
+use Rattle.cpp_press_laws.proofs.ReadBack.Types.{types-any, types-bare, types-item, types-parameter, item-with-d}
+use Rattle.cpp_press_laws.proofs.ReadBack.Solids.{vendor-solid, pointer-solid, complex-solid, member-pointer-solid, array-solid, reference, reference-reads, reference_letter}
+use Rattle.cpp_press_laws.proofs.ReadBack.Functions.{qualified_with, const-reads, volatile-reads, restrict-reads, vector-behind-d, rest-reference, mark_bytes}
 use Rattle.cpp_press_laws.proofs.ReadBack.Arguments.{expansion-reads}
-use Rattle.cpp_press_laws.proofs.ReadBack.Parameters.{RestReads}
 use Rattle.cpp_press_laws.proofs.Components.Keeping.{keeps-text, keeps-and, keeps-front, keeps}
 use Rattle.cpp_press_laws.proofs.ReadBack.Slots.{room-first, room-rest, ReadsAs, solid_kind, is_bare, in-rest, in-slot}
 use Rattle.cpp_press_laws.proofs.ReadBack.Templates.{slot-rules}
@@ -33,6 +29,7 @@ use Rattle.cpp_press_laws.proofs.EveryWay.Every.{ReadsSpots, ReadsAll, reads-typ
 use Rattle.cpp_press_laws.specs.Fits.{Slot, any_type, bare_type, item_type, parameter_type, literal_type, takes_all, takes_qualified, takes_expansions, has_letters, fits_of}
 use Rattle.cpp_press_laws.proofs.Slots.{each-slot}
 use Rattle.cpp_press_laws.proofs.Spots as spot
+use Rattle.std.proofs.Math.Bool.{and-true}
 
 -- ## What all slots but that of literals take
 
@@ -47,92 +44,59 @@ pub solid-in-all : (slot : Slot) (around : Around) (allowed : Option ℕ) (t : T
 unfolding takes_all
 solid-in-all = each-slot _ (λ around allowed t place cs w all bare one. (in-slot any_type around allowed t bare).adds place cs w one) (λ around allowed t place cs w all bare one. (in-slot bare_type around allowed t bare).adds place cs w one) (λ around allowed t place cs w all bare one. (in-slot item_type around allowed t bare).adds place cs w one) (λ around allowed t place cs w all bare one. (in-slot parameter_type around allowed t bare).adds place cs w one) (λ around allowed t place cs w all bare one. absurd (no-slot all))
 
--- what follows a D
-pub with-d-in-all : (slot : Slot) (around : Around) (allowed : Option ℕ) (t : Term) (place : ℕ) (cs : List Component) (w : Written)
-    → takes_all slot ≡ true → is_function_type t && is_bare slot ≡ false
-    → ReadsAt around allowed (OfKind AFTER_D) (Is (tree t false)) (place + 1) cs w
-    → ReadsAs slot around allowed t place cs (written (68 ∷ w.bytes) (more around w.components t))
+-- a type that begins with a D: it becomes a component, or is one already or never is one
+pub with-d-in : (slot : Slot) (around : Around) (allowed : Option ℕ) (t : Term) → takes_all slot ≡ true → is_function_type t && is_bare slot ≡ false
+    → ((place : ℕ) (cs : List Component) (w : Written) → ReadsAt around allowed (OfKind AFTER_D) (Is (tree t false)) (place + 1) cs w
+    → ReadsAs slot around allowed t place cs (written (68 ∷ w.bytes) (more around w.components t)))
+    × ((place : ℕ) (cs : List Component) (w : Written) → ReadsAt around allowed (OfKind AFTER_D) (Is (tree t true)) (place + 1) cs w
+    → ReadsAs slot around allowed t place cs (written (68 ∷ w.bytes) w.components))
 unfolding takes_all is_bare
-with-d-in-all any_type around allowed t place cs w all bare one = (types-any around allowed t).with_d.adds place cs w one
-with-d-in-all bare_type around allowed t place cs w all bare one = (types-bare around allowed t (go
-    (is_function_type t) bare)).with_d.adds place cs w one
-  where
-    go : (b : Bool) → b && true ≡ false → b ≡ false
-    go true k = k
-    go false k = refl
-with-d-in-all item_type around allowed t place cs w all bare one = (types-item around allowed t).with_d.adds place cs w one
-with-d-in-all parameter_type around allowed t place cs w all bare one =
-    in-rest around allowed t place cs (written (68 ∷ w.bytes) (more around w.components t))
-    ((types-parameter around allowed t).with_d.adds place cs w one)
-with-d-in-all literal_type around allowed t place cs w all bare one = absurd (no-slot all)
-
--- and builtin types after a D
-pub with-d-kept : (slot : Slot) (around : Around) (allowed : Option ℕ) (t : Term) (place : ℕ) (cs : List Component) (w : Written)
-    → takes_all slot ≡ true → is_function_type t ≡ false
-    → ReadsAt around allowed (OfKind AFTER_D) (Is (tree t true)) (place + 1) cs w
-    → ReadsAs slot around allowed t place cs (written (68 ∷ w.bytes) w.components)
-unfolding takes_all
-with-d-kept any_type around allowed t place cs w all other one = (types-any around allowed t).with_d.keeps place cs w one
-with-d-kept bare_type around allowed t place cs w all other one = (types-bare around allowed t other).with_d.keeps place cs w one
-with-d-kept item_type around allowed t place cs w all other one = (types-item around allowed t).with_d.keeps place cs w one
-with-d-kept parameter_type around allowed t place cs w all other one =
-    in-rest around allowed t place cs (written (68 ∷ w.bytes) w.components) ((types-parameter around allowed t).with_d.keeps place cs w one)
-with-d-kept literal_type around allowed t place cs w all other one = absurd (no-slot all)
+with-d-in any_type around allowed t all bare = let d = (types-any around allowed t).with_d in (d.adds, d.keeps)
+with-d-in bare_type around allowed t all bare =
+    let d = (types-bare around allowed t (sym (and-true (is_function_type t)) ∙ bare)).with_d in (d.adds, d.keeps)
+with-d-in item_type around allowed t all bare = let d = (types-item around allowed t).with_d in (d.adds, d.keeps)
+with-d-in parameter_type around allowed t all bare =
+    let d = (types-parameter around allowed t).with_d in
+    (λ place cs w one. in-rest around allowed t place cs _ (d.adds place cs w one), λ place cs w one. in-rest around allowed t place cs _ (d.keeps place cs w one))
+with-d-in literal_type around allowed t all bare = absurd (no-slot all)
 
 -- an expansion
 expansion-in : (slot : Slot) (around : Around) (allowed : Option ℕ) (t : Term) (place : ℕ) (cs : List Component) (w : Written)
     → takes_expansions slot ≡ true
     → ReadsAt around allowed (OfKind ITEM_AFTER_D) (Is (tree t false)) (place + 1) cs w
     → ReadsAs slot around allowed t place cs (written (68 ∷ w.bytes) (more around w.components t))
-unfolding takes_expansions choose alternatives pick is_in in_ranges among kinds is_chain parts_of number_of_kind between opening close unfolding_.behind meaning listed_value with_type tree_of is_listed part
+unfolding takes_expansions grammar
 expansion-in item_type around allowed t place cs w all one =
-    (wraps Production.ItemWithD around allowed ITEM ITEM_AFTER_D (68 ∷ []) t (takes-byte ITEM Kind.Item Production.ItemWithD 68 refl refl
-    (omega arith) refl) refl
-    (λ place s. refl) (λ place f s. refl) (λ place began s. refl) (λ place began s. refl)).adds place cs w one
+    (item-with-d around allowed ITEM t (takes-byte ITEM Kind.Item Production.ItemWithD 68 refl refl (omega arith) refl)).adds place cs w one
 expansion-in parameter_type around allowed t place cs w all one =
     in-rest around allowed t place cs (written (68 ∷ w.bytes) (more around w.components t))
-    ((wraps Production.ItemWithD around allowed ITEM_BUT_REF ITEM_AFTER_D (68 ∷ []) t (takes-byte ITEM_BUT_REF Kind.ItemButRef Production.ItemWithD 68 refl refl
-    (omega arith)
-    refl) refl
-    (λ place s. refl) (λ place f s. refl) (λ place began s. refl) (λ place began s. refl)).adds place cs w one)
+    ((item-with-d around allowed ITEM_BUT_REF t (takes-byte ITEM_BUT_REF Kind.ItemButRef Production.ItemWithD 68 refl refl (omega arith) refl)).adds
+    place cs w one)
 expansion-in any_type around allowed t place cs w all one = absurd (no-slot all)
 expansion-in bare_type around allowed t place cs w all one = absurd (no-slot all)
 expansion-in literal_type around allowed t place cs w all one = absurd (no-slot all)
 
--- references; as a parameter of a function type each becomes a component before those after it
-lvalue-in : (slot : Slot) (around : Around) (allowed : Option ℕ) (t : Term) (place : ℕ) (cs : List Component) (w : Written)
-    → takes_all slot ≡ true
-    → ReadsAt around allowed (OfKind TYPE) (Is (tree t true)) (place + 1) cs w
-    → ReadsAs slot around allowed (lvalue t) place cs (written (82 ∷ w.bytes) (more around w.components (lvalue t)))
-unfolding takes_all choose alternatives pick is_in in_ranges among kinds is_chain
-lvalue-in any_type around allowed t place cs w all one =
-    lvalue-reads around allowed TYPE t place cs w (takes-byte TYPE Kind.Type Production.ReferenceType 82 refl refl (omega arith) refl) one
-lvalue-in bare_type around allowed t place cs w all one =
-    lvalue-reads around allowed PLAIN t place cs w (takes-byte PLAIN Kind.Plain Production.ReferenceType 82 refl refl (omega arith) refl) one
-lvalue-in item_type around allowed t place cs w all one =
-    lvalue-reads around allowed ITEM t place cs w (takes-byte ITEM Kind.Item Production.ReferenceType 82 refl refl (omega arith) refl) one
-lvalue-in parameter_type around allowed t place cs w all one = λ items ref rest two.
-    rest-lvalue around allowed t items ref place cs w rest
-    (subst (λ q. ReadsAt around allowed (OfKind TYPE) (Is (tree t true)) q cs w) (omega arith) one)
-    (subst (λ q. RestReads around allowed items ref q (more around w.components (lvalue t)) rest) (omega arith) two)
-lvalue-in literal_type around allowed t place cs w all one = absurd (no-slot all)
+takes-reference : (r : Bool) (k : ℕ) (kind : Kind) → slice_get kinds k ≡ Some kind → choose kind 82 ≡ Some Production.ReferenceType
+    → choose kind 79 ≡ Some Production.ReferenceType → TakesRule abi k (rule_of Production.ReferenceType) (reference_letter r ∷ [])
+unfolding is_chain
+takes-reference true k kind at lvalues rvalues = takes-byte k kind Production.ReferenceType 82 at lvalues (omega arith) refl
+takes-reference false k kind at lvalues rvalues = takes-byte k kind Production.ReferenceType 79 at rvalues (omega arith) refl
 
-rvalue-in : (slot : Slot) (around : Around) (allowed : Option ℕ) (t : Term) (place : ℕ) (cs : List Component) (w : Written)
+-- references; as a parameter of a function type each becomes a component before those after it
+reference-in : (r : Bool) (slot : Slot) (around : Around) (allowed : Option ℕ) (t : Term) (place : ℕ) (cs : List Component) (w : Written)
     → takes_all slot ≡ true
     → ReadsAt around allowed (OfKind TYPE) (Is (tree t true)) (place + 1) cs w
-    → ReadsAs slot around allowed (rvalue t) place cs (written (79 ∷ w.bytes) (more around w.components (rvalue t)))
-unfolding takes_all choose alternatives pick is_in in_ranges among kinds is_chain
-rvalue-in any_type around allowed t place cs w all one =
-    rvalue-reads around allowed TYPE t place cs w (takes-byte TYPE Kind.Type Production.ReferenceType 79 refl refl (omega arith) refl) one
-rvalue-in bare_type around allowed t place cs w all one =
-    rvalue-reads around allowed PLAIN t place cs w (takes-byte PLAIN Kind.Plain Production.ReferenceType 79 refl refl (omega arith) refl) one
-rvalue-in item_type around allowed t place cs w all one =
-    rvalue-reads around allowed ITEM t place cs w (takes-byte ITEM Kind.Item Production.ReferenceType 79 refl refl (omega arith) refl) one
-rvalue-in parameter_type around allowed t place cs w all one = λ items ref rest two.
-    rest-rvalue around allowed t items ref place cs w rest
-    (subst (λ q. ReadsAt around allowed (OfKind TYPE) (Is (tree t true)) q cs w) (omega arith) one)
-    (subst (λ q. RestReads around allowed items ref q (more around w.components (rvalue t)) rest) (omega arith) two)
-rvalue-in literal_type around allowed t place cs w all one = absurd (no-slot all)
+    → ReadsAs slot around allowed (reference r t) place cs (written (reference_letter r ∷ w.bytes) (more around w.components (reference r t)))
+unfolding takes_all grammar
+reference-in r any_type around allowed t place cs w all one =
+    reference-reads r around allowed TYPE t place cs w (takes-reference r TYPE Kind.Type refl refl refl) one
+reference-in r bare_type around allowed t place cs w all one =
+    reference-reads r around allowed PLAIN t place cs w (takes-reference r PLAIN Kind.Plain refl refl refl) one
+reference-in r item_type around allowed t place cs w all one =
+    reference-reads r around allowed ITEM t place cs w (takes-reference r ITEM Kind.Item refl refl refl) one
+reference-in r parameter_type around allowed t place cs w all one = λ items ref rest two.
+    rest-reference r around allowed t items ref place cs w rest (elsewhere (omega arith) one) (elsewhere (omega arith) two)
+reference-in r literal_type around allowed t place cs w all one = absurd (no-slot all)
 
 -- ## Qualified types
 
@@ -142,28 +106,13 @@ record QualifiedRules (k : ℕ) : Type 0 where
   volatile : TakesRule abi k (rule_of Production.VolatileType) (86 ∷ [])
   const : TakesRule abi k (rule_of Production.ConstType) (75 ∷ [])
 
-type-rules : QualifiedRules TYPE
-unfolding choose alternatives pick is_in in_ranges among kinds is_chain
-type-rules = record {
-  restrict = takes-byte TYPE Kind.Type Production.RestrictType 114 refl refl (omega arith) refl;
-  volatile = takes-byte TYPE Kind.Type Production.VolatileType 86 refl refl (omega arith) refl;
-  const = takes-byte TYPE Kind.Type Production.ConstType 75 refl refl (omega arith) refl;
-}
-
-item-rules : QualifiedRules ITEM
-unfolding choose alternatives pick is_in in_ranges among kinds is_chain
-item-rules = record {
-  restrict = takes-byte ITEM Kind.Item Production.RestrictType 114 refl refl (omega arith) refl;
-  volatile = takes-byte ITEM Kind.Item Production.VolatileType 86 refl refl (omega arith) refl;
-  const = takes-byte ITEM Kind.Item Production.ConstType 75 refl refl (omega arith) refl;
-}
-
-parameter-rules : QualifiedRules ITEM_BUT_REF
-unfolding choose alternatives pick is_in in_ranges among kinds is_chain
-parameter-rules = record {
-  restrict = takes-byte ITEM_BUT_REF Kind.ItemButRef Production.RestrictType 114 refl refl (omega arith) refl;
-  volatile = takes-byte ITEM_BUT_REF Kind.ItemButRef Production.VolatileType 86 refl refl (omega arith) refl;
-  const = takes-byte ITEM_BUT_REF Kind.ItemButRef Production.ConstType 75 refl refl (omega arith) refl;
+qualified-rules : (k : ℕ) (kind : Kind) → slice_get kinds k ≡ Some kind → choose kind 114 ≡ Some Production.RestrictType
+    → choose kind 86 ≡ Some Production.VolatileType → choose kind 75 ≡ Some Production.ConstType → QualifiedRules k
+unfolding is_chain
+qualified-rules k kind at r v c = record {
+  restrict = takes-byte k kind Production.RestrictType 114 at r (omega arith) refl;
+  volatile = takes-byte k kind Production.VolatileType 86 at v (omega arith) refl;
+  const = takes-byte k kind Production.ConstType 75 at c (omega arith) refl;
 }
 
 abbrev letters_for : (restrict volatile const : Bool) → List ℕ
@@ -176,27 +125,14 @@ qualified-at : (k : ℕ) (around : Around) (allowed : Option ℕ) (restrict vola
     → ReadsAt around allowed (OfKind k) (Is (tree (qualified_with restrict volatile const t) true)) place cs
     (written (letters_for restrict volatile const ++ w.bytes) (more around w.components (qualified_with restrict volatile const t)))
 unfolding qualifier_letters
-qualified-at k around allowed true true true t place cs w rules some one =
-    restrict-reads around allowed k true true t place cs w rules.restrict
-    (subst (λ q. ReadsAt around allowed (OfKind PLAIN) (Is (tree t true)) q cs w) (omega arith) one)
-qualified-at k around allowed true true false t place cs w rules some one =
-    restrict-reads around allowed k true false t place cs w rules.restrict
-    (subst (λ q. ReadsAt around allowed (OfKind PLAIN) (Is (tree t true)) q cs w) (omega arith) one)
-qualified-at k around allowed true false true t place cs w rules some one =
-    restrict-reads around allowed k false true t place cs w rules.restrict
-    (subst (λ q. ReadsAt around allowed (OfKind PLAIN) (Is (tree t true)) q cs w) (omega arith) one)
-qualified-at k around allowed true false false t place cs w rules some one =
-    restrict-reads around allowed k false false t place cs w rules.restrict
-    (subst (λ q. ReadsAt around allowed (OfKind PLAIN) (Is (tree t true)) q cs w) (omega arith) one)
-qualified-at k around allowed false true true t place cs w rules some one =
-    volatile-reads around allowed k true t place cs w rules.volatile
-    (subst (λ q. ReadsAt around allowed (OfKind PLAIN) (Is (tree t true)) q cs w) (omega arith) one)
-qualified-at k around allowed false true false t place cs w rules some one =
-    volatile-reads around allowed k false t place cs w rules.volatile
-    (subst (λ q. ReadsAt around allowed (OfKind PLAIN) (Is (tree t true)) q cs w) (omega arith) one)
+qualified-at k around allowed true volatile const t place cs w rules some one =
+    same-written (ap (λ l. 114 ∷ l) (sym (append_assoc (mark_bytes volatile 86) (mark_bytes const 75) w.bytes)))
+    (restrict-reads around allowed k volatile const t place cs w rules.restrict
+    (elsewhere (omega (arith, length-append (mark_bytes volatile 86) (mark_bytes const 75))) one))
+qualified-at k around allowed false true const t place cs w rules some one =
+    volatile-reads around allowed k const t place cs w rules.volatile (elsewhere (omega arith) one)
 qualified-at k around allowed false false true t place cs w rules some one =
-    const-reads around allowed k t place cs w rules.const
-    (subst (λ q. ReadsAt around allowed (OfKind PLAIN) (Is (tree t true)) q cs w) (omega arith) one)
+    const-reads around allowed k t place cs w rules.const (elsewhere (omega arith) one)
 qualified-at k around allowed false false false t place cs w rules some one = absurd (no-slot some)
 
 qualified-in : (slot : Slot) (around : Around) (allowed : Option ℕ) (restrict volatile const : Bool) (t : Term) (place : ℕ)
@@ -205,13 +141,15 @@ qualified-in : (slot : Slot) (around : Around) (allowed : Option ℕ) (restrict 
     → ReadsAt around allowed (OfKind PLAIN) (Is (tree t true)) (place + length (letters_for restrict volatile const)) cs w
     → ReadsAs slot around allowed (qualified_with restrict volatile const t) place cs
     (written (letters_for restrict volatile const ++ w.bytes) (more around w.components (qualified_with restrict volatile const t)))
-unfolding takes_qualified
-qualified-in any_type around allowed r v c t place cs w all some one = qualified-at TYPE around allowed r v c t place cs w type-rules some one
-qualified-in item_type around allowed r v c t place cs w all some one = qualified-at ITEM around allowed r v c t place cs w item-rules some one
+unfolding takes_qualified grammar
+qualified-in any_type around allowed r v c t place cs w all some one =
+    qualified-at TYPE around allowed r v c t place cs w (qualified-rules TYPE Kind.Type refl refl refl refl) some one
+qualified-in item_type around allowed r v c t place cs w all some one =
+    qualified-at ITEM around allowed r v c t place cs w (qualified-rules ITEM Kind.Item refl refl refl refl) some one
 qualified-in parameter_type around allowed r v c t place cs w all some one =
     in-rest around allowed (qualified_with r v c t) place cs
     (written (letters_for r v c ++ w.bytes) (more around w.components (qualified_with r v c t)))
-    (qualified-at ITEM_BUT_REF around allowed r v c t place cs w parameter-rules some one)
+    (qualified-at ITEM_BUT_REF around allowed r v c t place cs w (qualified-rules ITEM_BUT_REF Kind.ItemButRef refl refl refl refl) some one)
 qualified-in bare_type around allowed r v c t place cs w all some one = absurd (no-slot all)
 qualified-in literal_type around allowed r v c t place cs w all some one = absurd (no-slot all)
 
@@ -257,7 +195,7 @@ reads-lvalue t r =
     reads-type (lvalue t) (λ n. text (codes "R") and (ways_of n t).as_type) _ refl
     (λ n. keeps-front (codes "R") (ways_of n t).as_type (keeps t n).as_type)
     (λ slot around allowed place cs small room h.
-    lvalue-in slot around allowed t place cs ((ways_of around.encoding t).as_type (place + 1) cs) h.0
+    reference-in true slot around allowed t place cs ((ways_of around.encoding t).as_type (place + 1) cs) h.0
     (r.at spot.as_type any_type around allowed (place + 1) cs small (room-rest (text (codes "R"))
     (ways_of around.encoding t).as_type place cs room) h.1))
 
@@ -267,7 +205,7 @@ reads-rvalue t r =
     reads-type (rvalue t) (λ n. text (codes "O") and (ways_of n t).as_type) _ refl
     (λ n. keeps-front (codes "O") (ways_of n t).as_type (keeps t n).as_type)
     (λ slot around allowed place cs small room h.
-    rvalue-in slot around allowed t place cs ((ways_of around.encoding t).as_type (place + 1) cs) h.0
+    reference-in false slot around allowed t place cs ((ways_of around.encoding t).as_type (place + 1) cs) h.0
     (r.at spot.as_type any_type around allowed (place + 1) cs small (room-rest (text (codes "O"))
     (ways_of around.encoding t).as_type place cs room) h.1))
 
@@ -294,7 +232,7 @@ reads-array digits t r =
     let x : Written = (ways_of around.encoding t).as_type (place + length front) cs in
     solid-in-all slot around allowed (array digits t) place cs (written (65 ∷ ((digits ++ 95 ∷ []) ++ x.bytes)) x.components) h.0 refl
     (array-solid around allowed digits t place cs x h.1
-    (subst (λ q. ReadsAt around allowed (OfKind TYPE) (Is (tree t true)) q cs x) (omega arith)
+    (elsewhere (omega arith)
     (r.at spot.as_type any_type around allowed (place + length front) cs small (room-rest (text front)
     (ways_of around.encoding t).as_type place cs room)
     h.2))))
@@ -308,11 +246,10 @@ reads-vector digits t r =
     (λ slot around allowed place cs small room h.
     let x : Written = (ways_of around.encoding t).as_type (place + length front) cs in
     subst (λ l. ReadsAs slot around allowed (vector digits t) place cs (written l (more around x.components (vector digits t))))
-    (ap (λ l. 68 ∷ 118 ∷ l) (ap (λ l. l ++ (95 ∷ x.bytes)) (append-nil digits) ∙ sym (append_assoc digits (95 ∷ []) x.bytes)))
-    (with-d-in-all slot around allowed _ place cs (written (118 ∷ ((digits ++ []) ++ (95 ∷ x.bytes))) x.components) h.0 refl
+    (ap (λ l. 68 ∷ 118 ∷ l) (sym (append_assoc digits (95 ∷ []) x.bytes)))
+    ((with-d-in slot around allowed (vector digits t) h.0 refl).0 place cs (written (118 ∷ (digits ++ (95 ∷ x.bytes))) x.components)
     (vector-behind-d around allowed digits t (place + 1) cs x h.1
-    (subst (λ q. ReadsAt around allowed (OfKind TYPE) (Is (tree t true)) q cs x)
-    (omega (arith, length-append digits (95 ∷ []), length-append digits []))
+    (elsewhere (omega (arith, length-append digits (95 ∷ [])))
     (r.at spot.as_type any_type around allowed (place + length front) cs small (room-rest (text front)
     (ways_of around.encoding t).as_type place cs room)
     h.2)))))
@@ -326,7 +263,7 @@ reads-expansion t r =
     let x : Written = (ways_of around.encoding t).as_type (place + 2) cs in
     expansion-in slot around allowed (expansion t) place cs (written (112 ∷ x.bytes) x.components) h.0
     (expansion-reads around allowed h.1.0 t (place + 1) cs x
-    (subst (λ q. ReadsAt (under_expansion around) h.1.0 (OfKind TYPE) (Is (tree t true)) q cs x) (omega arith)
+    (elsewhere (omega arith)
     (r.at spot.as_type any_type (under_expansion around) h.1.0 (place + 2) cs small
     (room-rest (text (codes "Dp")) (ways_of around.encoding t).as_type place cs room) h.1.1))))
 

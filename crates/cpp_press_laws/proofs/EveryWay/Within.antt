@@ -5,7 +5,6 @@ use Rattle.sym_spell.specs.Pressing.{◌and◌, text}
 use Rattle.cpp_grammar.specs.declared.kind.Kind.{Kind}
 use Rattle.cpp_grammar.specs.declared.production.Production.{Production}
 use Rattle.cpp_grammar.specs.KindNumbers.{COMPLETE_NAME, ENTITY, TYPE_ENTITY}
-use Rattle.cpp_grammar.specs.Grammar.{in_ranges, among, is_in, pick, alternatives, choose, kinds, is_chain}
 use Rattle.cpp_grammar.specs.Term.{Qualifiers, within, string_literal, RefQualifier, any_value, Term, instance}
 use Rattle.cpp_grammar.specs.Values.{behind, Around, tree, tree_of, qualifiers_of, ref_of, unqualified}
 use Rattle.cpp_grammar.specs.References.{is_function_type}
@@ -15,15 +14,14 @@ use Rattle.cpp_press_laws.specs.Texts.{name_letters}
 use Rattle.cpp_press_laws.specs.Components.{Component, Spelling, ended, component}
 use Rattle.cpp_press_laws.specs.Pressing.{ways_of, no_ways, name_ways, with_letters, in_N_and_E, template_before, piece_ways, is_encoding, is_one_piece, entity_text}
 use Rattle.cpp_press_laws.specs.Subtrees.{Written, written, HasRoom, IsSmall}
-use Rattle.cpp_press_laws.proofs.ReadBack.Reading.{takes-byte}
-use Rattle.cpp_press_laws.proofs.ReadBack.Types.{more}
+use Rattle.cpp_press_laws.proofs.ReadBack.Reading.{takes-byte, more, grammar}
 use Rattle.cpp_press_laws.proofs.ReadBack.Names.{SoFar, Extends}
 use Rattle.cpp_press_laws.proofs.Components.Keeping.{Keeps, keeps-and, keeps-ended, keeps-N-and-E, choice, keeps}
 use Rattle.cpp_press_laws.proofs.ReadBack.Slots.{room-first, room-rest, ReadsAs, solid_kind, in-slot, fitting-in}
 use Rattle.cpp_press_laws.proofs.ReadBack.Named.{member-rule, entity-rule, type-entity-rule, NameRule, PieceReads}
 use Rattle.cpp_press_laws.proofs.ReadBack.Between.{in_I_and_E, Named, named-piece, Nested, nested-within, whole-nested, ExtendsWith, extends-with-behind-s, prefix-behind-s, prefix-piece, prefix-with-piece, prefix-nested, prefix-with-nested}
 use Rattle.cpp_press_laws.proofs.ReadBack.Templates.{slot-rules, of_elements, template-reads}
-use Rattle.cpp_press_laws.proofs.EveryWay.Every.{NameReads, TemplateReads, template-value, EntityReads, Leads, slot_way, typed-argument, reads-nowhere}
+use Rattle.cpp_press_laws.proofs.EveryWay.Every.{NameReads, TemplateReads, template-value, EntityReads, Leads, typed-argument, reads-nowhere}
 use Rattle.cpp_press_laws.proofs.EveryWay.Types.{Reading, ReadingAt}
 use Rattle.cpp_press_laws.proofs.EveryWay.Std.{entity-nested, template-nested}
 use Rattle.cpp_press_laws.proofs.EveryWay.Names.{letters-nested, no-qualifiers, no-letters, nested-room, elements-behind}
@@ -190,7 +188,7 @@ name-nested : (around : Around) (allowed : Option ℕ) (t : Term) (q : Qualifier
     → SoFar around allowed t false 18 at cs (between at cs))
     → HasRoom (with_letters (name_letters q ref) (in_N_and_E [] between) between place cs)
     → NameReads around allowed COMPLETE_NAME t q ref place cs (with_letters (name_letters q ref) (in_N_and_E [] between) between place cs)
-unfolding with_letters in_N_and_E choose alternatives pick is_in in_ranges among kinds is_chain
+unfolding with_letters in_N_and_E grammar
 name-nested around allowed t q ref place cs between so_far room = go (name_letters q ref) refl room
   where
     nested : (ls : List ℕ) → name_letters q ref ≡ ls → HasRoom (between (place + length (78 ∷ ls)) cs)
@@ -246,12 +244,8 @@ reads-within x p rx rp = record {
         (whole-nested (solid_kind slot) around allowed (within x p) place cs (joined_spelling n x p (place + 1) cs) (slot-rules slot).nested
         (joined-nested x p rx rp around allowed (place + 1) cs small (nested-room [] (joined_spelling n x p) place cs enough) fits).bare))
 
-    as_types : (slot : Slot) → Leads (λ n. slot_way slot (ways_of n (within x p))) ((fits_of (within x p)).as_type slot)
-        (λ around allowed. ReadsAs slot around allowed (within x p))
-    as_types = each-slot _ (whole any_type) (whole bare_type) (whole item_type) (whole parameter_type) (whole literal_type)
-
     each : ReadingAt (within x p)
-    each spot.as_type = as_types
+    each spot.as_type = each-slot _ (whole any_type) (whole bare_type) (whole item_type) (whole parameter_type) (whole literal_type)
     each spot.as_prefix = λ around allowed place cs small room h.
         fitting-in around allowed (within x p) (Extends around allowed (within x p)) place cs (joined_spelling around.encoding x p)
         (begun_fits x p)

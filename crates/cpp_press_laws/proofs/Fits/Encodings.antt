@@ -154,12 +154,12 @@ encoding-fitted around at e F s old new more shut grows before later into same i
   fits = λ n place cs allowed front allows. (
       let p = inner.fits place place cs allowed (front-inner around n place at cs old before front) allows in
       let f = into allowed place cs p.fits in
-      let added = ((adds e).at fit.as_encoding) allowed n n place cs f front.complete in
+      let added = (adds e).at fit.as_encoding allowed n n place cs f in
       let ds = ((ways_of n e).as_encoding place cs).components in
       record {
         fits = f;
         may = may-closed (pressed_at n around) allowed e shut;
-        complete = added.complete;
+        complete = added.complete front.complete;
         among = subst (λ l. StandAmong around.encoding n l ds) (sym grows)
             (among-outer around.encoding n at place old.candidates more cs ds added.keeps later front.among
             (subst (λ l. StandAmong at place l ds) grows (subst (StandAmong at place new.candidates) (same n place cs) p.among)));

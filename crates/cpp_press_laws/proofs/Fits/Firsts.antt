@@ -8,7 +8,7 @@ use Rattle.cpp_grammar.specs.Between.{after, inside, extended, no_items}
 use Rattle.cpp_press_laws.specs.Components.{Component}
 use Rattle.cpp_press_laws.specs.Pressing.{no_ways, type_ways, is_encoding, ways_of}
 use Rattle.cpp_press_laws.proofs.Components.Parts.{IsComponent, Whole, Has, stands-found}
-use Rattle.cpp_press_laws.proofs.Components.Steps.{named-stands}
+use Rattle.cpp_press_laws.proofs.Components.Complete.{named-stands}
 use Rattle.cpp_press_laws.proofs.Components.NoneAdded.{prefix-none}
 use Rattle.cpp_press_laws.specs.Fits.{any_type, begins_name, IsAbbreviation, type_fits, fits_nowhere, fits_of, MayBeReferred}
 use Rattle.cpp_press_laws.proofs.Fitting as fit

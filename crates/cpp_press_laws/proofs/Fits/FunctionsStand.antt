@@ -26,16 +26,16 @@ item-stands (symbol e suffix) slot other around allowed packs place cs fits own 
 item-stands _ slot other around allowed packs place cs fits own = search (fits, own)
 
 -- its packs are allowed
-no-packs : (scope : Option Term) (t : Term) → ((arguments : Term) → pack_length arguments t ≡ None) → packs_in scope t ≡ None
+pub packs-none : (scope : Option Term) (t : Term) → ((arguments : Term) → pack_length arguments t ≡ None) → packs_in scope t ≡ None
 unfolding packs_in
-no-packs None t none = refl
-no-packs (Some arguments) t none = none arguments
+packs-none None t none = refl
+packs-none (Some arguments) t none = none arguments
 
 pub item-packs : (t : Term) (slot : Slot) → IsNotBare slot → (around : Around) (allowed : Option ℕ) (place : ℕ) (cs : List Component)
     → (fits_of t).as_type slot around allowed place cs → PacksFit around allowed (packs_in around.scope t)
 unfolding fits_of type_fits piece_fits argument_fits encoding_fits fits_nowhere pack_length
-item-packs (builtin code) slot other around allowed place cs fits = inl (no-packs around.scope (builtin code) (λ arguments. refl))
-item-packs (abbreviation l) slot other around allowed place cs fits = inl (no-packs around.scope (abbreviation l) (λ arguments. refl))
+item-packs (builtin code) slot other around allowed place cs fits = inl (packs-none around.scope (builtin code) (λ arguments. refl))
+item-packs (abbreviation l) slot other around allowed place cs fits = inl (packs-none around.scope (abbreviation l) (λ arguments. refl))
 item-packs (symbol e suffix) slot other around allowed place cs fits = absurd fits
 item-packs (function_type c_linkage noexcept ref returned parameters) slot other around allowed place cs fits = go slot other fits
   where
@@ -91,7 +91,7 @@ packs-function (Some arguments) c_linkage noexcept ref returned parameters = ref
 items-packs : (t : Term) (around : Around) (allowed : Option ℕ) (place : ℕ) (cs : List Component)
     → (fits_of t).as_more_parameters parameter_type around allowed place cs → PacksFit around allowed (packs_in around.scope t)
 unfolding fits_of type_fits piece_fits argument_fits encoding_fits fits_nowhere pack_length
-items-packs nil around allowed place cs fits = inl (no-packs around.scope nil (λ arguments. refl))
+items-packs nil around allowed place cs fits = inl (packs-none around.scope nil (λ arguments. refl))
 items-packs (list first rest) around allowed place cs fits =
     let w : spell.Pressed Component = (ways_of around.encoding first).as_type place cs in
     subst (PacksFit around allowed) (sym (packs-list around.scope first rest))

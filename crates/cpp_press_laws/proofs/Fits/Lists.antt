@@ -1,7 +1,7 @@
 -- Lists of types that were read fit, and function types of them.
 use Rattle.std.proofs.Common.{◌≡◌, ℕ, ◌+◌, length, List, [], ◌∷◌, ◌++◌, Bool, true, false, inl, inr, refl, sym, ◌∙◌, subst}
 use Rattle.std.specs.Prelude.{◌&&◌, codes, cond}
-use Rattle.std.proofs.lemmas.Bool.{false≢true}
+use Rattle.std.proofs.lemmas.Bool.{and_right, false≢true}
 use Rattle.sym_spell.specs.Pressing.{◌and◌, text}
 use Rattle.cpp_grammar.specs.Term.{RefQualifier, Term, symbol, builtin, function_type, nil, list}
 use Rattle.cpp_grammar.specs.Scope.{is_open, pack_length}
@@ -41,21 +41,15 @@ pub list-fits : (around : Around) (slot : Slot) (a b : Term) (old mid new : Stat
     → ListFits around slot b mid new → ListFits around slot (list a b) old new
 unfolding fits_of fits_nowhere ways_of no_ways is_open pack_length
 list-fits around slot a b old mid new one other =
-    and-fitted around ((fits_of a).as_type slot) ((fits_of b).as_more_parameters slot) (λ n. (ways_of n a).as_type)
-    (λ n. (ways_of n b).as_more_parameters) a b (list a b) old mid new
-    (λ n allowed. may-as-two (pressed_at n around) allowed a b (list a b) refl (λ arguments. refl)) one other
-
-and-no : (b : Bool) → b && false ≡ false
-and-no true = refl
-and-no false = refl
+    and-fitted one other (λ n allowed. may-as-two (pressed_at n around) allowed a b (list a b) refl (λ arguments. refl))
 
 -- a lone void adds nothing
 pub void-adds-none : (a b : Term) → is_void a && is_nil b ≡ true → (n place : ℕ) (cs : List Component)
     → ((ways_of n (list a b)).as_more_parameters place cs).components ≡ cs
 unfolding is_void is_nil ways_of no_ways type_ways
 void-adds-none (builtin (l ∷ [])) nil void n place cs = refl
-void-adds-none (builtin (l ∷ [])) (symbol e suffix) void n place cs = absurd (false≢true (sym (and-no (is_void (builtin (l ∷ [])))) ∙ void))
-void-adds-none (builtin (l ∷ [])) b void n place cs = absurd (false≢true (sym (and-no (is_void (builtin (l ∷ [])))) ∙ void))
+void-adds-none (builtin (l ∷ [])) (symbol e suffix) void n place cs = absurd (false≢true (sym (and_right (is_void (builtin (l ∷ []))) false refl) ∙ void))
+void-adds-none (builtin (l ∷ [])) b void n place cs = absurd (false≢true (sym (and_right (is_void (builtin (l ∷ []))) false refl) ∙ void))
 void-adds-none (builtin []) b void n place cs = absurd (false≢true void)
 void-adds-none (builtin (l ∷ m ∷ ls)) b void n place cs = absurd (false≢true void)
 void-adds-none (symbol e suffix) b void n place cs = absurd (false≢true void)
@@ -90,17 +84,15 @@ pub parameters-fit : (around : Around) (slot : Slot) (t : Term) (old new : State
     → ParametersFit around slot (parameters t) old new
 unfolding fits_of fits_nowhere ways_of no_ways parameters
 parameters-fit around slot nil old new is one =
-    no-parameters-fit around slot nil (λ n. (ways_of n nil).as_more_parameters) ((fits_of nil).as_more_parameters slot) old new (λ n place cs. refl) one
+    no-parameters-fit around slot nil (λ n. (ways_of n nil).as_more_parameters) ((fits_of nil).as_more_parameters slot)
+    old new (λ n place cs. refl) one
 parameters-fit around slot (list a b) old new is one = go (is_void a && is_nil b) refl
   where
     go : (c : Bool) → is_void a && is_nil b ≡ c → ParametersFit around slot (elim c as (λ _. Term) [ true ↦ nil | false ↦ list a b ]) old new
     go true void =
         no-parameters-fit around slot (list a b) (λ n. (ways_of n (list a b)).as_more_parameters)
         ((fits_of (list a b)).as_more_parameters slot) old new (void-adds-none a b void) one
-    go false others =
-        refitted around ((fits_of (list a b)).as_more_parameters slot) ((fits_of (list a b)).as_parameters slot)
-        (λ n. (ways_of n (list a b)).as_more_parameters) (list a b) (list a b) old new (λ n allowed place cs fits. (others, fits))
-        (λ n allowed may. may) one
+    go false others = refitted one (λ n allowed place cs fits. (others, fits))
 parameters-fit around slot (symbol e suffix) old new is one = absurd is
 parameters-fit around slot _ old new is one = absurd is
 
@@ -122,19 +114,11 @@ function-spelled around c_linkage noexcept ref a b old mid new one other =
     let t : Term = function_type c_linkage noexcept ref a b in
     let marks : List ℕ = cond noexcept (codes "Do") [] ++ codes "F" ++ cond c_linkage (codes "Y") [] in
     let end : List ℕ = mark_letter ref ++ codes "E" in
-    let A : Fitting = (fits_of a).as_type any_type in
     let B : Fitting = (fits_of b).as_parameters parameter_type in
     let s : ℕ → Spelling = λ n. (ways_of n a).as_type in
-    let r : ℕ → Spelling = λ n. (ways_of n b).as_parameters and text end in
-    let both : Fitting = λ inner allowed place cs. A inner allowed place cs × Behind (s inner.encoding) (B inner allowed) place cs in
-    refitted around (λ inner allowed place cs. both inner allowed (place + length marks) cs) (FunctionSpelled c_linkage noexcept a b)
-    (λ n. text marks and s n and r n) t t old new
+    refitted (bytes-fitted marks (and-fitted one (fitted-bytes end other)
+    (λ n allowed. may-as-two (pressed_at n around) allowed a b t refl (λ arguments. refl))))
     (λ n allowed place cs fits. (fits.0, behind-both (text marks) (s n) (B (pressed_at n around) allowed) place cs fits.1))
-    (λ n allowed may. may)
-    (bytes-fitted around both marks (λ n. s n and r n) t old new
-    (and-fitted around A B s r a b t old mid new
-    (λ n allowed. may-as-two (pressed_at n around) allowed a b t refl (λ arguments. refl)) one
-    (fitted-bytes around B (λ n. (ways_of n b).as_parameters) end b mid new other)))
 
 -- a function type, which is no candidate right under qualifiers
 pub function-fits : (around : Around) (c_linkage noexcept : Bool) (ref : RefQualifier) (a b : Term) (old mid new : State)
@@ -168,10 +152,9 @@ function-fits around c_linkage noexcept ref a b old mid new one other = record {
         ((keeps b Unit n (Whole t) way.as_parameters) (λ x i. inr (inr i))) (text-keeps Unit n (Whole t) (mark_letter ref ++ codes "E"))))
 
     whole : Fitted around (as_component t (FunctionSpelled c_linkage noexcept a b)) (λ n. component n t (s n)) t old (appended around t new)
-    whole = component-fitted around t (FunctionSpelled c_linkage noexcept a b) s old new tt kept
+    whole = component-fitted spelled tt kept
         (λ n allowed place cs fits. function-stands c_linkage noexcept ref a b (pressed_at n around) allowed _ _ _ _ fits.0 fits.1)
-        (λ n allowed place cs fits complete. ((adds t).at fit.as_type any_type (pressed_at n around) allowed place cs fits complete).complete)
-        spelled
+        (λ n allowed place cs fits. ((adds t).at fit.as_type any_type (pressed_at n around) allowed place cs fits).complete)
 
     go : (slot : Slot) → IsNotBare slot → takes_all slot ≡ true
         → Fitted around ((fits_of t).as_type slot) (λ n. (ways_of n t).as_type) t old (appended around t new)

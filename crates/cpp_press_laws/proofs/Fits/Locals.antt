@@ -39,24 +39,15 @@ pub local-fits : (around : Around) (e entity : Term) (discriminator : Option (Li
 unfolding local_text after is_open pack_length
 local-fits around e entity discriminator role old mid new good one other =
     let own : Term = local e entity discriminator in
-    let whole : Fitting = λ inner allowed place cs. (fits_of e).as_encoding allowed place cs in
     let enc : ℕ → Spelling = λ n. (ways_of n e).as_encoding in
     let part : ℕ → Spelling = λ n. entity_text entity (letters_of role) (ways_of n entity).between_N_and_E in
     let end : ℕ → Spelling = λ n. part n and text (discriminator_text discriminator) in
-    let first : ℕ → Spelling = λ n. text (codes "Z") and enc n and text (codes "E") in
-    let F : Fitting = λ inner allowed place cs. whole inner allowed (place + 1) cs in
-    let G : Fitting = λ inner. (fits_of entity).as_entity role (after e true inner) in
-    respelled around (LocalStanding e entity discriminator role) (λ n. first n and end n) (local_spelling e entity discriminator role) own old new
+    respelled (refitted (and-fitted (bytes-fitted (codes "Z") (fitted-bytes (codes "E") one))
+    (fitted-bytes (discriminator_text discriminator) (moved around (behind e true) other))
+    (λ n allowed a b. may-as (pressed_at n around) allowed entity own refl (λ arguments. refl) b))
+    (λ n allowed place cs fits. (fits.0, fits.1, good)))
     (λ n place cs. and-assoc-at (text (codes "Z")) (enc n and text (codes "E")) (end n) place cs
     ∙ ap (λ s. (text (codes "Z") and s) place cs) (and-assoc (enc n) (text (codes "E")) (end n)))
-    (refitted around (λ inner allowed place cs. F inner allowed place cs × Behind (first inner.encoding) (G inner allowed) place cs)
-    (LocalStanding e entity discriminator role) (λ n. first n and end n) own own old new
-    (λ n allowed place cs fits. (fits.0, fits.1, good)) (λ n allowed may. may)
-    (and-fitted around F G first end e entity own old mid new
-    (λ n allowed a b. may-as (pressed_at n around) allowed entity own refl (λ arguments. refl) b)
-    (bytes-fitted around whole (codes "Z") (λ n. enc n and text (codes "E")) e old mid (fitted-bytes around whole enc (codes "E") e old mid one))
-    (fitted-bytes around G part (discriminator_text discriminator) entity mid new
-    (moved around (behind e true) ((fits_of entity).as_entity role) part entity mid new other))))
 
 -- as a type
 pub local-typed : (around : Around) (e entity : Term) (discriminator : Option (List ℕ)) (slot : Slot) (old mid new : State)
@@ -65,11 +56,9 @@ pub local-typed : (around : Around) (e entity : Term) (discriminator : Option (L
 unfolding fits_of type_fits fits_nowhere ways_of type_ways no_ways letters_of
 local-typed around e entity discriminator slot old mid new good one other =
     let own : Term = local e entity discriminator in
-    component-fitted around own (LocalStanding e entity discriminator in_type) (local_spelling e entity discriminator in_type) old new tt
-    (λ n. (keeps own Unit n (Whole own) way.as_name) (λ x i. inr i) [])
-    (λ n allowed place cs fits. tt)
-    (λ n allowed place cs fits complete. typed-complete own (λ m. refl) slot (pressed_at n around) allowed place cs fits complete)
-    (local-fits around e entity discriminator in_type old mid new good one other)
+    component-fitted (local-fits around e entity discriminator in_type old mid new good one other) tt
+    (λ n. (keeps own Unit n (Whole own) way.as_name) (λ x i. inr i) []) (λ n allowed place cs fits. tt)
+    (λ n. typed-complete own (λ m. refl) slot (pressed_at n around))
 
 -- as an encoding's own name
 pub local-own : (around : Around) (e entity : Term) (discriminator : Option (List ℕ)) (q : Qualifiers) (ref : RefQualifier) (old mid new : State)

@@ -14,14 +14,14 @@ use Rattle.cpp_press_laws.specs.Pressing.{no_ways, name_ways, ways_of}
 use Rattle.cpp_press_laws.proofs.Components.Parts.{IsComponent, Inside, Whole, prefix-whole}
 use Rattle.cpp_press_laws.proofs.Components.Known.{KeepsTo, text-keeps, and-keeps}
 use Rattle.cpp_press_laws.proofs.Components.KnownTrees.{In, keeps}
-use Rattle.cpp_press_laws.proofs.Components.Complete.{Complete, StandAmong, among-ended}
+use Rattle.cpp_press_laws.proofs.Components.Complete.{Complete, complete-ended, StandAmong, among-ended}
 use Rattle.cpp_press_laws.proofs.Components.Again.{FunctionStands}
-use Rattle.cpp_press_laws.specs.Fits.{Fitting, Behind, as_component, one_piece, begins_name, names_function, names_member, fits_of, MayBeReferred}
+use Rattle.cpp_press_laws.specs.Fits.{Fitting, as_component, begins_name, names_function, names_member, fits_of, MayBeReferred}
 use Rattle.cpp_press_laws.proofs.Fitting as fit
 use Rattle.cpp_press_laws.proofs.Ways as way
-use Rattle.cpp_press_laws.proofs.Components.Adding.{AddsParts, tree-ended}
+use Rattle.cpp_press_laws.proofs.Components.AddedWays.{AddsParts}
 use Rattle.cpp_press_laws.proofs.Components.AddedTrees.{adds}
-use Rattle.cpp_press_laws.proofs.Fits.Read.{pressed_at, functions-append, Fitted, refitted, and-fitted, bytes-fitted, fitted-bytes, component-fitted}
+use Rattle.cpp_press_laws.proofs.Fits.Read.{pressed_at, functions-append, Fitted, refitted, and-fitted, bytes-fitted, fitted-bytes, component-fitted, fitted-as}
 use Rattle.cpp_press_laws.proofs.Fits.Types.{may-as, may-as-two}
 
 -- ## Surroundings and spellings
@@ -37,9 +37,9 @@ having prefix around = record {
 }
 
 -- what fits after another prefix
-pub moved : (around : Around) (prefix : Prefix) (F : Fitting) (s : ℕ → Spelling) (t : Term) (old new : State)
+pub moved : (around : Around) (prefix : Prefix) {F : Fitting} {s : ℕ → Spelling} {t : Term} {old new : State}
     → Fitted (having prefix around) F s t old new → Fitted around (λ inner. F (having prefix inner)) s t old new
-moved around prefix F s t old new one = record {
+moved around prefix one = record {
   stay = one.stay;
   fits = λ n place cs allowed front allows. (
       let p = one.fits n place cs allowed (record {
@@ -58,9 +58,9 @@ moved around prefix F s t old new one = record {
 }
 
 -- the same spelling
-pub respelled : (around : Around) (F : Fitting) (s r : ℕ → Spelling) (t : Term) (old new : State)
-    → ((n place : ℕ) (cs : List Component) → s n place cs ≡ r n place cs) → Fitted around F s t old new → Fitted around F r t old new
-respelled around F s r t old new same one = record {
+pub respelled : {around : Around} {F : Fitting} {s r : ℕ → Spelling} {t : Term} {old new : State} → Fitted around F s t old new
+    → ((n place : ℕ) (cs : List Component) → s n place cs ≡ r n place cs) → Fitted around F r t old new
+respelled {around} {F} {s} {r} {t} {old} {new} one same = record {
   stay = one.stay;
   fits = λ n place cs allowed front allows. (
       let p = one.fits n place cs allowed front allows in
@@ -74,20 +74,20 @@ respelled around F s r t old new same one = record {
 }
 
 -- what fits becomes a component without more bytes, and a candidate
-pub ended-fitted : (around : Around) (t : Term) (F : Fitting) (s : ℕ → Spelling) (old new : State) → IsComponent t
-    → FunctionStands around.scope t
-    → ((n : ℕ) (allowed : Option ℕ) (place : ℕ) (cs : List Component) → F (pressed_at n around) allowed place cs → Complete cs
-    → AddsParts n (Inside t) cs (s n place cs).components)
-    → Fitted around F s t old new → Fitted around F (λ n. s n and ended n t) t old (appended around t new)
+pub ended-fitted : {k : ℕ} {around : Around} {t : Term} {F : Fitting} {s : ℕ → Spelling} {old new : State} → Fitted around F s t old new
+    → IsComponent t → FunctionStands around.scope t
+    → ((n : ℕ) (allowed : Option ℕ) (place : ℕ) (cs : List Component) → F (pressed_at n around) allowed place cs
+    → AddsParts k n (Inside t) cs (s n place cs))
+    → Fitted around F (λ n. s n and ended n t) t old (appended around t new)
 unfolding ended appended
-ended-fitted around t F s old new is stands whole one = record {
+ended-fitted {k} {around} {t} {F} {s} {old} {new} one is stands whole = record {
   stay = one.stay;
   fits = λ n place cs allowed front allows. (
       let p = one.fits n place cs allowed front allows in
       record {
         fits = p.fits;
         may = p.may;
-        complete = (tree-ended n t cs (s n place cs).components (whole n allowed place cs p.fits front.complete)).complete;
+        complete = complete-ended n t (s n place cs).components p.complete ((whole n allowed place cs p.fits).has front.complete);
         among = among-ended around.encoding n around.in_lambda t new.candidates (s n place cs).components is p.among;
         functions = functions-append around.scope around.encoding new.candidates (record { tree = t; encoding = around.encoding; in_lambda = around.in_lambda; is_held = false } ∷ [])
             p.functions (λ may. stands, tt);
@@ -127,11 +127,7 @@ pub arguments-fitted : (around : Around) (a : Term) (old now : State) → Elemen
     → Fitted around (arguments_standing a) (arguments_text a) a old now
 unfolding inside
 arguments-fitted around a old now one =
-    let F : Fitting = λ inner. (fits_of a).as_elements false (inside inner) in
-    let s : ℕ → Spelling = λ n. (ways_of n a).as_elements and text (codes "E") in
-    bytes-fitted around F (codes "I") s a old now
-    (fitted-bytes around F (λ n. (ways_of n a).as_elements) (codes "E") a old now
-    (moved around outermost ((fits_of a).as_elements false) (λ n. (ways_of n a).as_elements) a old now one))
+    bytes-fitted (codes "I") (fitted-bytes (codes "E") (moved around outermost one))
 
 -- ## A piece after a prefix
 
@@ -146,43 +142,35 @@ pub within-joined : (around : Around) (t p : Term) (old mid now : State) → nam
     → PieceFits (after t true around) p mid now → BetweenFits around (within t p) old now
 unfolding after fits_of ways_of name_ways no_ways
 within-joined around t p old mid now names one other =
-    let G : Fitting = λ inner. (fits_of p).as_piece (after t true inner) in
-    let s : ℕ → Spelling = λ n. (ways_of n t).as_prefix in
-    let r : ℕ → Spelling = λ n. (ways_of n p).as_piece in
-    refitted around (λ inner allowed place cs. (fits_of t).as_prefix inner allowed place cs × Behind (s inner.encoding) (G inner allowed) place cs)
-    (fits_of (within t p)).between (λ n. s n and r n) (within t p) (within t p) old now
-    (λ n allowed place cs both. (both.0, names, both.1)) (λ n allowed may. may)
-    (and-fitted around (fits_of t).as_prefix G s r t p (within t p) old mid now (within-may around t p) one
-    (moved around (behind t true) (fits_of p).as_piece r p mid now other))
+    refitted (and-fitted one (moved around (behind t true) other) (within-may around t p))
+    (λ n allowed place cs both. (both.0, names, both.1))
 
 -- A name between N and E that is a component as a prefix.
-pub prefix-component : (around : Around) (t : Term) (F G : Fitting) (old now : State) → IsComponent t → FunctionStands around.scope t
+pub prefix-component : {around : Around} {t : Term} {F G : Fitting} {old now : State}
+    → Fitted around F (λ n. (ways_of n t).between_N_and_E) t old now → IsComponent t → FunctionStands around.scope t
     → ((n : ℕ) (allowed : Option ℕ) (place : ℕ) (cs : List Component) → F (pressed_at n around) allowed place cs
     → G (pressed_at n around) allowed place cs)
     → ((n : ℕ) (allowed : Option ℕ) (place : ℕ) (cs : List Component) → as_component t G (pressed_at n around) allowed place cs → Complete cs
     → Complete (component n t (ways_of n t).between_N_and_E place cs).components)
-    → Fitted around F (λ n. (ways_of n t).between_N_and_E) t old now
     → Fitted around (as_component t G) (λ n. component n t (ways_of n t).between_N_and_E) t old (appended around t now)
-prefix-component around t F G old now is stands more whole one =
-    component-fitted around t G (λ n. (ways_of n t).between_N_and_E) old now is
-    (λ n. (keeps t Unit n (Whole t) way.between_N_and_E) (λ x i. inr i))
+prefix-component {around} {t} {F} {G} {old} {now} one is stands more whole =
+    component-fitted (refitted one more) is (λ n. (keeps t Unit n (Whole t) way.between_N_and_E) (λ x i. inr i))
     (λ n allowed place cs fits. stands) whole
-    (refitted around F G (λ n. (ways_of n t).between_N_and_E) t t old now more (λ n allowed may. may) one)
 
 -- as a prefix it is a component
 pub within-prefix : (around : Around) (t p : Term) (old now : State) → BetweenFits around (within t p) old now
     → PrefixFits around (within t p) old (appended around (within t p) now)
 unfolding fits_of ways_of name_ways no_ways
 within-prefix around t p old now one =
-    prefix-component around (within t p) (fits_of (within t p)).between _ old now tt tt (λ n allowed place cs joined. inr joined)
-    (λ n allowed place cs fits complete. (((adds (within t p)).at fit.as_prefix) (pressed_at n around) allowed place cs fits complete).complete) one
+    prefix-component one tt tt (λ n allowed place cs joined. inr joined)
+    (λ n allowed place cs fits. ((adds (within t p)).at fit.as_prefix (pressed_at n around) allowed place cs fits).complete)
 
 pub within-prefix-template : (around : Around) (t p : Term) (old now : State) → BetweenFits around (within t p) old now
     → TemplatePrefixFits around (within t p) old (appended around (within t p) now)
 unfolding fits_of ways_of name_ways no_ways
 within-prefix-template around t p old now one =
-    prefix-component around (within t p) (fits_of (within t p)).between _ old now tt tt (λ n allowed place cs joined. inr joined)
-    (λ n allowed place cs fits complete. (((adds (within t p)).at fit.as_prefix_template) (pressed_at n around) allowed place cs fits complete).complete) one
+    prefix-component one tt tt (λ n allowed place cs joined. inr joined)
+    (λ n allowed place cs fits. ((adds (within t p)).at fit.as_prefix_template (pressed_at n around) allowed place cs fits).complete)
 
 -- ## A piece after St
 
@@ -190,17 +178,16 @@ pub std-between : (around : Around) (p : Term) (old now : State) → names_funct
     → BetweenFits around (in_std p) old now
 unfolding fits_of ways_of name_ways no_ways is_open pack_length
 std-between around p old now names one =
-    refitted around (λ inner allowed place cs. (fits_of p).as_piece inner allowed (place + 2) cs) (fits_of (in_std p)).between
-    (λ n. text (codes "St") and (ways_of n p).as_piece) p (in_std p) old now (λ n allowed place cs fits. (names, fits))
-    (λ n allowed may. may-as (pressed_at n around) allowed p (in_std p) refl (λ arguments. refl) may)
-    (bytes-fitted around (fits_of p).as_piece (codes "St") (λ n. (ways_of n p).as_piece) p old now one)
+    refitted (fitted-as (bytes-fitted (codes "St") one)
+    (λ n allowed may. may-as (pressed_at n around) allowed p (in_std p) refl (λ arguments. refl) may))
+    (λ n allowed place cs fits. (names, fits))
 
 pub std-prefix : (around : Around) (p : Term) (old now : State) → BetweenFits around (in_std p) old now
     → PrefixFits around (in_std p) old (appended around (in_std p) now)
 unfolding fits_of ways_of name_ways no_ways
 std-prefix around p old now one =
-    prefix-component around (in_std p) (fits_of (in_std p)).between _ old now tt tt (λ n allowed place cs fits. fits)
-    (λ n allowed place cs fits complete. (((adds (in_std p)).at fit.as_prefix) (pressed_at n around) allowed place cs fits complete).complete) one
+    prefix-component one tt tt (λ n allowed place cs fits. fits)
+    (λ n allowed place cs fits. ((adds (in_std p)).at fit.as_prefix (pressed_at n around) allowed place cs fits).complete)
 
 -- ## Arguments after a template name
 
@@ -216,14 +203,10 @@ pub instance-between : (around : Around) (t a : Term) (old mid now : State) → 
 unfolding fits_of ways_of name_ways no_ways
 instance-between around t a old mid now is stands one other =
     let s : ℕ → Spelling = λ n. (ways_of n t).between_N_and_E in
-    respelled around (fits_of (instance t a)).between (λ n. (s n and ended n t) and arguments_text a n)
-    (λ n. (ways_of n (instance t a)).between_N_and_E) (instance t a) old now
+    respelled (and-fitted (ended-fitted one is stands
+    (λ n. (adds t).at fit.between_template (pressed_at n around)))
+    (arguments-fitted around a (appended around t mid) now other) (instance-may around t a))
     (λ n place cs. and-assoc-at (s n) (ended n t) (arguments_text a n) place cs)
-    (and-fitted around (fits_of t).between_template (arguments_standing a) (λ n. s n and ended n t) (arguments_text a) t a (instance t a)
-    old (appended around t mid) now (instance-may around t a)
-    (ended-fitted around t (fits_of t).between_template s old mid is stands
-    (λ n allowed place cs fits complete. ((adds t).at fit.between_template) (pressed_at n around) allowed place cs fits complete) one)
-    (arguments-fitted around a (appended around t mid) now other))
 
 -- arguments add nothing but what is in them
 pub arguments-keep : (n : ℕ) (R : Term → Type 0) (a : Term) → In (Inside a) R → KeepsTo Unit n R (arguments_text a n)
@@ -238,15 +221,11 @@ unfolding fits_of ways_of name_ways no_ways
 instance-prefix around t a old mid now one other =
     let own : Term = instance t a in
     let s : ℕ → Spelling = λ n. (ways_of n t).as_prefix in
-    component-fitted around own (λ inner allowed place cs. (fits_of t).as_prefix_template inner allowed place cs
-    × Behind (s inner.encoding) (arguments_standing a inner allowed) place cs) (λ n. s n and arguments_text a n) old now tt
+    component-fitted (and-fitted one (arguments-fitted around a mid now other) (instance-may around t a)) tt
     (λ n. and-keeps Unit n (Whole own) (s n) (arguments_text a n)
     ((keeps t Unit n (Whole own) way.as_prefix) (λ x w. inr (inl (prefix-whole t x (Inside t x) w))))
-    (arguments-keep n (Whole own) a (λ x i. inr (inr i))))
-    (λ n allowed place cs fits. tt)
-    (λ n allowed place cs fits complete. ((adds own).at fit.as_prefix (pressed_at n around) allowed place cs fits complete).complete)
-    (and-fitted around (fits_of t).as_prefix_template (arguments_standing a) s (arguments_text a) t a own old mid now (instance-may around t a) one
-    (arguments-fitted around a mid now other))
+    (arguments-keep n (Whole own) a (λ x i. inr (inr i)))) (λ n allowed place cs fits. tt)
+    (λ n allowed place cs fits. ((adds own).at fit.as_prefix (pressed_at n around) allowed place cs fits).complete)
 
 -- ## First pieces
 
@@ -255,8 +234,7 @@ pub alone-prefix : (around : Around) (p : Term) (old now : State) → around.pre
     → PieceFits around p old now → PrefixFits around (alone p) old (appended around (alone p) now)
 unfolding fits_of ways_of name_ways no_ways is_open pack_length
 alone-prefix around p old now outer begins one =
-    prefix-component around (alone p) (fits_of p).as_piece (one_piece outermost (begins_name p) (fits_of p).as_piece) old now tt tt
+    prefix-component (fitted-as one (λ n allowed may. may-as (pressed_at n around) allowed p (alone p) refl
+    (λ arguments. refl) may)) tt tt
     (λ n allowed place cs fits. (outer, begins, fits))
-    (λ n allowed place cs fits complete. (((adds (alone p)).at fit.as_prefix) (pressed_at n around) allowed place cs fits complete).complete)
-    (refitted around (fits_of p).as_piece (fits_of p).as_piece (λ n. (ways_of n p).as_piece) p (alone p) old now (λ n allowed place cs fits. fits)
-    (λ n allowed may. may-as (pressed_at n around) allowed p (alone p) refl (λ arguments. refl) may) one)
+    (λ n allowed place cs fits. ((adds (alone p)).at fit.as_prefix (pressed_at n around) allowed place cs fits).complete)

@@ -1,7 +1,7 @@
 -- A name between N and E that was read fits in each of its ways: as a type, as an encoding's own name, as an entity and as a prefix.
 use Rattle.std.proofs.Common.{◌≡◌, ℕ, ◌+◌, inl, inr, length, List, [], ◌∷◌, ◌++◌, Option, Bool, true, false, refl, ap, sym, subst, arith}
 use Rattle.std.specs.Prelude.{codes}
-use Rattle.sym_spell.specs.Pressing.{◌and◌, text}
+use Rattle.sym_spell.specs.Pressing.{◌and◌}
 use Rattle.cpp_grammar.specs.Term.{Qualifiers, RefQualifier, Term, in_std, within, instance}
 use Rattle.cpp_grammar.specs.Values.{State, Around}
 use Rattle.cpp_grammar.specs.References.{appended, is_function_type}
@@ -42,21 +42,21 @@ pub record NestFits (around : Around) (t : Term) (old now : State) : Type 0 wher
 
 -- ## Between N and E
 
-pub nested-fitted : (around : Around) (letters : List ℕ) (F : Fitting) (s : ℕ → Spelling) (t : Term) (old now : State)
+pub nested-fitted : {around : Around} {F : Fitting} {s : ℕ → Spelling} {t : Term} {old now : State} (letters : List ℕ)
     → Fitted around F s t old now
     → Fitted around (λ inner allowed place cs. F inner allowed (place + length (codes "N" ++ letters)) cs) (λ n. in_N_and_E letters (s n)) t old
     now
 unfolding in_N_and_E
-nested-fitted around letters F s t old now one =
-    bytes-fitted around F (codes "N" ++ letters) (λ n. s n and text (codes "E")) t old now (fitted-bytes around F s (codes "E") t old now one)
+nested-fitted letters one =
+    bytes-fitted (codes "N" ++ letters) (fitted-bytes (codes "E") one)
 
 -- a name that needs an N for its letters
-pub letters-fitted : (letters : List ℕ) (around : Around) (F G : Fitting) (own between : ℕ → Spelling) (t : Term) (old now : State)
+pub letters-fitted : {around : Around} {F G : Fitting} {own between : ℕ → Spelling} {t : Term} {old now : State} (letters : List ℕ)
     → Fitted around F own t old now → Fitted around G between t old now
     → Fitted around (by_letters letters F G) (λ n. with_letters letters (own n) (between n)) t old now
 unfolding by_letters with_letters
-letters-fitted [] around F G own between t old now one other = one
-letters-fitted (l ∷ ls) around F G own between t old now one other = nested-fitted around (l ∷ ls) G between t old now other
+letters-fitted [] one other = one
+letters-fitted (l ∷ ls) one other = nested-fitted (l ∷ ls) other
 
 -- an entity of more than a piece
 nested-entity : (around : Around) (t : Term) (role : Role) (old now : State) → Wherever around old (is_one_piece t ≡ false)
@@ -66,12 +66,10 @@ nested-entity : (around : Around) (t : Term) (role : Role) (old now : State) →
     → BetweenFits around t old now → EntityFits around t role old now
 unfolding entity_text
 nested-entity around t role old now apart more one =
-    fitted-wherever around ((fits_of t).as_entity role) (λ n. entity_text t letters (s n)) t old now (is_one_piece t ≡ false) one.stay apart
-    (λ known. respelled around ((fits_of t).as_entity role) (λ n. in_N_and_E letters (s n)) (λ n. entity_text t letters (s n)) t old now
-    (λ n place cs. sym (ap (λ b. (elim b as (λ _. Spelling) [ true ↦ s n | false ↦ in_N_and_E letters (s n) ]) place cs) known))
-    (refitted around (λ inner allowed place cs. (fits_of t).between inner allowed (place + length (codes "N" ++ letters)) cs)
-    ((fits_of t).as_entity role) (λ n. in_N_and_E letters (s n)) t t old now more (λ n allowed may. may)
-    (nested-fitted around letters (fits_of t).between s t old now one)))
+    fitted-wherever around ((fits_of t).as_entity role) (λ n. entity_text t letters (s n)) t old now
+    (is_one_piece t ≡ false) one.stay apart (λ known. respelled (refitted (nested-fitted letters one) more)
+    (λ n place cs. sym (ap (λ b. (elim b as (λ _. Spelling) [ true ↦ s n | false ↦ in_N_and_E letters (s n) ]) place cs)
+    known)))
   where
     letters : List ℕ
     letters = letters_of role
@@ -92,12 +90,10 @@ within-nest around t p old now apart one = record {
   alike = λ n. refl;
   between = one;
   prefix = within-prefix around t p old now one;
-  typed = λ slot. component-fitted around own (λ inner allowed place cs. (fits_of own).between inner allowed (place + 1) cs)
-      (λ n. in_N_and_E [] (between n)) old now tt
-      (λ n. in-N-and-E-keeps Unit n (Whole own) [] (between n) ((keeps own Unit n (Whole own) way.between_N_and_E) (λ x i. inr i)))
-      (λ n allowed place cs fits. tt)
-      (λ n allowed place cs fits complete. typed-complete own (λ m. refl) slot (pressed_at n around) allowed place cs fits complete)
-      (nested-fitted around [] (fits_of own).between between own old now one);
+  typed = λ slot. component-fitted (nested-fitted [] one) tt
+      (λ n. in-N-and-E-keeps Unit n (Whole own) [] (between n)
+      ((keeps own Unit n (Whole own) way.between_N_and_E) (λ x i. inr i))) (λ n allowed place cs fits. tt)
+      (λ n. typed-complete own (λ m. refl) slot (pressed_at n around));
   own = λ q ref. by (name_letters q ref);
   entity = λ role. nested-entity around own role old now apart (λ n allowed place cs fits. inr fits) one;
 }
@@ -109,10 +105,11 @@ within-nest around t p old now apart one = record {
     between n = (ways_of n (within t p)).between_N_and_E
 
     by : (letters : List ℕ)
-        → Fitted around (λ inner allowed place cs. (fits_of own).between inner allowed (place + length (codes "N" ++ letters)) cs)
+        → Fitted around (λ inner allowed place cs. (fits_of own).between inner allowed
+        (place + length (codes "N" ++ letters)) cs)
         (λ n. with_letters letters (in_N_and_E [] (between n)) (between n)) own old now
-    by [] = nested-fitted around [] (fits_of own).between between own old now one
-    by (l ∷ ls) = nested-fitted around (l ∷ ls) (fits_of own).between between own old now one
+    by [] = nested-fitted [] one
+    by (l ∷ ls) = nested-fitted (l ∷ ls) one
 
 -- a piece after St
 pub std-nest : (around : Around) (p : Term) (old now : State) → BetweenFits around (in_std p) old now → NestFits around (in_std p) old now
@@ -124,12 +121,9 @@ std-nest around p old now one = record {
   alike = λ n. refl;
   between = one;
   prefix = std-prefix around p old now one;
-  typed = λ slot. component-fitted around own _ _ old now tt
-      (λ n. text-keep n (is_operator p))
-      (λ n allowed place cs fits. tt)
-      (λ n allowed place cs fits complete. typed-complete own (λ m. refl) slot (pressed_at n around) allowed place cs fits complete)
-      (spelled (is_operator p));
-  own = λ q ref. letters-fitted (name_letters q ref) around std std between between own old now one one;
+  typed = λ slot. component-fitted (spelled (is_operator p)) tt (λ n. text-keep n (is_operator p))
+      (λ n allowed place cs fits. tt) (λ n. typed-complete own (λ m. refl) slot (pressed_at n around));
+  own = λ q ref. letters-fitted (name_letters q ref) one one;
   entity = λ role. nested-entity around own role old now (λ n place cs front. refl) (λ n allowed place cs fits. fits) one;
 }
   where
@@ -150,11 +144,10 @@ std-nest around p old now one = record {
     spelled : (b : Bool) → Fitted around (λ inner allowed place cs. std inner allowed
         (place + length (elim b as (λ _. List ℕ) [ true ↦ codes "N" | false ↦ [] ])) cs)
         (λ n. elim b as (λ _. Spelling) [ true ↦ in_N_and_E [] (between n) | false ↦ between n ]) own old now
-    spelled true = nested-fitted around [] std between own old now one
+    spelled true = nested-fitted [] one
     spelled false =
-        refitted around std (λ inner allowed place cs. std inner allowed (place + 0) cs) between own own old now
-        (λ n allowed place cs fits. (let same : place ≡ place + 0 = omega arith in subst (λ q. std (pressed_at n around) allowed q cs) same fits))
-        (λ n allowed may. may) one
+        refitted one (λ n allowed place cs fits.
+        (let same : place ≡ place + 0 = omega arith in subst (λ q. std (pressed_at n around) allowed q cs) same fits))
 
 -- a template name and its arguments
 pub instance-nest : (around : Around) (t a : Term) (old mid now : State) → TemplateFits around t old mid
@@ -169,14 +162,11 @@ instance-nest around t a old mid now one other =
       alike = λ n. refl;
       between = between;
       prefix = instance-prefix around t a old (appended around t mid) now one.prefix other;
-      typed = λ slot. component-fitted around (instance t a) _ _ old now tt
+      typed = λ slot. component-fitted (one.before true a now other) tt
           (λ n. (keeps t Unit n (Whole (instance t a)) way.before) (λ x w. inr (inl w)) true (arguments_text a n)
-          (arguments-keep n (Whole (instance t a)) a (λ x i. inr (inr i))))
-          (λ n allowed place cs fits. tt)
-          (λ n allowed place cs fits complete.
-          typed-complete (instance t a) (λ m. refl) slot (pressed_at n around) allowed place cs fits complete)
-          (one.before true a now other);
-      own = λ q ref. letters-fitted (name_letters q ref) around _ _ (λ n. (ways_of n t).before false (arguments_text a n))
-          (λ n. (ways_of n (instance t a)).between_N_and_E) (instance t a) old now (one.before false a now other) between;
-      entity = λ role. nested-entity around (instance t a) role old now (one.pieces a) (λ n allowed place cs fits. inr fits) between;
+          (arguments-keep n (Whole (instance t a)) a (λ x i. inr (inr i)))) (λ n allowed place cs fits. tt)
+          (λ n. typed-complete (instance t a) (λ m. refl) slot (pressed_at n around));
+      own = λ q ref. letters-fitted (name_letters q ref) (one.before false a now other) between;
+      entity = λ role. nested-entity around (instance t a) role old now (one.pieces a)
+          (λ n allowed place cs fits. inr fits) between;
     }

@@ -14,7 +14,7 @@ use Rattle.cpp_press_laws.proofs.Fits.Names.{respelled, PieceFits, ElementsFit, 
 use Rattle.cpp_press_laws.proofs.Fits.Nests.{NestFits, OwnNameFits, EntityFits}
 use Rattle.cpp_press_laws.proofs.Fits.Pieces.{alone-typed, alone-own, alone-before, alone-instance-own, local-entity, local-instance-entity}
 use Rattle.cpp_press_laws.proofs.Fits.Solids.{abbreviation-before, instance-fits}
-use Rattle.cpp_press_laws.proofs.Fits.Found.{referred-before}
+use Rattle.cpp_press_laws.proofs.Fits.References.{referred-before}
 use Rattle.cpp_press_laws.proofs.Fits.Sorts.{KindFits, ArgumentsRead}
 use Rattle.cpp_press_laws.proofs.Fits.Rests.{NestRead, applied-as, std-read}
 
@@ -71,8 +71,7 @@ nest-solid takes around v old new read =
       types = λ slot other take. nest.typed slot;
       bare = λ take. subst (λ s. BareFits around t old s)
           (sym (ap (λ b. elim b as (λ _. State) [ true ↦ new | false ↦ appended around t new ]) nest.plain))
-          (respelled around ((fits_of t).as_type bare_type) (λ n. (ways_of n t).as_type) (λ n. (ways_of n t).under_qualifiers) t old
-          (appended around t new) (λ n place cs. sym (ap (λ s. s place cs) (nest.alike n))) (nest.typed bare_type));
+          (respelled (nest.typed bare_type) (λ n place cs. sym (ap (λ s. s place cs) (nest.alike n))));
     })
   where
     t : Term

@@ -1,7 +1,7 @@
 -- The packs that a tree names, and those that an expansion has named so far.
 use Rattle.std.proofs.Common.{◌≡◌, ℕ, ◌⊎◌, inl, inr, Option, Some, None, Bool, true, false, Result, Ok, Err, refl, ap, sym, ◌∙◌}
-use Rattle.std.specs.Prelude.{◌||◌, nat_eq}
-use Rattle.std.proofs.lemmas.Bool.{eqb-true, true≢false}
+use Rattle.std.specs.Prelude.{nat_eq}
+use Rattle.std.proofs.lemmas.Bool.{eqb-true, true≢false, or_parts}
 use Rattle.sym_core.specs.declared.refusal.Refusal.{Refusal}
 use Rattle.sym_core.specs.declared.refusal.Refusal.TheVariants.{BadReference}
 use Rattle.cpp_grammar.specs.Term.{Term, symbol, alone, in_std, within, instance, local, holder, tagged, of_default, parameter, inheriting, lambda, conversion, pointer, lvalue, rvalue, array, constrained, bounded, member_pointer, function_type, qualified, vector, complex, decltype, integer, operation, pack, list}
@@ -11,14 +11,6 @@ use Rattle.cpp_grammar.specs.References.{with_packs}
 use Rattle.cpp_grammar.proofs.ClosedStates.{ok_same}
 
 -- ## A tree without free parameters names no packs
-
-left-shut : (a b : Bool) → a || b ≡ false → a ≡ false
-left-shut false b h = refl
-left-shut true b h = absurd (true≢false h)
-
-right-shut : (a b : Bool) → a || b ≡ false → b ≡ false
-right-shut false b h = h
-right-shut true b h = absurd (true≢false h)
 
 first-none : (a b : Option ℕ) → a ≡ None → b ≡ None → first_of a b ≡ None
 unfolding first_of
@@ -32,11 +24,11 @@ closed-packs scope (symbol e suffix) closed = refl
 closed-packs scope (alone p) closed = closed-packs scope p closed
 closed-packs scope (in_std p) closed = closed-packs scope p closed
 closed-packs scope (within prefix p) closed =
-    first-none (pack_length scope prefix) (pack_length scope p) (closed-packs scope prefix (left-shut (is_open prefix) (is_open p) closed))
-    (closed-packs scope p (right-shut (is_open prefix) (is_open p) closed))
+    first-none (pack_length scope prefix) (pack_length scope p) (closed-packs scope prefix (or_parts (is_open prefix) (is_open p) closed).0)
+    (closed-packs scope p (or_parts (is_open prefix) (is_open p) closed).1)
 closed-packs scope (instance template arguments) closed =
-    first-none (pack_length scope template) (pack_length scope arguments) (closed-packs scope template (left-shut (is_open template) (is_open arguments) closed))
-    (closed-packs scope arguments (right-shut (is_open template) (is_open arguments) closed))
+    first-none (pack_length scope template) (pack_length scope arguments) (closed-packs scope template (or_parts (is_open template) (is_open arguments) closed).0)
+    (closed-packs scope arguments (or_parts (is_open template) (is_open arguments) closed).1)
 closed-packs scope (local e entity discriminator) closed = closed-packs scope entity closed
 closed-packs scope (holder name) closed = closed-packs scope name closed
 closed-packs scope (tagged of_structor name tag) closed = closed-packs scope name closed
@@ -51,26 +43,26 @@ closed-packs scope (lvalue type) closed = closed-packs scope type closed
 closed-packs scope (rvalue type) closed = closed-packs scope type closed
 closed-packs scope (array digits type) closed = closed-packs scope type closed
 closed-packs scope (bounded bound type) closed =
-    first-none (pack_length scope bound) (pack_length scope type) (closed-packs scope bound (left-shut (is_open bound) (is_open type) closed))
-    (closed-packs scope type (right-shut (is_open bound) (is_open type) closed))
+    first-none (pack_length scope bound) (pack_length scope type) (closed-packs scope bound (or_parts (is_open bound) (is_open type) closed).0)
+    (closed-packs scope type (or_parts (is_open bound) (is_open type) closed).1)
 closed-packs scope (member_pointer class member) closed =
-    first-none (pack_length scope class) (pack_length scope member) (closed-packs scope class (left-shut (is_open class) (is_open member) closed))
-    (closed-packs scope member (right-shut (is_open class) (is_open member) closed))
+    first-none (pack_length scope class) (pack_length scope member) (closed-packs scope class (or_parts (is_open class) (is_open member) closed).0)
+    (closed-packs scope member (or_parts (is_open class) (is_open member) closed).1)
 closed-packs scope (function_type c_linkage noexcept ref returned parameters) closed =
-    first-none (pack_length scope returned) (pack_length scope parameters) (closed-packs scope returned (left-shut (is_open returned) (is_open parameters) closed))
-    (closed-packs scope parameters (right-shut (is_open returned) (is_open parameters) closed))
+    first-none (pack_length scope returned) (pack_length scope parameters) (closed-packs scope returned (or_parts (is_open returned) (is_open parameters) closed).0)
+    (closed-packs scope parameters (or_parts (is_open returned) (is_open parameters) closed).1)
 closed-packs scope (qualified q type) closed = closed-packs scope type closed
 closed-packs scope (vector digits type) closed = closed-packs scope type closed
 closed-packs scope (complex type) closed = closed-packs scope type closed
 closed-packs scope (decltype operand) closed = closed-packs scope operand closed
 closed-packs scope (integer type value) closed = closed-packs scope type closed
 closed-packs scope (operation one two u w) closed =
-    first-none (pack_length scope u) (pack_length scope w) (closed-packs scope u (left-shut (is_open u) (is_open w) closed))
-    (closed-packs scope w (right-shut (is_open u) (is_open w) closed))
+    first-none (pack_length scope u) (pack_length scope w) (closed-packs scope u (or_parts (is_open u) (is_open w) closed).0)
+    (closed-packs scope w (or_parts (is_open u) (is_open w) closed).1)
 closed-packs scope (pack elements) closed = closed-packs scope elements closed
 closed-packs scope (list first rest) closed =
-    first-none (pack_length scope first) (pack_length scope rest) (closed-packs scope first (left-shut (is_open first) (is_open rest) closed))
-    (closed-packs scope rest (right-shut (is_open first) (is_open rest) closed))
+    first-none (pack_length scope first) (pack_length scope rest) (closed-packs scope first (or_parts (is_open first) (is_open rest) closed).0)
+    (closed-packs scope rest (or_parts (is_open first) (is_open rest) closed).1)
 closed-packs scope _ closed = refl
 
 -- ## Packs that are named

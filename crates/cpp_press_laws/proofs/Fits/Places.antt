@@ -6,11 +6,9 @@ use Rattle.cpp_grammar.specs.declared.production.Production.{Production}
 use Rattle.cpp_grammar.specs.Values.{State, Around, Value}
 use Rattle.cpp_grammar.proofs.ClosedStates.{AllOld}
 use Rattle.cpp_grammar.specs.Term.{Term}
-use Rattle.cpp_press_laws.specs.Pressing.{ways_of}
 use Rattle.cpp_press_laws.proofs.Fits.Symbols.{WholeFits}
 use Rattle.cpp_press_laws.proofs.Fits.Arguments.{EncodingFits}
 use Rattle.cpp_press_laws.proofs.Fits.Read.{bytes-fitted}
-use Rattle.cpp_press_laws.specs.Fits.{fits_of}
 use Rattle.cpp_press_laws.proofs.Fits.Solids.{LambdasAreBare}
 use Rattle.cpp_press_laws.proofs.Fits.Sorts.{Meant, Later}
 
@@ -55,4 +53,4 @@ ended-as p byte around old inner one vs mid v new closes goes comes =
 -- an encoding that fits does so after bytes
 pub behind-bytes : (around : Around) (e : Term) (old new : State) → WholeFits around e old new → EncodingFits around e old new
 behind-bytes around e old new one bytes some =
-    bytes-fitted around (λ inner allowed place cs. (fits_of e).as_encoding allowed place cs) bytes (λ n. (ways_of n e).as_encoding) e old new one
+    bytes-fitted bytes one

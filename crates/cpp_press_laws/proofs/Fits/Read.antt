@@ -9,8 +9,7 @@ use Rattle.cpp_grammar.specs.References.{appended}
 use Rattle.cpp_press_laws.specs.Components.{Component, Spelling, component}
 use Rattle.cpp_press_laws.proofs.Components.Parts.{IsComponent, Whole}
 use Rattle.cpp_press_laws.proofs.Components.Known.{KeepsTo}
-use Rattle.cpp_press_laws.proofs.Components.Complete.{Complete, StandAmong}
-use Rattle.cpp_press_laws.proofs.Components.Steps.{Allows, component-among}
+use Rattle.cpp_press_laws.proofs.Components.Complete.{Complete, StandAmong, Allows, component-among}
 use Rattle.cpp_press_laws.proofs.Fits.Packs.{StayNamed}
 use Rattle.cpp_press_laws.proofs.Components.Again.{FunctionStands}
 use Rattle.cpp_press_laws.specs.Fits.{Standing, Fitting, Behind, as_component, MayBeReferred}
@@ -74,10 +73,10 @@ functions-append scope read (c ∷ cs) ds one other = (one.0, functions-append s
 -- ## Surroundings of parts
 
 -- after a part that fits
-pub front-behind : (around : Around) (F : Fitting) (s : ℕ → Spelling) (t : Term) (n : ℕ) (allowed : Option ℕ) (place : ℕ)
-    (cs : List Component) (old new : State) → Front around n place cs old → PartFits around F s t n allowed place cs new
+pub front-behind : {around : Around} {F : Fitting} {s : ℕ → Spelling} {t : Term} {n : ℕ} {allowed : Option ℕ} {place : ℕ}
+    {cs : List Component} {old new : State} → Front around n place cs old → PartFits around F s t n allowed place cs new
     → Front around n (place + length (s n place cs).bytes) (s n place cs).components new
-front-behind around F s t n allowed place cs old new front part = record {
+front-behind front part = record {
   later = omega (arith, front.later);
   complete = part.complete;
   among = part.among;
@@ -100,23 +99,32 @@ behind-both first rest G place cs fits =
     (arith, length-append f.bytes g.bytes) in
     subst (λ p. G p g.components) same fits
 
--- another standing that follows, of a tree that may be referred to as well
-pub refitted : (around : Around) (F G : Fitting) (s : ℕ → Spelling) (a t : Term) (old new : State)
+-- another standing that follows
+pub refitted : {around : Around} {F G : Fitting} {s : ℕ → Spelling} {t : Term} {old new : State} → Fitted around F s t old new
     → ((n : ℕ) (allowed : Option ℕ) (place : ℕ) (cs : List Component) → F (pressed_at n around) allowed place cs
-    → G (pressed_at n around) allowed place cs)
-    → ((n : ℕ) (allowed : Option ℕ) → MayBeReferred (pressed_at n around) allowed a → MayBeReferred (pressed_at n around) allowed t)
-    → Fitted around F s a old new → Fitted around G s t old new
-refitted around F G s a t old new more may one = record {
+    → G (pressed_at n around) allowed place cs) → Fitted around G s t old new
+refitted one more = record {
   stay = one.stay;
   fits = λ n place cs allowed front allows. (
       let p = one.fits n place cs allowed front allows in
       record {
         fits = more n allowed place cs p.fits;
-        may = may n allowed p.may;
+        may = p.may;
         complete = p.complete;
         among = p.among;
         functions = p.functions;
       });
+}
+
+-- another tree, which may be referred to as well
+pub fitted-as : {around : Around} {F : Fitting} {s : ℕ → Spelling} {a t : Term} {old new : State} → Fitted around F s a old new
+    → ((n : ℕ) (allowed : Option ℕ) → MayBeReferred (pressed_at n around) allowed a → MayBeReferred (pressed_at n around) allowed t)
+    → Fitted around F s t old new
+fitted-as one may = record {
+  stay = one.stay;
+  fits = λ n place cs allowed front allows. (
+      let p = one.fits n place cs allowed front allows in
+      record { fits = p.fits; may = may n allowed p.may; complete = p.complete; among = p.among; functions = p.functions });
 }
 
 -- bytes that name nothing
@@ -136,18 +144,18 @@ text-fitted around F bytes t state fits may = record {
 }
 
 -- one part after another
-pub and-fitted : (around : Around) (F G : Fitting) (s r : ℕ → Spelling) (a b t : Term) (old mid new : State)
+pub and-fitted : {around : Around} {F G : Fitting} {s r : ℕ → Spelling} {a b t : Term} {old mid new : State}
+    → Fitted around F s a old mid → Fitted around G r b mid new
     → ((n : ℕ) (allowed : Option ℕ) → MayBeReferred (pressed_at n around) allowed a → MayBeReferred (pressed_at n around) allowed b
     → MayBeReferred (pressed_at n around) allowed t)
-    → Fitted around F s a old mid → Fitted around G r b mid new
     → Fitted around (λ inner allowed place cs. F inner allowed place cs × Behind (s inner.encoding) (G inner allowed) place cs)
     (λ n. s n and r n) t old new
-and-fitted around F G s r a b t old mid new may one other = record {
+and-fitted {around} {F} {G} {s} {r} {a} {b} {t} {old} {mid} {new} one other may = record {
   stay = λ m is. other.stay m (one.stay m is);
   fits = λ n place cs allowed front allows. (
       let p = one.fits n place cs allowed front (allows-before allowed mid new other.stay allows) in
       let q = other.fits n (place + length (s n place cs).bytes) (s n place cs).components allowed
-      (front-behind around F s a n allowed place cs old mid front p) allows in
+      (front-behind front p) allows in
       record {
         fits = (p.fits, q.fits);
         may = may n allowed p.may q.may;
@@ -158,10 +166,10 @@ and-fitted around F G s r a b t old mid new may one other = record {
 }
 
 -- after bytes that name nothing
-pub bytes-fitted : (around : Around) (F : Fitting) (bytes : List ℕ) (s : ℕ → Spelling) (t : Term) (old new : State)
+pub bytes-fitted : {around : Around} {F : Fitting} {s : ℕ → Spelling} {t : Term} {old new : State} (bytes : List ℕ)
     → Fitted around F s t old new
     → Fitted around (λ inner allowed place cs. F inner allowed (place + length bytes) cs) (λ n. text bytes and s n) t old new
-bytes-fitted around F bytes s t old new one = record {
+bytes-fitted bytes one = record {
   stay = one.stay;
   fits = λ n place cs allowed front allows. (
       let p = one.fits n (place + length bytes) cs allowed (record {
@@ -174,9 +182,9 @@ bytes-fitted around F bytes s t old new one = record {
 }
 
 -- before bytes that name nothing
-pub fitted-bytes : (around : Around) (F : Fitting) (s : ℕ → Spelling) (bytes : List ℕ) (t : Term) (old new : State)
+pub fitted-bytes : {around : Around} {F : Fitting} {s : ℕ → Spelling} {t : Term} {old new : State} (bytes : List ℕ)
     → Fitted around F s t old new → Fitted around F (λ n. s n and text bytes) t old new
-fitted-bytes around F s bytes t old new one = record {
+fitted-bytes bytes one = record {
   stay = one.stay;
   fits = λ n place cs allowed front allows. (
       let p = one.fits n place cs allowed front allows in
@@ -186,15 +194,15 @@ fitted-bytes around F s bytes t old new one = record {
 -- ## Components
 
 -- What is spelled out of parts that fit becomes a component, and a candidate.
-pub component-fitted : (around : Around) (t : Term) (F : Fitting) (s : ℕ → Spelling) (old new : State) → IsComponent t
-    → ((n : ℕ) → KeepsTo Unit n (Whole t) (s n))
+pub component-fitted : {around : Around} {t : Term} {F : Fitting} {s : ℕ → Spelling} {old new : State} → Fitted around F s t old new
+    → IsComponent t → ((n : ℕ) → KeepsTo Unit n (Whole t) (s n))
     → ((n : ℕ) (allowed : Option ℕ) (place : ℕ) (cs : List Component) → F (pressed_at n around) allowed place cs
     → FunctionStands around.scope t)
     → ((n : ℕ) (allowed : Option ℕ) (place : ℕ) (cs : List Component) → as_component t F (pressed_at n around) allowed place cs → Complete cs
     → Complete (component n t (s n) place cs).components)
-    → Fitted around F s t old new → Fitted around (as_component t F) (λ n. component n t (s n)) t old (appended around t new)
+    → Fitted around (as_component t F) (λ n. component n t (s n)) t old (appended around t new)
 unfolding appended
-component-fitted around t F s old new is keeps function whole one = record {
+component-fitted {around} {t} {F} {s} {old} {new} one is keeps function whole = record {
   stay = one.stay;
   fits = λ n place cs allowed front allows. (
       let p = one.fits n place cs allowed front allows in

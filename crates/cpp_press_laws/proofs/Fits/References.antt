@@ -1,32 +1,33 @@
 -- What a reader names by a reference fits, since it is among the components, and what has no parts fits as it was read.
-use Rattle.std.proofs.Common.{◌≡◌, ℕ, zero, suc, ◌⊎◌, inl, inr, List, [], ◌∷◌, Option, Some, None, Bool, true, false, Result, Ok, Err, refl, ap, sym, subst, ◌∙◌}
+use Rattle.std.proofs.Common.{◌≡◌, ℕ, zero, suc, ◌⊎◌, inl, inr, List, [], ◌∷◌, Option, Some, None, Bool, true, false, Result, Ok, Err, refl, ap, sym, subst, ◌∙◌, ◌+◌, length, arith}
 use Rattle.std.specs.Prelude.{◌&&◌, ◌||◌, not, nat_eq, slice_get}
 use Rattle.std.proofs.lemmas.Bool.{eqb-true}
 use Rattle.sym_core.specs.declared.refusal.Refusal.{Refusal}
 use Rattle.sym_core.specs.declared.refusal.Refusal.TheVariants.{BadReference}
 use Rattle.sym_link.specs.Reading.{Found, ◌>>=◌}
 use Rattle.sym_link.specs.Unfold.{found}
-use Rattle.cpp_grammar.specs.Term.{Term, symbol, abbreviation, builtin, function_type}
+use Rattle.cpp_grammar.specs.Term.{Term, symbol, abbreviation, builtin, function_type, alone, in_std, within, instance, parameter}
 use Rattle.cpp_grammar.specs.Scope.{is_open}
 use Rattle.cpp_grammar.specs.Values.{Candidate, State, Around, Value, tree, tree_of, is_listed}
 use Rattle.cpp_grammar.specs.References.{is_function_type, with_type, with_unqualified, with_packs, packs_in, substituted}
 use Rattle.cpp_grammar.proofs.ClosedStates.{ok_same, behind_bind}
-use Rattle.cpp_press_laws.specs.Components.{Component, Spelling}
-use Rattle.cpp_press_laws.specs.Pressing.{ways_of}
+use Rattle.cpp_press_laws.specs.Components.{Component, Spelling, first_equal, reference, spelled_out, referred, component}
+use Rattle.cpp_press_laws.specs.Pressing.{ways_of, type_ways, name_ways, no_ways, template_before}
 use Rattle.cpp_press_laws.proofs.Components.Parts.{IsComponent, Whole, Unqualified, Has, stands-found}
-use Rattle.cpp_press_laws.proofs.Components.Complete.{Complete, StandAmong, complete-has}
-use Rattle.cpp_press_laws.proofs.Components.Steps.{Allows, named-stands}
+use Rattle.cpp_press_laws.proofs.Components.Complete.{Complete, StandAmong, complete-has, Allows, named-stands}
 use Rattle.cpp_press_laws.proofs.Fits.Packs.{PacksNamed, packs-named}
 use Rattle.cpp_press_laws.proofs.Components.Again.{ItemStands, FunctionStands, item-again, function-again, once}
-use Rattle.cpp_press_laws.specs.Fits.{Fitting, Slot, any_type, bare_type, item_type, parameter_type, literal_type, type_fits, piece_fits, argument_fits, encoding_fits, fits_nowhere, fits_of, PacksFit, MayBeReferred}
+use Rattle.cpp_press_laws.specs.Fits.{Fitting, Slot, any_type, bare_type, item_type, parameter_type, literal_type, type_fits, piece_fits, argument_fits, encoding_fits, fits_nowhere, fits_of, PacksFit, MayBeReferred, Standing, Behind}
 use Rattle.cpp_press_laws.proofs.Slots.{each-slot}
 use Rattle.cpp_press_laws.proofs.Fitting as fit
-use Rattle.cpp_press_laws.proofs.Components.AddedWays.{way_at, IsNotBare}
+use Rattle.cpp_press_laws.proofs.Components.AddedWays.{way_at, IsNotBare, Adds, AddsParts}
 use Rattle.cpp_press_laws.proofs.Components.AddedTrees.{adds}
-use Rattle.cpp_press_laws.proofs.Components.Adding.{Adds, AddsParts}
-use Rattle.cpp_press_laws.proofs.Fits.Read.{pressed_at, FunctionsStand, Fitted}
+use Rattle.cpp_press_laws.proofs.Fits.Read.{pressed_at, FunctionsStand, Fitted, Front, allows-before}
 use Rattle.cpp_press_laws.proofs.Components.NoneAdded.{type-none, bare-none}
 use Rattle.cpp_press_laws.proofs.Fits.Types.{BareFits, SolidFits}
+use Rattle.sym_spell.specs.Pressing as spell
+use Rattle.sym_spell.specs.Pressing.{◌and◌}
+use Rattle.cpp_press_laws.proofs.Fits.Names.{ElementsFit, arguments_standing, arguments_text, arguments-fitted, instance-may}
 
 -- ## What a substitution stands for
 
@@ -95,25 +96,25 @@ bare-again t is around allowed stands may place cs complete has =
 -- ## References
 
 -- What was named is spelled where it is: nothing is added.
-pub referred-fitted : (around : Around) (F : Fitting) (s : ℕ → Spelling) (old new : State) (c : Candidate) (P : Term → Type 0)
+pub referred-fitted : {k : ℕ} (around : Around) (F : Fitting) (s : ℕ → Spelling) (old new : State) (c : Candidate) (P : Term → Type 0)
     → Referred around old new c
-    → ((n : ℕ) (allowed : Option ℕ) → Adds n P (F (pressed_at n around) allowed) (s n))
+    → ((n : ℕ) (allowed : Option ℕ) → Adds k n P (F (pressed_at n around) allowed) (s n))
     → ((n : ℕ) (allowed : Option ℕ) (place : ℕ) (cs : List Component) → MayBeReferred (pressed_at n around) allowed c.tree
     → FunctionStands around.scope c.tree → IsComponent c.tree → Complete cs → Has n c.tree cs → F (pressed_at n around) allowed place cs)
     → ((n place : ℕ) (cs : List Component) → IsComponent c.tree → Complete cs → Has n c.tree cs → (s n place cs).components ≡ cs)
     → Fitted around F s c.tree old new
-referred-fitted around F s old new c P r adding again none = record {
+referred-fitted {k} around F s old new c P r adding again none = record {
   stay = r.packs.stay;
   fits = λ n place cs allowed front allows. (
       let named = named-stands around.encoding n r.number c old.candidates cs front.among r.there r.named in
       let may = referred-may around n allowed old new c r allows in
       let fits = again n allowed place cs may (functions-get around.scope around.encoding r.number c old.candidates front.functions r.there
       r.named) named.0 front.complete named.1 in
-      let a : AddsParts n P cs (s n place cs).components = adding n allowed place cs fits front.complete in
+      let a : AddsParts k n P cs (s n place cs) = adding n allowed place cs fits in
       record {
         fits = fits;
         may = may;
-        complete = a.complete;
+        complete = a.complete front.complete;
         among = subst (λ l. StandAmong around.encoding n l (s n place cs).components) (sym r.candidates)
             (subst (StandAmong around.encoding n old.candidates) (sym (none n place cs named.0 front.complete named.1)) front.among);
         functions = subst (FunctionsStand around.scope around.encoding) (sym r.candidates) front.functions;
@@ -147,7 +148,7 @@ referred-solid takes around old new c r = record {
 }
   where
     typed : (slot : Slot) → IsNotBare slot → (n : ℕ) (allowed : Option ℕ)
-        → Adds n (Whole c.tree) ((fits_of c.tree).as_type slot (pressed_at n around) allowed) (ways_of n c.tree).as_type
+        → Adds 1 n (Whole c.tree) ((fits_of c.tree).as_type slot (pressed_at n around) allowed) (ways_of n c.tree).as_type
     typed = each-slot _ (λ h n allowed. ((adds c.tree).at fit.as_type) any_type (pressed_at n around) allowed) (λ h n allowed. absurd h) (λ h n allowed. ((adds c.tree).at fit.as_type) item_type (pressed_at n around) allowed) (λ h n allowed. ((adds c.tree).at fit.as_type) parameter_type (pressed_at n around) allowed) (λ h n allowed. ((adds c.tree).at fit.as_type) literal_type (pressed_at n around) allowed)
 
 -- ## Substitutions that aren't refused
@@ -201,3 +202,108 @@ substitution-refers around place number state r e = go (slice_get state.candidat
     go : (o : Option Candidate) → slice_get state.candidates number ≡ o → substituted around place o state ≡ Ok r → Substituted around state r
     go None is h = let clash : ◌≡◌ {A = Result (Found Value State) Refusal} (Err (BadReference place)) (Ok r) = h in absurd cc
     go (Some c) is h = tested c is (is_open c.tree) around.in_lambda (nat_eq c.encoding around.encoding) refl refl refl h
+
+referred-found : (n number : ℕ) (own : Term) (behind other : Spelling) (place : ℕ) (cs : List Component) → first_equal n own 0 cs ≡ Some number
+    → referred n own behind other place cs ≡ (reference number and behind) place cs
+unfolding referred
+referred-found n number own behind other place cs is =
+    ap (λ o. elim o as (λ _. spell.Pressed Component) [ Some k ↦ (reference k and behind) place cs | None ↦ other place cs ]) is
+
+-- a component that comes before is a reference
+component-is : (n number : ℕ) (own : Term) (s : Spelling) (place : ℕ) (cs : List Component) → first_equal n own 0 cs ≡ Some number
+    → component n own s place cs ≡ reference number place cs
+unfolding component
+component-is n number own s place cs is =
+    ap (λ o. elim o as (λ _. spell.Pressed Component) [ Some k ↦ reference k place cs | None ↦ spelled_out n own s place cs ]) is
+
+component-found : (n number : ℕ) (own : Term) (s behind : Spelling) (place : ℕ) (cs : List Component) → first_equal n own 0 cs ≡ Some number
+    → (component n own s and behind) place cs ≡ (reference number and behind) place cs
+component-found n number own s behind place cs is =
+    let first : spell.Pressed Component → Spelling = λ w later ds. w in
+    ap (λ w. (first w and behind) place cs) (component-is n number own s place cs is)
+
+-- after a component that comes before, as after the reference to it
+named-behind : (n number : ℕ) (own : Term) (s : Spelling) (G : Standing) (place : ℕ) (cs : List Component) → first_equal n own 0 cs ≡ Some number
+    → Behind (reference number) G place cs → Behind (component n own s) G place cs
+named-behind n number own s G place cs is fits =
+    subst (λ w. G (place + length (spell.Pressed.bytes w)) (spell.Pressed.components w)) (sym (component-is n number own s place cs is)) fits
+
+some-one : {a b : ℕ} → Some a ≡ Some b → a ≡ b
+some-one h = cc
+
+same-reference : (number other : ℕ) (G : Standing) (place : ℕ) (cs : List Component) → Some number ≡ Some other
+    → Behind (reference number) G place cs → Behind (reference other) G place cs
+same-reference number other G place cs same fits = subst (λ k. Behind (reference k) G place cs) (some-one same) fits
+
+-- the number of what is there
+record FoundAt (n : ℕ) (own : Term) (cs : List Component) : Type 0 where
+  pub number : ℕ
+  pub is : first_equal n own 0 cs ≡ Some number
+
+found-number : (n : ℕ) (own : Term) (cs : List Component) → Has n own cs → FoundAt n own cs
+found-number n own cs has = go (first_equal n own 0 cs) refl
+  where
+    go : (o : Option ℕ) → first_equal n own 0 cs ≡ o → FoundAt n own cs
+    go (Some number) is = record { number = number; is = is }
+    go None is = absurd (stands-found n own 0 cs has is)
+
+-- where a template name is, a reference to it is spelled before its arguments
+before-spelled : (t : Term) → IsComponent t → (n number : ℕ) (typed : Bool) (arguments : Spelling) (place : ℕ) (cs : List Component)
+    → first_equal n t 0 cs ≡ Some number → (ways_of n t).before typed arguments place cs ≡ (reference number and arguments) place cs
+unfolding ways_of type_ways name_ways no_ways template_before
+before-spelled (alone p) c n number typed arguments place cs is = referred-found n number (alone p) arguments _ place cs is
+before-spelled (in_std p) c n number typed arguments place cs is = referred-found n number (in_std p) arguments _ place cs is
+before-spelled (within prefix p) c n number typed arguments place cs is = referred-found n number (within prefix p) arguments _ place cs is
+before-spelled (symbol e suffix) c n number typed arguments place cs is = absurd c
+before-spelled _ c n number typed arguments place cs is = first_of (search c, search (component-found, is))
+
+thrice : {may again stands one : Type 0} → may → again → (stands → ⊥) → may × again × (stands → one)
+thrice may again never = (may, again, λ stands. absurd (never stands))
+
+-- and there it fits
+before-found : (t : Term) → IsComponent t → (around : Around) (allowed : Option ℕ) (number : ℕ) (typed : Bool) (G : Fitting) (place : ℕ)
+    (cs : List Component) → MayBeReferred around allowed t → Has around.encoding t cs → first_equal around.encoding t 0 cs ≡ Some number
+    → Behind (reference number) (G around allowed) place cs → (fits_of t).before typed G around allowed place cs
+unfolding fits_of type_fits fits_nowhere ways_of type_ways no_ways component
+before-found (parameter k) c around allowed number typed G place cs may has is fits = (
+  (may, λ first. absurd (stands-found around.encoding (parameter k) 0 cs has first)),
+  named-behind around.encoding number (parameter k) _ (G around allowed) place cs is fits,
+)
+before-found (symbol e suffix) c around allowed number typed G place cs may has is fits = absurd c
+before-found t c around allowed number typed G place cs may has is fits =
+    let again : (other : ℕ) → first_equal around.encoding t 0 cs ≡ Some other → Behind (reference other) (G around allowed) place cs =
+    λ other same. same-reference number other (G around allowed) place cs (sym is ∙ same) fits in
+    first_of (search c, search (thrice, may, again, stands-found around.encoding t 0 cs has))
+
+-- a name that was referred to, with arguments in a type or in an encoding's own name
+pub referred-before : (around : Around) (typed : Bool) (c : Candidate) (a : Term) (old mid new : State) → Referred around old mid c
+    → ElementsFit around a mid new
+    → Fitted around ((fits_of c.tree).before typed (arguments_standing a)) (λ n. (ways_of n c.tree).before typed (arguments_text a n))
+    (instance c.tree a) old new
+unfolding reference
+referred-before around typed c a old mid new r other = record {
+  stay = λ m is. behind_.stay m (r.packs.stay m is);
+  fits = λ n place cs allowed front allows. (
+      let named = named-stands around.encoding n r.number c old.candidates cs front.among r.there r.named in
+      let f = found-number n c.tree cs named.1 in
+      let later : ℕ = place + length (reference f.number place cs).bytes in
+      let before : Front around n later cs mid = record {
+        later = omega (arith, front.later);
+        complete = front.complete;
+        among = subst (λ l. StandAmong around.encoding n l cs) (sym r.candidates) front.among;
+        functions = subst (FunctionsStand around.scope around.encoding) (sym r.candidates) front.functions;
+      } in
+      let may = referred-may around n allowed old mid c r (allows-before allowed mid new behind_.stay allows) in
+      let p = behind_.fits n later cs allowed before allows in
+      let spelled = before-spelled c.tree named.0 n f.number typed (arguments_text a n) place cs f.is in
+      record {
+        fits = before-found c.tree named.0 (pressed_at n around) allowed f.number typed (arguments_standing a) place cs may named.1 f.is p.fits;
+        may = instance-may around c.tree a n allowed may p.may;
+        complete = subst (λ w. Complete (spell.Pressed.components w)) (sym spelled) p.complete;
+        among = subst (λ w. StandAmong around.encoding n new.candidates (spell.Pressed.components w)) (sym spelled) p.among;
+        functions = p.functions;
+      });
+}
+  where
+    behind_ : Fitted around (arguments_standing a) (arguments_text a) a mid new
+    behind_ = arguments-fitted around a mid new other

@@ -61,12 +61,11 @@ vendor-fits around name state is =
     let t : Term = vendor name in
     let bytes : List ℕ = codes "u" ++ counted name in
     let G : Slot → Fitting = λ slot inner allowed place cs. (takes_all slot ≡ true) × IsSpellableName name in
-    spelled-solid takes_all around t G (λ n. text bytes) state state
-    (record {
+    spelled-solid takes_all around t G (λ n. text bytes) state state (record {
       is = tt;
       keeps = λ n. text-keeps Unit n (Whole t) bytes;
       function = tt;
-      whole = λ slot n allowed place cs. typed-complete t (λ m. refl) slot (pressed_at n around) allowed place cs;
+      whole = λ slot n. typed-complete t (λ m. refl) slot (pressed_at n around);
     }) (λ slot take. text-fitted around (G slot) bytes t state (λ n allowed place cs. (take, is))
     (λ n allowed. may-closed (pressed_at n around) allowed t refl))
 
@@ -168,12 +167,11 @@ parameter-fits takes around k old new p bare =
     let t : Term = parameter k in
     let G : Slot → Fitting = λ slot inner allowed place cs. NamesArgument inner allowed k in
     subst (λ s. SolidFits takes around (tree t true) old s) p.is
-    (spelled-solid takes around t G (λ n. text (codes "T" ++ ordinal k)) old p.mid
-    (record {
+    (spelled-solid takes around t G (λ n. text (codes "T" ++ ordinal k)) old p.mid (record {
       is = tt;
       keeps = λ n. text-keeps Unit n (Whole t) (codes "T" ++ ordinal k);
       function = tt;
-      whole = λ slot n allowed place cs. typed-complete t (λ m. refl) slot (pressed_at n around) allowed place cs;
+      whole = λ slot n. typed-complete t (λ m. refl) slot (pressed_at n around);
     }) (λ slot take. named-fitted around k old new p bare))
 
 -- ## Template names with arguments
@@ -190,29 +188,24 @@ unfolding fits_of fits_nowhere ways_of name_ways no_ways with_type with_unqualif
 instance-fits takes around t a old new one =
     let own : Term = instance t a in
     let s : ℕ → Spelling = λ n. (ways_of n t).before true (arguments_text a n) in
-    spelled-solid takes around own (λ slot. (fits_of t).before true (arguments_standing a)) s old new
-    (record {
+    spelled-solid takes around own (λ slot. (fits_of t).before true (arguments_standing a)) s old new (record {
       is = tt;
       keeps = λ n. (keeps t Unit n (Whole own) way.before) (λ x w. inr (inl w)) true (arguments_text a n)
           (arguments-keep n (Whole own) a (λ x i. inr (inr i)));
       function = tt;
-      whole = λ slot n allowed place cs. typed-complete own (λ m. refl) slot (pressed_at n around) allowed place cs;
+      whole = λ slot n. typed-complete own (λ m. refl) slot (pressed_at n around);
     }) (λ slot take. one)
 
 pub parameter-before : (around : Around) (k : ℕ) (a : Term) (old mid new : State) → ParameterNamed around k old mid → LambdasAreBare around
     → ElementsFit around a mid new → BeforeFits around (parameter k) a old new
 unfolding fits_of type_fits fits_nowhere ways_of type_ways no_ways with_type tree_of is_listed
 parameter-before around k a old mid new p bare other =
-    and-fitted around ((fits_of (parameter k)).as_type any_type) (arguments_standing a) (λ n. (ways_of n (parameter k)).as_type)
-    (arguments_text a) (parameter k) a (instance (parameter k) a) old mid new (instance-may around (parameter k) a)
-    ((parameter-fits (λ slot. true) around k old mid p bare).types any_type tt refl)
-    (arguments-fitted around a mid new other)
+    and-fitted ((parameter-fits (λ slot. true) around k old mid p bare).types any_type tt refl)
+    (arguments-fitted around a mid new other) (instance-may around (parameter k) a)
 
 pub abbreviation-before : (around : Around) (l : ℕ) (a : Term) (old new : State) → IsAbbreviation l
     → ElementsFit around a old new → BeforeFits around (abbreviation l) a old new
 unfolding fits_of fits_nowhere ways_of type_ways no_ways with_type tree_of is_listed
 abbreviation-before around l a old new is other =
-    and-fitted around ((fits_of (abbreviation l)).as_type any_type) (arguments_standing a) (λ n. (ways_of n (abbreviation l)).as_type)
-    (arguments_text a) (abbreviation l) a (instance (abbreviation l) a) old old new (instance-may around (abbreviation l) a)
-    ((abbreviation-fits (λ slot. true) around l old is).types any_type tt refl)
-    (arguments-fitted around a old new other)
+    and-fitted ((abbreviation-fits (λ slot. true) around l old is).types any_type tt refl)
+    (arguments-fitted around a old new other) (instance-may around (abbreviation l) a)

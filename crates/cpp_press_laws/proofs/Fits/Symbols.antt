@@ -15,9 +15,10 @@ use Rattle.cpp_grammar.specs.Texts.{special_front}
 use Rattle.cpp_press_laws.specs.Texts.{name_letters, thunk_text}
 use Rattle.cpp_press_laws.specs.Components.{Component, Spelling}
 use Rattle.cpp_press_laws.specs.Pressing.{no_ways, type_ways, name_ways, encoding_ways, piece_ways, argument_ways, begun, ways_of}
+use Rattle.cpp_press_laws.proofs.Components.AddedNames.{at-none}
 use Rattle.cpp_press_laws.proofs.Components.Complete.{AllBefore}
-use Rattle.cpp_press_laws.specs.Fits.{Standing, Fitting, Slot, any_type, item_type, Behind, either, type_fits, piece_fits, argument_fits, encoding_fits, fits_nowhere, IsSpellableThunk, fits_of}
-use Rattle.cpp_press_laws.proofs.Fits.Read.{pressed_at, Fitted, refitted, behind-both, and-fitted, bytes-fitted}
+use Rattle.cpp_press_laws.specs.Fits.{Fitting, Slot, any_type, item_type, Behind, either, type_fits, piece_fits, argument_fits, encoding_fits, fits_nowhere, IsSpellableThunk, fits_of}
+use Rattle.cpp_press_laws.proofs.Fits.Read.{pressed_at, Fitted, behind-both, and-fitted, bytes-fitted, fitted-as}
 use Rattle.cpp_press_laws.proofs.Fits.Types.{TypeFits, may-closed}
 use Rattle.cpp_press_laws.proofs.Fits.Lists.{ListFits, void-adds-none}
 use Rattle.cpp_press_laws.proofs.Fits.Nests.{OwnNameFits}
@@ -46,9 +47,7 @@ guard-fits around at name q ref old new stays one =
     let F : Fitting = λ inner allowed place cs. (fits_of name).as_name q ref inner allowed (place + 2) cs in
     encoding-fitted around at e F (λ n. text (codes "GV") and (ways_of n name).as_name (name_letters q ref)) old new
     stays.more refl stays.grows stays.before stays.later (λ allowed place cs fits. (refl, fits)) (λ n place cs. refl)
-    (refitted (in_name at) F F (λ n. text (codes "GV") and (ways_of n name).as_name (name_letters q ref)) name e old new
-    (λ n allowed place cs fits. fits) (λ n allowed may. may-closed (pressed_at n (in_name at)) allowed e refl)
-    (bytes-fitted (in_name at) ((fits_of name).as_name q ref) (codes "GV") (λ n. (ways_of n name).as_name (name_letters q ref)) name old new one))
+    (fitted-as (bytes-fitted (codes "GV") one) (λ n allowed may. may-closed (pressed_at n (in_name at)) allowed e refl))
 
 -- a type's table and the like
 pub special-fits : (around : Around) (at l : ℕ) (type : Term) (old new : State) → l < 256
@@ -61,9 +60,8 @@ special-fits around at l type old new small chosen stays one =
     let s : ℕ → Spelling = λ n. text (codes "T" ++ l ∷ []) and (ways_of n type).as_type in
     encoding-fitted around at e F s old new stays.more refl stays.grows stays.before stays.later
     (λ allowed place cs fits. (small, chosen, fits)) (λ n place cs. refl)
-    (refitted (in_name at) F F s type e old new (λ n allowed place cs fits. fits)
-    (λ n allowed may. may-closed (pressed_at n (in_name at)) allowed e refl)
-    (bytes-fitted (in_name at) ((fits_of type).as_type any_type) (codes "T" ++ l ∷ []) (λ n. (ways_of n type).as_type) type old new one))
+    (fitted-as (bytes-fitted (codes "T" ++ l ∷ []) one)
+    (λ n allowed may. may-closed (pressed_at n (in_name at)) allowed e refl))
 
 -- a thunk of an encoding
 pub thunk-fits : (around : Around) (at : ℕ) (kind : Thunk) (e : Term) (old new : State) → IsSpellableThunk kind → StaysBehind around at old new
@@ -75,18 +73,13 @@ thunk-fits around at kind e old new good stays one =
     let s : ℕ → Spelling = λ n. text (thunk_text kind) and (ways_of n e).as_encoding in
     encoding-fitted around at whole F s old new stays.more refl stays.grows stays.before stays.later
     (λ allowed place cs fits. (good, fits)) (λ n place cs. refl)
-    (refitted (in_name at) F F s e whole old new (λ n allowed place cs fits. fits)
-    (λ n allowed may. may-closed (pressed_at n (in_name at)) allowed whole refl)
-    (bytes-fitted (in_name at) (λ inner allowed place cs. (fits_of e).as_encoding allowed place cs) (thunk_text kind)
-    (λ n. (ways_of n e).as_encoding) e old new one))
+    (fitted-as (bytes-fitted (thunk_text kind) one)
+    (λ n allowed may. may-closed (pressed_at n (in_name at)) allowed whole refl))
 
 -- ## Functions
 
 at-zero : (place : ℕ) → place ≡ place + 0
 at-zero place = omega arith
-
-at-end : (G : Standing) (place : ℕ) (cs : List Component) → G place cs → G (place + 0) cs
-at-end G place cs fits = subst (λ p. G p cs) (at-zero place) fits
 
 -- parameters, where a lone void is no parameters
 parameters-standing : (slot : Slot) (t : Term) (around : Around) (allowed : Option ℕ) (place : ℕ) (cs : List Component)
@@ -123,10 +116,9 @@ items-behind : (at : ℕ) (e name items : Term) (q : Qualifiers) (ref : RefQuali
     ((fits_of items).as_more_parameters item_type (in_types inner.encoding name) allowed) place cs)
     (λ n. (ways_of n name).as_name (name_letters q ref) and (ways_of n items).as_more_parameters) e old new
 items-behind at e name items q ref old mid new shut all one other =
-    and-fitted (in_name at) ((fits_of name).as_name q ref) (λ inner. (fits_of items).as_more_parameters item_type (in_types inner.encoding name))
-    (λ n. (ways_of n name).as_name (name_letters q ref)) (λ n. (ways_of n items).as_more_parameters) name e e old mid new
-    (λ n allowed a b. b) one (types-fitted at name e items ((fits_of items).as_more_parameters item_type) (λ n. (ways_of n items).as_more_parameters)
-    mid new shut all other)
+    and-fitted one (types-fitted at name e items ((fits_of items).as_more_parameters item_type)
+    (λ n. (ways_of n items).as_more_parameters)
+    mid new shut all other) (λ n allowed a b. b)
 
 -- a function whose return type is spelled
 pub returning-fits : (around : Around) (at : ℕ) (name first rest : Term) (q : Qualifiers) (ref : RefQualifier) (old mid new : State)
@@ -161,7 +153,7 @@ plain-function-fits around at name items q ref old mid new plain stays all one o
           ((fits_of absent).as_type item_type (in_types place name) allowed p ds) (absent ≡ absent)) place cs) (sym plain) refl,
       behind-both ((ways_of place name).as_name (name_letters q ref)) (ways_of place absent).as_type
           ((fits_of (parameters items)).as_parameters item_type (in_types place name) allowed) place cs
-          (at-end ((fits_of (parameters items)).as_parameters item_type (in_types place name) allowed) _ _
+          (at-none ((fits_of (parameters items)).as_parameters item_type (in_types place name) allowed) _ _
           (parameters-standing item_type items (in_types place name) allowed _ _ fits.1)),
     ))
     (λ n place cs. (

@@ -10,7 +10,7 @@ use Rattle.cpp_grammar.specs.References.{appended}
 use Rattle.cpp_press_laws.specs.Components.{Component, Spelling, first_equal, reference, ended, spelled_out, referred, component}
 use Rattle.cpp_press_laws.specs.Pressing.{no_ways, name_ways, in_N_and_E, template_before, is_operator, is_encoding, is_one_piece, ways_of}
 use Rattle.cpp_press_laws.proofs.Components.Parts.{IsComponent, Inside}
-use Rattle.cpp_press_laws.proofs.Components.Adding.{AddsParts}
+use Rattle.cpp_press_laws.proofs.Components.AddedWays.{AddsParts}
 use Rattle.cpp_press_laws.proofs.Components.AddedTrees.{adds}
 use Rattle.cpp_press_laws.proofs.Components.Again.{FunctionStands}
 use Rattle.cpp_press_laws.proofs.Components.Complete.{Complete, StandAmong}
@@ -72,19 +72,20 @@ pub template-fitted : (around : Around) (own a : Term) (needs_N : Bool) (F H : F
 template-fitted around own a needs_N F H s front between old mid now one whole other = record {
   stay = whole.stay;
   fits = λ n place cs allowed before allows. (
-      let both = and-fitted around (as_component own F) (arguments_standing a) (λ n. component n own (s n)) (arguments_text a) own a
-      (instance own a) old (appended around own mid) now (instance-may around own a) one
-      (arguments-fitted around a (appended around own mid) now other) in
+      let both = and-fitted one (arguments-fitted around a (appended around own mid) now other)
+      (instance-may around own a) in
       let p = both.fits n place cs allowed before allows in
       let q = whole.fits n place cs allowed before allows in
       record {
         fits = (
           p.fits.0.0,
-          λ number is. behind-found n number own (s n) (arguments_standing a (pressed_at n around) allowed) place cs is p.fits.1,
+          λ number is. behind-found n number own (s n) (arguments_standing a (pressed_at n around) allowed) place cs is
+              p.fits.1,
           λ first. q.fits,
         );
         may = p.may;
-        complete = components-before n own needs_N (s n) (between n) (arguments_text a n) place cs Complete p.complete q.complete;
+        complete = components-before n own needs_N (s n) (between n) (arguments_text a n) place cs Complete p.complete
+            q.complete;
         among = components-before n own needs_N (s n) (between n) (arguments_text a n) place cs
             (StandAmong around.encoding n now.candidates) p.among q.among;
         functions = p.functions;
@@ -107,42 +108,32 @@ SpelledBefore around own a H front whole old now =
     × Behind (front inner.encoding and ended inner.encoding own) (arguments_standing a inner allowed) place cs) whole (instance own a) old now
 
 -- a template name that is spelled out, and its arguments
-pub spelled-before : (around : Around) (own a : Term) (F : Fitting) (between : ℕ → Spelling) (old mid now : State) → IsComponent own
+pub spelled-before : {k : ℕ} {around : Around} {own a : Term} {F : Fitting} {between : ℕ → Spelling} {old mid now : State}
+    → Fitted around F between own old mid → ElementsFit around a (appended around own mid) now → IsComponent own
     → FunctionStands around.scope own
-    → ((n : ℕ) (allowed : Option ℕ) (place : ℕ) (cs : List Component) → F (pressed_at n around) allowed place cs → Complete cs
-    → AddsParts n (Inside own) cs (between n place cs).components)
-    → Fitted around F between own old mid → ElementsFit around a (appended around own mid) now
+    → ((n : ℕ) (allowed : Option ℕ) (place : ℕ) (cs : List Component) → F (pressed_at n around) allowed place cs
+    → AddsParts k n (Inside own) cs (between n place cs))
     → SpelledBefore around own a F between (λ n. between n and ended n own and arguments_text a n) old now
-spelled-before around own a F between old mid now is stands whole one other =
-    respelled around _ (λ n. (between n and ended n own) and arguments_text a n) (λ n. between n and ended n own and arguments_text a n)
-    (instance own a) old now (λ n place cs. and-assoc-at (between n) (ended n own) (arguments_text a n) place cs)
-    (and-fitted around F (arguments_standing a) (λ n. between n and ended n own) (arguments_text a) own a (instance own a) old
-    (appended around own mid) now (instance-may around own a) (ended-fitted around own F between old mid is stands whole one)
-    (arguments-fitted around a (appended around own mid) now other))
+spelled-before {k} {around} {own} {a} {F} {between} {old} {mid} {now} one other is stands whole =
+    respelled (and-fitted (ended-fitted one is stands whole) (arguments-fitted around a (appended around own mid) now other)
+    (instance-may around own a)) (λ n. and-assoc-at (between n) (ended n own) (arguments_text a n))
 
 -- the same between N and E
-pub nested-before : (around : Around) (own a : Term) (F : Fitting) (between whole : ℕ → Spelling) (old now : State)
+pub nested-before : {around : Around} {own a : Term} {F : Fitting} {whole : ℕ → Spelling} {old now : State} (between : ℕ → Spelling)
     → SpelledBefore around own a F between whole old now
     → SpelledBefore around own a (λ inner allowed place cs. F inner allowed (place + 1) cs) (λ n. text (codes "N") and between n)
     (λ n. in_N_and_E [] (whole n)) old now
 unfolding in_N_and_E
-nested-before around own a F between whole old now one =
+nested-before {around} {own} {a} {F} {whole} {old} {now} between one =
     let G : Fitting = arguments_standing a in
-    let both : Fitting = λ inner allowed place cs. F inner allowed place cs × Behind (between inner.encoding and ended inner.encoding own)
-    (G inner allowed) place cs in
-    refitted around (λ inner allowed place cs. both inner allowed (place + 1) cs)
-    (λ inner allowed place cs. F inner allowed (place + 1) cs
-    × Behind ((text (codes "N") and between inner.encoding) and ended inner.encoding own) (G inner allowed) place cs)
-    (λ n. text (codes "N") and whole n and text (codes "E")) (instance own a) (instance own a) old now
-    (λ n allowed place cs fits. (
+    refitted (bytes-fitted (codes "N") (fitted-bytes (codes "E") one)) (λ n allowed place cs fits. (
       fits.0,
       behind-same (text (codes "N") and between n and ended n own) ((text (codes "N") and between n) and ended n own)
-          (G (pressed_at n around) allowed) place cs (sym (and-assoc-at (text (codes "N")) (between n) (ended n own) place cs))
-          (behind-both (text (codes "N")) (between n and ended n own) (G (pressed_at n around) allowed) place cs fits.1),
+          (G (pressed_at n around) allowed) place cs
+          (sym (and-assoc-at (text (codes "N")) (between n) (ended n own) place cs))
+          (behind-both (text (codes "N")) (between n and ended n own) (G (pressed_at n around) allowed) place cs
+          fits.1),
     ))
-    (λ n allowed may. may)
-    (bytes-fitted around both (codes "N") (λ n. whole n and text (codes "E")) (instance own a) old now
-    (fitted-bytes around both whole (codes "E") (instance own a) old now one))
 
 -- ## Template names
 
@@ -171,11 +162,8 @@ within-template around t p old mid apart one = record {
       let own : Term = within t p in
       let between : ℕ → Spelling = λ n. (ways_of n (within t p)).between_N_and_E in
       template-fitted around own a true _ _ between (λ n. text (codes "N") and between n) between old mid now
-      (within-prefix around t p old mid one)
-      (nested-before around own a (fits_of own).between between _ old now
-      (spelled-before around own a (fits_of own).between between old mid now tt tt
-      (λ n allowed place cs fits complete. ((adds own).at fit.between) (pressed_at n around) allowed place cs fits complete) one other))
-      other);
+      (within-prefix around t p old mid one) (nested-before between (spelled-before one other tt tt
+      (λ n. (adds own).at fit.between (pressed_at n around)))) other);
 }
 
 -- a piece after St, with an N before it where it is an operator of a type
@@ -210,31 +198,24 @@ std-template around p old mid one = record {
         → Fitted around (as_template own H (front false) (arguments_standing a))
         (λ n. template_before n own false (between n) (arguments_text a n)) (instance own a) old now
     plain H more a now other =
-        template-fitted around own a false std H between (front false) between old mid now (std-prefix around p old mid one)
-        (refitted around (λ inner allowed place cs. std inner allowed place cs
-        × Behind (between inner.encoding and ended inner.encoding own) (arguments_standing a inner allowed) place cs)
-        (λ inner allowed place cs. H inner allowed place cs
-        × Behind (front false inner.encoding and ended inner.encoding own) (arguments_standing a inner allowed) place cs)
-        (λ n. between n and ended n own and arguments_text a n) (instance own a) (instance own a) old now
-        (λ n allowed place cs fits. (
+        template-fitted around own a false std H between (front false) between old mid now
+        (std-prefix around p old mid one) (refitted (spelled-before one other tt tt
+        (λ n. (adds own).at fit.between (pressed_at n around))) (λ n allowed place cs fits. (
           more n allowed place cs fits.0,
-          behind-same (between n and ended n own) (front false n and ended n own) (arguments_standing a (pressed_at n around) allowed) place cs
-              (sym (and-assoc-at (text []) (between n) (ended n own) place cs ∙ nothing-and (between n and ended n own) place cs)) fits.1,
-        ))
-        (λ n allowed may. may)
-        (spelled-before around own a std between old mid now tt tt
-        (λ n allowed place cs fits complete. ((adds own).at fit.between) (pressed_at n around) allowed place cs fits complete) one other))
-        other
+          behind-same (between n and ended n own) (front false n and ended n own)
+              (arguments_standing a (pressed_at n around) allowed) place cs
+              (sym (and-assoc-at (text []) (between n) (ended n own) place cs ∙ nothing-and (between n and ended n own)
+              place cs)) fits.1,
+        ))) other
 
     nested : (a : Term) (now : State) → ElementsFit around a (appended around own mid) now
-        → Fitted around (as_template own (λ inner allowed place cs. std inner allowed (place + 1) cs) (front true) (arguments_standing a))
+        → Fitted around (as_template own (λ inner allowed place cs. std inner allowed (place + 1) cs) (front true)
+        (arguments_standing a))
         (λ n. template_before n own true (between n) (arguments_text a n)) (instance own a) old now
     nested a now other =
-        template-fitted around own a true std _ between (front true) between old mid now (std-prefix around p old mid one)
-        (nested-before around own a std between _ old now
-        (spelled-before around own a std between old mid now tt tt
-        (λ n allowed place cs fits complete. ((adds own).at fit.between) (pressed_at n around) allowed place cs fits complete) one other))
-        other
+        template-fitted around own a true std _ between (front true) between old mid now
+        (std-prefix around p old mid one) (nested-before between (spelled-before one other tt tt
+        (λ n. (adds own).at fit.between (pressed_at n around)))) other
 
     at-once : (n : ℕ) (allowed : Option ℕ) (place : ℕ) (cs : List Component) → std (pressed_at n around) allowed place cs
         → std (pressed_at n around) allowed (place + 0) cs

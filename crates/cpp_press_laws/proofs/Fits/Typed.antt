@@ -1,7 +1,8 @@
 -- The productions of names as types, of arguments and of literals keep to what is fit.
 use Rattle.std.proofs.Common.{◌≡◌, ℕ, ◌<◌, Some, inl, inr, [], ◌∷◌, Bool, true, false, refl, sym, subst}
 use Rattle.std.specs.Prelude.{◌&&◌, not}
-use Rattle.std.proofs.lemmas.Bool.{false≢true}
+use Rattle.std.proofs.Math.Bool.{and-true}
+use Rattle.std.proofs.lemmas.Bool.{and_right, false≢true}
 use Rattle.cpp_grammar.specs.declared.kind.Kind.{Kind}
 use Rattle.cpp_grammar.specs.Grammar.{choose}
 use Rattle.cpp_grammar.specs.declared.production.Production.{Production}
@@ -16,9 +17,8 @@ use Rattle.cpp_press_laws.specs.Fits.{Slot, any_type, bare_type, item_type, para
 use Rattle.cpp_press_laws.specs.Spellable.{IsSpellableNumber}
 use Rattle.cpp_press_laws.proofs.Fits.Types.{TypeFits, SolidFits, lvalue-fits, rvalue-fits}
 use Rattle.cpp_press_laws.proofs.Fits.Lists.{list-fits}
-use Rattle.cpp_press_laws.proofs.Fits.References.{Referred, referred-solid, Substituted}
+use Rattle.cpp_press_laws.proofs.Fits.References.{Referred, referred-solid, Substituted, referred-before}
 use Rattle.cpp_press_laws.proofs.Fits.Solids.{LambdasAreBare, ParameterNamed, abbreviation-fits, abbreviation-before, builtin-fits, parameter-fits, parameter-before, instance-fits}
-use Rattle.cpp_press_laws.proofs.Fits.Found.{referred-before}
 use Rattle.cpp_press_laws.proofs.Fits.Arguments.{ArgumentsFit, type-argument, no-arguments-fit, arguments-fit, pack-fits, integer-fits}
 use Rattle.cpp_press_laws.proofs.Fits.Sorts.{takes_literals, NameRead, KindFits, Meant, Later}
 
@@ -58,14 +58,6 @@ parameter-name around k old new p bare = record {
   before = λ a now other. parameter-before around k a old new now p bare other;
 }
 
-and-true : (b : Bool) → b && true ≡ b
-and-true true = refl
-and-true false = refl
-
-and-false : (b : Bool) → b && false ≡ false
-and-false true = refl
-and-false false = refl
-
 with-slots : (takes : Slot → Bool) (around : Around) (v : Value) (old new : State) → SolidFits (λ slot. true) around v old new
     → SolidFits takes around v old new
 with-slots takes around v old new one = record { types = λ slot other take. one.types slot other refl; bare = λ take. one.bare refl }
@@ -81,7 +73,7 @@ name-type takes around v w old mid new name (inl (none, same)) =
     (subst (λ s. SolidFits takes around (tree (tree_of v) (is_listed v)) old s) (sym same) (with-slots takes around v old mid name.solid)))
 name-type takes around v w old mid new name (inr (there, other)) =
     subst (λ u. SolidFits takes around (tree (applied (tree_of v) u) (is_listed v && not (is_there u))) old new) (sym there)
-    (subst (λ b. SolidFits takes around (tree (instance (tree_of v) (tree_of w)) b) old new) (sym (and-false (is_listed v)))
+    (subst (λ b. SolidFits takes around (tree (instance (tree_of v) (tree_of w)) b) old new) (sym (and_right (is_listed v) false refl))
     (instance-fits takes around (tree_of v) (tree_of w) old new (name.before (tree_of w) new other)))
 
 -- ## References among parameters

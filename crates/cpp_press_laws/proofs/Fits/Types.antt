@@ -17,13 +17,13 @@ use Rattle.cpp_press_laws.proofs.Components.KnownTrees.{In, keeps}
 use Rattle.cpp_press_laws.proofs.Components.Complete.{Complete}
 use Rattle.cpp_press_laws.proofs.Fits.Packs.{closed-packs}
 use Rattle.cpp_press_laws.proofs.Components.Again.{FunctionStands}
-use Rattle.cpp_press_laws.proofs.Fits.FunctionsStand.{first-fits}
+use Rattle.cpp_press_laws.proofs.Fits.FunctionsStand.{packs-none, first-fits}
 use Rattle.cpp_press_laws.specs.Fits.{Fitting, Behind, as_component, Slot, any_type, bare_type, item_type, parameter_type, literal_type, takes_all, takes_qualified, has_letters, type_fits, fits_nowhere, fits_of, PacksFit, MayBeReferred}
 use Rattle.cpp_press_laws.proofs.Fitting as fit
 use Rattle.cpp_press_laws.proofs.Ways as way
 use Rattle.cpp_press_laws.proofs.Components.AddedWays.{way_at, IsNotBare}
 use Rattle.cpp_press_laws.proofs.Components.AddedTrees.{adds}
-use Rattle.cpp_press_laws.proofs.Fits.Read.{pressed_at, Fitted, refitted, and-fitted, bytes-fitted, component-fitted, behind-both}
+use Rattle.cpp_press_laws.proofs.Fits.Read.{pressed_at, Fitted, refitted, and-fitted, bytes-fitted, component-fitted, behind-both, fitted-as}
 
 -- ## What may be referred to
 
@@ -39,11 +39,6 @@ packs-of-two : (scope : Option Term) (a b t : Term)
 unfolding packs_in first_of
 packs-of-two None a b t same = refl
 packs-of-two (Some arguments) a b t same = same arguments
-
-pub packs-none : (scope : Option Term) (t : Term) → ((arguments : Term) → pack_length arguments t ≡ None) → packs_in scope t ≡ None
-unfolding packs_in
-packs-none None t none = refl
-packs-none (Some arguments) t none = none arguments
 
 -- a tree with the parameters and packs of another
 pub may-as : (around : Around) (allowed : Option ℕ) (a t : Term) → is_open t ≡ is_open a
@@ -102,17 +97,13 @@ pub typed-complete : (t : Term) → ((n : ℕ) → (ways_of n t).under_qualifier
     (allowed : Option ℕ) (place : ℕ) (cs : List Component) → (fits_of t).as_type slot around allowed place cs → Complete cs
     → Complete ((ways_of around.encoding t).as_type place cs).components
 unfolding way_at
-typed-complete t alike any_type around allowed place cs fits complete =
-    ((adds t).at fit.as_type any_type around allowed place cs fits complete).complete
-typed-complete t alike item_type around allowed place cs fits complete =
-    ((adds t).at fit.as_type item_type around allowed place cs fits complete).complete
-typed-complete t alike parameter_type around allowed place cs fits complete =
-    ((adds t).at fit.as_type parameter_type around allowed place cs fits complete).complete
-typed-complete t alike literal_type around allowed place cs fits complete =
-    ((adds t).at fit.as_type literal_type around allowed place cs fits complete).complete
-typed-complete t alike bare_type around allowed place cs fits complete =
-    subst (λ w. Complete (w place cs).components) (alike around.encoding)
-    ((adds t).at fit.as_type bare_type around allowed place cs fits complete).complete
+typed-complete t alike any_type around allowed place cs fits = ((adds t).at fit.as_type any_type around allowed place cs fits).complete
+typed-complete t alike item_type around allowed place cs fits = ((adds t).at fit.as_type item_type around allowed place cs fits).complete
+typed-complete t alike parameter_type around allowed place cs fits = ((adds t).at fit.as_type parameter_type around allowed place cs fits).complete
+typed-complete t alike literal_type around allowed place cs fits = ((adds t).at fit.as_type literal_type around allowed place cs fits).complete
+typed-complete t alike bare_type around allowed place cs fits =
+    subst (λ w. Complete cs → Complete (w place cs).components) (alike around.encoding)
+    ((adds t).at fit.as_type bare_type around allowed place cs fits).complete
 
 -- what a component of its own is that is no function type
 pub record Spelled (around : Around) (t : Term) (G : Slot → Fitting) (s : ℕ → Spelling) : Type 0 where
@@ -126,7 +117,7 @@ pub spelled-fitted : (around : Around) (t : Term) (G : Slot → Fitting) (s : �
     → Spelled around t G s → Fitted around (G slot) s t old new
     → Fitted around (as_component t (G slot)) (λ n. component n t (s n)) t old (appended around t new)
 spelled-fitted around t G s slot old new spelled one =
-    component-fitted around t (G slot) s old new spelled.is spelled.keeps (λ n allowed place cs fits. spelled.function) (spelled.whole slot) one
+    component-fitted one spelled.is spelled.keeps (λ n allowed place cs fits. spelled.function) (spelled.whole slot)
 
 pub spelled-solid : (takes : Slot → Bool) (around : Around) (t : Term) (G : Slot → Fitting) (s : ℕ → Spelling) (old new : State)
     → Spelled around t G s → ((slot : Slot) → takes slot ≡ true → Fitted around (G slot) s t old new)
@@ -152,11 +143,10 @@ pub one-part : (takes : Slot → Bool) (around : Around) (t a : Term) (bytes : L
     → SolidAs takes around t (λ slot. as_component t (G slot)) (λ n. component n t (text bytes and (ways_of n a).as_type))
     (λ n. component n t (text bytes and (ways_of n a).as_type)) old (appended around t new) (appended around t new)
 one-part takes around t a bytes G old new spelled open_ packs more one =
-    let F : Fitting = λ inner allowed place cs. (fits_of a).as_type any_type inner allowed (place + length bytes) cs in
     let s : ℕ → Spelling = λ n. text bytes and (ways_of n a).as_type in
-    spelled-solid takes around t G s old new spelled (λ slot take. refitted around F (G slot) s a t old new
-    (more slot take) (λ n allowed. may-as (pressed_at n around) allowed a t open_ packs)
-    (bytes-fitted around ((fits_of a).as_type any_type) bytes (λ n. (ways_of n a).as_type) a old new one))
+    spelled-solid takes around t G s old new spelled
+    (λ slot take. refitted (fitted-as (bytes-fitted bytes one)
+    (λ n allowed. may-as (pressed_at n around) allowed a t open_ packs)) (more slot take))
 
 -- ## Pointers and their like
 
@@ -170,7 +160,7 @@ pointer-fits takes around a old new one =
       is = tt;
       keeps = λ n. bytes-keep n (pointer a) a (codes "P") (λ x w. inr w);
       function = tt;
-      whole = λ slot n allowed place cs. typed-complete (pointer a) (λ m. refl) slot (pressed_at n around) allowed place cs;
+      whole = λ slot n. typed-complete (pointer a) (λ m. refl) slot (pressed_at n around);
     }) refl (λ arguments. refl) (λ slot take n allowed place cs fits. fits) one
 
 -- Generated by tools/trees.py.
@@ -183,7 +173,7 @@ lvalue-fits around type old new one =
       is = tt;
       keeps = λ n. bytes-keep n (lvalue type) type (codes "R") (λ x w. inr w);
       function = tt;
-      whole = λ slot n allowed place cs. typed-complete (lvalue type) (λ m. refl) slot (pressed_at n around) allowed place cs;
+      whole = λ slot n. typed-complete (lvalue type) (λ m. refl) slot (pressed_at n around);
     }) refl (λ arguments. refl) (λ slot take n allowed place cs fits. (take, fits)) one
 
 -- Generated by tools/trees.py.
@@ -196,7 +186,7 @@ rvalue-fits around type old new one =
       is = tt;
       keeps = λ n. bytes-keep n (rvalue type) type (codes "O") (λ x w. inr w);
       function = tt;
-      whole = λ slot n allowed place cs. typed-complete (rvalue type) (λ m. refl) slot (pressed_at n around) allowed place cs;
+      whole = λ slot n. typed-complete (rvalue type) (λ m. refl) slot (pressed_at n around);
     }) refl (λ arguments. refl) (λ slot take n allowed place cs fits. (take, fits)) one
 
 -- Generated by tools/trees.py.
@@ -209,7 +199,7 @@ complex-fits around type old new one =
       is = tt;
       keeps = λ n. bytes-keep n (complex type) type (codes "C") (λ x w. inr w);
       function = tt;
-      whole = λ slot n allowed place cs. typed-complete (complex type) (λ m. refl) slot (pressed_at n around) allowed place cs;
+      whole = λ slot n. typed-complete (complex type) (λ m. refl) slot (pressed_at n around);
     }) refl (λ arguments. refl) (λ slot take n allowed place cs fits. (take, fits)) one
 
 -- Generated by tools/trees.py.
@@ -222,7 +212,7 @@ array-fits around digits type old new digit one =
       is = tt;
       keeps = λ n. bytes-keep n (array digits type) type (codes "A" ++ digits ++ codes "_") (λ x w. inr w);
       function = tt;
-      whole = λ slot n allowed place cs. typed-complete (array digits type) (λ m. refl) slot (pressed_at n around) allowed place cs;
+      whole = λ slot n. typed-complete (array digits type) (λ m. refl) slot (pressed_at n around);
     }) refl (λ arguments. refl) (λ slot take n allowed place cs fits. (take, digit, fits)) one
 
 -- Generated by tools/trees.py.
@@ -235,7 +225,7 @@ vector-fits around digits type old new digit one =
       is = tt;
       keeps = λ n. bytes-keep n (vector digits type) type (codes "Dv" ++ digits ++ codes "_") (λ x w. inr w);
       function = tt;
-      whole = λ slot n allowed place cs. typed-complete (vector digits type) (λ m. refl) slot (pressed_at n around) allowed place cs;
+      whole = λ slot n. typed-complete (vector digits type) (λ m. refl) slot (pressed_at n around);
     }) refl (λ arguments. refl) (λ slot take n allowed place cs fits. (take, digit, fits)) one
 
 -- the two parts of a pointer to a member
@@ -248,24 +238,18 @@ member-pointer-fits takes around a b old mid new one other =
     let B : Fitting = (fits_of b).as_type any_type in
     let s : ℕ → Spelling = λ n. (ways_of n a).as_type in
     let r : ℕ → Spelling = λ n. (ways_of n b).as_type in
-    let both : Fitting = λ inner allowed place cs. A inner allowed place cs × Behind (s inner.encoding) (B inner allowed) place cs in
     let G : Slot → Fitting = λ slot inner allowed place cs. A inner allowed (place + 1) cs
     × Behind (text (codes "M") and s inner.encoding) (B inner allowed) place cs in
-    spelled-solid takes around t G (λ n. text (codes "M") and s n and r n) old new
-    (record {
+    spelled-solid takes around t G (λ n. text (codes "M") and s n and r n) old new (record {
       is = tt;
       keeps = λ n. and-keeps Unit n (Whole t) (text (codes "M")) (s n and r n) (text-keeps Unit n (Whole t) (codes "M"))
           (and-keeps Unit n (Whole t) (s n) (r n) ((keeps a Unit n (Whole t) way.as_type) (λ x w. inr (inl w)))
           ((keeps b Unit n (Whole t) way.as_type) (λ x w. inr (inr w))));
       function = tt;
-      whole = λ slot n allowed place cs. typed-complete t (λ m. refl) slot (pressed_at n around) allowed place cs;
-    }) (λ slot take. refitted around (λ inner allowed place cs. both inner allowed (place + 1) cs) (G slot)
-    (λ n. text (codes "M") and s n and r n) t t old new
-    (λ n allowed place cs fits. (fits.0, behind-both (text (codes "M")) (s n) (B (pressed_at n around) allowed) place cs fits.1))
-    (λ n allowed may. may)
-    (bytes-fitted around both (codes "M") (λ n. s n and r n) t old new
-    (and-fitted around A B s r a b t old mid new
-    (λ n allowed. may-as-two (pressed_at n around) allowed a b t refl (λ arguments. refl)) one other)))
+      whole = λ slot n. typed-complete t (λ m. refl) slot (pressed_at n around);
+    }) (λ slot take. refitted (bytes-fitted (codes "M")
+    (and-fitted one other (λ n allowed. may-as-two (pressed_at n around) allowed a b t refl (λ arguments. refl))))
+    (λ n allowed place cs fits. (fits.0, behind-both (text (codes "M")) (s n) (B (pressed_at n around) allowed) place cs fits.1)))
 
 -- ## Qualified types
 
@@ -280,13 +264,12 @@ qualified-fits around q a slot old new take letters one =
     let F : Fitting = λ inner allowed place cs. (fits_of a).as_type bare_type inner allowed (place + length bytes) cs in
     let G : Slot → Fitting = λ slot inner allowed place cs. (takes_qualified slot ≡ true) × (has_letters q ≡ true)
     × F inner allowed place cs in
-    spelled-fitted around t G s slot old new
-    (record {
+    spelled-fitted around t G s slot old new (record {
       is = tt;
-      keeps = λ n. and-keeps Unit n (Whole t) (text bytes) (ways_of n a).under_qualifiers (text-keeps Unit n (Whole t) bytes)
-          ((keeps a Unit n (Whole t) way.under_qualifiers) (λ x w. inr w));
+      keeps = λ n. and-keeps Unit n (Whole t) (text bytes) (ways_of n a).under_qualifiers
+          (text-keeps Unit n (Whole t) bytes) ((keeps a Unit n (Whole t) way.under_qualifiers) (λ x w. inr w));
       function = tt;
-      whole = λ slot n allowed place cs. typed-complete t (λ m. refl) slot (pressed_at n around) allowed place cs;
-    }) (refitted around F (G slot) s a t old new (λ n allowed place cs fits. (take, letters, fits))
-    (λ n allowed. may-as (pressed_at n around) allowed a t refl (λ arguments. refl))
-    (bytes-fitted around ((fits_of a).as_type bare_type) bytes (λ n. (ways_of n a).under_qualifiers) a old new one))
+      whole = λ slot n. typed-complete t (λ m. refl) slot (pressed_at n around);
+    }) (refitted (fitted-as (bytes-fitted bytes one)
+    (λ n allowed. may-as (pressed_at n around) allowed a t refl (λ arguments. refl)))
+    (λ n allowed place cs fits. (take, letters, fits)))

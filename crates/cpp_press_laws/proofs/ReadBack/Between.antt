@@ -1,9 +1,9 @@
 -- Names are read from their pieces: alone and after St, as prefixes and between N and E, with arguments and without.
-use Rattle.std.proofs.Common.{◌≡◌, ℕ, ◌+◌, length, List, [], ◌∷◌, ◌++◌, Option, true, false, ap, arith, sym, subst, append-nil, append_assoc, length-append}
+use Rattle.std.proofs.Common.{◌≡◌, ℕ, ◌+◌, length, List, [], ◌∷◌, ◌++◌, Option, true, false, ap, arith, sym, subst, append-nil, append_assoc, length-append, refl}
 use Rattle.sym_shape.specs.declared.rule.Sym.TheVariants.{Kind as OfKind}
 use Rattle.sym_shape.specs.Tree.{TakesRule}
 use Rattle.cpp_grammar.specs.declared.production.Production.{Production}
-use Rattle.cpp_grammar.specs.KindNumbers.{COMPLETE_NAME, UNQUALIFIED, NEST_REST, NEST_TAIL, ABBREVIATION, TYPE_AFTER_S, SOURCE_OR_LOCAL, ARGUMENT_LIST}
+use Rattle.cpp_grammar.specs.KindNumbers.{COMPLETE_NAME, UNQUALIFIED, NEST_REST, NEST_TAIL, ABBREVIATION, TYPE_AFTER_S, SOURCE_OR_LOCAL, ARGUMENT_LIST, MAYBE_ARGUMENTS}
 use Rattle.cpp_grammar.specs.Table.{abi, rule_of}
 use Rattle.cpp_grammar.specs.Term.{Term, in_std, within, instance, parameter}
 use Rattle.cpp_grammar.specs.Values.{Around, Value, nothing_there, tree, piece, tree_of, is_there}
@@ -11,13 +11,15 @@ use Rattle.cpp_grammar.specs.Between.{after, inside, extended, applied, no_items
 use Rattle.cpp_press_laws.specs.Components.{Component}
 use Rattle.cpp_press_laws.specs.Texts.{ordinal}
 use Rattle.cpp_press_laws.specs.Subtrees.{Written, written, ReadsAt, Is}
-use Rattle.cpp_press_laws.proofs.ReadBack.Types.{same-written, more, solid-with-s}
+use Rattle.cpp_press_laws.proofs.ReadBack.Types.{solid-with-s}
 use Rattle.cpp_press_laws.proofs.ReadBack.Functions.{IsInScope}
-use Rattle.cpp_press_laws.proofs.ReadBack.Names.{SoFar, Extends, no-arguments, some-arguments, so-far-within, extends-more, extends-same, nest-whole}
+use Rattle.cpp_press_laws.proofs.ReadBack.Names.{SoFar, Extends, no-arguments, so-far-within, nest-whole, extends}
 use Rattle.cpp_press_laws.proofs.ReadBack.Nests.{nest-parameter, nest-behind-s, nest-std, nest-arguments}
 use Rattle.cpp_press_laws.proofs.ReadBack.Encodings.{std-name, nested-type, std-type, type-with-arguments}
-use Rattle.cpp_press_laws.proofs.ReadBack.Prefixes.{next-17, next-18, extends-behind-s}
 use Rattle.cpp_press_laws.proofs.ReadBack.Named.{NameRule, PieceReads}
+use Rattle.cpp_press_laws.proofs.ReadBack.Arguments.{arguments-read, takes-maybe-arguments}
+use Rattle.cpp_press_laws.proofs.ReadBack.Reading.{elsewhere, same-written, more, grammar, takes-none}
+use Rattle.cpp_grammar.specs.declared.kind.Kind.{Kind}
 
 -- ## Arguments
 
@@ -43,15 +45,14 @@ pub named-piece : (around : Around) (allowed : Option ℕ) (k : ℕ) (p t : Term
 unfolding applied is_there tree_of
 named-piece around allowed k p t place cs w one rule is = record {
   bare = subst (λ x. ReadsAt around allowed (OfKind k) (Is (tree x false)) place cs w) is
-      (same-written around allowed (OfKind k) (Is (tree (extended around.prefix p) false)) place cs w.components (w.bytes ++ []) w.bytes
-      (append-nil w.bytes)
+      (same-written (append-nil w.bytes)
       (one.names k rule nothing_there (written [] w.components)
       (no-arguments (after (extended around.prefix p) false around) allowed (place + length w.bytes) w.components)));
   instanced = λ items last args are two.
       subst (λ x. ReadsAt around allowed (OfKind k) (Is (tree (instance x items) false)) place cs
       (written (w.bytes ++ in_I_and_E args.bytes) args.components)) is
       (one.names k rule (tree items true) (written (in_I_and_E args.bytes) args.components)
-      (some-arguments around allowed (extended around.prefix p) items last (place + length w.bytes) w.components args are
+      (arguments-read false around allowed MAYBE_ARGUMENTS (extended around.prefix p) items last (place + length w.bytes) w.components args takes-maybe-arguments are
       (subst (λ x. ElementsRead around allowed last (place + length w.bytes) (more around w.components x) args) (sym is) two)));
 }
 
@@ -61,18 +62,15 @@ pub named-std : (around : Around) (allowed : Option ℕ) (p : Term) (place : ℕ
     → Named around allowed COMPLETE_NAME (in_std p) place cs (written (83 ∷ 116 ∷ w.bytes) w.components)
 unfolding applied is_there tree_of
 named-std around allowed p place cs w one =
-    let first : ReadsAt around allowed (OfKind UNQUALIFIED) (Is (piece p)) (place + 1 + 1) cs w =
-    subst (λ q. ReadsAt around allowed (OfKind UNQUALIFIED) (Is (piece p)) q cs w) (omega arith) one in
+    let first : ReadsAt around allowed (OfKind UNQUALIFIED) (Is (piece p)) (place + 1 + 1) cs w = elsewhere (omega arith) one in
     record {
-      bare = same-written around allowed (OfKind COMPLETE_NAME) (Is (tree (in_std p) false)) place cs w.components (83 ∷ 116 ∷ (w.bytes ++ []))
-          (83 ∷ 116 ∷ w.bytes) (ap (λ l. 83 ∷ 116 ∷ l) (append-nil w.bytes))
+      bare = same-written (ap (λ l. 83 ∷ 116 ∷ l) (append-nil w.bytes))
           (std-name around allowed p nothing_there place cs w (written [] w.components) first
           (no-arguments (after (in_std p) false around) allowed (place + 1 + 1 + length w.bytes) w.components));
       instanced = λ items last args are two.
           std-name around allowed p (tree items true) place cs w (written (in_I_and_E args.bytes) args.components) first
-          (some-arguments around allowed (in_std p) items last (place + 1 + 1 + length w.bytes) w.components args are
-          (subst (λ q. ReadsAt (inside around) allowed (OfKind ARGUMENT_LIST) (Is last) q (more around w.components (in_std p)) args)
-          (omega arith) two));
+          (arguments-read false around allowed MAYBE_ARGUMENTS (in_std p) items last (place + 1 + 1 + length w.bytes) w.components args takes-maybe-arguments are
+          (elsewhere (omega arith) two));
     }
 
 -- and as a type
@@ -83,15 +81,14 @@ pub named-std-type : (k : ℕ) (around : Around) (allowed : Option ℕ) (p : Ter
 named-std-type k around allowed p place cs w takes one =
     let first : ReadsAt around allowed (OfKind TYPE_AFTER_S) (Is (tree (in_std p) false)) (place + 1) cs (written (116 ∷ w.bytes) w.components) =
     std-type around allowed p (place + 1) cs w
-    (subst (λ q. ReadsAt around allowed (OfKind SOURCE_OR_LOCAL) (Is (piece p)) q cs w) (omega arith) one) in
+    (elsewhere (omega arith) one) in
     record {
       bare = solid-with-s k around allowed place (in_std p) false cs (written (116 ∷ w.bytes) w.components) takes first;
       instanced = λ items last args are two.
           type-with-arguments k around allowed (in_std p) items false place cs (written (116 ∷ w.bytes) w.components)
           (written (in_I_and_E args.bytes) args.components) takes first
-          (some-arguments around allowed (in_std p) items last (place + 1 + length (116 ∷ w.bytes)) w.components args are
-          (subst (λ q. ReadsAt (inside around) allowed (OfKind ARGUMENT_LIST) (Is last) q (more around w.components (in_std p)) args)
-          (omega arith) two));
+          (arguments-read false around allowed MAYBE_ARGUMENTS (in_std p) items last (place + 1 + length (116 ∷ w.bytes)) w.components args takes-maybe-arguments are
+          (elsewhere (omega arith) two));
     }
 
 -- ## Between N and E
@@ -113,17 +110,15 @@ pub nested-std : (around : Around) (allowed : Option ℕ) (p : Term) (place : �
     → Nested around allowed (in_std p) place cs (written (83 ∷ 116 ∷ w.bytes) w.components)
 unfolding applied is_there tree_of
 nested-std around allowed p place cs w one =
-    let first : ReadsAt around allowed (OfKind UNQUALIFIED) (Is (piece p)) (place + 1 + 1) cs w =
-    subst (λ q. ReadsAt around allowed (OfKind UNQUALIFIED) (Is (piece p)) q cs w) (omega arith) one in
+    let first : ReadsAt around allowed (OfKind UNQUALIFIED) (Is (piece p)) (place + 1 + 1) cs w = elsewhere (omega arith) one in
     record {
       bare = subst (λ l. SoFar around allowed (in_std p) false 18 place cs (written (83 ∷ 116 ∷ l) w.components)) (append-nil w.bytes)
           (nest-std around allowed p nothing_there place cs w (written [] w.components) first
           (no-arguments (after (in_std p) false around) allowed (place + 1 + 1 + length w.bytes) w.components));
       instanced = λ items last args are two.
           nest-std around allowed p (tree items true) place cs w (written (in_I_and_E args.bytes) args.components) first
-          (some-arguments around allowed (in_std p) items last (place + 1 + 1 + length w.bytes) w.components args are
-          (subst (λ q. ReadsAt (inside around) allowed (OfKind ARGUMENT_LIST) (Is last) q (more around w.components (in_std p)) args)
-          (omega arith) two));
+          (arguments-read false around allowed MAYBE_ARGUMENTS (in_std p) items last (place + 1 + 1 + length w.bytes) w.components args takes-maybe-arguments are
+          (elsewhere (omega arith) two));
     }
 
 -- a piece after a prefix
@@ -140,8 +135,7 @@ nested-within around allowed x p place cs w one prefix name = record {
       (so-far-within around allowed x (instance (within x p) items) place cs w (written (one.bytes ++ in_I_and_E args.bytes) args.components)
       prefix
       (name.instanced items last args are
-      (subst (λ q. ReadsAt (inside around) allowed (OfKind ARGUMENT_LIST) (Is last) q (more around one.components (within x p)) args)
-      (omega (arith, length-append w.bytes one.bytes)) two)));
+      (elsewhere (omega (arith, length-append w.bytes one.bytes)) two)));
 }
 
 -- the whole of a name between N and E
@@ -153,6 +147,23 @@ whole-nested k around allowed t place cs w takes so_far =
     (nest-whole around allowed t (place + 1) cs w so_far)
 
 -- ## Prefixes
+
+-- one more piece may follow the first part of a name, or a piece after it
+next-17 : TakesRule abi 17 (rule_of Production.NestNext) []
+unfolding grammar
+next-17 = takes-none NEST_REST Kind.NestRest Production.NestNext 48 refl refl (omega arith) refl
+
+next-18 : TakesRule abi 18 (rule_of Production.NestNext) []
+unfolding grammar
+next-18 = takes-none NEST_TAIL Kind.NestTail Production.NestNext 48 refl refl (omega arith) refl
+
+-- an abbreviation or a reference as a prefix
+extends-behind-s : (around : Around) (allowed : Option ℕ) (t : Term) (place : ℕ) (cs : List Component) (first : Written)
+    → ReadsAt around allowed (OfKind ABBREVIATION) (Is (tree t true)) (place + 1 + 0) cs first
+    → Extends around allowed t place cs (written (83 ∷ first.bytes) first.components)
+extends-behind-s around allowed t place cs first one =
+    extends true NEST_REST around allowed t place cs (written (83 ∷ first.bytes) first.components) next-17
+    (nest-behind-s around allowed t place cs first one)
 
 -- a prefix with arguments, which become part of it
 abbrev pub ExtendsWith : Around → Option ℕ → (t : Term) → (place : ℕ) → List Component → Written → Type 0
@@ -169,19 +180,19 @@ pub extends-with-behind-s : (around : Around) (allowed : Option ℕ) (t : Term) 
 extends-with-behind-s around allowed t place cs w one items last args are two =
     nest-arguments around allowed t items true last place cs (written (83 ∷ w.bytes) w.components) args are
     (nest-behind-s around allowed t place cs w
-    (subst (λ q. ReadsAt around allowed (OfKind ABBREVIATION) (Is (tree t true)) q cs w) (omega arith) one)) two
+    (elsewhere (omega arith) one)) two
 
 pub prefix-behind-s : (around : Around) (allowed : Option ℕ) (t : Term) (place : ℕ) (cs : List Component) (w : Written)
     → ReadsAt around allowed (OfKind ABBREVIATION) (Is (tree t true)) (place + 1) cs w
     → Extends around allowed t place cs (written (83 ∷ w.bytes) w.components)
 prefix-behind-s around allowed t place cs w one =
-    extends-behind-s around allowed t place cs w (subst (λ q. ReadsAt around allowed (OfKind ABBREVIATION) (Is (tree t true)) q cs w) (omega arith) one)
+    extends-behind-s around allowed t place cs w (elsewhere (omega arith) one)
 
 -- a parameter
 pub prefix-parameter : (around : Around) (allowed : Option ℕ) (k place : ℕ) (cs : List Component) → IsInScope around allowed k
     → Extends around allowed (parameter k) place cs (written (84 ∷ ordinal k) (more around cs (parameter k)))
 prefix-parameter around allowed k place cs scoped =
-    extends-same NEST_REST around allowed (parameter k) place cs (written (84 ∷ ordinal k) (more around cs (parameter k))) next-17
+    extends true NEST_REST around allowed (parameter k) place cs (written (84 ∷ ordinal k) (more around cs (parameter k))) next-17
     (nest-parameter around allowed k place cs scoped)
 
 pub prefix-with-parameter : (around : Around) (allowed : Option ℕ) (k place : ℕ) (cs : List Component) → IsInScope around allowed k
@@ -196,7 +207,7 @@ pub prefix-piece : (around : Around) (allowed : Option ℕ) (p t : Term) (place 
     → Extends around allowed t place cs (written w.bytes (more around w.components t))
 prefix-piece around allowed p t place cs w so_far is =
     subst (λ x. Extends around allowed x place cs (written w.bytes (more around w.components x))) is
-    (extends-more NEST_REST around allowed (extended around.prefix p) place cs w next-17 so_far)
+    (extends false NEST_REST around allowed (extended around.prefix p) place cs w next-17 so_far)
 
 pub prefix-with-piece : (around : Around) (allowed : Option ℕ) (p t : Term) (place : ℕ) (cs : List Component) (w : Written)
     → SoFar around allowed (extended around.prefix p) false 17 place cs w → extended around.prefix p ≡ t
@@ -208,10 +219,10 @@ prefix-with-piece around allowed p t place cs w so_far is =
 -- what is between N and E becomes a component
 pub prefix-nested : (around : Around) (allowed : Option ℕ) (t : Term) (place : ℕ) (cs : List Component) (w : Written)
     → SoFar around allowed t false 18 place cs w → Extends around allowed t place cs (written w.bytes (more around w.components t))
-prefix-nested around allowed t place cs w so_far = extends-more NEST_TAIL around allowed t place cs w next-18 so_far
+prefix-nested around allowed t place cs w so_far = extends false NEST_TAIL around allowed t place cs w next-18 so_far
 
 pub prefix-with-nested : (around : Around) (allowed : Option ℕ) (t : Term) (place : ℕ) (cs : List Component) (w : Written)
     → SoFarWith around allowed t place cs w → ExtendsWith around allowed t place cs (written w.bytes (more around w.components t))
 prefix-with-nested around allowed t place cs w so_far items last args are two =
-    extends-more NEST_TAIL around allowed (instance t items) place cs (written (w.bytes ++ in_I_and_E args.bytes) args.components) next-18
+    extends false NEST_TAIL around allowed (instance t items) place cs (written (w.bytes ++ in_I_and_E args.bytes) args.components) next-18
     (so_far items last args are two)

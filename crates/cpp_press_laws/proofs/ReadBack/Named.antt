@@ -6,23 +6,22 @@ use Rattle.sym_shape.specs.declared.rule.Sym.TheVariants.{Kind as OfKind}
 use Rattle.sym_shape.specs.Tree.{TakesRule}
 use Rattle.cpp_grammar.specs.declared.kind.Kind.{Kind}
 use Rattle.cpp_grammar.specs.declared.production.Production.{Production}
-use Rattle.cpp_grammar.specs.KindNumbers.{COMPLETE_NAME, UNQUALIFIED, COMPONENT, CONSTRUCTOR_DIGIT, DESTRUCTOR_DIGIT, ENTITY, TYPE_ENTITY, ANONYMOUS, ITEM, SOLID, SOURCE_OR_LOCAL, ITEMS, MAYBE_ARGUMENTS, LITERAL_TYPE, OPERATOR, OPERATOR_AFTER_C}
-use Rattle.cpp_grammar.specs.Grammar.{in_ranges, among, is_in, pick, alternatives, choose, kinds, is_chain}
+use Rattle.cpp_grammar.specs.KindNumbers.{COMPLETE_NAME, UNQUALIFIED, COMPONENT, ENTITY, TYPE_ENTITY, ANONYMOUS, ITEM, SOLID, SOURCE_OR_LOCAL, ITEMS, LITERAL_TYPE, OPERATOR, OTHER_OPERATOR}
+use Rattle.cpp_grammar.specs.Grammar.{choose, kinds}
 use Rattle.cpp_grammar.specs.Table.{abi, rule_of}
 use Rattle.cpp_grammar.specs.Term.{Term, source, operator, literal_operator, constructor, destructor, lambda, unnamed, list}
 use Rattle.cpp_grammar.specs.Values.{Around, Value, tree, piece}
-use Rattle.cpp_grammar.specs.Between.{in_signature, after, extended, applied, no_items}
+use Rattle.cpp_grammar.specs.Between.{in_signature, extended, no_items}
 use Rattle.cpp_grammar.specs.Meaning.{parameters}
 use Rattle.cpp_press_laws.specs.Components.{Component}
 use Rattle.cpp_press_laws.specs.Texts.{counted, ordinal}
 use Rattle.cpp_press_laws.specs.Spellable.{IsSpellableName, IsOperator}
 use Rattle.cpp_press_laws.specs.Subtrees.{greatest, Written, written, ReadsAt, Is}
-use Rattle.cpp_press_laws.proofs.ReadBack.Reading.{takes-none, takes-byte}
-use Rattle.cpp_press_laws.proofs.ReadBack.Types.{same-written}
+use Rattle.cpp_press_laws.proofs.ReadBack.Reading.{takes-none, takes-byte, elsewhere, grammar, same-written}
 use Rattle.cpp_press_laws.proofs.ReadBack.Functions.{mark-reads}
-use Rattle.cpp_press_laws.proofs.ReadBack.Names.{SoFar, source-name, internal-name, operator-name, other-operator-name, operator-name-with-c, local-type-name, constructor-name, destructor-name}
+use Rattle.cpp_press_laws.proofs.ReadBack.Names.{SoFar, source-name, internal-name, operator-name, other-operator-name, operator-name-with-c, local-type-name, constructor-name, destructor-name, NamesAt}
 use Rattle.cpp_press_laws.proofs.ReadBack.Nests.{nest-source, nest-internal, nest-local-type}
-use Rattle.cpp_press_laws.proofs.ReadBack.Pieces.{source-piece, internal-piece, local-type-piece, operator-piece, operator-reads, literal-operator-reads, operator-stands, other-operator-reads, other-literal-operator-reads}
+use Rattle.cpp_press_laws.proofs.ReadBack.Pieces.{source-piece, internal-piece, local-type-piece, operator-piece, operator-reads, literal-operator-reads, operator-stands}
 use Rattle.cpp_press_laws.proofs.ReadBack.Locals.{lambda-reads, unnamed-reads}
 use Rattle.cpp_press_laws.specs.Fits.{begins_name, names_type, names_function, names_member, IsLocalNumber}
 
@@ -56,7 +55,7 @@ PieceRule k _ = ⊥
 
 -- solid types, types of literals
 pub type-rule : (p : Term) → names_type p ≡ true → NameRule SOLID p
-unfolding names_type begins_name choose alternatives pick is_in in_ranges among kinds is_chain
+unfolding names_type begins_name grammar
 type-rule (source false name) h = takes-none SOLID Kind.Solid Production.SourceName 48 refl refl (omega arith) refl
 type-rule (lambda parameters j) h = takes-byte SOLID Kind.Solid Production.LocalTypeName 85 refl refl (omega arith) refl
 type-rule (unnamed j) h = takes-byte SOLID Kind.Solid Production.LocalTypeName 85 refl refl (omega arith) refl
@@ -64,7 +63,7 @@ type-rule (source true name) h = absurd (let e : false ≡ true = h in cc)
 type-rule _ h = absurd (let e : false ≡ true = h in cc)
 
 pub literal-type-rule : (p : Term) → names_type p ≡ true → NameRule LITERAL_TYPE p
-unfolding names_type begins_name choose alternatives pick is_in in_ranges among kinds is_chain
+unfolding names_type begins_name grammar
 literal-type-rule (source false name) h = takes-none LITERAL_TYPE Kind.LiteralType Production.SourceName 48 refl refl (omega arith) refl
 literal-type-rule (lambda parameters j) h = takes-byte LITERAL_TYPE Kind.LiteralType Production.LocalTypeName 85 refl refl (omega arith) refl
 literal-type-rule (unnamed j) h = takes-byte LITERAL_TYPE Kind.LiteralType Production.LocalTypeName 85 refl refl (omega arith) refl
@@ -73,7 +72,7 @@ literal-type-rule _ h = absurd (let e : false ≡ true = h in cc)
 
 -- an encoding's own name
 pub own-rule : (p : Term) → names_function p ≡ true → NameRule COMPLETE_NAME p
-unfolding names_function begins_name choose alternatives pick is_in in_ranges among kinds is_chain
+unfolding names_function begins_name grammar
 own-rule (source true name) h = takes-byte COMPLETE_NAME Kind.CompleteName Production.InternalName 76 refl refl (omega arith) refl
 own-rule (source false name) h = takes-none COMPLETE_NAME Kind.CompleteName Production.SourceName 48 refl refl (omega arith) refl
 own-rule (operator a b) h = inl (takes-none COMPLETE_NAME Kind.CompleteName Production.OperatorName 110 refl refl (omega arith) refl)
@@ -84,7 +83,7 @@ own-rule _ h = absurd (let e : false ≡ true = h in cc)
 
 -- after a prefix
 pub member-rule : (p : Term) → names_member p ≡ true → NameRule COMPONENT p
-unfolding names_member names_function begins_name choose alternatives pick is_in in_ranges among kinds is_chain
+unfolding names_member names_function begins_name grammar
 member-rule (source true name) h = takes-byte COMPONENT Kind.Component Production.InternalName 76 refl refl (omega arith) refl
 member-rule (source false name) h = takes-none COMPONENT Kind.Component Production.SourceName 48 refl refl (omega arith) refl
 member-rule (operator a b) h = inr refl
@@ -97,7 +96,7 @@ member-rule _ h = absurd (let e : false ≡ true = h in cc)
 
 -- a local entity, in a name and in a type
 pub entity-rule : (p : Term) → begins_name p ≡ true → NameRule ENTITY p
-unfolding begins_name choose alternatives pick is_in in_ranges among kinds is_chain
+unfolding begins_name grammar
 entity-rule (source true name) h = takes-byte ENTITY Kind.Entity Production.InternalName 76 refl refl (omega arith) refl
 entity-rule (source false name) h = takes-none ENTITY Kind.Entity Production.SourceName 48 refl refl (omega arith) refl
 entity-rule (lambda parameters j) h = takes-byte ENTITY Kind.Entity Production.LocalTypeName 85 refl refl (omega arith) refl
@@ -105,7 +104,7 @@ entity-rule (unnamed j) h = takes-byte ENTITY Kind.Entity Production.LocalTypeNa
 entity-rule _ h = absurd (let e : false ≡ true = h in cc)
 
 pub type-entity-rule : (p : Term) → begins_name p ≡ true → NameRule TYPE_ENTITY p
-unfolding begins_name choose alternatives pick is_in in_ranges among kinds is_chain
+unfolding begins_name grammar
 type-entity-rule (source true name) h = takes-byte TYPE_ENTITY Kind.TypeEntity Production.InternalName 76 refl refl (omega arith) refl
 type-entity-rule (source false name) h = takes-none TYPE_ENTITY Kind.TypeEntity Production.SourceName 48 refl refl (omega arith) refl
 type-entity-rule (lambda parameters j) h = takes-byte TYPE_ENTITY Kind.TypeEntity Production.LocalTypeName 85 refl refl (omega arith) refl
@@ -114,7 +113,7 @@ type-entity-rule _ h = absurd (let e : false ≡ true = h in cc)
 
 -- after St in a name, and in a type
 pub std-rule : (p : Term) → names_function p ≡ true → PieceRule UNQUALIFIED p
-unfolding names_function begins_name choose alternatives pick is_in in_ranges among kinds is_chain
+unfolding names_function begins_name grammar
 std-rule (source true name) h = takes-byte UNQUALIFIED Kind.Unqualified Production.InternalPiece 76 refl refl (omega arith) refl
 std-rule (source false name) h = takes-none UNQUALIFIED Kind.Unqualified Production.SourcePiece 48 refl refl (omega arith) refl
 std-rule (operator a b) h = refl
@@ -124,7 +123,7 @@ std-rule (unnamed j) h = takes-byte UNQUALIFIED Kind.Unqualified Production.Loca
 std-rule _ h = absurd (let e : false ≡ true = h in cc)
 
 pub std-type-rule : (p : Term) → begins_name p ≡ true → PieceRule SOURCE_OR_LOCAL p
-unfolding begins_name choose alternatives pick is_in in_ranges among kinds is_chain
+unfolding begins_name grammar
 std-type-rule (source true name) h = takes-byte SOURCE_OR_LOCAL Kind.SourceOrLocal Production.InternalPiece 76 refl refl (omega arith) refl
 std-type-rule (source false name) h = takes-none SOURCE_OR_LOCAL Kind.SourceOrLocal Production.SourcePiece 48 refl refl (omega arith) refl
 std-type-rule (lambda parameters j) h = takes-byte SOURCE_OR_LOCAL Kind.SourceOrLocal Production.LocalTypePiece 85 refl refl (omega arith) refl
@@ -132,14 +131,6 @@ std-type-rule (unnamed j) h = takes-byte SOURCE_OR_LOCAL Kind.SourceOrLocal Prod
 std-type-rule _ h = absurd (let e : false ≡ true = h in cc)
 
 -- ## What a piece is read as
-
--- a name of a piece and what follows it
-abbrev pub NamesAt : Around → Option ℕ → (k : ℕ) → (p : Term) → (place : ℕ) → List Component → Written → Type 0
-NamesAt around allowed k p place cs w =
-    (last : Value) (rest : Written)
-    → ReadsAt (after (extended around.prefix p) false around) allowed (OfKind MAYBE_ARGUMENTS) (Is last) (place + length w.bytes) w.components rest
-    → ReadsAt around allowed (OfKind k) (Is (tree (applied (extended around.prefix p) last) false)) place cs
-    (written (w.bytes ++ rest.bytes) rest.components)
 
 pub record PieceReads (around : Around) (allowed : Option ℕ) (p : Term) (place : ℕ) (cs : List Component) (w : Written) : Type 0 where
   pub names : (k : ℕ) → NameRule k p → NamesAt around allowed k p place cs w
@@ -150,16 +141,12 @@ pub source-reads : (around : Around) (allowed : Option ℕ) (internal : Bool) (n
     → IsSpellableName name
     → PieceReads around allowed (source internal name) place cs (written (cond internal (codes "L") [] ++ counted name) cs)
 source-reads around allowed true name place cs good = record {
-  names = λ k takes last rest one. internal-name k around allowed name last place cs rest takes good
-      (subst (λ q. ReadsAt (after (extended around.prefix (source true name)) false around) allowed (OfKind MAYBE_ARGUMENTS) (Is last) q cs rest)
-      (omega arith) one);
+  names = λ k takes. internal-name k around allowed name place cs takes good;
   pieces = λ k takes. internal-piece k around allowed name place cs takes good;
   begins = λ h. nest-internal around allowed name place cs good;
 }
 source-reads around allowed false name place cs good = record {
-  names = λ k takes last rest one. source-name k around allowed name last place cs rest takes good
-      (subst (λ q. ReadsAt (after (extended around.prefix (source false name)) false around) allowed (OfKind MAYBE_ARGUMENTS) (Is last) q cs rest)
-      (omega arith) one);
+  names = λ k takes. source-name k around allowed name place cs takes good;
   pieces = λ k takes. source-piece k around allowed name place cs takes good;
   begins = λ h. nest-source around allowed name place cs good;
 }
@@ -171,9 +158,7 @@ operators-read : (around : Around) (allowed : Option ℕ) (p : Term) (place : �
     → ReadsAt around allowed (OfKind OPERATOR) (Is (piece p)) (place + 0) cs w → PieceReads around allowed p place cs w
 operators-read around allowed p place cs w rule fourteen none component one = record {
   names = λ k takes. elim (rule k takes) [
-    | inl own ↦ (λ last rest two. operator-name k around allowed p last place cs w rest own one
-        (subst (λ q. ReadsAt (after (extended around.prefix p) false around) allowed (OfKind MAYBE_ARGUMENTS) (Is last) q w.components rest)
-        (omega arith) two))
+    | inl own ↦ operator-name k around allowed p place cs w own one
     | inr is ↦ subst (λ j. NamesAt around allowed j p place cs w) (sym is) component
   ];
   pieces = λ k is. subst (λ j. ReadsAt around allowed (OfKind j) (Is (piece p)) place cs w) (sym (fourteen k is))
@@ -185,49 +170,40 @@ operators-read around allowed p place cs w rule fourteen none component one = re
 operator-component : (around : Around) (allowed : Option ℕ) (a b place : ℕ) (cs : List Component) → a < 256 → b < 256 → IsOperator a b
     → NamesAt around allowed COMPONENT (operator a b) place cs (written (a ∷ b ∷ []) cs)
 unfolding kinds
-operator-component around allowed a b place cs small also is last rest two = elim (operator-stands a b small is) [
-  | inl c ↦ subst (λ f. ReadsAt around allowed (OfKind COMPONENT) (Is (tree (applied (extended around.prefix (operator f b)) last) false)) place cs
-      (written (f ∷ b ∷ rest.bytes) rest.components)) (sym c.0)
-      (operator-name-with-c around allowed b last place cs rest
-      (mark-reads around allowed OPERATOR_AFTER_C Kind.OperatorAfterC b (place + 1 + 0) cs refl c.1 also)
-      (subst (λ q. ReadsAt (after (extended around.prefix (operator 99 b)) false around) allowed (OfKind MAYBE_ARGUMENTS) (Is last) q cs rest) (omega arith)
-      (subst (λ f. ReadsAt (after (extended around.prefix (operator f b)) false around) allowed (OfKind MAYBE_ARGUMENTS) (Is last) (place + 2) cs rest) c.0 two)))
-  | inr chosen ↦ other-operator-name around allowed (operator a b) last place cs (written (a ∷ b ∷ []) cs) rest
-      (other-operator-reads around allowed a b (place + 0) cs small also is chosen)
-      (subst (λ q. ReadsAt (after (extended around.prefix (operator a b)) false around) allowed (OfKind MAYBE_ARGUMENTS) (Is last) q cs rest) (omega arith) two)
+operator-component around allowed a b place cs small also is = elim (operator-stands a b small is) [
+  | inl c ↦ subst (λ f. NamesAt around allowed COMPONENT (operator f b) place cs (written (f ∷ b ∷ []) cs)) (sym c.0)
+      (operator-name-with-c around allowed b place cs (mark-reads Kind.OperatorAfterC refl c.1 also))
+  | inr chosen ↦ other-operator-name around allowed (operator a b) place cs (written (a ∷ b ∷ []) cs)
+      (operator-reads OTHER_OPERATOR around allowed a b (place + 0) cs also is
+      (takes-byte OTHER_OPERATOR Kind.OtherOperator is.production a refl chosen small is.own))
 ]
 
 pub operator-piece-reads : (around : Around) (allowed : Option ℕ) (a b place : ℕ) (cs : List Component) → a < 256 → b < 256 → IsOperator a b
     → PieceReads around allowed (operator a b) place cs (written (a ∷ b ∷ []) cs)
-unfolding begins_name
+unfolding begins_name kinds
 operator-piece-reads around allowed a b place cs small also is =
     operators-read around allowed (operator a b) place cs (written (a ∷ b ∷ []) cs) (λ k takes. takes) (λ k h. h) refl
     (operator-component around allowed a b place cs small also is)
-    (operator-reads around allowed a b (place + 0) cs small also is)
+    (operator-reads OPERATOR around allowed a b (place + 0) cs also is (takes-byte OPERATOR Kind.Operator is.production a refl is.chosen small is.own))
 
 pub literal-operator-piece-reads : (around : Around) (allowed : Option ℕ) (name : List ℕ) (place : ℕ) (cs : List Component)
     → IsSpellableName name → PieceReads around allowed (literal_operator name) place cs (written (codes "li" ++ counted name) cs)
-unfolding begins_name
+unfolding begins_name grammar
 literal-operator-piece-reads around allowed name place cs good =
     operators-read around allowed (literal_operator name) place cs (written (108 ∷ 105 ∷ counted name) cs) (λ k takes. takes) (λ k h. h) refl
-    (λ last rest two. other-operator-name around allowed (literal_operator name) last place cs (written (108 ∷ 105 ∷ counted name) cs) rest
-    (other-literal-operator-reads around allowed name (place + 0) cs good)
-    (subst (λ q. ReadsAt (after (extended around.prefix (literal_operator name)) false around) allowed (OfKind MAYBE_ARGUMENTS) (Is last) q cs rest)
-    (omega arith) two))
-    (literal-operator-reads around allowed name (place + 0) cs good)
+    (other-operator-name around allowed (literal_operator name) place cs (written (108 ∷ 105 ∷ counted name) cs)
+    (literal-operator-reads OTHER_OPERATOR around allowed name (place + 0) cs good
+    (takes-byte OTHER_OPERATOR Kind.OtherOperator Production.OperatorL 108 refl refl (omega arith) refl)))
+    (literal-operator-reads OPERATOR around allowed name (place + 0) cs good
+    (takes-byte OPERATOR Kind.Operator Production.OperatorL 108 refl refl (omega arith) refl))
 
 pub constructor-piece-reads : (around : Around) (allowed : Option ℕ) (digit place : ℕ) (cs : List Component) → digit < 256
     → choose Kind.ConstructorDigit digit ≡ Some Production.Mark
     → PieceReads around allowed (constructor digit) place cs (written (codes "C" ++ digit ∷ []) cs)
 unfolding begins_name kinds
 constructor-piece-reads around allowed digit place cs small chosen = record {
-  names = λ k is last rest one.
-      subst (λ j. ReadsAt around allowed (OfKind j) (Is (tree (applied (extended around.prefix (constructor digit)) last) false)) place cs
-      (written (67 ∷ digit ∷ rest.bytes) rest.components)) (sym is)
-      (constructor-name around allowed digit last place cs (written (digit ∷ []) cs) rest
-      (mark-reads around allowed CONSTRUCTOR_DIGIT Kind.ConstructorDigit digit (place + 1 + 0) cs refl chosen small)
-      (subst (λ q. ReadsAt (after (extended around.prefix (constructor digit)) false around) allowed (OfKind MAYBE_ARGUMENTS) (Is last) q cs rest)
-      (omega arith) one));
+  names = λ k is. subst (λ j. NamesAt around allowed j (constructor digit) place cs (written (67 ∷ digit ∷ []) cs)) (sym is)
+      (constructor-name around allowed digit place cs (mark-reads Kind.ConstructorDigit refl chosen small));
   pieces = λ k is. absurd is;
   begins = λ h. absurd (let e : false ≡ true = h in cc);
 }
@@ -237,13 +213,8 @@ pub destructor-piece-reads : (around : Around) (allowed : Option ℕ) (digit pla
     → PieceReads around allowed (destructor digit) place cs (written (codes "D" ++ digit ∷ []) cs)
 unfolding begins_name kinds
 destructor-piece-reads around allowed digit place cs small chosen = record {
-  names = λ k is last rest one.
-      subst (λ j. ReadsAt around allowed (OfKind j) (Is (tree (applied (extended around.prefix (destructor digit)) last) false)) place cs
-      (written (68 ∷ digit ∷ rest.bytes) rest.components)) (sym is)
-      (destructor-name around allowed digit last place cs (written (digit ∷ []) cs) rest
-      (mark-reads around allowed DESTRUCTOR_DIGIT Kind.DestructorDigit digit (place + 1) cs refl chosen small)
-      (subst (λ q. ReadsAt (after (extended around.prefix (destructor digit)) false around) allowed (OfKind MAYBE_ARGUMENTS) (Is last) q cs rest)
-      (omega arith) one));
+  names = λ k is. subst (λ j. NamesAt around allowed j (destructor digit) place cs (written (68 ∷ digit ∷ []) cs)) (sym is)
+      (destructor-name around allowed digit place cs (mark-reads Kind.DestructorDigit refl chosen small));
   pieces = λ k is. absurd is;
   begins = λ h. absurd (let e : false ≡ true = h in cc);
 }
@@ -257,9 +228,7 @@ local-type-reads : (around : Around) (allowed : Option ℕ) (p : Term) (place : 
     → ReadsAt around allowed (OfKind ANONYMOUS) (Is (piece p)) (place + 1) cs w
     → PieceReads around allowed p place cs (written (85 ∷ w.bytes) w.components)
 local-type-reads around allowed p place cs w rule also one = record {
-  names = λ k takes last rest two. local-type-name k around allowed p last place cs w rest (rule k takes) one
-      (subst (λ q. ReadsAt (after (extended around.prefix p) false around) allowed (OfKind MAYBE_ARGUMENTS) (Is last) q w.components rest)
-      (omega arith) two);
+  names = λ k takes. local-type-name k around allowed p place cs w (rule k takes) one;
   pieces = λ k takes. local-type-piece k around allowed p place cs w (also k takes) one;
   begins = λ h. nest-local-type around allowed p place cs w one;
 }
@@ -300,16 +269,13 @@ pub lambda-piece-reads : (around : Around) (allowed : Option ℕ) (ps : Term) (k
     → ItemsRead (in_signature around) allowed ps (place + 2) cs w
     → PieceReads around allowed (lambda ps k) place cs (written (codes "Ul" ++ (w.bytes ++ (codes "E" ++ ordinal (k - 1)))) w.components)
 lambda-piece-reads around allowed ps k place cs w is i =
-    let inner : Around = in_signature around in
     let wanted : Written = written (108 ∷ (w.bytes ++ (69 ∷ ordinal (k - 1)))) w.components in
     local-type-reads around allowed (lambda ps k) place cs wanted (λ j takes. takes) (λ j takes. takes)
     (subst (λ n. ReadsAt around allowed (OfKind ANONYMOUS) (Is (piece (lambda ps n))) (place + 1) cs wanted) (number-back k is.0)
     (subst (λ t. ReadsAt around allowed (OfKind ANONYMOUS) (Is (piece (lambda t (k - 1 + 1)))) (place + 1) cs wanted) i.means
     (subst (λ ds. ReadsAt around allowed (OfKind ANONYMOUS) (Is (piece (lambda (parameters (list i.first i.items)) (k - 1 + 1)))) (place + 1) cs
     (written (108 ∷ (w.bytes ++ (69 ∷ ordinal (k - 1)))) ds)) i.components
-    (same-written around allowed (OfKind ANONYMOUS) (Is (piece (lambda (parameters (list i.first i.items)) (k - 1 + 1)))) (place + 1) cs
-    i.rest.components (108 ∷ (i.one.bytes ++ (i.rest.bytes ++ (69 ∷ ordinal (k - 1))))) (108 ∷ (w.bytes ++ (69 ∷ ordinal (k - 1))))
-    (ap (λ l. 108 ∷ l) (sym (append_assoc i.one.bytes i.rest.bytes (69 ∷ ordinal (k - 1))) ∙ ap (λ l. l ++ (69 ∷ ordinal (k - 1))) i.split))
+    (same-written (ap (λ l. 108 ∷ l) (sym (append_assoc i.one.bytes i.rest.bytes (69 ∷ ordinal (k - 1)))
+    ∙ ap (λ l. l ++ (69 ∷ ordinal (k - 1))) i.split))
     (lambda-reads around allowed i.first i.items i.last (k - 1) (place + 1) cs i.one i.rest i.are (number-small k is) (number-tested k is)
-    (subst (λ q. ReadsAt inner allowed (OfKind ITEM) (Is (tree i.first true)) q cs i.one) (omega arith) i.reads_one)
-    (subst (λ q. ReadsAt inner allowed (OfKind ITEMS) (Is i.last) q i.one.components i.rest) (omega arith) i.reads_rest))))))
+    (elsewhere (omega arith) i.reads_one) (elsewhere (omega arith) i.reads_rest))))))

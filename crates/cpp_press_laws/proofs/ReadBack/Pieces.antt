@@ -1,96 +1,91 @@
 -- Pieces of names are read as what was pressed.
-use Rattle.std.proofs.Common.{◌≡◌, ℕ, ◌+◌, ◌<◌, ◌⊎◌, inl, inr, List, [], ◌∷◌, ◌++◌, Bool, Option, Some, true, false, ◌||◌, nat_eq, slice_get, refl, ap, sym, ◌∙◌, arith}
+use Rattle.std.proofs.Common.{◌≡◌, ℕ, ◌+◌, ◌<◌, ◌⊎◌, inl, inr, List, [], ◌∷◌, ◌++◌, Bool, Option, Some, true, false, ◌||◌, nat_eq, slice_get, refl, ap, sym, ◌∙◌, arith, subst}
 use Rattle.std.proofs.lemmas.Bool.{eqb-true}
-use Rattle.sym_shape.specs.declared.rule.Sym.TheVariants.{Kind as OfKind, Name}
+use Rattle.sym_shape.specs.declared.rule.Sym.TheVariants.{Kind as OfKind}
 use Rattle.sym_shape.specs.Tree.{TakesRule}
 use Rattle.cpp_grammar.specs.declared.kind.Kind.{Kind}
 use Rattle.cpp_grammar.specs.declared.production.Production.{Production}
-use Rattle.cpp_grammar.specs.KindNumbers.{UNQUALIFIED, ANONYMOUS, OPERATOR, OPERATOR_AFTER_C, OPERATOR_AFTER_L, OTHER_OPERATOR}
-use Rattle.cpp_grammar.specs.Grammar.{in_ranges, among, is_in, pick, number_of_kind, alternatives, choose, kinds, number_of, parts_of, is_chain}
+use Rattle.cpp_grammar.specs.KindNumbers.{UNQUALIFIED, ANONYMOUS, OPERATOR, OPERATOR_AFTER_C, OPERATOR_AFTER_L}
+use Rattle.cpp_grammar.specs.Grammar.{in_ranges, among, is_in, pick, number_of_kind, alternatives, choose, kinds, number_of, parts_of}
 use Rattle.cpp_grammar.specs.Table.{abi, rule_of}
 use Rattle.cpp_grammar.specs.Term.{Term, source, operator, literal_operator}
 use Rattle.cpp_grammar.specs.Values as value
-use Rattle.cpp_grammar.specs.Values.{Around, letter, piece, text_of, part}
-use Rattle.cpp_grammar.specs.Between.{between}
-use Rattle.cpp_grammar.specs.Meaning.{meaning, operator_or_literal}
-use Rattle.cpp_grammar.specs.Unfolding as unfolding_
-use Rattle.cpp_grammar.specs.Unfolding.{opening, close, byte_of}
+use Rattle.cpp_grammar.specs.Values.{Around, letter, piece}
+use Rattle.cpp_grammar.specs.Meaning.{operator_or_literal}
+use Rattle.cpp_grammar.specs.Unfolding.{byte_of}
 use Rattle.cpp_press_laws.specs.Components.{Component}
 use Rattle.cpp_press_laws.specs.Texts.{counted}
 use Rattle.cpp_grammar.proofs.Growing.{same_choice, each_below, below, kept}
 use Rattle.cpp_press_laws.specs.Spellable.{IsSpellableName, IsOperator}
-use Rattle.cpp_press_laws.specs.Subtrees.{Written, written, ReadsAt, Is}
-use Rattle.cpp_press_laws.proofs.ReadBack.Tokens.{name_token, name-spelled, name-is-token}
-use Rattle.cpp_press_laws.proofs.ReadBack.Reading.{takes-byte, takes-none, name-reads}
-use Rattle.cpp_press_laws.proofs.ReadBack.Types.{same-written, one-part}
+use Rattle.cpp_press_laws.specs.Subtrees.{Written, written, ReadsAt, Is, Reads}
+use Rattle.cpp_press_laws.proofs.ReadBack.Reading.{takes-byte, takes-none, name-reads, closes-same, grammar, production-opened, read-by-parts, row-of, ◌before◌}
 use Rattle.cpp_press_laws.proofs.ReadBack.Functions.{mark-reads}
+use Rattle.cpp_press_laws.proofs.ByKind.Rules.{OnGoing}
 
 -- ## Names
-
-name-token-reads : (around : Around) (allowed : Option ℕ) (name : List ℕ) (place : ℕ) (cs : List Component) → IsSpellableName name
-    → ReadsAt around allowed Name (Is (value.text name)) place cs (written (counted name) cs)
-name-token-reads around allowed name place cs good =
-    same-written around allowed Name (Is (value.text name)) place cs cs ((name_token name).before ++ name ++ []) (counted name)
-    (name-spelled name) (name-reads around allowed (name_token name) place cs (name-is-token name good))
 
 pub source-piece : (k : ℕ) (around : Around) (allowed : Option ℕ) (name : List ℕ) (place : ℕ) (cs : List Component)
     → TakesRule abi k (rule_of Production.SourcePiece) [] → IsSpellableName name
     → ReadsAt around allowed (OfKind k) (Is (piece (source false name))) place cs (written (counted name) cs)
-unfolding parts_of between opening close unfolding_.behind meaning text_of part
+unfolding grammar
 source-piece k around allowed name place cs takes good =
-    one-part Production.SourcePiece k [] around allowed place Name (value.text name) (piece (source false name)) cs (written (counted name) cs)
-    takes refl (λ s. refl) (λ f s. refl) (λ began s. refl)
-    (name-token-reads around allowed name (place + 0) cs good)
+    read-by-parts Production.SourcePiece k [] (value.text name ∷ []) (written (counted name) cs ∷ []) takes tt refl
+    (λ s c q. name-reads name good s c q before λ began s. refl)
 
 pub internal-piece : (k : ℕ) (around : Around) (allowed : Option ℕ) (name : List ℕ) (place : ℕ) (cs : List Component)
     → TakesRule abi k (rule_of Production.InternalPiece) (76 ∷ []) → IsSpellableName name
     → ReadsAt around allowed (OfKind k) (Is (piece (source true name))) place cs (written (76 ∷ counted name) cs)
-unfolding parts_of between opening close unfolding_.behind meaning text_of part
+unfolding grammar
 internal-piece k around allowed name place cs takes good =
-    one-part Production.InternalPiece k (76 ∷ []) around allowed place Name (value.text name) (piece (source true name)) cs
-    (written (counted name) cs) takes refl (λ s. refl) (λ f s. refl) (λ began s. refl)
-    (name-token-reads around allowed name (place + 1) cs good)
+    read-by-parts Production.InternalPiece k (76 ∷ []) (value.text name ∷ []) (written (counted name) cs ∷ []) takes tt refl
+    (λ s c q. name-reads name good s c q before λ began s. refl)
 
 pub local-type-piece : (k : ℕ) (around : Around) (allowed : Option ℕ) (p : Term) (place : ℕ) (cs : List Component) (w : Written)
     → TakesRule abi k (rule_of Production.LocalTypePiece) (85 ∷ [])
     → ReadsAt around allowed (OfKind ANONYMOUS) (Is (piece p)) (place + 1) cs w
     → ReadsAt around allowed (OfKind k) (Is (piece p)) place cs (written (85 ∷ w.bytes) w.components)
-unfolding parts_of number_of_kind between opening close unfolding_.behind meaning part
+unfolding grammar
 local-type-piece k around allowed p place cs w takes one =
-    one-part Production.LocalTypePiece k (85 ∷ []) around allowed place (OfKind ANONYMOUS) (piece p) (piece p) cs w takes refl (λ s. refl) (λ f s. refl)
-    (λ began s. refl) one
+    read-by-parts Production.LocalTypePiece k (85 ∷ []) (piece p ∷ []) (w ∷ []) takes tt refl
+    (λ s c q. one s c q before λ began s. refl)
 
 pub operator-piece : (around : Around) (allowed : Option ℕ) (p : Term) (place : ℕ) (cs : List Component) (w : Written)
     → ReadsAt around allowed (OfKind OPERATOR) (Is (piece p)) (place + 0) cs w → ReadsAt around allowed (OfKind UNQUALIFIED) (Is (piece p)) place cs w
-unfolding choose alternatives pick is_in in_ranges among kinds is_chain parts_of number_of_kind between opening close unfolding_.behind meaning part
+unfolding grammar
 operator-piece around allowed p place cs w one =
-    one-part Production.OperatorPiece UNQUALIFIED [] around allowed place (OfKind OPERATOR) (piece p) (piece p) cs w
-    (takes-none UNQUALIFIED Kind.Unqualified Production.OperatorPiece 110 refl refl (omega arith) refl) refl (λ s. refl) (λ f s. refl) (λ began s. refl) one
+    read-by-parts Production.OperatorPiece UNQUALIFIED [] (piece p ∷ []) (w ∷ [])
+    (takes-none UNQUALIFIED Kind.Unqualified Production.OperatorPiece 110 refl refl (omega arith) refl) tt refl
+    (λ s c q. one s c q before λ began s. refl)
 
 -- ## Operators
 
-pub operator-reads : (around : Around) (allowed : Option ℕ) (first second place : ℕ) (cs : List Component) → first < 256 → second < 256
-    → IsOperator first second
-    → ReadsAt around allowed (OfKind OPERATOR) (Is (piece (operator first second))) place cs (written (first ∷ second ∷ []) cs)
-unfolding kinds byte_of
-operator-reads around allowed first second place cs small also is =
-    one-part is.production OPERATOR (first ∷ []) around allowed place (OfKind is.number) (letter second) (piece (operator first second)) cs
-    (written (second ∷ []) cs)
-    (takes-byte OPERATOR Kind.Operator is.production first refl is.chosen small is.own) is.parts (is.goes around place) (is.opens place)
-    (is.means around place)
-    (mark-reads around allowed is.number is.kind second (place + 1) cs is.at is.marked also)
+-- two letters, of a kind that takes the production of the first
+pub operator-reads : (k : ℕ) (around : Around) (allowed : Option ℕ) (first second place : ℕ) (cs : List Component) → second < 256
+    → (is : IsOperator first second) → TakesRule abi k (rule_of is.production) (first ∷ [])
+    → ReadsAt around allowed (OfKind k) (Is (piece (operator first second))) place cs (written (first ∷ second ∷ []) cs)
+unfolding byte_of
+operator-reads k around allowed first second place cs small is takes =
+    production-opened is.production k (first ∷ []) around allowed allowed place (λ values. values ≡ letter second ∷ [])
+    (Is (piece (operator first second))) cs cs (OfKind is.number ∷ []) (written (second ∷ []) cs) takes is.parts
+    (row-of is.production (first ∷ []) around allowed place _ (OfKind is.number ∷ []) (letter second ∷ []) (written (second ∷ []) cs ∷ []) [] (place + 1) cs
+    (λ s c q. subst (λ m. OnGoing m (λ next. Reads next.context allowed (OfKind is.number) (Is (letter second)) (place + 1) next.state
+    (written (second ∷ []) cs) × (next.values ++ letter second ∷ [] ≡ letter second ∷ []))) (sym (is.goes around place s))
+    (mark-reads is.kind is.at is.marked small s c q, refl)))
+    (λ s same packs. is.opens place _ s)
+    (closes-same is.production first around allowed place _ cs (piece (operator first second))
+    (λ values good began s. rw good (is.means around place began s)))
 
-pub literal-operator-reads : (around : Around) (allowed : Option ℕ) (name : List ℕ) (place : ℕ) (cs : List Component) → IsSpellableName name
-    → ReadsAt around allowed (OfKind OPERATOR) (Is (piece (literal_operator name))) place cs (written (108 ∷ 105 ∷ counted name) cs)
-unfolding choose alternatives pick is_in in_ranges among kinds is_chain parts_of number_of_kind between opening close unfolding_.behind meaning operator_or_literal text_of part
-literal-operator-reads around allowed name place cs good =
-    one-part Production.OperatorL OPERATOR (108 ∷ []) around allowed place (OfKind OPERATOR_AFTER_L) (piece (literal_operator name)) (piece (literal_operator name))
-    cs (written (105 ∷ counted name) cs)
-    (takes-byte OPERATOR Kind.Operator Production.OperatorL 108 refl refl (omega arith) refl) refl (λ s. refl) (λ f s. refl) (λ began s. refl)
-    (one-part Production.LiteralOperator OPERATOR_AFTER_L (105 ∷ []) around allowed (place + 1) Name (value.text name) (piece (literal_operator name)) cs
-    (written (counted name) cs)
-    (takes-byte OPERATOR_AFTER_L Kind.OperatorAfterL Production.LiteralOperator 105 refl refl (omega arith) refl) refl (λ s. refl) (λ f s. refl) (λ began s. refl)
-    (name-token-reads around allowed name (place + 1 + 1) cs good))
+-- a literal operator, of a kind that takes its l
+pub literal-operator-reads : (k : ℕ) (around : Around) (allowed : Option ℕ) (name : List ℕ) (place : ℕ) (cs : List Component) → IsSpellableName name
+    → TakesRule abi k (rule_of Production.OperatorL) (108 ∷ [])
+    → ReadsAt around allowed (OfKind k) (Is (piece (literal_operator name))) place cs (written (108 ∷ 105 ∷ counted name) cs)
+unfolding grammar operator_or_literal
+literal-operator-reads k around allowed name place cs good takes =
+    read-by-parts Production.OperatorL k (108 ∷ []) (piece (literal_operator name) ∷ []) (written (105 ∷ counted name) cs ∷ []) takes tt refl
+    (λ s c q. read-by-parts Production.LiteralOperator OPERATOR_AFTER_L (105 ∷ []) (value.text name ∷ [])
+    (written (counted name) cs ∷ []) (takes-byte OPERATOR_AFTER_L Kind.OperatorAfterL Production.LiteralOperator 105
+    refl refl (omega arith) refl) tt refl (λ s c q. name-reads name good s c q before λ began s. refl) s c q
+    before λ began s. refl)
 
 -- ## Operators within a nested name
 
@@ -123,26 +118,3 @@ operator-stands a b small is = go (nat_eq a 99) (same_choice (choose Kind.Operat
         inl (first, behind-c is.production is.number is.kind b (ap (choose Kind.Operator) (sym first) ∙ is.chosen) is.parts is.at is.marked)
     go false same c e h = inr (kept (choose Kind.Operator a) (choose Kind.OtherOperator a) is.production
         (sym (ap (λ x. x || same_choice (choose Kind.Operator a) (choose Kind.OtherOperator a)) c) ∙ h) is.chosen)
-
-pub other-operator-reads : (around : Around) (allowed : Option ℕ) (first second place : ℕ) (cs : List Component) → first < 256 → second < 256
-    → (is : IsOperator first second) → choose Kind.OtherOperator first ≡ Some is.production
-    → ReadsAt around allowed (OfKind OTHER_OPERATOR) (Is (piece (operator first second))) place cs (written (first ∷ second ∷ []) cs)
-unfolding kinds byte_of
-other-operator-reads around allowed first second place cs small also is chosen =
-    one-part is.production OTHER_OPERATOR (first ∷ []) around allowed place (OfKind is.number) (letter second) (piece (operator first second)) cs
-    (written (second ∷ []) cs)
-    (takes-byte OTHER_OPERATOR Kind.OtherOperator is.production first refl chosen small is.own) is.parts (is.goes around place) (is.opens place)
-    (is.means around place)
-    (mark-reads around allowed is.number is.kind second (place + 1) cs is.at is.marked also)
-
-pub other-literal-operator-reads : (around : Around) (allowed : Option ℕ) (name : List ℕ) (place : ℕ) (cs : List Component) → IsSpellableName name
-    → ReadsAt around allowed (OfKind OTHER_OPERATOR) (Is (piece (literal_operator name))) place cs (written (108 ∷ 105 ∷ counted name) cs)
-unfolding choose alternatives pick is_in in_ranges among kinds is_chain parts_of number_of_kind between opening close unfolding_.behind meaning operator_or_literal text_of part
-other-literal-operator-reads around allowed name place cs good =
-    one-part Production.OperatorL OTHER_OPERATOR (108 ∷ []) around allowed place (OfKind OPERATOR_AFTER_L) (piece (literal_operator name)) (piece (literal_operator name))
-    cs (written (105 ∷ counted name) cs)
-    (takes-byte OTHER_OPERATOR Kind.OtherOperator Production.OperatorL 108 refl refl (omega arith) refl) refl (λ s. refl) (λ f s. refl) (λ began s. refl)
-    (one-part Production.LiteralOperator OPERATOR_AFTER_L (105 ∷ []) around allowed (place + 1) Name (value.text name) (piece (literal_operator name)) cs
-    (written (counted name) cs)
-    (takes-byte OPERATOR_AFTER_L Kind.OperatorAfterL Production.LiteralOperator 105 refl refl (omega arith) refl) refl (λ s. refl) (λ f s. refl) (λ began s. refl)
-    (name-token-reads around allowed name (place + 1 + 1) cs good))

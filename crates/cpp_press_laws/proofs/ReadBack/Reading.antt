@@ -1,31 +1,39 @@
 -- What it means that a spelling is read, and how a production is read from its parts.
-use Rattle.std.proofs.Common.{◌≡◌, ℕ, ◌+◌, ◌<◌, length, List, [], ◌∷◌, ◌++◌, Option, Some, true, false, Ok, refl, ap, sym, subst, ◌∙◌, append-nil}
+use Rattle.std.proofs.Common.{◌≡◌, ℕ, ◌+◌, ◌<◌, length, List, [], ◌∷◌, ◌++◌, Option, Some, true, false, Ok, refl, ap, sym, subst, ◌∙◌, append-nil, Err}
 use Rattle.std.specs.Prelude.{slice_get, not, if◌then◌else◌}
 use Rattle.sym_shape.specs.declared.rule.Sym.{Sym}
 use Rattle.sym_shape.specs.declared.rule.Sym.TheVariants.{Kind as OfKind, Name, Number, Byte}
 use Rattle.sym_core.specs.declared.NumberKind.{NumberKind}
-use Rattle.sym_core.specs.declared.NameClass.TheVariants.{Cpp}
-use Rattle.sym_core.specs.Token.{Token, bytes_of, IsName, IsNumberToken}
-use Rattle.sym_shape.specs.Tree.{Forest, branch, empty, token, fixed, grown, spell, spell_all, TakesRule, AreTrees}
+use Rattle.sym_core.specs.Token.{Token, bytes_of, IsNumberToken}
+use Rattle.sym_shape.specs.Tree.{Tree as Shape, Forest, branch, empty, token, fixed, grown, spell, spell_all, TakesRule, IsTree, AreTrees}
 use Rattle.sym_shape.specs.Tree as shape
-use Rattle.sym_link.specs.Unfold.{unfold_forest, found, standing}
+use Rattle.sym_link.specs.Unfold.{unfold_tree, unfold_forest, found, standing}
 use Rattle.cpp_grammar.specs.declared.kind.Kind.{Kind}
 use Rattle.cpp_grammar.specs.declared.production.Production.{Production}
 use Rattle.cpp_grammar.specs.KindNumbers.{ARGUMENT_LIST, ARGUMENTS_FIRST}
-use Rattle.cpp_grammar.specs.Grammar.{kinds, choose, parts_of, is_chain, may_be_empty}
+use Rattle.cpp_grammar.specs.Grammar.{in_ranges, among, is_in, pick, number_of_kind, alternatives, kinds, choose, parts_of, is_chain, may_be_empty}
 use Rattle.cpp_grammar.specs.Table.{abi, rule_of, rule_taken}
 use Rattle.cpp_grammar.specs.Term.{Term}
-use Rattle.cpp_grammar.specs.Values.{Candidate, State, Around, Value, nothing_there, text}
+use Rattle.cpp_grammar.specs.Values.{Candidate, State, Around, Value, nothing_there, text, tree, tree_of, text_of, piece_of, letter_of, ref_of, signed_of, adjustment_of, is_there, part}
 use Rattle.cpp_grammar.specs.References.{appended}
 use Rattle.cpp_grammar.specs.Between.{Going, between}
+use Rattle.cpp_grammar.specs.Meaning.{meaning}
+use Rattle.cpp_grammar.specs.Unfolding as unfolding_
 use Rattle.cpp_grammar.specs.Unfolding.{cpp, opening, close, byte_of}
 use Rattle.cpp_grammar.proofs.Alone.{list_first}
 use Rattle.cpp_grammar.proofs.Choosing.{rule_at_kind, empty_at_kind}
 use Rattle.cpp_grammar.proofs.ClosedTrees.{at_number, its_symbols}
 use Rattle.cpp_press_laws.specs.Components.{Component, components_of}
-use Rattle.cpp_press_laws.specs.Subtrees.{Written, written, IsAllowed, Reads, ReadsAt}
+use Rattle.cpp_press_laws.specs.Subtrees.{Written, written, IsAllowed, Reads, ReadsAt, Is}
+use Rattle.cpp_press_laws.proofs.ByKind.Rules.{OnGoing}
+use Rattle.cpp_press_laws.specs.Texts.{counted}
+use Rattle.cpp_press_laws.specs.Spellable.{IsSpellableName}
+use Rattle.cpp_press_laws.proofs.ReadBack.Tokens.{name_token, name-spelled, name-is-token, digits_token}
+use Rattle.sym_core.specs.Number.{AreDigitsOf}
+use Rattle.sym_core.specs.declared.NumberKind.TheVariants.{Digits}
 
--- the same for the parts that are left of a production that began at a place in a state, after parts that are known
+infixr 1 ◌before◌
+-- the parts that are left of a production that began at a place in a state, after parts that are known
 pub record ReadsRow (p : Production) (taken : List ℕ) (around : Around) (allowed : Option ℕ) (at : ℕ) (began : State) (symbols : List Sym)
     (known : List Value) (Q : List Value → Type 0) (place : ℕ) (start : State) (w : Written) : Type 0 where
   pub forest : Forest
@@ -38,10 +46,11 @@ pub record ReadsRow (p : Production) (taken : List ℕ) (around : Around) (allow
   pub candidates : components_of state.candidates ≡ w.components
   pub packs : IsAllowed allowed state.packs
 
-abbrev pub RowAt : Production → (taken : List ℕ) → Around → Option ℕ → (at : ℕ) → List Sym → (known : List Value) → (List Value → Type 0)
-    → (place : ℕ) → List Component → Written → Type 0
-RowAt p taken around allowed at symbols known Q place components w =
-    (began s : State) → components_of s.candidates ≡ components → IsAllowed allowed s.packs → ReadsRow p taken around allowed at began symbols known Q place s w
+-- What a kind takes at a byte, what is done before the parts of a production and what they mean: proofs that compute these, production by
+-- production, unfold this.
+unfoldable pub grammar : Unit {0}
+unfolding choose alternatives pick is_in in_ranges among kinds is_chain may_be_empty parts_of number_of_kind between close unfolding_.behind meaning byte_of part tree_of text_of piece_of letter_of ref_of signed_of adjustment_of is_there
+grammar = tt
 
 -- ## Candidates as components
 
@@ -50,9 +59,12 @@ unfolding components_of
 components-append [] ds = refl
 components-append (c ∷ cs) ds = ap (λ l. record { tree = c.tree; encoding = c.encoding } ∷ l) (components-append cs ds)
 
+abbrev pub more : Around → List Component → Term → List Component
+more around cs t = cs ++ record { tree = t; encoding = around.encoding } ∷ []
+
 -- one more candidate is one more component
 pub appended-same : {components : List Component} (around : Around) (t : Term) (s : State) → components_of s.candidates ≡ components
-    → components_of (appended around t s).candidates ≡ components ++ record { tree = t; encoding = around.encoding } ∷ []
+    → components_of (appended around t s).candidates ≡ more around components t
 unfolding appended components_of
 appended-same around t s same =
     components-append s.candidates (record { tree = t; encoding = around.encoding; in_lambda = around.in_lambda; is_held = false } ∷ [])
@@ -60,101 +72,88 @@ appended-same around t s same =
 
 -- ## Rows
 
--- nothing is left
-pub row-ends : (p : Production) (taken : List ℕ) (around : Around) (allowed : Option ℕ) (at : ℕ) (known : List Value) (place : ℕ)
-    (components : List Component)
-    → RowAt p taken around allowed at [] known (λ values. values ≡ known) place components (written [] components)
-row-ends p taken around allowed at known place components began s same packs = record {
+-- a part, and then what is left
+abbrev pub ◌before◌ : {A B : Type 0} → A → B → A × B
+◌before◌ one rest = (one, rest)
+
+-- the bytes of parts that follow each other
+abbrev pub all_bytes : List Written → List ℕ
+all_bytes [] = []
+all_bytes (w ∷ []) = w.bytes
+all_bytes (w ∷ x ∷ ws) = w.bytes ++ all_bytes (x ∷ ws)
+
+-- the components after them
+abbrev pub last_components : List Component → List Written → List Component
+last_components cs [] = cs
+last_components cs (w ∷ ws) = last_components w.components ws
+
+-- The parts of a production that are left, after parts that are known: what is written of each is read with its value, in its
+-- surroundings and in the state before it. `End` is what is to hold of all values.
+abbrev pub PartsRead : Production → Around → Option ℕ → (at : ℕ) → (End : List Value → Type 0) → List Sym → (values : List Value)
+    → List Written → (known : List Value) → (place : ℕ) → List Component → Type 0
+PartsRead p around allowed at End [] [] [] known place cs = End known
+PartsRead p around allowed at End (x ∷ xs) (v ∷ vs) (w ∷ ws) known place cs =
+    (s : State) → components_of s.candidates ≡ cs → IsAllowed allowed s.packs → OnGoing (between p around at known s) (λ next.
+    Reads next.context allowed x (Is v) place next.state w
+    × PartsRead p around allowed at End xs vs ws (next.values ++ v ∷ []) (place + length w.bytes) w.components)
+PartsRead p around allowed at End xs vs ws known place cs = ⊥
+
+pub one-or-more : (w : Written) (ws : List Written) (spelled : List ℕ) → spelled ≡ all_bytes ws → w.bytes ++ spelled ≡ all_bytes (w ∷ ws)
+one-or-more w [] spelled same = ap (λ l. w.bytes ++ l) same ∙ append-nil w.bytes
+one-or-more w (x ∷ ws) spelled same = ap (λ l. w.bytes ++ l) same
+
+-- a row is read where its parts are, one after the other
+unfoldable pub row-of : (p : Production) (taken : List ℕ) (around : Around) (allowed : Option ℕ) (at : ℕ) (End : List Value → Type 0)
+    (xs : List Sym) (vs : List Value) (ws : List Written) (known : List Value) (place : ℕ) (cs : List Component)
+    → PartsRead p around allowed at End xs vs ws known place cs → (began s : State) → components_of s.candidates ≡ cs
+    → IsAllowed allowed s.packs
+    → ReadsRow p taken around allowed at began xs known End place s (written (all_bytes ws) (last_components cs ws))
+unfolding cpp
+row-of p taken around allowed at End [] [] [] known place cs h began s same packs = record {
   forest = shape.nothing;
   spelled = refl;
   shaped = tt;
   values = known;
-  good = refl;
+  good = h;
   state = s;
   unfolds = refl;
   candidates = same;
   packs = packs;
 }
+row-of p taken around allowed at End (x ∷ xs) (v ∷ vs) (w ∷ ws) known place cs h began s same packs =
+    go (between p around at known s) refl (h s same packs)
+    (λ passed middle rest one more. row-of p taken around allowed at End xs vs ws passed (place + length w.bytes) w.components rest began middle
+    one more)
+  where
+    Row : List Value → State → Type 0
+    Row passed middle =
+        ReadsRow p taken around allowed at began xs passed End (place + length w.bytes) middle (written (all_bytes ws) (last_components w.components ws))
 
--- what is done before the next part: what surrounds it, the values so far, and the state
-pub record Passes (p : Production) (around : Around) (allowed : Option ℕ) (at : ℕ) (known : List Value) (components : List Component)
-    (inner : Around) (inside : Option ℕ) (passed : List Value) (middle : List Component) (s : State) : Type 0 where
-  pub state : State
-  pub goes : ◌≡◌ {A = Going} (between p around at known s) (Ok (record { context = inner; values = passed; state = state }))
-  pub candidates : components_of state.candidates ≡ middle
-  pub packs : IsAllowed inside state.packs
-
-abbrev pub PassesAt : Production → Around → Option ℕ → (at : ℕ) → (known : List Value) → List Component → (inner : Around) → (inside : Option ℕ)
-    → (passed : List Value) → (middle : List Component) → Type 0
-PassesAt p around allowed at known components inner inside passed middle =
-    (s : State) → components_of s.candidates ≡ components → IsAllowed allowed s.packs → Passes p around allowed at known components inner inside passed middle s
-
--- nothing is done to the state
-pub passes-by : (p : Production) (around : Around) (allowed : Option ℕ) (at : ℕ) (known : List Value) (components : List Component)
-    (inner : Around) (passed : List Value)
-    → ((s : State) → ◌≡◌ {A = Going} (between p around at known s) (Ok (record { context = inner; values = passed; state = s })))
-    → PassesAt p around allowed at known components inner allowed passed components
-passes-by p around allowed at known components inner passed goes s same packs = record { state = s; goes = goes s; candidates = same; packs = packs }
-
-unfoldable pub row-joined : (p : Production) (taken : List ℕ) (around inner : Around) (allowed inside : Option ℕ) (at : ℕ)
-    (began s middle : State) (symbol : Sym) (symbols : List Sym) (known passed : List Value) (Q : Value → Type 0) (R : List Value → Type 0)
-    (place : ℕ) (first rest : Written)
-    → ◌≡◌ {A = Going} (between p around at known s) (Ok (record { context = inner; values = passed; state = middle }))
-    → (one : Reads inner inside symbol Q place middle first)
-    → ReadsRow p taken around allowed at began symbols (passed ++ one.value ∷ []) R (place + length first.bytes) one.state rest
-    → ReadsRow p taken around allowed at began (symbol ∷ symbols) known R place s (written (first.bytes ++ rest.bytes) rest.components)
-unfolding cpp
-row-joined p taken around inner allowed inside at began s middle symbol symbols known passed Q R place first rest goes one more = record {
-  forest = grown one.shape more.forest;
-  spelled = rw (one.spelled, more.spelled) refl;
-  shaped = (one.shaped, more.shaped);
-  values = more.values;
-  good = more.good;
-  state = more.state;
-  unfolds = rw (at_number p, goes, one.unfolds, one.spelled) more.unfolds;
-  candidates = more.candidates;
-  packs = more.packs;
-}
-
--- a part, and then what is left
-unfoldable pub row-part : (p : Production) (taken : List ℕ) (around inner : Around) (allowed inside : Option ℕ) (at : ℕ) (symbol : Sym)
-    (symbols : List Sym) (known passed : List Value) (Q : Value → Type 0) (R : List Value → Type 0) (place : ℕ)
-    (components middle : List Component) (first rest : Written)
-    → PassesAt p around allowed at known components inner inside passed middle
-    → ReadsAt inner inside symbol Q place middle first
-    → ((packs : Option ℕ) → IsAllowed inside packs → IsAllowed allowed packs)
-    → ((v : Value) → Q v → RowAt p taken around allowed at symbols (passed ++ v ∷ []) R (place + length first.bytes) first.components rest)
-    → RowAt p taken around allowed at (symbol ∷ symbols) known R place components (written (first.bytes ++ rest.bytes) rest.components)
-row-part p taken around inner allowed inside at symbol symbols known passed Q R place components middle first rest goes one back more began s
-    same packs =
-    let g = goes s same packs in
-    let a = one g.state g.candidates g.packs in
-    row-joined p taken around inner allowed inside at began s g.state symbol symbols known passed Q R place first rest g.goes a
-    (more a.value a.good began a.state a.candidates (back a.state.packs a.packs))
-
--- the last part
-unfoldable pub row-last : (p : Production) (taken : List ℕ) (around inner : Around) (allowed inside : Option ℕ) (at : ℕ) (symbol : Sym)
-    (known passed : List Value) (Q : Value → Type 0) (R : List Value → Type 0) (place : ℕ) (components middle : List Component) (w : Written)
-    → PassesAt p around allowed at known components inner inside passed middle
-    → ReadsAt inner inside symbol Q place middle w
-    → ((v : Value) → Q v → R (passed ++ v ∷ []))
-    → (began s : State) → components_of s.candidates ≡ components → IsAllowed allowed s.packs
-    → ReadsRow p taken around inside at began (symbol ∷ []) known R place s w
-unfolding cpp
-row-last p taken around inner allowed inside at symbol known passed Q R place components middle w goes one good began s same packs =
-    let g = goes s same packs in
-    let a = one g.state g.candidates g.packs in
-    record {
-      forest = grown a.shape shape.nothing;
-      spelled = append-nil (spell a.shape) ∙ a.spelled;
-      shaped = (a.shaped, tt);
-      values = passed ++ a.value ∷ [];
-      good = good a.value a.good;
-      state = a.state;
-      unfolds = rw (at_number p, g.goes, a.unfolds) refl;
-      candidates = a.candidates;
-      packs = a.packs;
-    }
+    go : (m : Going) → between p around at known s ≡ m
+        → OnGoing m (λ next. Reads next.context allowed x (Is v) place next.state w
+        × PartsRead p around allowed at End xs vs ws (next.values ++ v ∷ []) (place + length w.bytes) w.components)
+        → ((passed : List Value) (middle : State)
+        → PartsRead p around allowed at End xs vs ws passed (place + length w.bytes) w.components
+        → components_of middle.candidates ≡ w.components → IsAllowed allowed middle.packs → Row passed middle)
+        → ReadsRow p taken around allowed at began (x ∷ xs) known End place s (written (all_bytes (w ∷ ws)) (last_components w.components ws))
+    go (Ok next) goes (one, rest) more =
+        let row = more (next.values ++ v ∷ []) one.state rest one.candidates one.packs in
+        record {
+          forest = grown one.shape row.forest;
+          spelled = ap (λ l. l ++ spell_all row.forest) one.spelled ∙ one-or-more w ws (spell_all row.forest) row.spelled;
+          shaped = (one.shaped, row.shaped);
+          values = row.values;
+          good = row.good;
+          state = row.state;
+          unfolds = rw (at_number p, goes, one.unfolds, one.spelled, one.good) row.unfolds;
+          candidates = row.candidates;
+          packs = row.packs;
+        }
+    go (Err d) goes h more = absurd h
+row-of p taken around allowed at End [] [] (w ∷ ws) known place cs h began s same packs = absurd h
+row-of p taken around allowed at End [] (v ∷ vs) ws known place cs h began s same packs = absurd h
+row-of p taken around allowed at End (x ∷ xs) [] ws known place cs h began s same packs = absurd h
+row-of p taken around allowed at End (x ∷ xs) (v ∷ vs) [] known place cs h began s same packs = absurd h
 
 -- ## Productions
 
@@ -246,97 +245,137 @@ production-opened p k taken around allowed inside place R Q start components sym
       packs = c.packs;
     }
 
--- A production is read from its parts.
-pub production-reads : (p : Production) (k : ℕ) (taken : List ℕ) (around : Around) (allowed inside : Option ℕ) (place : ℕ)
-    (R : List Value → Type 0) (Q : Value → Type 0) (start components : List Component) (symbols : List Sym) (parts : Written)
-    → TakesRule abi k (rule_of p) taken → parts_of p ≡ symbols
-    → ((began s : State) → components_of s.candidates ≡ start → IsAllowed allowed s.packs
-    → ReadsRow p taken around inside place began symbols [] R (place + length taken) s parts)
-    → ((f : Forest) (s : State) → opening p f place s ≡ Ok s)
-    → ClosesAt p (byte_of taken) around allowed inside place R parts.components components Q
-    → ReadsAt around allowed (OfKind k) Q place start (written (taken ++ parts.bytes) components)
-production-reads p k taken around allowed inside place R Q start components symbols parts takes are row opened closed =
-    production-opened p k taken around allowed inside place R Q start components symbols parts takes are row
-    (λ s same packs. opened (row s s same packs).forest s) closed
+-- a production that tests nothing before its parts
+abbrev pub TestsNothing : Production → Type 0
+TestsNothing Production.Lambda = ⊥
+TestsNothing Production.Unnamed = ⊥
+TestsNothing _ = Unit {0}
+
+opens-plainly : (p : Production) → TestsNothing p → (f : Forest) (place : ℕ) (s : State) → opening p f place s ≡ Ok s
+unfolding opening
+opens-plainly Production.Lambda plain f place s = absurd plain
+opens-plainly Production.Unnamed plain f place s = absurd plain
+opens-plainly _ plain f place s = refl
+
+-- what a production means after parts with known values, whatever state it began in and is in
+abbrev pub Means : Production → (byte : ℕ) → Around → (place : ℕ) → Value → (known : List Value) → Type 0
+Means p byte around place v known = (began s : State) → close p byte around place began known s ≡ Ok (found v s)
+
+-- A production that tests nothing before its parts is read from them: it leaves the state as it is,
+pub read-by-parts : (p : Production) (k : ℕ) (taken : List ℕ) {around : Around} {allowed : Option ℕ} {place : ℕ} {cs : List Component}
+    {v : Value} {bytes : List ℕ} (values : List Value) (texts : List Written)
+    → TakesRule abi k (rule_of p) taken → TestsNothing p → taken ++ all_bytes texts ≡ bytes
+    → PartsRead p around allowed place (Means p (byte_of taken) around place v) (parts_of p) values texts [] (place + length taken) cs
+    → ReadsAt around allowed (OfKind k) (Is v) place cs (written bytes (last_components cs texts))
+read-by-parts p k taken {around} {allowed} {place} {cs} {v} {bytes} values texts takes plain same parts =
+    let after : List Component = last_components cs texts in
+    subst (λ l. ReadsAt around allowed (OfKind k) (Is v) place cs (written l after)) same
+    (production-opened p k taken around allowed allowed place _ (Is v) cs after (parts_of p) (written (all_bytes texts) after) takes refl
+    (row-of p taken around allowed place _ (parts_of p) values texts [] (place + length taken) cs parts)
+    (λ s here packs. opens-plainly p plain _ place s)
+    (closes-same p (byte_of taken) around allowed place _ after v (λ known means. means)))
+
+-- or makes a tree a component
+pub component-by-parts : (p : Production) (k : ℕ) (taken : List ℕ) {around : Around} {allowed : Option ℕ} {place : ℕ} {cs : List Component}
+    {bytes : List ℕ} (t : Term) (values : List Value) (texts : List Written)
+    → TakesRule abi k (rule_of p) taken → TestsNothing p → taken ++ all_bytes texts ≡ bytes
+    → PartsRead p around allowed place
+    (λ known. (began s : State) → close p (byte_of taken) around place began known s ≡ Ok (found (tree t true) (appended around t s)))
+    (parts_of p) values texts [] (place + length taken) cs
+    → ReadsAt around allowed (OfKind k) (Is (tree t true)) place cs (written bytes (more around (last_components cs texts) t))
+component-by-parts p k taken {around} {allowed} {place} {cs} {bytes} t values texts takes plain same parts =
+    let after : List Component = last_components cs texts in
+    subst (λ l. ReadsAt around allowed (OfKind k) (Is (tree t true)) place cs (written l (more around after t))) same
+    (production-opened p k taken around allowed allowed place _ (Is (tree t true)) cs (more around after t) (parts_of p)
+    (written (all_bytes texts) after) takes refl
+    (row-of p taken around allowed place _ (parts_of p) values texts [] (place + length taken) cs parts)
+    (λ s here packs. opens-plainly p plain _ place s)
+    (closes-more p (byte_of taken) around allowed place _ after (tree t true) t (λ known means. means)))
+
+-- equal bytes are read alike
+pub same-written : {around : Around} {allowed : Option ℕ} {symbol : Sym} {Q : Value → Type 0} {place : ℕ} {cs after : List Component}
+    {bytes others : List ℕ} → bytes ≡ others
+    → ReadsAt around allowed symbol Q place cs (written bytes after) → ReadsAt around allowed symbol Q place cs (written others after)
+same-written {around} {allowed} {symbol} {Q} {place} {cs} {after} same = subst (λ l. ReadsAt around allowed symbol Q place cs (written l after)) same
+
+-- what is read at a place is read at an equal one
+pub elsewhere : {around : Around} {allowed : Option ℕ} {symbol : Sym} {Q : Value → Type 0} {place other : ℕ} {cs : List Component} {w : Written}
+    → place ≡ other → ReadsAt around allowed symbol Q place cs w → ReadsAt around allowed symbol Q other cs w
+elsewhere {around} {allowed} {symbol} {Q} {place} {other} {cs} {w} same =
+    subst (λ q. ReadsAt around allowed symbol Q q cs w) same
 
 -- ## Parts without a row, and tokens
 
-unfoldable pub fixed-reads : (around : Around) (allowed : Option ℕ) (byte place : ℕ) (components : List Component)
-    → ReadsAt around allowed (Byte byte) (λ v. v ≡ nothing_there) place components (written (byte ∷ []) components)
-unfolding cpp
-fixed-reads around allowed byte place components s same packs = record {
-  shape = fixed byte;
-  spelled = refl;
-  shaped = refl;
-  value = nothing_there;
-  good = refl;
-  state = s;
-  unfolds = refl;
-  candidates = same;
-  packs = packs;
-}
-
-pub empty-reads : (around : Around) (allowed : Option ℕ) (k : ℕ) (kind : Kind) (place : ℕ) (components : List Component)
-    → slice_get kinds k ≡ Some kind → may_be_empty kind ≡ true
-    → ReadsAt around allowed (OfKind k) (λ v. v ≡ nothing_there) place components (written [] components)
-unfolding cpp
-empty-reads around allowed k kind place components at may s same packs = record {
-  shape = empty;
-  spelled = refl;
-  shaped = empty_at_kind k kind at ∙ may;
-  value = nothing_there;
-  good = refl;
-  state = s;
-  unfolds = refl;
-  candidates = same;
-  packs = packs;
-}
-
-pub name-reads : (around : Around) (allowed : Option ℕ) (t : Token) (place : ℕ) (components : List Component) → IsName Cpp t
-    → ReadsAt around allowed Name (λ v. v ≡ text t.own) place components (written (bytes_of t) components)
-unfolding cpp abi
-name-reads around allowed t place components is s same packs = record {
-  shape = token t;
+-- a shape that is read as a value, whatever the state
+unfoldable pub shape-reads : {around : Around} {allowed : Option ℕ} {x : Sym} {v : Value} {place : ℕ} {cs : List Component} (t : Shape)
+    → IsTree abi x t → ((s : State) → unfold_tree cpp around place t s ≡ Ok (found (v ∷ []) s))
+    → ReadsAt around allowed x (Is v) place cs (written (spell t) cs)
+shape-reads {v} t is unfolds s same packs = record {
+  shape = t;
   spelled = refl;
   shaped = is;
-  value = text t.own;
+  value = v;
   good = refl;
   state = s;
-  unfolds = refl;
+  unfolds = unfolds s;
   candidates = same;
   packs = packs;
 }
 
-unfoldable pub number-reads : (around : Around) (allowed : Option ℕ) (kind : NumberKind) (t : Token) (place : ℕ) (components : List Component)
-    → IsNumberToken kind t
-    → ReadsAt around allowed (Number kind) (λ v. v ≡ text t.own) place components (written (bytes_of t) components)
+unfoldable pub fixed-reads : {around : Around} {allowed : Option ℕ} {byte place : ℕ} {cs : List Component}
+    → ReadsAt around allowed (Byte byte) (Is nothing_there) place cs (written (byte ∷ []) cs)
 unfolding cpp
-number-reads around allowed kind t place components is s same packs = record {
-  shape = token t;
-  spelled = refl;
-  shaped = is;
-  value = text t.own;
-  good = refl;
-  state = s;
-  unfolds = refl;
-  candidates = same;
-  packs = packs;
-}
+fixed-reads {byte} s same packs = shape-reads (fixed byte) refl (λ s. refl) s same packs
 
--- what is read as arguments is read so from the first one on
-pub first-reads : (around : Around) (allowed : Option ℕ) (Q : Value → Type 0) (place : ℕ) (components : List Component) (w : Written)
-    → ReadsAt around allowed (OfKind ARGUMENT_LIST) Q place components w → ReadsAt around allowed (OfKind ARGUMENTS_FIRST) Q place components w
-first-reads around allowed Q place components w one s same packs =
-    let r = one s same packs in record {
-      shape = r.shape;
-      spelled = r.spelled;
-      shaped = list_first r.shape r.shaped;
+pub empty-reads : {around : Around} {allowed : Option ℕ} {k place : ℕ} {cs : List Component} (kind : Kind) → slice_get kinds k ≡ Some kind
+    → may_be_empty kind ≡ true → ReadsAt around allowed (OfKind k) (Is nothing_there) place cs (written [] cs)
+unfolding cpp
+empty-reads {k} kind at may = shape-reads empty (empty_at_kind k kind at ∙ may) (λ s. refl)
+
+-- a token
+unfoldable pub token-reads : {around : Around} {allowed : Option ℕ} {place : ℕ} {cs : List Component} (x : Sym) (t : Token) → IsTree abi x (token t)
+    → ReadsAt around allowed x (Is (text t.own)) place cs (written (bytes_of t) cs)
+unfolding cpp
+token-reads x t is = shape-reads (token t) is (λ s. refl)
+
+unfoldable pub number-reads : {around : Around} {allowed : Option ℕ} {place : ℕ} {cs : List Component} (kind : NumberKind) (t : Token)
+    → IsNumberToken kind t → ReadsAt around allowed (Number kind) (Is (text t.own)) place cs (written (bytes_of t) cs)
+number-reads kind t is = token-reads (Number kind) t is
+
+-- digits with nothing around them
+pub digits-read : {around : Around} {allowed : Option ℕ} {place : ℕ} {cs : List Component} (digits : List ℕ) → AreDigitsOf Digits digits
+    → ReadsAt around allowed (Number Digits) (Is (text digits)) place cs (written digits cs)
+digits-read digits are =
+    same-written (append-nil digits) (token-reads (Number Digits) (digits_token digits) (record { bare = refl; digits = are; ends = refl }))
+
+-- a name, with its length before it
+pub name-reads : {around : Around} {allowed : Option ℕ} {place : ℕ} {cs : List Component} (name : List ℕ) → IsSpellableName name
+    → ReadsAt around allowed Name (Is (text name)) place cs (written (counted name) cs)
+unfolding abi
+name-reads {around} {allowed} {place} {cs} name good =
+    same-written (name-spelled name) (token-reads Name (name_token name) (name-is-token name good))
+
+-- what is read by a shape is read by another one that is spelled and unfolded alike
+pub reshaped : {around : Around} {allowed : Option ℕ} {x y : Sym} {Q : Value → Type 0} {place : ℕ} {cs : List Component} {w : Written}
+    → ((t : Shape) → IsTree abi x t → (u : Shape) × (spell u ≡ spell t) × IsTree abi y u
+    × ((s : State) → unfold_tree cpp around place u s ≡ unfold_tree cpp around place t s))
+    → ReadsAt around allowed x Q place cs w → ReadsAt around allowed y Q place cs w
+reshaped other one s same packs =
+    let r = one s same packs in
+    let o = other r.shape r.shaped in
+    record {
+      shape = o.0;
+      spelled = o.1 ∙ r.spelled;
+      shaped = o.2;
       value = r.value;
       good = r.good;
       state = r.state;
-      unfolds = r.unfolds;
+      unfolds = o.3 s ∙ r.unfolds;
       candidates = r.candidates;
       packs = r.packs;
     }
 
--- ## What is read
+-- what is read as arguments is read so from the first one on
+pub first-reads : {around : Around} {allowed : Option ℕ} {Q : Value → Type 0} {place : ℕ} {cs : List Component} {w : Written}
+    → ReadsAt around allowed (OfKind ARGUMENT_LIST) Q place cs w → ReadsAt around allowed (OfKind ARGUMENTS_FIRST) Q place cs w
+first-reads one = reshaped (λ t is. (t, refl, list_first t is, λ s. refl)) one

@@ -12,20 +12,18 @@ use Rattle.sym_link.specs.Unfold.{found}
 use Rattle.cpp_grammar.specs.declared.kind.Kind.{Kind}
 use Rattle.cpp_grammar.specs.declared.production.Production.{Production}
 use Rattle.cpp_grammar.specs.KindNumbers.{ABBREVIATION}
-use Rattle.cpp_grammar.specs.Grammar.{in_ranges, among, is_in, pick, alternatives, choose, kinds, parts_of, is_chain}
 use Rattle.cpp_grammar.specs.Term.{Term}
 use Rattle.cpp_grammar.specs.Scope.{is_open}
-use Rattle.cpp_grammar.specs.Values.{Candidate, State, Around, Value, text, tree, text_of, part}
+use Rattle.cpp_grammar.specs.Values.{Candidate, State, Around, Value, text, tree}
 use Rattle.cpp_grammar.specs.References.{with_packs, packs_in, substituted}
-use Rattle.cpp_grammar.specs.Between.{between}
-use Rattle.cpp_grammar.specs.Unfolding.{opening, close}
+use Rattle.cpp_grammar.specs.Unfolding.{opening}
 use Rattle.cpp_press_laws.specs.Same.{same_tree}
 use Rattle.cpp_press_laws.specs.Components.{Component, components_of, is_same, first_equal, seq_id}
 use Rattle.cpp_press_laws.specs.Fits.{PacksFit, MayBeReferred}
-use Rattle.cpp_press_laws.specs.Subtrees.{greatest, written, IsAllowed, ReadsAt}
+use Rattle.cpp_press_laws.specs.Subtrees.{greatest, written, IsAllowed, ReadsAt, Is}
 use Rattle.cpp_press_laws.proofs.Components.Sameness.{equal-tree}
 use Rattle.cpp_press_laws.proofs.ReadBack.Tokens.{seq_token, seq-is-token, seq-value}
-use Rattle.cpp_press_laws.proofs.ReadBack.Reading.{passes-by, row-last, takes-none, production-reads, number-reads}
+use Rattle.cpp_press_laws.proofs.ReadBack.Reading.{takes-none, number-reads, grammar, production-opened, row-of}
 
 -- ## What may be referred to
 
@@ -168,17 +166,14 @@ pub number-refers : (around : Around) (allowed : Option ℕ) (own : Term) (numbe
     → MayBeReferred around allowed own
     → IsFirst around.encoding own cs number
     → ReadsAt around allowed (OfKind ABBREVIATION) (λ v. v ≡ tree own true) place cs (written (seq_id number ++ 95 ∷ []) cs)
-unfolding choose alternatives pick is_in in_ranges among kinds is_chain parts_of opening close between text_of part
+unfolding grammar opening
 number-refers around allowed own number place cs few may first =
-    production-reads Production.Substitution ABBREVIATION [] around allowed allowed place (λ values. values ≡ text (seq_id number) ∷ [])
-    (λ v. v ≡ tree own true) cs cs (Number Seq36 ∷ []) (written (seq_id number ++ 95 ∷ []) cs)
+    production-opened Production.Substitution ABBREVIATION [] around allowed allowed place (λ values. values ≡ text (seq_id number) ∷ [])
+    (Is (tree own true)) cs cs (Number Seq36 ∷ []) (written (seq_id number ++ 95 ∷ []) cs)
     (takes-none ABBREVIATION Kind.Abbreviation Production.Substitution 95 refl refl (omega arith) refl) refl
-    (row-last Production.Substitution [] around around allowed allowed place (Number Seq36) [] [] (λ v. v ≡ text (seq_id number))
-    (λ values. values ≡ text (seq_id number) ∷ []) (place + 0) cs cs (written (seq_id number ++ 95 ∷ []) cs)
-    (passes-by Production.Substitution around allowed place [] cs around [] (λ s. refl))
-    (number-reads around allowed Seq36 (seq_token number) (place + 0) cs (seq-is-token number))
-    (λ v h. ap (λ w. w ∷ []) h))
-    (λ f s. refl)
+    (row-of Production.Substitution [] around allowed place _ (Number Seq36 ∷ []) (text (seq_id number) ∷ []) (written (seq_id number ++ 95 ∷ []) cs ∷ [])
+    [] (place + 0) cs (λ s c q. (number-reads Seq36 (seq_token number) (seq-is-token number) s c q, refl)))
+    (λ s same packs. refl)
     (λ values good began s before same packs.
     let at = candidate-at s.candidates number first.component (ap (λ l. slice_get l number) same ∙ first.there) in
     let r = reference-state around allowed (place - 1) own at.candidate s may (at.tree_is ∙ first.same)

@@ -1,34 +1,29 @@
 -- Types are read wherever types are, as references and spelled out.
-use Rattle.std.proofs.Common.{◌≡◌, ℕ, ◌+◌, ◌≤◌, length, List, [], ◌∷◌, ◌++◌, Option, Some, None, Bool, true, false, refl, arith, sym, subst, append-nil, length-append}
+use Rattle.std.proofs.Common.{◌≡◌, ℕ, ◌+◌, ◌≤◌, length, List, [], ◌∷◌, ◌++◌, Option, Some, None, Bool, true, false, refl, arith, sym, subst, append-nil, length-append, ◌∙◌}
 use Rattle.std.specs.Prelude.{◌&&◌}
 use Rattle.sym_shape.specs.declared.rule.Sym.TheVariants.{Kind as OfKind}
 use Rattle.sym_shape.specs.Tree.{TakesRule}
 use Rattle.sym_spell.specs.Pressing.{◌and◌}
 use Rattle.cpp_grammar.specs.declared.kind.Kind.{Kind}
 use Rattle.cpp_grammar.specs.declared.production.Production.{Production}
-use Rattle.cpp_grammar.specs.KindNumbers.{ABBREVIATION, TYPE, PLAIN, ITEM, ITEM_BUT_REF, SOLID, TYPE_AFTER_S, LITERAL, LITERAL_TYPE}
-use Rattle.cpp_grammar.specs.Grammar.{in_ranges, among, is_in, pick, number_of_kind, alternatives, choose, kinds, parts_of, is_chain}
+use Rattle.cpp_grammar.specs.KindNumbers.{ABBREVIATION, TYPE, PLAIN, ITEM, ITEM_BUT_REF, SOLID, LITERAL, LITERAL_TYPE}
 use Rattle.cpp_grammar.specs.Table.{abi, rule_of}
 use Rattle.cpp_grammar.specs.Term.{RefQualifier, Signed, Term, integer, list}
-use Rattle.cpp_grammar.specs.Values.{Around, tree, part}
+use Rattle.cpp_grammar.specs.Values.{Around, tree}
 use Rattle.cpp_grammar.specs.References.{is_function_type}
-use Rattle.cpp_grammar.specs.Between.{between}
-use Rattle.cpp_grammar.specs.Meaning.{meaning}
-use Rattle.cpp_grammar.specs.Unfolding as unfolding_
-use Rattle.cpp_grammar.specs.Unfolding.{opening, close}
 use Rattle.cpp_press_laws.specs.Texts.{signed_text}
 use Rattle.cpp_press_laws.specs.Components.{Component, Spelling, first_equal, seq_id, reference, ended, spelled_out, component}
 use Rattle.cpp_press_laws.specs.Spellable.{IsSpellableNumber}
 use Rattle.cpp_press_laws.specs.Subtrees.{greatest, Written, written, ReadsAt, Is, HasRoom}
-use Rattle.cpp_press_laws.proofs.ReadBack.Reading.{takes-none, takes-byte}
+use Rattle.cpp_press_laws.proofs.ReadBack.Reading.{takes-byte, elsewhere, grammar, more}
 use Rattle.cpp_press_laws.proofs.ReadBack.References.{found-first, number-refers}
-use Rattle.cpp_press_laws.proofs.ReadBack.Types.{one-part, more, HasTypes, types-any, types-bare, types-item, types-parameter, solid-with-s, type-behind-s}
-use Rattle.cpp_press_laws.proofs.ReadBack.Functions.{rest-item}
+use Rattle.cpp_press_laws.proofs.ReadBack.Types.{HasTypes, types-any, types-bare, types-item, types-parameter, solid-with-s, type-behind-s, behind-s}
+use Rattle.cpp_press_laws.proofs.ReadBack.Functions.{rest-item, RestReads}
 use Rattle.cpp_press_laws.proofs.ReadBack.Arguments.{integer-reads}
-use Rattle.cpp_press_laws.proofs.ReadBack.Literals.{integer-literal, integer-literal-same}
-use Rattle.cpp_press_laws.proofs.ReadBack.Parameters.{RestReads}
+use Rattle.cpp_press_laws.proofs.ReadBack.Literals.{integer-literal}
 use Rattle.cpp_press_laws.proofs.Components.Keeping.{Keeps, keeps-component}
 use Rattle.cpp_press_laws.specs.Fits.{Slot, any_type, bare_type, item_type, parameter_type, literal_type, IsFirst, Fitting, as_component, MayBeReferred}
+use Rattle.std.proofs.Math.Bool.{and-true}
 
 -- ## Room
 
@@ -104,21 +99,16 @@ pub record InSlot (around : Around) (allowed : Option ℕ) (t : Term) (solid : �
 in-kind : (k : ℕ) (around : Around) (allowed : Option ℕ) (t : Term) → HasTypes around allowed k t
     → InSlot around allowed t SOLID (λ place cs w. ReadsAt around allowed (OfKind k) (Is (tree t true)) place cs w)
 in-kind k around allowed t has = record {
-  behind_s = λ place cs w one. type-behind-s k around allowed place t cs w has
-      (subst (λ q. ReadsAt around allowed (OfKind ABBREVIATION) (Is (tree t true)) q cs w) (omega arith) one);
-  adds = λ place cs w one. has.solid.adds place cs w
-      (subst (λ q. ReadsAt around allowed (OfKind SOLID) (Is (tree t false)) q cs w) (omega arith) one);
-  keeps = λ place cs w one. has.solid.keeps place cs w
-      (subst (λ q. ReadsAt around allowed (OfKind SOLID) (Is (tree t true)) q cs w) (omega arith) one);
+  behind_s = λ place cs w one. type-behind-s k around allowed place t cs w has (elsewhere (omega arith) one);
+  adds = λ place cs w one. has.solid.adds place cs w (elsewhere (omega arith) one);
+  keeps = λ place cs w one. has.solid.keeps place cs w (elsewhere (omega arith) one);
 }
 
 -- a parameter of a function type that begins with neither an R nor an O
 pub in-rest : (around : Around) (allowed : Option ℕ) (t : Term) (place : ℕ) (cs : List Component) (w : Written)
     → ReadsAt around allowed (OfKind ITEM_BUT_REF) (Is (tree t true)) place cs w → ReadsAs parameter_type around allowed t place cs w
 in-rest around allowed t place cs w one items ref rest two =
-    rest-item around allowed t items ref place cs w rest
-    (subst (λ q. ReadsAt around allowed (OfKind ITEM_BUT_REF) (Is (tree t true)) q cs w) (omega arith) one)
-    (subst (λ q. RestReads around allowed items ref q w.components rest) (omega arith) two)
+    rest-item around allowed t items ref place cs w rest (elsewhere (omega arith) one) (elsewhere (omega arith) two)
 
 in-parameter : (around : Around) (allowed : Option ℕ) (t : Term) → InSlot around allowed t SOLID (ReadsAs parameter_type around allowed t)
 in-parameter around allowed t =
@@ -133,32 +123,22 @@ in-parameter around allowed t =
 literal-keeps : (around : Around) (allowed : Option ℕ) (t : Term) (place : ℕ) (cs : List Component) (w : Written)
     → ReadsAt around allowed (OfKind LITERAL_TYPE) (Is (tree t true)) place cs w → ReadsAs literal_type around allowed t place cs w
 literal-keeps around allowed t place cs w one n good =
-    integer-literal-same around allowed t n place cs w (written (signed_text n) w.components)
-    (subst (λ q. ReadsAt around allowed (OfKind LITERAL_TYPE) (Is (tree t true)) q cs w) (omega arith) one)
+    integer-literal true around allowed t n place cs w (written (signed_text n) w.components)
+    (elsewhere (omega arith) one)
     (integer-reads around allowed n (place + 0 + length w.bytes) w.components good)
 
--- an abbreviation or a reference as a type after an S
-pub behind-s : (around : Around) (allowed : Option ℕ) (t : Term) (place : ℕ) (cs : List Component) (w : Written)
-    → ReadsAt around allowed (OfKind ABBREVIATION) (Is (tree t true)) place cs w → ReadsAt around allowed (OfKind TYPE_AFTER_S) (Is (tree t true)) place cs w
-unfolding choose alternatives pick is_in in_ranges among kinds is_chain parts_of number_of_kind between opening close unfolding_.behind meaning part
-behind-s around allowed t place cs w one =
-    one-part Production.AbbreviatedType TYPE_AFTER_S [] around allowed place (OfKind ABBREVIATION) (tree t true) (tree t true) cs w
-    (takes-none TYPE_AFTER_S Kind.TypeAfterS Production.AbbreviatedType 95 refl refl (omega arith) refl) refl (λ s. refl) (λ f s. refl)
-    (λ began s. refl)
-    (subst (λ q. ReadsAt around allowed (OfKind ABBREVIATION) (Is (tree t true)) q cs w) (omega arith) one)
-
-pub takes-S : (slot : Slot) → TakesRule abi (solid_kind slot) (rule_of Production.TypeWithS) (83 ∷ [])
-unfolding choose alternatives pick is_in in_ranges among kinds is_chain
+takes-S : (slot : Slot) → TakesRule abi (solid_kind slot) (rule_of Production.TypeWithS) (83 ∷ [])
+unfolding grammar
 takes-S literal_type = takes-byte LITERAL_TYPE Kind.LiteralType Production.TypeWithS 83 refl refl (omega arith) refl
 takes-S _ = takes-byte SOLID Kind.Solid Production.TypeWithS 83 refl refl (omega arith) refl
 
 in-literal : (around : Around) (allowed : Option ℕ) (t : Term) → InSlot around allowed t LITERAL_TYPE (ReadsAs literal_type around allowed t)
 in-literal around allowed t = record {
   behind_s = λ place cs w one. literal-keeps around allowed t place cs (written (83 ∷ w.bytes) w.components)
-      (solid-with-s LITERAL_TYPE around allowed place t true cs w (takes-S literal_type) (behind-s around allowed t (place + 1) cs w one));
+      (solid-with-s LITERAL_TYPE around allowed place t true cs w (takes-S literal_type) (behind-s around allowed t (place + 1) cs w (elsewhere (omega arith) one)));
   adds = λ place cs w one n good.
-      integer-literal around allowed t n place cs w (written (signed_text n) (more around w.components t))
-      (subst (λ q. ReadsAt around allowed (OfKind LITERAL_TYPE) (Is (tree t false)) q cs w) (omega arith) one)
+      integer-literal false around allowed t n place cs w (written (signed_text n) (more around w.components t))
+      (elsewhere (omega arith) one)
       (integer-reads around allowed n (place + 0 + length w.bytes) (more around w.components t) good);
   keeps = literal-keeps around allowed t;
 }
@@ -172,11 +152,7 @@ pub in-slot : (slot : Slot) (around : Around) (allowed : Option ℕ) (t : Term) 
     → InSlot around allowed t (solid_kind slot) (ReadsAs slot around allowed t)
 unfolding is_bare
 in-slot any_type around allowed t h = in-kind TYPE around allowed t (types-any around allowed t)
-in-slot bare_type around allowed t h = in-kind PLAIN around allowed t (types-bare around allowed t (go (is_function_type t) h))
-  where
-    go : (b : Bool) → b && true ≡ false → b ≡ false
-    go true k = k
-    go false k = refl
+in-slot bare_type around allowed t h = in-kind PLAIN around allowed t (types-bare around allowed t (sym (and-true (is_function_type t)) ∙ h))
 in-slot item_type around allowed t h = in-kind ITEM around allowed t (types-item around allowed t)
 in-slot parameter_type around allowed t h = in-parameter around allowed t
 in-slot literal_type around allowed t h = in-literal around allowed t

@@ -1,37 +1,33 @@
 -- Template names before their arguments are read, in types and in encodings' own names: after an S, and spelled out.
-use Rattle.std.proofs.Common.{◌≡◌, ℕ, ◌+◌, ◌≤◌, length, List, [], ◌∷◌, ◌++◌, Option, Some, None, Bool, true, false, refl, ap, arith, sym, subst, length-append}
-use Rattle.sym_core.specs.declared.NumberKind.TheVariants.{Decimal}
-use Rattle.sym_shape.specs.declared.rule.Sym.TheVariants.{Kind as OfKind, Number}
+use Rattle.std.proofs.Common.{◌≡◌, ℕ, ◌+◌, ◌≤◌, length, List, [], ◌∷◌, ◌++◌, Option, Some, None, Bool, true, false, refl, arith, sym, subst, length-append}
+use Rattle.sym_shape.specs.declared.rule.Sym.TheVariants.{Kind as OfKind}
 use Rattle.sym_shape.specs.Tree.{TakesRule}
 use Rattle.sym_spell.specs.Pressing.{◌and◌, text}
 use Rattle.std.specs.Prelude.{codes}
 use Rattle.cpp_grammar.specs.declared.kind.Kind.{Kind}
 use Rattle.cpp_grammar.specs.declared.production.Production.{Production}
-use Rattle.cpp_grammar.specs.KindNumbers.{ABBREVIATION, SOLID, MAYBE_ARGUMENTS, ARGUMENTS_ALONE, ARGUMENTS, ARGUMENT_LIST, LITERAL_TYPE}
-use Rattle.cpp_grammar.specs.Grammar.{in_ranges, among, is_in, pick, number_of_kind, alternatives, choose, kinds, parts_of, is_chain}
+use Rattle.cpp_grammar.specs.KindNumbers.{ABBREVIATION, SOLID, MAYBE_ARGUMENTS, ARGUMENTS_ALONE, ARGUMENTS, LITERAL_TYPE}
 use Rattle.cpp_grammar.specs.Table.{abi, rule_of}
 use Rattle.cpp_grammar.specs.Term.{Term, instance, parameter}
 use Rattle.cpp_grammar.specs.Values as value
-use Rattle.cpp_grammar.specs.Values.{Around, Value, tree, tree_of, is_there, part}
-use Rattle.cpp_grammar.specs.Between.{between, after, inside, applied, no_items, parameter_so_far, listed_so_far}
-use Rattle.cpp_grammar.specs.Meaning.{meaning}
-use Rattle.cpp_grammar.specs.Unfolding as unfolding_
-use Rattle.cpp_grammar.specs.Unfolding.{opening, close}
+use Rattle.cpp_grammar.specs.Values.{Around, Value, tree}
+use Rattle.cpp_grammar.specs.Between.{applied, no_items, parameter_so_far, listed_so_far}
 use Rattle.cpp_press_laws.specs.Texts.{ordinal}
 use Rattle.cpp_press_laws.specs.Components.{Component, Spelling, first_equal, seq_id, reference, referred}
 use Rattle.cpp_press_laws.specs.Subtrees.{greatest, Written, written, ReadsAt, Is, HasRoom}
-use Rattle.cpp_press_laws.proofs.ReadBack.Tokens.{ordinal_digits, ordinal_token, ordinal-spelled, ordinal-is-token}
-use Rattle.cpp_press_laws.proofs.ReadBack.Reading.{row-last, takes-byte, number-reads}
+use Rattle.cpp_press_laws.proofs.ReadBack.Tokens.{ordinal_digits}
+use Rattle.cpp_press_laws.proofs.ReadBack.Reading.{takes-byte, elsewhere, grammar, read-by-parts, more, Means}
 use Rattle.cpp_press_laws.proofs.ReadBack.References.{found-first, number-refers}
-use Rattle.cpp_press_laws.proofs.ReadBack.Types.{AreOnly, same-written, more, then-part, whole-same}
-use Rattle.cpp_press_laws.proofs.ReadBack.Functions.{IsInScope, parameter-passes}
-use Rattle.cpp_press_laws.proofs.ReadBack.Encodings.{listed-arguments, abbreviated-name, type-with-arguments}
+use Rattle.cpp_press_laws.proofs.ReadBack.Functions.{IsInScope, parameter-parts}
+use Rattle.cpp_press_laws.proofs.ReadBack.Encodings.{abbreviated-name, type-with-arguments}
 use Rattle.cpp_press_laws.proofs.Components.Keeping.{Keeps, keeps-referred}
-use Rattle.cpp_press_laws.proofs.ReadBack.Slots.{room-rest, few-before, behind-s}
+use Rattle.cpp_press_laws.proofs.ReadBack.Slots.{room-rest, few-before}
 use Rattle.cpp_press_laws.proofs.ReadBack.Named.{NameRule, type-rule, literal-type-rule}
 use Rattle.cpp_press_laws.proofs.ReadBack.Between.{in_I_and_E, ElementsRead}
 use Rattle.cpp_press_laws.specs.Fits.{Slot, any_type, bare_type, item_type, parameter_type, literal_type, names_type, IsFirst, Fitting, as_template}
 use Rattle.cpp_press_laws.proofs.ReadBack.Slots.{solid_kind}
+use Rattle.cpp_press_laws.proofs.ReadBack.Arguments.{arguments-read, takes-maybe-arguments}
+use Rattle.cpp_press_laws.proofs.ReadBack.Types.{behind-s}
 use Rattle.cpp_grammar.specs.References.{parameter_named}
 
 -- ## Kinds of template names
@@ -47,7 +43,7 @@ pub record TypeRules (k : ℕ) : Type 0 where
   pub names : (p : Term) → names_type p ≡ true → NameRule k p
 
 solid-rules : TypeRules SOLID
-unfolding choose alternatives pick is_in in_ranges among kinds is_chain
+unfolding grammar
 solid-rules = record {
   with_s = takes-byte SOLID Kind.Solid Production.TypeWithS 83 refl refl (omega arith) refl;
   nested = takes-byte SOLID Kind.Solid Production.NestedType 78 refl refl (omega arith) refl;
@@ -59,7 +55,7 @@ solid-rules = record {
 }
 
 literal-rules : TypeRules LITERAL_TYPE
-unfolding choose alternatives pick is_in in_ranges among kinds is_chain
+unfolding grammar
 literal-rules = record {
   with_s = takes-byte LITERAL_TYPE Kind.LiteralType Production.TypeWithS 83 refl refl (omega arith) refl;
   nested = takes-byte LITERAL_TYPE Kind.LiteralType Production.NestedType 78 refl refl (omega arith) refl;
@@ -92,58 +88,39 @@ InstancedAt around allowed k t place cs w =
     → ReadsAt around allowed (OfKind k) (Is (tree (instance t items) false)) place cs (written
     (w.bytes ++ in_I_and_E args.bytes) args.components)
 
-takes-maybe-arguments : TakesRule abi MAYBE_ARGUMENTS (rule_of Production.Arguments) (73 ∷ [])
-unfolding choose alternatives pick is_in in_ranges among kinds is_chain
-takes-maybe-arguments = takes-byte MAYBE_ARGUMENTS Kind.MaybeArguments Production.Arguments 73 refl refl (omega arith) refl
-
-takes-arguments-alone : TakesRule abi ARGUMENTS_ALONE (rule_of Production.Arguments) (73 ∷ [])
-unfolding choose alternatives pick is_in in_ranges among kinds is_chain
-takes-arguments-alone = takes-byte ARGUMENTS_ALONE Kind.ArgumentsAlone Production.Arguments 73 refl refl (omega arith) refl
-
-takes-arguments : TakesRule abi ARGUMENTS (rule_of Production.Arguments) (73 ∷ [])
-unfolding choose alternatives pick is_in in_ranges among kinds is_chain
-takes-arguments = takes-byte ARGUMENTS Kind.Arguments Production.Arguments 73 refl refl (omega arith) refl
-
 pub instanced-behind-s : (typed : Bool) (k : ℕ) (around : Around) (allowed : Option ℕ) (t : Term) → TemplateKind typed k → (place : ℕ)
     (cs : List Component) (w : Written) → ReadsAt around allowed (OfKind ABBREVIATION) (Is (tree t true)) (place + 1) cs w
     → InstancedAt around allowed k t place cs (written (83 ∷ w.bytes) w.components)
+unfolding grammar
 instanced-behind-s true k around allowed t rules place cs w one items last args are two =
     type-with-arguments k around allowed t items true place cs w (written (in_I_and_E args.bytes) args.components) rules.with_s
-    (behind-s around allowed t (place + 1) cs w one)
-    (listed-arguments MAYBE_ARGUMENTS around allowed t items last (place + 1 + length w.bytes) w.components args takes-maybe-arguments are
-    (subst (λ q. ReadsAt (inside around) allowed (OfKind ARGUMENT_LIST) (Is last) q w.components args) (omega arith) two))
+    (behind-s around allowed t (place + 1) cs w (elsewhere (omega arith) one))
+    (arguments-read true around allowed MAYBE_ARGUMENTS t items last (place + 1 + length w.bytes) w.components args takes-maybe-arguments are
+    (elsewhere (omega arith) two))
 instanced-behind-s false k around allowed t eight place cs w one items last args are two =
     subst (λ j. ReadsAt around allowed (OfKind j) (Is (tree (instance t items) false)) place cs
     (written ((83 ∷ w.bytes) ++ in_I_and_E args.bytes) args.components)) (sym eight)
     (abbreviated-name around allowed t items place cs w (written (in_I_and_E args.bytes) args.components)
-    (subst (λ q. ReadsAt around allowed (OfKind ABBREVIATION) (Is (tree t true)) q cs w) (omega arith) one)
-    (listed-arguments ARGUMENTS around allowed t items last (place + 1 + 0 + length w.bytes) w.components args takes-arguments are
-    (subst (λ q. ReadsAt (inside around) allowed (OfKind ARGUMENT_LIST) (Is last) q w.components args) (omega arith) two)))
+    (elsewhere (omega arith) one)
+    (arguments-read true around allowed ARGUMENTS t items last (place + 1 + 0 + length w.bytes) w.components args
+    (takes-byte ARGUMENTS Kind.Arguments Production.Arguments 73 refl refl (omega arith) refl) are
+    (elsewhere (omega arith) two)))
 
 -- a parameter with arguments
 pub parameter-instanced : (kind : ℕ) (around : Around) (allowed : Option ℕ) (k place : ℕ) (cs : List Component) → IsInScope around allowed k
     → TakesRule abi kind (rule_of Production.Parameter) (84 ∷ [])
     → InstancedAt around allowed kind (parameter k) place cs (written (84 ∷ ordinal k) (more around cs (parameter k)))
-unfolding parts_of number_of_kind between opening close unfolding_.behind meaning applied tree_of is_there part parameter_so_far parameter_named listed_so_far
+unfolding grammar applied parameter_so_far parameter_named listed_so_far
 parameter-instanced kind around allowed k place cs is takes items last args are one =
-    let digits : Written = written (((ordinal_token k).before ++ ordinal_digits k) ++ (95 ∷ [])) cs in
     let behind : Written = written (in_I_and_E args.bytes) args.components in
-    let after_it : List Component = more around cs (parameter k) in
-    let inner : Around = after (parameter k) true around in
-    let all : List Value = tree (parameter k) true ∷ tree items true ∷ [] in
-    same-written around allowed (OfKind kind) (Is (tree (instance (parameter k) items) false)) place cs args.components
-    (84 ∷ (digits.bytes ++ behind.bytes)) (84 ∷ (ordinal k ++ behind.bytes)) (ap (λ l. 84 ∷ (l ++ behind.bytes)) (ordinal-spelled k))
-    (whole-same Production.Parameter kind (84 ∷ []) around allowed place all (tree (instance (parameter k) items) false) cs
-    (Number Decimal ∷ OfKind ARGUMENTS_ALONE ∷ []) (written (digits.bytes ++ behind.bytes) args.components) takes refl (λ f s. refl) (λ began s. refl)
-    (then-part Production.Parameter (84 ∷ []) around allowed place (Number Decimal) (OfKind ARGUMENTS_ALONE ∷ []) [] (value.text (ordinal_digits k))
-    (AreOnly all) (place + 1) cs digits behind (λ s. refl)
-    (number-reads around allowed Decimal (ordinal_token k) (place + 1) cs (ordinal-is-token k))
-    (row-last Production.Parameter (84 ∷ []) around inner allowed allowed place (OfKind ARGUMENTS_ALONE) (value.text (ordinal_digits k) ∷ [])
-    (tree (parameter k) true ∷ []) (Is (tree items true)) (AreOnly all) (place + 1 + length digits.bytes) cs after_it behind
-    (parameter-passes Production.Parameter around allowed place k cs is (λ s. refl))
-    (listed-arguments ARGUMENTS_ALONE around allowed (parameter k) items last (place + 1 + length digits.bytes) after_it args takes-arguments-alone are
-    (subst (λ q. ReadsAt (inside around) allowed (OfKind ARGUMENT_LIST) (Is last) q after_it args) (omega (arith, ap length (ordinal-spelled k))) one))
-    (λ v h. ap (λ x. tree (parameter k) true ∷ x ∷ []) h))))
+    read-by-parts Production.Parameter kind (84 ∷ []) (value.text (ordinal_digits k) ∷ tree items true ∷ []) (written (ordinal k) cs ∷ behind ∷ [])
+    takes tt refl
+    (parameter-parts Production.Parameter around allowed place k (place + 1) cs
+    (Means Production.Parameter 84 around place (tree (instance (parameter k) items) false)) (OfKind ARGUMENTS_ALONE) (tree items true) behind is
+    (λ s. refl) (λ s. refl)
+    (arguments-read true around allowed ARGUMENTS_ALONE (parameter k) items last _ (more around cs (parameter k)) args
+    (takes-byte ARGUMENTS_ALONE Kind.ArgumentsAlone Production.Arguments 73 refl refl (omega arith) refl) are
+    (elsewhere (omega arith) one)) (λ began s. refl))
 
 -- ## Template names
 

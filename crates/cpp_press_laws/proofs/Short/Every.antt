@@ -7,14 +7,13 @@ use Rattle.sym_link.specs.Unfold.{found}
 use Rattle.cpp_grammar.specs.declared.kind.Kind.{Kind}
 use Rattle.cpp_grammar.specs.declared.production.Production.{Production}
 use Rattle.cpp_grammar.specs.Grammar.{Alternative, alternatives, number_of, number_of_kind, may_be_empty}
-use Rattle.cpp_grammar.specs.Values.{State, Around, Value, nothing_there}
+use Rattle.cpp_grammar.specs.Values.{State, Around, Value, nothing_there, is_there}
 use Rattle.cpp_grammar.specs.Unfolding.{cpp}
 use Rattle.cpp_grammar.proofs.Choosing.{empty_at_kind}
 use Rattle.cpp_grammar.proofs.ClosedStates.{ok_same}
 use Rattle.cpp_press_laws.proofs.ByKind.Rules.{AllOf, OneOf, every-shape, kind-at}
 use Rattle.cpp_press_laws.proofs.ByKind.Leaves.{leaf-same}
 use Rattle.cpp_grammar.specs.Between.{no_items}
-use Rattle.cpp_grammar.specs.Values.{is_there}
 use Rattle.cpp_grammar.specs.Meaning.{discriminator_of}
 use Rattle.cpp_press_laws.specs.Texts.{discriminator_text}
 use Rattle.cpp_press_laws.proofs.Short.Size.{size}

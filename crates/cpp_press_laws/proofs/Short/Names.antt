@@ -1,6 +1,6 @@
 -- What is paid for names.
 use Rattle.std.proofs.Common.{◌≡◌, ℕ, ◌+◌, ◌*◌, ◌≤◌, ◌⊎◌, inl, inr, length, List, [], ◌∷◌, ◌++◌, true, false, cond, Result, Ok, Err, refl, ap, sym, subst, arith, length-append}
-use Rattle.sym_link.specs.Reading.{Next}
+use Rattle.sym_link.specs.Reading.{Next, ◌>>=◌}
 use Rattle.std.proofs.lemmas.Bool.{false≢true}
 use Rattle.cpp_grammar.specs.declared.kind.Kind.{Kind}
 use Rattle.cpp_grammar.specs.declared.production.Production.{Production}
@@ -8,8 +8,8 @@ use Rattle.cpp_grammar.specs.Grammar.{kinds, number_of, number_of_kind, parts_of
 use Rattle.cpp_grammar.specs.Term.{Qualifiers, RefQualifier, any_value, lvalue_only, rvalue_only, Term, in_std, instance, local, parameter, string_literal}
 use Rattle.cpp_grammar.specs.Values as values
 use Rattle.cpp_grammar.specs.Values.{State, Prefix, outermost, Around, prefix_tree, prefix_listed, Value, nothing_there, tree, named, tree_of, piece_of, qualifiers_of, ref_of, letter_of, is_there, mark_of}
-use Rattle.cpp_grammar.specs.References.{is_function_type}
-use Rattle.cpp_grammar.specs.Between.{after, inside, extended, applied, no_items, named_so_far, listed_so_far, index_of, between}
+use Rattle.cpp_grammar.specs.References.{is_function_type, parameter_named}
+use Rattle.cpp_grammar.specs.Between.{after, inside, extended, applied, no_items, named_so_far, listed_so_far, index_of, between, parameter_so_far}
 use Rattle.cpp_grammar.specs.Meaning.{discriminator_of, meaning}
 use Rattle.cpp_grammar.specs.Unfolding as unfolding_
 use Rattle.cpp_grammar.specs.Unfolding.{close}
@@ -23,19 +23,15 @@ use Rattle.cpp_press_laws.specs.Texts.{qualifier_letters, mark_letter, name_lett
 use Rattle.cpp_press_laws.specs.Components.{components_of}
 use Rattle.cpp_press_laws.specs.Pressing.{is_component, is_encoding}
 use Rattle.cpp_press_laws.proofs.Short.Size.{part_of, front_of, lettered, size, over, part, front-part, name-own, size-some}
-use Rattle.cpp_press_laws.proofs.Short.Worth.{full, full-most}
+use Rattle.cpp_press_laws.proofs.Short.Worth.{full, full-most, worths}
 use Rattle.cpp_press_laws.proofs.Short.Gains.{wealth, IsSmall, AllSmall, front, name, arguments, class_of, typed, letters_in, need, lent, owed, loan, returned, grant, SmallPrefix, IsBehind, MayEnd, ready_for, Ready, IsKnown, IsKept, Gains, Gained, Grown, appended-grown, prefix-grown, KindGains}
 use Rattle.cpp_press_laws.proofs.Short.Paid.{Ended, comes-to}
 use Rattle.cpp_press_laws.proofs.Short.ByRow.{is_read, part_passes, parts_pass, cost_of, credit_of, Knows, all_quiet, refers, Pays, row_goes, is_listed_in, each_goes, one-goes, naming, closes-naming, named-first, by-row, may_read, may_be_part, Standing}
 use Rattle.cpp_press_laws.proofs.Short.Slots.{letters-short}
 use Rattle.cpp_press_laws.proofs.Short.Types.{Free, listed}
 use Rattle.sym_core.specs.declared.refusal.Refusal.{Refusal}
-use Rattle.sym_link.specs.Reading.{◌>>=◌}
-use Rattle.cpp_grammar.specs.References.{parameter_named}
-use Rattle.cpp_grammar.specs.Between.{parameter_so_far}
 use Rattle.cpp_press_laws.proofs.ByKind.Rules.{OnGoing}
 use Rattle.cpp_press_laws.proofs.Fits.Solids.{parameter-names}
-use Rattle.cpp_press_laws.proofs.Short.Worth.{worths}
 
 -- ## Names
 

@@ -29,6 +29,7 @@ use Rattle.cpp_grammar.proofs.ClosedStates.{ok_same, behind_bind}
 use Rattle.cpp_press_laws.specs.Texts.{decimal, counted, ordinal}
 use Rattle.cpp_grammar.proofs.Choosing.{rule_at_kind}
 use Rattle.cpp_grammar.proofs.ClosedTrees.{at_number, its_symbols, same_rule, opening_keeps}
+use Rattle.cpp_press_laws.proofs.Components.Lengths.{some-bytes}
 use Rattle.cpp_press_laws.proofs.ByKind.Rules.{PartGoes, PartsGo, OnGoing, AllOf, OneOf, parts-go, picked-one, kind-at}
 use Rattle.cpp_press_laws.proofs.ByKind.Leaves.{LeafAs, leaf-same}
 use Rattle.cpp_press_laws.proofs.Short.Gains.{AllSmall, SmallPrefix, Ready, KindGains, ShapeGains}
@@ -54,10 +55,6 @@ digits-few (suc fuel) n = go (nat_lt n 10) refl (digits-few fuel (n / 10))
     go true below few = omega arith
     go false over few =
         omega (arith, few, above n over, length-append (digits_in 10 decimal_digit fuel (n / 10)) (decimal_digit (n % 10) ∷ []))
-
-some-bytes : (name : List ℕ) → IsSeparator Cpp [] name → 1 ≤ length name
-some-bytes [] is = absurd is
-some-bytes (b ∷ bs) is = omega arith
 
 lone-separator : (separator own : List ℕ) → IsSeparator Cpp separator own → IsSeparator Cpp [] own
 lone-separator [] own is = is

@@ -11,28 +11,24 @@ use Rattle.cpp_grammar.specs.Grammar.{kinds, number_of, number_of_kind, parts_of
 use Rattle.cpp_grammar.specs.Rows.{row_of}
 use Rattle.cpp_grammar.specs.Term.{Qualifiers, Term, symbol, instance, parameter, lvalue, rvalue, function_type, qualified, integer}
 use Rattle.cpp_grammar.specs.Values as values
-use Rattle.cpp_grammar.specs.Values.{State, Around, Value, nothing_there, tree, named, tree_of, is_listed, is_there, text_of, signed_of}
-use Rattle.cpp_grammar.specs.References.{is_function_type, appended, parameter_named, with_type, with_unqualified}
+use Rattle.cpp_grammar.specs.Values.{State, Around, Value, nothing_there, tree, named, tree_of, is_listed, is_there, text_of, signed_of, Candidate}
+use Rattle.cpp_grammar.specs.References.{is_function_type, appended, parameter_named, with_type, with_unqualified, substituted}
 use Rattle.cpp_grammar.specs.Between.{after, applied, named_so_far, listed_so_far, parameter_so_far, index_of, between}
 use Rattle.cpp_grammar.specs.Meaning.{parameters, listed_value, reference_to, meaning}
 use Rattle.cpp_grammar.specs.Unfolding as unfolding_
 use Rattle.cpp_grammar.specs.Unfolding.{close}
 use Rattle.cpp_press_laws.specs.Texts.{qualifier_letters}
-use Rattle.cpp_press_laws.specs.Components.{components_of}
+use Rattle.cpp_press_laws.specs.Components.{components_of, Component}
 use Rattle.cpp_press_laws.specs.Pressing.{is_component, is_encoding}
 use Rattle.cpp_press_laws.proofs.Short.Size.{part_of, bare_of, size, over, part, part-some}
-use Rattle.cpp_press_laws.proofs.Short.Worth.{is_among, is_again, full, worth, full-most}
+use Rattle.cpp_press_laws.proofs.Short.Worth.{is_among, is_again, full, worth, full-most, worths, has-among}
 use Rattle.cpp_press_laws.proofs.Short.Gains.{wealth, IsSmall, AllSmall, name, type, bare, arguments, Class, class_of, typed, held, need, lent, owed, loan, returned, grant, SmallPrefix, ready_for, Ready, IsKnown, IsKept, Gains, Gained, appended-wealth, appended-grown, typed-grown}
 use Rattle.cpp_press_laws.proofs.Short.Paid.{Ended, comes-to}
 use Rattle.cpp_press_laws.proofs.Short.ByRow.{is_read, part_passes, parts_pass, cost_of, credit_of, Knows, all_quiet, refers, Pays, row_goes, by-row, is_listed_in, each_goes, one-goes, may_read, may_be_part, Standing}
-use Rattle.cpp_grammar.specs.Values.{Candidate}
 use Rattle.cpp_grammar.specs.Scope.{element, is_open}
-use Rattle.cpp_grammar.specs.References.{substituted}
-use Rattle.cpp_press_laws.specs.Components.{Component}
 use Rattle.cpp_press_laws.specs.Fits.{has_letters}
 use Rattle.cpp_press_laws.proofs.Components.Parts.{Has, has-before, has-itself, has-closed}
 use Rattle.cpp_press_laws.proofs.Fits.References.{Substituted, substitution-refers}
-use Rattle.cpp_press_laws.proofs.Short.Worth.{worths, has-among}
 use Rattle.cpp_press_laws.proofs.Short.Slots.{letters-short}
 use Rattle.cpp_press_laws.proofs.Short.Types.{Idle, Free, listed, reference-gains, held-signed}
 use Rattle.cpp_press_laws.proofs.Short.Names.{parameter-goes}

@@ -1,7 +1,7 @@
 -- A function type that is a component is spelled out again at most once for each set of qualifiers.
 use Rattle.std.proofs.Common.{◌≡◌, ℕ, ◌+◌, ◌*◌, ◌-◌, ◌≤◌, ◌⊎◌, inl, inr, length, List, [], ◌∷◌, ◌++◌, Bool, true, false, refl, ap, sym, subst, ◌∙◌, arith}
 use Rattle.std.specs.Prelude.{cond, codes, ◌&&◌, ◌||◌}
-use Rattle.std.proofs.lemmas.Bool.{false≢true}
+use Rattle.std.proofs.lemmas.Bool.{and_parts, false≢true}
 use Rattle.cpp_grammar.specs.Term.{Qualifiers, Term, symbol, function_type, qualified}
 use Rattle.cpp_grammar.specs.References.{is_function_type}
 use Rattle.cpp_grammar.specs.Scope.{is_open}
@@ -11,6 +11,7 @@ use Rattle.cpp_press_laws.specs.Components.{Component, is_same}
 use Rattle.cpp_press_laws.specs.Fits.{has_letters}
 use Rattle.cpp_press_laws.specs.MarkedComponents.{Marked, unmarked}
 use Rattle.cpp_press_laws.specs.Apart.{IsNew, IsApart, AreApartBehind}
+use Rattle.cpp_press_laws.proofs.Components.Growing.{unmarked-append}
 use Rattle.cpp_press_laws.proofs.Components.Sameness.{equal-qualifiers}
 use Rattle.cpp_press_laws.proofs.Components.Parts.{Has, has-before, has-itself, has-closed, same-means}
 use Rattle.cpp_press_laws.specs.Pressing.{is_name}
@@ -123,10 +124,6 @@ slots-taken q n f all (c ∷ cs) is new among = go (is_same n f c) refl among (s
 
 -- ## Components in turn
 
-both : (a b : Bool) → a && b ≡ true → (a ≡ true) × (b ≡ true)
-both true b h = (refl, h)
-both false b h = absurd (false≢true h)
-
 -- one that is spelled out again takes a slot
 again-slots : (q : Qualifiers) (b : Bool) (before : List Component) (n : ℕ) (t : Term) → (b ≡ true → IsNew n t before)
     → again q b before n t + slots q (before ++ record { tree = t; encoding = n } ∷ []) before ≤ slots q before before
@@ -137,18 +134,14 @@ again-slots q b before n (qualified p f) new = go (b && (same_qualifiers q p && 
         → cond c (size f) 0 + slots q (before ++ record { tree = qualified p f; encoding = n } ∷ []) before ≤ slots q before before
     go false h = omega (arith, slots-fewer q before (record { tree = qualified p f; encoding = n } ∷ []) before)
     go true h =
-        let one = both b (same_qualifiers q p && (is_function_type f && is_among n f before)) h in
-        let two = both (same_qualifiers q p) (is_function_type f && is_among n f before) one.1 in
-        let three = both (is_function_type f) (is_among n f before) two.1 in
+        let one = and_parts b (same_qualifiers q p && (is_function_type f && is_among n f before)) h in
+        let two = and_parts (same_qualifiers q p) (is_function_type f && is_among n f before) one.1 in
+        let three = and_parts (is_function_type f) (is_among n f before) two.1 in
         let same : q ≡ p = equal-qualifiers q p two.0 in
         subst (λ r. size f + slots q (before ++ record { tree = qualified r f; encoding = n } ∷ []) before ≤ slots q before before) same
         (omega (arith, slots-taken q n f before before three.0 (subst (λ r. IsNew n (qualified r f) before) (sym same) (new one.0)) three.1))
 again-slots q b before n (symbol e suffix) new = omega (arith, slots-fewer q before (record { tree = symbol e suffix; encoding = n } ∷ []) before)
 again-slots q b before n t new = omega (arith, slots-fewer q before (record { tree = t; encoding = n } ∷ []) before)
-
-unmarked-one : (before : List Marked) (c : Marked) → unmarked (before ++ c ∷ []) ≡ unmarked before ++ c.component ∷ []
-unmarked-one [] c = refl
-unmarked-one (d ∷ before) c = ap (λ l. d.component ∷ l) (unmarked-one before c)
 
 apart-new : (t : Term) (before : List Marked) (c : Marked) → IsApart t before c → c.was_compared ≡ true
     → IsNew c.component.encoding c.component.tree (unmarked before)
@@ -165,7 +158,7 @@ agains-most q t before (c ∷ cs) apart =
     omega (
       arith,
       agains-most q t (before ++ c ∷ []) cs apart.1,
-      ap (λ l. slots q l l) (unmarked-one before c),
+      ap (λ l. slots q l l) (unmarked-append before (c ∷ [])),
       again-slots q c.was_compared olds c.component.encoding c.component.tree (apart-new t before c apart.0),
       slots-one q news olds c.component,
       slot-most q news c.component,
@@ -224,8 +217,8 @@ cost-worth true before n (qualified p f) = go (has_letters p && (is_function_typ
         + seven (λ q. cond (same_qualifiers q p && (is_function_type f && is_among n f before)) (size f) 0)
     go false h = omega arith
     go true h =
-        let one = both (has_letters p) (is_function_type f && is_among n f before) h in
-        let two = both (is_function_type f) (is_among n f before) one.1 in
+        let one = and_parts (has_letters p) (is_function_type f && is_among n f before) h in
+        let two = and_parts (is_function_type f) (is_among n f before) one.1 in
         omega (
           arith,
           letters-short p,
@@ -247,7 +240,7 @@ costs-agains t before (c ∷ cs) =
       arith,
       cost-worth c.was_compared (unmarked before) c.component.encoding c.component.tree,
       costs-agains t (before ++ c ∷ []) cs,
-      ap (λ l. worths l (unmarked cs)) (unmarked-one before c),
+      ap (λ l. worths l (unmarked cs)) (unmarked-append before (c ∷ [])),
     )
 
 function-worth : (before : List Component) (n : ℕ) (t : Term) → cond (is_function_type t) (size t) 0 ≤ worth before n t

@@ -4,7 +4,7 @@ use Rattle.rust_direct.specs.WriterInvariant.{IsWriting}
 use Rattle.rust_short_way.proofs.run.Given as goal
 
 abbrev pub invariant-steps : goal.invariant-steps
-invariant-steps l = IsWriting l.s l.direct l.step × (l.rounds ≤ 8 * length l.s)
+invariant-steps g l = IsWriting g.S.Showing.IS_BRIEF l.s l.direct l.step × (l.rounds ≤ 8 * length l.s)
 
 abbrev pub decreases-steps : goal.decreases-steps
-decreases-steps l = l.most - l.rounds
+decreases-steps g l = l.most - l.rounds

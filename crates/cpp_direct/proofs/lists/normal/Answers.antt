@@ -1,6 +1,6 @@
 use Rattle.std.proofs.Common.{arith, refl, sym, ◌∙◌, drop}
 use Rattle.std.proofs.lemmas.List.{length-drop, take_rest}
-use Rattle.cpp_direct.proofs.Literals.{normal-step, normal-other, normal-short}
+use Rattle.cpp_direct.proofs.Elements.{normal-step, normal-other, normal-short}
 use Rattle.cpp_direct.proofs.lists.normal.Goals as goal
 
 pub zeros-init : goal.zeros-init

@@ -1,5 +1,5 @@
 use Rattle.std.proofs.Common.{arith}
-use Rattle.cpp_direct.proofs.MarkPlaces.{const-lvalue, const-rvalue}
+use Rattle.cpp_direct.proofs.NamePlaces.{const-lvalue, const-rvalue}
 use Rattle.cpp_direct.proofs.TypesRead.{there}
 use Rattle.cpp_direct.proofs.marks.const_mark_at.Goals as goal
 

@@ -1,8 +1,7 @@
 use Rattle.std.proofs.Common.{arith}
 use Rattle.sym_core.specs.declared.NameClass.TheVariants.{Cpp}
 use Rattle.sym_core.specs.Token.{IsName}
-use Rattle.cpp_direct.proofs.FoundTokens.{place-found}
-use Rattle.cpp_direct.proofs.NamePlaces.{name-placed}
+use Rattle.cpp_direct.proofs.NamePlaces.{place-found, name-placed}
 use Rattle.cpp_direct.proofs.names.long_name_at.Goals as goal
 
 pub returns : goal.returns

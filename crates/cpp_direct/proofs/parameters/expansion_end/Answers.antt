@@ -1,6 +1,6 @@
 use Rattle.std.proofs.Common.{◌∷◌, [], arith}
 use Rattle.cpp_direct.specs.Holes.{StandsAt}
-use Rattle.cpp_direct.proofs.ExpansionsRead.{letters-stand, stands-so}
+use Rattle.cpp_direct.proofs.DependentsRead.{letters-stand, stands-so}
 use Rattle.cpp_direct.proofs.TypesRead.{there}
 use Rattle.cpp_direct.proofs.parameters.expansion_end.Goals as goal
 

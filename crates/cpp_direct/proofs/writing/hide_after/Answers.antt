@@ -1,7 +1,7 @@
 use Rattle.std.proofs.Common.{◌≤◌, ◌++◌, ◌∙◌, inl, inr, refl, ap, arith, false, get_or, subst}
 use Rattle.cpp_direct.specs.declared.open.Candidate.{Candidate}
 use Rattle.cpp_direct.specs.Written.{hidden}
-use Rattle.cpp_direct.proofs.LeftOut.{all-gone, next-there, none-gone, one-gone, set-is}
+use Rattle.cpp_direct.proofs.Kept.{all-gone, next-there, none-gone, one-gone, set-is}
 use Rattle.cpp_direct.proofs.writing.hide_after.Goals as goal
 use Rattle.cpp_direct.proofs.writing.hide_after.Goals.{then-as_slice-at, else-as_slice-at}
 

@@ -1,6 +1,6 @@
 -- The candidates up to a place were gone over.
 use Rattle.std.proofs.Common.{◌-◌, length}
-use Rattle.cpp_direct.proofs.LeftOut.{AreGoneOver}
+use Rattle.cpp_direct.proofs.Kept.{AreGoneOver}
 use Rattle.cpp_direct.proofs.writing.hide_after.Given as goal
 
 abbrev pub invariant-candidates : goal.invariant-candidates

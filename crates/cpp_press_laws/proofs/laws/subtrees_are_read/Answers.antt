@@ -2,7 +2,7 @@ use Rattle.cpp_grammar.specs.Grammar.{number_of_kind}
 use Rattle.cpp_press_laws.specs.Fits.{any_type}
 use Rattle.cpp_press_laws.proofs.Spots as spot
 use Rattle.cpp_press_laws.proofs.EveryWay.Law.{reads}
-use Rattle.cpp_press_laws.proofs.Components.Counting.{arguments-counted}
+use Rattle.cpp_press_laws.proofs.Components.AddedTrees.{arguments-counted}
 use Rattle.cpp_press_laws.proofs.ByKind.Shapes.{symbol-read-fits}
 use Rattle.cpp_press_laws.proofs.laws.subtrees_are_read.Goals as goal
 

@@ -20,6 +20,13 @@ returns-in_default-clause-told g c =
     same-told (answers Lang.Cpp) (answers c.args.kind.lang) c.args.buffer.now c.write_less.new.buffer c.write_less.result
     (ap answers (sym c.in-Cpp.is)) c.write_less.ensures.told
 
+pub returns-then-not-has_arguments-clause-told : goal.returns-then-not-has_arguments-clause-told
+returns-then-not-has_arguments-clause-told g c =
+    let bytes : AreBytes c.args.symbol.now = λ i. search (rules, c.type_inv.symbol i) in
+    same-told _ _ c.args.buffer.now c.brief_once.new.buffer c.brief_once.result
+    (rust_answered g.C.Mangling.mangled c.args.languages.now.limit c.args.languages.now.detail Detail.Brief c.args.kind.lang c.args.symbol.now bytes c.in-Rust.is (sym c.if-not-has_arguments.true ∙ c.has_arguments.ensures))
+    c.brief_once.ensures.told
+
 pub returns-else-not-has_arguments-clause-told : goal.returns-else-not-has_arguments-clause-told
 returns-else-not-has_arguments-clause-told g c =
     let bytes : AreBytes c.args.symbol.now = λ i. search (rules, c.type_inv.symbol i) in

@@ -8,7 +8,7 @@ use Rattle.sym_link.proofs.driver.begin.Goals as goal
 
 pub root-requires-clause-end : goal.root-requires-clause-end
 root-requires-clause-end g c =
-    (root_asks (g.L.Linking.view c.args.symbol.now) c.args.symbol.now c.args.rows.now c.args.language.now c.args.frames.now.items c.args.parts.now.items (slice_index_or c.args.rows.now 0 (record { rule = 0; from = 0; to = 0; end = 0 })) (record { rule = 0; from = 0; to = 0; end = 0 }) (g.met.L.Linking.laws c.args.symbol.now) c.requires refl).end
+    (root_asks (g.L.Linking.view c.args.symbol.now) c.args.symbol.now c.args.rows.now c.args.language.now c.args.frames.now.items c.args.parts.now.items (slice_index_or c.args.rows.now 0 (record { rule = 0; after = 0; from = 0; to = 0; end = 0 })) (record { rule = 0; after = 0; from = 0; to = 0; end = 0 }) (g.met.L.Linking.laws c.args.symbol.now) c.requires refl).end
 
 pub close_lone_token-requires : goal.close_lone_token-requires
 close_lone_token-requires g c =
@@ -17,8 +17,8 @@ close_lone_token-requires g c =
       steps = (root_left (g.L.Linking.view c.args.symbol.now) c.args.symbol.now c.args.rows.now c.requires.tree (g.met.L.Linking.laws c.args.symbol.now) c.requires.is_shape).0;
       most = _;
       follows = root_begun (g.L.Linking.view c.args.symbol.now) c.args.symbol.now c.args.rows.now c.requires.tree c.args.language.now c.root.new.self c.args.frames.now.items
-          (record { rule = (slice_index_or c.args.rows.now 0 (record { rule = 0; from = 0; to = 0; end = 0 })).rule; place = (slice_index_or c.args.rows.now 0 (record { rule = 0; from = 0; to = 0; end = 0 })).from; end = (slice_index_or c.args.rows.now 0 (record { rule = 0; from = 0; to = 0; end = 0 })).end; base = 0; kept = c.in_ok-kept.kept })
-          c.args.parts.now.items (slice_index_or c.args.rows.now 0 (record { rule = 0; from = 0; to = 0; end = 0 })) (record { rule = 0; from = 0; to = 0; end = 0 }) (g.met.L.Linking.laws c.args.symbol.now) c.requires.is_shape c.requires.fits.rows c.requires.fresh refl
+          (record { rule = (slice_index_or c.args.rows.now 0 (record { rule = 0; after = 0; from = 0; to = 0; end = 0 })).rule; place = (slice_index_or c.args.rows.now 0 (record { rule = 0; after = 0; from = 0; to = 0; end = 0 })).from; end = (slice_index_or c.args.rows.now 0 (record { rule = 0; after = 0; from = 0; to = 0; end = 0 })).end; base = 0; kept = c.in_ok-kept.kept })
+          c.args.parts.now.items (slice_index_or c.args.rows.now 0 (record { rule = 0; after = 0; from = 0; to = 0; end = 0 })) (record { rule = 0; after = 0; from = 0; to = 0; end = 0 }) (g.met.L.Linking.laws c.args.symbol.now) c.requires.is_shape c.requires.fits.rows c.requires.fresh refl
           c.in_ok-kept.ensures.opens c.in_ok-kept.ensures.adds c.in_ok-kept.ensures.pays refl refl refl refl _
           (root_left (g.L.Linking.view c.args.symbol.now) c.args.symbol.now c.args.rows.now c.requires.tree (g.met.L.Linking.laws c.args.symbol.now) c.requires.is_shape).1;
       fits = c.requires.fits;
@@ -28,16 +28,16 @@ pub returns-clause-follows : goal.returns-clause-follows
 returns-clause-follows g c tree left is steps =
     c.close_lone_token.ensures.follows (meaning_of (g.L.Linking.view c.args.symbol.now) tree) left _
     (root_begun (g.L.Linking.view c.args.symbol.now) c.args.symbol.now c.args.rows.now tree c.args.language.now c.root.new.self c.args.frames.now.items
-    (record { rule = (slice_index_or c.args.rows.now 0 (record { rule = 0; from = 0; to = 0; end = 0 })).rule; place = (slice_index_or c.args.rows.now 0 (record { rule = 0; from = 0; to = 0; end = 0 })).from; end = (slice_index_or c.args.rows.now 0 (record { rule = 0; from = 0; to = 0; end = 0 })).end; base = 0; kept = c.in_ok-kept.kept })
-    c.args.parts.now.items (slice_index_or c.args.rows.now 0 (record { rule = 0; from = 0; to = 0; end = 0 })) (record { rule = 0; from = 0; to = 0; end = 0 }) (g.met.L.Linking.laws c.args.symbol.now) is c.requires.fits.rows c.requires.fresh refl
+    (record { rule = (slice_index_or c.args.rows.now 0 (record { rule = 0; after = 0; from = 0; to = 0; end = 0 })).rule; place = (slice_index_or c.args.rows.now 0 (record { rule = 0; after = 0; from = 0; to = 0; end = 0 })).from; end = (slice_index_or c.args.rows.now 0 (record { rule = 0; after = 0; from = 0; to = 0; end = 0 })).end; base = 0; kept = c.in_ok-kept.kept })
+    c.args.parts.now.items (slice_index_or c.args.rows.now 0 (record { rule = 0; after = 0; from = 0; to = 0; end = 0 })) (record { rule = 0; after = 0; from = 0; to = 0; end = 0 }) (g.met.L.Linking.laws c.args.symbol.now) is c.requires.fits.rows c.requires.fresh refl
     c.in_ok-kept.ensures.opens c.in_ok-kept.ensures.adds c.in_ok-kept.ensures.pays refl refl refl refl left steps)
 
 pub returns-clause-few : goal.returns-clause-few
 returns-clause-few g c =
     c.close_lone_token.ensures.few (meaning_of (g.L.Linking.view c.args.symbol.now) c.requires.tree) (root_left (g.L.Linking.view c.args.symbol.now) c.args.symbol.now c.args.rows.now c.requires.tree (g.met.L.Linking.laws c.args.symbol.now) c.requires.is_shape).0 _
     (root_begun (g.L.Linking.view c.args.symbol.now) c.args.symbol.now c.args.rows.now c.requires.tree c.args.language.now c.root.new.self c.args.frames.now.items
-    (record { rule = (slice_index_or c.args.rows.now 0 (record { rule = 0; from = 0; to = 0; end = 0 })).rule; place = (slice_index_or c.args.rows.now 0 (record { rule = 0; from = 0; to = 0; end = 0 })).from; end = (slice_index_or c.args.rows.now 0 (record { rule = 0; from = 0; to = 0; end = 0 })).end; base = 0; kept = c.in_ok-kept.kept })
-    c.args.parts.now.items (slice_index_or c.args.rows.now 0 (record { rule = 0; from = 0; to = 0; end = 0 })) (record { rule = 0; from = 0; to = 0; end = 0 }) (g.met.L.Linking.laws c.args.symbol.now) c.requires.is_shape c.requires.fits.rows c.requires.fresh refl
+    (record { rule = (slice_index_or c.args.rows.now 0 (record { rule = 0; after = 0; from = 0; to = 0; end = 0 })).rule; place = (slice_index_or c.args.rows.now 0 (record { rule = 0; after = 0; from = 0; to = 0; end = 0 })).from; end = (slice_index_or c.args.rows.now 0 (record { rule = 0; after = 0; from = 0; to = 0; end = 0 })).end; base = 0; kept = c.in_ok-kept.kept })
+    c.args.parts.now.items (slice_index_or c.args.rows.now 0 (record { rule = 0; after = 0; from = 0; to = 0; end = 0 })) (record { rule = 0; after = 0; from = 0; to = 0; end = 0 }) (g.met.L.Linking.laws c.args.symbol.now) c.requires.is_shape c.requires.fits.rows c.requires.fresh refl
     c.in_ok-kept.ensures.opens c.in_ok-kept.ensures.adds c.in_ok-kept.ensures.pays refl refl refl refl _
     (root_left (g.L.Linking.view c.args.symbol.now) c.args.symbol.now c.args.rows.now c.requires.tree (g.met.L.Linking.laws c.args.symbol.now) c.requires.is_shape).1)
 

@@ -12,15 +12,15 @@ pub bounds-rows-next : goal.bounds-rows-next
 bounds-rows-next g c =
     more_rows (g.L.Linking.view c.args.symbol.now) c.args.symbol.now c.args.rows.now (waiting (c.requires.0 + 1))
     c.args.language.now c.args.next c.args.frames.now.items c.top-frame.result.now c.args.parts.now.items
-    (record { rule = 0; from = 0; to = 0; end = 0 }) (g.met.L.Linking.laws c.args.symbol.now)
+    (record { rule = 0; after = 0; from = 0; to = 0; end = 0 }) (g.met.L.Linking.laws c.args.symbol.now)
     (c.requires.1 c.top-frame.result.now (c.top-frame.ensures.0, sym c.deref.ensures.value ∙ c.top-frame.ensures.1))
 
 pub token-requires-clause-room : goal.token-requires-clause-room
 token-requires-clause-room g c =
     (token_asks (g.L.Linking.view c.args.symbol.now) c.args.symbol.now c.args.rows.now (waiting (c.requires.0 + 1))
     c.args.language.now c.args.next c.args.frames.now.items c.top-frame.result.now c.args.parts.now.items
-    (slice_index_or c.args.rows.now c.args.next (record { rule = 0; from = 0; to = 0; end = 0 }))
-    (record { rule = 0; from = 0; to = 0; end = 0 }) (g.met.L.Linking.laws c.args.symbol.now)
+    (slice_index_or c.args.rows.now c.args.next (record { rule = 0; after = 0; from = 0; to = 0; end = 0 }))
+    (record { rule = 0; after = 0; from = 0; to = 0; end = 0 }) (g.met.L.Linking.laws c.args.symbol.now)
     (c.requires.1 c.top-frame.result.now (c.top-frame.ensures.0, sym c.deref.ensures.value ∙ c.top-frame.ensures.1)) refl
     c.if-row.true).room
 
@@ -28,8 +28,8 @@ pub token-requires-clause-open : goal.token-requires-clause-open
 token-requires-clause-open g c =
     (token_asks (g.L.Linking.view c.args.symbol.now) c.args.symbol.now c.args.rows.now (waiting (c.requires.0 + 1))
     c.args.language.now c.args.next c.args.frames.now.items c.top-frame.result.now c.args.parts.now.items
-    (slice_index_or c.args.rows.now c.args.next (record { rule = 0; from = 0; to = 0; end = 0 }))
-    (record { rule = 0; from = 0; to = 0; end = 0 }) (g.met.L.Linking.laws c.args.symbol.now)
+    (slice_index_or c.args.rows.now c.args.next (record { rule = 0; after = 0; from = 0; to = 0; end = 0 }))
+    (record { rule = 0; after = 0; from = 0; to = 0; end = 0 }) (g.met.L.Linking.laws c.args.symbol.now)
     (c.requires.1 c.top-frame.result.now (c.top-frame.ensures.0, sym c.deref.ensures.value ∙ c.top-frame.ensures.1)) refl
     c.if-row.true).stands
 
@@ -37,8 +37,8 @@ pub token-requires-clause-from : goal.token-requires-clause-from
 token-requires-clause-from g c =
     (token_asks (g.L.Linking.view c.args.symbol.now) c.args.symbol.now c.args.rows.now (waiting (c.requires.0 + 1))
     c.args.language.now c.args.next c.args.frames.now.items c.top-frame.result.now c.args.parts.now.items
-    (slice_index_or c.args.rows.now c.args.next (record { rule = 0; from = 0; to = 0; end = 0 }))
-    (record { rule = 0; from = 0; to = 0; end = 0 }) (g.met.L.Linking.laws c.args.symbol.now)
+    (slice_index_or c.args.rows.now c.args.next (record { rule = 0; after = 0; from = 0; to = 0; end = 0 }))
+    (record { rule = 0; after = 0; from = 0; to = 0; end = 0 }) (g.met.L.Linking.laws c.args.symbol.now)
     (c.requires.1 c.top-frame.result.now (c.top-frame.ensures.0, sym c.deref.ensures.value ∙ c.top-frame.ensures.1)) refl
     c.if-row.true).from
 
@@ -46,8 +46,8 @@ pub token-requires-clause-to : goal.token-requires-clause-to
 token-requires-clause-to g c =
     (token_asks (g.L.Linking.view c.args.symbol.now) c.args.symbol.now c.args.rows.now (waiting (c.requires.0 + 1))
     c.args.language.now c.args.next c.args.frames.now.items c.top-frame.result.now c.args.parts.now.items
-    (slice_index_or c.args.rows.now c.args.next (record { rule = 0; from = 0; to = 0; end = 0 }))
-    (record { rule = 0; from = 0; to = 0; end = 0 }) (g.met.L.Linking.laws c.args.symbol.now)
+    (slice_index_or c.args.rows.now c.args.next (record { rule = 0; after = 0; from = 0; to = 0; end = 0 }))
+    (record { rule = 0; after = 0; from = 0; to = 0; end = 0 }) (g.met.L.Linking.laws c.args.symbol.now)
     (c.requires.1 c.top-frame.result.now (c.top-frame.ensures.0, sym c.deref.ensures.value ∙ c.top-frame.ensures.1)) refl
     c.if-row.true).to
 
@@ -58,7 +58,7 @@ returns-in_err-token-clause-follows g c whole left follows =
     (token_taken (g.L.Linking.view c.args.symbol.now) c.args.symbol.now c.args.rows.now whole (waiting (left + 1))
     c.args.language.now c.token.new.self c.args.next c.args.frames.now.items c.top-frame.result.now
     c.args.parts.now.items c.token.new.parts.items (slice_index_or c.args.rows.now c.args.next
-    (record { rule = 0; from = 0; to = 0; end = 0 })) (record { rule = 0; from = 0; to = 0; end = 0 })
+    (record { rule = 0; after = 0; from = 0; to = 0; end = 0 })) (record { rule = 0; after = 0; from = 0; to = 0; end = 0 })
     (Err c.in_err-token.field-0.0) (g.met.L.Linking.laws c.args.symbol.now)
     (c.top-frame.ensures.0, sym c.deref.ensures.value ∙ c.top-frame.ensures.1)
     follows (c.requires.1 c.top-frame.result.now (
@@ -73,7 +73,7 @@ returns-then-row-clause-follows g c whole left follows =
     token_taken (g.L.Linking.view c.args.symbol.now) c.args.symbol.now c.args.rows.now whole (waiting (left + 1))
     c.args.language.now c.token.new.self c.args.next c.args.frames.now.items c.top-frame.result.now
     c.args.parts.now.items c.token.new.parts.items (slice_index_or c.args.rows.now c.args.next
-    (record { rule = 0; from = 0; to = 0; end = 0 })) (record { rule = 0; from = 0; to = 0; end = 0 }) (Ok tt)
+    (record { rule = 0; after = 0; from = 0; to = 0; end = 0 })) (record { rule = 0; after = 0; from = 0; to = 0; end = 0 }) (Ok tt)
     (g.met.L.Linking.laws c.args.symbol.now) (c.top-frame.ensures.0, sym c.deref.ensures.value ∙ c.top-frame.ensures.1)
     follows (c.requires.1 c.top-frame.result.now (
       c.top-frame.ensures.0,
@@ -86,8 +86,8 @@ pub enter-requires-clause-room : goal.enter-requires-clause-room
 enter-requires-clause-room g c =
     (rule_asks (g.L.Linking.view c.args.symbol.now) c.args.symbol.now c.args.rows.now (waiting (c.requires.0 + 1))
     c.args.language.now c.args.next c.args.frames.now.items c.top-frame.result.now c.args.parts.now.items
-    (slice_index_or c.args.rows.now c.args.next (record { rule = 0; from = 0; to = 0; end = 0 }))
-    (record { rule = 0; from = 0; to = 0; end = 0 }) (g.met.L.Linking.laws c.args.symbol.now)
+    (slice_index_or c.args.rows.now c.args.next (record { rule = 0; after = 0; from = 0; to = 0; end = 0 }))
+    (record { rule = 0; after = 0; from = 0; to = 0; end = 0 }) (g.met.L.Linking.laws c.args.symbol.now)
     (c.requires.1 c.top-frame.result.now (c.top-frame.ensures.0, sym c.deref.ensures.value ∙ c.top-frame.ensures.1)) refl
     c.if-row.false).room
 
@@ -95,8 +95,8 @@ pub enter-requires-clause-open : goal.enter-requires-clause-open
 enter-requires-clause-open g c =
     (rule_asks (g.L.Linking.view c.args.symbol.now) c.args.symbol.now c.args.rows.now (waiting (c.requires.0 + 1))
     c.args.language.now c.args.next c.args.frames.now.items c.top-frame.result.now c.args.parts.now.items
-    (slice_index_or c.args.rows.now c.args.next (record { rule = 0; from = 0; to = 0; end = 0 }))
-    (record { rule = 0; from = 0; to = 0; end = 0 }) (g.met.L.Linking.laws c.args.symbol.now)
+    (slice_index_or c.args.rows.now c.args.next (record { rule = 0; after = 0; from = 0; to = 0; end = 0 }))
+    (record { rule = 0; after = 0; from = 0; to = 0; end = 0 }) (g.met.L.Linking.laws c.args.symbol.now)
     (c.requires.1 c.top-frame.result.now (c.top-frame.ensures.0, sym c.deref.ensures.value ∙ c.top-frame.ensures.1)) refl
     c.if-row.false).stands
 
@@ -104,8 +104,8 @@ pub enter-requires-clause-place : goal.enter-requires-clause-place
 enter-requires-clause-place g c =
     (rule_asks (g.L.Linking.view c.args.symbol.now) c.args.symbol.now c.args.rows.now (waiting (c.requires.0 + 1))
     c.args.language.now c.args.next c.args.frames.now.items c.top-frame.result.now c.args.parts.now.items
-    (slice_index_or c.args.rows.now c.args.next (record { rule = 0; from = 0; to = 0; end = 0 }))
-    (record { rule = 0; from = 0; to = 0; end = 0 }) (g.met.L.Linking.laws c.args.symbol.now)
+    (slice_index_or c.args.rows.now c.args.next (record { rule = 0; after = 0; from = 0; to = 0; end = 0 }))
+    (record { rule = 0; after = 0; from = 0; to = 0; end = 0 }) (g.met.L.Linking.laws c.args.symbol.now)
     (c.requires.1 c.top-frame.result.now (c.top-frame.ensures.0, sym c.deref.ensures.value ∙ c.top-frame.ensures.1)) refl
     c.if-row.false).place
 
@@ -113,8 +113,8 @@ pub enter-requires-clause-end : goal.enter-requires-clause-end
 enter-requires-clause-end g c =
     (rule_asks (g.L.Linking.view c.args.symbol.now) c.args.symbol.now c.args.rows.now (waiting (c.requires.0 + 1))
     c.args.language.now c.args.next c.args.frames.now.items c.top-frame.result.now c.args.parts.now.items
-    (slice_index_or c.args.rows.now c.args.next (record { rule = 0; from = 0; to = 0; end = 0 }))
-    (record { rule = 0; from = 0; to = 0; end = 0 }) (g.met.L.Linking.laws c.args.symbol.now)
+    (slice_index_or c.args.rows.now c.args.next (record { rule = 0; after = 0; from = 0; to = 0; end = 0 }))
+    (record { rule = 0; after = 0; from = 0; to = 0; end = 0 }) (g.met.L.Linking.laws c.args.symbol.now)
     (c.requires.1 c.top-frame.result.now (c.top-frame.ensures.0, sym c.deref.ensures.value ∙ c.top-frame.ensures.1)) refl
     c.if-row.false).end
 
@@ -125,7 +125,7 @@ returns-in_err-kept-clause-follows g c whole left follows =
     (rule_refused (g.L.Linking.view c.args.symbol.now) c.args.symbol.now c.args.rows.now whole (waiting (left + 1))
     c.args.language.now c.enter.new.self c.args.next c.args.frames.now.items c.top-frame.result.now
     c.args.parts.now.items c.enter.new.parts.items (slice_index_or c.args.rows.now c.args.next
-    (record { rule = 0; from = 0; to = 0; end = 0 })) (record { rule = 0; from = 0; to = 0; end = 0 }) c.in_err-kept.field-0.0
+    (record { rule = 0; after = 0; from = 0; to = 0; end = 0 })) (record { rule = 0; after = 0; from = 0; to = 0; end = 0 }) c.in_err-kept.field-0.0
     (g.met.L.Linking.laws c.args.symbol.now) (c.top-frame.ensures.0, sym c.deref.ensures.value ∙ c.top-frame.ensures.1)
     follows (c.requires.1 c.top-frame.result.now (
       c.top-frame.ensures.0,
@@ -137,7 +137,7 @@ pub returns-in_err-kept-clause-more : goal.returns-in_err-kept-clause-more
 returns-in_err-kept-clause-more g c =
     more_rows (g.L.Linking.view c.args.symbol.now) c.args.symbol.now c.args.rows.now (waiting (c.requires.0 + 1))
     c.args.language.now c.args.next c.args.frames.now.items c.top-frame.result.now c.args.parts.now.items
-    (record { rule = 0; from = 0; to = 0; end = 0 }) (g.met.L.Linking.laws c.args.symbol.now)
+    (record { rule = 0; after = 0; from = 0; to = 0; end = 0 }) (g.met.L.Linking.laws c.args.symbol.now)
     (c.requires.1 c.top-frame.result.now (c.top-frame.ensures.0, sym c.deref.ensures.value ∙ c.top-frame.ensures.1))
 
 pub close_lone_token-requires : goal.close_lone_token-requires
@@ -150,15 +150,15 @@ close_lone_token-requires g c =
           (c.requires.1 c.top-frame.result.now (c.top-frame.ensures.0, sym c.deref.ensures.value ∙ c.top-frame.ensures.1)).whole
           c.requires.0 c.args.language.now c.enter.new.self c.args.next c.args.frames.now.items c.top-frame.result.now
           (record {
-            rule = (slice_index_or c.args.rows.now c.args.next (record { rule = 0; from = 0; to = 0; end = 0 })).rule;
-            place = (slice_index_or c.args.rows.now c.args.next (record { rule = 0; from = 0; to = 0; end = 0 })).from;
+            rule = (slice_index_or c.args.rows.now c.args.next (record { rule = 0; after = 0; from = 0; to = 0; end = 0 })).rule;
+            place = (slice_index_or c.args.rows.now c.args.next (record { rule = 0; after = 0; from = 0; to = 0; end = 0 })).from;
             end =
-                (slice_index_or c.args.rows.now c.args.next (record { rule = 0; from = 0; to = 0; end = 0 })).end;
+                (slice_index_or c.args.rows.now c.args.next (record { rule = 0; after = 0; from = 0; to = 0; end = 0 })).end;
             base = c.len.result;
             kept = c.in_ok-kept.kept;
           })
           c.args.parts.now.items c.enter.new.parts.items (slice_index_or c.args.rows.now c.args.next
-          (record { rule = 0; from = 0; to = 0; end = 0 })) (record { rule = 0; from = 0; to = 0; end = 0 })
+          (record { rule = 0; after = 0; from = 0; to = 0; end = 0 })) (record { rule = 0; after = 0; from = 0; to = 0; end = 0 })
           (g.met.L.Linking.laws c.args.symbol.now) (c.top-frame.ensures.0, sym c.deref.ensures.value ∙ c.top-frame.ensures.1)
           (c.requires.1 c.top-frame.result.now (c.top-frame.ensures.0, sym c.deref.ensures.value ∙ c.top-frame.ensures.1)).follows
           (c.requires.1 c.top-frame.result.now (
@@ -177,17 +177,17 @@ returns-clause-follows g c whole left follows =
     (rule_begun (g.L.Linking.view c.args.symbol.now) c.args.symbol.now c.args.rows.now whole left c.args.language.now
     c.enter.new.self c.args.next c.args.frames.now.items c.top-frame.result.now
     (record {
-      rule = (slice_index_or c.args.rows.now c.args.next (record { rule = 0; from = 0; to = 0; end = 0 })).rule;
+      rule = (slice_index_or c.args.rows.now c.args.next (record { rule = 0; after = 0; from = 0; to = 0; end = 0 })).rule;
       place =
-          (slice_index_or c.args.rows.now c.args.next (record { rule = 0; from = 0; to = 0; end = 0 })).from;
+          (slice_index_or c.args.rows.now c.args.next (record { rule = 0; after = 0; from = 0; to = 0; end = 0 })).from;
       end =
-          (slice_index_or c.args.rows.now c.args.next (record { rule = 0; from = 0; to = 0; end = 0 })).end;
+          (slice_index_or c.args.rows.now c.args.next (record { rule = 0; after = 0; from = 0; to = 0; end = 0 })).end;
       base = c.len.result;
       kept =
           c.in_ok-kept.kept;
     })
     c.args.parts.now.items c.enter.new.parts.items (slice_index_or c.args.rows.now c.args.next
-    (record { rule = 0; from = 0; to = 0; end = 0 })) (record { rule = 0; from = 0; to = 0; end = 0 })
+    (record { rule = 0; after = 0; from = 0; to = 0; end = 0 })) (record { rule = 0; after = 0; from = 0; to = 0; end = 0 })
     (g.met.L.Linking.laws c.args.symbol.now) (c.top-frame.ensures.0, sym c.deref.ensures.value ∙ c.top-frame.ensures.1)
     follows (c.requires.1 c.top-frame.result.now (
       c.top-frame.ensures.0,
@@ -201,7 +201,7 @@ pub returns-clause-more : goal.returns-clause-more
 returns-clause-more g c =
     more_rows (g.L.Linking.view c.args.symbol.now) c.args.symbol.now c.args.rows.now (waiting (c.requires.0 + 1))
     c.args.language.now c.args.next c.args.frames.now.items c.top-frame.result.now c.args.parts.now.items
-    (record { rule = 0; from = 0; to = 0; end = 0 }) (g.met.L.Linking.laws c.args.symbol.now)
+    (record { rule = 0; after = 0; from = 0; to = 0; end = 0 }) (g.met.L.Linking.laws c.args.symbol.now)
     (c.requires.1 c.top-frame.result.now (c.top-frame.ensures.0, sym c.deref.ensures.value ∙ c.top-frame.ensures.1))
 
 pub returns-in_err-token-clause-few : goal.returns-in_err-token-clause-few
@@ -224,17 +224,17 @@ returns-clause-few g c =
     (c.requires.1 c.top-frame.result.now (c.top-frame.ensures.0, sym c.deref.ensures.value ∙ c.top-frame.ensures.1)).whole
     c.requires.0 c.args.language.now c.enter.new.self c.args.next c.args.frames.now.items c.top-frame.result.now
     (record {
-      rule = (slice_index_or c.args.rows.now c.args.next (record { rule = 0; from = 0; to = 0; end = 0 })).rule;
+      rule = (slice_index_or c.args.rows.now c.args.next (record { rule = 0; after = 0; from = 0; to = 0; end = 0 })).rule;
       place =
-          (slice_index_or c.args.rows.now c.args.next (record { rule = 0; from = 0; to = 0; end = 0 })).from;
+          (slice_index_or c.args.rows.now c.args.next (record { rule = 0; after = 0; from = 0; to = 0; end = 0 })).from;
       end =
-          (slice_index_or c.args.rows.now c.args.next (record { rule = 0; from = 0; to = 0; end = 0 })).end;
+          (slice_index_or c.args.rows.now c.args.next (record { rule = 0; after = 0; from = 0; to = 0; end = 0 })).end;
       base = c.len.result;
       kept =
           c.in_ok-kept.kept;
     })
     c.args.parts.now.items c.enter.new.parts.items (slice_index_or c.args.rows.now c.args.next
-    (record { rule = 0; from = 0; to = 0; end = 0 })) (record { rule = 0; from = 0; to = 0; end = 0 })
+    (record { rule = 0; after = 0; from = 0; to = 0; end = 0 })) (record { rule = 0; after = 0; from = 0; to = 0; end = 0 })
     (g.met.L.Linking.laws c.args.symbol.now) (c.top-frame.ensures.0, sym c.deref.ensures.value ∙ c.top-frame.ensures.1)
     (c.requires.1 c.top-frame.result.now (c.top-frame.ensures.0, sym c.deref.ensures.value ∙ c.top-frame.ensures.1)).follows
     (c.requires.1 c.top-frame.result.now (c.top-frame.ensures.0, sym c.deref.ensures.value ∙ c.top-frame.ensures.1)).open_still
@@ -245,8 +245,8 @@ pub token-requires-clause-base : goal.token-requires-clause-base
 token-requires-clause-base g c =
     (token_asks (g.L.Linking.view c.args.symbol.now) c.args.symbol.now c.args.rows.now (waiting (c.requires.0 + 1))
     c.args.language.now c.args.next c.args.frames.now.items c.top-frame.result.now c.args.parts.now.items
-    (slice_index_or c.args.rows.now c.args.next (record { rule = 0; from = 0; to = 0; end = 0 }))
-    (record { rule = 0; from = 0; to = 0; end = 0 }) (g.met.L.Linking.laws c.args.symbol.now)
+    (slice_index_or c.args.rows.now c.args.next (record { rule = 0; after = 0; from = 0; to = 0; end = 0 }))
+    (record { rule = 0; after = 0; from = 0; to = 0; end = 0 }) (g.met.L.Linking.laws c.args.symbol.now)
     (c.requires.1 c.top-frame.result.now (c.top-frame.ensures.0, sym c.deref.ensures.value ∙ c.top-frame.ensures.1)) refl
     c.if-row.true).base
 
@@ -254,8 +254,8 @@ pub enter-requires-clause-base : goal.enter-requires-clause-base
 enter-requires-clause-base g c =
     (rule_asks (g.L.Linking.view c.args.symbol.now) c.args.symbol.now c.args.rows.now (waiting (c.requires.0 + 1))
     c.args.language.now c.args.next c.args.frames.now.items c.top-frame.result.now c.args.parts.now.items
-    (slice_index_or c.args.rows.now c.args.next (record { rule = 0; from = 0; to = 0; end = 0 }))
-    (record { rule = 0; from = 0; to = 0; end = 0 }) (g.met.L.Linking.laws c.args.symbol.now)
+    (slice_index_or c.args.rows.now c.args.next (record { rule = 0; after = 0; from = 0; to = 0; end = 0 }))
+    (record { rule = 0; after = 0; from = 0; to = 0; end = 0 }) (g.met.L.Linking.laws c.args.symbol.now)
     (c.requires.1 c.top-frame.result.now (c.top-frame.ensures.0, sym c.deref.ensures.value ∙ c.top-frame.ensures.1)) refl
     c.if-row.false).base
 
@@ -265,7 +265,7 @@ overflow_add-result g c =
       arith,
       more_rows (g.L.Linking.view c.args.symbol.now) c.args.symbol.now c.args.rows.now (waiting (c.requires.0 + 1))
           c.args.language.now c.args.next c.args.frames.now.items c.top-frame.result.now c.args.parts.now.items
-          (record { rule = 0; from = 0; to = 0; end = 0 }) (g.met.L.Linking.laws c.args.symbol.now)
+          (record { rule = 0; after = 0; from = 0; to = 0; end = 0 }) (g.met.L.Linking.laws c.args.symbol.now)
           (c.requires.1 c.top-frame.result.now (c.top-frame.ensures.0, sym c.deref.ensures.value ∙ c.top-frame.ensures.1)),
       (c.requires.1 c.top-frame.result.now (c.top-frame.ensures.0, sym c.deref.ensures.value ∙ c.top-frame.ensures.1)).fits.rows,
       (c.requires.1 c.top-frame.result.now (c.top-frame.ensures.0, sym c.deref.ensures.value ∙ c.top-frame.ensures.1)).fits.symbol,
@@ -277,7 +277,7 @@ overflow_add-next g c =
       arith,
       more_rows (g.L.Linking.view c.args.symbol.now) c.args.symbol.now c.args.rows.now (waiting (c.requires.0 + 1))
           c.args.language.now c.args.next c.args.frames.now.items c.top-frame.result.now c.args.parts.now.items
-          (record { rule = 0; from = 0; to = 0; end = 0 }) (g.met.L.Linking.laws c.args.symbol.now)
+          (record { rule = 0; after = 0; from = 0; to = 0; end = 0 }) (g.met.L.Linking.laws c.args.symbol.now)
           (c.requires.1 c.top-frame.result.now (c.top-frame.ensures.0, sym c.deref.ensures.value ∙ c.top-frame.ensures.1)),
       (c.requires.1 c.top-frame.result.now (c.top-frame.ensures.0, sym c.deref.ensures.value ∙ c.top-frame.ensures.1)).fits.rows,
       (c.requires.1 c.top-frame.result.now (c.top-frame.ensures.0, sym c.deref.ensures.value ∙ c.top-frame.ensures.1)).fits.symbol,
@@ -313,8 +313,8 @@ returns-in_err-token-clause-full g c =
     (only_refused _ (TokenTakesMemory view c.args.symbol.now) before before after_token c.in_err-token.field-0.0
     (token_there view c.args.symbol.now c.args.rows.now (waiting (c.requires.0 + 1)) c.args.language.now c.args.next
     c.args.frames.now.items c.top-frame.result.now c.args.parts.now.items
-    (slice_index_or c.args.rows.now c.args.next (record { rule = 0; from = 0; to = 0; end = 0 }))
-    (record { rule = 0; from = 0; to = 0; end = 0 }) (g.met.L.Linking.laws c.args.symbol.now)
+    (slice_index_or c.args.rows.now c.args.next (record { rule = 0; after = 0; from = 0; to = 0; end = 0 }))
+    (record { rule = 0; after = 0; from = 0; to = 0; end = 0 }) (g.met.L.Linking.laws c.args.symbol.now)
     (c.requires.1 c.top-frame.result.now (c.top-frame.ensures.0, sym c.deref.ensures.value ∙ c.top-frame.ensures.1)) refl c.if-row.true)
     (room_same before)
     (list_more _ (one_by_one c.args.frames.now) (one_by_one c.args.frames.now) own_before own_after_token

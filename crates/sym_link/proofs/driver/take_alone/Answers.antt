@@ -14,31 +14,31 @@ open_still end next ends same = omega (arith, ends, same)
 pub bounds-rows-next : goal.bounds-rows-next
 bounds-rows-next g c =
     more_rows (g.L.Linking.view c.args.symbol.now) c.args.symbol.now c.args.rows.now (starting c.requires.1.steps c.requires.1.most) c.args.language.now c.args.next (c.requires.0 ++ c.args.frame ∷ []) c.args.frame c.args.parts.now.items
-    (record { rule = 0; from = 0; to = 0; end = 0 }) (g.met.L.Linking.laws c.args.symbol.now)
+    (record { rule = 0; after = 0; from = 0; to = 0; end = 0 }) (g.met.L.Linking.laws c.args.symbol.now)
     (record { whole = c.requires.1.whole; follows = c.requires.1.follows; last = (c.requires.0, refl); open_still = open_still _ _ c.if-frame-next.true; fits = c.requires.1.fits })
 
 pub token-requires-clause-room : goal.token-requires-clause-room
 token-requires-clause-room g c =
     (token_asks (g.L.Linking.view c.args.symbol.now) c.args.symbol.now c.args.rows.now (starting c.requires.1.steps c.requires.1.most) c.args.language.now c.args.next (c.requires.0 ++ c.args.frame ∷ []) c.args.frame c.args.parts.now.items
-    (slice_index_or c.args.rows.now c.args.next (record { rule = 0; from = 0; to = 0; end = 0 })) (record { rule = 0; from = 0; to = 0; end = 0 }) (g.met.L.Linking.laws c.args.symbol.now)
+    (slice_index_or c.args.rows.now c.args.next (record { rule = 0; after = 0; from = 0; to = 0; end = 0 })) (record { rule = 0; after = 0; from = 0; to = 0; end = 0 }) (g.met.L.Linking.laws c.args.symbol.now)
     (record { whole = c.requires.1.whole; follows = c.requires.1.follows; last = (c.requires.0, refl); open_still = open_still _ _ c.if-frame-next.true; fits = c.requires.1.fits }) refl c.if-rows-next.true).room
 
 pub token-requires-clause-open : goal.token-requires-clause-open
 token-requires-clause-open g c =
     (token_asks (g.L.Linking.view c.args.symbol.now) c.args.symbol.now c.args.rows.now (starting c.requires.1.steps c.requires.1.most) c.args.language.now c.args.next (c.requires.0 ++ c.args.frame ∷ []) c.args.frame c.args.parts.now.items
-    (slice_index_or c.args.rows.now c.args.next (record { rule = 0; from = 0; to = 0; end = 0 })) (record { rule = 0; from = 0; to = 0; end = 0 }) (g.met.L.Linking.laws c.args.symbol.now)
+    (slice_index_or c.args.rows.now c.args.next (record { rule = 0; after = 0; from = 0; to = 0; end = 0 })) (record { rule = 0; after = 0; from = 0; to = 0; end = 0 }) (g.met.L.Linking.laws c.args.symbol.now)
     (record { whole = c.requires.1.whole; follows = c.requires.1.follows; last = (c.requires.0, refl); open_still = open_still _ _ c.if-frame-next.true; fits = c.requires.1.fits }) refl c.if-rows-next.true).stands
 
 pub token-requires-clause-from : goal.token-requires-clause-from
 token-requires-clause-from g c =
     (token_asks (g.L.Linking.view c.args.symbol.now) c.args.symbol.now c.args.rows.now (starting c.requires.1.steps c.requires.1.most) c.args.language.now c.args.next (c.requires.0 ++ c.args.frame ∷ []) c.args.frame c.args.parts.now.items
-    (slice_index_or c.args.rows.now c.args.next (record { rule = 0; from = 0; to = 0; end = 0 })) (record { rule = 0; from = 0; to = 0; end = 0 }) (g.met.L.Linking.laws c.args.symbol.now)
+    (slice_index_or c.args.rows.now c.args.next (record { rule = 0; after = 0; from = 0; to = 0; end = 0 })) (record { rule = 0; after = 0; from = 0; to = 0; end = 0 }) (g.met.L.Linking.laws c.args.symbol.now)
     (record { whole = c.requires.1.whole; follows = c.requires.1.follows; last = (c.requires.0, refl); open_still = open_still _ _ c.if-frame-next.true; fits = c.requires.1.fits }) refl c.if-rows-next.true).from
 
 pub token-requires-clause-to : goal.token-requires-clause-to
 token-requires-clause-to g c =
     (token_asks (g.L.Linking.view c.args.symbol.now) c.args.symbol.now c.args.rows.now (starting c.requires.1.steps c.requires.1.most) c.args.language.now c.args.next (c.requires.0 ++ c.args.frame ∷ []) c.args.frame c.args.parts.now.items
-    (slice_index_or c.args.rows.now c.args.next (record { rule = 0; from = 0; to = 0; end = 0 })) (record { rule = 0; from = 0; to = 0; end = 0 }) (g.met.L.Linking.laws c.args.symbol.now)
+    (slice_index_or c.args.rows.now c.args.next (record { rule = 0; after = 0; from = 0; to = 0; end = 0 })) (record { rule = 0; after = 0; from = 0; to = 0; end = 0 }) (g.met.L.Linking.laws c.args.symbol.now)
     (record { whole = c.requires.1.whole; follows = c.requires.1.follows; last = (c.requires.0, refl); open_still = open_still _ _ c.if-frame-next.true; fits = c.requires.1.fits }) refl c.if-rows-next.true).to
 
 pub returns-in_err-token-clause-follows : goal.returns-in_err-token-clause-follows
@@ -46,7 +46,7 @@ returns-in_err-token-clause-follows g c whole left most lower follows =
     let p = err_from_is_err_and c.from_residual.result c.from_residual.ensures.1 in
     rw (p.1, p.2)
     (token_taken (g.L.Linking.view c.args.symbol.now) c.args.symbol.now c.args.rows.now whole (starting left most) c.args.language.now c.token.new.self c.args.next (lower ++ c.args.frame ∷ []) c.args.frame
-    c.args.parts.now.items c.token.new.parts.items (slice_index_or c.args.rows.now c.args.next (record { rule = 0; from = 0; to = 0; end = 0 })) (record { rule = 0; from = 0; to = 0; end = 0 }) (Err c.in_err-token.field-0.0)
+    c.args.parts.now.items c.token.new.parts.items (slice_index_or c.args.rows.now c.args.next (record { rule = 0; after = 0; from = 0; to = 0; end = 0 })) (record { rule = 0; after = 0; from = 0; to = 0; end = 0 }) (Err c.in_err-token.field-0.0)
     (g.met.L.Linking.laws c.args.symbol.now) (lower, refl) follows (open_still _ _ c.if-frame-next.true) refl c.if-rows-next.true
     c.in_err-token.ensures.takes c.in_err-token.ensures.adds c.in_err-token.ensures.pays (left + 1) (refl, c.if-frame-next.true))
 
@@ -55,7 +55,7 @@ returns-then-rows-next-clause-follows g c whole left most lower follows = (
   waiting (left + 1),
   refl,
   token_taken (g.L.Linking.view c.args.symbol.now) c.args.symbol.now c.args.rows.now whole (starting left most) c.args.language.now c.token.new.self c.args.next (lower ++ c.args.frame ∷ []) c.args.frame
-      c.args.parts.now.items c.token.new.parts.items (slice_index_or c.args.rows.now c.args.next (record { rule = 0; from = 0; to = 0; end = 0 })) (record { rule = 0; from = 0; to = 0; end = 0 }) (Ok tt)
+      c.args.parts.now.items c.token.new.parts.items (slice_index_or c.args.rows.now c.args.next (record { rule = 0; after = 0; from = 0; to = 0; end = 0 })) (record { rule = 0; after = 0; from = 0; to = 0; end = 0 }) (Ok tt)
       (g.met.L.Linking.laws c.args.symbol.now) (lower, refl) follows (open_still _ _ c.if-frame-next.true) refl c.if-rows-next.true
       c.in_ok-token.ensures.takes c.in_ok-token.ensures.adds c.in_ok-token.ensures.pays (left + 1) (refl, c.if-frame-next.true),
   λ still. absurd (still c.if-frame-next.true),
@@ -67,7 +67,7 @@ returns-clause-follows g c whole left most lower follows = (
   refl,
   follows,
   λ still. begun_waits (g.L.Linking.view c.args.symbol.now) c.args.symbol.now c.args.rows.now whole left most c.args.language.now c.args.next lower c.args.frame c.args.parts.now.items
-      (slice_index_or c.args.rows.now c.args.next (record { rule = 0; from = 0; to = 0; end = 0 })) (record { rule = 0; from = 0; to = 0; end = 0 }) (g.met.L.Linking.laws c.args.symbol.now) follows still refl
+      (slice_index_or c.args.rows.now c.args.next (record { rule = 0; after = 0; from = 0; to = 0; end = 0 })) (record { rule = 0; after = 0; from = 0; to = 0; end = 0 }) (g.met.L.Linking.laws c.args.symbol.now) follows still refl
       (λ is_token ends. elim c.else-frame-next.branch [
         | else-frame-next-via-then-frame-next+else-rows-next w ↦ w.if-rows-next.false is_token
         | else-frame-next-via-else-frame-next w ↦ w.if-frame-next.false ends
@@ -78,12 +78,12 @@ pub returns-in_err-token-clause-few : goal.returns-in_err-token-clause-few
 returns-in_err-token-clause-few g c whole left most lower follows =
     let p = err_from_is_err_and c.from_residual.result c.from_residual.ensures.1 in
     rw p.1 (token_refused_within (g.L.Linking.view c.args.symbol.now) c.args.symbol.now c.args.rows.now whole left most c.args.language.now c.token.new.self c.args.next lower c.args.frame c.args.parts.now.items
-    (slice_index_or c.args.rows.now c.args.next (record { rule = 0; from = 0; to = 0; end = 0 })) (record { rule = 0; from = 0; to = 0; end = 0 }) (g.met.L.Linking.laws c.args.symbol.now) follows c.if-frame-next.true refl c.if-rows-next.true c.in_err-token.ensures.few)
+    (slice_index_or c.args.rows.now c.args.next (record { rule = 0; after = 0; from = 0; to = 0; end = 0 })) (record { rule = 0; after = 0; from = 0; to = 0; end = 0 }) (g.met.L.Linking.laws c.args.symbol.now) follows c.if-frame-next.true refl c.if-rows-next.true c.in_err-token.ensures.few)
 
 pub returns-then-rows-next-clause-few : goal.returns-then-rows-next-clause-few
 returns-then-rows-next-clause-few g c whole left most lower follows =
     token_within (g.L.Linking.view c.args.symbol.now) c.args.symbol.now c.args.rows.now whole left most c.args.language.now c.token.new.self c.args.next lower c.args.frame c.args.parts.now.items c.token.new.parts.items
-    (slice_index_or c.args.rows.now c.args.next (record { rule = 0; from = 0; to = 0; end = 0 })) (record { rule = 0; from = 0; to = 0; end = 0 }) (g.met.L.Linking.laws c.args.symbol.now) follows c.if-frame-next.true refl c.if-rows-next.true c.in_ok-token.ensures.takes c.in_ok-token.ensures.adds
+    (slice_index_or c.args.rows.now c.args.next (record { rule = 0; after = 0; from = 0; to = 0; end = 0 })) (record { rule = 0; after = 0; from = 0; to = 0; end = 0 }) (g.met.L.Linking.laws c.args.symbol.now) follows c.if-frame-next.true refl c.if-rows-next.true c.in_ok-token.ensures.takes c.in_ok-token.ensures.adds
 
 pub returns-clause-few : goal.returns-clause-few
 returns-clause-few g c whole left most lower follows =
@@ -104,6 +104,6 @@ returns-in_err-token-clause-full g c =
     rw (p.1, p.2)
     (only_refused _ (TokenTakesMemory view c.args.symbol.now) before before after_token c.in_err-token.field-0.0
     (token_there view c.args.symbol.now c.args.rows.now (starting c.requires.1.steps c.requires.1.most) c.args.language.now c.args.next (c.requires.0 ++ c.args.frame ∷ []) c.args.frame c.args.parts.now.items
-    (slice_index_or c.args.rows.now c.args.next (record { rule = 0; from = 0; to = 0; end = 0 })) (record { rule = 0; from = 0; to = 0; end = 0 }) (g.met.L.Linking.laws c.args.symbol.now)
+    (slice_index_or c.args.rows.now c.args.next (record { rule = 0; after = 0; from = 0; to = 0; end = 0 })) (record { rule = 0; after = 0; from = 0; to = 0; end = 0 }) (g.met.L.Linking.laws c.args.symbol.now)
     (record { whole = c.requires.1.whole; follows = c.requires.1.follows; last = (c.requires.0, refl); open_still = open_still _ _ c.if-frame-next.true; fits = c.requires.1.fits }) refl c.if-rows-next.true)
     (room_same before) c.in_err-token.ensures.full)

@@ -1,8 +1,8 @@
-use Rattle.std.proofs.Common.{◌≡◌, ◌-◌, arith, Ok, Err, drop, length, length-drop}
+use Rattle.std.proofs.Common.{arith, Ok, Err}
 use Rattle.std.specs.Prelude.{take}
 use Rattle.std.proofs.lemmas.Result.{err_from_is_err_and}
 use Rattle.sym_link.specs.Machine.{passed}
-use Rattle.sym_link.proofs.Passing.{passing_first, open_first, closed_all, closed_none}
+use Rattle.sym_link.proofs.Passing.{close_first, open_first, closed_all, closed_none}
 use Rattle.sym_link.specs.Linking.{lists_with}
 use Rattle.sym_link.proofs.Room.{room_then, only_refused}
 use Rattle.sym_link.proofs.threads.close_by.Goals as goal
@@ -17,10 +17,7 @@ returns-in_err-pass-clause-closes g c rule known from left state is none =
     let view = g.L.Threading.view c.args.symbol.now in
     let laws = g.met.L.Threading.laws c.args.symbol.now in
     let lower = take c.args.frame.now.base c.args.parts.now.items in
-    let own = drop c.args.frame.now.base c.args.parts.now.items in
-    let held : length (drop c.args.frame.now.base c.args.parts.now.items) ≡ c.len.result - c.args.frame.now.base = omega (arith, length-drop c.args.frame.now.base c.args.parts.now.items, c.len.ensures, c.args.parts.now.ok.0) in
-    let to_is = c.count-to.ensures own rule known from left state is held none in
-    let first = passing_first view c.args.symbol.now laws c.args.language.now c.args.frame.now c.args.parts.now.items c.requires.base rule known from left state is c.count-to.result to_is in
+    let first = close_first view c.args.symbol.now laws c.args.language.now c.args.frame.now c.args.parts.now.items c.requires.base rule known from left state is c.count-to.result (c.count-to.ensures c.args.symbol.now) none in
     let p = err_from_is_err_and c.from_residual.result c.from_residual.ensures.1 in
     rw (p.1, p.2)
     (closed_none view c.args.symbol.now laws c.args.language.now c.args.frame.now c.args.parts.now.items c.requires.base rule known from left state is c.pass.new.language c.pass.new.parts.items c.in_err-pass.field-0.0
@@ -31,10 +28,7 @@ returns-in_err-finish-clause-closes g c rule known from left state is none =
     let view = g.L.Threading.view c.args.symbol.now in
     let laws = g.met.L.Threading.laws c.args.symbol.now in
     let lower = take c.args.frame.now.base c.args.parts.now.items in
-    let own = drop c.args.frame.now.base c.args.parts.now.items in
-    let held : length (drop c.args.frame.now.base c.args.parts.now.items) ≡ c.len.result - c.args.frame.now.base = omega (arith, length-drop c.args.frame.now.base c.args.parts.now.items, c.len.ensures, c.args.parts.now.ok.0) in
-    let to_is = c.count-to.ensures own rule known from left state is held none in
-    let first = passing_first view c.args.symbol.now laws c.args.language.now c.args.frame.now c.args.parts.now.items c.requires.base rule known from left state is c.count-to.result to_is in
+    let first = close_first view c.args.symbol.now laws c.args.language.now c.args.frame.now c.args.parts.now.items c.requires.base rule known from left state is c.count-to.result (c.count-to.ensures c.args.symbol.now) none in
     let p = err_from_is_err_and c.from_residual-in_err-finish.result c.from_residual-in_err-finish.ensures.1 in
     rw (p.1, p.2)
     (closed_all view c.args.symbol.now laws c.args.language.now c.args.frame.now c.args.parts.now.items c.requires.base rule known from left state is c.pass.new.language c.finish.new.self c.pass.new.parts.items c.finish.new.parts.items (Err c.in_err-finish.field-0.0) c.in_ok-pass.ensures.adds.0
@@ -45,10 +39,7 @@ returns-clause-closes g c rule known from left state is none =
     let view = g.L.Threading.view c.args.symbol.now in
     let laws = g.met.L.Threading.laws c.args.symbol.now in
     let lower = take c.args.frame.now.base c.args.parts.now.items in
-    let own = drop c.args.frame.now.base c.args.parts.now.items in
-    let held : length (drop c.args.frame.now.base c.args.parts.now.items) ≡ c.len.result - c.args.frame.now.base = omega (arith, length-drop c.args.frame.now.base c.args.parts.now.items, c.len.ensures, c.args.parts.now.ok.0) in
-    let to_is = c.count-to.ensures own rule known from left state is held none in
-    let first = passing_first view c.args.symbol.now laws c.args.language.now c.args.frame.now c.args.parts.now.items c.requires.base rule known from left state is c.count-to.result to_is in
+    let first = close_first view c.args.symbol.now laws c.args.language.now c.args.frame.now c.args.parts.now.items c.requires.base rule known from left state is c.count-to.result (c.count-to.ensures c.args.symbol.now) none in
     closed_all view c.args.symbol.now laws c.args.language.now c.args.frame.now c.args.parts.now.items c.requires.base rule known from left state is c.pass.new.language c.finish.new.self c.pass.new.parts.items c.finish.new.parts.items (Ok tt) c.in_ok-pass.ensures.adds.0
     (c.in_ok-pass.ensures.passes lower (passed view.reading rule known from left state) first) c.in_ok-finish.ensures.closes
 

@@ -1,8 +1,9 @@
-use Rattle.std.proofs.Common.{◌≡◌, ◌-◌, arith, Err, drop, length, length-drop}
+use Rattle.std.proofs.Common.{arith, Err}
 use Rattle.std.specs.Prelude.{take}
 use Rattle.std.proofs.lemmas.Result.{err_from_is_err_and}
+use Rattle.sym_shape.specs.Tree.{branch}
 use Rattle.sym_link.specs.Machine.{passed}
-use Rattle.sym_link.proofs.Passing.{passing_first, open_first, begins_passed, begins_gone, begins_refused, begins_right}
+use Rattle.sym_link.proofs.Passing.{row_first, open_first, begins_passed, begins_gone, begins_refused, begins_right}
 use Rattle.sym_link.specs.Room.{one_by_one}
 use Rattle.sym_link.specs.Linking.{lists_with}
 use Rattle.sym_link.proofs.Room.{room_then, only_refused, list_more}
@@ -14,56 +15,44 @@ pass-requires-clause-open g c =
     c.requires.open.rule c.requires.open.known c.requires.open.from c.requires.open.left c.requires.open.state c.requires.open.inside
 
 pub returns-in_err-pass-clause-opens : goal.returns-in_err-pass-clause-opens
-returns-in_err-pass-clause-opens g c around known from left state rule taken inner rest is left_is row_is =
+returns-in_err-pass-clause-opens g c around known from left state rule taken inner rest is left_is row_is after =
     let view = g.L.Threading.view c.args.symbol.now in
     let laws = g.met.L.Threading.laws c.args.symbol.now in
     let lower = take c.args.frame.now.base c.args.parts.now.items in
-    let own = drop c.args.frame.now.base c.args.parts.now.items in
-    let held : length (drop c.args.frame.now.base c.args.parts.now.items) ≡ c.len.result - c.args.frame.now.base = omega (arith, length-drop c.args.frame.now.base c.args.parts.now.items, c.len.ensures, c.args.parts.now.ok.0) in
-    let to_is = c.ahead-to.ensures own around known from left state rule taken inner rest is held left_is row_is in
-    let first = passing_first view c.args.symbol.now laws c.args.language.now c.args.frame.now c.args.parts.now.items c.requires.base around known from left state is c.ahead-to.result to_is in
+    let first = row_first view c.args.symbol.now laws c.args.language.now c.args.frame.now c.args.parts.now.items c.requires.base around known from left state is _ c.args.row.after c.ahead-to.result (c.ahead-to.ensures c.args.symbol.now) (omega (arith, c.len.ensures, c.args.parts.now.ok.0)) (branch rule taken inner) rest left_is after in
     let p = err_from_is_err_and c.from_residual.result c.from_residual.ensures.1 in
     rw (p.1, p.2)
     (begins_passed view c.args.symbol.now laws c.args.language.now c.args.frame.now c.args.parts.now.items c.requires.base around known from left state is (g.L.Threading.surrounds c.args.symbol.now) c.args.rows.now c.args.row rule taken inner row_is rest left_is c.pass.new.language c.pass.new.parts.items c.in_err-pass.field-0.0
     (c.in_err-pass.ensures.passes lower (passed view.reading around known from left state) first))
 
 pub returns-in_err-context-clause-opens : goal.returns-in_err-context-clause-opens
-returns-in_err-context-clause-opens g c around known from left state rule taken inner rest is left_is row_is =
+returns-in_err-context-clause-opens g c around known from left state rule taken inner rest is left_is row_is after =
     let view = g.L.Threading.view c.args.symbol.now in
     let laws = g.met.L.Threading.laws c.args.symbol.now in
     let lower = take c.args.frame.now.base c.args.parts.now.items in
-    let own = drop c.args.frame.now.base c.args.parts.now.items in
-    let held : length (drop c.args.frame.now.base c.args.parts.now.items) ≡ c.len.result - c.args.frame.now.base = omega (arith, length-drop c.args.frame.now.base c.args.parts.now.items, c.len.ensures, c.args.parts.now.ok.0) in
-    let to_is = c.ahead-to.ensures own around known from left state rule taken inner rest is held left_is row_is in
-    let first = passing_first view c.args.symbol.now laws c.args.language.now c.args.frame.now c.args.parts.now.items c.requires.base around known from left state is c.ahead-to.result to_is in
+    let first = row_first view c.args.symbol.now laws c.args.language.now c.args.frame.now c.args.parts.now.items c.requires.base around known from left state is _ c.args.row.after c.ahead-to.result (c.ahead-to.ensures c.args.symbol.now) (omega (arith, c.len.ensures, c.args.parts.now.ok.0)) (branch rule taken inner) rest left_is after in
     let p = err_from_is_err_and c.from_residual-in_err-context.result c.from_residual-in_err-context.ensures.1 in
     rw (p.1, p.2)
     (begins_gone view c.args.symbol.now laws c.args.language.now c.args.frame.now c.args.parts.now.items c.requires.base around known from left state is (g.L.Threading.surrounds c.args.symbol.now) c.args.rows.now c.args.row rule taken inner row_is rest left_is c.pass.new.language c.between.new.self c.pass.new.parts.items c.between.new.parts.items c.in_ok-pass.ensures.adds.0
     (c.in_ok-pass.ensures.passes lower (passed view.reading around known from left state) first) c.in_err-context.field-0.0 c.in_err-context.ensures.goes)
 
 pub returns-in_err-kept-clause-opens : goal.returns-in_err-kept-clause-opens
-returns-in_err-kept-clause-opens g c around known from left state rule taken inner rest is left_is row_is =
+returns-in_err-kept-clause-opens g c around known from left state rule taken inner rest is left_is row_is after =
     let view = g.L.Threading.view c.args.symbol.now in
     let laws = g.met.L.Threading.laws c.args.symbol.now in
     let lower = take c.args.frame.now.base c.args.parts.now.items in
-    let own = drop c.args.frame.now.base c.args.parts.now.items in
-    let held : length (drop c.args.frame.now.base c.args.parts.now.items) ≡ c.len.result - c.args.frame.now.base = omega (arith, length-drop c.args.frame.now.base c.args.parts.now.items, c.len.ensures, c.args.parts.now.ok.0) in
-    let to_is = c.ahead-to.ensures own around known from left state rule taken inner rest is held left_is row_is in
-    let first = passing_first view c.args.symbol.now laws c.args.language.now c.args.frame.now c.args.parts.now.items c.requires.base around known from left state is c.ahead-to.result to_is in
+    let first = row_first view c.args.symbol.now laws c.args.language.now c.args.frame.now c.args.parts.now.items c.requires.base around known from left state is _ c.args.row.after c.ahead-to.result (c.ahead-to.ensures c.args.symbol.now) (omega (arith, c.len.ensures, c.args.parts.now.ok.0)) (branch rule taken inner) rest left_is after in
     let p = err_from_is_err_and c.from_residual-in_err-kept.result c.from_residual-in_err-kept.ensures.1 in
     rw (p.1, p.2)
     (begins_refused view c.args.symbol.now laws c.args.language.now c.args.frame.now c.args.parts.now.items c.requires.base around known from left state is (g.L.Threading.surrounds c.args.symbol.now) c.args.rows.now c.args.row rule taken inner row_is rest left_is c.pass.new.language c.between.new.self c.pass.new.parts.items c.between.new.parts.items c.in_ok-pass.ensures.adds.0
     (c.in_ok-pass.ensures.passes lower (passed view.reading around known from left state) first) c.begin.new.self c.in_ok-context.context c.in_err-kept.field-0.0 c.in_ok-context.ensures.goes c.in_err-kept.ensures.begins)
 
 pub returns-clause-opens : goal.returns-clause-opens
-returns-clause-opens g c around known from left state rule taken inner rest is left_is row_is =
+returns-clause-opens g c around known from left state rule taken inner rest is left_is row_is after =
     let view = g.L.Threading.view c.args.symbol.now in
     let laws = g.met.L.Threading.laws c.args.symbol.now in
     let lower = take c.args.frame.now.base c.args.parts.now.items in
-    let own = drop c.args.frame.now.base c.args.parts.now.items in
-    let held : length (drop c.args.frame.now.base c.args.parts.now.items) ≡ c.len.result - c.args.frame.now.base = omega (arith, length-drop c.args.frame.now.base c.args.parts.now.items, c.len.ensures, c.args.parts.now.ok.0) in
-    let to_is = c.ahead-to.ensures own around known from left state rule taken inner rest is held left_is row_is in
-    let first = passing_first view c.args.symbol.now laws c.args.language.now c.args.frame.now c.args.parts.now.items c.requires.base around known from left state is c.ahead-to.result to_is in
+    let first = row_first view c.args.symbol.now laws c.args.language.now c.args.frame.now c.args.parts.now.items c.requires.base around known from left state is _ c.args.row.after c.ahead-to.result (c.ahead-to.ensures c.args.symbol.now) (omega (arith, c.len.ensures, c.args.parts.now.ok.0)) (branch rule taken inner) rest left_is after in
     begins_right view c.args.symbol.now laws c.args.language.now c.args.frame.now c.args.parts.now.items c.requires.base around known from left state is (g.L.Threading.surrounds c.args.symbol.now) c.args.rows.now c.args.row rule taken inner row_is rest left_is c.pass.new.language c.between.new.self c.pass.new.parts.items c.between.new.parts.items c.in_ok-pass.ensures.adds.0
     (c.in_ok-pass.ensures.passes lower (passed view.reading around known from left state) first) c.begin.new.self c.in_ok-context.context c.in_ok-kept.kept c.in_ok-context.ensures.goes c.in_ok-kept.ensures.adds.0 c.in_ok-kept.ensures.begins
 

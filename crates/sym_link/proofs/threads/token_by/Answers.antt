@@ -1,11 +1,12 @@
-use Rattle.std.proofs.Common.{rules, ◌≡◌, ◌-◌, arith, Ok, Err, drop, length, length-drop, sym, subst}
+use Rattle.std.proofs.Common.{rules, ◌-◌, arith, Ok, Err, drop, sym, subst}
 use Rattle.std.specs.Prelude.{take}
 use Rattle.std.proofs.lemmas.Result.{err_from_is_err_and}
+use Rattle.sym_shape.specs.Tree.{token}
 use Rattle.sym_link.specs.Machine.{passed}
 use Rattle.sym_link.specs.Linking.{Takes, next_of, taken_in}
 use Rattle.sym_link.specs.Parts.{skipped_from}
 use Rattle.sym_link.specs.Reading.{◌>>=◌}
-use Rattle.sym_link.proofs.Passing.{passing_first, open_first, token_passed, token_gone, token_refused, token_right}
+use Rattle.sym_link.proofs.Passing.{row_first, open_first, token_passed, token_gone, token_refused, token_right}
 use Rattle.sym_link.specs.Room.{one_by_one}
 use Rattle.sym_link.specs.Linking.{lists_with}
 use Rattle.sym_link.proofs.Room.{room_then, only_refused, list_more}
@@ -17,56 +18,44 @@ pass-requires-clause-open g c =
     c.requires.open.rule c.requires.open.known c.requires.open.from c.requires.open.left c.requires.open.state c.requires.open.inside
 
 pub returns-in_err-pass-clause-takes : goal.returns-in_err-pass-clause-takes
-returns-in_err-pass-clause-takes g c around known from left state t rest is left_is row_is =
+returns-in_err-pass-clause-takes g c around known from left state t rest is left_is row_is after =
     let view = g.L.Threading.view c.args.symbol.now in
     let laws = g.met.L.Threading.laws c.args.symbol.now in
     let lower = take c.args.frame.now.base c.args.parts.now.items in
-    let own = drop c.args.frame.now.base c.args.parts.now.items in
-    let held : length (drop c.args.frame.now.base c.args.parts.now.items) ≡ c.len.result - c.args.frame.now.base = omega (arith, length-drop c.args.frame.now.base c.args.parts.now.items, c.len.ensures, c.args.parts.now.ok.0) in
-    let to_is = c.ahead_token-to.ensures own around known from left state t rest is held left_is in
-    let first = passing_first view c.args.symbol.now laws c.args.language.now c.args.frame.now c.args.parts.now.items c.requires.base around known from left state is c.ahead_token-to.result to_is in
+    let first = row_first view c.args.symbol.now laws c.args.language.now c.args.frame.now c.args.parts.now.items c.requires.base around known from left state is _ c.args.row.after c.ahead-to.result (c.ahead-to.ensures c.args.symbol.now) (omega (arith, c.len.ensures, c.args.parts.now.ok.0)) (token t) rest left_is after in
     let p = err_from_is_err_and c.from_residual.result c.from_residual.ensures.1 in
     rw (p.1, p.2)
     (token_passed view c.args.symbol.now laws c.args.language.now c.args.frame.now c.args.parts.now.items c.requires.base around known from left state is (g.L.Threading.surrounds c.args.symbol.now) c.args.row t row_is c.pass.new.language c.pass.new.parts.items c.in_err-pass.field-0.0
     (c.in_err-pass.ensures.passes lower (passed view.reading around known from left state) first))
 
 pub returns-in_err-between-clause-takes : goal.returns-in_err-between-clause-takes
-returns-in_err-between-clause-takes g c around known from left state t rest is left_is row_is =
+returns-in_err-between-clause-takes g c around known from left state t rest is left_is row_is after =
     let view = g.L.Threading.view c.args.symbol.now in
     let laws = g.met.L.Threading.laws c.args.symbol.now in
     let lower = take c.args.frame.now.base c.args.parts.now.items in
-    let own = drop c.args.frame.now.base c.args.parts.now.items in
-    let held : length (drop c.args.frame.now.base c.args.parts.now.items) ≡ c.len.result - c.args.frame.now.base = omega (arith, length-drop c.args.frame.now.base c.args.parts.now.items, c.len.ensures, c.args.parts.now.ok.0) in
-    let to_is = c.ahead_token-to.ensures own around known from left state t rest is held left_is in
-    let first = passing_first view c.args.symbol.now laws c.args.language.now c.args.frame.now c.args.parts.now.items c.requires.base around known from left state is c.ahead_token-to.result to_is in
+    let first = row_first view c.args.symbol.now laws c.args.language.now c.args.frame.now c.args.parts.now.items c.requires.base around known from left state is _ c.args.row.after c.ahead-to.result (c.ahead-to.ensures c.args.symbol.now) (omega (arith, c.len.ensures, c.args.parts.now.ok.0)) (token t) rest left_is after in
     let p = err_from_is_err_and c.from_residual-in_err-between.result c.from_residual-in_err-between.ensures.1 in
     rw (p.1, p.2)
     (token_gone view c.args.symbol.now laws c.args.language.now c.args.frame.now c.args.parts.now.items c.requires.base around known from left state is (g.L.Threading.surrounds c.args.symbol.now) c.args.row t row_is c.pass.new.language c.between.new.self c.pass.new.parts.items c.between.new.parts.items c.in_ok-pass.ensures.adds.0
     (c.in_ok-pass.ensures.passes lower (passed view.reading around known from left state) first) c.in_err-between.field-0.0 c.in_err-between.ensures.goes)
 
 pub returns-in_err-part-clause-takes : goal.returns-in_err-part-clause-takes
-returns-in_err-part-clause-takes g c around known from left state t rest is left_is row_is =
+returns-in_err-part-clause-takes g c around known from left state t rest is left_is row_is after =
     let view = g.L.Threading.view c.args.symbol.now in
     let laws = g.met.L.Threading.laws c.args.symbol.now in
     let lower = take c.args.frame.now.base c.args.parts.now.items in
-    let own = drop c.args.frame.now.base c.args.parts.now.items in
-    let held : length (drop c.args.frame.now.base c.args.parts.now.items) ≡ c.len.result - c.args.frame.now.base = omega (arith, length-drop c.args.frame.now.base c.args.parts.now.items, c.len.ensures, c.args.parts.now.ok.0) in
-    let to_is = c.ahead_token-to.ensures own around known from left state t rest is held left_is in
-    let first = passing_first view c.args.symbol.now laws c.args.language.now c.args.frame.now c.args.parts.now.items c.requires.base around known from left state is c.ahead_token-to.result to_is in
+    let first = row_first view c.args.symbol.now laws c.args.language.now c.args.frame.now c.args.parts.now.items c.requires.base around known from left state is _ c.args.row.after c.ahead-to.result (c.ahead-to.ensures c.args.symbol.now) (omega (arith, c.len.ensures, c.args.parts.now.ok.0)) (token t) rest left_is after in
     let p = err_from_is_err_and c.from_residual-in_err-part.result c.from_residual-in_err-part.ensures.1 in
     rw (p.1, p.2)
     (token_refused view c.args.symbol.now laws c.args.language.now c.args.frame.now c.args.parts.now.items c.requires.base around known from left state is (g.L.Threading.surrounds c.args.symbol.now) c.args.row t row_is c.pass.new.language c.between.new.self c.pass.new.parts.items c.between.new.parts.items c.in_ok-pass.ensures.adds.0
     (c.in_ok-pass.ensures.passes lower (passed view.reading around known from left state) first) c.text.new.self c.in_ok-between.field-0 c.in_err-part.field-0.0 c.in_ok-between.ensures.goes c.in_err-part.ensures.taken)
 
 pub returns-clause-takes : goal.returns-clause-takes
-returns-clause-takes g c around known from left state t rest is left_is row_is =
+returns-clause-takes g c around known from left state t rest is left_is row_is after =
     let view = g.L.Threading.view c.args.symbol.now in
     let laws = g.met.L.Threading.laws c.args.symbol.now in
     let lower = take c.args.frame.now.base c.args.parts.now.items in
-    let own = drop c.args.frame.now.base c.args.parts.now.items in
-    let held : length (drop c.args.frame.now.base c.args.parts.now.items) ≡ c.len.result - c.args.frame.now.base = omega (arith, length-drop c.args.frame.now.base c.args.parts.now.items, c.len.ensures, c.args.parts.now.ok.0) in
-    let to_is = c.ahead_token-to.ensures own around known from left state t rest is held left_is in
-    let first = passing_first view c.args.symbol.now laws c.args.language.now c.args.frame.now c.args.parts.now.items c.requires.base around known from left state is c.ahead_token-to.result to_is in
+    let first = row_first view c.args.symbol.now laws c.args.language.now c.args.frame.now c.args.parts.now.items c.requires.base around known from left state is _ c.args.row.after c.ahead-to.result (c.ahead-to.ensures c.args.symbol.now) (omega (arith, c.len.ensures, c.args.parts.now.ok.0)) (token t) rest left_is after in
     subst (λ qs. Takes view c.text.new.self lower qs (Ok tt) (next_of view.reading around known from left state >>= taken_in view.reading t (skipped_from from left))) (sym c.in_ok-push.ensures.items)
     (token_right view c.args.symbol.now laws c.args.language.now c.args.frame.now c.args.parts.now.items c.requires.base around known from left state is (g.L.Threading.surrounds c.args.symbol.now) c.args.row t row_is c.pass.new.language c.between.new.self c.pass.new.parts.items c.between.new.parts.items c.in_ok-pass.ensures.adds.0
     (c.in_ok-pass.ensures.passes lower (passed view.reading around known from left state) first) c.text.new.self c.in_ok-between.field-0 c.in_ok-part.part c.in_ok-between.ensures.goes c.in_ok-part.ensures.adds.0 c.in_ok-part.ensures.taken)

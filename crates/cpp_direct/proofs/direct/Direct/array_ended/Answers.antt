@@ -2,7 +2,7 @@ use Rattle.std.proofs.Common.{ap, ◌∙◌, refl, subst}
 use Rattle.cpp_direct.specs.Symbol.{symbol_by}
 use Rattle.cpp_direct.specs.Written.{Writes, with_hidden}
 use Rattle.cpp_direct.specs.declared.open.Open.TheVariants as opens
-use Rattle.cpp_direct.proofs.ArraysRead.{array-written}
+use Rattle.cpp_direct.proofs.Signatures.{array-written}
 use Rattle.cpp_direct.proofs.TypesRead.{popped}
 use Rattle.cpp_direct.proofs.direct.Direct.array_ended.Goals as goal
 

@@ -3,8 +3,8 @@ use Rattle.sym_core.specs.declared.NumberKind.TheVariants.{Decimal}
 use Rattle.sym_core.specs.Token.{IsNumberToken}
 use Rattle.cpp_direct.specs.HolesOfArrays.{IsSizeAt}
 use Rattle.cpp_direct.specs.Symbol.{symbol_by}
-use Rattle.cpp_direct.proofs.ArraysRead.{array-begins}
-use Rattle.cpp_direct.proofs.FoundTokens.{place-found, size-found}
+use Rattle.cpp_direct.proofs.Signatures.{array-begins}
+use Rattle.cpp_direct.proofs.NamePlaces.{place-found, size-found}
 use Rattle.cpp_direct.proofs.direct.Direct.begin_array.Goals as goal
 
 pub returns : goal.returns

@@ -1,6 +1,6 @@
 use Rattle.std.proofs.Common.{◌≡◌, ◌+◌, if◌then◌else◌, refl, ap, sym, ◌∙◌}
 use Rattle.cpp_direct.specs.Symbol.{symbol_by}
-use Rattle.cpp_direct.proofs.FunctionsRead.{function-begins}
+use Rattle.cpp_direct.proofs.Signatures.{function-begins}
 use Rattle.cpp_direct.proofs.direct.Direct.begin_function.Goals as goal
 use Rattle.cpp_direct.proofs.direct.Direct.begin_function.Goals.{then-is_pointer, else-is_pointer}
 

@@ -1,7 +1,7 @@
 use Rattle.std.proofs.Common.{◌∷◌, [], arith, subst}
 use Rattle.cpp_direct.specs.Symbol.{symbol_by}
 use Rattle.cpp_direct.specs.Holes.{StandsAt}
-use Rattle.cpp_direct.proofs.Entities.{local-begins}
+use Rattle.cpp_direct.proofs.UnscopedNames.{local-begins}
 use Rattle.cpp_direct.proofs.direct.Direct.begin_local.Goals as goal
 
 pub begin_encoding-requires-clause-awaits : goal.begin_encoding-requires-clause-awaits

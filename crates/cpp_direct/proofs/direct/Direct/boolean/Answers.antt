@@ -1,6 +1,6 @@
 use Rattle.std.proofs.Common.{inl, inr, refl, arith}
-use Rattle.cpp_direct.proofs.FoundTokens.{some-by, reads-written}
-use Rattle.cpp_direct.proofs.Literals.{boolean-read}
+use Rattle.cpp_direct.proofs.NamePlaces.{some-by, reads-written}
+use Rattle.cpp_direct.proofs.Elements.{boolean-read}
 use Rattle.cpp_direct.proofs.direct.Direct.boolean.Goals as goal
 
 pub returns-in-48 : goal.returns-in-48

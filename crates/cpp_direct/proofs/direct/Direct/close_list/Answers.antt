@@ -7,30 +7,14 @@ use Rattle.cpp_direct.proofs.direct.Direct.close_list.Goals as goal
 
 pub name_ended-requires-clause-ended : goal.name_ended-requires-clause-ended
 name_ended-requires-clause-ended g c =
-    let w : Direct = record {
-      text = c.end_arguments.new.self.text;
-      candidates = c.end_arguments.new.self.candidates;
-      waiting = c.pop.new.self;
-      nest = c.end_arguments.new.self.nest;
-      argument = c.args.argument;
-      at = c.end_arguments.new.self.at;
-      rounds = c.end_arguments.new.self.rounds;
-    } in
+    let w : Direct = record c.end_arguments.new.self { waiting = c.pop.new.self; argument = c.args.argument } in
     name-closed (symbol_by g.G.Grammar.IS_WIDE g.G.Grammar.IS_BARE g.G.Grammar.IS_BRIEF c.args.s.now) w c.in-NameArguments.from
     (closed-by (symbol_by g.G.Grammar.IS_WIDE g.G.Grammar.IS_BARE g.G.Grammar.IS_BRIEF c.args.s.now) c.args.self.now c.end_arguments.new.self w c.in_ok-from.field-0 (opens.NameArguments c.in-NameArguments.from)
     c.requires.ended c.in_ok-end_arguments.ensures refl refl refl c.in_ok-from.ensures.items c.in-NameArguments.is)
 
 pub returns-in_ok-add_candidate-in-TypeArguments : goal.returns-in_ok-add_candidate-in-TypeArguments
 returns-in_ok-add_candidate-in-TypeArguments g c =
-    let w : Direct = record {
-      text = c.end_arguments.new.self.text;
-      candidates = c.end_arguments.new.self.candidates;
-      waiting = c.pop.new.self;
-      nest = c.end_arguments.new.self.nest;
-      argument = c.args.argument;
-      at = c.end_arguments.new.self.at;
-      rounds = c.end_arguments.new.self.rounds;
-    } in
+    let w : Direct = record c.end_arguments.new.self { waiting = c.pop.new.self; argument = c.args.argument } in
     type-closed (symbol_by g.G.Grammar.IS_WIDE g.G.Grammar.IS_BARE g.G.Grammar.IS_BRIEF c.args.s.now) w c.add_candidate.new.self c.in-TypeArguments.from
     (closed-by (symbol_by g.G.Grammar.IS_WIDE g.G.Grammar.IS_BARE g.G.Grammar.IS_BRIEF c.args.s.now) c.args.self.now c.end_arguments.new.self w c.in_ok-from.field-0 (opens.TypeArguments c.in-TypeArguments.from)
     c.requires.ended c.in_ok-end_arguments.ensures refl refl refl c.in_ok-from.ensures.items c.in-TypeArguments.is)
@@ -38,30 +22,14 @@ returns-in_ok-add_candidate-in-TypeArguments g c =
 
 pub returns-in-NestArguments : goal.returns-in-NestArguments
 returns-in-NestArguments g c =
-    let w : Direct = record {
-      text = c.end_arguments.new.self.text;
-      candidates = c.end_arguments.new.self.candidates;
-      waiting = c.pop.new.self;
-      nest = c.end_arguments.new.self.nest;
-      argument = c.args.argument;
-      at = c.end_arguments.new.self.at;
-      rounds = c.end_arguments.new.self.rounds;
-    } in
+    let w : Direct = record c.end_arguments.new.self { waiting = c.pop.new.self; argument = c.args.argument } in
     nest-closed (symbol_by g.G.Grammar.IS_WIDE g.G.Grammar.IS_BARE g.G.Grammar.IS_BRIEF c.args.s.now) w c.in-NestArguments.nest
     (closed-by (symbol_by g.G.Grammar.IS_WIDE g.G.Grammar.IS_BARE g.G.Grammar.IS_BRIEF c.args.s.now) c.args.self.now c.end_arguments.new.self w c.in_ok-from.field-0 (opens.NestArguments c.in-NestArguments.nest)
     c.requires.ended c.in_ok-end_arguments.ensures refl refl refl c.in_ok-from.ensures.items c.in-NestArguments.is)
 
 pub returns-in_ok-add_candidate-in-FirstArguments : goal.returns-in_ok-add_candidate-in-FirstArguments
 returns-in_ok-add_candidate-in-FirstArguments g c =
-    let w : Direct = record {
-      text = c.end_arguments.new.self.text;
-      candidates = c.end_arguments.new.self.candidates;
-      waiting = c.pop.new.self;
-      nest = c.end_arguments.new.self.nest;
-      argument = c.args.argument;
-      at = c.end_arguments.new.self.at;
-      rounds = c.end_arguments.new.self.rounds;
-    } in
+    let w : Direct = record c.end_arguments.new.self { waiting = c.pop.new.self; argument = c.args.argument } in
     first-closed (symbol_by g.G.Grammar.IS_WIDE g.G.Grammar.IS_BARE g.G.Grammar.IS_BRIEF c.args.s.now) w c.add_candidate-in-FirstArguments.new.self c.in-FirstArguments.nest
     (closed-by (symbol_by g.G.Grammar.IS_WIDE g.G.Grammar.IS_BARE g.G.Grammar.IS_BRIEF c.args.s.now) c.args.self.now c.end_arguments.new.self w c.in_ok-from.field-0 (opens.FirstArguments c.in-FirstArguments.nest)
     c.requires.ended c.in_ok-end_arguments.ensures refl refl refl c.in_ok-from.ensures.items c.in-FirstArguments.is)

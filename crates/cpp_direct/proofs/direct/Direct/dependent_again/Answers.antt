@@ -1,14 +1,14 @@
 use Rattle.std.proofs.Common.{◌∙◌, subst}
 use Rattle.cpp_direct.specs.Symbol.{symbol_by}
 use Rattle.cpp_direct.specs.WriterInvariant.{IsKnown}
-use Rattle.cpp_direct.proofs.DependentsRead.{again-inside, argument-within, dependent-again}
+use Rattle.cpp_direct.proofs.DependentsRead.{again-inside, argument-inside, dependent-again}
 use Rattle.cpp_direct.proofs.direct.Direct.dependent_again.Goals as goal
 
 pub repeat-requires-clause-to : goal.repeat-requires-clause-to
 repeat-requires-clause-to g c =
     let is = c.in_ok-argument.ensures.is in
     let known = c.in_ok-argument.ensures.ordered in
-    argument-within (symbol_by g.G.Grammar.IS_WIDE g.G.Grammar.IS_BARE g.G.Grammar.IS_BRIEF c.args.s.now) _ c.in_ok-named.named c.args.candidate.number c.in_ok-argument.argument c.requires.again.awaits
+    argument-inside (symbol_by g.G.Grammar.IS_WIDE g.G.Grammar.IS_BARE g.G.Grammar.IS_BRIEF c.args.s.now) c.args.self.now c.in_ok-named.named c.args.candidate.number c.in_ok-argument.argument c.requires.again.awaits.os c.requires.again.awaits.stands
     c.in_ok-named.ensures (is ∙ c.at.ensures (subst IsKnown is known)) known
 
 pub repeat-requires-2-clause-from : goal.repeat-requires-2-clause-from

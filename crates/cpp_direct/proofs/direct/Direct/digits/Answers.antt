@@ -1,8 +1,8 @@
 use Rattle.std.proofs.Common.{arith, refl, ◌∙◌}
 use Rattle.sym_core.specs.declared.NumberKind.TheVariants.{Digits}
 use Rattle.sym_core.specs.Token.{IsNumberToken}
-use Rattle.cpp_direct.proofs.FoundTokens.{place-found, own-found, some-by, reads-written, reads-then, reads-of, digits-read}
-use Rattle.cpp_direct.proofs.Literals.{plain-digits, zero-digits, minus-digits}
+use Rattle.cpp_direct.proofs.NamePlaces.{place-found, own-found, some-by, reads-written, reads-then, reads-of, digits-read}
+use Rattle.cpp_direct.proofs.Elements.{plain-digits, zero-digits, minus-digits}
 use Rattle.cpp_direct.proofs.direct.Direct.digits.Goals as goal
 
 pub slice_bounds-normal-end : goal.slice_bounds-normal-end

@@ -1,8 +1,8 @@
 use Rattle.std.proofs.Common.{◌+◌, ◌≤◌, ◌∷◌, [], refl, arith, subst}
 use Rattle.cpp_direct.specs.Holes.{StandsAt}
 use Rattle.cpp_direct.specs.HolesOfLists.{IsDigitsAt}
-use Rattle.cpp_direct.proofs.Entities.{none-told, digit-told, digits-told}
-use Rattle.cpp_direct.proofs.FoundTokens.{reads-begun, some-by}
+use Rattle.cpp_direct.proofs.UnscopedNames.{none-told, digit-told, digits-told}
+use Rattle.cpp_direct.proofs.NamePlaces.{reads-begun, some-by}
 use Rattle.cpp_direct.proofs.Moves.{stands-moved}
 use Rattle.cpp_direct.proofs.TypesRead.{there}
 use Rattle.cpp_direct.proofs.direct.Direct.discriminator.Goals as goal

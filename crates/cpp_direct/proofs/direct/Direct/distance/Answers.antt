@@ -2,7 +2,7 @@ use Rattle.std.proofs.Common.{◌∷◌, [], arith, refl, subst}
 use Rattle.sym_core.specs.declared.NumberKind.TheVariants.{Digits}
 use Rattle.sym_core.specs.Token.{IsNumberToken}
 use Rattle.cpp_direct.specs.Holes.{StandsAt}
-use Rattle.cpp_direct.proofs.FoundTokens.{place-found, digits-found, reads-begun}
+use Rattle.cpp_direct.proofs.NamePlaces.{place-found, digits-found, reads-begun}
 use Rattle.cpp_direct.proofs.direct.Direct.distance.Goals as goal
 
 pub returns : goal.returns

@@ -1,7 +1,7 @@
 use Rattle.std.proofs.Common.{refl, ap, ◌∙◌, ◌+◌, subst, arith, [], ◌∷◌}
 use Rattle.cpp_direct.specs.Symbol.{symbol_by}
 use Rattle.cpp_direct.specs.Holes.{StandsAt}
-use Rattle.cpp_direct.proofs.PacksRead.{element-passes, pack-element-awaits, pack-closes}
+use Rattle.cpp_direct.proofs.Arguments.{element-passes, pack-element-awaits, pack-closes}
 use Rattle.cpp_direct.proofs.TypesRead.{popped, there}
 use Rattle.cpp_direct.specs.declared.open.Open.TheVariants as opens
 use Rattle.cpp_direct.proofs.direct.Direct.element_ended.Goals as goal

@@ -3,10 +3,10 @@ use Rattle.cpp_grammar.specs.Term.{source}
 use Rattle.std.proofs.Common.{false}
 use Rattle.cpp_direct.specs.Symbol.{symbol_by}
 use Rattle.cpp_direct.proofs.Unmarked.{name-unmarked}
-use Rattle.cpp_direct.proofs.FoundTokens.{some-by}
+use Rattle.cpp_direct.proofs.NamePlaces.{some-by}
 use Rattle.cpp_direct.proofs.MovesOfLocals.{source-name-piece}
 use Rattle.cpp_direct.proofs.PrintedNests.{source-opening, source-piece}
-use Rattle.cpp_direct.proofs.PrintedWithin.{piece-prints}
+use Rattle.cpp_direct.proofs.PrintedLocals.{piece-prints}
 use Rattle.cpp_direct.proofs.direct.Direct.enclosed_piece.Goals as goal
 
 pub returns : goal.returns

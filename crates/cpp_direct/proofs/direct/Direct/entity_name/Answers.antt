@@ -1,5 +1,5 @@
 use Rattle.cpp_direct.specs.Symbol.{symbol_by}
-use Rattle.cpp_direct.proofs.Entities.{entity-ended}
+use Rattle.cpp_direct.proofs.UnscopedNames.{entity-ended}
 use Rattle.cpp_direct.proofs.direct.Direct.entity_name.Goals as goal
 
 pub finish-requires : goal.finish-requires

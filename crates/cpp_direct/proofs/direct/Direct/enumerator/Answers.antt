@@ -11,15 +11,7 @@ pub returns : goal.returns
 returns g c =
     let old = c.args.self.now in
     let a = c.requires.awaits in
-    let w : Direct = record {
-      text = old.text;
-      candidates = old.candidates;
-      waiting = c.pop-open.new.self;
-      nest = old.nest;
-      argument = old.argument;
-      at = old.at;
-      rounds = old.rounds;
-    } in
+    let w : Direct = record old { waiting = c.pop-open.new.self } in
     enumerator-read (symbol_by g.G.Grammar.IS_WIDE g.G.Grammar.IS_BARE g.G.Grammar.IS_BRIEF c.args.s.now) old w c.push.new.self c.number.new.self c.literal_ended.new.self a
     (record {
       int = subst (λ l. ends_with nat_eq l (codes "(int") ≡ false) c.as_slice.ensures (sym c.ends_with.ensures.value ∙ c.if-ends_with.false);

@@ -2,7 +2,7 @@ use Rattle.std.proofs.Common.{◌∷◌, ◌++◌, [], ◌∙◌, ap, arith, ref
 use Rattle.cpp_direct.specs.Symbol.{detail_by, symbol_by}
 use Rattle.cpp_direct.specs.Written.{hidden}
 use Rattle.cpp_direct.proofs.Ending.{parameter-expected}
-use Rattle.cpp_direct.proofs.ExpansionsRead.{expansion-read, none-forwarded, pack-of}
+use Rattle.cpp_direct.proofs.DependentsRead.{expansion-read, none-forwarded, pack-of}
 use Rattle.cpp_direct.proofs.direct.Direct.expansion.Goals as goal
 
 pub returns-in_default : goal.returns-in_default

@@ -2,7 +2,7 @@ use Rattle.std.proofs.Common.{◌∷◌, ◌++◌, [], refl, ap, ◌∙◌, true
 use Rattle.cpp_direct.specs.WriterInvariant.{nowhere}
 use Rattle.cpp_direct.specs.Symbol.{symbol_by}
 use Rattle.cpp_direct.specs.declared.open.Open.TheVariants as opens
-use Rattle.cpp_direct.proofs.PacksRead.{element-begins}
+use Rattle.cpp_direct.proofs.Arguments.{element-begins}
 use Rattle.cpp_direct.proofs.Listed.{first-expected}
 use Rattle.cpp_direct.proofs.direct.Direct.first_pack.Goals as goal
 

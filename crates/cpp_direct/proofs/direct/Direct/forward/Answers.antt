@@ -1,8 +1,8 @@
 use Rattle.std.proofs.Common.{◌≡◌, ◌∙◌, ap, sym, subst, arith}
 use Rattle.cpp_direct.specs.Prints.{forwarded}
 use Rattle.cpp_direct.specs.WriterInvariant.{IsKnown}
-use Rattle.cpp_direct.proofs.ExpansionsRead.{forwarded-inside, forwarded-more}
-use Rattle.cpp_direct.proofs.FoundTokens.{some-by}
+use Rattle.cpp_direct.proofs.DependentsRead.{forwarded-inside, forwarded-more}
+use Rattle.cpp_direct.proofs.NamePlaces.{some-by}
 use Rattle.cpp_direct.proofs.direct.Direct.forward.Goals as goal
 use Rattle.cpp_direct.proofs.direct.Direct.forward.Goals.{then-place, else-place}
 

@@ -1,7 +1,7 @@
 use Rattle.std.proofs.Common.{refl, sym, codes, ◌∷◌, [], ◌∙◌}
 use Rattle.cpp_grammar.specs.Texts.{look_up, builtin_texts}
-use Rattle.cpp_direct.proofs.FoundTokens.{some-by, reads-written, reads-then, reads-of, reads-begun}
-use Rattle.cpp_direct.proofs.Literals.{plain-integer-read, cast-integer-read}
+use Rattle.cpp_direct.proofs.NamePlaces.{some-by, reads-written, reads-then, reads-of, reads-begun}
+use Rattle.cpp_direct.proofs.Elements.{plain-integer-read, cast-integer-read}
 use Rattle.cpp_direct.proofs.direct.Direct.integer.Goals as goal
 
 pub returns-then-is_plain_letter : goal.returns-then-is_plain_letter

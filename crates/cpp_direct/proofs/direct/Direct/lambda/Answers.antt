@@ -3,7 +3,7 @@ use Rattle.cpp_direct.specs.Symbol.{symbol_by}
 use Rattle.cpp_direct.specs.HolesOfLocals.{lambda_digits, lambda_number}
 use Rattle.cpp_direct.specs.Written.{Reads}
 use Rattle.cpp_direct.proofs.EnclosingFunctions.{lambda-stands, lambda-told}
-use Rattle.cpp_direct.proofs.FoundTokens.{reads-then, reads-written, some-by}
+use Rattle.cpp_direct.proofs.NamePlaces.{reads-then, reads-written, some-by}
 use Rattle.cpp_direct.proofs.TypesRead.{there}
 use Rattle.cpp_direct.proofs.direct.Direct.lambda.Goals as goal
 

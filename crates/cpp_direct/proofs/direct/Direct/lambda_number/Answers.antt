@@ -1,5 +1,5 @@
 use Rattle.std.proofs.Common.{◌+◌, ◌≤◌, ◌∷◌, [], None, Some, arith, refl}
-use Rattle.cpp_direct.proofs.FoundTokens.{reads-written, some-by}
+use Rattle.cpp_direct.proofs.NamePlaces.{reads-written, some-by}
 use Rattle.cpp_direct.proofs.Moves.{stands-join, stands-moved}
 use Rattle.cpp_direct.proofs.TypesRead.{there}
 use Rattle.cpp_direct.proofs.direct.Direct.lambda_number.Goals as goal

@@ -1,6 +1,6 @@
 use Rattle.std.proofs.Common.{refl}
 use Rattle.cpp_direct.specs.Symbol.{symbol_by}
-use Rattle.cpp_direct.proofs.FoundTokens.{reads-begun}
+use Rattle.cpp_direct.proofs.NamePlaces.{reads-begun}
 use Rattle.cpp_direct.proofs.Elements.{boolean-element-read, integer-element-read, enumerator-expected}
 use Rattle.cpp_direct.proofs.direct.Direct.literal.Goals as goal
 

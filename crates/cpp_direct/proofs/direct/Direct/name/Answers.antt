@@ -1,6 +1,5 @@
 use Rattle.std.proofs.Common.{refl}
-use Rattle.cpp_direct.proofs.FoundTokens.{some-by}
-use Rattle.cpp_direct.proofs.NamePlaces.{name-read}
+use Rattle.cpp_direct.proofs.NamePlaces.{some-by, name-read}
 use Rattle.cpp_direct.proofs.direct.Direct.name.Goals as goal
 
 pub returns : goal.returns

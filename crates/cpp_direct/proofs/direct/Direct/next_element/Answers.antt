@@ -1,6 +1,6 @@
 use Rattle.std.proofs.Common.{refl}
 use Rattle.cpp_direct.specs.Symbol.{symbol_by}
-use Rattle.cpp_direct.proofs.PacksRead.{next-element-begins}
+use Rattle.cpp_direct.proofs.Arguments.{next-element-begins}
 use Rattle.cpp_direct.proofs.direct.Direct.next_element.Goals as goal
 
 pub returns : goal.returns

@@ -1,7 +1,7 @@
 use Rattle.std.proofs.Common.{◌∷◌, [], true, false, arith, refl, subst}
 use Rattle.cpp_direct.specs.Holes.{StandsAt}
-use Rattle.cpp_direct.proofs.FoundTokens.{some-by, reads-begun}
-use Rattle.cpp_direct.proofs.Literals.{offset-read}
+use Rattle.cpp_direct.proofs.NamePlaces.{some-by, reads-begun}
+use Rattle.cpp_direct.proofs.Elements.{offset-read}
 use Rattle.cpp_direct.proofs.Moves.{stands-none}
 use Rattle.cpp_direct.proofs.direct.Direct.offset.Goals as goal
 

@@ -1,8 +1,8 @@
 use Rattle.std.proofs.Common.{◌≢◌, ◌+◌, ◌∷◌, ◌++◌, [], length, codes, refl, ap, ◌∙◌, arith}
 use Rattle.cpp_grammar.specs.Texts.{look_up, operator_texts}
-use Rattle.cpp_direct.proofs.FoundTokens.{reads-written}
+use Rattle.cpp_direct.proofs.NamePlaces.{reads-written}
 use Rattle.cpp_direct.proofs.Moves.{stands-join, stands-moved}
-use Rattle.cpp_direct.proofs.Operators.{operator-listed}
+use Rattle.cpp_direct.proofs.LettersTested.{operator-listed}
 use Rattle.cpp_direct.proofs.UnscopedNames.{not-so}
 use Rattle.cpp_direct.proofs.direct.Direct.operator_name.Goals as goal
 

@@ -4,9 +4,8 @@ use Rattle.cpp_direct.specs.declared.open.Open.TheVariants as opens
 use Rattle.cpp_direct.proofs.Listed.{waits-last}
 use Rattle.cpp_direct.proofs.Handed.{value-element, value-front, value-returned, value-signature, value-enumerator, argument-read, parameter-read, special-read, takes-elements}
 use Rattle.cpp_direct.proofs.EnclosingFunctions.{lambda-parameter-read, parameter-read-within}
-use Rattle.cpp_direct.proofs.Arguments.{value-argument}
-use Rattle.cpp_direct.proofs.ArraysRead.{value-array}
-use Rattle.cpp_direct.proofs.PacksRead.{value-in-pack}
+use Rattle.cpp_direct.proofs.Arguments.{value-argument, value-in-pack}
+use Rattle.cpp_direct.proofs.Signatures.{value-array}
 use Rattle.cpp_direct.proofs.direct.Direct.pass.Goals as goal
 
 pub parameter_ended-requires-clause-ended : goal.parameter_ended-requires-clause-ended

@@ -9,7 +9,7 @@ use Rattle.cpp_direct.proofs.direct.Direct.template_parameter.Goals as goal
 pub repeat-requires-clause-to : goal.repeat-requires-clause-to
 repeat-requires-clause-to g c =
     let is = c.in_ok-argument.ensures.is in
-    argument-inside (symbol_by g.G.Grammar.IS_WIDE g.G.Grammar.IS_BARE g.G.Grammar.IS_BRIEF c.args.s.now) c.args.self.now c.in_ok-named.named c.in_ok-read.read.number c.in_ok-argument.argument c.requires.awaits
+    argument-inside (symbol_by g.G.Grammar.IS_WIDE g.G.Grammar.IS_BARE g.G.Grammar.IS_BRIEF c.args.s.now) c.args.self.now c.in_ok-named.named c.in_ok-read.read.number c.in_ok-argument.argument c.requires.awaits.os c.requires.awaits.stands
     c.in_ok-named.ensures (is ∙ c.at.ensures (subst IsKnown is c.in_ok-argument.ensures.ordered)) c.in_ok-argument.ensures.ordered
 
 pub returns : goal.returns

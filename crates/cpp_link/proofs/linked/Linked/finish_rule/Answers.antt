@@ -39,3 +39,255 @@ finish_rare-requires-clause-rare c = is_rare c.production_of-production.result (
 pub returns-in-Inheriting-clause-closes : goal.returns-in-Inheriting-clause-closes
 returns-in-Inheriting-clause-closes c =
     inheriting_unread c.args.symbol.now c.args.self.now c.args.self.now c.args.frame.now c.args.parts.now.items c.args.parts.now.items (sym c.production_of-production.ensures ∙ c.in-Inheriting.is)
+
+pub finish_as-requires : goal.finish_as-requires
+finish_as-requires c =
+    record { common = λ rare. rare; numbered = sym c.in-NestNext.is ∙ c.production_of-production.ensures; room = c.requires.room; «open» = c.requires.«open»; base = c.requires.base; place = c.requires.place }
+
+pub returns-in-NestNext : goal.returns-in-NestNext
+returns-in-NestNext c =
+    let had = c.finish_as.ensures in
+    record { closes = had.closes; adds = had.adds; few = had.few; makes = had.makes; pays = had.pays; roomy = had.roomy }
+
+pub finish_as-requires-in-SourceName : goal.finish_as-requires-in-SourceName
+finish_as-requires-in-SourceName c =
+    record { common = λ rare. rare; numbered = sym c.in-SourceName.is ∙ c.production_of-production.ensures; room = c.requires.room; «open» = c.requires.«open»; base = c.requires.base; place = c.requires.place }
+
+pub returns-in-SourceName : goal.returns-in-SourceName
+returns-in-SourceName c =
+    let had = c.finish_as-in-SourceName.ensures in
+    record { closes = had.closes; adds = had.adds; few = had.few; makes = had.makes; pays = had.pays; roomy = had.roomy }
+
+pub finish_as-requires-in-PlainType : goal.finish_as-requires-in-PlainType
+finish_as-requires-in-PlainType c =
+    record { common = λ rare. rare; numbered = sym c.in-PlainType.is ∙ c.production_of-production.ensures; room = c.requires.room; «open» = c.requires.«open»; base = c.requires.base; place = c.requires.place }
+
+pub returns-in-PlainType : goal.returns-in-PlainType
+returns-in-PlainType c =
+    let had = c.finish_as-in-PlainType.ensures in
+    record { closes = had.closes; adds = had.adds; few = had.few; makes = had.makes; pays = had.pays; roomy = had.roomy }
+
+pub finish_as-requires-in-NestEnd : goal.finish_as-requires-in-NestEnd
+finish_as-requires-in-NestEnd c =
+    record { common = λ rare. rare; numbered = sym c.in-NestEnd.is ∙ c.production_of-production.ensures; room = c.requires.room; «open» = c.requires.«open»; base = c.requires.base; place = c.requires.place }
+
+pub returns-in-NestEnd : goal.returns-in-NestEnd
+returns-in-NestEnd c =
+    let had = c.finish_as-in-NestEnd.ensures in
+    record { closes = had.closes; adds = had.adds; few = had.few; makes = had.makes; pays = had.pays; roomy = had.roomy }
+
+pub finish_as-requires-in-Items : goal.finish_as-requires-in-Items
+finish_as-requires-in-Items c =
+    record { common = λ rare. rare; numbered = sym c.in-Items.is ∙ c.production_of-production.ensures; room = c.requires.room; «open» = c.requires.«open»; base = c.requires.base; place = c.requires.place }
+
+pub returns-in-Items : goal.returns-in-Items
+returns-in-Items c =
+    let had = c.finish_as-in-Items.ensures in
+    record { closes = had.closes; adds = had.adds; few = had.few; makes = had.makes; pays = had.pays; roomy = had.roomy }
+
+pub finish_as-requires-in-Builtin : goal.finish_as-requires-in-Builtin
+finish_as-requires-in-Builtin c =
+    record { common = λ rare. rare; numbered = sym c.in-Builtin.is ∙ c.production_of-production.ensures; room = c.requires.room; «open» = c.requires.«open»; base = c.requires.base; place = c.requires.place }
+
+pub returns-in-Builtin : goal.returns-in-Builtin
+returns-in-Builtin c =
+    let had = c.finish_as-in-Builtin.ensures in
+    record { closes = had.closes; adds = had.adds; few = had.few; makes = had.makes; pays = had.pays; roomy = had.roomy }
+
+pub finish_as-requires-in-AnyArgument : goal.finish_as-requires-in-AnyArgument
+finish_as-requires-in-AnyArgument c =
+    record { common = λ rare. rare; numbered = sym c.in-AnyArgument.is ∙ c.production_of-production.ensures; room = c.requires.room; «open» = c.requires.«open»; base = c.requires.base; place = c.requires.place }
+
+pub returns-in-AnyArgument : goal.returns-in-AnyArgument
+returns-in-AnyArgument c =
+    let had = c.finish_as-in-AnyArgument.ensures in
+    record { closes = had.closes; adds = had.adds; few = had.few; makes = had.makes; pays = had.pays; roomy = had.roomy }
+
+pub finish_as-requires-in-NestSource : goal.finish_as-requires-in-NestSource
+finish_as-requires-in-NestSource c =
+    record { common = λ rare. rare; numbered = sym c.in-NestSource.is ∙ c.production_of-production.ensures; room = c.requires.room; «open» = c.requires.«open»; base = c.requires.base; place = c.requires.place }
+
+pub returns-in-NestSource : goal.returns-in-NestSource
+returns-in-NestSource c =
+    let had = c.finish_as-in-NestSource.ensures in
+    record { closes = had.closes; adds = had.adds; few = had.few; makes = had.makes; pays = had.pays; roomy = had.roomy }
+
+pub finish_as-requires-in-Substitution : goal.finish_as-requires-in-Substitution
+finish_as-requires-in-Substitution c =
+    record { common = λ rare. rare; numbered = sym c.in-Substitution.is ∙ c.production_of-production.ensures; room = c.requires.room; «open» = c.requires.«open»; base = c.requires.base; place = c.requires.place }
+
+pub returns-in-Substitution : goal.returns-in-Substitution
+returns-in-Substitution c =
+    let had = c.finish_as-in-Substitution.ensures in
+    record { closes = had.closes; adds = had.adds; few = had.few; makes = had.makes; pays = had.pays; roomy = had.roomy }
+
+pub finish_as-requires-in-Symbol : goal.finish_as-requires-in-Symbol
+finish_as-requires-in-Symbol c =
+    record { common = λ rare. rare; numbered = sym c.in-Symbol.is ∙ c.production_of-production.ensures; room = c.requires.room; «open» = c.requires.«open»; base = c.requires.base; place = c.requires.place }
+
+pub returns-in-Symbol : goal.returns-in-Symbol
+returns-in-Symbol c =
+    let had = c.finish_as-in-Symbol.ensures in
+    record { closes = had.closes; adds = had.adds; few = had.few; makes = had.makes; pays = had.pays; roomy = had.roomy }
+
+pub finish_as-requires-in-NestedType : goal.finish_as-requires-in-NestedType
+finish_as-requires-in-NestedType c =
+    record { common = λ rare. rare; numbered = sym c.in-NestedType.is ∙ c.production_of-production.ensures; room = c.requires.room; «open» = c.requires.«open»; base = c.requires.base; place = c.requires.place }
+
+pub returns-in-NestedType : goal.returns-in-NestedType
+returns-in-NestedType c =
+    let had = c.finish_as-in-NestedType.ensures in
+    record { closes = had.closes; adds = had.adds; few = had.few; makes = had.makes; pays = had.pays; roomy = had.roomy }
+
+pub finish_as-requires-in-Encoding : goal.finish_as-requires-in-Encoding
+finish_as-requires-in-Encoding c =
+    record { common = λ rare. rare; numbered = sym c.in-Encoding.is ∙ c.production_of-production.ensures; room = c.requires.room; «open» = c.requires.«open»; base = c.requires.base; place = c.requires.place }
+
+pub returns-in-Encoding : goal.returns-in-Encoding
+returns-in-Encoding c =
+    let had = c.finish_as-in-Encoding.ensures in
+    record { closes = had.closes; adds = had.adds; few = had.few; makes = had.makes; pays = had.pays; roomy = had.roomy }
+
+pub finish_as-requires-in-NestedName : goal.finish_as-requires-in-NestedName
+finish_as-requires-in-NestedName c =
+    record { common = λ rare. rare; numbered = sym c.in-NestedName.is ∙ c.production_of-production.ensures; room = c.requires.room; «open» = c.requires.«open»; base = c.requires.base; place = c.requires.place }
+
+pub returns-in-NestedName : goal.returns-in-NestedName
+returns-in-NestedName c =
+    let had = c.finish_as-in-NestedName.ensures in
+    record { closes = had.closes; adds = had.adds; few = had.few; makes = had.makes; pays = had.pays; roomy = had.roomy }
+
+pub finish_as-requires-in-NestWithS : goal.finish_as-requires-in-NestWithS
+finish_as-requires-in-NestWithS c =
+    record { common = λ rare. rare; numbered = sym c.in-NestWithS.is ∙ c.production_of-production.ensures; room = c.requires.room; «open» = c.requires.«open»; base = c.requires.base; place = c.requires.place }
+
+pub returns-in-NestWithS : goal.returns-in-NestWithS
+returns-in-NestWithS c =
+    let had = c.finish_as-in-NestWithS.ensures in
+    record { closes = had.closes; adds = had.adds; few = had.few; makes = had.makes; pays = had.pays; roomy = had.roomy }
+
+pub finish_as-requires-in-Arguments : goal.finish_as-requires-in-Arguments
+finish_as-requires-in-Arguments c =
+    record { common = λ rare. rare; numbered = sym c.in-Arguments.is ∙ c.production_of-production.ensures; room = c.requires.room; «open» = c.requires.«open»; base = c.requires.base; place = c.requires.place }
+
+pub returns-in-Arguments : goal.returns-in-Arguments
+returns-in-Arguments c =
+    let had = c.finish_as-in-Arguments.ensures in
+    record { closes = had.closes; adds = had.adds; few = had.few; makes = had.makes; pays = had.pays; roomy = had.roomy }
+
+pub finish_as-requires-in-NestTemplate : goal.finish_as-requires-in-NestTemplate
+finish_as-requires-in-NestTemplate c =
+    record { common = λ rare. rare; numbered = sym c.in-NestTemplate.is ∙ c.production_of-production.ensures; room = c.requires.room; «open» = c.requires.«open»; base = c.requires.base; place = c.requires.place }
+
+pub returns-in-NestTemplate : goal.returns-in-NestTemplate
+returns-in-NestTemplate c =
+    let had = c.finish_as-in-NestTemplate.ensures in
+    record { closes = had.closes; adds = had.adds; few = had.few; makes = had.makes; pays = had.pays; roomy = had.roomy }
+
+pub finish_as-requires-in-TypeWithS : goal.finish_as-requires-in-TypeWithS
+finish_as-requires-in-TypeWithS c =
+    record { common = λ rare. rare; numbered = sym c.in-TypeWithS.is ∙ c.production_of-production.ensures; room = c.requires.room; «open» = c.requires.«open»; base = c.requires.base; place = c.requires.place }
+
+pub returns-in-TypeWithS : goal.returns-in-TypeWithS
+returns-in-TypeWithS c =
+    let had = c.finish_as-in-TypeWithS.ensures in
+    record { closes = had.closes; adds = had.adds; few = had.few; makes = had.makes; pays = had.pays; roomy = had.roomy }
+
+pub finish_as-requires-in-AbbreviatedType : goal.finish_as-requires-in-AbbreviatedType
+finish_as-requires-in-AbbreviatedType c =
+    record { common = λ rare. rare; numbered = sym c.in-AbbreviatedType.is ∙ c.production_of-production.ensures; room = c.requires.room; «open» = c.requires.«open»; base = c.requires.base; place = c.requires.place }
+
+pub returns-in-AbbreviatedType : goal.returns-in-AbbreviatedType
+returns-in-AbbreviatedType c =
+    let had = c.finish_as-in-AbbreviatedType.ensures in
+    record { closes = had.closes; adds = had.adds; few = had.few; makes = had.makes; pays = had.pays; roomy = had.roomy }
+
+pub finish_as-requires-in-ReferenceType : goal.finish_as-requires-in-ReferenceType
+finish_as-requires-in-ReferenceType c =
+    record { common = λ rare. rare; numbered = sym c.in-ReferenceType.is ∙ c.production_of-production.ensures; room = c.requires.room; «open» = c.requires.«open»; base = c.requires.base; place = c.requires.place }
+
+pub returns-in-ReferenceType : goal.returns-in-ReferenceType
+returns-in-ReferenceType c =
+    let had = c.finish_as-in-ReferenceType.ensures in
+    record { closes = had.closes; adds = had.adds; few = had.few; makes = had.makes; pays = had.pays; roomy = had.roomy }
+
+pub finish_as-requires-in-Pointer : goal.finish_as-requires-in-Pointer
+finish_as-requires-in-Pointer c =
+    record { common = λ rare. rare; numbered = sym c.in-Pointer.is ∙ c.production_of-production.ensures; room = c.requires.room; «open» = c.requires.«open»; base = c.requires.base; place = c.requires.place }
+
+pub returns-in-Pointer : goal.returns-in-Pointer
+returns-in-Pointer c =
+    let had = c.finish_as-in-Pointer.ensures in
+    record { closes = had.closes; adds = had.adds; few = had.few; makes = had.makes; pays = had.pays; roomy = had.roomy }
+
+pub finish_as-requires-in-ConstType : goal.finish_as-requires-in-ConstType
+finish_as-requires-in-ConstType c =
+    record { common = λ rare. rare; numbered = sym c.in-ConstType.is ∙ c.production_of-production.ensures; room = c.requires.room; «open» = c.requires.«open»; base = c.requires.base; place = c.requires.place }
+
+pub returns-in-ConstType : goal.returns-in-ConstType
+returns-in-ConstType c =
+    let had = c.finish_as-in-ConstType.ensures in
+    record { closes = had.closes; adds = had.adds; few = had.few; makes = had.makes; pays = had.pays; roomy = had.roomy }
+
+pub finish_as-requires-in-QualifiedPlain : goal.finish_as-requires-in-QualifiedPlain
+finish_as-requires-in-QualifiedPlain c =
+    record { common = λ rare. rare; numbered = sym c.in-QualifiedPlain.is ∙ c.production_of-production.ensures; room = c.requires.room; «open» = c.requires.«open»; base = c.requires.base; place = c.requires.place }
+
+pub returns-in-QualifiedPlain : goal.returns-in-QualifiedPlain
+returns-in-QualifiedPlain c =
+    let had = c.finish_as-in-QualifiedPlain.ensures in
+    record { closes = had.closes; adds = had.adds; few = had.few; makes = had.makes; pays = had.pays; roomy = had.roomy }
+
+pub finish_as-requires-in-Mark : goal.finish_as-requires-in-Mark
+finish_as-requires-in-Mark c =
+    record { common = λ rare. rare; numbered = sym c.in-Mark.is ∙ c.production_of-production.ensures; room = c.requires.room; «open» = c.requires.«open»; base = c.requires.base; place = c.requires.place }
+
+pub returns-in-Mark : goal.returns-in-Mark
+returns-in-Mark c =
+    let had = c.finish_as-in-Mark.ensures in
+    record { closes = had.closes; adds = had.adds; few = had.few; makes = had.makes; pays = had.pays; roomy = had.roomy }
+
+pub finish_as-requires-in-SourcePiece : goal.finish_as-requires-in-SourcePiece
+finish_as-requires-in-SourcePiece c =
+    record { common = λ rare. rare; numbered = sym c.in-SourcePiece.is ∙ c.production_of-production.ensures; room = c.requires.room; «open» = c.requires.«open»; base = c.requires.base; place = c.requires.place }
+
+pub returns-in-SourcePiece : goal.returns-in-SourcePiece
+returns-in-SourcePiece c =
+    let had = c.finish_as-in-SourcePiece.ensures in
+    record { closes = had.closes; adds = had.adds; few = had.few; makes = had.makes; pays = had.pays; roomy = had.roomy }
+
+pub finish_as-requires-in-PlainArgument : goal.finish_as-requires-in-PlainArgument
+finish_as-requires-in-PlainArgument c =
+    record { common = λ rare. rare; numbered = sym c.in-PlainArgument.is ∙ c.production_of-production.ensures; room = c.requires.room; «open» = c.requires.«open»; base = c.requires.base; place = c.requires.place }
+
+pub returns-in-PlainArgument : goal.returns-in-PlainArgument
+returns-in-PlainArgument c =
+    let had = c.finish_as-in-PlainArgument.ensures in
+    record { closes = had.closes; adds = had.adds; few = had.few; makes = had.makes; pays = had.pays; roomy = had.roomy }
+
+pub finish_as-requires-in-TypeInStd : goal.finish_as-requires-in-TypeInStd
+finish_as-requires-in-TypeInStd c =
+    record { common = λ rare. rare; numbered = sym c.in-TypeInStd.is ∙ c.production_of-production.ensures; room = c.requires.room; «open» = c.requires.«open»; base = c.requires.base; place = c.requires.place }
+
+pub returns-in-TypeInStd : goal.returns-in-TypeInStd
+returns-in-TypeInStd c =
+    let had = c.finish_as-in-TypeInStd.ensures in
+    record { closes = had.closes; adds = had.adds; few = had.few; makes = had.makes; pays = had.pays; roomy = had.roomy }
+
+pub finish_as-requires-in-TaggedStdType : goal.finish_as-requires-in-TaggedStdType
+finish_as-requires-in-TaggedStdType c =
+    record { common = λ rare. rare; numbered = sym c.in-TaggedStdType.is ∙ c.production_of-production.ensures; room = c.requires.room; «open» = c.requires.«open»; base = c.requires.base; place = c.requires.place }
+
+pub returns-in-TaggedStdType : goal.returns-in-TaggedStdType
+returns-in-TaggedStdType c =
+    let had = c.finish_as-in-TaggedStdType.ensures in
+    record { closes = had.closes; adds = had.adds; few = had.few; makes = had.makes; pays = had.pays; roomy = had.roomy }
+
+pub finish_as-requires-in-Special : goal.finish_as-requires-in-Special
+finish_as-requires-in-Special c =
+    record { common = λ rare. rare; numbered = sym c.in-Special.is ∙ c.production_of-production.ensures; room = c.requires.room; «open» = c.requires.«open»; base = c.requires.base; place = c.requires.place }
+
+pub returns-in-Special : goal.returns-in-Special
+returns-in-Special c =
+    let had = c.finish_as-in-Special.ensures in
+    record { closes = had.closes; adds = had.adds; few = had.few; makes = had.makes; pays = had.pays; roomy = had.roomy }

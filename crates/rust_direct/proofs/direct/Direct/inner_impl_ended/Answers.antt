@@ -3,6 +3,6 @@ use Rattle.rust_direct.proofs.InnerImpls.{inner-impl-path-read}
 use Rattle.rust_direct.proofs.direct.Direct.inner_impl_ended.Goals as goal
 
 pub begin_impl_type-requires : goal.begin_impl_type-requires
-begin_impl_type-requires c =
-    inner-impl-path-read c.args._s.now c.args.self.now c.args.place c.args._here c.args.forms c.requires
+begin_impl_type-requires g c =
+    inner-impl-path-read g.S.Showing.IS_BRIEF c.args._s.now c.args.self.now c.args.place c.args._here c.args.forms c.requires
     (tested c.is_path.result _ c.is_path.ensures c.if-not-is_path.false)

@@ -5,11 +5,11 @@ use Rattle.rust_direct.proofs.Again.{path-repeated}
 use Rattle.rust_direct.proofs.direct.Direct.path_again.Goals as goal
 
 pub ended-requires : goal.ended-requires
-ended-requires c =
+ended-requires g c =
     let s = c.args.s.now in
     let old = c.args.self.now in
     let found = c.in_ok-note.ensures in
-    path-repeated s old c.repeat.new.self c.len-from.result c.in_ok-number.number c.in_ok-number.end found.0 c.in_ok-note.note c.requires.awaits
+    path-repeated g.S.Showing.IS_BRIEF s old c.repeat.new.self c.len-from.result c.in_ok-number.number c.in_ok-number.end found.0 c.in_ok-note.note c.requires.awaits
     c.requires.letter
     (subst (λ k. IsNumberAt s k c.in_ok-number.number c.in_ok-number.end) c.in_ok-checked_add.ensures.1 c.in_ok-number.ensures)
     (subst (λ p. slice_get old.numbers.items p ≡ Some (suc found.0)) c.in_ok-checked_add-2.ensures.1 found.1) found.2

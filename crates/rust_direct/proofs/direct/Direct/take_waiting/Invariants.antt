@@ -5,7 +5,7 @@ use Rattle.rust_direct.specs.WriterInvariant.{IsWriting}
 use Rattle.rust_direct.proofs.direct.Direct.take_waiting.Given as goal
 
 abbrev pub invariant-names : goal.invariant-names
-invariant-names l = IsWriting l.s l.self (steps.Value l.from l.forms)
+invariant-names g l = IsWriting g.S.Showing.IS_BRIEF l.s l.self (steps.Value l.from l.forms)
 
 abbrev pub decreases-names : goal.decreases-names
-decreases-names l = length l.self.waiting.list.items
+decreases-names g l = length l.self.waiting.list.items

@@ -2,49 +2,49 @@ use Rattle.rust_direct.proofs.PathsRead.{type-awaited, type-path-awaited}
 use Rattle.rust_direct.proofs.direct.Direct.type_at.Goals as goal
 
 pub crate_root-requires-clause-awaits : goal.crate_root-requires-clause-awaits
-crate_root-requires-clause-awaits c = type-path-awaited c.args.s.now c.args.self.now c.requires.writing
+crate_root-requires-clause-awaits g c = type-path-awaited g.S.Showing.IS_BRIEF c.args.s.now c.args.self.now c.requires.writing
 
 pub begin_nest-requires-clause-awaits : goal.begin_nest-requires-clause-awaits
-begin_nest-requires-clause-awaits c = type-path-awaited c.args.s.now c.args.self.now c.requires.writing
+begin_nest-requires-clause-awaits g c = type-path-awaited g.S.Showing.IS_BRIEF c.args.s.now c.args.self.now c.requires.writing
 
 pub begin_generic-requires-clause-awaits : goal.begin_generic-requires-clause-awaits
-begin_generic-requires-clause-awaits c = type-path-awaited c.args.s.now c.args.self.now c.requires.writing
+begin_generic-requires-clause-awaits g c = type-path-awaited g.S.Showing.IS_BRIEF c.args.s.now c.args.self.now c.requires.writing
 
 pub basic-requires-clause-awaits : goal.basic-requires-clause-awaits
-basic-requires-clause-awaits c = type-awaited c.args.s.now c.args.self.now c.requires.writing
+basic-requires-clause-awaits g c = type-awaited g.S.Showing.IS_BRIEF c.args.s.now c.args.self.now c.requires.writing
 
 pub begin_impl-requires-clause-awaits : goal.begin_impl-requires-clause-awaits
-begin_impl-requires-clause-awaits c = type-path-awaited c.args.s.now c.args.self.now c.requires.writing
+begin_impl-requires-clause-awaits g c = type-path-awaited g.S.Showing.IS_BRIEF c.args.s.now c.args.self.now c.requires.writing
 
 pub type_again-requires-clause-awaits : goal.type_again-requires-clause-awaits
-type_again-requires-clause-awaits c = type-awaited c.args.s.now c.args.self.now c.requires.writing
+type_again-requires-clause-awaits g c = type-awaited g.S.Showing.IS_BRIEF c.args.s.now c.args.self.now c.requires.writing
 
 pub begin_array-requires-clause-awaits : goal.begin_array-requires-clause-awaits
-begin_array-requires-clause-awaits c = type-awaited c.args.s.now c.args.self.now c.requires.writing
+begin_array-requires-clause-awaits g c = type-awaited g.S.Showing.IS_BRIEF c.args.s.now c.args.self.now c.requires.writing
 
 pub begin_trait_impl-requires-clause-awaits : goal.begin_trait_impl-requires-clause-awaits
-begin_trait_impl-requires-clause-awaits c = type-path-awaited c.args.s.now c.args.self.now c.requires.writing
+begin_trait_impl-requires-clause-awaits g c = type-path-awaited g.S.Showing.IS_BRIEF c.args.s.now c.args.self.now c.requires.writing
 
 pub begin_trait-requires-clause-awaits : goal.begin_trait-requires-clause-awaits
-begin_trait-requires-clause-awaits c = type-path-awaited c.args.s.now c.args.self.now c.requires.writing
+begin_trait-requires-clause-awaits g c = type-path-awaited g.S.Showing.IS_BRIEF c.args.s.now c.args.self.now c.requires.writing
 
 pub begin_shared-requires-clause-awaits : goal.begin_shared-requires-clause-awaits
-begin_shared-requires-clause-awaits c = type-awaited c.args.s.now c.args.self.now c.requires.writing
+begin_shared-requires-clause-awaits g c = type-awaited g.S.Showing.IS_BRIEF c.args.s.now c.args.self.now c.requires.writing
 
 pub begin_mutable-requires-clause-awaits : goal.begin_mutable-requires-clause-awaits
-begin_mutable-requires-clause-awaits c = type-awaited c.args.s.now c.args.self.now c.requires.writing
+begin_mutable-requires-clause-awaits g c = type-awaited g.S.Showing.IS_BRIEF c.args.s.now c.args.self.now c.requires.writing
 
 pub begin_const-requires-clause-awaits : goal.begin_const-requires-clause-awaits
-begin_const-requires-clause-awaits c = type-awaited c.args.s.now c.args.self.now c.requires.writing
+begin_const-requires-clause-awaits g c = type-awaited g.S.Showing.IS_BRIEF c.args.s.now c.args.self.now c.requires.writing
 
 pub begin_mut-requires-clause-awaits : goal.begin_mut-requires-clause-awaits
-begin_mut-requires-clause-awaits c = type-awaited c.args.s.now c.args.self.now c.requires.writing
+begin_mut-requires-clause-awaits g c = type-awaited g.S.Showing.IS_BRIEF c.args.s.now c.args.self.now c.requires.writing
 
 pub begin_slice-requires-clause-awaits : goal.begin_slice-requires-clause-awaits
-begin_slice-requires-clause-awaits c = type-awaited c.args.s.now c.args.self.now c.requires.writing
+begin_slice-requires-clause-awaits g c = type-awaited g.S.Showing.IS_BRIEF c.args.s.now c.args.self.now c.requires.writing
 
 pub begin_tuple-requires-clause-awaits : goal.begin_tuple-requires-clause-awaits
-begin_tuple-requires-clause-awaits c = type-awaited c.args.s.now c.args.self.now c.requires.writing
+begin_tuple-requires-clause-awaits g c = type-awaited g.S.Showing.IS_BRIEF c.args.s.now c.args.self.now c.requires.writing
 
 pub begin_dyn-requires-clause-awaits : goal.begin_dyn-requires-clause-awaits
-begin_dyn-requires-clause-awaits c = type-awaited c.args.s.now c.args.self.now c.requires.writing
+begin_dyn-requires-clause-awaits g c = type-awaited g.S.Showing.IS_BRIEF c.args.s.now c.args.self.now c.requires.writing

@@ -18,7 +18,7 @@ returns-clause-adds c = (goes_on_same c.args.self.now c.args.self.now refl refl,
 
 pub returns-clause-opens : goal.returns-clause-opens
 returns-clause-opens c = opens_tallied (v0_view c.args.symbol.now) made_by c.args.symbol.now c.args._rows.now c.args.self.now c.args.self.now c.args.frame.now c.args.parts.now.items c.args.parts.now.items
-    c.args.row (Ok (record { bound = c.bound_behind-bound.result })) refl (λ around known from left state rule taken inner rest is left_is row_is.
+    c.args.row (Ok (record { bound = c.bound_behind-bound.result })) refl (λ around known from left state rule taken inner rest is left_is row_is after.
     let later : around.place ≤ skipped_from from left = omega (arith, is.stands.starts, skipped_further from left) in
     let fits : around.context + 1000 < 2 ^ 64 = omega (arith, is.kept.few, later, row_is.from, c.requires.place, c.requires.room.fits) in
     let g = ground c.args.symbol.now c.args.self.now.nodes in

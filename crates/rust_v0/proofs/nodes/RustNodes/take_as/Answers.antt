@@ -13,7 +13,7 @@ use Rattle.rust_v0.proofs.Taking.{own_fits, own_in_code, value_in_code, zero_sta
 use Rattle.rust_v0.proofs.nodes.RustNodes.take_as.Goals as goal
 
 pub returns-clause-takes : goal.returns-clause-takes
-returns-clause-takes c around known from left state t rest is left_is row_is =
+returns-clause-takes c around known from left state t rest is left_is row_is after =
     let s = c.args.symbol.now in
     let old = c.args.self.now in
     let new = c.token_part.new.self in
@@ -43,7 +43,7 @@ returns-clause-takes c around known from left state t rest is left_is row_is =
     )
 
 pub returns-in_err-part-clause-takes : goal.returns-in_err-part-clause-takes
-returns-in_err-part-clause-takes c around known from left state t rest is left_is row_is =
+returns-in_err-part-clause-takes c around known from left state t rest is left_is row_is after =
     let s = c.args.symbol.now in
     let old = c.args.self.now in
     let ps = drop c.args.frame.base c.args.parts.now.items in

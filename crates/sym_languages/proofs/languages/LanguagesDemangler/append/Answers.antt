@@ -8,6 +8,6 @@ pub returns-in-Rust : goal.returns-in-Rust
 returns-in-Rust g c =
     let symbol = c.args.symbol.now in
     let bytes : AreBytes symbol = λ i. search (rules, c.type_inv.symbol i) in
-    subst (λ answer. IsAppended answer c.args.out.now.items c.append_in.new.out.items c.append_in.result)
+    subst (λ answer. IsAppended answer c.args.out.now.items c.append_rust.new.out.items c.append_rust.result)
     (rust_answered g.C.Mangling.mangled c.args.self.now.limit c.args.self.now.detail c.with_parameters-detail.result c.args.kind.lang symbol bytes c.in-Rust.is c.with_parameters-detail.ensures)
-    c.append_in.ensures
+    c.append_rust.ensures

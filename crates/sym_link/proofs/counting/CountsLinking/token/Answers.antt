@@ -6,7 +6,7 @@ use Rattle.sym_link.proofs.Lists.{pushed_behind, span_length}
 use Rattle.sym_link.proofs.counting.CountsLinking.token.Goals as goal
 
 pub returns-clause-takes : goal.returns-clause-takes
-returns-clause-takes c around known from left state t rest is left_is row_is =
+returns-clause-takes c around known from left state t rest is left_is row_is after =
     rw (plain_next counted_language around known from left state) (
       _,
       _,

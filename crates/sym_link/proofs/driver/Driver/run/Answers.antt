@@ -33,12 +33,12 @@ moves-preserved g c =
 
 pub returns-in-None-clause-driving : goal.returns-in-None-clause-driving
 returns-in-None-clause-driving g c tree is driving =
-    let nothing = c.in-Ok.is ∙ ap (λ o. Ok o) c.in-None.is in
+    let same = c.advance-moved.ensures.none (c.in-Ok.is ∙ ap (λ o. Ok o) c.in-None.is) in
     driving_none (g.L.Linking.view c.args.symbol.now) c.args.symbol.now c.args.rows.now tree c.advance-moved.new.language c.moves.steps c.moves.self.refused c.moves.next
     c.advance-moved.new.frames.items c.advance-moved.new.parts.items c.moves.invariant.0
     (driving_same (g.L.Linking.view c.args.symbol.now) c.args.symbol.now c.args.rows.now tree c.moves.language c.advance-moved.new.language c.moves.steps c.moves.next
     c.moves.self.frames.items c.advance-moved.new.frames.items c.moves.self.parts.items c.advance-moved.new.parts.items
-    (c.advance-moved.ensures.language nothing) (c.advance-moved.ensures.frames nothing) (c.advance-moved.ensures.parts nothing) (c.moves.invariant.2 tree is driving))
+    same.2 same.3 same.4 (c.moves.invariant.2 tree is driving))
 
 pub returns-in-None-clause-done : goal.returns-in-None-clause-done
 returns-in-None-clause-done g c tree is driving =

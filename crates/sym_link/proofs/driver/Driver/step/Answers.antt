@@ -1,4 +1,4 @@
-use Rattle.std.proofs.Common.{refl, ◌∙◌, arith, Bool, true, false}
+use Rattle.std.proofs.Common.{refl, ◌∙◌, ap, Ok, arith, Bool, true, false}
 use Rattle.sym_core.specs.declared.refusal.Refusal.TheVariants.{Memory as memory}
 use Rattle.sym_shape.proofs.Keeping.{never_both, never_ok, never_err, never_true}
 use Rattle.sym_link.proofs.Driving.{driving_on, step_moved, step_done, step_refused, refused_answer, none_kept}
@@ -113,6 +113,31 @@ returns-in-Some-behind-clause-keeps g c = c.advance-moved.ensures.keeps
 
 pub returns-in-Some-behind-clause-full : goal.returns-in-Some-behind-clause-full
 returns-in-Some-behind-clause-full g c none is = absurd (never_err Bool false memory is)
+
+pub returns-in-None-clause-language : goal.returns-in-None-clause-language
+returns-in-None-clause-language g c is =
+    let same = c.advance-moved.ensures.none (c.in-Ok.is ∙ ap (λ o. Ok o) c.in-None.is) in
+    same.2
+
+pub returns-in-None-clause-frames : goal.returns-in-None-clause-frames
+returns-in-None-clause-frames g c is =
+    let same = c.advance-moved.ensures.none (c.in-Ok.is ∙ ap (λ o. Ok o) c.in-None.is) in
+    same.3
+
+pub returns-in-None-clause-parts : goal.returns-in-None-clause-parts
+returns-in-None-clause-parts g c is =
+    let same = c.advance-moved.ensures.none (c.in-Ok.is ∙ ap (λ o. Ok o) c.in-None.is) in
+    same.4
+
+pub returns-in-None-clause-closed : goal.returns-in-None-clause-closed
+returns-in-None-clause-closed g c is =
+    let same = c.advance-moved.ensures.none (c.in-Ok.is ∙ ap (λ o. Ok o) c.in-None.is) in
+    same.3 ∙ same.0
+
+pub returns-in-None-clause-begun : goal.returns-in-None-clause-begun
+returns-in-None-clause-begun g c is =
+    let same = c.advance-moved.ensures.none (c.in-Ok.is ∙ ap (λ o. Ok o) c.in-None.is) in
+    same.1
 
 pub returns-in-None-clause-again : goal.returns-in-None-clause-again
 returns-in-None-clause-again g c = rw (none_kept c.args.self.now.refused c.in_default.not-Some) tt

@@ -42,9 +42,9 @@ returns-in_ok-push_rule_with_token-in-Some-complete_token-clause-moves g c =
     let chosen = c.in-Some.ensures in
     let place = c.in-Some-complete_token.place in
     let made = c.in_ok-push_rule_with_token-in-Some-complete_token.ensures in
-    let size : length c.push_rule_with_token.new.rows.items ≡ length old.rows.items + 2 = ap length made.rows ∙ length-append old.rows.items (lone_rows c.in-Some.rule progress.at place (length old.rows.items)) in
+    let size : length c.push_rule_with_token.new.rows.items ≡ length old.rows.items + 2 = ap length made.rows ∙ length-append old.rows.items (lone_rows c.in-Some.rule c.after-after.result progress.at place (length old.rows.items)) in
     let whole = subst (λ n. IsWholeToken g.G.Grammar.table.names c.in-Some-lone_token.symbol c.args.ended c.args.bytes.now n c.in-Some-complete_token.place) c.behind.ensures c.in-Some-complete_token.ensures in
-    let moved = frame_lone g.G.Grammar.listed g.G.Grammar.table g.met.G.Grammar.lawful c.args.ended c.args.bytes.now progress.steps progress.at c.args.kind chosen.byte c.in-Some.rule c.in-Some-lone_token.symbol place old.top old.below.items old.rows.items c.push_rule_with_token.new.rows.items c.requires.parsing c.requires.next chosen.stands.within chosen.stands.is chosen.stands.fits chosen.chosen c.in-Some-lone_token.ensures whole made.rows in
+    let moved = frame_lone g.G.Grammar.listed g.G.Grammar.table g.met.G.Grammar.lawful c.args.ended c.args.bytes.now progress.steps progress.at c.args.kind chosen.byte c.after-after.result c.in-Some.rule c.in-Some-lone_token.symbol place old.top old.below.items old.rows.items c.push_rule_with_token.new.rows.items c.requires.parsing c.requires.next chosen.stands.within chosen.stands.is chosen.stands.fits chosen.chosen c.in-Some-lone_token.ensures whole c.after-after.ensures made.rows in
     rw c.further.ensures (moved, omega arith, omega (arith, size))
 
 pub returns-in_ok-take_rule-in-None-lone_token-clause-moves : goal.returns-in_ok-take_rule-in-None-lone_token-clause-moves
@@ -54,7 +54,7 @@ returns-in_ok-take_rule-in-None-lone_token-clause-moves g c =
     let chosen = c.in-Some.ensures in
     let taken = c.in_ok-take_rule-in-None-lone_token.ensures in
     let listed : g.G.Grammar.listed c.place-place.result ≡ symbols_of c.in-Some.rule = subst (λ r. IfSome r (λ rule. g.G.Grammar.listed c.place-place.result ≡ symbols_of rule)) (ap (g.G.Grammar.table.rule c.args.kind) chosen.stands.is ∙ chosen.chosen) c.place-place.ensures in
-    let moved = frame_rule g.G.Grammar.listed g.G.Grammar.table g.met.G.Grammar.lawful c.args.ended c.args.bytes.now progress.steps progress.at c.args.kind chosen.byte c.place-place.result c.in-Some.rule old.top c.take_rule.new.top old.below.items c.take_rule.new.below.items old.rows.items c.take_rule.new.rows.items c.requires.parsing c.requires.next chosen.stands.within chosen.stands.is chosen.stands.fits chosen.chosen listed taken.taken in
+    let moved = frame_rule g.G.Grammar.listed g.G.Grammar.table g.met.G.Grammar.lawful c.args.ended c.args.bytes.now progress.steps progress.at c.args.kind chosen.byte c.place-place.result c.after-after-in-None-lone_token.result c.in-Some.rule old.top c.take_rule.new.top old.below.items c.take_rule.new.below.items old.rows.items c.take_rule.new.rows.items c.requires.parsing c.requires.next chosen.stands.within chosen.stands.is chosen.stands.fits chosen.chosen listed c.after-after-in-None-lone_token.ensures taken.taken in
     let reached = subst (λ n. IsFramed g.G.Grammar.listed g.G.Grammar.table c.args.ended c.args.bytes.now (progress.steps + 1) n c.take_rule.new.top c.take_rule.new.below.items c.take_rule.new.rows.items) (sym c.behind-in-None-lone_token.ensures) moved in
     rw c.further-in-None-lone_token.ensures (reached, omega arith, omega (arith, taken.one))
 

@@ -29,5 +29,5 @@ returns-in_ok-push_token-in-Some-complete_token-clause-moves g c =
     let progress = c.args.progress in
     let found = c.in-Some-complete_token.ensures in
     let made = c.in_ok-push_token-in-Some-complete_token.ensures in
-    let moved = frame_token g.G.Grammar.listed g.G.Grammar.table g.met.G.Grammar.lawful c.args.ended c.args.bytes.now progress.steps progress.at c.args.symbol c.in-Some-complete_token.place old.top old.below.items old.rows.items _ c.requires.parsing c.requires.next found.0 found.1 made.row in
+    let moved = frame_token g.G.Grammar.listed g.G.Grammar.table g.met.G.Grammar.lawful c.args.ended c.args.bytes.now progress.steps progress.at c.after.result c.args.symbol c.in-Some-complete_token.place old.top old.below.items old.rows.items _ c.requires.parsing c.requires.next found.0 found.1 c.after.ensures made.row in
     rw c.further-in-Some-complete_token.ensures (moved, omega arith, omega (arith, made.one))

@@ -22,7 +22,7 @@ returns-in_ok-take_rule-in-Some-rule-clause-moves g c =
     let byte = c.in-Some.ensures in
     let taken = c.in_ok-take_rule-in-Some-rule.ensures in
     let frame = c.take_rule.new.top in
-    let moved = frame_rule g.G.Grammar.listed g.G.Grammar.table g.met.G.Grammar.lawful c.args.ended c.args.bytes.now old.steps old.at c.args.kind c.in-Some.next c.place-place.result c.in-Some-rule.rule old.top frame old.below.items c.take_rule.new.below.items old.rows.items c.take_rule.new.rows.items c.requires.parsing c.requires.next byte.within byte.is byte.fits (sym c.in-Some-rule.ensures) (subst (λ r. IfSome r (λ rule. g.G.Grammar.listed c.place-place.result ≡ symbols_of rule)) (sym c.in-Some-rule.ensures) c.place-place.ensures) taken.taken in
+    let moved = frame_rule g.G.Grammar.listed g.G.Grammar.table g.met.G.Grammar.lawful c.args.ended c.args.bytes.now old.steps old.at c.args.kind c.in-Some.next c.place-place.result c.after-after.result c.in-Some-rule.rule old.top frame old.below.items c.take_rule.new.below.items old.rows.items c.take_rule.new.rows.items c.requires.parsing c.requires.next byte.within byte.is byte.fits (sym c.in-Some-rule.ensures) (subst (λ r. IfSome r (λ rule. g.G.Grammar.listed c.place-place.result ≡ symbols_of rule)) (sym c.in-Some-rule.ensures) c.place-place.ensures) c.after-after.ensures taken.taken in
     (subst (λ n. IsFramed g.G.Grammar.listed g.G.Grammar.table c.args.ended c.args.bytes.now (old.steps + 1) n frame c.take_rule.new.below.items c.take_rule.new.rows.items) (sym c.behind-self.ensures) moved, refl, taken.one)
 
 pub returns-in-None-clause-moves : goal.returns-in-None-clause-moves

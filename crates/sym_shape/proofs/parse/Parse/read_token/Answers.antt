@@ -24,7 +24,7 @@ returns-in_ok-push_token-in-Ok-2-clause-moves g c =
     let made = c.in_ok-push_token-in-Ok-2.ensures in
     let read = subst (λ r. FindsToken g.G.Grammar.table.names c.args.symbol c.args.bytes.now old.at r) c.in-Ok-2.is c.requires.found in
     let known = subst (λ place. IsKnown c.args.ended c.args.bytes.now place.end) (same_ok c.args.found _ _ c.in-Ok.is c.in-Ok-2.is) c.if-may_go_on.ensures.known in
-    (frame_token g.G.Grammar.listed g.G.Grammar.table g.met.G.Grammar.lawful c.args.ended c.args.bytes.now old.steps old.at c.args.symbol c.in-Ok-2.place old.top old.below.items old.rows.items _ c.requires.parsing c.requires.next read known made.row, refl, made.one)
+    (frame_token g.G.Grammar.listed g.G.Grammar.table g.met.G.Grammar.lawful c.args.ended c.args.bytes.now old.steps old.at c.after.result c.args.symbol c.in-Ok-2.place old.top old.below.items old.rows.items _ c.requires.parsing c.requires.next read known c.after.ensures made.row, refl, made.one)
 
 pub returns-in-Err-2-clause-moves : goal.returns-in-Err-2-clause-moves
 returns-in-Err-2-clause-moves g c =

@@ -1,0 +1,129 @@
+-- Marks, letters, numbers, offsets, discriminators and suffixes that were read, as it is known of their kinds: nothing else changes.
+use Rattle.std.proofs.Common.{◌≡◌, ℕ, inl, inr, List, [], ◌∷◌, true, false, refl, ap, arith, sym, subst, ◌∙◌}
+use Rattle.cpp_grammar.specs.declared.kind.Kind.{Kind}
+use Rattle.cpp_grammar.specs.declared.production.Production.{Production}
+use Rattle.cpp_grammar.specs.Grammar.{Alternative, alternatives, choose, is_chain, parts_of}
+use Rattle.cpp_grammar.specs.Values.{State, Around, Value, letter_of, text_of, signed_of, adjustment_of, normal, part}
+use Rattle.cpp_grammar.specs.Between.{between}
+use Rattle.cpp_grammar.specs.Meaning.{meaning, discriminator_of}
+use Rattle.cpp_grammar.specs.Unfolding as unfolding_
+use Rattle.cpp_grammar.specs.Unfolding.{byte_of}
+use Rattle.cpp_press_laws.specs.Fits.{IsSpellableSuffix}
+use Rattle.cpp_press_laws.proofs.ByKind.Rules.{OneOf}
+use Rattle.cpp_press_laws.proofs.ByKind.LeafKinds.{own-byte, only-at, signed-spellable, normal-digits, spellable-discriminator}
+use Rattle.cpp_press_laws.proofs.ByKind.Known.{KindRead, MarkRead, OpenedRead, opened-read, by-parts, BranchTo, BranchRead}
+
+-- ## Marks
+
+abbrev pub OnlyMarks : List Alternative → Type 0
+OnlyMarks [] = Unit {0}
+OnlyMarks (a ∷ rest) = (a.production ≡ Production.Mark) × OnlyMarks rest
+
+one-mark : (all : List Alternative) (F : Production → Type 0) → OnlyMarks all → OneOf all F → F Production.Mark
+one-mark [] F only one = absurd one
+one-mark (a ∷ []) F only f = subst F only.0 f
+one-mark (a ∷ b ∷ rest) F only (inl f) = subst F only.0 f
+one-mark (a ∷ b ∷ rest) F only (inr more) = one-mark (b ∷ rest) F only.1 more
+
+-- the byte that was taken is the mark
+mark-taken : (kind : Kind) {around : Around} {at : ℕ} {old : State} {v : Value} {new : State}
+    → OpenedRead kind around at old v new Production.Mark → MarkRead kind v old new
+unfolding parts_of is_chain meaning unfolding_.behind letter_of
+mark-taken kind {around} {at} {old} {v} {new} o =
+    let eaten : byte_of o.taken ≡ o.byte = own-byte Production.Mark o.taken o.byte o.takes refl in
+    by-parts (λ w s. MarkRead kind w old s) Production.Mark tt tt o (refl, refl, omega (arith, eaten, o.small), ap (choose kind) eaten ∙ o.chosen)
+
+-- a kind of letters
+pub letter-branch : (kind : Kind) → OnlyMarks (alternatives kind) → BranchTo kind (λ around v old new. MarkRead kind v old new)
+letter-branch kind only rule taken parts all around at old v new front is e =
+    mark-taken kind (one-mark (alternatives kind) (OpenedRead kind around at old v new) only
+    (opened-read kind rule taken parts all around at old v new front is e))
+
+-- a kind of marks, of which nothing is asked
+pub mark-branch : (kind : Kind) → OnlyMarks (alternatives kind) → BranchTo kind (λ around v old new. new ≡ old)
+mark-branch kind only rule taken parts all around at old v new front is e =
+    (letter-branch kind only rule taken parts all around at old v new front is e).0
+
+-- after an l: a letter, or the name of a literal operator
+pub operator-after-l-branch : BranchRead Kind.OperatorAfterL
+unfolding alternatives parts_of between meaning part unfolding_.behind
+operator-after-l-branch rule taken parts all around at old v new front is e =
+    elim (opened-read Kind.OperatorAfterL rule taken parts all around at old v new front is e) [
+      | inl o ↦ inl (mark-taken Kind.OperatorAfterL o)
+      | inr o ↦ by-parts (λ w s. KindRead Kind.OperatorAfterL around w old s) Production.LiteralOperator tt tt o
+          (λ w s name. inr (text_of w, name.0, refl, name.2))
+    ]
+
+-- ## Numbers and offsets
+
+pub integer-branch : BranchRead Kind.Integer
+unfolding alternatives parts_of between meaning part unfolding_.behind signed_of
+integer-branch rule taken parts all around at old v new front is e =
+    elim (opened-read Kind.Integer rule taken parts all around at old v new front is e) [
+      | inl o ↦ by-parts (λ w s. KindRead Kind.Integer around w old s) Production.Negative tt tt o
+          (λ w s number. (number.0, signed-spellable true (text_of w) number.2))
+      | inr o ↦ by-parts (λ w s. KindRead Kind.Integer around w old s) Production.Positive tt tt o
+          (λ w s number. (number.0, signed-spellable false (text_of w) number.2))
+    ]
+
+pub call-offset-branch : BranchRead Kind.CallOffset
+unfolding alternatives parts_of between meaning part unfolding_.behind adjustment_of
+call-offset-branch rule taken parts all around at old v new front is e =
+    elim (opened-read Kind.CallOffset rule taken parts all around at old v new front is e) [
+      | inl o ↦ by-parts (λ w s. KindRead Kind.CallOffset around w old s) Production.NonVirtualOffset tt tt o (λ w s read m t mark.
+          let one = read Kind.Integer refl in (mark.0 ∙ one.0, one.1))
+      | inr o ↦ by-parts (λ w s. KindRead Kind.CallOffset around w old s) Production.VirtualOffset tt tt o (λ w s read m t mark x u more b q end.
+          let one = read Kind.Integer refl in
+          let two = more Kind.Integer refl in
+          (end.0 ∙ two.0 ∙ mark.0 ∙ one.0, (one.1, two.1)))
+    ]
+
+-- ## Discriminators
+
+pub discriminator-branch : BranchRead Kind.MaybeDiscriminator
+unfolding alternatives parts_of between meaning part unfolding_.behind
+discriminator-branch rule taken parts all around at old v new front is e =
+    let o = opened-read Kind.MaybeDiscriminator rule taken parts all around at old v new front is e in
+    by-parts (λ w s. KindRead Kind.MaybeDiscriminator around w old s) Production.Discriminator tt tt o (λ w s rest. rest Kind.DiscriminatorRest refl)
+
+pub discriminator-rest-branch : BranchRead Kind.DiscriminatorRest
+unfolding alternatives parts_of between meaning part unfolding_.behind is_chain discriminator_of
+discriminator-rest-branch rule taken parts all around at old v new front is e =
+    elim (opened-read Kind.DiscriminatorRest rule taken parts all around at old v new front is e) [
+      | inl o ↦
+          let eaten : byte_of o.taken ≡ o.byte = own-byte Production.OneDigit o.taken o.byte o.takes refl in
+          by-parts (λ w s. KindRead Kind.DiscriminatorRest around w old s) Production.OneDigit tt tt o
+          (refl, (omega (arith, eaten, o.small), ap (choose Kind.DiscriminatorRest) eaten ∙ o.chosen))
+      | inr o ↦ by-parts (λ w s. KindRead Kind.DiscriminatorRest around w old s) Production.ManyDigits tt tt o (λ w s number m t mark.
+          (mark.0 ∙ number.0, spellable-discriminator (normal (text_of w)) (normal-digits (text_of w) number.2)))
+    ]
+
+-- ## Suffixes
+
+pub suffix-more-branch : BranchRead Kind.SuffixMore
+unfolding alternatives parts_of between meaning part unfolding_.behind is_chain text_of
+suffix-more-branch rule taken parts all around at old v new front is e =
+    let o = opened-read Kind.SuffixMore rule taken parts all around at old v new front is e in
+    let eaten : byte_of o.taken ≡ o.byte = own-byte Production.SuffixByte o.taken o.byte o.takes refl in
+    by-parts (λ w s. KindRead Kind.SuffixMore around w old s) Production.SuffixByte tt tt o (λ w s more.
+    let rest = more Kind.SuffixMore refl in
+    (rest.0, (omega (arith, eaten, o.small), ap (choose Kind.SuffixMore) eaten ∙ o.chosen, rest.1)))
+
+pub suffix-first-branch : BranchRead Kind.SuffixFirst
+unfolding alternatives parts_of between meaning part unfolding_.behind is_chain text_of
+suffix-first-branch rule taken parts all around at old v new front is e =
+    let o = opened-read Kind.SuffixFirst rule taken parts all around at old v new front is e in
+    let eaten : byte_of o.taken ≡ o.byte = own-byte Production.SuffixByte o.taken o.byte o.takes refl in
+    by-parts (λ w s. KindRead Kind.SuffixFirst around w old s) Production.SuffixByte tt tt o (λ w s more.
+    let rest = more Kind.SuffixMore refl in
+    (rest.0, (refl, omega (arith, eaten, o.small), ap (choose Kind.SuffixFirst) eaten ∙ o.chosen, rest.1)))
+
+pub suffix-branch : BranchRead Kind.MaybeSuffix
+unfolding alternatives parts_of between meaning part unfolding_.behind is_chain text_of
+suffix-branch rule taken parts all around at old v new front is e =
+    let o = opened-read Kind.MaybeSuffix rule taken parts all around at old v new front is e in
+    let dot : byte_of o.taken ≡ 46 =
+    own-byte Production.Suffix o.taken o.byte o.takes refl ∙ only-at Kind.MaybeSuffix Production.Suffix 46 refl o.byte o.chosen in
+    by-parts (λ w s. KindRead Kind.MaybeSuffix around w old s) Production.Suffix tt tt o (λ w s first.
+    let rest = first Kind.SuffixFirst refl in
+    (rest.0, subst (λ b. IsSpellableSuffix (b ∷ text_of w)) (sym dot) rest.1))

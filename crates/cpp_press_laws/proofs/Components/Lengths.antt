@@ -1,0 +1,73 @@
+-- How long the bytes are that spell what has no parts, at least.
+use Rattle.std.proofs.Common.{◌≡◌, ℕ, zero, suc, ◌<◌, ◌≤◌, length, List, [], ◌∷◌, ◌++◌, Bool, true, false, arith, length-append}
+use Rattle.std.specs.Prelude.{cond, codes, ◌||◌, nat_lt, ◌/◌, ◌%◌}
+use Rattle.sym_core.specs.declared.NameClass.TheVariants.{Cpp}
+use Rattle.sym_core.specs.Token.{IsSeparator}
+use Rattle.sym_spell.specs.Digits.{digits_in, decimal_digit}
+use Rattle.cpp_grammar.specs.Term.{Qualifiers}
+use Rattle.cpp_press_laws.specs.Texts.{decimal, counted, ordinal, qualifier_letters}
+use Rattle.cpp_press_laws.specs.Spellable.{IsSpellableName}
+use Rattle.cpp_press_laws.specs.Fits.{Slot, literal_type, IsBuiltin, has_letters}
+
+digits-long : (most n : ℕ) → 0 < length (digits_in 10 decimal_digit (suc most) n)
+digits-long most n = go (nat_lt n 10)
+  where
+    go : (b : Bool) → 0 < length (elim b as (λ _. List ℕ) [
+      | true ↦ decimal_digit n ∷ []
+      | false ↦ digits_in 10 decimal_digit most (n / 10) ++ decimal_digit (n % 10) ∷ []
+    ])
+    go true = omega arith
+    go false = omega (arith, length-append (digits_in 10 decimal_digit most (n / 10)) (decimal_digit (n % 10) ∷ []))
+
+pub counted-long : (name : List ℕ) → 0 < length (counted name)
+unfolding counted decimal
+counted-long name = omega (arith, length-append (digits_in 10 decimal_digit 40 (length name)) name, digits-long 39 (length name))
+
+pub some-bytes : (name : List ℕ) → IsSeparator Cpp [] name → 1 ≤ length name
+some-bytes [] is = absurd is
+some-bytes (b ∷ bs) is = omega arith
+
+pub source-long : (internal : Bool) (name : List ℕ) → IsSpellableName name → 2 ≤ length (cond internal (codes "L") [] ++ counted name)
+unfolding counted decimal
+source-long true name is = omega (arith, counted-long name)
+source-long false name is =
+    omega (
+      arith,
+      length-append (digits_in 10 decimal_digit 40 (length name)) name,
+      digits-long 39 (length name),
+      some-bytes name is.first,
+    )
+
+pub ordinal-long : (k : ℕ) → 1 ≤ length (ordinal k)
+unfolding ordinal
+ordinal-long zero = omega arith
+ordinal-long (suc n) = omega (arith, length-append (decimal n) (codes "_"))
+
+pub truth-long : (truth : Bool) → 1 ≤ length (cond truth (codes "Lb1E") (codes "Lb0E"))
+truth-long true = omega arith
+truth-long false = omega arith
+
+pub builtin-long : (slot : Slot) (code : List ℕ) → IsBuiltin slot code → 1 ≤ length code
+builtin-long slot (b ∷ bs) h = omega arith
+builtin-long literal_type [] h = absurd h
+builtin-long _ [] h = absurd h
+
+pub letters-long : (q : Qualifiers) → has_letters q ≡ true → 0 < length (qualifier_letters q)
+unfolding has_letters qualifier_letters
+letters-long q h = go q.restrict q.volatile q.const h
+  where
+    go : (r v c : Bool) → r || v || c ≡ true → 0 < length (cond r (codes "r") [] ++ cond v (codes "V") [] ++ cond c (codes "K") [])
+    go true true true k = omega arith
+    go true true false k = omega arith
+    go true false true k = omega arith
+    go true false false k = omega arith
+    go false true true k = omega arith
+    go false true false k = omega arith
+    go false false true k = omega arith
+    go false false false k = cc
+
+pub marks-long : (c x : Bool) → 0 < length (cond x (codes "Do") [] ++ codes "F" ++ cond c (codes "Y") [])
+marks-long true true = omega arith
+marks-long true false = omega arith
+marks-long false true = omega arith
+marks-long false false = omega arith

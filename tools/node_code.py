@@ -1,0 +1,151 @@
+"""The nodes that trees are read into, and the code of cpp_tree that goes through them by their arguments alone: the nodes themselves, what is
+noted of them, and what is seen of them. trees.py writes it, from the table of vocabulary.py."""
+import re
+import vocabulary as words
+from vocabulary import OWN, OUTSIDE, INSIDE, SIGNATURE, TREE, PIECE, BYTES, NUMBER, TRUTH, QUALIFIERS, MARK, SIGNED, THUNK, DISCRIMINATOR
+
+# a node has the arguments of its tree; these have others. A number of a thunk stands for it, and the letters of a builtin type are told apart
+def camel(name): return "".join(part.capitalize() for part in name.split("_"))
+NAMES = {"list": "Cell", "symbol": "Whole", "clone": "CloneOf"}
+PIECES = "source operator literal_operator constructor destructor inheriting lambda generic_lambda unnamed string_literal conversion".split()
+# the argument under which the types of an encoding are, if they are under one
+UNDER = "under"
+OTHERS = {
+    "function": [("name", TREE), ("q", QUALIFIERS), ("m", MARK), ("returned", TREE), ("parameters", TREE), ("under", UNDER)],
+    "object": [("name", TREE), ("q", QUALIFIERS), ("m", MARK)],
+    "of_name": [("letter", NUMBER), ("name", TREE), ("q", QUALIFIERS), ("m", MARK)],
+    "thunk": [("u", THUNK), ("e", TREE)],
+    "local": [("e", TREE), ("entity", TREE), ("d", DISCRIMINATOR)],
+    "parameter": [("k", NUMBER), ("a", TREE)],
+    "function_type": [("c", TRUTH), ("n", TRUTH), ("m", MARK), ("returned", TREE), ("parameters", TREE)],
+    "list": [("first", TREE), ("rest", TREE)],
+}
+def nodes():
+    """the nodes: each with its name, its tree's, and its arguments"""
+    order = ["absent", "nil", *[t[0] for t in words.TREES[1:] if t[0] not in ("absent", "nil", "list", *PIECES)], "list", "symbol"]
+    trees = {t[0]: list(t[1:]) for t in words.TREES}
+    for tree in order:
+        if tree == "builtin":
+            yield "Builtin", tree, [("letter", NUMBER)]
+            yield "BuiltinWithD", tree, [("letter", NUMBER)]
+        else: yield NAMES.get(tree, camel(tree)), tree, OTHERS.get(tree, trees[tree])
+    # a tree of another node, with another argument in its free parameters
+    yield "Reargued", "again", [("t", TREE), ("a", TREE)]
+
+# names of arguments in code, by tree or for each
+NAMED = {"t": "ty", "p": "piece", "q": "qualifiers", "m": "mark", "e": "encoding", "d": "discriminator", "u": "thunk", "k": "number", "a": "argument", "c": "c_linkage", "n": "noexcept",
+         ("array", "t"): "element", ("bounded", "t"): "element", ("vector", "t"): "element", ("member_pointer", "t"): "member", ("integer", "n"): "value", ("again", "t"): "tree",
+         ("operation", "one"): "first", ("operation", "two"): "second", ("operation", "u"): "left", ("operation", "w"): "right", ("vendor", "bytes"): "name", ("boolean", "b"): "truth",
+         ("decltype", "operand"): "expression"}
+TYPES = {NUMBER: "u8", TRUTH: "bool", QUALIFIERS: "Qualifiers", MARK: "Mark", BYTES: "Span", SIGNED: "Signed", DISCRIMINATOR: "Option<Span>", PIECE: "Piece"}
+# what is said of a node, or of one of its fields
+SAID = {
+    "Tagged": "A name with one tag more, and whether it is that of a constructor or a destructor.",
+    "OfDefault": "The entity of a local name that is in a default argument, and the digits that say in which.",
+    "Constrained": "`auto` or `decltype(auto)`, by the last letter of its code, of which a concept is asked.",
+    "Bounded": "An array whose length is a parameter.",
+    "Decltype": "The type of an expression.",
+    "Operation": "An operation of an expression, by the two letters of its operator. An operand that it hasn't is absent.",
+    "FunctionParameter": "A parameter of the function in whose types it is, as an expression.",
+    "Reargued": "A tree again, with this argument in each of its free parameters, or with the elements of it if it is a list.",
+    ("Function", "under"): "The argument under which its return type and its parameters are, as a word (`under_word`).",
+}
+
+def fields(tree, arguments):
+    """each field's name, what it is, and its type"""
+    for name, sort in arguments: yield NAMED.get((tree, name), NAMED.get(name, name)), sort, "u32" if (tree, name) == ("parameter", "k") else TYPES.get(sort, "u32")
+
+def variants():
+    """the nodes"""
+    for node, tree, arguments in nodes():
+        if node in SAID: yield f"    /// {SAID[node]}"
+        own = list(fields(tree, arguments))
+        if not own: yield f"    {node},"
+        elif len(own) == 1: yield f"    {node}({own[0][2]}),"
+        else:
+            yield f"    {node} {{"
+            for name, sort, type in own:
+                if (node, name) in SAID: yield f"        /// {SAID[node, name]}"
+                yield f"        {name}: {type},"
+            yield "    },"
+
+def pattern(path, node, names, given, indent):
+    """a node with some of its fields, in one line if there are few"""
+    if not names: return f"{indent}{path}{node}"
+    if len(names) == 1: return f"{indent}{path}{node}({names[0] if names[0] in given else '_'})"
+    shown = [n for n in names if n in given] + ([".."] if any(n not in given for n in names) else [])
+    inside = ", ".join(shown)
+    if len(inside) <= 18: return f"{indent}{path}{node} {{ {inside} }}"
+    return "\n".join([f"{indent}{path}{node} {{", *[f"{indent}    {n}{'' if n == '..' else ','}" for n in shown], f"{indent}}}"])
+
+def arm(left, right, indent):
+    """an arm, as rt fmt lays it out"""
+    whole = f"{left} => {right},"
+    call, given = re.fullmatch(r"([\w.]+)\((.*)\)", right).groups()
+    if len(given) <= 60: return whole if len(whole.split("\n")[-1]) <= 100 else f"{left} => {{\n{indent}    {right}\n{indent}}}"
+    return f"{left} => {call}(\n" + "".join(f"{indent}    {g},\n" for g in re.split(r", (?![^\[]*\])", given)) + f"{indent}),"
+
+def named_in(right, names):
+    return [n for n in names if re.search(rf"(?<![\w.:]){n}(?!\w)", right)]
+
+def arms(path, indent, of):
+    """an arm for each node of which there is something to say"""
+    for node, tree, arguments in nodes():
+        own = list(fields(tree, arguments))
+        right = of(node, tree, own)
+        if right is None: continue
+        names = [name for name, _, _ in own]
+        yield arm(pattern(path, node, names, named_in(right, names), indent), right, indent)
+
+# ## What is noted
+
+# of some nodes more is noted than that of their parts, or that their type is no plain one
+NOTED = {
+    "Alone": "self.noted_piece(symbol, node, piece)", "InStd": "self.noted_piece(symbol, node, piece)", "Within": "self.noted_within(symbol, node, prefix, piece)",
+    "Instance": "self.noted_instance(symbol, node, template, arguments)", "Local": "self.noted_local(node, entity)", "OfDefault": "self.noted_local(node, entity)",
+    "Tagged": "self.noted_tagged(node, name)", "Parameter": "self.noted_parameter(symbol, node, number, argument)", "Rvalue": "self.noted_rvalue(node, ty)",
+    "Qualified": "self.noted_qualified(node, ty)", "Expansion": "self.noted_expansion(node, pattern)", "Pack": "self.noted_pack(node, elements)", "Nil": "bare(node, true)",
+    "Cell": "self.noted_cell(symbol, node, first, rest)", "Reargued": "self.noted_again(symbol, node, tree, argument)",
+}
+HEADS = {"Lvalue": "Lvalue", "Array": "FunctionOrArray", "Bounded": "FunctionOrArray", "FunctionType": "FunctionOrArray"}
+
+def sorts_of(tree): return {t[0]: [sort for name, sort in t[1:]] for t in words.TREES}.get(tree, [])
+
+def noted():
+    """what is noted of a node, by its parts that aren't under a scope of their own"""
+    def of(node, tree, own):
+        if node in NOTED: return NOTED[node]
+        parts = [name for (name, _, _), sort in zip(own, sorts_of(tree)) if sort == TREE]
+        if not parts: return None
+        return f"self.noted_type{'s' if len(parts) == 2 else ''}(node, {', '.join(parts)}, Words::{HEADS.get(node, 'Plain')})"
+    return list(arms("Node::", "            ", of))
+
+# ## What is seen
+
+# of some nodes more is seen than numbers, a text and parts
+SEEN = {
+    "Thunk": "view_of_thunk(symbol, nodes, nodes.thunk(thunk), encoding)", "OfName": "view_of_special_name(symbol, nodes, letter, name, qualifiers, mark)",
+    "Local": "view_of_local(symbol, nodes, encoding, entity, discriminator)", "Alone": "view_of_name(symbol, nodes, ALONE, None, piece)",
+    "InStd": "view_of_name(symbol, nodes, IN_STD, None, piece)", "Within": "view_of_name(symbol, nodes, NESTED, Some(prefix), piece)",
+    "Parameter": "leaf(PARAMETER, number as u64)", "BuiltinWithD": "leaf(BUILTIN_WITH_D, letter as u64)",
+    # no node here: the tree that is there again is shown in its place
+    "Reargued": "leaf(ABSENT, 0)",
+}
+NUMBERS = {NUMBER: "{0} as u64", TRUTH: "bit({0}) as u64", QUALIFIERS: "{0}.number() as u64", MARK: "{0}.number() as u64", SIGNED: "bit({0}.negative) as u64"}
+TEXTS = {BYTES: "{0}", SIGNED: "{0}.digits"}
+
+def seen():
+    """the view of a node: its production, numbers, text and parts"""
+    def of(node, tree, own):
+        if node in SEEN: return SEEN[node]
+        numbers = [NUMBERS[sort].format(name) for name, sort, _ in own if sort in NUMBERS and not (tree == "builtin" and sort != NUMBER)]
+        if tree == "function_type": numbers = ["linkage_number(c_linkage, noexcept)", numbers[-1]]
+        texts = [TEXTS[sort].format(name) for name, sort, _ in own if sort in TEXTS]
+        parts = [name for (name, sort, _), of_tree in zip(own, sorts_of(tree)) if of_tree in (OWN, OUTSIDE, INSIDE, SIGNATURE, TREE)]
+        told = f"[{', '.join([*numbers, '0'][:2])}]" if numbers else "none"
+        text = texts[0] if texts else "NO_TEXT"
+        if not parts and not texts: return f"leaf({tree.upper()}, {numbers[0] if numbers else '0'})"
+        if len(parts) in (1, 2): return f"{('one', 'two')[len(parts) - 1]}({tree.upper()}, {told}, {text}, {', '.join(parts)})"
+        shown = f"[{text}, NO_TEXT]" if texts else "[NO_TEXT; 2]"
+        return f"seen({tree.upper()}, {told}, {shown}, {len(parts)}, [{', '.join(parts) or '0; 3'}])"
+    return list(arms("node::Node::", "        ", of))

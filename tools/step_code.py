@@ -1,0 +1,128 @@
+"""The code of cpp_link for what is done before the parts of a production, and the facts that a function is asked with, from the rows of grammar.py.
+trees.py writes it."""
+import re
+import grammar
+from family_code import Call, Fields, arm, snake
+
+FILE = "cpp_link/src/row_steps.rt"
+PARTS = ["first", "second", "third"]
+GO, NOTHING = "Step::Go", "None"
+
+def node(k): return Call("self.node", "symbol", PARTS[int(k)])
+def text(k): return Call("self.text_in", "symbol", PARTS[int(k)])
+def list_of(k): return Call("self.list_in", "symbol", PARTS[int(k)])
+def piece_of(k): return Call("self.piece_in", "symbol", PARTS[int(k)])
+TEMPLATE = Call("self.prefix_node", "symbol", "kept")
+ITS_TYPES = "\n".join(["{", "                let name = self.node(symbol, first);", "                self.go(self.in_encoding(kept, place, closed_arguments(&self.nodes, symbol, name)))", "            }"])
+
+def around(place):
+    """what surrounds a part"""
+    if place == "as_before": return "kept"
+    if place == "in_its_name": return Call("self.in_encoding", "kept", "place", "None")
+    if place == "in_a_signature": return Call("self.in_signature", "kept")
+    if place == "nameless": return Call("self.inside", "kept")
+    if place == "under_it": return Call("self.under_expansion", "kept")
+    if place == "after_the_name": return Call("self.behind_name", "kept", TEMPLATE, "true")
+    k, mark = re.fullmatch(r"after_part (\d) (.*)", place).groups()
+    listed = {"listed": "true", "unlisted": "false"}.get(mark) or Call("is_listed", PARTS[int(k)])
+    return Call("self.behind_name", "kept", node(k), listed)
+
+def piece(made):
+    """a piece of a name, from what it is made of"""
+    if m := re.fullmatch(r"only \(piece_at (\d)\)", made): return piece_of(m[1])
+    if m := re.fullmatch(r"of new_source \((yes|no) ∷ text_at (\d) ∷ \[\]\)", made):
+        return Fields("Piece::Source", internal="true" if m[1] == "yes" else "false", bytes=text(m[2]))
+    if m := re.fullmatch(r"of new_(\w+) \(letter_at (\d) ∷ \[\]\)", made): return Call(f"Piece::{m[1].capitalize()}", Call("letter_of", PARTS[int(m[2])]))
+    letter, k = re.fullmatch(r"of new_operator \(fixed (\d+) ∷ letter_at (\d) ∷ \[\]\)", made).groups()
+    return Call("Piece::Operator", f"b'{chr(int(letter))}'", Call("letter_of", PARTS[int(k)]))
+
+def made_step(made, listed, is_name, is_candidate):
+    """the first part becomes a tree"""
+    named = "self.listed_name" if listed == "true" else "self.named"
+    if m := re.fullmatch(r"extending \((.*)\)", made): return Call(named, Call("self.extended", "symbol", "kept.prefix()", piece(m[1])))
+    if m := re.fullmatch(r"tagging (\d)", made): return Call(named, Call("self.tagged", "symbol", "kept", text(m[1])))
+    if m := re.fullmatch(r"only \(tree_at (\d)\)", made): return Fields("Step::Named", node=node(m[1]), listed=listed, is_name=is_name)
+    if m := re.fullmatch(r"applying \(only \(tree_at (\d)\)\) (\d)", made): return Call("self.std_name", "symbol", node(m[1]), PARTS[int(m[2])])
+    if m := re.fullmatch(r"of new_in_std \(piece_at (\d) ∷ \[\]\)", made): return Call(named, Call("Node::InStd", piece_of(m[1])))
+    if m := re.fullmatch(r"of new_(lvalue|rvalue) \(tree_at (\d) ∷ \[\]\)", made): new = Call(f"Node::{m[1].capitalize()}", node(m[2]))
+    else: new = Fields("Node::Instance", template=TEMPLATE, arguments=list_of(re.fullmatch(r"of new_instance \(the_name ∷ list_at (\d) ∷ \[\]\)", made)[1]))
+    if is_name == "true" and listed == "false": return Call(named, new)
+    return Fields("Step::Made", node=new, listed=listed, is_name=is_name, is_candidate=is_candidate, packs="self.packs")
+
+def code(step):
+    """what is done, in code"""
+    if m := re.fullmatch(r"becomes \((.*)\) (true|false) (true|false) (true|false)", step): return made_step(*m.groups())
+    if step == "goes nothing in_its_types": return ITS_TYPES
+    if step == "goes nothing under_it": return Fields(GO, candidate=NOTHING, then=around("under_it"), packs=NOTHING)
+    if m := re.fullmatch(r"goes nothing \(?(.*?)\)?", step): return Call("self.go", around(m[1] + (")" if "(" in m[1] else "")))
+    if m := re.fullmatch(r"goes the_prefix \(?(.*?)\)?", step): return Fields(GO, candidate=Call("self.prefix_candidate", "symbol", "kept"), then=around(m[1]), packs="self.packs")
+    part_, place = re.fullmatch(r"goes \(type_of (\d)\) \(?(.*?)\)?", step).groups()
+    return Fields(GO, candidate=Call("self.type_candidate", "symbol", "kept", PARTS[int(part_)]), then=around(place), packs="self.packs")
+
+# what code by hand does: tests, packs, an M, and what the ABI's grammar doesn't have
+def is_by_hand(step): return step.split()[0] in ("tests", "holds", "unread", "quiet") or "packing" in step
+def is_piece(step): return re.match(r"becomes \(extending .*\) false true false$", step) is not None
+def is_name(step): return step.startswith("becomes ") and step.split()[-2] == "true"
+
+def steps():
+    grammar.build(widened=True)
+    rows = grammar.rows()
+    grammar.build()
+    return {p: [row.before[i] if i < len(row.before) else row.onward for i in range(5)] for p, row in rows.items()}
+
+def of_function(found):
+    """the productions of each function, each with what is done"""
+    def at(i, *tests): return {p: s[i] for p, s in found.items() if not is_by_hand(s[i]) and all(t(s[i]) for t in tests)}
+    return {
+        "step_first": at(0), "step_second": at(1, lambda s: not is_name(s)), "step_second_of_name": at(1, is_name, lambda s: not is_piece(s)), "step_second_of_piece": at(1, is_piece),
+        "step_third": at(2), "step_fourth": at(3), "step_later": at(4),
+    }
+
+def arms():
+    """each function, and the arms of its match"""
+    for function, done in of_function(steps()).items():
+        lines = []
+        for p, step in done.items():
+            x = code(step)
+            lines += [f"            Production::{p} => {x}"] if x == ITS_TYPES else arm(p, x)
+        yield FILE, function, lines
+
+def asked():
+    """each function that is asked with what others haven't done, and the facts that the production is none of theirs"""
+    found = steps()
+    functions = of_function(found)
+    begun = [p for p, s in found.items() if s[1] != "quiet" and is_by_hand(s[1])]
+    for function, before in (("step_second", []), ("step_second_of_name", ["step_second"]), ("step_second_of_piece", ["step_second", "step_second_of_name"])):
+        others = begun + [p for b in before for p in functions[b]]
+        yield FILE, function, [f"        requires {snake(p)} {{ production ≡ productions.{p} → ⊥ }}" for p in others]
+
+# ## Which candidates become of a production
+
+TOKENS = ("Name", "Decimal", "Seq36", "Digits")
+# of kinds that may come after a name, what is known of them
+AFTER_NAMES = {"MaybeArguments": "maybe-arguments", "MaybeTags": "maybe-tags", "Arguments": "arguments-next", "ArgumentsAlone": "arguments-alone"}
+
+def symbol(part): return part if part in TOKENS else f"(OfKind {snake(part).upper()})"
+
+def flow(p, row, parts):
+    """how the candidates of a production flow, by its row: its lemma, with what it asks for; nothing where it is by hand, or as of most"""
+    before = row.before[1] if len(row.before) == 2 and row.before[0] == "quiet" and row.onward == "quiet" else ""
+    name, first = f"Production.{p} refl around place", symbol(parts[0]) if parts else ""
+    named = re.match(r"becomes .* (true|false) true false$", before)
+    if named and row.form in ("a_name unlisted", "in_place"):
+        kind, known = snake(parts[1]).upper(), AFTER_NAMES[parts[1]]
+        if named[1] == "true": return f"listed_name {name} _ {first} {kind} refl (λ v. refl) (λ a v. refl) {known}"
+        return f"made_name {name} _ _ {first} {kind} refl (λ vs. refl) (λ vs. refl) (λ a v. refl) {known}"
+    if named and named[1] == "false" and row.form == "handed 1" and parts[1] == "NestRest": return f"nested {name} _ {first} refl (λ v. refl) (λ vs. refl) (λ a v. refl)"
+    if before == "goes (type_of 0) as_before": return f"of_type {name} _ {first} {symbol(parts[1])} refl (λ a v. refl) (λ a v. refl) (λ v. refl) (λ v. refl)"
+    if row.gain in ("type_of 0", "unqualified_of 0") and row.form == "finished 0":
+        return f"{'typed' if row.gain == 'type_of 0' else 'unqualified'} {name} {first} refl (λ a v. refl) (λ v. refl) (λ v. refl)"
+    if row.gain == "itself": return f"own_type {name} _ (parts_of Production.{p}) refl refl refl (λ v. refl) (λ vs. refl)"
+    return None
+
+def flows():
+    grammar.build(widened=True)
+    rows, productions = grammar.rows(), dict(grammar.P)
+    grammar.build()
+    found = {p: flow(p, row, productions[p][1]) for p, row in rows.items()}
+    return [f"flows Production.{p} around place = {lemma}" for p, lemma in found.items() if lemma]
