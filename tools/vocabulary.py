@@ -291,6 +291,7 @@ TREES = [
     ("array", ("digits", BYTES), ("t", TREE)),
     ("bounded", ("bound", TREE), ("t", TREE)),
     ("member_pointer", ("class", TREE), ("t", TREE)),
+    ("selected", ("class", TREE), ("t", TREE)),
     ("function_type", ("c_linkage", TRUTH), ("noexcept", TRUTH), ("ref", MARK), ("returned", TREE), ("parameters", TREE)),
     ("qualified", ("q", QUALIFIERS), ("t", TREE)),
     ("vector", ("digits", BYTES), ("t", TREE)),
