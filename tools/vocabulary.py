@@ -235,7 +235,7 @@ LEAVES = """NestWithS NestParameter NestInternal NestLocalType NestSource NestSt
     Abbreviation Substitution NestedType Expansion ItemIsType BuiltinWithD Vector NoexceptFunction Decltype Pointer MemberPointer
     Parameter TypeWithS LocalType Builtin Vendor Function Complex AbbreviatedType SizedFloat
     TypeInStd ArrayType AnyArray LengthArray BoundedArray
-    ParameterArgument LeveledParameter DeclaredArgument ConstrainedAuto ConvertedDecltype""".split()
+    ParameterArgument LeveledParameter DeclaredArgument ConstrainedAuto SelectedType ConvertedDecltype""".split()
 
 # The productions that are common in real symbols: where they close, and before the parts of some, they have code of their own, in which
 # what is done for a production is a constant. All others share theirs.
