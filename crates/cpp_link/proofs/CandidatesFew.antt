@@ -134,6 +134,7 @@ may_leave Production.ParameterArgument = true
 may_leave Production.LeveledParameter = true
 may_leave Production.DeclaredArgument = true
 may_leave Production.ConstrainedAuto = true
+may_leave Production.SelectedType = true
 may_leave Production.ConvertedDecltype = true
 may_leave _ = false
 
