@@ -9,6 +9,3 @@ returns c =
     let h = place-found (IsName Cpp) c.args.s.now c.args.at c.find_name.result c.ok.result c.in_ok-place.place c.find_name.ensures
     c.ok.ensures.value c.in_ok-place.was in
     name-placed c.args.s.now c.args.at c.in_ok-place.place h (omega (arith, c.if-at-s.false))
-
-pub find_name-requires-clause-fits : goal.find_name-requires-clause-fits
-find_name-requires-clause-fits c = c.requires.fits

@@ -16,6 +16,3 @@ returns-clause-is c =
           c.as_slice.ensures (c.in_ok-index.ensures ∙ ap (λ l. counted_value Seq36 l) n.2) c.in_ok-candidate.ensures.lookup.0
           c.in_ok-candidate.ensures.lookup.1,
     )
-
-pub find_number-requires-clause-fits : goal.find_number-requires-clause-fits
-find_number-requires-clause-fits c = c.requires.fits
