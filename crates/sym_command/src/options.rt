@@ -13,7 +13,7 @@ use sym_print::Detail;
 const DEFAULT_LIMIT: u32 = 1_000_000;
 
 const VERSION: &str =
-    "0.1.0 (C++ by the Itanium ABI 5.1, Rust v0 by RFC 2603; proved with rattle-kit-13b)";
+    "0.1.0 (C++ by the Itanium ABI 5.1, Rust v0 by RFC 2603; proved with Rattle kit 13, logic dac8208d650f15bf)";
 
 /// What help shows after the options.
 const EXAMPLES: &str = "\
