@@ -618,17 +618,9 @@ def rare_answers(function, goal, before, production, after, imports=(), others=(
 
 # ## Families of rare productions
 
-# those of expressions are by hand: each has a function, `outcome_of_` and its name
-BY_HAND = "Operation Operands Unresolved Literal".split()
-
 def families(crates):
-    """the productions of each family, and those that are common; of one by hand they are those that its function has an arm for"""
-    found = {family: productions.split() for module in family_code.FAMILIES.values() for family, (says, productions) in module.items()}
-    with open(f"{crates}/cpp_link/src/expression_meaning.rt", encoding="utf-8") as f: text = f.read()
-    for family in BY_HAND:
-        start = text.index(f"fn outcome_of_{snake(family)}(")
-        found[family] = re.findall(r"^ {12}Production::(\w+) =>", text[start:text.index("_ => unreachable!()", start)], re.M)
-    return {**found, "Common": words.COMMON}
+    """the productions of each family, and those that are common"""
+    return {**{family: productions.split() for module in family_code.FAMILIES.values() for family, (says, productions) in module.items()}, "Common": words.COMMON}
 
 def family_specs(found):
     return "\n".join([f"-- {WRITTEN} The families of productions, by what they stand for.", "use Rattle.cpp_grammar.specs.declared.production.Production.{Production}",
@@ -715,6 +707,17 @@ def first(lines):
     """the same, where the first of a list is called so"""
     return [re.sub(r"(?<![\w'])e(?![\w'])", "first", l) if "(list e rest)" in l else l for l in lines]
 
+# how many nodes code of its own makes of the values of its parts, where that isn't always as many as its row says
+MAKES_AT_END = {"closure": "lambda_at_end known", "inheriting": "inheriting_at_end (part known 1)", "by_letters": "operation_at_end (part known 0)", "enclosed": "enclosed_at_end known",
+                "elements": "elements_at_end known", "substitution": "0"}
+
+def makes_at_end():
+    def value(form):
+        if form == "in_place" or form.startswith("a_name "): return "name_at_end known"
+        if m := re.fullmatch(r"own (\w+) \d", form): return MAKES_AT_END.get(m[1])
+    found = {p: value(row.form) for p, row in grammar.rows().items()}
+    return [*[f"makes_at_end Production.{p} known = {v}" for p, v in found.items() if v], "makes_at_end p known = made_at_end p"]
+
 def declarations():
     """path, name, and the lines of its clauses"""
     no_expansion = {"expansion": None}
@@ -751,6 +754,7 @@ def declarations():
     yield "cpp_grammar/specs/Closed.antt", "ScopesAreClosed", first(fold("ScopesAreClosed", [], " × ".join, "Unit {0}", {"function": CLOSED_FUNCTION}))
     yield "cpp_link/specs/Owed.antt", "made_before", by_production("made_before", {p: numbers(row.made_before()) for p, row in grammar.rows().items() if row.made_before()}, "[]")
     yield "cpp_link/specs/Owed.antt", "made_at_end", by_production("made_at_end", {p: row.made_at_end() for p, row in grammar.rows().items() if row.made_at_end()}, 0)
+    yield "cpp_link/specs/NodeCount.antt", "makes_at_end", makes_at_end()
     yield "cpp_link/specs/Owed.antt", "slack", slack()
     yield "cpp_link/specs/Making.antt", "IsRare", by_production("IsRare", {p: "⊥" for p in words.COMMON}, "Unit {0}")
     yield "cpp_link/proofs/Making.antt", "IsNoneOfThem", [f"  pub not_{snake(p)} : p ≡ Production.{p} → ⊥" for p in words.COMMON]
