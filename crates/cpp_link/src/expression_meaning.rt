@@ -91,9 +91,11 @@ impl Linked {
     {
         let byte = symbol[place as usize];
         match production {
-            // X <expression> E
+            // <template-arg> ::= X <expression> E
             Production::Expression => self.enclosed_argument(symbol, parts),
+            // <expression>*
             Production::Expressions => self.elements(symbol, parts),
+            // <expression> ::= <unary operator-name> <expression>
             Production::Unary => Outcome::Given(Part::Pair {
                 letter: byte,
                 left: self.tree(symbol, parts, 0),
@@ -129,6 +131,7 @@ impl Linked {
                 left: self.tree(symbol, parts, 1),
                 right: ABSENT,
             }),
+            // <expression> ::= <binary operator-name> <expression> <expression>
             Production::Binary => Outcome::Given(Part::Pair {
                 letter: byte,
                 left: self.tree(symbol, parts, 0),

@@ -226,5 +226,4 @@ impl Linked {
         let letter = self.letter(symbol, parts, k);
         if letter == 0 { byte } else { letter }
     }
-
 }
