@@ -681,6 +681,17 @@ def arms(function, productions):
         if len(line) <= 100: yield line
         else: yield from [f"            Production::{p} => self.{function}(", "                symbol,", f"                Production::{p},", "                frame,", "                parts,", "            ),"]
 
+def may_leave(crates):
+    """what may leave a tree that is no candidate yet: the productions of the kinds whose trees become candidates later, but for those that make a name"""
+    with open(f"{crates}/cpp_link/proofs/CandidatesFew.antt", encoding="utf-8") as f: text = f.read()
+    kinds = set(re.findall(r"nat_eq k (\w+)", re.search(r"^becomes_candidate k =\n((?:    .*\n)+)", text, re.M)[1]))
+    names = set(re.findall(r"^makes_name Production\.(\w+) = true$", text, re.M))
+    grammar.build(widened=True)
+    begun = {p for kind, (empty, alternatives) in grammar.K.items() if snake(kind).upper() in kinds for on, p in alternatives} - names
+    leaving = [p for p in grammar.P if p in begun]
+    grammar.build()
+    return by_production("may_leave", {p: "true" for p in leaving}, "false")
+
 def arms_by_production(found):
     """path, function, and the arms of its match that are written"""
     yield "cpp_link/src/finish.rt", "finish_rule", list(arms("finish_as", words.COMMON))
@@ -715,7 +726,7 @@ def first(lines):
     """the same, where the first of a list is called so"""
     return [re.sub(r"(?<![\w'])e(?![\w'])", "first", l) if "(list e rest)" in l else l for l in lines]
 
-def declarations():
+def declarations(crates):
     """path, name, and the lines of its clauses"""
     no_expansion = {"expansion": None}
     yield "cpp_press_laws/specs/Same.antt", "same_tree", same_tree()
@@ -755,7 +766,7 @@ def declarations():
     yield "cpp_link/specs/Making.antt", "IsRare", by_production("IsRare", {p: "⊥" for p in words.COMMON}, "Unit {0}")
     yield "cpp_link/proofs/Making.antt", "IsNoneOfThem", [f"  pub not_{snake(p)} : p ≡ Production.{p} → ⊥" for p in words.COMMON]
     yield "cpp_link/proofs/Making.antt", "is_rare", is_rare()
-    yield "cpp_link/proofs/CandidatesFew.antt", "may_leave", by_production("may_leave", {p: "true" for p in words.LEAVES}, "false")
+    yield "cpp_link/proofs/CandidatesFew.antt", "may_leave", may_leave(crates)
     yield "cpp_tree/specs/Nodes.antt", "tree_of", tree_of()
     yield "cpp_tree/specs/Nodes.antt", "is_encoding", node_cases("is_encoding", [], [], lambda node, tree, args: "true" if tree in words.ENCODINGS else None, "false")
     yield "cpp_tree/specs/Nodes.antt", "IsBelow", is_below()
@@ -863,7 +874,7 @@ def files(crates):
              "cpp_tree/proofs/nodes/Nodes/noted/Answers.antt": noted_answers(),
              "cpp_link/proofs/linked/Linked/finish_rule/Answers.antt": rare_answers("finish_rule", "finish_rare-requires-clause-rare", "", "c.production_of-production.result", "", UNREAD_IMPORTS, [*UNREAD_ANSWER, *handed_answers()]),
              "cpp_link/proofs/linked/Linked/outcome/Answers.antt": rare_answers("outcome", "unreachable-requires", "c.requires.common (", "c.args.production", ")")}
-    for path, name, lines in [*declarations(), *payments.declarations(crates)]:
+    for path, name, lines in [*declarations(crates), *payments.declarations(crates)]:
         if path not in texts:
             with open(f"{crates}/{path}", encoding="utf-8") as f: texts[path] = f.read()
         texts[path] = rewritten(texts[path], name, lines)
