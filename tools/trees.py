@@ -742,8 +742,9 @@ def declarations(crates):
     yield "cpp_press_laws/proofs/Components/Parts.antt", "PrefixOr", cases("PrefixOr", [], ["inside", "x"], lambda t: "⊥" if t[0] in words.ENCODINGS else None, None, named(PRESSED)) + ["PrefixOr t inside x = ItselfOr t inside x"]
     yield "cpp_spelling/proofs/Made.antt", "below-later", below_later()
     yield "cpp_spelling/specs/Weight.antt", "weight", fold("weight", [], summed("12"), "12", trees=named(PRESSED))
-    nowhere = {"symbol": None, "construction": None, "clone": None, "holder": None, "sized_float": None, "constrained": None, "generic_lambda": None, "bounded": None, "of_default": None, "conversion": None, "inheriting": None, "decltype": None, "operation": None, "function_parameter": None, "absent": None, ("order", "function"): ["name", "returned", "parameters", "q", "ref"]}
-    yield "cpp_press_laws/proofs/EveryWay/Law.antt", "reads", by_each("reads", "reads", ["c"], {**nowhere, ("before", "function"): ["c"]}, {"address_of": "address"})
+    nowhere = {tree: None for tree, spelled in words.SPELLED.items() if spelled.startswith("nowhere")}
+    yield "cpp_press_laws/proofs/EveryWay/Law.antt", "reads", by_each("reads", "reads", ["c"],
+        {"symbol": None, **nowhere, ("order", "function"): ["name", "returned", "parameters", "q", "ref"], ("before", "function"): ["c"]}, {"address_of": "address"})
     yield "cpp_press_laws/proofs/Fits/Packs.antt", "closed-packs", closed_packs()
     yield "cpp_press/proofs/Open.antt", "open-erased", open_erased()
     yield "cpp_term/specs/Erased.antt", "erase", rebuilt("erase", [], [], True)
