@@ -174,9 +174,11 @@ AreNamed text scope =
     (number : ℕ) → IsPlain (place_of scope.arguments number) → (bytes : List ℕ) × (scope.names number ≡ Some bytes) × IsPlaced text (place_of scope.arguments number) bytes
 
 -- What a writer keeps: its candidates, and the arguments that types may name, of which none are known before the symbol's own name.
+-- If it is known where the encoding begins that has them, it is the symbol's own.
 pub record Keeps (s : Symbol) (scope : Scope) (w : Direct) (cs : List values.Candidate) : Type 0 where
   pub candidates : AreCandidates s scope.names w.text.list.items w.candidates.list.items cs
   pub named : AreNamed w.text.list.items scope
+  pub encoded : scope.arguments.encoding ≢ 0 → scope.arguments.encoding ≡ encoding_place s.bytes
   pub unknown : w.has_scope ≡ false → scope ≡ no_scope
 
 -- if there are any, parameters may name them
