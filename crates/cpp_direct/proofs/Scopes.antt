@@ -11,18 +11,9 @@ use Rattle.cpp_direct.specs.declared.open.Argument.{Argument}
 use Rattle.cpp_direct.specs.declared.open.Arguments.{Arguments}
 use Rattle.cpp_direct.specs.WriterInvariant.{IsArgument, IsPlaced, IsAmong, AreAmong, IsEnclosing, HasArguments, HasScope, IsEncodingOf, IsFunction, IsKnown, IsScoped, argument_of, list_with, named_in, nowhere, place_of}
 use Rattle.cpp_direct.specs.MidStep.{AreKnown}
+use Rattle.cpp_direct.proofs.Kept.{placed-stays}
 
--- what is at a place stays there where more is written
-pub placed-stays : (text more : List ℕ) (p : Argument) (bytes : List ℕ) → IsPlaced text p bytes → IsPlaced (text ++ more) p bytes
-placed-stays text more p bytes h = record {
-  front = h.front;
-  back = h.back ++ more;
-  written = ap (λ l. l ++ more) h.written ∙ append_assoc (h.front ++ bytes) h.back more;
-  from_is = h.from_is;
-  to_is = h.to_is;
-}
-
--- and so do the arguments of a name
+-- the arguments of a name stay at their places where more is written
 pub arguments-stay : {detail : Detail} (text more : List ℕ) (a : Arguments) (name : Term) → HasArguments detail text a name
     → HasArguments detail (text ++ more) a name
 arguments-stay text more a name has k o = let h = has k o in record {
