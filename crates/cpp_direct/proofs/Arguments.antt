@@ -16,7 +16,7 @@ use Rattle.cpp_direct.specs.declared.open.Open.{Open}
 use Rattle.cpp_direct.specs.declared.direct.Direct.{Direct}
 use Rattle.cpp_direct.specs.Holes.{Expects, StandsAt}
 use Rattle.cpp_direct.specs.Prints.{Prints, IsElementAs, PrintEachBy, PrintAllBy, joined, list_of}
-use Rattle.cpp_direct.specs.WriterInvariant.{below, is_noted, may_name, AreAmong, ArgumentsGoOn, Belongs, EndsNamed, GoesOn, IsAmong, IsKnown, IsScoped, IsTemplate, IsWriting, Listing, of_template, of_pack, Owns, Stands, extra_of, in_front_of_next, led_by, list_with, nowhere, place_of, Closes}
+use Rattle.cpp_direct.specs.WriterInvariant.{below, scoped_in, is_noted, may_name, AreAmong, ArgumentsGoOn, Belongs, EndsNamed, GoesOn, IsAmong, IsKnown, IsScoped, IsTemplate, IsWriting, Listing, of_template, of_pack, Owns, Stands, extra_of, in_front_of_next, led_by, list_with, nowhere, place_of, Closes}
 use Rattle.cpp_direct.specs.MidStep.{AreKnown, AwaitsKnownArgument, IsArgumentRead, IsListEnded, KnowsMore, IsPackElementRead, AwaitsPackElement}
 use Rattle.cpp_direct.specs.Written.{Writes}
 use Rattle.cpp_direct.proofs.Ending.{next-written}
@@ -78,7 +78,7 @@ argument-begins s old new from p named from_is waits text candidates scope_same 
           from_is,
           refl,
           (λ k known. absurd (none-known k known)),
-          λ t here now comes. element-goes-on s Kind.ArgumentList (below s p.scope place.rest).scoped
+          λ t here now comes. element-goes-on s Kind.ArgumentList (scoped_in o (below s p.scope place.rest))
               (λ l there later. Owns s o (below s p.scope place.rest) place.front (instance place.template l) there later)
               [] t old.at here p.state now goes (element.onward t here now comes),
         ) in
@@ -329,7 +329,7 @@ next-argument-begins s old mid new before from number known p writes from_is num
       from_is,
       number_is ∙ p.number_is,
       subst (λ l. AreAmong (detail_of s) l false known p.ts) (sym writes.text) (among-stay old.text.list.items (codes ", ") false known p.ts p.among),
-      λ t here now comes. element-goes-on s Kind.ArgumentList (below s p.scope p.rest).scoped
+      λ t here now comes. element-goes-on s Kind.ArgumentList (scoped_in o (below s p.scope p.rest))
           (λ l there later. Owns s o (below s p.scope p.rest) p.front (instance p.template l) there later)
           p.ts t old.at here p.state now goes (element.onward t here now comes),
     ) in
@@ -383,7 +383,7 @@ element-begins s old new from p named letter from_is waits text candidates scope
           goes.3,
           opened.awaits,
           λ l here now comes ended.
-              element-goes-on s Kind.ArgumentList (below s p.scope rest).scoped (λ u there later. Owns s o (below s p.scope rest) place.front (instance place.template u) there later)
+              element-goes-on s Kind.ArgumentList (scoped_in o (below s p.scope rest)) (λ u there later. Owns s o (below s p.scope rest) place.front (instance place.template u) there later)
               [] (pack (no_items l)) old.at (here + 1) p.state now goes (opened.onward l here now comes ended),
         ) in
         let element = element-awaits s Kind.PackList opened.inner goes.0 (old.at + 1) p.state tt opened.awaits in
@@ -405,7 +405,7 @@ element-begins s old new from p named letter from_is waits text candidates scope
           from_is,
           refl,
           (λ k known. absurd (none-known k known)),
-          λ t here now comes. element-goes-on s Kind.PackList (below s p.scope rest).scoped
+          λ t here now comes. element-goes-on s Kind.PackList (scoped_in o (below s p.scope rest))
               (λ l there later. Closes s (of_pack [] []) o (below s p.scope rest) place.front place.template l there later)
               [] t (old.at + 1) here p.state now in_pack (element.onward t here now comes),
         ) in
@@ -569,7 +569,7 @@ next-element-begins s old mid new before from number known p writes from_is numb
       from_is,
       number_is ∙ p.number_is,
       subst (λ l. AreAmong (detail_of s) l true known p.ts) (sym writes.text) (among-stay old.text.list.items (codes ", ") true known p.ts p.among),
-      λ t here now comes. element-goes-on s Kind.PackList (below s p.scope p.rest).scoped
+      λ t here now comes. element-goes-on s Kind.PackList (scoped_in o (below s p.scope p.rest))
           (λ l there later. Closes s (of_pack [] []) o (below s p.scope p.rest) p.front p.template l there later)
           p.ts t old.at here p.state now goes (element.onward t here now comes),
     ) in

@@ -18,7 +18,7 @@ use Rattle.cpp_direct.specs.Holes.{StandsAt, ListGoesOn}
 use Rattle.cpp_direct.specs.HolesOfLists.{IsDigitsAt, minus_sign, IsOffsetAt}
 use Rattle.cpp_direct.specs.ItemBytes.{is_integer_letter}
 use Rattle.cpp_direct.specs.Prints.{Prints, sign_text, EndsAsInteger}
-use Rattle.cpp_direct.specs.WriterInvariant.{below, may_name, Belongs, Closes, GoesOn, IsTemplate, IsWriting, Stands, element_kind, extra_of, led_by, in_front_of_next, IsScoped}
+use Rattle.cpp_direct.specs.WriterInvariant.{below, scoped_in, may_name, Belongs, Closes, GoesOn, IsTemplate, IsWriting, Stands, element_kind, extra_of, led_by, in_front_of_next, IsScoped}
 use Rattle.cpp_direct.specs.MidStep.{AwaitsNextArgument, truth_text, number_text, integer_text, AwaitsNumber, AwaitsNamedType}
 use Rattle.cpp_direct.specs.Written.{Reads, Writes}
 use Rattle.cpp_direct.proofs.Scopes.{none-scoped}
@@ -217,7 +217,7 @@ element-read s old new t bytes a prints reads g =
         reads.text ∙ ap (λ l. l ++ bytes) a.written ∙ append_assoc (led_by (detail_of s) p.listing p.front p.name) (in_front_of_next a.ts a.texts) bytes,
         λ first. absurd (false≢true first),
         λ further. some-elements a.ts t,
-        element-goes-on s (element_kind p.listing) (below s a.scope p.rest).scoped
+        element-goes-on s (element_kind p.listing) (scoped_in p.owner (below s a.scope p.rest))
             (λ l now then. Closes s p.listing p.owner (below s a.scope p.rest) p.front p.template l now then) a.ts t old.at new.at a.state a.state a.goes g,
       );
     }
@@ -323,7 +323,7 @@ enumerator-expected s old begun pushed new a stands next nothing writes text can
           (template-stays (detail_of s) a.scope.names p.owner p.front p.template p.name old.text.list.items (codes "(") p.is_template)))
           a.ts a.texts a.elements (written ∙ ap (λ l. l ++ codes "(") a.written)
           (λ t here now comes negative digits end minus digits_there ended.
-          element-goes-on s (element_kind p.listing) (below s a.scope p.rest).scoped
+          element-goes-on s (element_kind p.listing) (scoped_in p.owner (below s a.scope p.rest))
           (λ l now then. Closes s p.listing p.owner (below s a.scope p.rest) p.front p.template l now then) a.ts (integer t (signed_digits negative digits)) old.at (end + 1) a.state now a.goes
           (e.onward t here now comes negative digits end minus digits_there ended)));
       scoped = subst (λ ws. IsScoped a.scope a.goes.0 ws)
