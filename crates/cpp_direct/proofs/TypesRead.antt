@@ -103,7 +103,7 @@ named-keeps : (s : Symbol) (old new : Direct) (from : ℕ) (listed r : Bool) (a 
     → new.candidates.list.items ≡ added_unless old listed from false → new.has_scope ≡ old.has_scope
     → Keeps s a.scope new (unless_listed listed a.around a.own a.state).candidates
 named-keeps s old new from true r a text candidates scope =
-    keeps-as s old new a.state.candidates (ap (λ v. v.list.items) text) candidates scope a.keeps.candidates a.keeps.named a.keeps.encoded a.keeps.unknown
+    keeps-as s old new a.state.candidates (ap (λ v. v.list.items) text) candidates scope a.keeps.candidates a.keeps.named a.keeps.own a.keeps.unknown
 named-keeps s old new from false r a text candidates scope =
     keeps-with s old new a.state a.front a.bytes from a.own a.around false false a.keeps a.written a.from_is
     (subst (λ b. Prints (detail_of s) a.own a.bytes b) (a.no_reference refl) a.prints) (λ e. absurd (false≢true e)) text candidates scope
