@@ -407,11 +407,11 @@ substitution-stands s old n k a ordered found =
     (piece.0, piece.1)
 
 -- a substitution
-pub substitution-named : (s : Symbol) (old mid new : Direct) (from : ℕ) (digits : List ℕ) (k : Candidate) → AwaitsNamedType s old → StandsAt s.bytes old.at (83 ∷ [])
+pub substitution-named : (s : Symbol) (old mid new : Direct) (n from : ℕ) (digits : List ℕ) (k : Candidate) → AwaitsNamedType s old → StandsAt s.bytes old.at (83 ∷ [])
     → IsSeqAt s.bytes (old.at + 1) digits mid.at → k.from ≤ k.to → slice_get old.candidates.list.items (counted_value Seq36 digits) ≡ Some k
-    → Reads old mid [] → Writes mid new (take (k.to - k.from) (drop k.from mid.text.list.items)) → from ≡ length old.text.list.items
+    → Reads (record old { at = n }) mid [] → Writes mid new (take (k.to - k.from) (drop k.from mid.text.list.items)) → from ≡ length old.text.list.items
     → k.is_dependent ≡ false → IsTypeNamed s new from true k.is_reference
-substitution-named s old mid new from digits k a stands is ordered found reads writes begins plain =
+substitution-named s old mid new n from digits k a stands is ordered found reads writes begins plain =
     let text = old.text.list.items in
     let c = candidate-found text old.candidates.list.items a.state.candidates (counted_value Seq36 digits) k a.keeps.candidates ordered found in
     let piece = piece-found text c.2.front c.2.bytes c.2.back k.from k.to c.2.written c.2.from_is c.2.to_is in
@@ -425,16 +425,15 @@ substitution-named s old mid new from digits k a stands is ordered found reads w
     written begins prints (λ e. absurd (false≢true (sym e))) (writes.waiting ∙ reads.waiting)
 
 -- one that names an argument
-pub named-again : (s : Symbol) (old new : Direct) (digits : List ℕ) (k : Candidate) → AwaitsNamedType s old → StandsAt s.bytes old.at (83 ∷ [])
+pub named-again : (s : Symbol) (old new : Direct) (n : ℕ) (digits : List ℕ) (k : Candidate) → AwaitsNamedType s old → StandsAt s.bytes old.at (83 ∷ [])
     → IsSeqAt s.bytes (old.at + 1) digits new.at → k.from ≤ k.to → slice_get old.candidates.list.items (counted_value Seq36 digits) ≡ Some k
-    → Reads old new [] → k.is_dependent ≡ true → IsNamedAgain s new k
-named-again s old new digits k a stands is ordered found reads dependent = record {
+    → Reads (record old { at = n }) new [] → k.is_dependent ≡ true → IsNamedAgain s new k
+named-again s old new n digits k a stands is ordered found reads dependent = record {
   before = old.at;
   awaits = record {
     state = a.state;
     scope = a.scope;
-    keeps = keeps-read s old (record new { at = old.at }) [] a.state.candidates
-        (record { text = reads.text; candidates = reads.candidates; waiting = reads.waiting; nest = reads.nest; scope = reads.scope; rounds = reads.rounds }) a.keeps;
+    keeps = keeps-grown s old (record new { at = old.at }) [] a.state.candidates reads.text reads.candidates reads.scope a.keeps;
     kind = a.kind;
     is_named = a.is_named;
     around = a.around;
