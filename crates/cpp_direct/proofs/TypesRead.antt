@@ -155,7 +155,7 @@ argued-done s old mid new from listed a stands mid_candidates mid_text mid_waits
             inside a.around,
             o.inner,
             refl,
-            scoped-inside a.scope a.around (reverse old.waiting.list.items) a.scoped,
+            λ within. scoped-inside a.scope a.around (reverse old.waiting.list.items) a.scoped,
             subst (λ k. Expects s Kind.ArgumentList (inside a.around) o.inner k state) (sym (at ∙ ap (λ k. k + 1) mid_at)) o.awaits,
             λ l here now comes ended. (
               a.outer,
@@ -570,6 +570,6 @@ nest-awaited s old n a at stands =
       outside = a.outside;
       outer = t.inner;
       awaits = subst (λ k. Expects s Kind.Nest a.around t.inner k a.state) (sym at) t.awaits;
-      scoped = a.scoped;
+      scoped = λ within. a.scoped;
       serves = (a.os, a.around, t.passes, a.scoped, a.stands);
     }
