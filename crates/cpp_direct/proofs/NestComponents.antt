@@ -20,7 +20,7 @@ use Rattle.cpp_direct.specs.WriterInvariant.{IsNest, IsNestScoped, IsOwn, IsWrit
 use Rattle.cpp_direct.specs.MidStep.{AwaitsClass, IsNestNamed, IsOperatorRead}
 use Rattle.cpp_direct.specs.Written.{Writes, Reads}
 use Rattle.cpp_direct.proofs.Unmarked.{name-unmarked}
-use Rattle.cpp_direct.proofs.Kept.{keeps-as, named-stays, piece-stays, piece-found, candidates-stay}
+use Rattle.cpp_direct.proofs.Kept.{keeps-grown, piece-stays, piece-found}
 use Rattle.cpp_direct.proofs.Nesting.{closed-prints, nest-scoped}
 use Rattle.cpp_direct.proofs.PrintedTypes.{prints-as}
 use Rattle.cpp_direct.proofs.Moves.{stands-join}
@@ -35,7 +35,7 @@ use Rattle.cpp_direct.proofs.PrintedNests.{within-tagged, IsPiece, source-openin
 -- This was written after what was, and the nested name begins and serves as before.
 pub record Goes (old new : Direct) (bytes : List ℕ) : Type 0 where
   pub text : new.text.list.items ≡ old.text.list.items ++ bytes
-  pub candidates : new.candidates.list.items ≡ old.candidates.list.items
+  pub candidates : new.candidates ≡ old.candidates
   pub waiting : new.waiting.list.items ≡ old.waiting.list.items
   pub scope : new.has_scope ≡ old.has_scope
   pub from : new.nest.from ≡ old.nest.from
@@ -45,7 +45,7 @@ pub record Goes (old new : Direct) (bytes : List ℕ) : Type 0 where
 -- the place is another one, and nothing else
 pub record Moves (old new : Direct) (by : ℕ) : Type 0 where
   pub text : new.text.list.items ≡ old.text.list.items
-  pub candidates : new.candidates.list.items ≡ old.candidates.list.items
+  pub candidates : new.candidates ≡ old.candidates
   pub waiting : new.waiting.list.items ≡ old.waiting.list.items
   pub scope : new.has_scope ≡ old.has_scope
   pub nest : new.nest ≡ old.nest
@@ -65,9 +65,7 @@ goes-marked old between new by bytes m w = record {
 
 keeps-go : (s : Symbol) {scope : Scope} (old new : Direct) (bytes : List ℕ) (cs : List values.Candidate) → Goes old new bytes
     → Keeps s scope old cs → Keeps s scope new cs
-keeps-go s {scope} old new bytes cs g p =
-    keeps-as s old new cs g.text g.candidates g.scope (candidates-stay s scope.names old.text.list.items bytes old.candidates.list.items cs p.candidates)
-    (named-stays old.text.list.items bytes scope p.named) p.unknown
+keeps-go s old new bytes cs g p = keeps-grown s old new bytes cs g.text g.candidates g.scope p
 
 serves-go : (s : Symbol) (scope : Scope) (old new : Direct) (bytes : List ℕ) (outer : List Opened) (front : List ℕ) → Goes old new bytes
     → Serves s old.nest.purpose (below s scope (reverse old.waiting.list.items)) outer front
@@ -204,7 +202,7 @@ named-again s old new p g at from to unlisted classless no_instance =
 -- the same by what is at the place of the class
 pub class-named : (s : Symbol) (old between new : Direct) (p : AwaitsClass s old)
     → Writes old between (take (old.nest.class_to - old.nest.class_from) (drop old.nest.class_from old.text.list.items))
-    → new.text.list.items ≡ between.text.list.items → new.candidates.list.items ≡ between.candidates.list.items → new.waiting.list.items ≡ between.waiting.list.items
+    → new.text.list.items ≡ between.text.list.items → new.candidates ≡ between.candidates → new.waiting.list.items ≡ between.waiting.list.items
     → new.has_scope ≡ between.has_scope → new.at ≡ between.at → new.nest.from ≡ between.nest.from → new.nest.purpose ≡ between.nest.purpose
     → new.nest.is_dependent ≡ between.nest.is_dependent
     → new.nest.class_from ≡ between.nest.class_from → new.nest.class_to ≡ between.nest.class_to → new.nest.is_listed ≡ false
@@ -293,7 +291,7 @@ moves-to old new at by same e =
 piece-follows : (s : Symbol) (old start marked read new : Direct) (by : ℕ) (piece : Term) (x : List ℕ) (p : IsWriting s old steps.Component)
     → IsPiece (detail_of s) piece x → opening_text piece ≡ codes "<" → Moves old start by → Writes start marked (codes "::") → Reads marked read x
     → NestNamed s p.is_before.4 p.is_before.3 (within p.is_before.0 piece) new.at p.state
-    → new.text.list.items ≡ read.text.list.items → new.candidates.list.items ≡ read.candidates.list.items → new.waiting.list.items ≡ read.waiting.list.items
+    → new.text.list.items ≡ read.text.list.items → new.candidates ≡ read.candidates → new.waiting.list.items ≡ read.waiting.list.items
     → new.has_scope ≡ read.has_scope → new.nest.from ≡ read.nest.from → new.nest.purpose ≡ read.nest.purpose
     → new.nest.is_dependent ≡ read.nest.is_dependent → new.nest.class_from ≡ length marked.text.list.items → new.nest.class_to ≡ length read.text.list.items → new.nest.is_listed ≡ false
     → new.nest.has_class ≡ true → new.nest.is_instance ≡ false → IsNestNamed s new
@@ -332,7 +330,7 @@ source-read s os around t at st a false name to from end letter is moved same =
 pub source-follows : (s : Symbol) (old start marked read new : Direct) (internal : Bool) → IsWriting s old steps.Component
     → (internal ≡ true → StandsAt s.bytes old.at (76 ∷ [])) → Moves old start (letters internal) → Writes start marked (codes "::")
     → (name : List ℕ) → IsNameAt s.bytes marked.at name read.at → name ≢ [] → Reads marked read (source_text name)
-    → new.text.list.items ≡ read.text.list.items → new.candidates.list.items ≡ read.candidates.list.items → new.waiting.list.items ≡ read.waiting.list.items
+    → new.text.list.items ≡ read.text.list.items → new.candidates ≡ read.candidates → new.waiting.list.items ≡ read.waiting.list.items
     → new.has_scope ≡ read.has_scope → new.at ≡ read.at → new.nest.from ≡ read.nest.from → new.nest.purpose ≡ read.nest.purpose
     → new.nest.is_dependent ≡ read.nest.is_dependent → new.nest.class_from ≡ length marked.text.list.items → new.nest.class_to ≡ length read.text.list.items → new.nest.is_listed ≡ false
     → new.nest.has_class ≡ true → new.nest.is_instance ≡ false → IsNestNamed s new
@@ -357,7 +355,7 @@ operator-read s os around t at st a first second to end there same =
 pub operator-follows : (s : Symbol) (old marked read new : Direct) (first second : ℕ) → IsWriting s old steps.Component
     → Writes old marked (codes "::") → IsOperatorAt s.bytes marked.at first second read.at → is_angle first second ≡ false
     → Reads marked read (operator_text first second)
-    → new.text.list.items ≡ read.text.list.items → new.candidates.list.items ≡ read.candidates.list.items → new.waiting.list.items ≡ read.waiting.list.items
+    → new.text.list.items ≡ read.text.list.items → new.candidates ≡ read.candidates → new.waiting.list.items ≡ read.waiting.list.items
     → new.has_scope ≡ read.has_scope → new.at ≡ read.at → new.nest.from ≡ read.nest.from → new.nest.purpose ≡ read.nest.purpose
     → new.nest.is_dependent ≡ read.nest.is_dependent → new.nest.class_from ≡ length marked.text.list.items → new.nest.class_to ≡ length read.text.list.items → new.nest.is_listed ≡ false
     → new.nest.has_class ≡ true → new.nest.is_instance ≡ false → IsNestNamed s new
