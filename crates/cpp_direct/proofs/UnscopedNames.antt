@@ -128,7 +128,7 @@ std-reads : (old marked read : Direct) (n : ℕ) (bytes : List ℕ) → Writes (
     → Reads old read (codes "std::" ++ bytes)
 std-reads old marked read n bytes w r =
     reads-then old marked read (codes "std::") bytes
-    (record { text = w.text; candidates = w.candidates; waiting = w.waiting; nest = w.nest; rounds = w.rounds }) r
+    (record { text = w.text; candidates = w.candidates; waiting = w.waiting; nest = w.nest; scope = w.scope; rounds = w.rounds }) r
 
 std-place : (n first second at : ℕ) → first ≡ n + 1 → second ≡ first + 1 → at ≡ second → at ≡ n + 2
 std-place n first second at e f g = omega (arith, e, f, g)
@@ -381,7 +381,7 @@ entity-ended s internal old pushed read last p one name is_name filled two digit
 
 -- no discriminator was read
 pub none-told : (s : List ℕ) (w : Direct) → (told : Discriminator) × IsDiscriminatorAt s w.at told w.at × Reads w w []
-none-told s w = (unnumbered, refl, reads-begun w w refl refl refl refl refl)
+none-told s w = (unnumbered, refl, reads-begun w w refl refl refl refl refl refl)
 
 -- a digit was read after a _
 pub digit-told : (s : List ℕ) (old new : Direct) (digit : ℕ) → StandsAt s old.at (95 ∷ []) → StandsAt s (old.at + 1) (digit ∷ []) → 48 ≤ digit → digit ≤ 57

@@ -32,7 +32,7 @@ use Rattle.cpp_direct.specs.HolesOfArrays.{accessed, with_accessed}
 use Rattle.cpp_direct.specs.HolesOfTypes.{IsNamedKind, NoReference, TreeOpens}
 use Rattle.cpp_direct.specs.Marks.{has_const, called_on, mark_text}
 use Rattle.cpp_direct.specs.Prints.{NamesClass, Prints, PrintsName, IsElement, PrintAll, Shows, Encloses, sign_text, PrintsAs, PrintsIn, PrintAllAs, IsGiven, list_of, PrintAllBy, forwarded}
-use Rattle.cpp_direct.specs.WriterInvariant.{AwaitsItems, Encoded, EncodedBehind, Fronts, IsFunction, IsInstance, IsListing, IsNest, IsTail, IsTemplate, GoesOn, EnumeratorGoesOn, Owns, ParametersGoOn, Serves, Stands, TakesFunction, opening_text, qualifiers, extra_of, led_by, list_with, in_front_of_next, IsPlaced, IsAmong, AreAmong, HasArguments, IsKnown, IsScoped, place_of, of_pack, IsNaming, IsNestScoped, Keeps, Scope, below, is_noted, may_name, ArgumentsGoOn, encoding_place}
+use Rattle.cpp_direct.specs.WriterInvariant.{AwaitsItems, Encoded, EncodedBehind, Fronts, IsFunction, IsInstance, IsListing, IsNest, IsTail, IsTemplate, GoesOn, EnumeratorGoesOn, Owns, ParametersGoOn, Serves, Stands, TakesFunction, opening_text, qualifiers, extra_of, led_by, list_with, in_front_of_next, IsPlaced, IsAmong, AreAmong, HasArguments, IsKnown, IsScoped, is_type, place_of, of_pack, IsNaming, IsNestScoped, Keeps, Scope, below, is_noted, may_name, ArgumentsGoOn, encoding_place}
 
 -- the digits after the T of a parameter with this number
 abbrev pub parameter_digits : (number : ℕ) → List ℕ
@@ -152,6 +152,7 @@ pub record IsTypeNamed (s : Symbol) (w : Direct) (from : ℕ) (is_listed is_refe
   pub prints : Prints (detail_of s) own bytes is_reference
   pub no_reference : is_listed ≡ false → is_reference ≡ false
   pub stands : Stands s scope (reverse w.waiting.list.items) outer front
+  pub scoped : IsScoped scope around (reverse w.waiting.list.items)
 
 -- A type was read that what waits for it marks. It was written from a place on, but for its mark.
 pub record AwaitsMark (s : Symbol) (w : Direct) (mark : List ℕ) (from : ℕ) (is_reference is_dependent : Bool) : Type 0 where
@@ -273,7 +274,7 @@ pub record AwaitsNest (s : Symbol) (w : Direct) (purpose : Purpose) : Type 0 whe
   pub outside : around.prefix ≡ outermost
   pub outer : List Opened
   pub awaits : Expects s Kind.Nest around outer w.at state
-  pub scoped : IsScoped scope around (reverse w.waiting.list.items)
+  pub scoped : is_type purpose ≡ true → IsScoped scope around (reverse w.waiting.list.items)
   pub serves : Serves s purpose (below s scope (reverse w.waiting.list.items)) outer w.text.list.items
 
 -- A name that an S stands for was read at the front of a nested one.

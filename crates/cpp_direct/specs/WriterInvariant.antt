@@ -174,9 +174,11 @@ AreNamed text scope =
     (number : ℕ) → IsPlain (place_of scope.arguments number) → (bytes : List ℕ) × (scope.names number ≡ Some bytes) × IsPlaced text (place_of scope.arguments number) bytes
 
 -- What a writer keeps: its candidates, and the arguments that types may name, of which none are known before the symbol's own name.
+-- If it is known where the encoding begins that has them, it is the symbol's own.
 pub record Keeps (s : Symbol) (scope : Scope) (w : Direct) (cs : List values.Candidate) : Type 0 where
   pub candidates : AreCandidates s scope.names w.text.list.items w.candidates.list.items cs
   pub named : AreNamed w.text.list.items scope
+  pub encoded : scope.arguments.encoding ≢ 0 → scope.arguments.encoding ≡ encoding_place s.bytes
   pub unknown : w.has_scope ≡ false → scope ≡ no_scope
 
 -- if there are any, parameters may name them
@@ -343,6 +345,10 @@ pub record Below : Type 1 where
   pub scoped : Around → Type 0
   pub naming : Type 0
 
+-- types may name in it what they may name below, if it is in a type
+abbrev pub scoped_in : Open → Below → Around → Type 0
+scoped_in entry below around = is_within_type entry ≡ true → below.scoped around
+
 -- A type that comes is marked.
 abbrev pub Marks : (s : Symbol) → Below → List Opened → (text : List ℕ) → (from : ℕ) → (made : Term → Term) → Type 0
 Marks s below os text from made =
@@ -384,10 +390,10 @@ Owns s (opens.TypeArguments from is_dependent) below front u at st =
     × below.scoped around × (is_dependent ≡ true → below.naming) × below.waits outer front
 Owns s (opens.NestArguments nest) below front u at st =
     (around : Around) × (outer : List Opened) × NestGoesOn s Kind.NestTail outer around u false at st
-    × below.scoped around × (nest.is_dependent ≡ true → below.naming) × Serves s nest.purpose below outer front
+    × scoped_in (opens.NestArguments nest) below around × (nest.is_dependent ≡ true → below.naming) × Serves s nest.purpose below outer front
 Owns s (opens.FirstArguments nest) below front u at st =
     (around : Around) × (outer : List Opened) × AwaitsComponent s outer around u at (with_candidate around u st)
-    × below.scoped around × (nest.is_dependent ≡ true → below.naming) × Serves s nest.purpose below outer front
+    × scoped_in (opens.FirstArguments nest) below around × (nest.is_dependent ≡ true → below.naming) × Serves s nest.purpose below outer front
 Owns s (opens.NameArguments from) below front u at st = AwaitsItems s front (tree u false) at st
 Owns s _ below front u at st = ⊥
 
@@ -400,7 +406,7 @@ ElementsGoOn s kind scoped closes ts at st =
 -- arguments go on after these
 abbrev pub ArgumentsGoOn : (s : Symbol) → Open → Below → (front : List ℕ) → (template : Term) → List Term → (at : ℕ) → State → Type 0
 ArgumentsGoOn s owner below front template ts at st =
-    ElementsGoOn s Kind.ArgumentList below.scoped (λ l now then. Owns s owner below front (instance template l) now then) ts at st
+    ElementsGoOn s Kind.ArgumentList (scoped_in owner below) (λ l now then. Owns s owner below front (instance template l) now then) ts at st
 
 -- the list that is read: the arguments of a template, or a pack among them, after these and their text
 pub data Listing : Type 0 where
@@ -443,7 +449,7 @@ Closes s (of_pack before written) owner below front template l at st =
 -- the list goes on after these elements
 abbrev pub GoesOn : (s : Symbol) → Listing → Open → Below → (front : List ℕ) → (template : Term) → List Term → (at : ℕ) → State → Type 0
 GoesOn s listing owner below front template ts at st =
-    ElementsGoOn s (element_kind listing) below.scoped (λ l now then. Closes s listing owner below front template l now then) ts at st
+    ElementsGoOn s (element_kind listing) (scoped_in owner below) (λ l now then. Closes s listing owner below front template l now then) ts at st
 
 -- Arguments are these elements, and what is known of them so far. The one with this number is at a place.
 pub record IsAmong (detail : Detail) (text : List ℕ) (p : Argument) (number : ℕ) (ts : List Term) : Type 0 where
@@ -614,9 +620,9 @@ below s scope rest = outside s scope rest (Stands s scope rest)
 
 -- ## What comes next
 
--- where a nested name is read that has come so far: what types may name in it
+-- where a nested name is read that has come so far: what types may name in it, if it is a type
 pub record IsNestScoped (s : Symbol) (scope : Scope) (w : Direct) (around : Around) : Type 0 where
-  pub scoped : IsScoped scope around (reverse w.waiting.list.items)
+  pub scoped : is_type w.nest.purpose ≡ true → IsScoped scope around (reverse w.waiting.list.items)
   pub naming : w.nest.is_dependent ≡ true → IsNaming s scope (reverse w.waiting.list.items)
 
 -- a nested name goes on, of which this was read
