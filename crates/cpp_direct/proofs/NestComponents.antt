@@ -102,7 +102,7 @@ class-awaits s scope old new st t own front bytes mark around outer keeps writte
   class_from = rw same is.class_from;
   class_to = rw same is.class_to;
   closed = g.dependent ∙ closed;
-  scoped = nest-scoped s old new around g.waiting g.dependent scoped;
+  scoped = nest-scoped s old new around g.waiting g.purpose g.dependent scoped;
   prints = prints;
   no_return = no_return;
   structor = structor;
@@ -189,7 +189,7 @@ named-again s old new p g at from to unlisted classless no_instance =
         class_to = to ∙ p.class_to;
         names_class = λ e closed. absurd (false≢true (sym classless ∙ e));
       };
-      scoped = nest-scoped s old new p.around g.waiting g.dependent p.scoped;
+      scoped = nest-scoped s old new p.around g.waiting g.purpose g.dependent p.scoped;
       names_tagged = λ e closed tag plain. absurd (false≢true (sym classless ∙ e));
       unlisted = unlisted;
       no_instance = no_instance;
@@ -267,7 +267,7 @@ piece-named s scope old new st t piece x front bytes around outer keeps before i
         class_to = to ∙ ap length class_written ∙ length-append (old.text.list.items ++ m) x;
         names_class = λ e none. within-class t bytes (closed none) piece x is_piece;
       };
-      scoped = nest-scoped s old new around g.waiting g.dependent scoped;
+      scoped = nest-scoped s old new around g.waiting g.purpose g.dependent scoped;
       names_tagged = λ e none tag plain. within-tagged t bytes (closed none) piece x is_piece opening tag plain;
       unlisted = unlisted;
       no_instance = no_instance;
