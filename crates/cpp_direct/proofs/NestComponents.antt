@@ -142,7 +142,7 @@ constructor-awaits s old between new digit w m p letter next is has closed =
     (goes-marked old between new 2 (codes "::") m w) (rw (w.nest, m.nest) refl)
     (component-named s b.4 b.3 b.0 (within b.0 (constructor digit)) old.at p.state b.7 (old.at + 2) new.at (w.at ∙ m.at)
     (component-constructor s b.7.inner b.3 b.0 old.at p.state digit b.7.awaits (stands-join s.bytes old.at (67 ∷ []) (digit ∷ []) letter next) is))
-    (constructor-prints b.0 b.2 b.6.class (closed-prints closed b.6.prints) (b.6.names_class has closed) digit) refl refl
+    (constructor-prints b.0 b.2 b.6.class (closed-prints p.scope.names closed b.6.prints) (b.6.names_class has closed) digit) refl refl
 
 -- the same of a destructor
 pub destructor-awaits : (s : Symbol) (old between new : Direct) (digit : ℕ) → Writes between new (codes "::~") → Moves old between 2
@@ -155,7 +155,7 @@ destructor-awaits s old between new digit w m p letter next is has closed =
     (goes-marked old between new 2 (codes "::~") m w) (rw (w.nest, m.nest) refl)
     (component-named s b.4 b.3 b.0 (within b.0 (destructor digit)) old.at p.state b.7 (old.at + 2) new.at (w.at ∙ m.at)
     (component-destructor s b.7.inner b.3 b.0 old.at p.state digit b.7.awaits (stands-join s.bytes old.at (68 ∷ []) (digit ∷ []) letter next) is))
-    (destructor-prints b.0 b.2 b.6.class (closed-prints closed b.6.prints) (b.6.names_class has closed) digit) refl refl
+    (destructor-prints b.0 b.2 b.6.class (closed-prints p.scope.names closed b.6.prints) (b.6.names_class has closed) digit) refl refl
 
 -- The class is written: the component is named.
 named-again : (s : Symbol) (old new : Direct) (p : AwaitsClass s old) → Goes old new p.class → new.at ≡ old.at
@@ -238,7 +238,7 @@ piece-named s scope old new st t piece x front bytes around outer keeps before i
     let prints : PrintsAs (detail_of s) names new.nest.is_dependent (within t piece) (bytes ++ m ++ x) false
     = subst (λ b. PrintsAs (detail_of s) names b (within t piece) (bytes ++ m ++ x) false) (sym g.dependent)
     (within-as (detail_of s) names old.nest.is_dependent t bytes is.prints piece x is_piece opening) in
-    let closed : new.nest.is_dependent ≡ false → Prints (detail_of s) t bytes false = λ e. closed-prints (sym g.dependent ∙ e) is.prints in
+    let closed : new.nest.is_dependent ≡ false → Prints (detail_of s) t bytes false = λ e. closed-prints names (sym g.dependent ∙ e) is.prints in
     let written : new.text.list.items ≡ front ++ (bytes ++ m ++ x)
     = g.text ∙ ap (λ l. l ++ (m ++ x)) before ∙ append_assoc front bytes (m ++ x) ∙ ap (λ l. front ++ l) (sym (append_assoc bytes m x)) in
     let class_written : new.text.list.items ≡ (old.text.list.items ++ m) ++ x = g.text ∙ sym (append_assoc old.text.list.items m x) in
@@ -398,7 +398,7 @@ operator-last s old marked read first second p w there r closed =
       bytes = b.2 ++ m ++ x;
       written = g.text ∙ ap (λ l. l ++ (m ++ x)) b.5 ∙ append_assoc b.1 b.2 (m ++ x) ∙ ap (λ l. b.1 ++ l) (sym (append_assoc b.2 m x));
       from_is = g.from ∙ b.6.from_is;
-      prints = within-names b.0 b.2 (closed-prints closed b.6.prints) (operator first second) x (operator-piece first second);
+      prints = within-names b.0 b.2 (closed-prints p.scope.names closed b.6.prints) (operator first second) x (operator-piece first second);
       no_return = refl;
       serves = serves-go s p.scope old read (m ++ x) b.4 b.1 g b.9;
     }

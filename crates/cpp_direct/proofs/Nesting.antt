@@ -98,13 +98,13 @@ nest-here s {scope} w around n closed e =
     made-here s scope around (reverse w.waiting.list.items) (n.scoped (type-named w.nest.purpose w.nest.is_dependent closed e)) (n.naming e)
 
 -- what names none prints its text anywhere
-pub closed-prints : {detail : Detail} {names : Names} {d : Bool} {t : Term} {bytes : List ℕ} → d ≡ false → PrintsAs detail names d t bytes false → Prints detail t bytes false
-closed-prints {detail} {names} {t = t} {bytes = bytes} closed prints = subst (λ b. PrintsAs detail names b t bytes false) closed prints
+pub closed-prints : {detail : Detail} (names : Names) {d : Bool} {t : Term} {bytes : List ℕ} → d ≡ false → PrintsAs detail names d t bytes false → Prints detail t bytes false
+closed-prints {detail} names {t = t} {bytes = bytes} closed prints = subst (λ b. PrintsAs detail names b t bytes false) closed prints
 
 -- it is no function type
-no-function : {detail : Detail} {names : Names} (d : Bool) (t : Term) (bytes : List ℕ) → PrintsAs detail names d t bytes false → is_function_type t ≡ false
-no-function true t bytes prints = prints.no_function
-no-function false t bytes prints = prints.no_function
+no-function : (detail : Detail) (names : Names) (d : Bool) (t : Term) (bytes : List ℕ) → PrintsAs detail names d t bytes false → is_function_type t ≡ false
+no-function detail names true t bytes prints = prints.no_function
+no-function detail names false t bytes prints = prints.no_function
 
 -- ## Arguments are opened
 
@@ -211,7 +211,7 @@ named-tagged s old new tag wide n is reads =
       is_nest = is_nest;
       scoped = nest-scoped s old new n.around (ap (λ v. v.list.items) reads.waiting) (ap (λ x. x.purpose) reads.nest) (ap (λ x. x.is_dependent) reads.nest) n.scoped;
       names_tagged = λ e none more more_plain.
-          again-tagged (is_structor n.own) n.own n.bytes (closed-prints (closed none) n.is_nest.prints) tag more n.is_nest.class plain more_plain
+          again-tagged (is_structor n.own) n.own n.bytes (closed-prints names (closed none) n.is_nest.prints) tag more n.is_nest.class plain more_plain
           (n.names_tagged (classed e) (closed none) tag plain);
       unlisted = ap (λ x. x.is_listed) reads.nest ∙ n.unlisted;
       no_instance = ap (λ x. x.is_instance) reads.nest ∙ n.no_instance;
@@ -418,7 +418,7 @@ type-ended s scope old new st t keeps n here is_type lists =
         n.is_nest.prints,
         (λ e. subst (λ l. IsNaming s scope (reverse l)) (sym waiting_is) (n.scoped.naming e)),
         comes-moved s serves.0 (tree t true) (old.at + 1) new.at later (sym lists.at)
-            (serves.2 t listed (old.at + 1) st (no-function d t n.bytes n.is_nest.prints) (nest-comes s scope old st t n here)),
+            (serves.2 t listed (old.at + 1) st (no-function (detail_of s) scope.names d t n.bytes n.is_nest.prints) (nest-comes s scope old st t n here)),
         subst (λ l. Stands s scope (reverse l) serves.0 n.front) (sym waiting_is) serves.4,
       );
     }
@@ -456,7 +456,7 @@ name-comes s scope old st t mark is_function argument_ keeps n no_return returns
       name = n.bytes;
       written = n.written;
       from_is = n.is_nest.from_is;
-      prints = as-name t n.bytes false (closed-prints (n.is_nest.closed (subst IsOwn (sym is_name) tt)) n.is_nest.prints);
+      prints = as-name t n.bytes false (closed-prints scope.names (n.is_nest.closed (subst IsOwn (sym is_name) tt)) n.is_nest.prints);
       no_return = no_return;
       returns = returns;
       names = names;
@@ -658,7 +658,7 @@ reference-begins s old mid purpose digits k a here is ordered found plain closed
     let it = one.2 in
     let piece = piece-found old.text.list.items it.front it.bytes it.back k.from k.to it.written it.from_is it.to_is in
     let own = subst (λ r. PrintsAs (detail_of s) a.scope.names k.is_dependent c.tree it.bytes r) plain it.prints in
-    let prints : Prints (detail_of s) c.tree it.bytes false = closed-prints closed own in
+    let prints : Prints (detail_of s) c.tree it.bytes false = closed-prints a.scope.names closed own in
     known-begins s old (record mid { nest = nest }) purpose a c.tree it.bytes (text_is ∙ ap (λ l. old.text.list.items ++ l) piece.2) candidates_are
     waiting_is scope_same refl refl (classless-nest a.scope.names old.text.list.items it.bytes nest c.tree from_is from_is from_is refl refl prints)
     refl refl (nest-substitution s a.outer a.around old.at a.state digits mid.at c a.awaits here is one.1 prints.is_closed prints.packless)
