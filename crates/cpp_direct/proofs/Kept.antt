@@ -190,13 +190,13 @@ stands-same s scope old new os {ws = ws} text waits stands =
     subst (λ v. Stands s scope (reverse new.waiting.list.items) os v.list.items) (sym text) (subst (λ ws. Stands s scope ws os old.text.list.items) (sym waits) stands)
 
 -- what may be named within a type may be named in what is open in it
-pub scoped-within : (scope : Scope) (around : Around) (o : Open) (rest : List Open) → arguments_in o ≡ None → IsScoped scope around rest
-    → IsScoped scope around (o ∷ rest)
-scoped-within scope around o rest none scoped a found = go (is_within_type o) found
+pub scoped-within : (scope : Scope) (around : Around) (o : Open) (rest : List Open) → arguments_in o ≡ None
+    → (is_within_type o ≡ true → IsScoped scope around rest) → IsScoped scope around (o ∷ rest)
+scoped-within scope around o rest none scoped a found = go (is_within_type o) refl found
   where
-    go : (within : Bool) → elim within [ true ↦ argument_of rest | false ↦ arguments_in o ] ≡ Some a → (scope.arguments ≡ a) × HasScope a around
-    go true e = scoped a e
-    go false e = absurd (false≢true (ap is_some (sym none ∙ e)))
+    go : (within : Bool) → is_within_type o ≡ within → elim within [ true ↦ argument_of rest | false ↦ arguments_in o ] ≡ Some a → (scope.arguments ≡ a) × HasScope a around
+    go true is e = scoped is a e
+    go false is e = absurd (false≢true (ap is_some (sym none ∙ e)))
 
 -- in the symbol's own encoding types may name its arguments
 pub made-here : (s : Symbol) (scope : Scope) (around : Around) (open_ : List Open) → IsScoped scope around open_ → IsNaming s scope open_

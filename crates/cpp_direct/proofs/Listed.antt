@@ -15,6 +15,7 @@ use Rattle.cpp_direct.specs.WrittenParts.{opening_bracket, closing_bracket}
 use Rattle.cpp_direct.specs.Symbol.{detail_of, Symbol}
 use Rattle.cpp_direct.specs.declared.open.Mark.TheVariants as marks
 use Rattle.cpp_direct.specs.declared.open.Nest.{Nest}
+use Rattle.cpp_direct.specs.declared.open.Purpose.{Purpose}
 use Rattle.cpp_direct.specs.declared.open.Purpose.TheVariants as purposes
 use Rattle.cpp_direct.specs.declared.open.Open.{Open}
 use Rattle.cpp_direct.specs.declared.open.Open.TheVariants as opens
@@ -23,7 +24,7 @@ use Rattle.cpp_direct.specs.declared.direct.Direct.{Direct}
 use Rattle.cpp_direct.specs.Holes.{Opened, Comes, Expects, IsListKind, ListGoesOn, StandsAt, AwaitsComponent, with_candidate}
 use Rattle.cpp_direct.specs.HolesOfLists.{IsArgumentKind}
 use Rattle.cpp_direct.specs.Prints.{Names, PrintAll, PrintAllAs, PrintsAs, list_of}
-use Rattle.cpp_direct.specs.WriterInvariant.{HasArguments, arguments_in, below, IsListing, IsNaming, IsScoped, IsOwn, Keeps, Scope, argument_of, is_noted, is_type, is_within_type, may_name, IsNest, IsTail, IsTemplate, IsWriting, Owns, Serves, ArgumentsGoOn, AwaitsElementOf, AwaitsEnumerator, Belongs, Closes, ElementsGoOn, EnumeratorGoesOn, GoesOn, Listing, of_template, of_pack, Stands, element_kind, extra_of, led_by, list_with, in_front_of_next, nowhere}
+use Rattle.cpp_direct.specs.WriterInvariant.{HasArguments, arguments_in, below, IsListing, IsNaming, IsScoped, IsOwn, Keeps, Scope, argument_of, scoped_in, is_noted, is_type, is_within_type, may_name, IsNest, IsTail, IsTemplate, IsWriting, Owns, Serves, ArgumentsGoOn, AwaitsElementOf, AwaitsEnumerator, Belongs, Closes, ElementsGoOn, EnumeratorGoesOn, GoesOn, Listing, of_template, of_pack, Stands, element_kind, extra_of, led_by, list_with, in_front_of_next, nowhere}
 use Rattle.cpp_direct.specs.MidStep.{AreKnown, IsDependentNow, IsListEnded, AwaitsNextArgument, IsNameEnded}
 use Rattle.cpp_direct.specs.Written.{Writes, added}
 use Rattle.cpp_direct.proofs.Moves.{expects-empty, stands-split}
@@ -292,6 +293,12 @@ nest-closed s w nest p =
       );
     }
 
+-- a nested name that names arguments is a type
+in-type : (purpose : Purpose) (is_dependent : Bool) → (IsOwn purpose → is_dependent ≡ false) → is_dependent ≡ true → is_type purpose ≡ true
+in-type purposes.Type is_dependent closed named = refl
+in-type (purposes.Name mark) is_dependent closed named = absurd (false≢true (sym (closed tt) ∙ named))
+in-type (purposes.Enclosing mark) is_dependent closed named = absurd (false≢true (sym (closed tt) ∙ named))
+
 -- the arguments of the first piece of a nested name
 pub first-closed : (s : Symbol) (w new : Direct) (nest : Nest) → IsClosed s w (opens.FirstArguments nest)
     → new.candidates.list.items ≡ added w nest.from false nest.is_dependent → new.text ≡ w.text → new.waiting ≡ w.waiting → new.has_scope ≡ w.has_scope
@@ -311,7 +318,8 @@ first-closed s w new nest p candidates text waiting scope_same at =
       state = state;
       scope = scope;
       keeps = keeps-with s w now p.state p.front bytes nest.from t around false nest.is_dependent p.keeps p.written p.is_template.from_is is_nest.prints
-          (λ named. made-here s scope around (reverse w.waiting.list.items) p.owns.3 (p.owns.4 named)) text candidates scope_same;
+          (λ named. made-here s scope around (reverse w.waiting.list.items) (p.owns.3 (in-type nest.purpose nest.is_dependent p.is_template.closed named))
+          (p.owns.4 named)) text candidates scope_same;
       is_before = (
         t,
         p.front,
@@ -322,7 +330,7 @@ first-closed s w new nest p candidates text waiting scope_same at =
         subst (λ v. IsNest (detail_of s) scope.names p.front bytes v.list.items nest t) (sym text) is_nest,
         subst (λ n. AwaitsComponent s outer around t n state) (sym at) p.owns.2,
         record {
-          scoped = subst (λ v. IsScoped scope around (reverse v.list.items)) (sym waiting) p.owns.3;
+          scoped = λ within. subst (λ v. IsScoped scope around (reverse v.list.items)) (sym waiting) (p.owns.3 within);
           naming = λ named. subst (λ v. IsNaming s scope (reverse v.list.items)) (sym waiting) (p.owns.4 named);
         },
         subst (λ v. Serves s nest.purpose (below s scope (reverse v.list.items)) outer p.front) (sym waiting) p.owns.5,
@@ -421,7 +429,7 @@ empty-pack-ends s w first owner p stands found other =
     let opened = pack-opens s goes.1 goes.0 w.at p.state goes.4 begins.0 in
     let more = opened.onward nothing_there (w.at + 1) p.state
     (expects-empty s Kind.PackList goes.0 opened.inner (w.at + 1) p.state opened.awaits refl) ends.0 in
-    let behind = element-goes-on s Kind.ArgumentList (below s p.scope rest).scoped (λ u there later. Owns s o (below s p.scope rest) front (instance template u) there later)
+    let behind = element-goes-on s Kind.ArgumentList (scoped_in o (below s p.scope rest)) (λ u there later. Owns s o (below s p.scope rest) front (instance template u) there later)
     ts (pack nil) w.at (w.at + 1 + 1) p.state p.state goes more in
     subst (λ k. Owns s o (below s p.scope rest) front (instance template (list_with ts (list (pack nil) nil))) k p.state) (omega arith)
     (subst (λ l. Owns s o (below s p.scope rest) front (instance template l) (w.at + 1 + 1 + 1) p.state) (list-more ts (pack nil) nil)
@@ -577,7 +585,7 @@ pack-begins s old new owner a stands found other waits at text candidates scope_
               goes.3,
               subst (λ n. Expects s Kind.PackList goes.0 opened.inner n a.state) (sym at) opened.awaits,
               λ l here now comes ended.
-                  element-goes-on s Kind.ArgumentList (below s a.scope p.rest).scoped
+                  element-goes-on s Kind.ArgumentList (scoped_in p.owner (below s a.scope p.rest))
                   (λ u there later. Owns s p.owner (below s a.scope p.rest) p.front (instance p.template u) there later)
                   a.ts (pack (no_items l)) old.at (here + 1) a.state now goes (opened.onward l here now comes ended),
             ),
@@ -633,7 +641,7 @@ takes-none _ takes = absurd takes
 
 -- in arguments types may name what they may name around them, and in a pack nothing
 list-scoped : (s : Symbol) (scope : Scope) (around : Around) (opened : List Open) (text : List ℕ) (p : IsListing (detail_of s) scope.names opened text)
-    → IsScoped scope around p.rest → IsScoped scope around opened
+    → scoped_in p.owner (below s scope p.rest) around → IsScoped scope around opened
 list-scoped s scope around opened text p scoped = go p.listing refl
   where
     go : (l : Listing) → p.listing ≡ l → IsScoped scope around opened
@@ -746,7 +754,7 @@ type-expected s w a =
           elements = a.elements;
           written = a.written;
           onward = λ t here now comes.
-              element-goes-on s kind (below s scope p.rest).scoped
+              element-goes-on s kind (scoped_in p.owner (below s scope p.rest))
               (λ l there later. Closes s p.listing p.owner (below s scope p.rest) p.front p.template l there later)
               a.ts t w.at here a.state now a.goes (element.onward t here now comes);
         }),
@@ -871,7 +879,7 @@ listed-noted s w new is_reference ws owner noted p waits is now_waits text candi
           goes.0,
           goes.1,
           goes.2,
-          goes.3,
+          λ within. goes.3 (noted-within owner noted is),
           goes.4,
           λ l here now comes ended. noted-owns s scope owner noted rest waits.0 (instance waits.1 (list_with (ts ++ t ∷ []) (no_items l))) (here + 1) now is naming
               (goes.5 l here now comes ended),

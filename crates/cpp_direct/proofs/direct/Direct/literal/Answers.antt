@@ -9,7 +9,7 @@ named_type-requires-clause-awaits g c =
     enumerator-expected (symbol_by g.G.Grammar.IS_WIDE g.G.Grammar.IS_BARE g.G.Grammar.IS_BRIEF c.args.s.now) c.args.self.now (record c.args.self.now { at = c.in_ok-self.field-0 }) c.push.new.self
     (record c.push.new.self { waiting = c.push-in-78.new.self })
     c.requires.awaits c.requires.letter c.in_ok-self.ensures.1 (reads-begun c.args.self.now _ refl refl refl refl refl refl) c.in_ok-push-in-78.ensures
-    refl refl
+    refl refl refl
     c.in_ok-push-in-78-2.ensures.items refl
 
 pub returns-in_ok-literal_ended-in-98 : goal.returns-in_ok-literal_ended-in-98
