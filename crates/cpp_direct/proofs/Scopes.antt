@@ -1,6 +1,7 @@
 -- What a parameter of a template may name, and where it is.
 use Rattle.sym_print.specs.declared.detail.Detail.{Detail}
-use Rattle.std.proofs.Common.{◌≡◌, ℕ, zero, suc, ◌<◌, List, [], ◌∷◌, ◌++◌, slice_get, Some, None, arith, ap, sym, ◌∙◌, subst, append_assoc, refl, inl, inr, Bool, true, false}
+use Rattle.std.proofs.Common.{◌≡◌, ℕ, zero, suc, ◌<◌, List, [], ◌∷◌, ◌++◌, slice_get, Some, None, is_some, arith, ap, sym, ◌∙◌, subst, append_assoc, refl, inl, inr, Bool, true, false}
+use Rattle.std.proofs.lemmas.Bool.{false≢true}
 use Rattle.cpp_grammar.specs.Scope.{count, element, arguments_of, before_arguments, has_return_type, is_structor}
 use Rattle.cpp_grammar.specs.Term.{Term, instance}
 use Rattle.cpp_grammar.specs.Values.{Around}
@@ -9,7 +10,7 @@ use Rattle.cpp_direct.specs.declared.open.Open.{Open}
 use Rattle.cpp_direct.specs.declared.open.Open.TheVariants as opens
 use Rattle.cpp_direct.specs.declared.open.Argument.{Argument}
 use Rattle.cpp_direct.specs.declared.open.Arguments.{Arguments}
-use Rattle.cpp_direct.specs.WriterInvariant.{IsArgument, IsPlaced, IsAmong, AreAmong, IsEnclosing, HasArguments, HasScope, IsEncodingOf, IsFunction, IsKnown, IsScoped, argument_of, list_with, named_in, nowhere, place_of}
+use Rattle.cpp_direct.specs.WriterInvariant.{IsArgument, IsPlaced, IsAmong, AreAmong, HasArguments, HasScope, IsFunction, IsKnown, IsScoped, Scope, argument_of, list_with, nowhere, place_of}
 use Rattle.cpp_direct.specs.MidStep.{AreKnown}
 use Rattle.cpp_direct.proofs.Kept.{placed-stays}
 
@@ -67,57 +68,45 @@ none-known (suc (suc (suc zero))) o = absurd (omega (arith, o))
 none-known (suc (suc (suc (suc k)))) o = absurd (omega (arith, o))
 
 -- and a function's
-pub function-stays : {detail : Detail} (text more : List ℕ) (p : Arguments) (mark : Mark) (make : Term → Term) (ts : List Term) (name texts : List ℕ)
-    → IsFunction detail text p mark make ts name texts → IsFunction detail (text ++ more) p mark make ts name texts
+pub function-stays : {detail : Detail} {scope : Scope} (text more : List ℕ) (p : Arguments) (mark : Mark) (make : Term → Term) (ts : List Term) (name texts : List ℕ)
+    → IsFunction detail scope text p mark make ts name texts → IsFunction detail scope (text ++ more) p mark make ts name texts
 function-stays text more p mark make ts name texts f = record {
   own = f.own;
   makes = f.makes;
   prints = f.prints;
   elements = f.elements;
   names = arguments-stay text more p f.own f.names;
+  given = f.given;
+  named = f.named;
 }
 
--- and that of a function in which a type is
-pub enclosing-stays : {detail : Detail} (text more : List ℕ) (p : Arguments) (mark : Mark) (make : Term → Term) (ts : List Term) (name texts : List ℕ)
-    → IsEnclosing detail text p mark make ts name texts → IsEnclosing detail (text ++ more) p mark make ts name texts
-enclosing-stays text more p mark make ts name texts f = record {
-  own = f.own;
-  returned = f.returned;
-  makes = f.makes;
-  prints = f.prints;
-  elements = f.elements;
-  names = arguments-stay text more p f.own f.names;
-}
-
-scoped-by : (around : Around) (p q : Arguments) → q ≡ p → HasScope p around → HasScope q around
-scoped-by around p q e h = subst (λ (k : Arguments). HasScope k around) (sym e) h
+scoped-by : (scope : Scope) (around : Around) (p q : Arguments) → q ≡ p → scope.arguments ≡ p → HasScope p around
+    → (scope.arguments ≡ q) × HasScope q around
+scoped-by scope around p q e named h = (named ∙ sym e, subst (λ (k : Arguments). HasScope k around) (sym e) h)
 
 -- a parameter of a function may name its arguments
-pub parameters-scoped : (around : Around) (mark : Mark) (start : ℕ) (p : Arguments) (rest : List Open) → HasScope p around
-    → IsScoped around (opens.Parameters mark start p ∷ rest)
-parameters-scoped around mark start p rest h q e = scoped-by around p q (cc e) h
+pub parameters-scoped : (scope : Scope) (around : Around) (mark : Mark) (start : ℕ) (p : Arguments) (rest : List Open) → scope.arguments ≡ p
+    → HasScope p around → IsScoped scope around (opens.Parameters mark start p ∷ rest)
+parameters-scoped scope around mark start p rest named h q e = scoped-by scope around p q (cc e) named h
 
 -- and so may its return type
-pub front-scoped : (around : Around) (mark : Mark) (start : ℕ) (p : Arguments) (rest : List Open) → HasScope p around
-    → IsScoped around (opens.Front mark start p ∷ rest)
-front-scoped around mark start p rest h q e = scoped-by around p q (cc e) h
+pub front-scoped : (scope : Scope) (around : Around) (mark : Mark) (start : ℕ) (p : Arguments) (rest : List Open) → scope.arguments ≡ p
+    → HasScope p around → IsScoped scope around (opens.Front mark start p ∷ rest)
+front-scoped scope around mark start p rest named h q e = scoped-by scope around p q (cc e) named h
 
--- a parameter of a function in which a type is may name its argument, too
-pub enclosing-scoped : (around : Around) (mark : Mark) (from to : ℕ) (p : Arguments) (rest : List Open) → HasScope p around
-    → IsScoped around (opens.Enclosing mark from to p ∷ rest)
-enclosing-scoped around mark from to p rest h q e = scoped-by around p q (cc e) h
-
--- where one may be named, the encoding is the arguments'
-pub scoped-encoding : (around : Around) (open_ : List Open) → IsScoped around open_ → IsEncodingOf (argument_of open_) around.encoding
-scoped-encoding around open_ scoped a k e known real = ((scoped a e k known).1 real).0
-
--- they are where they were
-pub named-there : (place : ℕ) (a : Arguments) (k : ℕ) → place_of (named_in place a) k ≡ place_of a k
+-- which encoding is theirs says nothing of where they are
+named-there : (place : ℕ) (a : Arguments) (k : ℕ) → place_of (record a { encoding = place }) k ≡ place_of a k
 named-there place a zero = refl
 named-there place a (suc zero) = refl
 named-there place a (suc (suc zero)) = refl
 named-there place a (suc (suc (suc zero))) = refl
 named-there place a (suc (suc (suc (suc k)))) = refl
+
+pub arguments-named : {detail : Detail} (text : List ℕ) (place : ℕ) (a : Arguments) (name : Term) → HasArguments detail text a name
+    → HasArguments detail text (record a { encoding = place }) name
+arguments-named {detail} text place a name has k o =
+    let same = named-there place a k in
+    subst (λ (p : Argument). IsArgument detail text a.elements p k name) (sym same) (has k (subst IsKnown same o))
 
 -- how many elements a pack has says nothing of where they are
 pub elements-there : (size : ℕ) (a : Arguments) (k : ℕ) → place_of (record a { elements = size }) k ≡ place_of a k
@@ -127,15 +116,9 @@ elements-there size a (suc (suc zero)) = refl
 elements-there size a (suc (suc (suc zero))) = refl
 elements-there size a (suc (suc (suc (suc k)))) = refl
 
-pub arguments-named : {detail : Detail} (text : List ℕ) (place : ℕ) (a : Arguments) (name : Term) → HasArguments detail text a name
-    → HasArguments detail text (named_in place a) name
-arguments-named {detail} text place a name has k o =
-    let same = named-there place a k in
-    subst (λ (p : Argument). IsArgument detail text a.elements p k name) (sym same) (has k (subst IsKnown same o))
-
 -- elsewhere none does
-pub none-scoped : (around : Around) (open_ : List Open) → argument_of open_ ≡ None → IsScoped around open_
-none-scoped around open_ none q e k ordered = cc (none, e)
+pub none-scoped : (scope : Scope) (around : Around) (open_ : List Open) → argument_of open_ ≡ None → IsScoped scope around open_
+none-scoped scope around open_ none q e = absurd (false≢true (ap is_some (sym none ∙ e)))
 
 -- ## Names with arguments
 
