@@ -47,14 +47,14 @@ argument-begins s old new from p named from_is waits text candidates at = go p.i
     go : (l : Listing) → p.is_before.0.listing ≡ l → IsWriting s new steps.Type
     go (of_pack before written) is =
         absurd (subst (λ ws. EndsNamed ws)
-        (subst (λ l. Belongs (detail_of s) l (reverse old.waiting.list.items) p.is_before.0.owner p.is_before.0.rest) is p.is_before.0.belongs).0 named)
+        (subst (λ l. Belongs (detail_of s) scope.names l (reverse old.waiting.list.items) p.is_before.0.owner p.is_before.0.rest) is p.is_before.0.belongs).0 named)
     go of_template is =
         let place = p.is_before.0 in
         let o = place.owner in
         let ts_is : p.is_before.1 ≡ [] = p.is_before.5 refl in
-        let goes : ArgumentsGoOn s o (Stands s place.rest) place.front place.template [] old.at p.state =
-        subst (λ ts. ArgumentsGoOn s o (Stands s place.rest) place.front place.template ts old.at p.state) ts_is
-        (subst (λ l. GoesOn s l o (Stands s place.rest) place.front place.template p.is_before.1 old.at p.state) is p.is_before.7) in
+        let goes : ArgumentsGoOn s o (below s scope place.rest) place.front place.template [] old.at p.state =
+        subst (λ ts. ArgumentsGoOn s o (below s scope place.rest) place.front place.template ts old.at p.state) ts_is
+        (subst (λ l. GoesOn s l o (below s scope place.rest) place.front place.template p.is_before.1 old.at p.state) is p.is_before.7) in
         let all : PrintAllBy (IsElement (detail_of s) (extra_of place.listing)) [] p.is_before.2 =
         subst (λ ts. PrintAllBy (IsElement (detail_of s) (extra_of place.listing)) ts p.is_before.2) ts_is p.is_before.3 in
         let texts_is : p.is_before.2 ≡ [] = none-text (IsElement (detail_of s) (extra_of place.listing)) p.is_before.2 all in
@@ -63,10 +63,10 @@ argument-begins s old new from p named from_is waits text candidates at = go p.i
         ∙ ap (λ l. place.front ++ place.name ++ opening_bracket (detail_of s) ++ l) texts_is in
         let element = element-awaits s Kind.ArgumentList goes.1 goes.0 old.at p.state tt goes.3 in
         let belongs : reverse old.waiting.list.items ≡ o ∷ place.rest =
-        subst (λ l. Belongs (detail_of s) l (reverse old.waiting.list.items) o place.rest) is place.belongs in
+        subst (λ l. Belongs (detail_of s) scope.names l (reverse old.waiting.list.items) o place.rest) is place.belongs in
         let opened : reverse new.waiting.list.items ≡ opens.Argument from 0 nowhere ∷ o ∷ place.rest =
         ap reverse waits ∙ reverse-last old.waiting.list.items (opens.Argument from 0 nowhere) ∙ ap (λ ws. opens.Argument from 0 nowhere ∷ ws) belongs in
-        let stands : Stands s (opens.Argument from 0 nowhere ∷ o ∷ place.rest) element.inner old.text.list.items = (
+        let stands : Stands s scope (opens.Argument from 0 nowhere ∷ o ∷ place.rest) element.inner old.text.list.items = (
           place.front,
           place.template,
           place.name,
@@ -79,7 +79,7 @@ argument-begins s old new from p named from_is waits text candidates at = go p.i
           refl,
           (λ k known. absurd (none-known k known)),
           λ t here now comes. element-goes-on s Kind.ArgumentList
-              (λ l there later. Owns s o (Stands s place.rest) place.front (instance place.template l) there later)
+              (λ l there later. Owns s o (below s scope place.rest) place.front (instance place.template l) there later)
               [] t old.at here p.state now goes (element.onward t here now comes),
         ) in
         record {
@@ -91,7 +91,7 @@ argument-begins s old new from p named from_is waits text candidates at = go p.i
             goes.2,
             inr (inl (subst (λ n. Expects s Kind.Item goes.0 element.inner n p.state) (sym at) element.awaits)),
             stands-same s old new element.inner text opened stands,
-            subst (λ ws. IsScoped goes.0 ws) (sym opened) (none-scoped goes.0 (opens.Argument from 0 nowhere ∷ o ∷ place.rest) refl),
+            subst (λ ws. IsScoped scope goes.0 ws) (sym opened) (none-scoped goes.0 (opens.Argument from 0 nowhere ∷ o ∷ place.rest) refl),
           );
         }
 
@@ -101,10 +101,10 @@ pub value-argument : (s : Symbol) (w : Direct) (is_reference : Bool) (from numbe
     → IsArgumentRead s w from number known is_reference
 value-argument s w is_reference from number known p found =
     let last = last-found w.waiting.list.items (opens.Argument from number known) found in
-    go last.0 last.1 (subst (λ ws. Stands s ws p.is_before.0 p.is_before.2) last.1 p.is_before.7)
+    go last.0 last.1 (subst (λ ws. Stands s scope ws p.is_before.0 p.is_before.2) last.1 p.is_before.7)
   where
     go : (rest : List Open) → reverse w.waiting.list.items ≡ opens.Argument from number known ∷ rest
-        → Stands s (opens.Argument from number known ∷ rest) p.is_before.0 p.is_before.2 → IsArgumentRead s w from number known is_reference
+        → Stands s scope (opens.Argument from number known ∷ rest) p.is_before.0 p.is_before.2 → IsArgumentRead s w from number known is_reference
     go [] is waits = absurd waits
     go (owner ∷ rest) is waits =
         let bytes = p.is_before.3 in
@@ -121,8 +121,8 @@ value-argument s w is_reference from number known p found =
           texts = waits.4;
           t = p.is_before.1;
           bytes = bytes;
-          is_template = subst (λ l. IsTemplate (detail_of s) owner waits.0 waits.1 waits.2 l) (sym p.is_before.4)
-              (template-stays (detail_of s) owner waits.0 waits.1 waits.2 p.is_before.2 bytes waits.5);
+          is_template = subst (λ l. IsTemplate (detail_of s) scope.names owner waits.0 waits.1 waits.2 l) (sym p.is_before.4)
+              (template-stays (detail_of s) scope.names owner waits.0 waits.1 waits.2 p.is_before.2 bytes waits.5);
           elements = waits.6;
           written = p.is_before.4 ∙ ap (λ l. l ++ bytes) waits.7;
           from_is = waits.8 ∙ ap length waits.7;
@@ -152,7 +152,7 @@ argument-passes s old new from number known is_reference p waits text candidates
           front = p.front;
           template = p.template;
           name = p.name;
-          is_template = subst (λ v. IsTemplate (detail_of s) p.owner p.front p.template p.name v.list.items) (sym text) p.is_template;
+          is_template = subst (λ v. IsTemplate (detail_of s) scope.names p.owner p.front p.template p.name v.list.items) (sym text) p.is_template;
         },
         ts,
         texts,
@@ -161,7 +161,7 @@ argument-passes s old new from number known is_reference p waits text candidates
             ∙ append_assoc (p.front ++ p.name ++ opening_bracket (detail_of s)) (in_front_of_next p.ts p.texts) p.bytes,
         λ e. absurd (false≢true e),
         λ e. some-elements p.ts p.t,
-        subst (λ n. ArgumentsGoOn s p.owner (Stands s p.rest) p.front p.template ts n p.state) (sym at) p.goes,
+        subst (λ n. ArgumentsGoOn s p.owner (below s scope p.rest) p.front p.template ts n p.state) (sym at) p.goes,
       );
     }
 
@@ -253,11 +253,11 @@ argument-closes s old new from to number place known more is_reference p stands 
       tail = nil;
       is_tail = inl refl;
       arguments = in_front_of_next p.ts p.texts ++ p.bytes;
-      is_template = subst (λ v. IsTemplate (detail_of s) p.owner p.front p.template p.name v.list.items) (sym text) p.is_template;
+      is_template = subst (λ v. IsTemplate (detail_of s) scope.names p.owner p.front p.template p.name v.list.items) (sym text) p.is_template;
       elements = next-prints 3 p.ts p.texts p.t p.bytes p.elements (type-element 3 p.t p.bytes is_reference p.prints);
       written = ap (λ v. v.list.items) text ∙ p.written
           ∙ append_assoc (p.front ++ p.name ++ opening_bracket (detail_of s)) (in_front_of_next p.ts p.texts) p.bytes;
-      owns = subst (λ n. Owns s p.owner (Stands s p.rest) p.front (instance p.template (list_with ts nil)) n p.state) (sym at)
+      owns = subst (λ n. Owns s p.owner (below s scope p.rest) p.front (instance p.template (list_with ts nil)) n p.state) (sym at)
           (p.goes.4 nothing_there old.at p.state (expects-empty s Kind.ArgumentList p.goes.0 p.goes.1 old.at p.state p.goes.3 refl) stands);
       known = subst (λ v. AreKnown (detail_of s) v.list.items more ts nil) (sym text)
           (λ k o. let h = among k o in inl (h.1, h.0));
@@ -282,7 +282,7 @@ argument-awaits s old new from to number place known more is_reference p waits t
       name = p.name;
       ts = ts;
       texts = in_front_of_next p.ts p.texts ++ p.bytes;
-      is_template = subst (λ v. IsTemplate (detail_of s) p.owner p.front p.template p.name v.list.items) (sym text) p.is_template;
+      is_template = subst (λ v. IsTemplate (detail_of s) scope.names p.owner p.front p.template p.name v.list.items) (sym text) p.is_template;
       elements = next-prints 3 p.ts p.texts p.t p.bytes p.elements (type-element 3 p.t p.bytes is_reference p.prints);
       some = some-elements p.ts p.t;
       written = ap (λ v. v.list.items) text ∙ p.written
@@ -290,7 +290,7 @@ argument-awaits s old new from to number place known more is_reference p waits t
       number_is = omega (arith, p.number_is, length-append p.ts (p.t ∷ []));
       among = subst (λ v. AreAmong (detail_of s) v.list.items false more ts) (sym text)
           (argument-known s old from to number place known more is_reference p to_is place_is knows);
-      goes = subst (λ n. ArgumentsGoOn s p.owner (Stands s p.rest) p.front p.template ts n p.state) (sym at) p.goes;
+      goes = subst (λ n. ArgumentsGoOn s p.owner (below s scope p.rest) p.front p.template ts n p.state) (sym at) p.goes;
     }
 
 -- which comes next
@@ -309,21 +309,21 @@ next-argument-begins s old mid new before from number known p writes from_is num
     let opened : reverse new.waiting.list.items ≡ entry ∷ o ∷ p.rest =
     ap reverse waits ∙ reverse-last mid.waiting.list.items entry
     ∙ ap (λ ws. entry ∷ ws) (ap (λ v. reverse v.list.items) writes.waiting ∙ p.open_is) in
-    let stands : Stands s (entry ∷ o ∷ p.rest) element.inner mid.text.list.items = (
+    let stands : Stands s scope (entry ∷ o ∷ p.rest) element.inner mid.text.list.items = (
       p.front,
       p.template,
       p.name,
       p.ts,
       p.texts,
-      subst (λ l. IsTemplate (detail_of s) o p.front p.template p.name l) (sym writes.text)
-          (template-stays (detail_of s) o p.front p.template p.name old.text.list.items (codes ", ") p.is_template),
+      subst (λ l. IsTemplate (detail_of s) scope.names o p.front p.template p.name l) (sym writes.text)
+          (template-stays (detail_of s) scope.names o p.front p.template p.name old.text.list.items (codes ", ") p.is_template),
       p.elements,
       written,
       from_is,
       number_is ∙ p.number_is,
       subst (λ l. AreAmong (detail_of s) l false known p.ts) (sym writes.text) (among-stay old.text.list.items (codes ", ") false known p.ts p.among),
       λ t here now comes. element-goes-on s Kind.ArgumentList
-          (λ l there later. Owns s o (Stands s p.rest) p.front (instance p.template l) there later)
+          (λ l there later. Owns s o (below s scope p.rest) p.front (instance p.template l) there later)
           p.ts t old.at here p.state now goes (element.onward t here now comes),
     ) in
     record {
@@ -336,7 +336,7 @@ next-argument-begins s old mid new before from number known p writes from_is num
         goes.2,
         inr (inl (subst (λ n. Expects s Kind.Item goes.0 element.inner n p.state) (sym (at ∙ writes.at)) element.awaits)),
         stands-same s mid new element.inner text opened stands,
-        subst (λ ws. IsScoped goes.0 ws) (sym opened) (none-scoped goes.0 (entry ∷ o ∷ p.rest) refl),
+        subst (λ ws. IsScoped scope goes.0 ws) (sym opened) (none-scoped goes.0 (entry ∷ o ∷ p.rest) refl),
       );
     }
 
@@ -353,12 +353,12 @@ element-begins s old new from p named letter from_is waits text candidates at = 
     go : (l : Listing) → p.is_before.0.listing ≡ l → IsWriting s new steps.Type
     go (of_pack before written) is =
         absurd (subst (λ ws. EndsNamed ws)
-        (subst (λ l. Belongs (detail_of s) l (reverse old.waiting.list.items) p.is_before.0.owner p.is_before.0.rest) is p.is_before.0.belongs).0 named)
+        (subst (λ l. Belongs (detail_of s) scope.names l (reverse old.waiting.list.items) p.is_before.0.owner p.is_before.0.rest) is p.is_before.0.belongs).0 named)
     go of_template is =
         let place = p.is_before.0 in
         let o = place.owner in
         let rest = place.rest in
-        let below = Stands s rest in
+        let below = Stands s scope rest in
         let ts_is : p.is_before.1 ≡ [] = p.is_before.5 refl in
         let goes : ArgumentsGoOn s o below place.front place.template [] old.at p.state =
         subst (λ ts. ArgumentsGoOn s o below place.front place.template ts old.at p.state) ts_is
@@ -381,12 +381,12 @@ element-begins s old new from p named letter from_is waits text candidates at = 
         ) in
         let element = element-awaits s Kind.PackList opened.inner goes.0 (old.at + 1) p.state tt opened.awaits in
         let belongs : reverse old.waiting.list.items ≡ o ∷ rest =
-        subst (λ l. Belongs (detail_of s) l (reverse old.waiting.list.items) o rest) is place.belongs in
+        subst (λ l. Belongs (detail_of s) scope.names l (reverse old.waiting.list.items) o rest) is place.belongs in
         let entry = opens.Element from 0 nowhere in
         let waiting_ : reverse new.waiting.list.items ≡ entry ∷ opens.Pack ∷ o ∷ rest =
         ap reverse waits ∙ reverse-last (old.waiting.list.items ++ opens.Pack ∷ []) entry
         ∙ ap (λ ws. entry ∷ ws) (reverse-last old.waiting.list.items opens.Pack ∙ ap (λ ws. opens.Pack ∷ ws) belongs) in
-        let stands : Stands s (entry ∷ opens.Pack ∷ o ∷ rest) element.inner old.text.list.items = (
+        let stands : Stands s scope (entry ∷ opens.Pack ∷ o ∷ rest) element.inner old.text.list.items = (
           place.front,
           place.template,
           place.name,
@@ -411,7 +411,7 @@ element-begins s old new from p named letter from_is waits text candidates at = 
             goes.2,
             inr (inl (subst (λ n. Expects s Kind.Item goes.0 element.inner n p.state) (sym at) element.awaits)),
             stands-same s old new element.inner text waiting_ stands,
-            subst (λ ws. IsScoped goes.0 ws) (sym waiting_) (none-scoped goes.0 (entry ∷ opens.Pack ∷ o ∷ rest) refl),
+            subst (λ ws. IsScoped scope goes.0 ws) (sym waiting_) (none-scoped goes.0 (entry ∷ opens.Pack ∷ o ∷ rest) refl),
           );
         }
 
@@ -421,10 +421,10 @@ pub value-in-pack : (s : Symbol) (w : Direct) (is_reference : Bool) (from number
     → IsPackElementRead s w from number known is_reference
 value-in-pack s w is_reference from number known p found =
     let last = last-found w.waiting.list.items (opens.Element from number known) found in
-    go last.0 last.1 (subst (λ ws. Stands s ws p.is_before.0 p.is_before.2) last.1 p.is_before.7)
+    go last.0 last.1 (subst (λ ws. Stands s scope ws p.is_before.0 p.is_before.2) last.1 p.is_before.7)
   where
     read : (owner : Open) (rest : List Open) → reverse w.waiting.list.items ≡ opens.Element from number known ∷ opens.Pack ∷ owner ∷ rest
-        → Stands s (opens.Element from number known ∷ opens.Pack ∷ owner ∷ rest) p.is_before.0 p.is_before.2
+        → Stands s scope (opens.Element from number known ∷ opens.Pack ∷ owner ∷ rest) p.is_before.0 p.is_before.2
         → IsPackElementRead s w from number known is_reference
     read owner rest is waits =
         let bytes = p.is_before.3 in
@@ -441,8 +441,8 @@ value-in-pack s w is_reference from number known p found =
           texts = waits.4;
           t = p.is_before.1;
           bytes = bytes;
-          is_template = subst (λ l. IsTemplate (detail_of s) owner waits.0 waits.1 waits.2 l) (sym p.is_before.4)
-              (template-stays (detail_of s) owner waits.0 waits.1 waits.2 p.is_before.2 bytes waits.5);
+          is_template = subst (λ l. IsTemplate (detail_of s) scope.names owner waits.0 waits.1 waits.2 l) (sym p.is_before.4)
+              (template-stays (detail_of s) scope.names owner waits.0 waits.1 waits.2 p.is_before.2 bytes waits.5);
           elements = waits.6;
           written = p.is_before.4 ∙ ap (λ l. l ++ bytes) waits.7;
           from_is = waits.8 ∙ ap length waits.7;
@@ -453,7 +453,7 @@ value-in-pack s w is_reference from number known p found =
         }
 
     go : (rest : List Open) → reverse w.waiting.list.items ≡ opens.Element from number known ∷ rest
-        → Stands s (opens.Element from number known ∷ rest) p.is_before.0 p.is_before.2 → IsPackElementRead s w from number known is_reference
+        → Stands s scope (opens.Element from number known ∷ rest) p.is_before.0 p.is_before.2 → IsPackElementRead s w from number known is_reference
     go (opens.Pack ∷ owner ∷ rest) is waits = read owner rest is waits
     go _ is waits = absurd waits
 
@@ -478,7 +478,7 @@ element-passes s old new from number known is_reference p waits text candidates 
           front = p.front;
           template = p.template;
           name = p.name;
-          is_template = subst (λ v. IsTemplate (detail_of s) p.owner p.front p.template p.name v.list.items) (sym text) p.is_template;
+          is_template = subst (λ v. IsTemplate (detail_of s) scope.names p.owner p.front p.template p.name v.list.items) (sym text) p.is_template;
         },
         ts,
         texts,
@@ -486,7 +486,7 @@ element-passes s old new from number known is_reference p waits text candidates 
         ap (λ v. v.list.items) text ∙ p.written ∙ append_assoc led (in_front_of_next p.ts p.texts) p.bytes ∙ ap (λ l. l ++ texts) (sym (append-nil led)),
         λ e. absurd (false≢true e),
         λ e. some-elements p.ts p.t,
-        subst (λ n. GoesOn s (of_pack [] []) p.owner (Stands s p.rest) p.front p.template ts n p.state) (sym at) p.goes,
+        subst (λ n. GoesOn s (of_pack [] []) p.owner (below s scope p.rest) p.front p.template ts n p.state) (sym at) p.goes,
       );
     }
 
@@ -518,7 +518,7 @@ pack-element-awaits s old new from to number place known more is_reference p wai
       name = p.name;
       ts = ts;
       texts = in_front_of_next p.ts p.texts ++ p.bytes;
-      is_template = subst (λ v. IsTemplate (detail_of s) p.owner p.front p.template p.name v.list.items) (sym text) p.is_template;
+      is_template = subst (λ v. IsTemplate (detail_of s) scope.names p.owner p.front p.template p.name v.list.items) (sym text) p.is_template;
       elements = next-prints 0 p.ts p.texts p.t p.bytes p.elements (type-element 0 p.t p.bytes is_reference p.prints);
       some = some-elements p.ts p.t;
       written = ap (λ v. v.list.items) text ∙ p.written
@@ -526,7 +526,7 @@ pack-element-awaits s old new from to number place known more is_reference p wai
       number_is = omega (arith, p.number_is, length-append p.ts (p.t ∷ []));
       among = subst (λ v. AreAmong (detail_of s) v.list.items true more ts) (sym text)
           (element-known s old from to number place known more is_reference p to_is place_is knows);
-      goes = subst (λ n. GoesOn s (of_pack [] []) p.owner (Stands s p.rest) p.front p.template ts n p.state) (sym at) p.goes;
+      goes = subst (λ n. GoesOn s (of_pack [] []) p.owner (below s scope p.rest) p.front p.template ts n p.state) (sym at) p.goes;
     }
 
 -- which comes next
@@ -545,21 +545,21 @@ next-element-begins s old mid new before from number known p writes from_is numb
     let opened : reverse new.waiting.list.items ≡ entry ∷ opens.Pack ∷ o ∷ p.rest =
     ap reverse waits ∙ reverse-last mid.waiting.list.items entry
     ∙ ap (λ ws. entry ∷ ws) (ap (λ v. reverse v.list.items) writes.waiting ∙ p.open_is) in
-    let stands : Stands s (entry ∷ opens.Pack ∷ o ∷ p.rest) element.inner mid.text.list.items = (
+    let stands : Stands s scope (entry ∷ opens.Pack ∷ o ∷ p.rest) element.inner mid.text.list.items = (
       p.front,
       p.template,
       p.name,
       p.ts,
       p.texts,
-      subst (λ l. IsTemplate (detail_of s) o p.front p.template p.name l) (sym writes.text)
-          (template-stays (detail_of s) o p.front p.template p.name old.text.list.items (codes ", ") p.is_template),
+      subst (λ l. IsTemplate (detail_of s) scope.names o p.front p.template p.name l) (sym writes.text)
+          (template-stays (detail_of s) scope.names o p.front p.template p.name old.text.list.items (codes ", ") p.is_template),
       p.elements,
       written,
       from_is,
       number_is ∙ p.number_is,
       subst (λ l. AreAmong (detail_of s) l true known p.ts) (sym writes.text) (among-stay old.text.list.items (codes ", ") true known p.ts p.among),
       λ t here now comes. element-goes-on s Kind.PackList
-          (λ l there later. Closes s (of_pack [] []) o (Stands s p.rest) p.front p.template l there later)
+          (λ l there later. Closes s (of_pack [] []) o (below s scope p.rest) p.front p.template l there later)
           p.ts t old.at here p.state now goes (element.onward t here now comes),
     ) in
     record {
@@ -572,7 +572,7 @@ next-element-begins s old mid new before from number known p writes from_is numb
         goes.2,
         inr (inl (subst (λ n. Expects s Kind.Item goes.0 element.inner n p.state) (sym (at ∙ writes.at)) element.awaits)),
         stands-same s mid new element.inner text opened stands,
-        subst (λ ws. IsScoped goes.0 ws) (sym opened) (none-scoped goes.0 (entry ∷ opens.Pack ∷ o ∷ p.rest) refl),
+        subst (λ ws. IsScoped scope goes.0 ws) (sym opened) (none-scoped goes.0 (entry ∷ opens.Pack ∷ o ∷ p.rest) refl),
       );
     }
 
@@ -591,8 +591,8 @@ pack-closes s old new from to number size place known more is_reference p ends s
     let among = element-known s old from to number place known more is_reference p to_is place_is knows in
     let goes = p.goes.4 nothing_there old.at p.state (expects-empty s Kind.PackList p.goes.0 p.goes.1 old.at p.state p.goes.3 refl) ends in
     let here = goes.4 nothing_there (old.at + 1) p.state (expects-empty s Kind.ArgumentList goes.0 goes.1 (old.at + 1) p.state goes.3 refl) stands in
-    let owns : Owns s p.owner (Stands s p.rest) p.front (instance p.template (list own nil)) (old.at + 1 + 1) p.state =
-    subst (λ l. Owns s p.owner (Stands s p.rest) p.front (instance p.template (list (pack l) nil)) (old.at + 1 + 1) p.state) (list-with-none es) here in
+    let owns : Owns s p.owner (below s scope p.rest) p.front (instance p.template (list own nil)) (old.at + 1 + 1) p.state =
+    subst (λ l. Owns s p.owner (below s scope p.rest) p.front (instance p.template (list (pack l) nil)) (old.at + 1 + 1) p.state) (list-with-none es) here in
     record {
       state = p.state;
       candidates = candidates-same (detail_of s) old new p.state.candidates text candidates p.candidates;
@@ -606,7 +606,7 @@ pack-closes s old new from to number size place known more is_reference p ends s
       tail = nil;
       is_tail = inl refl;
       arguments = texts;
-      is_template = subst (λ v. IsTemplate (detail_of s) p.owner p.front p.template p.name v.list.items) (sym text) p.is_template;
+      is_template = subst (λ v. IsTemplate (detail_of s) scope.names p.owner p.front p.template p.name v.list.items) (sym text) p.is_template;
       elements = (
         texts ∷ [],
         (
@@ -618,7 +618,7 @@ pack-closes s old new from to number size place known more is_reference p ends s
       );
       written = ap (λ v. v.list.items) text ∙ p.written
           ∙ append_assoc (p.front ++ p.name ++ opening_bracket (detail_of s)) (in_front_of_next p.ts p.texts) p.bytes;
-      owns = subst (λ n. Owns s p.owner (Stands s p.rest) p.front (instance p.template (list own nil)) n p.state) (sym at) owns;
+      owns = subst (λ n. Owns s p.owner (below s scope p.rest) p.front (instance p.template (list own nil)) n p.state) (sym at) owns;
       known = λ k o.
           let there = elements-there size more k in
           let h = among k (subst IsKnown there o) in

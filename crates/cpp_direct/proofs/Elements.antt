@@ -205,16 +205,16 @@ element-read s old new t bytes a prints reads g =
       candidates = candidates-read (detail_of s) old new bytes a.state.candidates reads a.candidates;
       is_before = (
         listing-at (reverse old.waiting.list.items) old.text.list.items (reverse new.waiting.list.items) new.text.list.items p
-            (subst (λ v. Belongs (detail_of s) p.listing (reverse v.list.items) p.owner p.rest) (sym reads.waiting) p.belongs)
-            (subst (λ l. IsTemplate (detail_of s) p.owner p.front p.template p.name l) (sym reads.text)
-            (template-stays (detail_of s) p.owner p.front p.template p.name old.text.list.items bytes p.is_template)),
+            (subst (λ v. Belongs (detail_of s) scope.names p.listing (reverse v.list.items) p.owner p.rest) (sym reads.waiting) p.belongs)
+            (subst (λ l. IsTemplate (detail_of s) scope.names p.owner p.front p.template p.name l) (sym reads.text)
+            (template-stays (detail_of s) scope.names p.owner p.front p.template p.name old.text.list.items bytes p.is_template)),
         a.ts ++ t ∷ [],
         in_front_of_next a.ts a.texts ++ bytes,
         next-prints extra a.ts a.texts t bytes a.elements (type-element extra t bytes false prints),
         reads.text ∙ ap (λ l. l ++ bytes) a.written ∙ append_assoc (led_by (detail_of s) p.listing p.front p.name) (in_front_of_next a.ts a.texts) bytes,
         λ first. absurd (false≢true first),
         λ further. some-elements a.ts t,
-        element-goes-on s (element_kind p.listing) (λ l now then. Closes s p.listing p.owner (Stands s p.rest) p.front p.template l now then)
+        element-goes-on s (element_kind p.listing) (λ l now then. Closes s p.listing p.owner (below s scope p.rest) p.front p.template l now then)
             a.ts t old.at new.at a.state a.state a.goes g,
       );
     }
@@ -312,18 +312,18 @@ enumerator-expected s old begun pushed new a stands next nothing writes text can
       outside = a.goes.2;
       os = e.inner;
       begins = subst (λ k. TreeOpens s Kind.LiteralType e.inner a.goes.0 k a.state) (sym (at ∙ writes.at ∙ next)) e.opens;
-      stands = subst (λ ws. Stands s ws e.inner new.text.list.items)
+      stands = subst (λ ws. Stands s scope ws e.inner new.text.list.items)
           (sym (ap reverse waiting ∙ reverse-last old.waiting.list.items opens.Enumerator))
           (enumerator-stands s (reverse old.waiting.list.items) new.text.list.items e.inner
           (listing-at (reverse old.waiting.list.items) old.text.list.items (reverse old.waiting.list.items) new.text.list.items p p.belongs
-          (subst (λ l. IsTemplate (detail_of s) p.owner p.front p.template p.name l) (sym written)
-          (template-stays (detail_of s) p.owner p.front p.template p.name old.text.list.items (codes "(") p.is_template)))
+          (subst (λ l. IsTemplate (detail_of s) scope.names p.owner p.front p.template p.name l) (sym written)
+          (template-stays (detail_of s) scope.names p.owner p.front p.template p.name old.text.list.items (codes "(") p.is_template)))
           a.ts a.texts a.elements (written ∙ ap (λ l. l ++ codes "(") a.written)
           (λ t here now comes negative digits end minus digits_there ended.
-          element-goes-on s (element_kind p.listing) (λ l now then. Closes s p.listing p.owner (Stands s p.rest) p.front p.template l now then)
+          element-goes-on s (element_kind p.listing) (λ l now then. Closes s p.listing p.owner (below s scope p.rest) p.front p.template l now then)
           a.ts (integer t (signed_digits negative digits)) old.at (end + 1) a.state now a.goes
           (e.onward t here now comes negative digits end minus digits_there ended)));
-      scoped = subst (λ ws. IsScoped a.goes.0 ws)
+      scoped = subst (λ ws. IsScoped scope a.goes.0 ws)
           (sym (ap reverse waiting ∙ reverse-last old.waiting.list.items opens.Enumerator))
           (none-scoped a.goes.0 (opens.Enumerator ∷ reverse old.waiting.list.items) refl);
     }
@@ -390,17 +390,17 @@ enumerator-read s old begun pushed middle new a other text candidates at waits w
           (candidates-stay (detail_of s) old.text.list.items more old.candidates.list.items a.state.candidates a.candidates));
       is_before = (
         listing-at a.opened old.text.list.items (reverse new.waiting.list.items) new.text.list.items p
-            (subst (λ ws. Belongs (detail_of s) p.listing ws p.owner p.rest)
+            (subst (λ ws. Belongs (detail_of s) scope.names p.listing ws p.owner p.rest)
             (sym (ap (λ v. reverse v.list.items) (ended.2.waiting ∙ read.4.waiting ∙ writes.waiting) ∙ waits)) p.belongs)
-            (subst (λ l. IsTemplate (detail_of s) p.owner p.front p.template p.name l) (sym wrote)
-            (template-stays (detail_of s) p.owner p.front p.template p.name old.text.list.items more p.is_template)),
+            (subst (λ l. IsTemplate (detail_of s) scope.names p.owner p.front p.template p.name l) (sym wrote)
+            (template-stays (detail_of s) scope.names p.owner p.front p.template p.name old.text.list.items more p.is_template)),
         a.ts ++ t ∷ [],
         before ++ own,
         next-prints extra a.ts a.texts t own a.elements (type-element extra t own false prints),
         wrote ∙ ap (λ l. l ++ more) a.written ∙ rejoined front before a.bytes (sign_text n) n.digits,
         λ first. absurd (false≢true first),
         λ further. some-elements a.ts t,
-        subst (λ k. GoesOn s p.listing p.owner (Stands s p.rest) p.front p.template (a.ts ++ t ∷ []) k a.state) (sym ended.1)
+        subst (λ k. GoesOn s p.listing p.owner (below s scope p.rest) p.front p.template (a.ts ++ t ∷ []) k a.state) (sym ended.1)
             (a.goes negative ds middle.at (subst (λ k. StandsAt s.bytes k (minus_sign negative)) here read.2)
             (subst (λ k. IsDigitsAt s.bytes (k + length (minus_sign negative)) ds middle.at) here read.3) ended.0),
       );

@@ -5,12 +5,13 @@ use Rattle.std.proofs.lemmas.Bool.{false≢true}
 use Rattle.cpp_grammar.specs.Scope.{count, element, arguments_of, before_arguments, has_return_type, is_structor}
 use Rattle.cpp_grammar.specs.Term.{Term, instance}
 use Rattle.cpp_grammar.specs.Values.{Around}
+use Rattle.cpp_grammar.specs.Between.{inside}
 use Rattle.cpp_direct.specs.declared.open.Mark.{Mark}
 use Rattle.cpp_direct.specs.declared.open.Open.{Open}
 use Rattle.cpp_direct.specs.declared.open.Open.TheVariants as opens
 use Rattle.cpp_direct.specs.declared.open.Argument.{Argument}
 use Rattle.cpp_direct.specs.declared.open.Arguments.{Arguments}
-use Rattle.cpp_direct.specs.WriterInvariant.{IsArgument, IsPlaced, IsAmong, AreAmong, HasArguments, HasScope, IsFunction, IsKnown, IsScoped, Scope, argument_of, list_with, nowhere, place_of}
+use Rattle.cpp_direct.specs.WriterInvariant.{IsArgument, IsPlaced, IsAmong, AreAmong, HasArguments, HasScope, IsFunction, IsKnown, IsScope, IsScoped, Scope, argument_of, list_with, nowhere, place_of}
 use Rattle.cpp_direct.specs.MidStep.{AreKnown}
 use Rattle.cpp_direct.proofs.Kept.{placed-stays}
 
@@ -115,6 +116,25 @@ elements-there size a (suc zero) = refl
 elements-there size a (suc (suc zero)) = refl
 elements-there size a (suc (suc (suc zero))) = refl
 elements-there size a (suc (suc (suc (suc k)))) = refl
+
+scope-inside : (number : ℕ) (is_pack : Bool) (around : Around) → IsScope number is_pack around → IsScope number is_pack (inside around)
+unfolding inside
+scope-inside number is_pack around h = record {
+  own = h.own;
+  all = h.all;
+  scope_is = h.scope_is;
+  there = h.there;
+  elements = h.elements;
+  alone = h.alone;
+  no_pack = h.no_pack;
+}
+
+-- what may be named in a name may be named in its arguments
+pub scoped-inside : (scope : Scope) (around : Around) (open_ : List Open) → IsScoped scope around open_ → IsScoped scope (inside around) open_
+unfolding inside
+scoped-inside scope around open_ scoped a found =
+    let h = scoped a found in
+    (h.0, (h.1.0, λ k known. scope-inside k (place_of a k).is_pack around (h.1.1 k known)))
 
 -- elsewhere none does
 pub none-scoped : (scope : Scope) (around : Around) (open_ : List Open) → argument_of open_ ≡ None → IsScoped scope around open_

@@ -78,11 +78,11 @@ function-begins s old new is_pointer p letters takes waits at text candidates = 
             around,
             p.is_before.2,
             inl (subst (λ k. Expects s Kind.Type around f.inner k p.state) (sym at) f.awaits),
-            subst (λ l. Stands s l f.inner new.text.list.items)
+            subst (λ l. Stands s scope l f.inner new.text.list.items)
                 (sym (ap reverse waits ∙ reverse-last old.waiting.list.items (opens.Returned is_pointer)))
-                (subst (λ v. Stands s (opens.Returned is_pointer ∷ reverse old.waiting.list.items) f.inner v.list.items) (sym text)
+                (subst (λ v. Stands s scope (opens.Returned is_pointer ∷ reverse old.waiting.list.items) f.inner v.list.items) (sym text)
                 (os, around, f.onward, takes, p.is_before.4)),
-            subst (λ l. IsScoped around l) (sym (ap reverse waits ∙ reverse-last old.waiting.list.items (opens.Returned is_pointer)))
+            subst (λ l. IsScoped scope around l) (sym (ap reverse waits ∙ reverse-last old.waiting.list.items (opens.Returned is_pointer)))
                 (none-scoped around (opens.Returned is_pointer ∷ reverse old.waiting.list.items) refl),
           );
         }
@@ -200,7 +200,7 @@ one-more s outer made_in is_pointer returned ts t at st g = record {
 signature-stands : (s : Symbol) (w : Direct) (is_pointer : Bool) (a : AwaitsParameter s w is_pointer) (os : List Opened)
     → ((t : Term) (at : ℕ) (st : State) → Comes s os (tree t true) at st
     → SignatureGoesOn s a.outer a.made_in is_pointer (λ l. plain_function a.returned (list_with a.ts (list t l))) at st)
-    → Stands s (opens.Signature is_pointer ∷ a.rest) os w.text.list.items
+    → Stands s scope (opens.Signature is_pointer ∷ a.rest) os w.text.list.items
 signature-stands s w is_pointer a os onward = (
   a.outer,
   a.made_in,
@@ -230,8 +230,8 @@ parameter-comes s w is_pointer a none =
         p.around,
         p.outside,
         inr (inr (p.awaits, none)),
-        subst (λ ws. Stands s ws p.inner w.text.list.items) (sym a.open_is) (signature-stands s w is_pointer a p.inner p.onward),
-        subst (λ ws. IsScoped p.around ws) (sym a.open_is) (none-scoped p.around (opens.Signature is_pointer ∷ a.rest) refl),
+        subst (λ ws. Stands s scope ws p.inner w.text.list.items) (sym a.open_is) (signature-stands s w is_pointer a p.inner p.onward),
+        subst (λ ws. IsScoped scope p.around ws) (sym a.open_is) (none-scoped p.around (opens.Signature is_pointer ∷ a.rest) refl),
       );
     }
 
@@ -249,13 +249,13 @@ reference_entry true from = opens.Lvalue from
 reference_entry false from = opens.Rvalue from
 
 reference-stands : (s : Symbol) (is_lvalue : Bool) (rest : List Open) (os : List Opened) (text : List ℕ) (from : ℕ)
-    → Marks s (Stands s rest) (argument_of rest) os text from (reference is_lvalue) → Stands s (reference_entry is_lvalue from ∷ rest) os text
+    → Marks s (below s scope rest) (argument_of rest) os text from (reference is_lvalue) → Stands s scope (reference_entry is_lvalue from ∷ rest) os text
 reference-stands s true rest os text from marks = marks
 reference-stands s false rest os text from marks = marks
 
 -- no parameter of a template is named there
 reference-scoped : (around : Around) (is_lvalue : Bool) (from : ℕ) (is_pointer : Bool) (rest : List Open)
-    → IsScoped around (reference_entry is_lvalue from ∷ opens.Signature is_pointer ∷ rest)
+    → IsScoped scope around (reference_entry is_lvalue from ∷ opens.Signature is_pointer ∷ rest)
 reference-scoped around true from is_pointer rest = none-scoped around (opens.Lvalue from ∷ opens.Signature is_pointer ∷ rest) refl
 reference-scoped around false from is_pointer rest = none-scoped around (opens.Rvalue from ∷ opens.Signature is_pointer ∷ rest) refl
 
@@ -283,11 +283,11 @@ reference-comes s old new o is_pointer is_lvalue from a begins stands is waits a
             p.around,
             p.outside,
             inl (subst (λ n. Expects s Kind.Type p.around p.inner n a.state) (sym at) p.awaits),
-            subst (λ v. Stands s (reverse new.waiting.list.items) p.inner v.list.items) (sym text)
-                (subst (λ ws. Stands s ws p.inner old.text.list.items) (sym turned)
+            subst (λ v. Stands s scope (reverse new.waiting.list.items) p.inner v.list.items) (sym text)
+                (subst (λ ws. Stands s scope ws p.inner old.text.list.items) (sym turned)
                 (reference-stands s is_lvalue (opens.Signature is_pointer ∷ a.rest) p.inner old.text.list.items from
                 (p.whole, p.around, begins, p.passes, whole, λ q k found known. cc found))),
-            subst (λ ws. IsScoped p.around ws) (sym turned) (reference-scoped p.around is_lvalue from is_pointer a.rest),
+            subst (λ ws. IsScoped scope p.around ws) (sym turned) (reference-scoped p.around is_lvalue from is_pointer a.rest),
           );
         }
 
@@ -420,7 +420,7 @@ function-handed s old new is_pointer p text candidates waits at =
       element = p.element;
       comes = subst (λ n. Comes s p.outer (tree own true) n then_) (sym at) p.comes;
       takes = subst TakesFunction (sym waits) p.takes;
-      stands = subst (λ ws. Stands s ws p.outer p.front) (sym waits) p.stands;
+      stands = subst (λ ws. Stands s scope ws p.outer p.front) (sym waits) p.stands;
     }
 
 -- what takes a function type, and isn't parameters or a special object, takes elements
@@ -475,10 +475,10 @@ array-begins s old new access digits from to p letters takes is ordered inside s
             around,
             p.is_before.2,
             inl f.awaits,
-            subst (λ l. Stands s l f.inner new.text.list.items) (sym (ap reverse waits ∙ reverse-last old.waiting.list.items entry))
-                (subst (λ v. Stands s (entry ∷ reverse old.waiting.list.items) f.inner v.list.items) (sym text)
+            subst (λ l. Stands s scope l f.inner new.text.list.items) (sym (ap reverse waits ∙ reverse-last old.waiting.list.items entry))
+                (subst (λ v. Stands s scope (entry ∷ reverse old.waiting.list.items) f.inner v.list.items) (sym text)
                 (os, around, digits, ordered, inside, size, f.onward, takes, p.is_before.4)),
-            subst (λ l. IsScoped around l) (sym (ap reverse waits ∙ reverse-last old.waiting.list.items entry))
+            subst (λ l. IsScoped scope around l) (sym (ap reverse waits ∙ reverse-last old.waiting.list.items entry))
                 (none-scoped around (entry ∷ reverse old.waiting.list.items) refl),
           );
         }
@@ -498,7 +498,7 @@ value-array s w is_reference access from to p found =
     let os = p.is_before.0 in
     let front = p.is_before.2 in
     let last = last-found w.waiting.list.items (opens.Array access from to) found in
-    let waits : Stands s (opens.Array access from to ∷ last.0) os front = subst (λ ws. Stands s ws os front) last.1 p.is_before.7 in
+    let waits : Stands s scope (opens.Array access from to ∷ last.0) os front = subst (λ ws. Stands s scope ws os front) last.1 p.is_before.7 in
     record {
       state = p.state;
       candidates = p.candidates;
@@ -585,7 +585,7 @@ array-written s readable w begun first second third last access from to p size t
       element = λ extra. array-element extra access digits plain p.own p.bytes p.is_reference p.prints;
       comes = subst (λ n. Comes s p.outer (tree whole true) n then_) (sym (same_at ∙ three.at ∙ two.at ∙ one.at ∙ at)) p.comes;
       takes = subst TakesFunction (sym open_is) p.takes;
-      stands = subst (λ ws. Stands s ws p.outer p.front) (sym open_is) p.stands;
+      stands = subst (λ ws. Stands s scope ws p.outer p.front) (sym open_is) p.stands;
     }
   where
     joined : (f b o d e : List ℕ) → f ++ b ++ o ++ d ++ e ≡ f ++ (b ++ o ++ d ++ e)
@@ -612,5 +612,5 @@ passed-on s w o p found =
       written = p.written;
       element = p.element;
       comes = p.comes;
-      stands = subst (λ ws. Stands s ws p.os p.front) last.1 p.stands;
+      stands = subst (λ ws. Stands s scope ws p.os p.front) last.1 p.stands;
     }

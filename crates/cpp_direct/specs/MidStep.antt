@@ -152,6 +152,7 @@ pub record IsTypeNamed (s : Symbol) (w : Direct) (from : ℕ) (is_listed is_refe
   pub prints : Prints (detail_of s) own bytes is_reference
   pub no_reference : is_listed ≡ false → is_reference ≡ false
   pub stands : Stands s scope (reverse w.waiting.list.items) outer front
+  pub scoped : IsScoped scope around (reverse w.waiting.list.items)
 
 -- A type was read that what waits for it marks. It was written from a place on, but for its mark.
 pub record AwaitsMark (s : Symbol) (w : Direct) (mark : List ℕ) (from : ℕ) (is_reference is_dependent : Bool) : Type 0 where
