@@ -210,6 +210,18 @@ value-enumerator s w is_reference p found =
     go (opens.Pack ∷ owner ∷ rest) is waits = number (of_pack waits.0 waits.1) (opens.Pack ∷ owner ∷ rest) owner rest is (refl, waits.2) waits.3
     go (owner ∷ rest) is waits = number of_template (owner ∷ rest) owner rest is refl waits
 
+-- what waits for no type that names an argument of the function's template
+pub passed-closed : (o : Open) → ((x : ℕ) → o ≡ opens.Pointer x → ⊥) → ((x : ℕ) → o ≡ opens.Lvalue x → ⊥) → ((x : ℕ) → o ≡ opens.Rvalue x → ⊥)
+    → ((x : ℕ) → o ≡ opens.Const x → ⊥) → ((x : Mark) (y : ℕ) (z : Arguments) → o ≡ opens.Parameters x y z → ⊥)
+    → ((x : Mark) (y : ℕ) (z : Arguments) → o ≡ opens.Front x y z → ⊥) → IsPassedClosed o
+passed-closed (opens.Pointer x) p l r c f k = absurd (p x refl)
+passed-closed (opens.Lvalue x) p l r c f k = absurd (l x refl)
+passed-closed (opens.Rvalue x) p l r c f k = absurd (r x refl)
+passed-closed (opens.Const x) p l r c f k = absurd (c x refl)
+passed-closed (opens.Parameters x y z) p l r c f k = absurd (f x y z refl)
+passed-closed (opens.Front x y z) p l r c f k = absurd (k x y z refl)
+passed-closed _ p l r c f k = tt
+
 -- what is none of those that wait for something else
 pub takes-elements : (o : Open) → IsPassedClosed o → ((x : Bool) → o ≡ opens.Returned x → ⊥) → ((x : Bool) → o ≡ opens.Signature x → ⊥)
     → (o ≡ opens.Special → ⊥) → (o ≡ opens.Enumerator → ⊥) → ((x : Mark) (y z : ℕ) → o ≡ opens.Enclosing x y z → ⊥)

@@ -16,7 +16,7 @@ use Rattle.cpp_direct.specs.declared.open.Open.{Open}
 use Rattle.cpp_direct.specs.declared.direct.Direct.{Direct}
 use Rattle.cpp_direct.specs.Holes.{Opened, candidate, with_candidate, unless_listed}
 use Rattle.cpp_direct.specs.Prints.{Names, PrintsAs}
-use Rattle.cpp_direct.specs.WriterInvariant.{AreCandidates, AreNamed, ArgumentsGoOn, HasScope, IsBefore, IsCandidate, IsNaming, IsNest, IsPlaced, IsScoped, IsTemplate, Keeps, Scope, Stands, argument_of, arguments_in, below, encoding_place, is_within_type, no_scope, of_template, place_of}
+use Rattle.cpp_direct.specs.WriterInvariant.{AreCandidates, AreNamed, ArgumentsGoOn, HasScope, IsBefore, IsCandidate, IsNaming, IsNest, IsPlaced, IsScopeOf, IsScoped, IsTemplate, Keeps, Scope, Stands, argument_of, arguments_in, below, encoding_place, is_within_type, no_scope, of_template, place_of}
 use Rattle.cpp_direct.specs.Written.{Writes, Reads, added, added_unless, IsKeptTo, AreKeptTo}
 use Rattle.std.specs.Prelude.{slice_set}
 use Rattle.cpp_grammar.specs.Values as values
@@ -118,16 +118,19 @@ none-named text (suc (suc zero)) plain = absurd (omega (arith, plain.0))
 none-named text (suc (suc (suc zero))) plain = absurd (omega (arith, plain.0))
 none-named text (suc (suc (suc (suc number)))) plain = absurd (omega (arith, plain.0))
 
+pub none-own : (s : Symbol) → IsScopeOf s no_scope
+none-own s = record { encoded = λ real. absurd (real refl); plain = λ number bytes e. cc e }
+
 -- what is there has this text and these candidates
 pub keeps-as : (s : Symbol) {scope : Scope} (old new : Direct) (cs : List values.Candidate) {text : List ℕ} {ks : List Candidate}
     → new.text.list.items ≡ text → new.candidates.list.items ≡ ks → new.has_scope ≡ old.has_scope
-    → AreCandidates s scope.names text ks cs → AreNamed text scope
-    → (scope.arguments.encoding ≢ 0 → scope.arguments.encoding ≡ encoding_place s.bytes) → (old.has_scope ≡ false → scope ≡ no_scope) → Keeps s scope new cs
-keeps-as s {scope = scope} old new cs {text = text} text_is candidates_are scope_same candidates named encoded unknown = record {
+    → AreCandidates s scope.names text ks cs → AreNamed text scope → IsScopeOf s scope → (old.has_scope ≡ false → scope ≡ no_scope)
+    → Keeps s scope new cs
+keeps-as s {scope = scope} old new cs {text = text} text_is candidates_are scope_same candidates named own unknown = record {
   candidates = subst (λ l. AreCandidates s scope.names l new.candidates.list.items cs) (sym text_is)
       (subst (λ ks. AreCandidates s scope.names text ks cs) (sym candidates_are) candidates);
   named = subst (λ l. AreNamed l scope) (sym text_is) named;
-  encoded = encoded;
+  own = own;
   unknown = λ none. unknown (sym scope_same ∙ none);
 }
 
@@ -138,7 +141,7 @@ pub keeps-grown : (s : Symbol) {scope : Scope} (old new : Direct) (bytes : List 
 keeps-grown s {scope = scope} old new bytes cs text candidates scope_same keeps =
     keeps-as s old new cs text (ap (λ v. v.list.items) candidates) scope_same
     (candidates-stay s scope.names old.text.list.items bytes old.candidates.list.items cs keeps.candidates)
-    (named-stays old.text.list.items bytes scope keeps.named) keeps.encoded keeps.unknown
+    (named-stays old.text.list.items bytes scope keeps.named) keeps.own keeps.unknown
 
 -- a text was written
 pub keeps-written : (s : Symbol) {scope : Scope} (old new : Direct) (bytes : List ℕ) (cs : List values.Candidate) → Writes old new bytes
@@ -154,7 +157,7 @@ keeps-read s old new bytes cs reads keeps = keeps-grown s old new bytes cs reads
 pub keeps-same : (s : Symbol) {scope : Scope} (old new : Direct) (cs : List values.Candidate) → new.text ≡ old.text → new.candidates ≡ old.candidates
     → new.has_scope ≡ old.has_scope → Keeps s scope old cs → Keeps s scope new cs
 keeps-same s old new cs text candidates scope_same keeps =
-    keeps-as s old new cs (ap (λ v. v.list.items) text) (ap (λ v. v.list.items) candidates) scope_same keeps.candidates keeps.named keeps.encoded keeps.unknown
+    keeps-as s old new cs (ap (λ v. v.list.items) text) (ap (λ v. v.list.items) candidates) scope_same keeps.candidates keeps.named keeps.own keeps.unknown
 
 -- what is written from a place on became a candidate
 pub keeps-with : (s : Symbol) {scope : Scope} (old new : Direct) (st : State) (front bytes : List ℕ) (from : ℕ) (t : Term) (around : Around) (r d : Bool)
@@ -165,7 +168,7 @@ pub keeps-with : (s : Symbol) {scope : Scope} (old new : Direct) (st : State) (f
 keeps-with s {scope = scope} old new st front bytes from t around r d keeps written from_is prints made_in text_same added_is scope_same =
     keeps-as s old new (with_candidate around t st).candidates (ap (λ v. v.list.items) text_same) added_is scope_same
     (candidates-added s scope.names old.text.list.items old.candidates.list.items st.candidates front bytes from t around r d keeps.candidates written from_is prints made_in)
-    keeps.named keeps.encoded keeps.unknown
+    keeps.named keeps.own keeps.unknown
 
 -- the same unless it is one already
 pub keeps-unless : (s : Symbol) {scope : Scope} (old new : Direct) (st : State) (listed : Bool) (front bytes : List ℕ) (from : ℕ) (t : Term) (around : Around) (d : Bool)
@@ -174,7 +177,7 @@ pub keeps-unless : (s : Symbol) {scope : Scope} (old new : Direct) (st : State) 
     → new.text ≡ old.text → new.candidates.list.items ≡ added_unless old listed from d → new.has_scope ≡ old.has_scope
     → Keeps s scope new (unless_listed listed around t st).candidates
 keeps-unless s old new st true front bytes from t around d keeps written from_is prints made_in text_same added_is scope_same =
-    keeps-as s old new st.candidates (ap (λ v. v.list.items) text_same) added_is scope_same keeps.candidates keeps.named keeps.encoded keeps.unknown
+    keeps-as s old new st.candidates (ap (λ v. v.list.items) text_same) added_is scope_same keeps.candidates keeps.named keeps.own keeps.unknown
 keeps-unless s old new st false front bytes from t around d keeps written from_is prints made_in text_same added_is scope_same =
     keeps-with s old new st front bytes from t around false d keeps written from_is prints made_in text_same added_is scope_same
 

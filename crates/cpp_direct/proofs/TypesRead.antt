@@ -103,7 +103,7 @@ named-keeps : (s : Symbol) (old new : Direct) (from : ℕ) (listed r : Bool) (a 
     → new.candidates.list.items ≡ added_unless old listed from false → new.has_scope ≡ old.has_scope
     → Keeps s a.scope new (unless_listed listed a.around a.own a.state).candidates
 named-keeps s old new from true r a text candidates scope =
-    keeps-as s old new a.state.candidates (ap (λ v. v.list.items) text) candidates scope a.keeps.candidates a.keeps.named a.keeps.encoded a.keeps.unknown
+    keeps-as s old new a.state.candidates (ap (λ v. v.list.items) text) candidates scope a.keeps.candidates a.keeps.named a.keeps.own a.keeps.unknown
 named-keeps s old new from false r a text candidates scope =
     keeps-with s old new a.state a.front a.bytes from a.own a.around false false a.keeps a.written a.from_is
     (subst (λ b. Prints (detail_of s) a.own a.bytes b) (a.no_reference refl) a.prints) (λ e. absurd (false≢true e)) text candidates scope
@@ -155,7 +155,7 @@ argued-done s old mid new from listed a stands mid_candidates mid_text mid_waits
             inside a.around,
             o.inner,
             refl,
-            scoped-inside a.scope a.around (reverse old.waiting.list.items) a.scoped,
+            λ within. scoped-inside a.scope a.around (reverse old.waiting.list.items) a.scoped,
             subst (λ k. Expects s Kind.ArgumentList (inside a.around) o.inner k state) (sym (at ∙ ap (λ k. k + 1) mid_at)) o.awaits,
             λ l here now comes ended. (
               a.outer,
@@ -407,11 +407,11 @@ substitution-stands s old n k a ordered found =
     (piece.0, piece.1)
 
 -- a substitution
-pub substitution-named : (s : Symbol) (old mid new : Direct) (from : ℕ) (digits : List ℕ) (k : Candidate) → AwaitsNamedType s old → StandsAt s.bytes old.at (83 ∷ [])
+pub substitution-named : (s : Symbol) (old mid new : Direct) (n from : ℕ) (digits : List ℕ) (k : Candidate) → AwaitsNamedType s old → StandsAt s.bytes old.at (83 ∷ [])
     → IsSeqAt s.bytes (old.at + 1) digits mid.at → k.from ≤ k.to → slice_get old.candidates.list.items (counted_value Seq36 digits) ≡ Some k
-    → Reads old mid [] → Writes mid new (take (k.to - k.from) (drop k.from mid.text.list.items)) → from ≡ length old.text.list.items
+    → Reads (record old { at = n }) mid [] → Writes mid new (take (k.to - k.from) (drop k.from mid.text.list.items)) → from ≡ length old.text.list.items
     → k.is_dependent ≡ false → IsTypeNamed s new from true k.is_reference
-substitution-named s old mid new from digits k a stands is ordered found reads writes begins plain =
+substitution-named s old mid new n from digits k a stands is ordered found reads writes begins plain =
     let text = old.text.list.items in
     let c = candidate-found text old.candidates.list.items a.state.candidates (counted_value Seq36 digits) k a.keeps.candidates ordered found in
     let piece = piece-found text c.2.front c.2.bytes c.2.back k.from k.to c.2.written c.2.from_is c.2.to_is in
@@ -425,16 +425,15 @@ substitution-named s old mid new from digits k a stands is ordered found reads w
     written begins prints (λ e. absurd (false≢true (sym e))) (writes.waiting ∙ reads.waiting)
 
 -- one that names an argument
-pub named-again : (s : Symbol) (old new : Direct) (digits : List ℕ) (k : Candidate) → AwaitsNamedType s old → StandsAt s.bytes old.at (83 ∷ [])
+pub named-again : (s : Symbol) (old new : Direct) (n : ℕ) (digits : List ℕ) (k : Candidate) → AwaitsNamedType s old → StandsAt s.bytes old.at (83 ∷ [])
     → IsSeqAt s.bytes (old.at + 1) digits new.at → k.from ≤ k.to → slice_get old.candidates.list.items (counted_value Seq36 digits) ≡ Some k
-    → Reads old new [] → k.is_dependent ≡ true → IsNamedAgain s new k
-named-again s old new digits k a stands is ordered found reads dependent = record {
+    → Reads (record old { at = n }) new [] → k.is_dependent ≡ true → IsNamedAgain s new k
+named-again s old new n digits k a stands is ordered found reads dependent = record {
   before = old.at;
   awaits = record {
     state = a.state;
     scope = a.scope;
-    keeps = keeps-read s old (record new { at = old.at }) [] a.state.candidates
-        (record { text = reads.text; candidates = reads.candidates; waiting = reads.waiting; nest = reads.nest; scope = reads.scope; rounds = reads.rounds }) a.keeps;
+    keeps = keeps-grown s old (record new { at = old.at }) [] a.state.candidates reads.text reads.candidates reads.scope a.keeps;
     kind = a.kind;
     is_named = a.is_named;
     around = a.around;
@@ -571,6 +570,6 @@ nest-awaited s old n a at stands =
       outside = a.outside;
       outer = t.inner;
       awaits = subst (λ k. Expects s Kind.Nest a.around t.inner k a.state) (sym at) t.awaits;
-      scoped = a.scoped;
+      scoped = λ within. a.scoped;
       serves = (a.os, a.around, t.passes, a.scoped, a.stands);
     }

@@ -173,12 +173,16 @@ abbrev pub AreNamed : (text : List ℕ) → Scope → Type 0
 AreNamed text scope =
     (number : ℕ) → IsPlain (place_of scope.arguments number) → (bytes : List ℕ) × (scope.names number ≡ Some bytes) × IsPlaced text (place_of scope.arguments number) bytes
 
+-- They are those of the symbol's own encoding, if it is known where theirs begins, and types that are no references.
+pub record IsScopeOf (s : Symbol) (scope : Scope) : Type 0 where
+  pub encoded : scope.arguments.encoding ≢ 0 → scope.arguments.encoding ≡ encoding_place s.bytes
+  pub plain : (number : ℕ) (bytes : List ℕ) → scope.names number ≡ Some bytes → IsPlain (place_of scope.arguments number)
+
 -- What a writer keeps: its candidates, and the arguments that types may name, of which none are known before the symbol's own name.
--- If it is known where the encoding begins that has them, it is the symbol's own.
 pub record Keeps (s : Symbol) (scope : Scope) (w : Direct) (cs : List values.Candidate) : Type 0 where
   pub candidates : AreCandidates s scope.names w.text.list.items w.candidates.list.items cs
   pub named : AreNamed w.text.list.items scope
-  pub encoded : scope.arguments.encoding ≢ 0 → scope.arguments.encoding ≡ encoding_place s.bytes
+  pub own : IsScopeOf s scope
   pub unknown : w.has_scope ≡ false → scope ≡ no_scope
 
 -- if there are any, parameters may name them
