@@ -830,6 +830,9 @@ noted-awaits s scope (opens.NestArguments nest) noted rest os text is p = p
 noted-awaits s scope (opens.FirstArguments nest) noted rest os text is p = p
 noted-awaits s scope _ noted rest os text is p = absurd is
 
+one-written : (text front led before bytes : List ℕ) → text ≡ front ++ bytes → front ≡ led ++ before → text ≡ led ++ (before ++ bytes)
+one-written text front led before bytes written is = written ∙ ap (λ l. l ++ bytes) is ∙ append_assoc led before bytes
+
 -- such a type was read as an argument of what was opened last, which is noted
 pub listed-noted : (s : Symbol) (w new : Direct) (is_reference : Bool) (ws : List Open) (owner noted : Open) → IsWriting s w (steps.Value is_reference true)
     → w.waiting.list.items ≡ ws ++ owner ∷ [] → IsDependentNow owner noted → new.waiting.list.items ≡ ws ++ noted ∷ []
@@ -872,7 +875,7 @@ listed-noted s w new is_reference ws owner noted p waits is now_waits text candi
         ts ++ t ∷ [],
         in_front_of_next ts texts ++ bytes,
         subst (λ d. PrintAllAs (detail_of s) scope.names d 3 (ts ++ t ∷ []) (in_front_of_next ts texts ++ bytes)) (sym (noted-now owner noted is)) all,
-        whole ∙ ap (λ l. l ++ bytes) waits.7 ∙ append_assoc led (in_front_of_next ts texts) bytes,
+        one-written new.text.list.items front led (in_front_of_next ts texts) bytes whole waits.7,
         λ first. absurd (false≢true first),
         λ further. some-elements ts t,
         subst (λ n. ArgumentsGoOn s noted (below s scope rest) waits.0 waits.1 (ts ++ t ∷ []) n p.state) (sym at) (

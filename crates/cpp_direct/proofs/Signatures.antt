@@ -421,7 +421,7 @@ function-handed s old new is_pointer p text candidates scope_same waits at =
       scope = p.scope;
       keeps = keeps-as s grown new then_.candidates refl candidates scope_same
           (hidden-candidates s p.scope.names old is_pointer new.text.list.items p.made_in p.made p.state keeps.candidates)
-          keeps.named keeps.encoded keeps.unknown;
+          keeps.named keeps.own keeps.unknown;
       os = p.outer;
       own = own;
       front = p.front;
@@ -591,7 +591,7 @@ array-written s readable w begun first second third last access from to p size t
       scope = p.scope;
       keeps = keeps-as s third last then_.candidates (ap (λ v. v.list.items) same_text) (more ∙ with-hidden third (is_marked access)) same_scope
           (hidden-accessed s p.scope.names access third.candidates.list.items third.text.list.items p.made_in own p.state there.candidates)
-          there.named there.encoded there.unknown;
+          there.named there.own there.unknown;
       os = p.outer;
       own = whole;
       front = p.front;
