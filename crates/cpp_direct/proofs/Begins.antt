@@ -38,7 +38,7 @@ pub none-kept : (s : Symbol) (w : Direct) → w.candidates.list.items ≡ [] →
 none-kept s w none = record {
   candidates = subst (λ ks. AreCandidates s no_scope.names w.text.list.items ks []) (sym none) tt;
   named = none-named w.text.list.items;
-  encoded = λ there. absurd (there refl);
+  own = record { encoded = λ there. absurd (there refl); plain = λ number bytes e. cc e };
   unknown = λ e. refl;
 }
 

@@ -386,9 +386,9 @@ first-opens s scope kind old mid new st t first keeps n here lists opening_ =
 -- ## The end of a nested name
 
 -- a name that ends comes outside
-pub nest-comes : (s : Symbol) (scope : Scope) (old : Direct) (st : State) (t : Term) (n : IsNesting s scope Kind.NestTail old t st)
+pub nest-comes : (s : Symbol) {scope : Scope} (old : Direct) (st : State) (t : Term) (n : IsNesting s scope Kind.NestTail old t st)
     → StandsAt s.bytes old.at (69 ∷ []) → Comes s n.outer (tree t old.nest.is_listed) (old.at + 1) st
-nest-comes s scope old st t n here = n.goes.passes (tree t old.nest.is_listed) (old.at + 1) st
+nest-comes s old st t n here = n.goes.passes (tree t old.nest.is_listed) (old.at + 1) st
     (nest-end s n.goes.inner n.around t old.nest.is_listed old.at st n.goes.awaits here)
 
 -- it is a type
@@ -418,7 +418,7 @@ type-ended s scope old new st t keeps n here is_type lists =
         n.is_nest.prints,
         (λ e. subst (λ l. IsNaming s scope (reverse l)) (sym waiting_is) (n.scoped.naming e)),
         comes-moved s serves.0 (tree t true) (old.at + 1) new.at later (sym lists.at)
-            (serves.2 t listed (old.at + 1) st (no-function (detail_of s) scope.names d t n.bytes n.is_nest.prints) (nest-comes s scope old st t n here)),
+            (serves.2 t listed (old.at + 1) st (no-function (detail_of s) scope.names d t n.bytes n.is_nest.prints) (nest-comes s old st t n here)),
         subst (λ l. Stands s scope (reverse l) serves.0 n.front) (sym waiting_is) serves.4,
       );
     }
@@ -460,7 +460,7 @@ name-comes s scope old st t mark is_function argument_ keeps n no_return returns
       no_return = no_return;
       returns = returns;
       names = names;
-      awaits = serves t old.nest.is_listed (old.at + 1) st (nest-comes s scope old st t n here);
+      awaits = serves t old.nest.is_listed (old.at + 1) st (nest-comes s old st t n here);
     }
 
 -- the E of one that an operator ends
