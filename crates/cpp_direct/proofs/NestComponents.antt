@@ -20,7 +20,7 @@ use Rattle.cpp_direct.specs.WriterInvariant.{IsNest, IsNestScoped, IsOwn, IsWrit
 use Rattle.cpp_direct.specs.MidStep.{AwaitsClass, IsNestNamed, IsOperatorRead}
 use Rattle.cpp_direct.specs.Written.{Writes, Reads}
 use Rattle.cpp_direct.proofs.Unmarked.{name-unmarked}
-use Rattle.cpp_direct.proofs.Kept.{keeps-as, named-stays, piece-stays, piece-found, candidates-stay}
+use Rattle.cpp_direct.proofs.Kept.{keeps-grown, piece-stays, piece-found}
 use Rattle.cpp_direct.proofs.Nesting.{closed-prints, nest-scoped}
 use Rattle.cpp_direct.proofs.PrintedTypes.{prints-as}
 use Rattle.cpp_direct.proofs.Moves.{stands-join}
@@ -35,7 +35,7 @@ use Rattle.cpp_direct.proofs.PrintedNests.{within-tagged, IsPiece, source-openin
 -- This was written after what was, and the nested name begins and serves as before.
 pub record Goes (old new : Direct) (bytes : List ℕ) : Type 0 where
   pub text : new.text.list.items ≡ old.text.list.items ++ bytes
-  pub candidates : new.candidates.list.items ≡ old.candidates.list.items
+  pub candidates : new.candidates ≡ old.candidates
   pub waiting : new.waiting.list.items ≡ old.waiting.list.items
   pub scope : new.has_scope ≡ old.has_scope
   pub from : new.nest.from ≡ old.nest.from
@@ -45,7 +45,7 @@ pub record Goes (old new : Direct) (bytes : List ℕ) : Type 0 where
 -- the place is another one, and nothing else
 pub record Moves (old new : Direct) (by : ℕ) : Type 0 where
   pub text : new.text.list.items ≡ old.text.list.items
-  pub candidates : new.candidates.list.items ≡ old.candidates.list.items
+  pub candidates : new.candidates ≡ old.candidates
   pub waiting : new.waiting.list.items ≡ old.waiting.list.items
   pub scope : new.has_scope ≡ old.has_scope
   pub nest : new.nest ≡ old.nest
@@ -65,9 +65,7 @@ goes-marked old between new by bytes m w = record {
 
 keeps-go : (s : Symbol) {scope : Scope} (old new : Direct) (bytes : List ℕ) (cs : List values.Candidate) → Goes old new bytes
     → Keeps s scope old cs → Keeps s scope new cs
-keeps-go s {scope} old new bytes cs g p =
-    keeps-as s old new cs g.text g.candidates g.scope (candidates-stay s scope.names old.text.list.items bytes old.candidates.list.items cs p.candidates)
-    (named-stays old.text.list.items bytes scope p.named) p.unknown
+keeps-go s old new bytes cs g p = keeps-grown s old new bytes cs g.text g.candidates g.scope p
 
 serves-go : (s : Symbol) (scope : Scope) (old new : Direct) (bytes : List ℕ) (outer : List Opened) (front : List ℕ) → Goes old new bytes
     → Serves s old.nest.purpose (below s scope (reverse old.waiting.list.items)) outer front
@@ -104,7 +102,7 @@ class-awaits s scope old new st t own front bytes mark around outer keeps writte
   class_from = rw same is.class_from;
   class_to = rw same is.class_to;
   closed = g.dependent ∙ closed;
-  scoped = nest-scoped s old new around g.waiting g.dependent scoped;
+  scoped = nest-scoped s old new around g.waiting g.purpose g.dependent scoped;
   prints = prints;
   no_return = no_return;
   structor = structor;
@@ -144,7 +142,7 @@ constructor-awaits s old between new digit w m p letter next is has closed =
     (goes-marked old between new 2 (codes "::") m w) (rw (w.nest, m.nest) refl)
     (component-named s b.4 b.3 b.0 (within b.0 (constructor digit)) old.at p.state b.7 (old.at + 2) new.at (w.at ∙ m.at)
     (component-constructor s b.7.inner b.3 b.0 old.at p.state digit b.7.awaits (stands-join s.bytes old.at (67 ∷ []) (digit ∷ []) letter next) is))
-    (constructor-prints b.0 b.2 b.6.class (closed-prints closed b.6.prints) (b.6.names_class has closed) digit) refl refl
+    (constructor-prints b.0 b.2 b.6.class (closed-prints p.scope.names closed b.6.prints) (b.6.names_class has closed) digit) refl refl
 
 -- the same of a destructor
 pub destructor-awaits : (s : Symbol) (old between new : Direct) (digit : ℕ) → Writes between new (codes "::~") → Moves old between 2
@@ -157,7 +155,7 @@ destructor-awaits s old between new digit w m p letter next is has closed =
     (goes-marked old between new 2 (codes "::~") m w) (rw (w.nest, m.nest) refl)
     (component-named s b.4 b.3 b.0 (within b.0 (destructor digit)) old.at p.state b.7 (old.at + 2) new.at (w.at ∙ m.at)
     (component-destructor s b.7.inner b.3 b.0 old.at p.state digit b.7.awaits (stands-join s.bytes old.at (68 ∷ []) (digit ∷ []) letter next) is))
-    (destructor-prints b.0 b.2 b.6.class (closed-prints closed b.6.prints) (b.6.names_class has closed) digit) refl refl
+    (destructor-prints b.0 b.2 b.6.class (closed-prints p.scope.names closed b.6.prints) (b.6.names_class has closed) digit) refl refl
 
 -- The class is written: the component is named.
 named-again : (s : Symbol) (old new : Direct) (p : AwaitsClass s old) → Goes old new p.class → new.at ≡ old.at
@@ -191,7 +189,7 @@ named-again s old new p g at from to unlisted classless no_instance =
         class_to = to ∙ p.class_to;
         names_class = λ e closed. absurd (false≢true (sym classless ∙ e));
       };
-      scoped = nest-scoped s old new p.around g.waiting g.dependent p.scoped;
+      scoped = nest-scoped s old new p.around g.waiting g.purpose g.dependent p.scoped;
       names_tagged = λ e closed tag plain. absurd (false≢true (sym classless ∙ e));
       unlisted = unlisted;
       no_instance = no_instance;
@@ -204,7 +202,7 @@ named-again s old new p g at from to unlisted classless no_instance =
 -- the same by what is at the place of the class
 pub class-named : (s : Symbol) (old between new : Direct) (p : AwaitsClass s old)
     → Writes old between (take (old.nest.class_to - old.nest.class_from) (drop old.nest.class_from old.text.list.items))
-    → new.text.list.items ≡ between.text.list.items → new.candidates.list.items ≡ between.candidates.list.items → new.waiting.list.items ≡ between.waiting.list.items
+    → new.text.list.items ≡ between.text.list.items → new.candidates ≡ between.candidates → new.waiting.list.items ≡ between.waiting.list.items
     → new.has_scope ≡ between.has_scope → new.at ≡ between.at → new.nest.from ≡ between.nest.from → new.nest.purpose ≡ between.nest.purpose
     → new.nest.is_dependent ≡ between.nest.is_dependent
     → new.nest.class_from ≡ between.nest.class_from → new.nest.class_to ≡ between.nest.class_to → new.nest.is_listed ≡ false
@@ -240,7 +238,7 @@ piece-named s scope old new st t piece x front bytes around outer keeps before i
     let prints : PrintsAs (detail_of s) names new.nest.is_dependent (within t piece) (bytes ++ m ++ x) false
     = subst (λ b. PrintsAs (detail_of s) names b (within t piece) (bytes ++ m ++ x) false) (sym g.dependent)
     (within-as (detail_of s) names old.nest.is_dependent t bytes is.prints piece x is_piece opening) in
-    let closed : new.nest.is_dependent ≡ false → Prints (detail_of s) t bytes false = λ e. closed-prints (sym g.dependent ∙ e) is.prints in
+    let closed : new.nest.is_dependent ≡ false → Prints (detail_of s) t bytes false = λ e. closed-prints names (sym g.dependent ∙ e) is.prints in
     let written : new.text.list.items ≡ front ++ (bytes ++ m ++ x)
     = g.text ∙ ap (λ l. l ++ (m ++ x)) before ∙ append_assoc front bytes (m ++ x) ∙ ap (λ l. front ++ l) (sym (append_assoc bytes m x)) in
     let class_written : new.text.list.items ≡ (old.text.list.items ++ m) ++ x = g.text ∙ sym (append_assoc old.text.list.items m x) in
@@ -269,7 +267,7 @@ piece-named s scope old new st t piece x front bytes around outer keeps before i
         class_to = to ∙ ap length class_written ∙ length-append (old.text.list.items ++ m) x;
         names_class = λ e none. within-class t bytes (closed none) piece x is_piece;
       };
-      scoped = nest-scoped s old new around g.waiting g.dependent scoped;
+      scoped = nest-scoped s old new around g.waiting g.purpose g.dependent scoped;
       names_tagged = λ e none tag plain. within-tagged t bytes (closed none) piece x is_piece opening tag plain;
       unlisted = unlisted;
       no_instance = no_instance;
@@ -293,7 +291,7 @@ moves-to old new at by same e =
 piece-follows : (s : Symbol) (old start marked read new : Direct) (by : ℕ) (piece : Term) (x : List ℕ) (p : IsWriting s old steps.Component)
     → IsPiece (detail_of s) piece x → opening_text piece ≡ codes "<" → Moves old start by → Writes start marked (codes "::") → Reads marked read x
     → NestNamed s p.is_before.4 p.is_before.3 (within p.is_before.0 piece) new.at p.state
-    → new.text.list.items ≡ read.text.list.items → new.candidates.list.items ≡ read.candidates.list.items → new.waiting.list.items ≡ read.waiting.list.items
+    → new.text.list.items ≡ read.text.list.items → new.candidates ≡ read.candidates → new.waiting.list.items ≡ read.waiting.list.items
     → new.has_scope ≡ read.has_scope → new.nest.from ≡ read.nest.from → new.nest.purpose ≡ read.nest.purpose
     → new.nest.is_dependent ≡ read.nest.is_dependent → new.nest.class_from ≡ length marked.text.list.items → new.nest.class_to ≡ length read.text.list.items → new.nest.is_listed ≡ false
     → new.nest.has_class ≡ true → new.nest.is_instance ≡ false → IsNestNamed s new
@@ -332,7 +330,7 @@ source-read s os around t at st a false name to from end letter is moved same =
 pub source-follows : (s : Symbol) (old start marked read new : Direct) (internal : Bool) → IsWriting s old steps.Component
     → (internal ≡ true → StandsAt s.bytes old.at (76 ∷ [])) → Moves old start (letters internal) → Writes start marked (codes "::")
     → (name : List ℕ) → IsNameAt s.bytes marked.at name read.at → name ≢ [] → Reads marked read (source_text name)
-    → new.text.list.items ≡ read.text.list.items → new.candidates.list.items ≡ read.candidates.list.items → new.waiting.list.items ≡ read.waiting.list.items
+    → new.text.list.items ≡ read.text.list.items → new.candidates ≡ read.candidates → new.waiting.list.items ≡ read.waiting.list.items
     → new.has_scope ≡ read.has_scope → new.at ≡ read.at → new.nest.from ≡ read.nest.from → new.nest.purpose ≡ read.nest.purpose
     → new.nest.is_dependent ≡ read.nest.is_dependent → new.nest.class_from ≡ length marked.text.list.items → new.nest.class_to ≡ length read.text.list.items → new.nest.is_listed ≡ false
     → new.nest.has_class ≡ true → new.nest.is_instance ≡ false → IsNestNamed s new
@@ -357,7 +355,7 @@ operator-read s os around t at st a first second to end there same =
 pub operator-follows : (s : Symbol) (old marked read new : Direct) (first second : ℕ) → IsWriting s old steps.Component
     → Writes old marked (codes "::") → IsOperatorAt s.bytes marked.at first second read.at → is_angle first second ≡ false
     → Reads marked read (operator_text first second)
-    → new.text.list.items ≡ read.text.list.items → new.candidates.list.items ≡ read.candidates.list.items → new.waiting.list.items ≡ read.waiting.list.items
+    → new.text.list.items ≡ read.text.list.items → new.candidates ≡ read.candidates → new.waiting.list.items ≡ read.waiting.list.items
     → new.has_scope ≡ read.has_scope → new.at ≡ read.at → new.nest.from ≡ read.nest.from → new.nest.purpose ≡ read.nest.purpose
     → new.nest.is_dependent ≡ read.nest.is_dependent → new.nest.class_from ≡ length marked.text.list.items → new.nest.class_to ≡ length read.text.list.items → new.nest.is_listed ≡ false
     → new.nest.has_class ≡ true → new.nest.is_instance ≡ false → IsNestNamed s new
@@ -400,7 +398,7 @@ operator-last s old marked read first second p w there r closed =
       bytes = b.2 ++ m ++ x;
       written = g.text ∙ ap (λ l. l ++ (m ++ x)) b.5 ∙ append_assoc b.1 b.2 (m ++ x) ∙ ap (λ l. b.1 ++ l) (sym (append_assoc b.2 m x));
       from_is = g.from ∙ b.6.from_is;
-      prints = within-names b.0 b.2 (closed-prints closed b.6.prints) (operator first second) x (operator-piece first second);
+      prints = within-names b.0 b.2 (closed-prints p.scope.names closed b.6.prints) (operator first second) x (operator-piece first second);
       no_return = refl;
       serves = serves-go s p.scope old read (m ++ x) b.4 b.1 g b.9;
     }

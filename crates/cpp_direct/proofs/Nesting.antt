@@ -3,7 +3,7 @@ use Rattle.sym_print.specs.declared.detail.Detail.{Detail}
 use Rattle.cpp_direct.specs.WrittenParts.{opening_bracket}
 use Rattle.cpp_direct.specs.declared.open.Arguments.{Arguments}
 use Rattle.cpp_direct.proofs.Unmarked.{name-unmarked}
-use Rattle.cpp_direct.proofs.Scopes.{none-known}
+use Rattle.cpp_direct.proofs.Scopes.{none-known, scoped-inside}
 use Rattle.std.proofs.Common.{◌≡◌, ◌≢◌, ℕ, ◌+◌, ◌-◌, ◌≤◌, List, [], ◌∷◌, ◌++◌, length, take, drop, reverse, slice_get, Bool, true, false, Option, Some, None, refl, ap, sym, ◌∙◌, subst, arith, codes, append-nil, append_assoc, ◌&&◌, length-append}
 use Rattle.std.specs.Option.{IfSome, OnSome}
 use Rattle.std.proofs.lemmas.Bool.{false≢true}
@@ -34,7 +34,7 @@ use Rattle.cpp_direct.specs.Holes.{Opened, Comes, StandsAt, IsNameAt, IsSeqAt, S
 use Rattle.cpp_direct.specs.HolesOfNests.{IsRest, IsFirstRest}
 use Rattle.cpp_direct.specs.Names.{tag_text}
 use Rattle.cpp_direct.specs.Prints.{Names, Prints, PrintsAs, NamesClass}
-use Rattle.cpp_direct.specs.WriterInvariant.{HasArguments, IsNaming, IsNest, IsNestScoped, IsNesting, IsOwn, IsScoped, IsTemplate, ArgumentsGoOn, Keeps, Scope, Serves, Stands, IsWriting, below, encoding_place, qualifiers, IsKnown, nowhere, place_of}
+use Rattle.cpp_direct.specs.WriterInvariant.{HasArguments, IsNaming, IsNest, IsNestScoped, IsNesting, IsOwn, IsScoped, IsTemplate, ArgumentsGoOn, Keeps, Scope, Serves, Stands, IsWriting, below, encoding_place, is_type, qualifiers, IsKnown, nowhere, place_of}
 use Rattle.cpp_direct.specs.MidStep.{AwaitsNest, IsNestKnown, IsNestNamed, IsNameEnded, IsOperatorRead}
 use Rattle.cpp_direct.specs.Written.{Reads, added, added_unless}
 use Rattle.cpp_direct.proofs.Moves.{alone-arguments, any-tail, expects-empty, stands-join, comes-moved}
@@ -68,49 +68,43 @@ pub record OpensArguments (detail : Detail) (old new : Direct) (owner : Open) : 
 
 -- ## What types may name
 
--- what they may name in a name they may name in its arguments
-pub inside-scoped : (scope : Scope) (around : Around) (open_ : List Open) → IsScoped scope around open_ → IsScoped scope (inside around) open_
-unfolding inside
-inside-scoped scope around open_ scoped a found = let h = scoped a found in (
-  h.0,
-  h.1.0,
-  λ k o. let one = h.1.1 k o in record {
-    own = one.own;
-    all = one.all;
-    scope_is = one.scope_is;
-    there = one.there;
-    elements = one.elements;
-    alone = one.alone;
-    no_pack = one.no_pack;
-  },
-)
-
 -- where a nested name goes on they may name the same
 pub nest-scoped : (s : Symbol) {scope : Scope} (old new : Direct) (around : Around) → new.waiting.list.items ≡ old.waiting.list.items
-    → new.nest.is_dependent ≡ old.nest.is_dependent → IsNestScoped s scope old around → IsNestScoped s scope new around
-nest-scoped s {scope} old new around waiting_is same n = record {
-  scoped = subst (λ (o : List Open). IsScoped scope around (reverse o)) (sym waiting_is) n.scoped;
-  naming = λ e. subst (λ (o : List Open). IsNaming s scope (reverse o)) (sym waiting_is) (n.naming (sym same ∙ e));
+    → new.nest.purpose ≡ old.nest.purpose → new.nest.is_dependent ≡ old.nest.is_dependent → IsNestScoped s scope old around → IsNestScoped s scope new around
+nest-scoped s {scope} old new around waiting_is purpose_same dependent_same n = record {
+  scoped = λ e. subst (λ (o : List Open). IsScoped scope around (reverse o)) (sym waiting_is) (n.scoped (ap is_type (sym purpose_same) ∙ e));
+  naming = λ e. subst (λ (o : List Open). IsNaming s scope (reverse o)) (sym waiting_is) (n.naming (sym dependent_same ∙ e));
 }
 
--- one that names none begins
-nest-closed : (s : Symbol) {scope : Scope} (w : Direct) (around : Around) → IsScoped scope around (reverse w.waiting.list.items) → w.nest.is_dependent ≡ false
-    → IsNestScoped s scope w around
-nest-closed s w around scoped closed = record { scoped = scoped; naming = λ e. absurd (false≢true (sym closed ∙ e)) }
+-- they name none in one that begins
+nest-closed : (s : Symbol) {scope : Scope} (old new : Direct) (around : Around) (purpose : Purpose)
+    → (is_type purpose ≡ true → IsScoped scope around (reverse old.waiting.list.items)) → new.waiting ≡ old.waiting → new.nest.purpose ≡ purpose
+    → new.nest.is_dependent ≡ false → IsNestScoped s scope new around
+nest-closed s {scope} old new around purpose scoped waiting_is purpose_is closed = record {
+  scoped = λ e. subst (λ o. IsScoped scope around (reverse o.list.items)) (sym waiting_is) (scoped (ap is_type (sym purpose_is) ∙ e));
+  naming = λ e. absurd (false≢true (sym closed ∙ e));
+}
 
--- if it names any it is in the symbol's own encoding
-nest-here : (s : Symbol) {scope : Scope} (w : Direct) (around : Around) → IsNestScoped s scope w around → w.nest.is_dependent ≡ true
-    → around.encoding ≡ encoding_place s.bytes
-nest-here s {scope} w around n e = made-here s scope around (reverse w.waiting.list.items) n.scoped (n.naming e)
+-- the name of a function or of data names none
+type-named : (purpose : Purpose) (d : Bool) → (IsOwn purpose → d ≡ false) → d ≡ true → is_type purpose ≡ true
+type-named purposes.Type d closed e = refl
+type-named (purposes.Name mark) d closed e = absurd (false≢true (sym (closed tt) ∙ e))
+type-named (purposes.Enclosing mark) d closed e = absurd (false≢true (sym (closed tt) ∙ e))
+
+-- one that names any is in the symbol's own encoding
+nest-here : (s : Symbol) {scope : Scope} (w : Direct) (around : Around) → IsNestScoped s scope w around → (IsOwn w.nest.purpose → w.nest.is_dependent ≡ false)
+    → w.nest.is_dependent ≡ true → around.encoding ≡ encoding_place s.bytes
+nest-here s {scope} w around n closed e =
+    made-here s scope around (reverse w.waiting.list.items) (n.scoped (type-named w.nest.purpose w.nest.is_dependent closed e)) (n.naming e)
 
 -- what names none prints its text anywhere
-pub closed-prints : {detail : Detail} {names : Names} {d : Bool} {t : Term} {bytes : List ℕ} → d ≡ false → PrintsAs detail names d t bytes false → Prints detail t bytes false
-closed-prints {detail} {names} {t = t} {bytes = bytes} closed prints = subst (λ b. PrintsAs detail names b t bytes false) closed prints
+pub closed-prints : {detail : Detail} (names : Names) {d : Bool} {t : Term} {bytes : List ℕ} → d ≡ false → PrintsAs detail names d t bytes false → Prints detail t bytes false
+closed-prints {detail} names {t = t} {bytes = bytes} closed prints = subst (λ b. PrintsAs detail names b t bytes false) closed prints
 
 -- it is no function type
-no-function : {detail : Detail} {names : Names} (d : Bool) (t : Term) (bytes : List ℕ) → PrintsAs detail names d t bytes false → is_function_type t ≡ false
-no-function true t bytes prints = prints.no_function
-no-function false t bytes prints = prints.no_function
+no-function : (detail : Detail) (names : Names) (d : Bool) (t : Term) (bytes : List ℕ) → PrintsAs detail names d t bytes false → is_function_type t ≡ false
+no-function detail names true t bytes prints = prints.no_function
+no-function detail names false t bytes prints = prints.no_function
 
 -- ## Arguments are opened
 
@@ -215,9 +209,9 @@ named-tagged s old new tag wide n is reads =
       bytes = n.bytes ++ tag_text tag;
       written = written;
       is_nest = is_nest;
-      scoped = nest-scoped s old new n.around (ap (λ v. v.list.items) reads.waiting) (ap (λ x. x.is_dependent) reads.nest) n.scoped;
+      scoped = nest-scoped s old new n.around (ap (λ v. v.list.items) reads.waiting) (ap (λ x. x.purpose) reads.nest) (ap (λ x. x.is_dependent) reads.nest) n.scoped;
       names_tagged = λ e none more more_plain.
-          again-tagged (is_structor n.own) n.own n.bytes (closed-prints (closed none) n.is_nest.prints) tag more n.is_nest.class plain more_plain
+          again-tagged (is_structor n.own) n.own n.bytes (closed-prints names (closed none) n.is_nest.prints) tag more n.is_nest.class plain more_plain
           (n.names_tagged (classed e) (closed none) tag plain);
       unlisted = ap (λ x. x.is_listed) reads.nest ∙ n.unlisted;
       no_instance = ap (λ x. x.is_instance) reads.nest ∙ n.no_instance;
@@ -239,12 +233,12 @@ named-opens s old mid new n here lists opening_ =
     list-begins s n.scope old mid new (added old old.nest.from false old.nest.is_dependent) (with_candidate n.around n.own n.state) (opens.NestArguments old.nest) n.front n.bytes
     n.own lists (subst (λ x. OpensArguments (detail_of s) mid new (opens.NestArguments x)) lists.nest opening_)
     (keeps-with s old mid n.state n.front n.bytes old.nest.from n.own n.around false old.nest.is_dependent n.keeps n.written n.is_nest.from_is n.is_nest.prints
-    (nest-here s old n.around n.scoped) lists.text lists.candidates lists.scope)
+    (nest-here s old n.around n.scoped n.is_nest.closed) lists.text lists.candidates lists.scope)
     (nest-stays n.front n.bytes old.text.list.items (opening_bracket (detail_of s)) old.nest n.own n.is_nest, (λ own. n.structor), n.no_structor) n.written (
       inside n.around,
       begun.inner,
       refl,
-      inside-scoped n.scope n.around (reverse old.waiting.list.items) n.scoped.scoped,
+      (λ within. scoped-inside n.scope n.around (reverse old.waiting.list.items) (n.scoped.scoped within)),
       begun.awaits,
       (λ l at st comes ended. (
         n.around,
@@ -311,7 +305,7 @@ known-opens s old new n wide is_type here opening_ =
       inside n.around,
       begun.inner,
       refl,
-      inside-scoped n.scope n.around (reverse old.waiting.list.items) n.scoped.scoped,
+      (λ within. scoped-inside n.scope n.around (reverse old.waiting.list.items) (n.scoped.scoped within)),
       begun.awaits,
       (λ l at st comes ended. (
         n.around,
@@ -339,7 +333,7 @@ component-next s scope kind old new st t rest keeps n lists =
       state = later;
       scope = scope;
       keeps = keeps-unless s old new st listed n.front n.bytes old.nest.from t n.around old.nest.is_dependent keeps n.written n.is_nest.from_is n.is_nest.prints
-          (nest-here s old n.around n.scoped) lists.text lists.candidates lists.scope;
+          (nest-here s old n.around n.scoped n.is_nest.closed) lists.text lists.candidates lists.scope;
       is_before = (
         t,
         n.front,
@@ -352,7 +346,7 @@ component-next s scope kind old new st t rest keeps n lists =
         subst (λ m. AwaitsComponent s n.outer n.around t m later) (sym lists.at)
             (component-outside s n.goes.inner n.outer n.around t old.at later n.goes.passes
             (component-awaits s kind n.goes.inner n.around t listed old.at st rest n.goes.awaits)),
-        nest-scoped s old new n.around waiting_is (ap (λ x. x.is_dependent) lists.nest) n.scoped,
+        nest-scoped s old new n.around waiting_is (ap (λ x. x.purpose) lists.nest) (ap (λ x. x.is_dependent) lists.nest) n.scoped,
         subst (λ x. Serves s x.purpose (below s scope (reverse new.waiting.list.items)) n.outer n.front) (sym lists.nest)
             (subst (λ l. Serves s old.nest.purpose (below s scope (reverse l)) n.outer n.front) (sym waiting_is) n.serves),
       );
@@ -371,12 +365,12 @@ first-opens s scope kind old mid new st t first keeps n here lists opening_ =
     list-begins s scope old mid new (added_unless old listed old.nest.from old.nest.is_dependent) (unless_listed listed around t st) (opens.FirstArguments old.nest) n.front n.bytes t
     lists (subst (λ x. OpensArguments (detail_of s) mid new (opens.FirstArguments x)) lists.nest opening_)
     (keeps-unless s old mid st listed n.front n.bytes old.nest.from t around old.nest.is_dependent keeps n.written n.is_nest.from_is n.is_nest.prints
-    (nest-here s old around n.scoped) lists.text lists.candidates lists.scope)
+    (nest-here s old around n.scoped n.is_nest.closed) lists.text lists.candidates lists.scope)
     (nest-stays n.front n.bytes old.text.list.items (opening_bracket (detail_of s)) old.nest t n.is_nest) n.written (
       inside n.around,
       begun.inner,
       refl,
-      inside-scoped scope around (reverse old.waiting.list.items) n.scoped.scoped,
+      (λ within. scoped-inside scope around (reverse old.waiting.list.items) (n.scoped.scoped within)),
       begun.awaits,
       (λ l at later comes ended. (
         n.around,
@@ -392,9 +386,9 @@ first-opens s scope kind old mid new st t first keeps n here lists opening_ =
 -- ## The end of a nested name
 
 -- a name that ends comes outside
-pub nest-comes : (s : Symbol) (scope : Scope) (old : Direct) (st : State) (t : Term) (n : IsNesting s scope Kind.NestTail old t st)
+pub nest-comes : (s : Symbol) {scope : Scope} (old : Direct) (st : State) (t : Term) (n : IsNesting s scope Kind.NestTail old t st)
     → StandsAt s.bytes old.at (69 ∷ []) → Comes s n.outer (tree t old.nest.is_listed) (old.at + 1) st
-nest-comes s scope old st t n here = n.goes.passes (tree t old.nest.is_listed) (old.at + 1) st
+nest-comes s old st t n here = n.goes.passes (tree t old.nest.is_listed) (old.at + 1) st
     (nest-end s n.goes.inner n.around t old.nest.is_listed old.at st n.goes.awaits here)
 
 -- it is a type
@@ -424,7 +418,7 @@ type-ended s scope old new st t keeps n here is_type lists =
         n.is_nest.prints,
         (λ e. subst (λ l. IsNaming s scope (reverse l)) (sym waiting_is) (n.scoped.naming e)),
         comes-moved s serves.0 (tree t true) (old.at + 1) new.at later (sym lists.at)
-            (serves.2 t listed (old.at + 1) st (no-function d t n.bytes n.is_nest.prints) (nest-comes s scope old st t n here)),
+            (serves.2 t listed (old.at + 1) st (no-function (detail_of s) scope.names d t n.bytes n.is_nest.prints) (nest-comes s old st t n here)),
         subst (λ l. Stands s scope (reverse l) serves.0 n.front) (sym waiting_is) serves.4,
       );
     }
@@ -462,11 +456,11 @@ name-comes s scope old st t mark is_function argument_ keeps n no_return returns
       name = n.bytes;
       written = n.written;
       from_is = n.is_nest.from_is;
-      prints = as-name t n.bytes false (closed-prints (n.is_nest.closed (subst IsOwn (sym is_name) tt)) n.is_nest.prints);
+      prints = as-name t n.bytes false (closed-prints scope.names (n.is_nest.closed (subst IsOwn (sym is_name) tt)) n.is_nest.prints);
       no_return = no_return;
       returns = returns;
       names = names;
-      awaits = serves t old.nest.is_listed (old.at + 1) st (nest-comes s scope old st t n here);
+      awaits = serves t old.nest.is_listed (old.at + 1) st (nest-comes s old st t n here);
     }
 
 -- the E of one that an operator ends
@@ -563,7 +557,7 @@ nest-begins s old new purpose a t bytes text_is candidates_are waiting_is scope_
       written = text_is;
       is_nest = subst (λ l. IsNest (detail_of s) a.scope.names old.text.list.items bytes l new.nest t) (sym text_is) is_nest;
       goes = goes;
-      scoped = nest-closed s new a.around (subst (λ o. IsScoped a.scope a.around (reverse o.list.items)) (sym waiting_is) a.scoped) closed;
+      scoped = nest-closed s old new a.around purpose a.scoped waiting_is purpose_is closed;
       serves = subst (λ p. Serves s p (below s a.scope (reverse new.waiting.list.items)) a.outer old.text.list.items) (sym purpose_is)
           (subst (λ o. Serves s purpose (below s a.scope (reverse o.list.items)) a.outer old.text.list.items) (sym waiting_is) a.serves);
     },
@@ -589,7 +583,7 @@ known-begins s old new purpose a t bytes text_is candidates_are waiting_is scope
   bytes = bytes;
   written = text_is;
   is_nest = subst (λ l. IsNest (detail_of s) a.scope.names old.text.list.items bytes l new.nest t) (sym text_is) is_nest;
-  scoped = nest-closed s new a.around (subst (λ o. IsScoped a.scope a.around (reverse o.list.items)) (sym waiting_is) a.scoped) closed;
+  scoped = nest-closed s old new a.around purpose a.scoped waiting_is purpose_is closed;
   listed = listed;
   classless = classless;
   serves = subst (λ p. Serves s p (below s a.scope (reverse new.waiting.list.items)) a.outer old.text.list.items) (sym purpose_is)
@@ -664,7 +658,7 @@ reference-begins s old mid purpose digits k a here is ordered found plain closed
     let it = one.2 in
     let piece = piece-found old.text.list.items it.front it.bytes it.back k.from k.to it.written it.from_is it.to_is in
     let own = subst (λ r. PrintsAs (detail_of s) a.scope.names k.is_dependent c.tree it.bytes r) plain it.prints in
-    let prints : Prints (detail_of s) c.tree it.bytes false = closed-prints closed own in
+    let prints : Prints (detail_of s) c.tree it.bytes false = closed-prints a.scope.names closed own in
     known-begins s old (record mid { nest = nest }) purpose a c.tree it.bytes (text_is ∙ ap (λ l. old.text.list.items ++ l) piece.2) candidates_are
     waiting_is scope_same refl refl (classless-nest a.scope.names old.text.list.items it.bytes nest c.tree from_is from_is from_is refl refl prints)
     refl refl (nest-substitution s a.outer a.around old.at a.state digits mid.at c a.awaits here is one.1 prints.is_closed prints.packless)
@@ -706,7 +700,7 @@ std-begins s old mid purpose before name a here is filled text_is candidates_are
         class_to = omega (arith, to_is, ap length text_is, length-append (old.text.list.items ++ codes "std::") (source_text name));
         names_class = λ e none. std-class false name filled (name-unmarked s.bytes (before + 2) name mid.at is);
       };
-      scoped = nest-closed s (record mid { nest = nest }) a.around (subst (λ o. IsScoped a.scope a.around (reverse o.list.items)) (sym waiting_is) a.scoped) refl;
+      scoped = nest-closed s old (record mid { nest = nest }) a.around purpose a.scoped waiting_is refl refl;
       names_tagged = λ e none tag plain. std-tagged false name filled (name-unmarked s.bytes (before + 2) name mid.at is) tag plain;
       unlisted = refl;
       no_instance = refl;

@@ -101,7 +101,7 @@ impl Direct {
             self.push_pair(b'(', b')')?;
             return self.enclosing_ended::<G>(s, mark, from);
         }
-        if G::IS_BARE && (self.has_scope || s.len() > LONGEST_GONE_OVER) {
+        if G::IS_BARE && s.len() > LONGEST_GONE_OVER {
             return None;
         }
         let to = self.text.end();
@@ -133,6 +133,10 @@ impl Direct {
             return None;
         }
         if G::IS_BARE {
+            // the arguments that types may name stay where they are
+            if self.has_scope {
+                return None;
+            }
             let _named = self.waiting.pop();
             self.leave_out(to)?;
             return self.enclosed::<G>(s, from);
