@@ -542,6 +542,7 @@ pub const-opened : (s : Symbol) (old new : Direct) (o : Option Step) (from : ℕ
     → IsWriting s old (if is_plain then steps.Plain else steps.Type) → is_plain ≡ false → from ≡ length old.text.list.items
     → StandsAt s.bytes old.at (75 ∷ []) → IfSome o (λ next. next ≡ steps.Plain) → OnSome o (new.waiting.list.items ≡ old.waiting.list.items ++ opens.Const from ∷ [])
     → OnSome o (new.at ≡ old.at + 1) → new.text ≡ old.text → new.candidates ≡ old.candidates → new.has_scope ≡ old.has_scope → IfSome o (IsWriting s new)
+unfolding expected-as
 const-opened s old new o from true p plain begins stands is waits at text candidates scope = absurd (false≢true (sym plain))
 const-opened s old new o from false p plain begins stands is waits at text candidates scope = go p.is_before.3
   where
