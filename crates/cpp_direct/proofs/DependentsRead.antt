@@ -216,7 +216,7 @@ dependent-again s w new k all p found real writes =
     let prints : PrintsGiven (detail_of s) a.scope.names t bytes k.is_reference
     = subst (λ d. PrintsAs (detail_of s) a.scope.names d t bytes k.is_reference) p.is c.2.prints in
     let open_ = reverse w.waiting.list.items in
-    let keeps : Keeps s a.scope w a.state.candidates = keeps-same s (record w { at = p.before }) w a.state.candidates refl refl refl a.keeps in
+    let keeps = keeps-same s (record w { at = p.before }) w a.state.candidates refl refl refl a.keeps in
     let naming = named-here s w a.state.candidates a.around all keeps a.scoped found real in
     let made_here = made-here s a.scope a.around open_ a.scoped naming in
     let none = no-pack-named a.around.scope t
