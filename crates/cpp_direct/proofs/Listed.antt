@@ -660,8 +660,7 @@ list-stands s scope opened os text w = go w.place.listing refl
   where
     awaits : (l : Listing) → w.place.listing ≡ l → AwaitsElementOf s scope.names l w.place.owner (below s scope w.place.rest) os text
     awaits l is =
-        let p = w.place in
-        (
+        let p = w.place in (
           p.front,
           p.template,
           p.name,
