@@ -23,24 +23,15 @@ use Rattle.cpp_direct.specs.ItemBytes.{one_of, is_special_letter}
 use Rattle.cpp_direct.specs.Letters.{special_letters}
 use Rattle.cpp_direct.specs.Marks.{IsMarkPlace, has_const, called_on}
 use Rattle.cpp_direct.specs.Prints.{Shows}
-use Rattle.cpp_direct.specs.WriterInvariant.{AreCandidates, Encoded, EndsBehind, EncodedBehind, AwaitsItems, IsScoped, Keeps, Stands, IsWriting, no_scope, qualifiers}
+use Rattle.cpp_direct.specs.WriterInvariant.{Encoded, EndsBehind, EncodedBehind, AwaitsItems, IsScoped, Stands, IsWriting, no_scope, qualifiers}
 use Rattle.cpp_direct.specs.MidStep.{IsFresh, AwaitsEncoding, AwaitsNest}
 use Rattle.cpp_direct.specs.Written.{Writes, Reads}
-use Rattle.cpp_direct.proofs.Kept.{keeps-same, none-named}
+use Rattle.cpp_direct.proofs.Kept.{keeps-same, none-kept}
 use Rattle.cpp_direct.proofs.NamePlaces.{reads-then}
 use Rattle.cpp_direct.proofs.Moves.{stands-join}
 use Rattle.cpp_direct.proofs.MovesOfEncodings.{symbol-starts, encoding-opens, special-opens, thunk-opens, virtual-thunk-opens, name-nested}
 use Rattle.cpp_direct.proofs.PrintedSymbols.{thunk-shows}
 use Rattle.cpp_direct.proofs.Scopes.{none-scoped}
-
--- nothing is a candidate yet, and nothing may be named
-pub none-kept : (s : Symbol) (w : Direct) → w.candidates.list.items ≡ [] → Keeps s no_scope w []
-none-kept s w none = record {
-  candidates = subst (λ ks. AreCandidates s no_scope.names w.text.list.items ks []) (sym none) tt;
-  named = none-named w.text.list.items;
-  own = record { encoded = λ there. absurd (there refl); plain = λ number bytes e. cc e };
-  unknown = λ e. refl;
-}
 
 -- ## Encodings
 

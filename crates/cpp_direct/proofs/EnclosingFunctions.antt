@@ -532,7 +532,7 @@ function-unwritten s w shut new mark from to p apart unknown same_text same_cand
         candidates = subst (λ l. AreCandidates s p.scope.names l new.candidates.list.items p.state.candidates) (sym left_is)
             (candidates-kept s p.scope.names w.text.list.items left behind to w.candidates.list.items new.candidates.list.items p.state.candidates whole_ p.to_is
             (subst (λ v. AreKeptTo to v.list.items new.candidates.list.items) same_candidates kept) p.keeps.candidates);
-        encoded = p.keeps.encoded;
+        own = p.keeps.own;
         named = subst (λ (k : Scope). AreNamed new.text.list.items k) (sym none) (none-named new.text.list.items);
         unknown = λ e. none;
       };

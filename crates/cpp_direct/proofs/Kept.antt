@@ -121,6 +121,15 @@ none-named text (suc (suc (suc (suc number)))) plain = absurd (omega (arith, pla
 pub none-own : (s : Symbol) → IsScopeOf s no_scope
 none-own s = record { encoded = λ real. absurd (real refl); plain = λ number bytes e. cc e }
 
+-- there is no candidate, and nothing may be named
+pub none-kept : (s : Symbol) (w : Direct) → w.candidates.list.items ≡ [] → Keeps s no_scope w []
+none-kept s w none = record {
+  candidates = subst (λ ks. AreCandidates s no_scope.names w.text.list.items ks []) (sym none) tt;
+  named = none-named w.text.list.items;
+  own = record { encoded = λ there. absurd (there refl); plain = λ number bytes e. cc e };
+  unknown = λ e. refl;
+}
+
 -- what is there has this text and these candidates
 pub keeps-as : (s : Symbol) {scope : Scope} (old new : Direct) (cs : List values.Candidate) {text : List ℕ} {ks : List Candidate}
     → new.text.list.items ≡ text → new.candidates.list.items ≡ ks → new.has_scope ≡ old.has_scope

@@ -21,11 +21,11 @@ use Rattle.cpp_direct.specs.Prints.{Prints, PrintsName, Shows}
 use Rattle.cpp_direct.specs.WriterInvariant.{IsWriting, Keeps, Scope, no_scope, nowhere, EntityBehind}
 use Rattle.cpp_direct.specs.MidStep.{AwaitsEncoding, AwaitsSource, HasName, IsNameEnded, IsUnscoped, IsFresh, IsSymbolEnded}
 use Rattle.cpp_direct.specs.Written.{Writes, Reads, added}
-use Rattle.cpp_direct.proofs.Begins.{encoding-expected, items-await, encoded-whole, none-kept, third-tells}
+use Rattle.cpp_direct.proofs.Begins.{encoding-expected, items-await, encoded-whole, third-tells}
 use Rattle.cpp_direct.proofs.Moves.{alone-arguments, expects-empty, stands-join}
 use Rattle.cpp_direct.proofs.MovesOfComponents.{tag-follows}
 use Rattle.cpp_direct.proofs.PrintedNests.{tagged-names, tagged-prints}
-use Rattle.cpp_direct.proofs.Kept.{arguments-begun, keeps-grown, keeps-read, keeps-same, keeps-with, reverse-last}
+use Rattle.cpp_direct.proofs.Kept.{arguments-begun, keeps-grown, keeps-read, keeps-same, keeps-with, none-kept, reverse-last}
 use Rattle.cpp_direct.proofs.NamePlaces.{reads-then, reads-of, reads-begun}
 use Rattle.cpp_direct.proofs.MovesOfEncodings.{name-source, name-internal, name-operator, name-std, operator-piece-comes, symbol-starts, encoding-opens}
 use Rattle.cpp_direct.proofs.MovesOfLists.{arguments-open}

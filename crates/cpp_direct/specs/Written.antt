@@ -26,6 +26,7 @@ pub record Reads (old new : Direct) (bytes : List ℕ) : Type 0 where
 pub record Cuts (old new : Direct) (start : ℕ) : Type 0 where
   pub text : new.text.list.items ≡ drop start old.text.list.items
   pub candidates : ((start ≡ 0) × (new.candidates ≡ old.candidates)) ⊎ (new.candidates.list.items ≡ [])
+  pub scope : new.has_scope ≡ old.has_scope
   pub at : new.at ≡ old.at
 
 -- the candidates, and what is written from a place on
