@@ -216,7 +216,8 @@ dependent-again s w new k all p found real writes =
     let prints : PrintsGiven (detail_of s) a.scope.names t bytes k.is_reference
     = subst (λ d. PrintsAs (detail_of s) a.scope.names d t bytes k.is_reference) p.is c.2.prints in
     let open_ = reverse w.waiting.list.items in
-    let naming = named-here s w a.state.candidates a.around all a.keeps a.scoped found real in
+    let keeps = keeps-same s (record w { at = p.before }) w a.state.candidates refl refl refl a.keeps in
+    let naming = named-here s w a.state.candidates a.around all keeps a.scoped found real in
     let made_here = made-here s a.scope a.around open_ a.scoped naming in
     let none = no-pack-named a.around.scope t
     (λ arguments is. prints.packless arguments (named-single s a.scope a.around open_ arguments a.keeps.own a.scoped naming.0 is)) in
@@ -227,7 +228,7 @@ dependent-again s w new k all p found real writes =
     record {
       state = a.state;
       scope = a.scope;
-      keeps = keeps-written s w new _ a.state.candidates writes a.keeps;
+      keeps = keeps-written s w new _ a.state.candidates writes keeps;
       is_before = (
         a.os,
         t,
@@ -493,7 +494,7 @@ expansion-read s old begun last new mark start argument a pack_ ordered few stan
     let bytes = fw.bytes in
     let t = expansion (rvalue (parameter 0)) in
     let around = a.goes.around in
-    let scope = subst (λ k. IsScope 0 k a.goes.around) pack_ (a.goes.scoped 0 ordered).0 in
+    let scope = subst (λ k. IsScope 0 k a.goes.around) pack_ (a.goes.scoped.1 0 ordered) in
     let later = with_expansion (count (list_of scope.elements)) around a.state in
     let element = element-awaits s Kind.Items a.goes.inner a.goes.around old.at a.state tt a.goes.awaits in
     let comes = expansion-comes s a.goes.around element.inner old.at a.state scope element.awaits stands in

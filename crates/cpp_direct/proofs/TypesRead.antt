@@ -394,7 +394,7 @@ abbreviation-named s old new from letter a s_stands stands has text candidates w
     named-from s old new from true false a (abbreviation letter) bytes
     (keeps-grown s old new bytes a.state.candidates text candidates scope a.keeps)
     (subst (λ k. TypeNamed s a.os a.around (abbreviation letter) true k a.state) (omega (arith, at))
-    (abbreviation-opens s a.kind a.around a.os old.at a.state letter a.is_named a.begins
+    (abbreviation-opens s a.kind a.around a.os old.at a.state letter a.is_named is a.begins
     (stands-join s.bytes old.at (83 ∷ []) (letter ∷ []) s_stands (stands (no-abbreviation letter is)))))
     text begins (abbreviation-prints letter has) (λ e. refl) waits
 
@@ -474,7 +474,7 @@ type-opened s old new o entry from made a t begins stands scoped is waits at tex
         a.around,
         a.outside,
         inl (subst (λ k. Expects s Kind.Type a.around t.inner k a.state) (sym (given _ o steps.Type e at)) t.awaits),
-        stands-same s old new t.inner text open_is (stands (a.os, a.around, begins, t.passes, a.scoped, a.stands)),
+        stands-same s a.scope old new t.inner text open_is (stands (a.os, a.around, begins, t.passes, a.scoped, a.stands)),
         subst (λ l. IsScoped a.scope a.around l) (sym open_is) scoped,
       );
     })
@@ -532,7 +532,7 @@ plain-opened s old new o from a may begins stands is waits at text candidates sc
         a.around,
         a.outside,
         subst (λ k. Expects s Kind.Plain a.around t.inner k a.state) (sym (given _ o steps.Plain e at)) t.awaits,
-        stands-same s old new t.inner text open_is (a.os, a.around, begins, t.passes, a.scoped, a.stands),
+        stands-same s a.scope old new t.inner text open_is (a.os, a.around, begins, t.passes, a.scoped, a.stands),
         subst (λ l. IsScoped a.scope a.around l) (sym open_is) a.scoped,
       );
     })
@@ -542,6 +542,7 @@ pub const-opened : (s : Symbol) (old new : Direct) (o : Option Step) (from : ℕ
     → IsWriting s old (if is_plain then steps.Plain else steps.Type) → is_plain ≡ false → from ≡ length old.text.list.items
     → StandsAt s.bytes old.at (75 ∷ []) → IfSome o (λ next. next ≡ steps.Plain) → OnSome o (new.waiting.list.items ≡ old.waiting.list.items ++ opens.Const from ∷ [])
     → OnSome o (new.at ≡ old.at + 1) → new.text ≡ old.text → new.candidates ≡ old.candidates → new.has_scope ≡ old.has_scope → IfSome o (IsWriting s new)
+unfolding expected-as
 const-opened s old new o from true p plain begins stands is waits at text candidates scope = absurd (false≢true (sym plain))
 const-opened s old new o from false p plain begins stands is waits at text candidates scope = go p.is_before.3
   where
