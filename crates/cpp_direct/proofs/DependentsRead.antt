@@ -157,7 +157,7 @@ parameter-done s old mid new all k p n from a few letter line found is plain rea
     record {
       state = later;
       scope = a.scope;
-      keeps = keeps-with s mid new a.state text bytes from (parameter k) a.around false true 
+      keeps = keeps-with s mid new a.state text bytes from (parameter k) a.around false true
           (keeps-grown s old mid bytes a.state.candidates grown writes.candidates writes.scope a.keeps) grown from_is
           prints (λ e. made-here s a.scope a.around (reverse old.waiting.list.items) a.scoped naming) same_text more same_scope;
       is_before = (

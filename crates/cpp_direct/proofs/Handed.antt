@@ -178,7 +178,7 @@ value-enumerator s w is_reference p found =
         record {
           state = p.state;
           scope = p.scope;
-      keeps = p.keeps;
+          keeps = p.keeps;
           opened = opened;
           open_is = is;
           place = record {

@@ -23,7 +23,7 @@ use Rattle.cpp_direct.specs.declared.open.Step.TheVariants as steps
 use Rattle.cpp_direct.specs.declared.direct.Direct.{Direct}
 use Rattle.cpp_direct.specs.Holes.{Opened, Comes, Expects, IsListKind, ListGoesOn, StandsAt, AwaitsComponent, with_candidate}
 use Rattle.cpp_direct.specs.HolesOfLists.{IsArgumentKind}
-use Rattle.cpp_direct.specs.Prints.{Names, PrintAll, PrintAllAs, PrintsAs, list_of}
+use Rattle.cpp_direct.specs.Prints.{Names, PrintAllAs, PrintsAs, list_of}
 use Rattle.cpp_direct.specs.WriterInvariant.{HasArguments, arguments_in, below, IsListing, IsNaming, IsScoped, IsOwn, Keeps, Scope, argument_of, scoped_in, is_noted, is_type, is_within_type, may_name, IsNest, IsTail, IsTemplate, IsWriting, Owns, Serves, ArgumentsGoOn, AwaitsElementOf, AwaitsEnumerator, Belongs, Closes, ElementsGoOn, EnumeratorGoesOn, GoesOn, Listing, of_template, of_pack, Stands, element_kind, extra_of, led_by, list_with, in_front_of_next, nowhere}
 use Rattle.cpp_direct.specs.MidStep.{AreKnown, IsDependentNow, IsListEnded, AwaitsNextArgument, IsNameEnded}
 use Rattle.cpp_direct.specs.Written.{Writes, added}
@@ -660,8 +660,7 @@ list-stands s scope opened os text w = go w.place.listing refl
   where
     awaits : (l : Listing) → w.place.listing ≡ l → AwaitsElementOf s scope.names l w.place.owner (below s scope w.place.rest) os text
     awaits l is =
-        let p = w.place in
-        (
+        let p = w.place in (
           p.front,
           p.template,
           p.name,

@@ -11,4 +11,4 @@ repeat-requires-clause-to g c = (again-inside (symbol_by g.G.Grammar.IS_WIDE g.G
 pub returns : goal.returns
 returns g c =
     dependent-again (symbol_by g.G.Grammar.IS_WIDE g.G.Grammar.IS_BARE g.G.Grammar.IS_BRIEF c.args._s.now) c.args.self.now c.repeat.new.self c.args.candidate c.in_ok-named.named
-    c.requires.again c.in_ok-named.ensures c.if-named.false c.in_ok-repeat.ensures
+    c.requires.again c.in_ok-named.ensures c.if-named-eq0.false c.in_ok-repeat.ensures

@@ -31,7 +31,7 @@ enclosed-requires-clause-read g c =
     let p = c.requires.read in
     function-unwritten (symbol_by g.G.Grammar.IS_WIDE g.G.Grammar.IS_BARE g.G.Grammar.IS_BRIEF c.args.s.now) c.args.self.now (record c.args.self.now { waiting = c.pop-named.new.self }) c.leave_out.new.self c.args.mark c.args.from c.args.to p
     (no-void c.as_slice.result.now (p.front ++ p.name) p.texts (c.as_slice.ensures ∙ p.written)
-    (sym c.ends_with.ensures.value ∙ c.if-ends_with.false)) c.if-has_scope.false
+    (sym c.ends_with.ensures.value ∙ c.if-ends_with.false)) c.if-self.false
     refl refl refl
     (popped c.args.self.now.waiting.list.items c.pop-named.new.self.list.items p.rest (opens.Enclosing c.args.mark c.args.from c.args.to) _ refl
     p.open_is c.pop-named.ensures.rest)

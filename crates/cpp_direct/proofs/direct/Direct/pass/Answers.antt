@@ -19,7 +19,12 @@ front_ended-requires-clause-ended g c =
 pub pass_dependent-requires : goal.pass_dependent-requires
 pass_dependent-requires g c =
     let s = symbol_by g.G.Grammar.IS_WIDE g.G.Grammar.IS_BARE g.G.Grammar.IS_BRIEF c.args.s.now in
-    (c.args.is_reference, subst (λ d. IsWriting s c.args.self.now (steps.Value c.args.is_reference d)) c.if-is_dependent.true c.requires.writing)
+    record {
+      writing = (
+        c.args.is_reference,
+        subst (λ d. IsWriting s c.args.self.now (steps.Value c.args.is_reference d)) c.if-is_dependent.true c.requires.writing,
+      );
+    }
 
 pub pass_closed-requires-clause-writing : goal.pass_closed-requires-clause-writing
 pass_closed-requires-clause-writing g c =
