@@ -28,7 +28,7 @@ use Rattle.cpp_grammar.specs.Term.{Term, parameter, expansion, rvalue, list, nil
 use Rattle.cpp_grammar.specs.Values.{tree, State, Around, text_of, is_there, letter_of, part, piece_of, tree_of, is_listed}
 use Rattle.cpp_grammar.specs.declared.kind.Kind.{Kind}
 use Rattle.cpp_grammar.specs.declared.production.Production.{Production}
-use Rattle.std.proofs.Common.{◌≡◌, ◌≢◌, ℕ, zero, suc, ◌+◌, ◌-◌, ◌≤◌, ◌<◌, length, List, [], ◌∷◌, ◌++◌, take, drop, reverse, slice_get, Bool, true, false, Option, Some, None, refl, ap, sym, ◌∙◌, subst, arith, append_assoc, append-nil, Ok, codes, inl, inr}
+use Rattle.std.proofs.Common.{◌≡◌, ◌≢◌, ℕ, zero, suc, ◌+◌, ◌-◌, ◌≤◌, ◌<◌, length, List, [], ◌∷◌, ◌++◌, take, drop, reverse, slice_get, true, false, Option, Some, None, refl, ap, sym, ◌∙◌, subst, arith, append_assoc, append-nil, Ok, codes, inl, inr}
 use Rattle.std.proofs.lemmas.Bool.{lt-ltb}
 use Rattle.std.proofs.lemmas.List.{length-append}
 use Rattle.sym_core.specs.Value.{counted_value}
@@ -41,7 +41,6 @@ use Rattle.cpp_direct.proofs.PrintedLists.{next-prints-in, next-prints-by}
 use Rattle.cpp_direct.proofs.Scopes.{arguments-stay}
 use Rattle.cpp_direct.proofs.Signatures.{one-hidden}
 use Rattle.cpp_grammar.specs.Unfolding as unfolding_
-use Rattle.cpp_direct.specs.declared.open.Open.TheVariants as opens
 use Rattle.cpp_direct.specs.declared.open.Step.TheVariants as steps
 use Rattle.cpp_grammar.specs.Values as values
 

@@ -1,6 +1,6 @@
 -- What a parameter of a template may name, and where it is.
 use Rattle.sym_print.specs.declared.detail.Detail.{Detail}
-use Rattle.std.proofs.Common.{◌≡◌, ℕ, zero, suc, ◌<◌, List, [], ◌∷◌, ◌++◌, slice_get, Some, None, is_some, arith, ap, sym, ◌∙◌, subst, append_assoc, refl, inl, inr, Bool, true, false}
+use Rattle.std.proofs.Common.{◌≡◌, ℕ, zero, suc, ◌<◌, List, [], ◌∷◌, ◌++◌, slice_get, Some, None, is_some, arith, ap, sym, ◌∙◌, subst, refl, inl, inr, Bool, true, false}
 use Rattle.std.proofs.lemmas.Bool.{false≢true}
 use Rattle.cpp_grammar.specs.Scope.{count, element, arguments_of, before_arguments, has_return_type, is_structor}
 use Rattle.cpp_grammar.specs.Term.{Term, instance}
@@ -11,7 +11,7 @@ use Rattle.cpp_direct.specs.declared.open.Open.{Open}
 use Rattle.cpp_direct.specs.declared.open.Open.TheVariants as opens
 use Rattle.cpp_direct.specs.declared.open.Argument.{Argument}
 use Rattle.cpp_direct.specs.declared.open.Arguments.{Arguments}
-use Rattle.cpp_direct.specs.WriterInvariant.{IsArgument, IsPlaced, IsAmong, AreAmong, HasArguments, HasScope, IsFunction, IsKnown, IsScope, IsScoped, Scope, argument_of, list_with, nowhere, place_of}
+use Rattle.cpp_direct.specs.WriterInvariant.{IsArgument, IsAmong, AreAmong, HasArguments, HasScope, IsFunction, IsKnown, IsScope, IsScoped, Scope, argument_of, list_with, nowhere, place_of}
 use Rattle.cpp_direct.specs.MidStep.{AreKnown}
 use Rattle.cpp_direct.proofs.Kept.{placed-stays}
 
