@@ -79,6 +79,29 @@ front-begins s w new mark argument from start scoped apart start_is text candida
       );
     }
 
+-- it is read still where something else changes
+pub front-same : (s : Symbol) (w new : Direct) (mark : Mark) (start : ℕ) (argument : Arguments) → IsFrontRead s w mark start argument
+    → new.text ≡ w.text → new.candidates ≡ w.candidates → new.has_scope ≡ w.has_scope → new.at ≡ w.at → IsFrontRead s new mark start argument
+front-same s w new mark start argument p text candidates scope_same at = record {
+  state = p.state;
+  scope = p.scope;
+  keeps = keeps-same s w new p.state.candidates text candidates scope_same p.keeps;
+  v = p.v;
+  lead = p.lead;
+  name = p.name;
+  front = p.front;
+  front_is = p.front_is;
+  is_instance = p.is_instance;
+  apart = p.apart;
+  start_is = p.start_is;
+  returned = p.returned;
+  bytes = p.bytes;
+  is_reference = p.is_reference;
+  prints = p.prints;
+  written = ap (λ v. v.list.items) text ∙ p.written;
+  goes = subst (λ n. ParametersGoOn s argument p.lead (encoding_of p.v) (p.returned ∷ []) n p.state) (sym at) p.goes;
+}
+
 -- a function's return type comes before what it shows without one
 turned : (s : Symbol) (scope : Scope) (argument : Arguments) (mark : Mark) (v : Value) (name text : List ℕ) (is : IsInstance (detail_of s) scope text argument mark v name)
     (r : Term) (b : List ℕ) (is_reference : Bool) → PrintsIn (detail_of s) (types_of is.own) 2 r b is_reference → (items : Term) (at : ℕ) → s.is_bare ≡ false
