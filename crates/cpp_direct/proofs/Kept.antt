@@ -118,7 +118,7 @@ none-named text (suc (suc zero)) plain = absurd (omega (arith, plain.0))
 none-named text (suc (suc (suc zero))) plain = absurd (omega (arith, plain.0))
 none-named text (suc (suc (suc (suc number)))) plain = absurd (omega (arith, plain.0))
 
-pub none-own : (s : Symbol) → IsScopeOf s no_scope
+none-own : (s : Symbol) → IsScopeOf s no_scope
 none-own s = record { encoded = λ real. absurd (real refl); plain = λ number bytes e. cc e }
 
 -- there is no candidate, and nothing may be named
@@ -126,7 +126,7 @@ pub none-kept : (s : Symbol) (w : Direct) → w.candidates.list.items ≡ [] →
 none-kept s w none = record {
   candidates = subst (λ ks. AreCandidates s no_scope.names w.text.list.items ks []) (sym none) tt;
   named = none-named w.text.list.items;
-  own = record { encoded = λ there. absurd (there refl); plain = λ number bytes e. cc e };
+  own = none-own s;
   unknown = λ e. refl;
 }
 

@@ -429,10 +429,6 @@ pub arguments-noted : {detail : Detail} (b : Bool) (text : List ℕ) (a r : Argu
 arguments-noted {detail} true text a r t known none has = subst (λ (k : Arguments). HasArguments detail text k t) (sym (known refl)) (has refl)
 arguments-noted {detail} false text a r t known none has = λ k o. absurd (none-known k (subst (λ (q : Arguments). IsKnown (place_of q k)) (none refl) o))
 
-pub left-true : (a b : Bool) → (a && b) ≡ true → a ≡ true
-left-true true b e = refl
-left-true false b e = e
-
 -- it is the name of the encoding
 pub name-comes : (s : Symbol) (scope : Scope) (old : Direct) (st : State) (t : Term) (mark : Mark) (is_function : Bool) (argument_ : Arguments)
     → Keeps s scope old st.candidates → IsNesting s scope Kind.NestTail old t st
