@@ -17,6 +17,7 @@ pub mod MovesOfLocals
 pub mod MovesOfNests
 pub mod MovesOfTypes
 pub mod NamePlaces
+pub mod NamedArguments
 pub mod NestComponents
 pub mod Nesting
 pub mod PrintedFunctions
