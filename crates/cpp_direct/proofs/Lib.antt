@@ -20,6 +20,7 @@ pub mod NamePlaces
 pub mod NamedArguments
 pub mod NestComponents
 pub mod Nesting
+pub mod Noted
 pub mod PrintedFunctions
 pub mod PrintedLists
 pub mod PrintedLocals

@@ -1,6 +1,6 @@
 use Rattle.std.proofs.Common.{refl}
 use Rattle.cpp_direct.specs.Symbol.{symbol_by}
-use Rattle.cpp_direct.proofs.Listed.{listed-noted}
+use Rattle.cpp_direct.proofs.Noted.{listed-noted}
 use Rattle.cpp_direct.proofs.direct.Direct.pass_dependent.Goals as goal
 
 pub returns : goal.returns
