@@ -1,6 +1,5 @@
 #!/usr/bin/env python3
-"""Writes the code of cpp_link for what rare productions of names and types stand for, a function for each family of productions, from their rows
-in grammar.py. usage: family_code.py CRATES
+"""Writes the code of cpp_link for what rare productions stand for, a function for each family of productions, from their rows in grammar.py. usage: family_code.py CRATES
 CRATES is the folder of the crates."""
 import re, sys
 import grammar
@@ -32,9 +31,20 @@ FAMILIES = {
         "Argument": ("A template's parameter, its declaration, or a rare argument.", """Parameter ParameterArgument PackArgument LiteralArgument LiteralElement AnyElement ArgumentWithT DeclaredArgument
             LeveledParameter OneLiteral OnePack AnyType ValueOf OfConcept TemplateOf PackOf Declarations"""),
     },
+    "expression_meaning": {
+        "Operation": ("An expression by the first letter of its operator.", """ExpressionA ExpressionC ExpressionD ExpressionE ExpressionF ExpressionG ExpressionI ExpressionL ExpressionM ExpressionN ExpressionO
+            ExpressionP ExpressionQ ExpressionR ExpressionS ExpressionT Initializer BracedInitializer"""),
+        "Operands": ("An operator's second letter and its operands, or a list of expressions.", """Expression Expressions Unary AddressExpression OfType DestructorName Braces Step Binary Cast Convert Call
+            TypedBraces Conditional New Placed LeftFold RightFold FoldOperand FoldPack Requires RequiresOf RequiredType ExpressionRequirement NoexceptRequirement ResultRequirement TypeRequirement
+            NestedRequirement PackSize ExpandExpression"""),
+        "Unresolved": ("A name in an expression, or a parameter.", """Unresolved UnresolvedInType Levels LevelsEnd UnresolvedOperator ParameterExpression SimpleId OperatorReference FunctionParameter
+            OuterParameter This ParameterNumber"""),
+        "Literal": ("A literal.", "LiteralWithD AddressedLiteral EncodingLiteral BoolLiteral IntegerLiteral NullLiteral CharLiteral"),
+    },
 }
 SAYS = {"name_meaning": "What the rare productions of names stand for, given their parts.",
-        "type_meaning": "What the rare productions of types and of template arguments stand for, given their parts."}
+        "type_meaning": "What the rare productions of types and of template arguments stand for, given their parts.",
+        "expression_meaning": "What the productions of expressions stand for, given their parts."}
 
 # ## Rust, as rt fmt lays it out
 
@@ -85,11 +95,15 @@ def arm(production, x):
 def part(function, k): return Call(f"self.{function}", "symbol", "parts", str(k))
 SOURCES = {"t": lambda k: part("tree", k), "i": lambda k: part("list", k), "x": lambda k: part("text", k), "d": lambda k: Call("normal", "symbol", part("text", k)), "l": lambda k: part("letter", k),
            "k": lambda k: Call("local_number", "symbol", part("text", k)), "n": lambda k: part("discriminator", k), "q": lambda k: part("qualifiers", k), "r": lambda k: part("reference", k),
-           "s": lambda k: part("signed", k), "has": lambda k: part("there", k), "parameters": lambda k: Call("self.parameters", "symbol", part("tree", k))}
+           "s": lambda k: part("signed", k), "has": lambda k: part("there", k), "parameters": lambda k: Call("self.parameters", "symbol", part("tree", k)),
+           "first": lambda k: Call("first_letter", part("piece", k)), "second": lambda k: Call("second_letter", part("piece", k))}
 WORDS = {"byte": "byte", "yes": "true", "no": "false", "absent": "ABSENT", "name": Call("self.prefix_node", "symbol", "kept")}
 
 def source(text):
     if text in WORDS: return WORDS[text]
+    if m := re.fullmatch(r"'(.)'", text): return f"b'{m[1]}'"
+    if m := re.fullmatch(r"l(\d) is '(.)'", text): return f"{part('letter', m[1])} == b'{m[2]}'"
+    if m := re.fullmatch(r"l(\d) or byte", text): return Call("self.letter_or", "symbol", "parts", m[1], "byte")
     word, k = re.fullmatch(r"([a-z]+)(\d)", text).groups()
     return SOURCES[word](k)
 
@@ -101,6 +115,7 @@ def made(text, node_of):
     if name == "builtin": return Call("Node::BuiltinWithD" if "D" in inside else "Node::Builtin", "byte")
     node, fields = node_of[name]
     args = [source(s) for s in split(inside)]
+    if not args: return f"Node::{node}"
     return Call(f"Node::{node}", *args) if len(fields) == 1 else Fields(f"Node::{node}", **dict(zip(fields, args)))
 
 PIECES = {"source": ("internal", "bytes"), "operator": None, "literal_operator": None, "unnamed": None, "conversion": None, "string_literal": None}
@@ -110,13 +125,21 @@ def piece(text):
     path = "Piece::" + "".join(w.capitalize() for w in name.split("_"))
     return Fields(path, **dict(zip(PIECES[name], args))) if PIECES[name] else Call(path, *args) if args else path
 
+def pair(letter, left, right, node_of):
+    """a letter and two trees, of which one may be made: then the left one is there, or there is no right one"""
+    if "(" in right: return Fields("Outcome::MadeOperand", letter=source(letter), left=Call("Some", source(left)), node=made(right, node_of))
+    if "(" in left: return Fields("Outcome::MadeOperand", letter=source(letter), left="None", node=made(left, node_of))
+    return given(Fields("Part::Pair", letter=source(letter), left=source(left), right=source(right)))
+
 def thunk(adjusts, encoding): return Fields("Outcome::Thunk", thunk=adjusts, encoding=part("tree", encoding))
 NON_VIRTUAL = Call("Adjustment::NonVirtual", part("signed", 0))
 BY_TABLE = Call("Adjustment::ByTable", part("signed", 0), part("signed", 2))
 # code of its own
 OWN = {
     "closure": Call("self.lambda", "symbol", "parts"), "first_of_operator": Call("self.operator_or_literal", "symbol", "byte", part("given", 0)),
-    "inheriting": Call("self.inherited", "symbol", "kept.prefix()", "parts"), "in_default": Call("self.default_entity", "symbol", "parts"), "reference": Call("self.reference_meant", "symbol", "byte", "parts"),
+    "inheriting": Call("self.inherited", "symbol", "kept.prefix()", "parts"), "in_default": Call("self.default_entity", "symbol", "parts"), "by_letters": Call("self.operation_by", "symbol", "byte", "parts"),
+    "enclosed": Call("self.enclosed_argument", "symbol", "parts"), "elements": Call("self.elements", "symbol", "parts"), "character": Fields("Outcome::Character", letter="byte", value=part("signed", 0)),
+    "reference": Call("self.reference_meant", "symbol", "byte", "parts"),
     "local_name": Fields("Outcome::Entity", node=Fields("Node::Local", encoding=part("tree", 0), entity=part("tree", 2), discriminator=part("discriminator", 3)),
                          qualifiers=part("qualifiers", 2), mark=part("reference", 2)),
     "non_virtual_thunk": thunk(Call("Thunk::Adjusting", NON_VIRTUAL), 2), "virtual_thunk": thunk(Call("Thunk::Adjusting", BY_TABLE), 4),
@@ -141,7 +164,7 @@ def outcome(means, node_of):
     if m := re.fullmatch(r"piece (.*)", means): return Call("piece", piece(m[1]))
     if means == "applied in place": return Call("self.in_place", "symbol", "parts")
     if m := re.fullmatch(r"applied(, listed alone)?", means): return Call("self.applied", "symbol", "parts", "true" if m[1] else "false")
-    if m := re.fullmatch(r"pair\((.*)\)", means): return given(Fields("Part::Pair", **dict(zip(("letter", "left", "right"), map(source, split(m[1]))))))
+    if m := re.fullmatch(r"pair\((.*)\)", means): return pair(*split(m[1]), node_of)
     text, listed = re.fullmatch(r"(.*?)(, listed)?", means).groups()
     mark = "true" if listed else "false"
     if m := re.fullmatch(r"name \+ (.*)", text): return Call("made", Call("self.extended", "symbol", "kept.prefix()", piece(m[1])), mark)
@@ -192,7 +215,7 @@ ghost use Rattle.cpp_link.specs.declared.families.Family.{Family};
 ghost use Rattle.cpp_link.specs.NodeCount.{makes_at_end};
 """
 # what each file has from other modules
-USES = [("crate::meaning", "items made piece qualified tree".split()), ("crate::numbers", "from_byte local_number normal one_byte signed_digits".split()),
+USES = [("crate::expressions", "first_letter second_letter".split()), ("crate::meaning", "items made piece qualified tree".split()), ("crate::numbers", "from_byte local_number normal one_byte signed_digits".split()),
         ("cpp_tree::node", "Adjustment Mark Node Piece Thunk".split()), ("cpp_tree::nodes", "ABSENT NIL".split())]
 
 def snake(name): return re.sub(r"(?<!^)([A-Z])", r"_\1", name).lower()

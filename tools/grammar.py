@@ -395,7 +395,7 @@ def build(extended=True, widened=False):
     # the argument that follows, which may be a pack; or a type that begins with no T
     argument = [
         *QUALS, ITEM_WITH_D, REF,
-        # X <expression> E
+        # <template-arg> ::= X <expression> E
         eats("X", "Expression", "Expression", "'E'", means="enclosed!", nodes=1),
         # <template-arg> ::= <template-param> [<template-args>] | <template-param-decl> <template-arg>
         eats("T", "ArgumentWithT", "ArgumentAfterT", means="part 0, listed", candidate="type 0"),
@@ -436,7 +436,9 @@ def build(extended=True, widened=False):
     # An expression. The two letters of an operator are read one after the other: each first letter has a kind of the second letters after
     # it, and by its second letter an operator has its operands, at most two, of which the second may be a list.
     E = "Expression"
+    # <expression> ::= <unary operator-name> <expression>
     def unary(letters): return eats(letters, "Unary", E, means="pair(byte, t0, absent)")
+    # <expression> ::= <binary operator-name> <expression> <expression>
     def binary(letters): return eats(letters, "Binary", E, E, means="pair(byte, t0, t1)")
     # <expression> ::= st <type> | ti <type> | at <type>
     def of_type(letter): return eats(letter, "OfType", "ConvertedType", means="pair(byte, t0, absent)")
@@ -510,6 +512,7 @@ def build(extended=True, widened=False):
     kind("AddressedExpression", eats("L", "AddressedLiteral", "AddressedLiteral", "'E'", means="part 0"), *map(wide, [*by_first, PARAMETER_EXPRESSION, SIMPLE_ID]))
     kind("AddressedLiteral", ENCODING_LITERAL, *map(wide, literals))
     for a, rules in second_letters.items(): kind(f"ExpressionAfter{a.upper()}", *rules)
+    # <expression>*
     kind("Expressions", chain("Expressions", E, "Expressions", means="elements!", nodes=2), empty=True)
     kind("MaybeBefore", MARK("_"), empty=True)
     # an operator of two letters, between the elements of a pack

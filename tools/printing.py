@@ -226,6 +226,7 @@ def files(crates):
 
 def write(crates):
     for path, text in list(files(crates)):
+        os.makedirs(os.path.dirname(f"{crates}/{path}"), exist_ok=True)
         with open(f"{crates}/{path}", "w", encoding="utf-8") as f: f.write(text)
 
 if __name__ == "__main__": write(sys.argv[1])

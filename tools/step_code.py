@@ -114,7 +114,7 @@ def flow(p, row, parts):
         if named[1] == "true": return f"listed_name {name} _ {first} {kind} refl (λ v. refl) (λ a v. refl) {known}"
         return f"made_name {name} _ _ {first} {kind} refl (λ vs. refl) (λ vs. refl) (λ a v. refl) {known}"
     if named and named[1] == "false" and row.form == "handed 1" and parts[1] == "NestRest": return f"nested {name} _ {first} refl (λ v. refl) (λ vs. refl) (λ a v. refl)"
-    if before == "goes (type_of 0) as_before": return f"of_type {name} _ {first} {symbol(parts[1])} refl (λ a v. refl) (λ a v. refl) (λ v. refl) (λ v. refl)"
+    if before == "goes (type_of 0) as_before": return f"of_type {name} _ {first} {symbol(parts[1])} refl (λ a v. refl) (λ a v. refl) (λ v. refl) (λ byte vs. omega arith)"
     if row.gain in ("type_of 0", "unqualified_of 0") and row.form == "finished 0":
         return f"{'typed' if row.gain == 'type_of 0' else 'unqualified'} {name} {first} refl (λ a v. refl) (λ v. refl) (λ v. refl)"
     if row.gain == "itself": return f"own_type {name} _ (parts_of Production.{p}) refl refl refl (λ v. refl) (λ vs. refl)"

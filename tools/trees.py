@@ -618,17 +618,9 @@ def rare_answers(function, goal, before, production, after, imports=(), others=(
 
 # ## Families of rare productions
 
-# those of expressions are by hand: each has a function, `outcome_of_` and its name
-BY_HAND = "Operation Operands Unresolved Literal".split()
-
 def families(crates):
-    """the productions of each family, and those that are common; of one by hand they are those that its function has an arm for"""
-    found = {family: productions.split() for module in family_code.FAMILIES.values() for family, (says, productions) in module.items()}
-    with open(f"{crates}/cpp_link/src/expression_meaning.rt", encoding="utf-8") as f: text = f.read()
-    for family in BY_HAND:
-        start = text.index(f"fn outcome_of_{snake(family)}(")
-        found[family] = re.findall(r"^ {12}Production::(\w+) =>", text[start:text.index("_ => unreachable!()", start)], re.M)
-    return {**found, "Common": words.COMMON}
+    """the productions of each family, and those that are common"""
+    return {**{family: productions.split() for module in family_code.FAMILIES.values() for family, (says, productions) in module.items()}, "Common": words.COMMON}
 
 def family_specs(found):
     return "\n".join([f"-- {WRITTEN} The families of productions, by what they stand for.", "use Rattle.cpp_grammar.specs.declared.production.Production.{Production}",
@@ -681,6 +673,17 @@ def arms(function, productions):
         if len(line) <= 100: yield line
         else: yield from [f"            Production::{p} => self.{function}(", "                symbol,", f"                Production::{p},", "                frame,", "                parts,", "            ),"]
 
+def may_leave(crates):
+    """what may leave a tree that is no candidate yet: the productions of the kinds whose trees become candidates later, but for those that make a name"""
+    with open(f"{crates}/cpp_link/proofs/CandidatesFew.antt", encoding="utf-8") as f: text = f.read()
+    kinds = set(re.findall(r"nat_eq k (\w+)", re.search(r"^becomes_candidate k =\n((?:    .*\n)+)", text, re.M)[1]))
+    names = set(re.findall(r"^makes_name Production\.(\w+) = true$", text, re.M))
+    grammar.build(widened=True)
+    begun = {p for kind, (empty, alternatives) in grammar.K.items() if snake(kind).upper() in kinds for on, p in alternatives} - names
+    leaving = [p for p in grammar.P if p in begun]
+    grammar.build()
+    return by_production("may_leave", {p: "true" for p in leaving}, "false")
+
 def arms_by_production(found):
     """path, function, and the arms of its match that are written"""
     yield "cpp_link/src/finish.rt", "finish_rule", list(arms("finish_as", words.COMMON))
@@ -715,7 +718,18 @@ def first(lines):
     """the same, where the first of a list is called so"""
     return [re.sub(r"(?<![\w'])e(?![\w'])", "first", l) if "(list e rest)" in l else l for l in lines]
 
-def declarations():
+# how many nodes code of its own makes of the values of its parts, where that isn't always as many as its row says
+MAKES_AT_END = {"closure": "lambda_at_end known", "inheriting": "inheriting_at_end (part known 1)", "by_letters": "operation_at_end (part known 0)", "enclosed": "enclosed_at_end known",
+                "elements": "elements_at_end known", "substitution": "0"}
+
+def makes_at_end():
+    def value(form):
+        if form == "in_place" or form.startswith("a_name "): return "name_at_end known"
+        if m := re.fullmatch(r"own (\w+) \d", form): return MAKES_AT_END.get(m[1])
+    found = {p: value(row.form) for p, row in grammar.rows().items()}
+    return [*[f"makes_at_end Production.{p} known = {v}" for p, v in found.items() if v], "makes_at_end p known = made_at_end p"]
+
+def declarations(crates):
     """path, name, and the lines of its clauses"""
     no_expansion = {"expansion": None}
     yield "cpp_press_laws/specs/Same.antt", "same_tree", same_tree()
@@ -731,8 +745,9 @@ def declarations():
     yield "cpp_press_laws/proofs/Components/Parts.antt", "PrefixOr", cases("PrefixOr", [], ["inside", "x"], lambda t: "⊥" if t[0] in words.ENCODINGS else None, None, named(PRESSED)) + ["PrefixOr t inside x = ItselfOr t inside x"]
     yield "cpp_spelling/proofs/Made.antt", "below-later", below_later()
     yield "cpp_spelling/specs/Weight.antt", "weight", fold("weight", [], summed("12"), "12", trees=named(PRESSED))
-    nowhere = {"symbol": None, "construction": None, "clone": None, "holder": None, "sized_float": None, "constrained": None, "generic_lambda": None, "bounded": None, "of_default": None, "conversion": None, "inheriting": None, "decltype": None, "operation": None, "function_parameter": None, "absent": None, ("order", "function"): ["name", "returned", "parameters", "q", "ref"]}
-    yield "cpp_press_laws/proofs/EveryWay/Law.antt", "reads", by_each("reads", "reads", ["c"], {**nowhere, ("before", "function"): ["c"]}, {"address_of": "address"})
+    nowhere = {tree: None for tree, spelled in words.SPELLED.items() if spelled.startswith("nowhere")}
+    yield "cpp_press_laws/proofs/EveryWay/Law.antt", "reads", by_each("reads", "reads", ["c"],
+        {"symbol": None, **nowhere, ("order", "function"): ["name", "returned", "parameters", "q", "ref"], ("before", "function"): ["c"]}, {"address_of": "address"})
     yield "cpp_press_laws/proofs/Fits/Packs.antt", "closed-packs", closed_packs()
     yield "cpp_press/proofs/Open.antt", "open-erased", open_erased()
     yield "cpp_term/specs/Erased.antt", "erase", rebuilt("erase", [], [], True)
@@ -751,11 +766,12 @@ def declarations():
     yield "cpp_grammar/specs/Closed.antt", "ScopesAreClosed", first(fold("ScopesAreClosed", [], " × ".join, "Unit {0}", {"function": CLOSED_FUNCTION}))
     yield "cpp_link/specs/Owed.antt", "made_before", by_production("made_before", {p: numbers(row.made_before()) for p, row in grammar.rows().items() if row.made_before()}, "[]")
     yield "cpp_link/specs/Owed.antt", "made_at_end", by_production("made_at_end", {p: row.made_at_end() for p, row in grammar.rows().items() if row.made_at_end()}, 0)
+    yield "cpp_link/specs/NodeCount.antt", "makes_at_end", makes_at_end()
     yield "cpp_link/specs/Owed.antt", "slack", slack()
     yield "cpp_link/specs/Making.antt", "IsRare", by_production("IsRare", {p: "⊥" for p in words.COMMON}, "Unit {0}")
     yield "cpp_link/proofs/Making.antt", "IsNoneOfThem", [f"  pub not_{snake(p)} : p ≡ Production.{p} → ⊥" for p in words.COMMON]
     yield "cpp_link/proofs/Making.antt", "is_rare", is_rare()
-    yield "cpp_link/proofs/CandidatesFew.antt", "may_leave", by_production("may_leave", {p: "true" for p in words.LEAVES}, "false")
+    yield "cpp_link/proofs/CandidatesFew.antt", "may_leave", may_leave(crates)
     yield "cpp_tree/specs/Nodes.antt", "tree_of", tree_of()
     yield "cpp_tree/specs/Nodes.antt", "is_encoding", node_cases("is_encoding", [], [], lambda node, tree, args: "true" if tree in words.ENCODINGS else None, "false")
     yield "cpp_tree/specs/Nodes.antt", "IsBelow", is_below()
@@ -832,10 +848,11 @@ def extended(text, name, lines):
     return text[:start] + "".join("\n" + line for line in lines) + text[end:]
 
 def with_imports(text, constants):
-    """the text, with the names of trees, of their makers and of what views call them imported that its declarations name"""
-    trees = [t[0] for t in words.TREES]
+    """the text, with the names of trees, of their makers, of what views call them and of kinds imported that its declarations name"""
+    trees, kinds = [t[0] for t in words.TREES], [snake(kind).upper() for kind in grammar.K]
     for module, names, used in ((r"cpp_(?:grammar|term)\.specs\.Term", trees, r"(?<!\w)\({0} "), (r"cpp_grammar\.specs\.Makers", ["new_" + t for t in trees], r"(?<![\w.]){0}(?!\w)"),
-                                (r"cpp_tree\.specs\.declared\.tree_production\.TheConstants", constants, r"(?<![\w.]){0}(?!\w)")):
+                                (r"cpp_tree\.specs\.declared\.tree_production\.TheConstants", constants, r"(?<![\w.]){0}(?!\w)"),
+                                (r"cpp_grammar\.specs\.KindNumbers", kinds, r"(?<![\w.]){0}(?!\w)")):
         lines = [m for m in re.finditer(rf"^use Rattle\.{module}\.{{(.*)}}$", text, re.M) if len(set(names) & set(m[1].split(", "))) > 1]
         if not lines: continue
         known = {n for line in re.findall(r"^use \S+\.\{(.*)\}$", text, re.M) for n in line.split(", ")}
@@ -863,7 +880,7 @@ def files(crates):
              "cpp_tree/proofs/nodes/Nodes/noted/Answers.antt": noted_answers(),
              "cpp_link/proofs/linked/Linked/finish_rule/Answers.antt": rare_answers("finish_rule", "finish_rare-requires-clause-rare", "", "c.production_of-production.result", "", UNREAD_IMPORTS, [*UNREAD_ANSWER, *handed_answers()]),
              "cpp_link/proofs/linked/Linked/outcome/Answers.antt": rare_answers("outcome", "unreachable-requires", "c.requires.common (", "c.args.production", ")")}
-    for path, name, lines in [*declarations(), *payments.declarations(crates)]:
+    for path, name, lines in [*declarations(crates), *payments.declarations(crates)]:
         if path not in texts:
             with open(f"{crates}/{path}", encoding="utf-8") as f: texts[path] = f.read()
         texts[path] = rewritten(texts[path], name, lines)

@@ -229,14 +229,6 @@ OPERATIONS = [
     ("rq", PRIMARY, "requires {...}", NONE, "", NONE, ""), ("rQ", PRIMARY, "requires (...) {...}", NONE, "", NONE, ""),
 ]
 
-# the productions that may leave a tree that is no candidate yet
-LEAVES = """NestWithS NestParameter NestInternal NestLocalType NestSource NestStd NestTemplate NestArguments NestInstance
-    NestNext NestTag NestEnd
-    Abbreviation Substitution NestedType Expansion ItemIsType BuiltinWithD Vector NoexceptFunction Decltype Pointer MemberPointer
-    Parameter TypeWithS LocalType Builtin Vendor Function Complex AbbreviatedType SizedFloat
-    TypeInStd ArrayType AnyArray LengthArray BoundedArray
-    ParameterArgument LeveledParameter DeclaredArgument ConstrainedAuto ConvertedDecltype""".split()
-
 # The productions that are common in real symbols: where they close, and before the parts of some, they have code of their own, in which
 # what is done for a production is a constant. All others share theirs.
 COMMON = """NestNext SourceName PlainType NestEnd Items Builtin AnyArgument NestSource Substitution Symbol NestedType Encoding NestedName NestWithS

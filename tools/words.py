@@ -217,8 +217,8 @@ def layout_codes():
 def layout_operations():
     def text(t): return f"texts::OPERATION + {OPERATION_TEXTS.index(t)}" if t else "texts::NONE"
     def how(o): return f"Operand::From({o})" if isinstance(o, int) else {words.NONE: "Operand::NotPrinted", words.LEFT: "Operand::AsItIs", words.BOTH: "Operand::AsType", words.LIST: "Operand::AsList"}[o]
-    out = [f"// {WRITTEN} How the operations of expressions are printed, by the codes of their operators.", "#![tactic(auto)]", "", "ghost use Rattle.std.specs.Prelude.{◌≡◌};", "ghost use Rattle.cpp_grammar.specs.Parts.{printed};",
-           "ghost use Rattle.cpp_layout.specs.Operations.{IsOperation, HasTexts};", "", "use crate::texts;", "",
+    out = [f"// {WRITTEN} How the operations of expressions are printed, by the codes of their operators.", "#![tactic(auto)]", "", "ghost use Rattle.std.specs.Prelude.{◌≡◌, ◌≤◌};", "ghost use Rattle.cpp_grammar.specs.Parts.{printed};",
+           "ghost use Rattle.cpp_layout.specs.Operations.{most_of, IsOperation, HasTexts};", "", "use crate::texts;", "",
            "/// How an operand is printed: not at all, as it is, as a type, as a list, or in parentheses if its precedence is at least this.", "#[derive(Clone, Copy)]", "pub enum Operand {",
            "    NotPrinted,", "    AsItIs,", "    AsType,", "    AsList,", "    From(u8),", "}", "",
            "/// The precedence of an operation, and what is printed: the numbers of texts, and how its operands are.", "#[derive(Clone, Copy)]", "pub struct Operation {",
@@ -227,7 +227,7 @@ def layout_operations():
            "    ensures { result ≡ record { precedence = precedence; front = front; left = left; between = between; right = right; back = back } }", "{", "    Operation {",
            "        precedence,", "        front,", "        left,", "        between,", "        right,", "        back,", "    }", "}", "",
            "/// The operation of two letters.", "pub(crate) fn operation_of(first: u8, second: u8) -> Operation",
-           "    ensures is { IsOperation result (printed first second) }", "    ensures texts { HasTexts result }", "{",
+           "    ensures is { IsOperation result (printed first second) }", "    ensures texts { HasTexts result }", "    ensures few { most_of result ≤ 7 }", "{",
            "    match first as u16 * 256 + second as u16 {"]
     for code, own, front, left, between, right, back in words.OPERATIONS:
         out += [f"        // {code}", f"        {ord(code[0]) * 256 + ord(code[1])} => printed_as(", *[f"            {value}," for value in (own, text(front), how(left), text(between), how(right), text(back))], "        ),"]
@@ -235,22 +235,25 @@ def layout_operations():
     return "\n".join(out) + "\n"
 
 def operation_answers():
-    """each arm's operation is the one of the table"""
+    """each arm's operation is the one of the table, and has few parts"""
     fields = "record { precedence = refl; front = refl; left = refl; between = refl; right = refl; back = refl }"
     computed = "unfolding printed operation_of_code operations same_bytes builtin_texts operator_texts abbreviation_texts special_texts named_special_texts literal_endings"
+    counted = computed.replace("printed operation_of_code operations same_bytes", "text_part")
     numbers = [ord(code[0]) * 256 + ord(code[1]) for code, *rest in words.OPERATIONS]
     both = "c.args.first * 256 + c.args.second"
     out = [f"-- {WRITTEN}", "use Rattle.std.proofs.Common.{◌≡◌, refl, arith, lit<, ◌+◌, ◌*◌, false}", "use Rattle.std.proofs.lemmas.Bool.{ne_eqb}",
            "use Rattle.cpp_grammar.specs.Texts.{same_bytes, builtin_texts, operator_texts, abbreviation_texts, special_texts, named_special_texts, literal_endings}",
-           "use Rattle.cpp_grammar.specs.Operations.{operations, operation_of_code}", "use Rattle.cpp_grammar.specs.Parts.{printed}",
+           "use Rattle.cpp_grammar.specs.Operations.{operations, operation_of_code}", "use Rattle.cpp_grammar.specs.Parts.{printed}", "use Rattle.cpp_term.specs.Parts.{text_part}",
            "use Rattle.cpp_layout.proofs.Operating.{printed-by, any_number, none-printed}", "use Rattle.cpp_layout.proofs.operation_rows.operation_of.Goals as goal"]
     for n in numbers:
         called = "printed_as" if n == numbers[0] else f"printed_as-in-{n}"
         out += ["", f"pub returns-in-{n}-clause-is : goal.returns-in-{n}-clause-is", computed,
-                f"returns-in-{n}-clause-is c = printed-by c.args.first c.args.second {n // 256} {n % 256} c.{called}.result c.ranges.second.fits (lit< tt) (omega (arith, c.in-{n}.is)) (rw c.{called}.ensures {fields})"]
+                f"returns-in-{n}-clause-is c = printed-by c.args.first c.args.second {n // 256} {n % 256} c.{called}.result c.ranges.second.fits (lit< tt) (omega (arith, c.in-{n}.is)) (rw c.{called}.ensures {fields})",
+                "", f"pub returns-in-{n}-clause-few : goal.returns-in-{n}-clause-few", counted, f"returns-in-{n}-clause-few c = rw c.{called}.ensures (omega arith)"]
     off = ", ".join(f"ne_eqb ({both}) {n} (omega (arith, c.in_default))" for n in numbers)
     out += ["", "pub returns-in_default-clause-is : goal.returns-in_default-clause-is", "unfolding operations",
-            f"returns-in_default-clause-is c = none-printed c.args.first c.args.second c.printed_as-in_default.result (let n : any_number operations ({both}) ≡ false = rw ({off}) refl in n) (rw c.printed_as-in_default.ensures {fields})"]
+            f"returns-in_default-clause-is c = none-printed c.args.first c.args.second c.printed_as-in_default.result (let n : any_number operations ({both}) ≡ false = rw ({off}) refl in n) (rw c.printed_as-in_default.ensures {fields})",
+            "", "pub returns-in_default-clause-few : goal.returns-in_default-clause-few", counted, "returns-in_default-clause-few c = rw c.printed_as-in_default.ensures (omega arith)"]
     return "\n".join(out) + "\n"
 
 def code_letters():

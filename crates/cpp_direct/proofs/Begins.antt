@@ -23,9 +23,10 @@ use Rattle.cpp_direct.specs.ItemBytes.{one_of, is_special_letter}
 use Rattle.cpp_direct.specs.Letters.{special_letters}
 use Rattle.cpp_direct.specs.Marks.{IsMarkPlace, has_const, called_on}
 use Rattle.cpp_direct.specs.Prints.{Shows}
-use Rattle.cpp_direct.specs.WriterInvariant.{AreCandidates, Encoded, EndsBehind, EncodedBehind, AwaitsItems, IsScoped, Stands, IsWriting, qualifiers}
+use Rattle.cpp_direct.specs.WriterInvariant.{Encoded, EndsBehind, EncodedBehind, AwaitsItems, IsScoped, Stands, IsWriting, no_scope, qualifiers}
 use Rattle.cpp_direct.specs.MidStep.{IsFresh, AwaitsEncoding, AwaitsNest}
 use Rattle.cpp_direct.specs.Written.{Writes, Reads}
+use Rattle.cpp_direct.proofs.Kept.{keeps-same, none-kept}
 use Rattle.cpp_direct.proofs.NamePlaces.{reads-then}
 use Rattle.cpp_direct.proofs.Moves.{stands-join}
 use Rattle.cpp_direct.proofs.MovesOfEncodings.{symbol-starts, encoding-opens, special-opens, thunk-opens, virtual-thunk-opens, name-nested}
@@ -61,7 +62,8 @@ encoding-awaited s w no_text no_candidate starts at_is apart =
     let opened_ = symbol-starts s starts in
     record {
       state = first_state;
-      candidates = subst (λ ks. AreCandidates (detail_of s) w.text.list.items ks []) (sym no_candidate) tt;
+      scope = no_scope;
+      keeps = none-kept s w no_candidate;
       around = first_around;
       outer = opened_.inner;
       begins = λ none. at_is ∙ sym (ap (λ b. cond b 3 2) apart);
@@ -109,7 +111,8 @@ thunk-awaited : (s : Symbol) (opened_ : SymbolOpened s) (by : Adjustment) (w : D
 unfolding first_state
 thunk-awaited s opened_ by w apart thunk_ text_is no_candidate = record {
   state = first_state;
-  candidates = subst (λ ks. AreCandidates (detail_of s) w.text.list.items ks []) (sym no_candidate) tt;
+  scope = no_scope;
+  keeps = none-kept s w no_candidate;
   around = in_name 2;
   outer = thunk_.inner;
   begins = λ none. absurd (thunk-text by (sym text_is ∙ none));
@@ -203,19 +206,20 @@ special-begins s w letter starts stands at_is written filled none_ waiting =
     let here = special-opens s opened_.inner first_around letter 2 first_state (special-known letter filled) opened_.awaits stands in
     record {
       state = first_state;
-      candidates = subst (λ ks. AreCandidates (detail_of s) w.text.list.items ks []) (sym none_) tt;
+      scope = no_scope;
+      keeps = none-kept s w none_;
       is_before = (
         here.inner,
         in_name 2,
         refl,
         inl (subst (λ n. Expects s Kind.Type (in_name 2) here.inner n first_state) (sym at_is) here.awaits),
-        subst (λ ws. Stands s (reverse ws) here.inner w.text.list.items) (sym waiting) (
+        subst (λ ws. Stands s no_scope (reverse ws) here.inner w.text.list.items) (sym waiting) (
           letter,
           written,
           (λ e. filled (sym written ∙ e)),
           λ t at st comes. encoded-whole s opened_ (special letter t) at st (here.onward t at st comes),
         ),
-        subst (λ ws. IsScoped (in_name 2) (reverse ws)) (sym waiting) (none-scoped (in_name 2) (opens.Special ∷ []) refl),
+        subst (λ ws. IsScoped no_scope (in_name 2) (reverse ws)) (sym waiting) (none-scoped no_scope (in_name 2) (opens.Special ∷ []) refl),
       );
     }
 
@@ -231,10 +235,12 @@ nested-marked s old n mark p stands at_is =
     let nest = name-nested s encoding.inner (in_name old.at) (has_const mark) (called_on mark) old.at p.state encoding.awaits stands in
     record {
       state = p.state;
-      candidates = p.candidates;
+      scope = p.scope;
+      keeps = keeps-same s old (record old { at = n }) p.state.candidates refl refl refl p.keeps;
       around = in_name old.at;
       outside = refl;
       outer = nest.inner;
+      scoped = λ e. absurd (false≢true e);
       awaits = subst (λ k. Expects s Kind.Nest (in_name old.at) nest.inner k p.state) (sym at_is) nest.awaits;
       serves = λ t listed at st comes. items-await s old p (named t (qualifiers (has_const mark)) (called_on mark)) at st
           (nest.onward t listed at st comes);

@@ -1,22 +1,19 @@
--- A type that names an argument of a function's template is read, and handed on, and so is a reference to each type of a pack.
+-- A type that names an argument of a function's template is read, and so is a reference to each type of a pack.
 use Rattle.sym_print.specs.declared.detail.Detail.{Detail}
 use Rattle.cpp_grammar.specs.Unfolding.{byte_of, close}
 use Rattle.cpp_grammar.specs.Meaning.{meaning, listed_value}
 use Rattle.cpp_direct.specs.Symbol.{detail_of, Symbol}
-use Rattle.cpp_direct.proofs.EnclosingFunctions.{parameter-got-within}
-use Rattle.cpp_direct.proofs.Handed.{front-got, parameter-got}
-use Rattle.cpp_direct.proofs.Kept.{candidates-as, candidate-found, candidate-stays, candidates-more, candidates-stay, candidates-written, piece-found}
-use Rattle.cpp_direct.proofs.Listed.{last-found, some-elements}
+use Rattle.cpp_direct.proofs.Kept.{candidate-found, keeps-as, keeps-grown, keeps-same, keeps-with, keeps-written, made-here, piece-found, placed-stays}
+use Rattle.cpp_direct.proofs.Listed.{some-elements}
 use Rattle.cpp_direct.proofs.Moves.{hole, eats, byte-opens, next-part, closes, none-fills, number-fills, is_eaten, stands-join, stands-split, expects-empty, open_at, fill, filled-at}
 use Rattle.cpp_direct.proofs.MovesOfTypes.{open-substitution-opens, solid-opens, rvalue-opens}
-use Rattle.cpp_direct.proofs.PrintedTypes.{parameter-prints, type-element-in, expansion-element}
+use Rattle.cpp_direct.proofs.PrintedTypes.{parameter-given, expansion-element}
 use Rattle.cpp_direct.specs.declared.open.Mark.{Mark}
 use Rattle.cpp_direct.specs.Holes.{Opened, StandsAt, Comes, candidate, with_candidate, Expects, IsTyped}
-use Rattle.cpp_direct.specs.Prints.{NamesArgument, Prints, PrintsIn, PrintsBehind, forwarded, PrintAllBy, list_of}
-use Rattle.cpp_direct.specs.WriterInvariant.{AreCandidates, HasArguments, IsArgument, IsKnown, PrintsOrNames, IsPlaced, IsPlain, IsWriting, Marks, Stands, argument_of, IsScope, place_of, EncodedBehind, ParametersGoOn, in_front_of_next, IsAmong}
-use Rattle.cpp_direct.specs.MidStep.{AwaitsType, AwaitsDependentMark, IsFrontRead, IsNamedAgain, IsParameterEnded, parameter_digits, AwaitsNextParameter, AreForwarded, IsPackOf, PrintsForwarded, comma_text}
-use Rattle.cpp_direct.specs.MidStepOfLocals.{IsEnclosingParameterRead}
-use Rattle.cpp_direct.specs.Written.{Writes, with_dependent, hidden}
+use Rattle.cpp_direct.specs.Prints.{AreSingle, PrintsAs, PrintsGiven, forwarded, PrintAllBy, list_of}
+use Rattle.cpp_direct.specs.WriterInvariant.{AreCandidates, EncodedBehind, HasArguments, IsAmong, IsKnown, IsNaming, IsPlaced, IsPlain, IsScope, IsScopeOf, IsScoped, IsWriting, Keeps, ParametersGoOn, Scope, Stands, argument_of, in_front_of_next, place_of}
+use Rattle.cpp_direct.specs.MidStep.{AwaitsType, IsNamedAgain, IsParameterEnded, parameter_digits, AwaitsNextParameter, AreForwarded, IsPackOf, PrintsForwarded, comma_text}
+use Rattle.cpp_direct.specs.Written.{Writes, added, hidden}
 use Rattle.cpp_direct.specs.declared.direct.Direct.{Direct}
 use Rattle.cpp_direct.specs.declared.open.Open.{Open}
 use Rattle.cpp_direct.specs.declared.open.Argument.{Argument}
@@ -24,7 +21,6 @@ use Rattle.cpp_direct.specs.declared.open.Candidate.{Candidate}
 use Rattle.cpp_direct.specs.declared.open.Arguments.{Arguments}
 use Rattle.cpp_grammar.specs.Between.{Going, between, after, applied, listed_so_far, parameter_so_far, index_of, under_expansion}
 use Rattle.cpp_grammar.specs.Grammar.{may_be_empty, number_of_kind, parts_of}
-use Rattle.cpp_grammar.specs.Items.{argument, indexed}
 use Rattle.cpp_grammar.specs.Parts.{types_of}
 use Rattle.cpp_grammar.specs.References.{appended, is_function_type, packs_in, with_packs, parameter_named, with_type}
 use Rattle.cpp_grammar.specs.Scope.{arguments_of, element, count, length_if_pack, pack_length}
@@ -32,7 +28,7 @@ use Rattle.cpp_grammar.specs.Term.{Term, parameter, expansion, rvalue, list, nil
 use Rattle.cpp_grammar.specs.Values.{tree, State, Around, text_of, is_there, letter_of, part, piece_of, tree_of, is_listed}
 use Rattle.cpp_grammar.specs.declared.kind.Kind.{Kind}
 use Rattle.cpp_grammar.specs.declared.production.Production.{Production}
-use Rattle.std.proofs.Common.{◌≡◌, ◌≢◌, ℕ, zero, suc, ◌+◌, ◌-◌, ◌≤◌, ◌<◌, length, List, [], ◌∷◌, ◌++◌, take, drop, reverse, slice_get, Bool, true, false, Option, Some, None, refl, ap, sym, ◌∙◌, subst, arith, append_assoc, append-nil, Ok, codes, inl, inr}
+use Rattle.std.proofs.Common.{◌≡◌, ◌≢◌, ℕ, zero, suc, ◌+◌, ◌-◌, ◌≤◌, ◌<◌, length, List, [], ◌∷◌, ◌++◌, take, drop, reverse, slice_get, true, false, Option, Some, None, refl, ap, sym, ◌∙◌, subst, arith, append_assoc, append-nil, Ok, codes, inl, inr}
 use Rattle.std.proofs.lemmas.Bool.{lt-ltb}
 use Rattle.std.proofs.lemmas.List.{length-append}
 use Rattle.sym_core.specs.Value.{counted_value}
@@ -42,10 +38,9 @@ use Rattle.std.specs.Option.{IfSome}
 use Rattle.cpp_direct.proofs.Ending.{parameter-goes_on}
 use Rattle.cpp_direct.proofs.MovesOfLists.{element-awaits}
 use Rattle.cpp_direct.proofs.PrintedLists.{next-prints-in, next-prints-by}
-use Rattle.cpp_direct.proofs.Scopes.{arguments-stay, placed-stays}
+use Rattle.cpp_direct.proofs.Scopes.{arguments-stay}
 use Rattle.cpp_direct.proofs.Signatures.{one-hidden}
 use Rattle.cpp_grammar.specs.Unfolding as unfolding_
-use Rattle.cpp_direct.specs.declared.open.Open.TheVariants as opens
 use Rattle.cpp_direct.specs.declared.open.Step.TheVariants as steps
 use Rattle.cpp_grammar.specs.Values as values
 
@@ -114,324 +109,137 @@ digit-stands s at k digit is first line =
 
 -- ## The argument
 
--- at one place is one text
-same-placed : (text : List ℕ) (p : Argument) (a b : List ℕ) → IsPlaced text p a → IsPlaced text p b → a ≡ b
-same-placed text p a b h k =
-    sym (piece-found text h.front a h.back p.from p.to h.written h.from_is h.to_is).2
-    ∙ (piece-found text k.front b k.back p.from p.to k.written k.from_is k.to_is).2
+-- types may name the arguments of the symbol's own name here
+named-here : (s : Symbol) {scope : Scope} (w : Direct) (cs : List values.Candidate) (around : Around) (all : Arguments) → Keeps s scope w cs
+    → IsScoped scope around (reverse w.waiting.list.items) → argument_of (reverse w.waiting.list.items) ≡ Some all → all.encoding ≢ 0
+    → IsNaming s scope (reverse w.waiting.list.items)
+named-here s {scope = scope} w cs around all keeps scoped found real =
+    let same : scope.arguments ≡ all = (scoped all found).0 in
+    (found ∙ ap (λ (a : Arguments). Some a) (sym same), keeps.own.encoded (λ none. real (ap (λ (a : Arguments). a.encoding) (sym same) ∙ none)))
 
-argument-is : (name all : Term) (k : ℕ) → arguments_of name ≡ Some all → argument (types_of name) k ≡ element all k
-unfolding argument types_of indexed
-argument-is name all k e = rw e refl
-
--- what prints after the argument prints so in the types of the name that has it
-behind-argument : {detail : Detail} (text : List ℕ) (size : ℕ) (p : Argument) (number : ℕ) (name t : Term) (bytes marks : List ℕ) (r : Bool)
-    → IsArgument detail text size p number name → IsPlain p
-    → IsPlaced text p bytes → PrintsBehind detail number t marks r → PrintsIn detail (types_of name) 2 t (bytes ++ marks) r
-behind-argument {detail} text size p number name t bytes marks r a plain placed behind =
-    behind (types_of name) bytes
-    (subst (λ own. Prints detail own bytes false)
-    (sym (argument-is name a.all number a.all_are ∙ (a.there plain.1).0))
-    (subst (λ k. Prints detail a.own bytes k) plain.2
-    (subst (λ l. Prints detail a.own l p.is_reference) (same-placed text p a.bytes bytes a.placed placed) a.prints)))
-
-same-place : (p q : Arguments) → ◌≡◌ {A = Option Arguments} (Some p) (Some q) → p ≡ q
-same-place p q e = cc e
-
--- what is named is an argument of that name
-named-one : {detail : Detail} (text : List ℕ) (p q : Arguments) (k : ℕ) (name : Term) → p ≡ q → HasArguments detail text p name → IsKnown (place_of q k)
-    → IsArgument detail text q.elements (place_of q k) k name
-named-one {detail} text p q k name e has known = subst (λ (a : Arguments). HasArguments detail text a name) e has k known
-
-placed-at : {detail : Detail} (text : List ℕ) (p q : Arguments) (k : ℕ) (name : Term) → p ≡ q → HasArguments detail text p name → IsKnown (place_of q k)
-    → (bytes : List ℕ) × IsPlaced text (place_of q k) bytes
-placed-at text p q k name e has known = let h = named-one text p q k name e has known in (h.bytes, h.placed)
-
--- where it is in what is open, it is in the text
-pub argument-placed : (s : Symbol) (ws : List Open) (os : List Opened) (text : List ℕ) (p : Arguments) (k : ℕ) → Stands s ws os text → argument_of ws ≡ Some p
-    → IsKnown (place_of p k) → (bytes : List ℕ) × IsPlaced text (place_of p k) bytes
-argument-placed s (opens.Pointer from ∷ rest) os text p k stands found known = argument-placed s rest stands.0 text p k stands.4 found known
-argument-placed s (opens.Lvalue from ∷ rest) os text p k stands found known = argument-placed s rest stands.0 text p k stands.4 found known
-argument-placed s (opens.Rvalue from ∷ rest) os text p k stands found known = argument-placed s rest stands.0 text p k stands.4 found known
-argument-placed s (opens.Const from ∷ rest) os text p k stands found known = argument-placed s rest stands.0 text p k stands.4 found known
-argument-placed s (opens.Front mark start a ∷ rest) os text p k stands found known =
-    placed-at text a p k stands.3.own (same-place a p found) stands.3.names known
-argument-placed s (opens.Parameters mark start a ∷ rest) os text p k stands found known =
-    placed-at text a p k stands.6.own (same-place a p found) stands.6.names known
-argument-placed s (opens.Enclosing mark from to a ∷ rest) os text p k stands found known =
-    placed-at text a p k stands.5.own (same-place a p found) stands.5.names known
-argument-placed s _ os text p k stands found known = cc found
+-- the argument that a parameter names is at its place
+named-placed : (s : Symbol) (w : Direct) (all : Arguments) (k : ℕ) (p : Argument) (a : AwaitsType s w) → argument_of (reverse w.waiting.list.items) ≡ Some all
+    → p ≡ place_of all k → IsPlain p → (bytes : List ℕ) × (a.scope.names k ≡ Some bytes) × IsPlaced w.text.list.items p bytes
+named-placed s w all k p a found is plain =
+    let same : p ≡ place_of a.scope.arguments k = is ∙ ap (λ (q : Arguments). place_of q k) (sym (a.scoped all found).0) in
+    let h = a.keeps.named k (subst (λ (q : Argument). IsPlain q) same plain) in
+    (h.0, h.1, subst (λ (q : Argument). IsPlaced w.text.list.items q h.0) (sym same) h.2)
 
 -- so it can be written once more
-pub argument-inside : (s : Symbol) (w : Direct) (all : Arguments) (k : ℕ) (p : Argument) (os : List Opened)
-    → Stands s (reverse w.waiting.list.items) os w.text.list.items
-    → argument_of (reverse w.waiting.list.items) ≡ Some all → p ≡ place_of all k → p.from ≤ p.to → p.to ≤ length w.text.list.items
-argument-inside s w all k p os stands found is known =
-    let h = argument-placed s (reverse w.waiting.list.items) os w.text.list.items all k stands found (subst IsKnown is known) in
-    let q = place_of all k in
-    let inside = (piece-found w.text.list.items h.1.front h.0 h.1.back q.from q.to h.1.written h.1.from_is h.1.to_is).1 in
-    subst (λ (j : Argument). j.to ≤ length w.text.list.items) (sym is) inside
-
--- a type that names an argument becomes a candidate, with the text after the argument's
-dependent-candidate : {detail : Detail} (text : List ℕ) (w : Direct) (st : State) (front marks : List ℕ) (begins k : ℕ) (made_in : Around) (place : ℕ) (r : Bool) (t : Term) → w.text.list.items ≡ text
-    → AreCandidates detail text w.candidates.list.items st.candidates → text ≡ front ++ marks → begins ≡ length front → NamesArgument detail k t marks r
-    → (place ≢ 0 → made_in.encoding ≡ place)
-    → AreCandidates detail text (with_dependent w begins r k place) (with_candidate made_in t st).candidates
-dependent-candidate text w st front marks begins k made_in place r t same known written begins_is names encoding_is =
-    candidates-more text w.candidates.list.items st.candidates
-    (record { from = begins; to = length w.text.list.items; is_reference = r; is_dependent = true; number = k; encoding = place }) (candidate made_in t) known
-    (λ ordered. record {
-      front = front;
-      bytes = marks;
-      back = [];
-      written = written ∙ sym (append-nil (front ++ marks));
-      from_is = begins_is;
-      to_is = ap length (same ∙ written) ∙ length-append front marks;
-      prints = (names, encoding_is);
-    })
+pub argument-inside : (s : Symbol) (w : Direct) (all : Arguments) (k : ℕ) (p : Argument) → AwaitsType s w
+    → argument_of (reverse w.waiting.list.items) ≡ Some all → p ≡ place_of all k → IsPlain p → p.to ≤ length w.text.list.items
+argument-inside s w all k p a found is plain =
+    let h = named-placed s w all k p a found is plain in
+    (piece-found w.text.list.items h.2.front h.0 h.2.back p.from p.to h.2.written h.2.from_is h.2.to_is).1
 
 -- ## Parameters
 
 -- the parameter is read, and its argument is written once more
-pub parameter-done : (s : Symbol) (old mid new : Direct) (all : Arguments) (k : ℕ) (p : Argument) → AwaitsType s old → k ≤ 3 → StandsAt s.bytes old.at (84 ∷ [])
-    → StandsAt s.bytes (old.at + 1) (parameter_digits k ++ 95 ∷ [])
-    → argument_of (reverse old.waiting.list.items) ≡ Some all → p ≡ place_of all k → IsPlain p
-    → mid.text.list.items ≡ old.text.list.items ++ take (p.to - p.from) (drop p.from old.text.list.items) → mid.candidates ≡ old.candidates
-    → mid.waiting ≡ old.waiting → mid.at ≡ old.at + 1 + length (parameter_digits k ++ 95 ∷ []) → (begins : ℕ) → begins ≡ length mid.text.list.items
-    → new.candidates.list.items ≡ with_dependent mid begins false k all.encoding → new.text ≡ mid.text
-    → new.waiting ≡ mid.waiting → new.at ≡ mid.at → IsWriting s new (steps.Dependent false begins k all.encoding)
-parameter-done s old mid new all k p a few letter line found is plain_ text candidates waits at begins begins_is more same_text same_waits same_at =
-    let q = place_of all k in
-    let plain : IsPlain q = subst (λ (j : Argument). IsPlain j) is plain_ in
-    let h = argument-placed s (reverse old.waiting.list.items) a.os old.text.list.items all k a.stands found plain.0 in
-    let piece = piece-found old.text.list.items h.1.front h.0 h.1.back q.from q.to h.1.written h.1.from_is h.1.to_is in
-    let grown : mid.text.list.items ≡ old.text.list.items ++ h.0 =
-    text ∙ ap (λ (j : Argument). old.text.list.items ++ take (j.to - j.from) (drop j.from old.text.list.items)) is
-    ∙ ap (λ l. old.text.list.items ++ l) piece.2 in
-    let written : new.text.list.items ≡ old.text.list.items ++ h.0 = ap (λ v. v.list.items) same_text ∙ grown in
-    let begins_at : begins ≡ length (old.text.list.items ++ h.0) = begins_is ∙ ap length grown in
-    let scope = a.scoped all found k plain.0 in
+pub parameter-done : (s : Symbol) (old mid new : Direct) (all : Arguments) (k : ℕ) (p : Argument) (n from : ℕ) → AwaitsType s old → k ≤ 3
+    → StandsAt s.bytes old.at (84 ∷ []) → StandsAt s.bytes (old.at + 1) (parameter_digits k ++ 95 ∷ [])
+    → argument_of (reverse old.waiting.list.items) ≡ Some all → p ≡ place_of all k → IsPlain p → all.encoding ≢ 0 → from ≡ length old.text.list.items
+    → Writes (record old { at = n }) mid (take (p.to - p.from) (drop p.from old.text.list.items)) → n ≡ old.at + 1 + length (parameter_digits k ++ 95 ∷ [])
+    → new.candidates.list.items ≡ added mid from false true → new.text ≡ mid.text → new.waiting ≡ mid.waiting → new.has_scope ≡ mid.has_scope
+    → new.at ≡ mid.at → IsWriting s new (steps.Value false true)
+parameter-done s old mid new all k p n from a few letter line found is plain real from_is writes at more same_text same_waits same_scope same_at =
+    let text = old.text.list.items in
+    let h = named-placed s old all k p a found is plain in
+    let bytes = h.0 in
+    let grown : mid.text.list.items ≡ text ++ bytes =
+    writes.text ∙ ap (λ l. text ++ l) (piece-found text h.2.front bytes h.2.back p.from p.to h.2.written h.2.from_is h.2.to_is).2 in
+    let prints = parameter-given a.scope.names k bytes h.1 in
+    let naming = named-here s old a.state.candidates a.around all a.keeps a.scoped found real in
+    let open_is : new.waiting ≡ old.waiting = same_waits ∙ writes.waiting in
+    let known : IsKnown (place_of all k) = subst (λ (q : Argument). IsKnown q) is plain.0 in
+    let single : (place_of all k).is_pack ≡ false = ap (λ (q : Argument). q.is_pack) (sym is) ∙ plain.1 in
     let later = with_candidate a.around (parameter k) a.state in
-    let open_is : new.waiting ≡ old.waiting = same_waits ∙ waits in
     record {
       state = later;
-      candidates = candidates-as (detail_of s) new later.candidates written more
-          (dependent-candidate (old.text.list.items ++ h.0) mid a.state (old.text.list.items ++ h.0) [] begins k a.around all.encoding false (parameter k) grown
-          (subst (λ v. AreCandidates (detail_of s) (old.text.list.items ++ h.0) v.list.items a.state.candidates) (sym candidates)
-          (candidates-stay (detail_of s) old.text.list.items h.0 old.candidates.list.items a.state.candidates a.candidates))
-          (sym (append-nil (old.text.list.items ++ h.0))) begins_at (parameter-prints k) (λ real. (scope.1 real).0));
+      scope = a.scope;
+      keeps = keeps-with s mid new a.state text bytes from (parameter k) a.around false true
+          (keeps-grown s old mid bytes a.state.candidates grown writes.candidates writes.scope a.keeps) grown from_is
+          prints (λ e. made-here s a.scope a.around (reverse old.waiting.list.items) a.scoped naming) same_text more same_scope;
       is_before = (
         a.os,
         parameter k,
-        old.text.list.items,
-        h.0,
-        [],
-        all,
-        written ∙ sym (append-nil (old.text.list.items ++ h.0)),
-        parameter-prints k,
-        subst (λ v. argument_of (reverse v.list.items) ≡ Some all) (sym open_is) found,
-        plain,
-        h.1,
-        begins_at,
-        subst (λ n. Comes s a.os (tree (parameter k) true) n later) (sym (same_at ∙ at))
+        text,
+        bytes,
+        ap (λ v. v.list.items) same_text ∙ grown,
+        prints,
+        λ e. subst (λ v. IsNaming s a.scope (reverse v.list.items)) (sym open_is) naming,
+        subst (λ n. Comes s a.os (tree (parameter k) true) n later) (sym (same_at ∙ writes.at ∙ at))
             (parameter-comes s a.kind a.around a.os k old.at a.state a.typed few
-            (subst (λ j. IsScope k j a.around) plain.1 scope.0) a.awaits
+            (subst (λ j. IsScope k j a.around) single ((a.scoped all found).1.1 k known)) a.awaits
             (stands-join s.bytes old.at (84 ∷ []) (parameter_digits k ++ 95 ∷ []) letter line)),
-        subst (λ v. Stands s (reverse v.list.items) a.os old.text.list.items) (sym open_is) a.stands,
-        refl,
+        subst (λ v. Stands s a.scope (reverse v.list.items) a.os text) (sym open_is) a.stands,
       );
     }
 
 -- ## The same once more
 
--- it names no pack
-no-pack-named : (scope : Option Term) (all t : Term) → scope ≡ Some all → pack_length all t ≡ None → packs_in scope t ≡ None
+-- those that may be named are no packs
+named-single : (s : Symbol) (scope : Scope) (around : Around) (open_ : List Open) (arguments : Term) → IsScopeOf s scope → IsScoped scope around open_
+    → argument_of open_ ≡ Some scope.arguments → around.scope ≡ Some arguments → AreSingle scope.names arguments
+named-single s scope around open_ arguments own scoped found is k bytes e =
+    let plain = own.plain k bytes e in
+    let here = (scoped scope.arguments found).1.1 k plain.0 in
+    let same : here.all ≡ arguments = cc (sym here.scope_is ∙ is) in
+    subst (λ l. length_if_pack (element l k) ≡ None) same (ap length_if_pack (here.there plain.1).0 ∙ here.no_pack)
+
+-- so a type that names them names no pack
+no-pack-named : (scope : Option Term) (t : Term) → ((arguments : Term) → scope ≡ Some arguments → pack_length arguments t ≡ None) → packs_in scope t ≡ None
 unfolding packs_in
-no-pack-named scope all t is none = rw is none
+no-pack-named None t none = refl
+no-pack-named (Some arguments) t none = none arguments refl
 
--- what a substitution names is written after the argument's text
-pub again-inside : (s : Symbol) (w one : Direct) (k : Candidate) (piece : List ℕ) → IsNamedAgain s w k → Writes w one piece
-    → (k.from ≤ k.to) × (k.to ≤ length one.text.list.items)
-again-inside s w one k piece p writes =
-    let c = candidate-found w.text.list.items w.candidates.list.items p.awaits.state.candidates (counted_value Seq36 p.digits) k p.awaits.candidates
-    p.ordered p.found in
-    let h = piece-found w.text.list.items c.2.front c.2.bytes c.2.back k.from k.to c.2.written c.2.from_is c.2.to_is in
-    (h.0, omega (arith, h.1, ap length writes.text, length-append w.text.list.items piece))
+-- it is written once more
+pub again-inside : (s : Symbol) (w : Direct) (k : Candidate) → IsNamedAgain s w k → (k.from ≤ k.to) × (k.to ≤ length w.text.list.items)
+again-inside s w k p =
+    let text = w.text.list.items in
+    let c = candidate-found text w.candidates.list.items p.awaits.state.candidates (counted_value Seq36 p.digits) k p.awaits.keeps.candidates p.ordered p.found in
+    let h = piece-found text c.2.front c.2.bytes c.2.back k.from k.to c.2.written c.2.from_is c.2.to_is in
+    (h.0, h.1)
 
-pub dependent-again : (s : Symbol) (w one two : Direct) (k : Candidate) (all : Arguments) (place : Argument) (begins : ℕ) → IsNamedAgain s w k
-    → argument_of (reverse w.waiting.list.items) ≡ Some all → k.encoding ≢ 0 → k.encoding ≡ all.encoding → place ≡ place_of all k.number → IsPlain place
-    → Writes w one (take (place.to - place.from) (drop place.from w.text.list.items)) → begins ≡ length one.text.list.items
-    → Writes one two (take (k.to - k.from) (drop k.from one.text.list.items)) → IsWriting s two (steps.Dependent k.is_reference begins k.number k.encoding)
+pub dependent-again : (s : Symbol) (w new : Direct) (k : Candidate) (all : Arguments) → IsNamedAgain s w k
+    → argument_of (reverse w.waiting.list.items) ≡ Some all → all.encoding ≢ 0 → Writes w new (take (k.to - k.from) (drop k.from w.text.list.items))
+    → IsWriting s new (steps.Value k.is_reference true)
 unfolding may_be_empty
-dependent-again s w one two k all place begins p found real made is plain_ first second_begins second =
+dependent-again s w new k all p found real writes =
     let a = p.awaits in
-    let old = w.text.list.items in
-    let q = place_of all k.number in
-    let plain : IsPlain q = subst (λ (j : Argument). IsPlain j) is plain_ in
-    let h = argument-placed s (reverse w.waiting.list.items) a.os old all k.number a.stands found plain.0 in
-    let piece = piece-found old h.1.front h.0 h.1.back q.from q.to h.1.written h.1.from_is h.1.to_is in
-    let grown : one.text.list.items ≡ old ++ h.0 =
-    first.text ∙ ap (λ (j : Argument). old ++ take (j.to - j.from) (drop j.from old)) is ∙ ap (λ l. old ++ l) piece.2 in
-    let c = candidate-found old w.candidates.list.items a.state.candidates (counted_value Seq36 p.digits) k a.candidates p.ordered p.found in
-    let it = candidate-stays old h.0 k c.0 c.2 in
-    let again = piece-found (old ++ h.0) it.front it.bytes it.back k.from k.to it.written it.from_is it.to_is in
-    let written : two.text.list.items ≡ old ++ h.0 ++ it.bytes =
-    second.text ∙ ap (λ l. l ++ take (k.to - k.from) (drop k.from l)) grown ∙ ap (λ l. old ++ h.0 ++ l) again.2 in
-    let names : NamesArgument (detail_of s) k.number c.0.tree it.bytes k.is_reference × (k.encoding ≢ 0 → c.0.encoding ≡ k.encoding) = subst (λ b. PrintsOrNames (detail_of s) b k c.0 it.bytes) p.is it.prints in
-    let scoped = a.scoped all found k.number plain.0 in
-    let scope = subst (λ j. IsScope k.number j a.around) plain.1 scoped.0 in
-    let at_place = scoped.1 (λ none_. real (made ∙ none_)) in
-    let none = no-pack-named a.around.scope scope.all c.0.tree scope.scope_is (names.0.packless scope.all (ap length_if_pack (scope.there refl).0 ∙ scope.no_pack)) in
-    let named = open-substitution-opens s a.kind a.around a.os p.before a.state p.digits w.at c.0 a.is_named c.1 (names.1 real ∙ made ∙ sym at_place.0) at_place.1 none
-    a.begins p.letter p.number in
-    let comes : Comes s a.os (tree c.0.tree true) w.at a.state = named.bare w.at a.state names.0.no_function
-    (expects-empty s Kind.ArgumentsAlone (after c.0.tree true a.around) named.inner w.at a.state named.awaits refl) in
-    let open_is : two.waiting ≡ w.waiting = second.waiting ∙ first.waiting in
+    let text = w.text.list.items in
+    let c = candidate-found text w.candidates.list.items a.state.candidates (counted_value Seq36 p.digits) k a.keeps.candidates p.ordered p.found in
+    let t = c.0.tree in
+    let bytes = c.2.bytes in
+    let written : new.text.list.items ≡ text ++ bytes =
+    writes.text ∙ ap (λ l. text ++ l) (piece-found text c.2.front bytes c.2.back k.from k.to c.2.written c.2.from_is c.2.to_is).2 in
+    let prints : PrintsGiven (detail_of s) a.scope.names t bytes k.is_reference
+    = subst (λ d. PrintsAs (detail_of s) a.scope.names d t bytes k.is_reference) p.is c.2.prints in
+    let open_ = reverse w.waiting.list.items in
+    let keeps = keeps-same s (record w { at = p.before }) w a.state.candidates refl refl refl a.keeps in
+    let naming = named-here s w a.state.candidates a.around all keeps a.scoped found real in
+    let made_here = made-here s a.scope a.around open_ a.scoped naming in
+    let none = no-pack-named a.around.scope t
+    (λ arguments is. prints.packless arguments (named-single s a.scope a.around open_ arguments a.keeps.own a.scoped naming.0 is)) in
+    let named = open-substitution-opens s a.kind a.around a.os p.before a.state p.digits w.at c.0 a.is_named c.1 (c.2.made_in p.is ∙ sym made_here)
+    ((a.scoped all found).1.0 real).1 none a.begins p.letter p.number in
+    let comes : Comes s a.os (tree t true) w.at a.state = named.bare w.at a.state prints.no_function
+    (expects-empty s Kind.ArgumentsAlone (after t true a.around) named.inner w.at a.state named.awaits refl) in
     record {
       state = a.state;
-      candidates = candidates-written (detail_of s) one two (take (k.to - k.from) (drop k.from one.text.list.items)) a.state.candidates second
-          (candidates-written (detail_of s) w one (take (place.to - place.from) (drop place.from old)) a.state.candidates first a.candidates);
+      scope = a.scope;
+      keeps = keeps-written s w new _ a.state.candidates writes keeps;
       is_before = (
         a.os,
-        c.0.tree,
-        old,
-        h.0,
-        it.bytes,
-        all,
+        t,
+        text,
+        bytes,
         written,
-        names.0,
-        subst (λ v. argument_of (reverse v.list.items) ≡ Some all) (sym open_is) found,
-        plain,
-        h.1,
-        second_begins ∙ ap length grown,
-        subst (λ n. Comes s a.os (tree c.0.tree true) n a.state) (sym (second.at ∙ first.at)) comes,
-        subst (λ v. Stands s (reverse v.list.items) a.os old) (sym open_is) a.stands,
-        made,
+        prints,
+        λ e. subst (λ v. IsNaming s a.scope (reverse v.list.items)) (sym writes.waiting) naming,
+        subst (λ n. Comes s a.os (tree t true) n a.state) (sym writes.at) comes,
+        subst (λ v. Stands s a.scope (reverse v.list.items) a.os text) (sym writes.waiting) a.stands,
       );
     }
-
--- ## Marks
-
--- it is marked
-pub dependent-marked : (s : Symbol) (w : Direct) (is_reference marked_reference : Bool) (begins number place : ℕ) (entry : Open) (from : ℕ) (made : Term → Term) (mark : List ℕ)
-    → IsWriting s w (steps.Dependent is_reference begins number place) → slice_get w.waiting.list.items (length w.waiting.list.items - 1) ≡ Some entry
-    → ((rest : List Open) (os : List Opened) (text : List ℕ) → Stands s (entry ∷ rest) os text → Marks s (Stands s rest) (argument_of rest) os text from made)
-    → ((rest : List Open) → argument_of (entry ∷ rest) ≡ argument_of rest)
-    → ((k : ℕ) (t : Term) (m : List ℕ) → NamesArgument (detail_of s) k t m is_reference → NamesArgument (detail_of s) k (made t) (m ++ mark) marked_reference)
-    → AwaitsDependentMark s w mark marked_reference begins number place
-dependent-marked s w is_reference marked_reference begins number place entry from made mark p found stands_as argument_as prints_as =
-    let b = p.is_before in
-    let last = last-found w.waiting.list.items entry found in
-    let marks = stands_as last.0 b.0 b.2 (subst (λ ws. Stands s ws b.0 b.2) last.1 b.13) in
-    record {
-      state = p.state;
-      candidates = p.candidates;
-      entry = entry;
-      rest = last.0;
-      open_is = last.1;
-      outer = marks.0;
-      made_in = marks.1;
-      made = made b.1;
-      comes = marks.3 b.1 w.at p.state b.12;
-      front = b.2;
-      bytes = b.3;
-      marks = b.4;
-      argument = b.5;
-      written = b.6;
-      begins_is = b.11;
-      prints = prints_as number b.1 b.4 b.7;
-      encoding_is = λ real. marks.5 b.5 number (sym (argument_as last.0) ∙ ap argument_of (sym last.1) ∙ b.8) b.9.0 (λ none. real (b.14 ∙ none)) ∙ sym b.14;
-      place_is = b.14;
-      found = sym (argument_as last.0) ∙ ap argument_of (sym last.1) ∙ b.8;
-      plain = b.9;
-      placed = b.10;
-      stands = marks.4;
-    }
-
--- the mark is written
-pub dependent-mark-done : (s : Symbol) (old mid new : Direct) (mark : List ℕ) (r : Bool) (begins number place : ℕ)
-    (a : AwaitsDependentMark s old mark r begins number place)
-    → reverse mid.waiting.list.items ≡ a.rest → mid.text.list.items ≡ old.text.list.items ++ mark → mid.candidates ≡ old.candidates → mid.at ≡ old.at
-    → new.candidates.list.items ≡ with_dependent mid begins r number place → new.text ≡ mid.text → new.waiting ≡ mid.waiting → new.at ≡ mid.at
-    → IsWriting s new (steps.Dependent r begins number place)
-dependent-mark-done s old mid new mark r begins number place a waits text candidates at more same_text same_waits same_at =
-    let later = with_candidate a.made_in a.made a.state in
-    let written : new.text.list.items ≡ old.text.list.items ++ mark = ap (λ v. v.list.items) same_text ∙ text in
-    let open_is : reverse new.waiting.list.items ≡ a.rest = ap (λ v. reverse v.list.items) same_waits ∙ waits in
-    let marked : old.text.list.items ++ mark ≡ a.front ++ a.bytes ++ (a.marks ++ mark) =
-    ap (λ l. l ++ mark) a.written ∙ append_assoc (a.front ++ a.bytes) a.marks mark in
-    record {
-      state = later;
-      candidates = candidates-as (detail_of s) new later.candidates written more
-          (dependent-candidate (old.text.list.items ++ mark) mid a.state (a.front ++ a.bytes) (a.marks ++ mark) begins number a.made_in place r a.made text
-          (subst (λ v. AreCandidates (detail_of s) (old.text.list.items ++ mark) v.list.items a.state.candidates) (sym candidates)
-          (candidates-stay (detail_of s) old.text.list.items mark old.candidates.list.items a.state.candidates a.candidates))
-          marked a.begins_is a.prints a.encoding_is);
-      is_before = (
-        a.outer,
-        a.made,
-        a.front,
-        a.bytes,
-        a.marks ++ mark,
-        a.argument,
-        written ∙ marked,
-        a.prints,
-        ap argument_of open_is ∙ a.found,
-        a.plain,
-        a.placed,
-        a.begins_is,
-        subst (λ n. Comes s a.outer (tree a.made true) n later) (sym (same_at ∙ at)) a.comes,
-        subst (λ ws. Stands s ws a.outer a.front) (sym open_is) a.stands,
-        a.place_is,
-      );
-    }
-
--- ## What it is handed to
-
--- it is a parameter
-pub dependent-parameter : (s : Symbol) (w : Direct) (is_reference : Bool) (mark : Mark) (begins number place start : ℕ) (argument_ : Arguments)
-    → IsWriting s w (steps.Dependent is_reference begins number place)
-    → slice_get w.waiting.list.items (length w.waiting.list.items - 1) ≡ Some (opens.Parameters mark start argument_)
-    → IsParameterEnded s w mark start argument_
-dependent-parameter s w is_reference mark begins number place start argument_ p found =
-    let b = p.is_before in
-    let last = last-found w.waiting.list.items (opens.Parameters mark start argument_) found in
-    let waits : Stands s (opens.Parameters mark start argument_ ∷ last.0) b.0 b.2 = subst (λ ws. Stands s ws b.0 b.2) last.1 b.13 in
-    let same = same-place argument_ b.5 (ap argument_of (sym last.1) ∙ b.8) in
-    let names = named-one b.2 argument_ b.5 number waits.6.own same waits.6.names b.9.0 in
-    let prints = behind-argument b.2 b.5.elements (place_of b.5 number) number waits.6.own b.1 b.3 b.4 is_reference names b.9 b.10 b.7.prints in
-    parameter-got s w mark start argument_ p.state last.0 b.0 b.1 b.2 (b.3 ++ b.4) waits p.candidates last.1
-    (b.6 ∙ append_assoc b.2 b.3 b.4) b.12 (type-element-in (types_of waits.6.own) b.1 (b.3 ++ b.4) is_reference prints)
-
--- of a function in which a type is
-pub dependent-within : (s : Symbol) (w : Direct) (is_reference : Bool) (mark : Mark) (begins number place from to : ℕ) (argument_ : Arguments)
-    → IsWriting s w (steps.Dependent is_reference begins number place)
-    → slice_get w.waiting.list.items (length w.waiting.list.items - 1) ≡ Some (opens.Enclosing mark from to argument_)
-    → IsEnclosingParameterRead s w mark from to argument_
-dependent-within s w is_reference mark begins number place from to argument_ p found =
-    let b = p.is_before in
-    let last = last-found w.waiting.list.items (opens.Enclosing mark from to argument_) found in
-    let waits : Stands s (opens.Enclosing mark from to argument_ ∷ last.0) b.0 b.2 = subst (λ ws. Stands s ws b.0 b.2) last.1 b.13 in
-    let same = same-place argument_ b.5 (ap argument_of (sym last.1) ∙ b.8) in
-    let names = named-one b.2 argument_ b.5 number waits.5.own same waits.5.names b.9.0 in
-    let prints = behind-argument b.2 b.5.elements (place_of b.5 number) number waits.5.own b.1 b.3 b.4 is_reference names b.9 b.10 b.7.prints in
-    parameter-got-within s w mark from to argument_ p.state last.0 b.0 b.1 b.2 (b.3 ++ b.4) waits p.candidates last.1
-    (b.6 ∙ append_assoc b.2 b.3 b.4) b.12 (type-element-in (types_of waits.5.own) b.1 (b.3 ++ b.4) is_reference prints)
-
--- it is the return type
-pub dependent-front : (s : Symbol) (w : Direct) (is_reference : Bool) (mark : Mark) (begins number place start : ℕ) (argument_ : Arguments)
-    → IsWriting s w (steps.Dependent is_reference begins number place)
-    → slice_get w.waiting.list.items (length w.waiting.list.items - 1) ≡ Some (opens.Front mark start argument_)
-    → IsFrontRead s w mark start argument_
-dependent-front s w is_reference mark begins number place start argument_ p found =
-    let b = p.is_before in
-    let last = last-found w.waiting.list.items (opens.Front mark start argument_) found in
-    let waits : Stands s (opens.Front mark start argument_ ∷ last.0) b.0 b.2 = subst (λ ws. Stands s ws b.0 b.2) last.1 b.13 in
-    let same = same-place argument_ b.5 (ap argument_of (sym last.1) ∙ b.8) in
-    let names = named-one b.2 argument_ b.5 number waits.3.own same waits.3.names b.9.0 in
-    let prints = behind-argument b.2 b.5.elements (place_of b.5 number) number waits.3.own b.1 b.3 b.4 is_reference names b.9 b.10 b.7.prints in
-    front-got s w is_reference mark start argument_ p.state last.0 b.0 b.1 b.2 (b.3 ++ b.4) waits p.candidates
-    (b.6 ∙ append_assoc b.2 b.3 b.4) b.12 prints
 
 -- ## A reference to each type of a pack
 
@@ -554,6 +362,7 @@ none-forwarded w ts = record {
     candidates = refl;
     waiting = refl;
     nest = refl;
+    scope = refl;
     at = refl;
     rounds = refl;
   };
@@ -653,6 +462,7 @@ forwarded-more {detail} before w one two new ts argument number place marks p f 
             candidates = mark.candidates ∙ piece.candidates ∙ comma.candidates ∙ f.writes.candidates;
             waiting = mark.waiting ∙ piece.waiting ∙ comma.waiting ∙ f.writes.waiting;
             nest = mark.nest ∙ piece.nest ∙ comma.nest ∙ f.writes.nest;
+            scope = mark.scope ∙ piece.scope ∙ comma.scope ∙ f.writes.scope;
             at = mark.at ∙ piece.at ∙ comma.at ∙ f.writes.at;
             rounds = mark.rounds ∙ piece.rounds ∙ comma.rounds ∙ f.writes.rounds;
           };
@@ -669,11 +479,12 @@ some-there (t ∷ ts) own e none = cc none
 -- it is read
 pub expansion-read : (s : Symbol) (old begun last new : Direct) (mark : Mark) (start : ℕ) (argument : Arguments) (a : AwaitsNextParameter s old mark start argument)
     → argument.first.is_pack ≡ true → (ordered : argument.first.from ≤ argument.first.to) → argument.elements ≤ 4 → StandsAt s.bytes old.at (68 ∷ 112 ∷ 79 ∷ 84 ∷ 95 ∷ [])
-    → begun.text ≡ old.text → begun.candidates ≡ old.candidates → begun.waiting ≡ old.waiting → begun.at ≡ old.at + 5
+    → begun.text ≡ old.text → begun.candidates ≡ old.candidates → begun.waiting ≡ old.waiting → begun.has_scope ≡ old.has_scope → begun.at ≡ old.at + 5
     → AreForwarded (detail_of s) begun last (a.is_function.names 0 ordered).elements 4
-    → new.text ≡ last.text → new.candidates.list.items ≡ with_three last.candidates.list.items → new.waiting ≡ last.waiting → new.at ≡ last.at
+    → new.text ≡ last.text → new.candidates.list.items ≡ with_three last.candidates.list.items → new.waiting ≡ last.waiting
+    → new.has_scope ≡ last.has_scope → new.at ≡ last.at
     → IsParameterEnded s new mark start argument
-expansion-read s old begun last new mark start argument a pack_ ordered few stands same_text same_candidates same_waiting begun_at fw text candidates waiting at =
+expansion-read s old begun last new mark start argument a pack_ ordered few stands same_text same_candidates same_waiting same_scope begun_at fw text candidates waiting scope_ at =
     let f = a.is_function in
     let n = f.names 0 ordered in
     let ts = n.elements in
@@ -682,7 +493,7 @@ expansion-read s old begun last new mark start argument a pack_ ordered few stan
     let bytes = fw.bytes in
     let t = expansion (rvalue (parameter 0)) in
     let around = a.goes.around in
-    let scope = subst (λ k. IsScope 0 k a.goes.around) pack_ (a.goes.scoped 0 ordered).0 in
+    let scope = subst (λ k. IsScope 0 k a.goes.around) pack_ (a.goes.scoped.1 0 ordered) in
     let later = with_expansion (count (list_of scope.elements)) around a.state in
     let element = element-awaits s Kind.Items a.goes.inner a.goes.around old.at a.state tt a.goes.awaits in
     let comes = expansion-comes s a.goes.around element.inner old.at a.state scope element.awaits stands in
@@ -694,19 +505,20 @@ expansion-read s old begun last new mark start argument a pack_ ordered few stan
     let alone : arguments_of f.own ≡ Some (list (pack (list_of ts)) nil) = n.all_are ∙ ap (λ l. Some l) first.0 in
     let grown : new.text.list.items ≡ old.text.list.items ++ bytes =
     ap (λ v. v.list.items) text ∙ fw.writes.text ∙ ap (λ v. v.list.items ++ bytes) same_text in
-    let known : AreCandidates (detail_of s) (old.text.list.items ++ bytes) (with_three old.candidates.list.items) later.candidates =
-    one-hidden (detail_of s) (old.text.list.items ++ bytes) ((old.candidates.list.items ++ hidden ∷ []) ++ hidden ∷ [])
+    let keeps : Keeps s a.scope last a.state.candidates =
+    keeps-written s begun last bytes a.state.candidates fw.writes (keeps-same s old begun a.state.candidates same_text same_candidates same_scope a.keeps) in
+    let forwarded_text = last.text.list.items in
+    let known : AreCandidates s a.scope.names forwarded_text (with_three last.candidates.list.items) later.candidates =
+    one-hidden s a.scope.names forwarded_text ((last.candidates.list.items ++ hidden ∷ []) ++ hidden ∷ [])
     ((a.state.candidates ++ candidate around (parameter 0) ∷ []) ++ candidate around (rvalue (parameter 0)) ∷ [])
     (candidate around t)
-    (one-hidden (detail_of s) (old.text.list.items ++ bytes) (old.candidates.list.items ++ hidden ∷ [])
+    (one-hidden s a.scope.names forwarded_text (last.candidates.list.items ++ hidden ∷ [])
     (a.state.candidates ++ candidate around (parameter 0) ∷ []) (candidate around (rvalue (parameter 0)))
-    (one-hidden (detail_of s) (old.text.list.items ++ bytes) old.candidates.list.items a.state.candidates (candidate around (parameter 0))
-    (candidates-stay (detail_of s) old.text.list.items bytes old.candidates.list.items a.state.candidates a.candidates))) in
+    (one-hidden s a.scope.names forwarded_text last.candidates.list.items a.state.candidates (candidate around (parameter 0)) keeps.candidates)) in
     record {
       state = later;
-      candidates = subst (λ l. AreCandidates (detail_of s) l new.candidates.list.items later.candidates) (sym grown)
-          (subst (λ ks. AreCandidates (detail_of s) (old.text.list.items ++ bytes) ks later.candidates)
-          (sym (candidates ∙ ap (λ v. with_three v.list.items) (fw.writes.candidates ∙ same_candidates))) known);
+      scope = a.scope;
+      keeps = keeps-as s last new later.candidates (ap (λ v. v.list.items) text) candidates scope_ known keeps.named keeps.own keeps.unknown;
       rest = a.rest;
       open_is = ap (λ v. reverse v.list.items) (waiting ∙ fw.writes.waiting ∙ same_waiting) ∙ a.open_is;
       make = a.make;
@@ -723,6 +535,8 @@ expansion-read s old begun last new mark start argument a pack_ ordered few stan
         elements = next-prints-in (types_of f.own) 6 a.ts a.texts t bytes f.elements
             (expansion-element f.own ts bytes (some-there ts n.own first.1) alone prints);
         names = subst (λ l. HasArguments (detail_of s) l argument f.own) (sym grown) (arguments-stay old.text.list.items bytes argument f.own f.names);
+        given = f.given;
+        named = f.named;
       };
       fronts = a.fronts;
       written = grown ∙ ap (λ l. l ++ bytes) a.written ∙ append_assoc front (in_front_of_next a.ts a.texts) bytes;

@@ -18,16 +18,16 @@ use Rattle.cpp_direct.specs.Holes.{StandsAt, ListGoesOn}
 use Rattle.cpp_direct.specs.HolesOfLists.{IsDigitsAt, minus_sign, IsOffsetAt}
 use Rattle.cpp_direct.specs.ItemBytes.{is_integer_letter}
 use Rattle.cpp_direct.specs.Prints.{Prints, sign_text, EndsAsInteger}
-use Rattle.cpp_direct.specs.WriterInvariant.{AreCandidates, Belongs, Closes, GoesOn, IsTemplate, IsWriting, Stands, element_kind, extra_of, led_by, in_front_of_next, IsScoped}
+use Rattle.cpp_direct.specs.WriterInvariant.{below, scoped_in, may_name, Belongs, Closes, GoesOn, IsTemplate, IsWriting, Stands, element_kind, extra_of, led_by, in_front_of_next, IsScoped}
 use Rattle.cpp_direct.specs.MidStep.{AwaitsNextArgument, truth_text, number_text, integer_text, AwaitsNumber, AwaitsNamedType}
 use Rattle.cpp_direct.specs.Written.{Reads, Writes}
 use Rattle.cpp_direct.proofs.Scopes.{none-scoped}
-use Rattle.cpp_direct.proofs.Kept.{candidates-read, template-stays, candidates-stay, reverse-last}
+use Rattle.cpp_direct.proofs.Kept.{keeps-grown, keeps-read, template-stays, reverse-last}
 use Rattle.cpp_direct.proofs.Listed.{element-kind, element-goes-on, enumerator-stands, listing-at, some-elements}
 use Rattle.cpp_direct.proofs.Moves.{stands-join}
 use Rattle.cpp_direct.proofs.MovesOfLists.{bool-element, integer-element, enumerator-opens}
 use Rattle.cpp_direct.proofs.LettersTested.{integer-there}
-use Rattle.cpp_direct.proofs.PrintedLists.{next-prints, type-element}
+use Rattle.cpp_direct.proofs.PrintedLists.{element-as, next-prints-as, type-element}
 use Rattle.cpp_direct.specs.WrittenParts.{IsUnmarked}
 use Rattle.cpp_direct.proofs.Unmarked.{digits-unmarked}
 use Rattle.cpp_direct.proofs.PrintedNames.{boolean-prints, plain-integer-prints, cast-integer-prints, normal-filled, enumerator-prints, not-integer, normal-unmarked}
@@ -200,22 +200,25 @@ pub element-read : (s : Symbol) (old new : Direct) (t : Term) (bytes : List ℕ)
 element-read s old new t bytes a prints reads g =
     let p = a.place in
     let extra = extra_of p.listing in
+    let noted = may_name p.listing p.owner in
     record {
       state = a.state;
-      candidates = candidates-read (detail_of s) old new bytes a.state.candidates reads a.candidates;
+      scope = a.scope;
+      keeps = keeps-read s old new bytes a.state.candidates reads a.keeps;
       is_before = (
         listing-at (reverse old.waiting.list.items) old.text.list.items (reverse new.waiting.list.items) new.text.list.items p
-            (subst (λ v. Belongs (detail_of s) p.listing (reverse v.list.items) p.owner p.rest) (sym reads.waiting) p.belongs)
-            (subst (λ l. IsTemplate (detail_of s) p.owner p.front p.template p.name l) (sym reads.text)
-            (template-stays (detail_of s) p.owner p.front p.template p.name old.text.list.items bytes p.is_template)),
+            (subst (λ v. Belongs (detail_of s) a.scope.names p.listing (reverse v.list.items) p.owner p.rest) (sym reads.waiting) p.belongs)
+            (subst (λ l. IsTemplate (detail_of s) a.scope.names p.owner p.front p.template p.name l) (sym reads.text)
+            (template-stays (detail_of s) a.scope.names p.owner p.front p.template p.name old.text.list.items bytes p.is_template)),
         a.ts ++ t ∷ [],
         in_front_of_next a.ts a.texts ++ bytes,
-        next-prints extra a.ts a.texts t bytes a.elements (type-element extra t bytes false prints),
+        next-prints-as (detail_of s) a.scope.names noted extra a.ts a.texts t bytes a.elements
+            (element-as (detail_of s) a.scope.names noted extra t bytes (type-element extra t bytes false prints)),
         reads.text ∙ ap (λ l. l ++ bytes) a.written ∙ append_assoc (led_by (detail_of s) p.listing p.front p.name) (in_front_of_next a.ts a.texts) bytes,
         λ first. absurd (false≢true first),
         λ further. some-elements a.ts t,
-        element-goes-on s (element_kind p.listing) (λ l now then. Closes s p.listing p.owner (Stands s p.rest) p.front p.template l now then)
-            a.ts t old.at new.at a.state a.state a.goes g,
+        element-goes-on s (element_kind p.listing) (scoped_in p.owner (below s a.scope p.rest))
+            (λ l now then. Closes s p.listing p.owner (below s a.scope p.rest) p.front p.template l now then) a.ts t old.at new.at a.state a.state a.goes g,
       );
     }
 
@@ -245,7 +248,7 @@ boolean-element-read s old begun middle new a first next nothing read ended =
     (subst (λ l. Prints (detail_of s) (boolean (nat_eq d 49)) l false) (truth-is (nat_eq d 49) ∙ sym (append-nil written)) (boolean-prints (nat_eq d 49)))
     (reads-then old middle new written [] (reads-then old begun middle [] written nothing read.4) ended.2)
     (subst (λ n. ListGoesOn s (element_kind a.place.listing) a.goes.1 a.goes.0 (boolean (nat_eq d 49)) n a.state) behind
-    (bool-element s (element_kind a.place.listing) a.goes.1 a.goes.0 d old.at a.state (element-kind a.place.listing) read.1 a.goes.3 whole))
+    (bool-element s (element_kind a.place.listing) a.goes.1 a.goes.0 d old.at a.state (element-kind a.place.listing) read.1 a.goes.4 whole))
 
 number-unmarked : (s : List ℕ) (at : ℕ) (digits : List ℕ) (end : ℕ) → IsDigitsAt s at digits end → IsUnmarked digits
 number-unmarked s at digits end is = subst IsUnmarked is.own (digits-unmarked is.token.own is.is_number.digits.0)
@@ -284,7 +287,7 @@ integer-element-read s old begun middle new a first next nothing read ended =
     (subst (λ l. Prints (detail_of s) t l false) (sym (append-nil written)) (integer-prints letter negative ds read.3 filled (number-unmarked s.bytes _ ds _ read.5)))
     (reads-then old middle new written [] (reads-then old begun middle [] written nothing read.6) ended.2)
     (subst (λ n. ListGoesOn s (element_kind a.place.listing) a.goes.1 a.goes.0 t n a.state) (sym ended.1)
-    (integer-element s (element_kind a.place.listing) a.goes.1 a.goes.0 letter negative ds old.at middle.at a.state (element-kind a.place.listing) read.3 a.goes.3 whole
+    (integer-element s (element_kind a.place.listing) a.goes.1 a.goes.0 letter negative ds old.at middle.at a.state (element-kind a.place.listing) read.3 a.goes.4 whole
     (subst (λ n. IsDigitsAt s.bytes n ds middle.at) there read.5) ended.0))
 
 -- ## Enumerators
@@ -292,40 +295,40 @@ integer-element-read s old begun middle new a first next nothing read ended =
 -- an argument was begun that is an enumerator
 pub enumerator-expected : (s : Symbol) (old begun pushed new : Direct) (a : AwaitsNextArgument s old) → StandsAt s.bytes old.at (76 ∷ [])
     → begun.at ≡ old.at + 1 → Reads old begun [] → Writes begun pushed (codes "(")
-    → new.text.list.items ≡ pushed.text.list.items → new.candidates ≡ pushed.candidates → new.waiting.list.items ≡ pushed.waiting.list.items ++ opens.Enumerator ∷ []
-    → new.at ≡ pushed.at → AwaitsNamedType s new
-enumerator-expected s old begun pushed new a stands next nothing writes text candidates waits at =
+    → new.text.list.items ≡ pushed.text.list.items → new.candidates ≡ pushed.candidates → new.has_scope ≡ pushed.has_scope
+    → new.waiting.list.items ≡ pushed.waiting.list.items ++ opens.Enumerator ∷ [] → new.at ≡ pushed.at → AwaitsNamedType s new
+enumerator-expected s old begun pushed new a stands next nothing writes text candidates scope_same waits at =
     let p = a.place in
-    let e = enumerator-opens s (element_kind p.listing) a.goes.1 a.goes.0 old.at a.state (element-kind p.listing) a.goes.3 stands in
+    let e = enumerator-opens s (element_kind p.listing) a.goes.1 a.goes.0 old.at a.state (element-kind p.listing) a.goes.4 stands in
     let same : begun.text.list.items ≡ old.text.list.items = nothing.text ∙ append-nil old.text.list.items in
     let written : new.text.list.items ≡ old.text.list.items ++ codes "(" = text ∙ writes.text ∙ ap (λ l. l ++ codes "(") same in
     let waiting : new.waiting.list.items ≡ old.waiting.list.items ++ opens.Enumerator ∷ [] =
     waits ∙ ap (λ v. v.list.items ++ opens.Enumerator ∷ []) (writes.waiting ∙ nothing.waiting) in
     record {
       state = a.state;
-      candidates = subst (λ v. AreCandidates (detail_of s) new.text.list.items v.list.items a.state.candidates) (sym (candidates ∙ writes.candidates ∙ nothing.candidates))
-          (subst (λ l. AreCandidates (detail_of s) l old.candidates.list.items a.state.candidates) (sym written)
-          (candidates-stay (detail_of s) old.text.list.items (codes "(") old.candidates.list.items a.state.candidates a.candidates));
+      scope = a.scope;
+      keeps = keeps-grown s old new (codes "(") a.state.candidates written (candidates ∙ writes.candidates ∙ nothing.candidates)
+          (scope_same ∙ writes.scope ∙ nothing.scope) a.keeps;
       kind = Kind.LiteralType;
       is_named = tt;
       around = a.goes.0;
       outside = a.goes.2;
       os = e.inner;
       begins = subst (λ k. TreeOpens s Kind.LiteralType e.inner a.goes.0 k a.state) (sym (at ∙ writes.at ∙ next)) e.opens;
-      stands = subst (λ ws. Stands s ws e.inner new.text.list.items)
+      stands = subst (λ ws. Stands s a.scope ws e.inner new.text.list.items)
           (sym (ap reverse waiting ∙ reverse-last old.waiting.list.items opens.Enumerator))
-          (enumerator-stands s (reverse old.waiting.list.items) new.text.list.items e.inner
+          (enumerator-stands s a.scope (reverse old.waiting.list.items) new.text.list.items e.inner
           (listing-at (reverse old.waiting.list.items) old.text.list.items (reverse old.waiting.list.items) new.text.list.items p p.belongs
-          (subst (λ l. IsTemplate (detail_of s) p.owner p.front p.template p.name l) (sym written)
-          (template-stays (detail_of s) p.owner p.front p.template p.name old.text.list.items (codes "(") p.is_template)))
+          (subst (λ l. IsTemplate (detail_of s) a.scope.names p.owner p.front p.template p.name l) (sym written)
+          (template-stays (detail_of s) a.scope.names p.owner p.front p.template p.name old.text.list.items (codes "(") p.is_template)))
           a.ts a.texts a.elements (written ∙ ap (λ l. l ++ codes "(") a.written)
           (λ t here now comes negative digits end minus digits_there ended.
-          element-goes-on s (element_kind p.listing) (λ l now then. Closes s p.listing p.owner (Stands s p.rest) p.front p.template l now then)
-          a.ts (integer t (signed_digits negative digits)) old.at (end + 1) a.state now a.goes
+          element-goes-on s (element_kind p.listing) (scoped_in p.owner (below s a.scope p.rest))
+          (λ l now then. Closes s p.listing p.owner (below s a.scope p.rest) p.front p.template l now then) a.ts (integer t (signed_digits negative digits)) old.at (end + 1) a.state now a.goes
           (e.onward t here now comes negative digits end minus digits_there ended)));
-      scoped = subst (λ ws. IsScoped a.goes.0 ws)
+      scoped = subst (λ ws. IsScoped a.scope a.goes.0 ws)
           (sym (ap reverse waiting ∙ reverse-last old.waiting.list.items opens.Enumerator))
-          (none-scoped a.goes.0 (opens.Enumerator ∷ reverse old.waiting.list.items) refl);
+          (none-scoped a.scope a.goes.0 (opens.Enumerator ∷ reverse old.waiting.list.items) refl);
     }
 
 -- a text that ends so
@@ -360,11 +363,12 @@ no-integer-type text front bytes e other ending = go ending.1
 
 -- the number of an enumerator was read after its type, and an E
 pub enumerator-read : (s : Symbol) (old begun pushed middle new : Direct) (a : AwaitsNumber s old)
-    → EndsOtherwise old.text.list.items → begun.text ≡ old.text → begun.candidates ≡ old.candidates → begun.at ≡ old.at → reverse begun.waiting.list.items ≡ a.opened
+    → EndsOtherwise old.text.list.items → begun.text ≡ old.text → begun.candidates ≡ old.candidates → begun.has_scope ≡ old.has_scope → begun.at ≡ old.at
+    → reverse begun.waiting.list.items ≡ a.opened
     → Writes begun pushed (codes ")") → (read : IsNumberRead s.bytes pushed middle)
     → StandsAt s.bytes middle.at (69 ∷ []) × (new.at ≡ middle.at + 1) × Reads middle new [] → IsWriting s new (steps.List false)
 unfolding signed_digits
-enumerator-read s old begun pushed middle new a other text candidates at waits writes read ended =
+enumerator-read s old begun pushed middle new a other text candidates scope_same at waits writes read ended =
     let negative = read.0 in
     let ds = read.1 in
     let n = signed_digits negative ds in
@@ -372,6 +376,7 @@ enumerator-read s old begun pushed middle new a other text candidates at waits w
     let here : pushed.at ≡ old.at = writes.at ∙ at in
     let p = a.place in
     let extra = extra_of p.listing in
+    let noted = may_name p.listing p.owner in
     let front = led_by (detail_of s) p.listing p.front p.name in
     let before = in_front_of_next a.ts a.texts in
     let more = codes ")" ++ number_text n in
@@ -384,23 +389,23 @@ enumerator-read s old begun pushed middle new a other text candidates at waits w
     (no-integer-type old.text.list.items (front ++ before) a.bytes a.written other)) n (normal-filled ds filled) (normal-unmarked ds (number-unmarked s.bytes _ ds _ read.3)) in
     record {
       state = a.state;
-      candidates = subst (λ v. AreCandidates (detail_of s) new.text.list.items v.list.items a.state.candidates)
-          (sym (ended.2.candidates ∙ read.4.candidates ∙ writes.candidates ∙ candidates))
-          (subst (λ l. AreCandidates (detail_of s) l old.candidates.list.items a.state.candidates) (sym wrote)
-          (candidates-stay (detail_of s) old.text.list.items more old.candidates.list.items a.state.candidates a.candidates));
+      scope = a.scope;
+      keeps = keeps-grown s old new more a.state.candidates wrote (ended.2.candidates ∙ read.4.candidates ∙ writes.candidates ∙ candidates)
+          (ended.2.scope ∙ read.4.scope ∙ writes.scope ∙ scope_same) a.keeps;
       is_before = (
         listing-at a.opened old.text.list.items (reverse new.waiting.list.items) new.text.list.items p
-            (subst (λ ws. Belongs (detail_of s) p.listing ws p.owner p.rest)
+            (subst (λ ws. Belongs (detail_of s) a.scope.names p.listing ws p.owner p.rest)
             (sym (ap (λ v. reverse v.list.items) (ended.2.waiting ∙ read.4.waiting ∙ writes.waiting) ∙ waits)) p.belongs)
-            (subst (λ l. IsTemplate (detail_of s) p.owner p.front p.template p.name l) (sym wrote)
-            (template-stays (detail_of s) p.owner p.front p.template p.name old.text.list.items more p.is_template)),
+            (subst (λ l. IsTemplate (detail_of s) a.scope.names p.owner p.front p.template p.name l) (sym wrote)
+            (template-stays (detail_of s) a.scope.names p.owner p.front p.template p.name old.text.list.items more p.is_template)),
         a.ts ++ t ∷ [],
         before ++ own,
-        next-prints extra a.ts a.texts t own a.elements (type-element extra t own false prints),
+        next-prints-as (detail_of s) a.scope.names noted extra a.ts a.texts t own a.elements
+            (element-as (detail_of s) a.scope.names noted extra t own (type-element extra t own false prints)),
         wrote ∙ ap (λ l. l ++ more) a.written ∙ rejoined front before a.bytes (sign_text n) n.digits,
         λ first. absurd (false≢true first),
         λ further. some-elements a.ts t,
-        subst (λ k. GoesOn s p.listing p.owner (Stands s p.rest) p.front p.template (a.ts ++ t ∷ []) k a.state) (sym ended.1)
+        subst (λ k. GoesOn s p.listing p.owner (below s a.scope p.rest) p.front p.template (a.ts ++ t ∷ []) k a.state) (sym ended.1)
             (a.goes negative ds middle.at (subst (λ k. StandsAt s.bytes k (minus_sign negative)) here read.2)
             (subst (λ k. IsDigitsAt s.bytes (k + length (minus_sign negative)) ds middle.at) here read.3) ended.0),
       );

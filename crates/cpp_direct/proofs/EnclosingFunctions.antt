@@ -1,6 +1,7 @@
 -- Types that are in functions, from their Z to their end.
 use Rattle.std.proofs.Common.{◌≡◌, ◌≢◌, refl, ap, sym, ◌∙◌, subst, inl, inr, ℕ, ◌+◌, List, [], ◌∷◌, ◌++◌, length, reverse, take, ◌≤◌, true, false, Option, None, Some, arith, codes, length-append, append-nil, append_assoc}
 use Rattle.std.specs.Prelude.{decimal}
+use Rattle.std.proofs.lemmas.Bool.{false≢true}
 use Rattle.std.proofs.Math.Seq.{take-append_seam}
 use Rattle.std.proofs.lemmas.Fmt.{decimal_digit}
 use Rattle.cpp_grammar.specs.declared.kind.Kind.{Kind}
@@ -17,7 +18,6 @@ use Rattle.cpp_grammar.specs.Meaning.{encoding_of, is_nil, is_void, parameters}
 use Rattle.cpp_direct.specs.declared.marks.MarkPlace.{MarkPlace}
 use Rattle.cpp_direct.specs.declared.open.Mark.{Mark}
 use Rattle.cpp_direct.specs.declared.open.Mark.TheVariants as marks
-use Rattle.cpp_direct.specs.declared.open.Arguments.{Arguments}
 use Rattle.cpp_direct.specs.Symbol.{detail_of, Symbol}
 use Rattle.cpp_direct.specs.declared.open.Open.{Open}
 use Rattle.cpp_direct.specs.declared.open.Open.TheVariants as opens
@@ -29,19 +29,19 @@ use Rattle.cpp_direct.specs.HolesOfLists.{mark_letters, nest_marks}
 use Rattle.cpp_direct.specs.HolesOfLocals.{Discriminator, IsDiscriminatorAt, IsLambdaDigit, IsPieceAt, lambda_digits, lambda_ending, lambda_number, lambda_with, local_in}
 use Rattle.cpp_direct.specs.Bytes.{short_numbers}
 use Rattle.cpp_direct.specs.Marks.{IsMarkPlace, has_const, called_on, mark_text}
-use Rattle.cpp_direct.specs.Prints.{IsElementIn, Prints, PrintsName, PrintsPiece, Shows, Encloses, list_of}
-use Rattle.cpp_direct.specs.WriterInvariant.{AreCandidates, Below, HasArguments, IsEnclosing, IsNesting, IsWriting, ItemsGoOn, LambdaWithin, Serves, Stands, TypeWithin, in_front_of_next, qualifiers, IsScoped, named_in, nowhere}
+use Rattle.cpp_direct.specs.Prints.{Prints, PrintsAs, PrintsName, PrintsPiece, Shows, Encloses, list_of}
+use Rattle.cpp_direct.specs.WriterInvariant.{AreCandidates, AreNamed, Below, IsEnclosing, IsNesting, IsOwn, IsScoped, IsWriting, ItemsGoOn, Keeps, LambdaWithin, Scope, Serves, Stands, TypeWithin, below, in_front_of_next, no_scope, nowhere, qualifiers}
 use Rattle.cpp_direct.specs.MidStep.{AwaitsNamedType, AwaitsNest, IsElementRead}
 use Rattle.cpp_direct.specs.MidStepOfLocals.{AwaitsEnclosingParameters, AwaitsTypeName, IsEnclosingInstance, IsEnclosingNamed, IsEnclosingParameterRead, IsEnclosingRead, IsLambdaParameterRead}
 use Rattle.cpp_direct.specs.Written.{AreKeptTo, Writes, Reads, added}
 use Rattle.cpp_direct.proofs.Ending.{behind-two, behind-three, behind-five, next-written, parameter-goes_on, plain-text, qualifiers-text, void-read}
 use Rattle.cpp_direct.proofs.NamePlaces.{reads-of, reads-then}
-use Rattle.cpp_direct.proofs.Kept.{candidates-as, candidates-same, candidates-grown, candidates-read, candidates-with, candidates-written, reverse-last, candidates-kept}
+use Rattle.cpp_direct.proofs.Kept.{candidates-kept, keeps-grown, keeps-read, keeps-same, keeps-with, keeps-written, none-named, reverse-last}
 use Rattle.cpp_direct.proofs.Listed.{some-elements}
 use Rattle.cpp_direct.proofs.Moves.{expects-empty, stands-join}
 use Rattle.cpp_direct.proofs.MovesOfEncodings.{encoding-opens, name-nested, name-source}
 use Rattle.cpp_direct.proofs.MovesOfLists.{element-awaits}
-use Rattle.cpp_direct.proofs.MovesOfLocals.{lambda-opens, lambda-piece, lambda_bytes, local-type-opens, number-is}
+use Rattle.cpp_direct.proofs.MovesOfLocals.{lambda-opens, lambda-piece, lambda_bytes, local-type-opens, nowhere-scoped, number-is}
 use Rattle.cpp_direct.proofs.Nesting.{nest-comes}
 use Rattle.cpp_direct.proofs.PrintedLists.{list-with-none, all-in, element-in, next-prints, next-prints-in, none-print, none-print-in}
 use Rattle.cpp_direct.proofs.PrintedParts.{has-none, has-parameters}
@@ -52,20 +52,19 @@ use Rattle.cpp_direct.specs.WrittenParts.{IsUnmarked}
 use Rattle.cpp_direct.proofs.Unmarked.{name-unmarked, is-no-mark, more-unmarked}
 use Rattle.cpp_direct.proofs.TypesRead.{builtin-listed, no-builtin}
 use Rattle.cpp_direct.proofs.MovesOfTypes.{builtin-comes}
-use Rattle.cpp_direct.proofs.Scopes.{arguments-named, arguments-stay, enclosing-scoped, enclosing-stays, none-known, none-scoped}
+use Rattle.cpp_direct.proofs.Scopes.{none-scoped}
 
 -- ## Names
 
 -- The name of a function in which a type is is expected, after this text.
-record NameOpened (s : Symbol) (below : Below) (front : List ℕ) (at : ℕ) (st : State) : Type 0 where
+record NameOpened (s : Symbol) (below_ : Below) (front : List ℕ) (at : ℕ) (st : State) : Type 0 where
   pub inner : List Opened
   pub awaits : Expects s Kind.CompleteName (in_name at) inner at st
-  pub onward : (text : List ℕ) (argument : Arguments) (v : Value) (here : ℕ) (now : State)
-      → HasArguments (detail_of s) text argument (tree_of v) → argument.encoding ≡ 0 → Comes s inner v here now
-      → ItemsGoOn s argument (TypeWithin s below front) (λ l. encoding_of v l) [] here now
+  pub onward : (v : Value) (here : ℕ) (now : State) → Comes s inner v here now
+      → ItemsGoOn s nowhere (TypeWithin s below_ front) (λ l. encoding_of v l) [] here now
 
 name-opens : (s : Symbol) (w : Direct) (a : AwaitsNamedType s w) → StandsAt s.bytes w.at (90 ∷ [])
-    → NameOpened s (Stands s (reverse w.waiting.list.items)) w.text.list.items (w.at + 1) a.state
+    → NameOpened s (below s a.scope (reverse w.waiting.list.items)) w.text.list.items (w.at + 1) a.state
 unfolding in_types is_function_type
 name-opens s w a letter =
     let here = local-type-opens s a.kind a.begins.inner a.around w.at a.state a.is_named a.begins.awaits letter in
@@ -73,22 +72,11 @@ name-opens s w a letter =
     record {
       inner = encoding.inner;
       awaits = encoding.awaits;
-      onward = λ text argument v at st names unplaced comes. let items = encoding.onward v at st comes in record {
+      onward = λ v at st comes. let items = encoding.onward v at st comes in record {
         around = in_types (w.at + 1) (tree_of v);
         inner = items.inner;
         outside = refl;
-        scoped = λ k o. (
-          record {
-            own = (names k o).own;
-            all = (names k o).all;
-            scope_is = (names k o).all_are;
-            there = (names k o).there;
-            elements = (names k o).elements;
-            alone = λ e. ((names k o).alone e).0;
-            no_pack = (names k o).prints.no_pack;
-          },
-          λ real. absurd (real unplaced),
-        );
+        scoped = nowhere-scoped (in_types (w.at + 1) (tree_of v));
         awaits = items.awaits;
         onward = λ l there then_ last. (
           a.os,
@@ -118,13 +106,14 @@ nest-marked s old n mark a letter stands at_is =
     let nest = name-nested s e.inner (in_name (old.at + 1)) (has_const mark) (called_on mark) (old.at + 1) a.state e.awaits stands in
     record {
       state = a.state;
-      candidates = a.candidates;
+      scope = a.scope;
+      keeps = keeps-same s old (record old { at = n }) a.state.candidates refl refl refl a.keeps;
       around = in_name (old.at + 1);
       outside = refl;
       outer = nest.inner;
       awaits = subst (λ k. Expects s Kind.Nest (in_name (old.at + 1)) nest.inner k a.state) (sym at_is) nest.awaits;
-      serves = λ text argument t listed at st names unplaced comes.
-          e.onward text argument (named t (qualifiers (has_const mark)) (called_on mark)) at st names unplaced (nest.onward t listed at st comes);
+      scoped = λ e. absurd (false≢true e);
+      serves = λ t listed at st comes. e.onward (named t (qualifiers (has_const mark)) (called_on mark)) at st (nest.onward t listed at st comes);
     }
 
 -- after an N, where they are
@@ -139,11 +128,11 @@ nest-within s old first second place a letter next nested then_ is =
 
 -- one by itself is read
 pub source-within : (s : Symbol) (old start new : Direct) (name : List ℕ) (from : ℕ) → AwaitsNamedType s old → StandsAt s.bytes old.at (90 ∷ [])
-    → start.text ≡ old.text → start.candidates ≡ old.candidates → start.waiting ≡ old.waiting → start.at ≡ old.at + 1
-    → IsNameAt s.bytes start.at name new.at → name ≢ [] → Reads start new (source_text name) → from ≡ length start.text.list.items
+    → start.text ≡ old.text → start.candidates ≡ old.candidates → start.waiting ≡ old.waiting → start.has_scope ≡ old.has_scope
+    → start.at ≡ old.at + 1 → IsNameAt s.bytes start.at name new.at → name ≢ [] → Reads start new (source_text name) → from ≡ length start.text.list.items
     → IsEnclosingNamed s new marks.Plain from
 unfolding may_be_empty tree_of qualifiers_of ref_of has_return_type arguments_of in_name
-source-within s old start new name from a letter same_text same_candidates same_waiting at_is is filled reads from_is =
+source-within s old start new name from a letter same_text same_candidates same_waiting same_scope at_is is filled reads from_is =
     let own = alone (source false name) in
     let e = name-opens s old a letter in
     let here = in_name (old.at + 1) in
@@ -151,9 +140,9 @@ source-within s old start new name from a letter same_text same_candidates same_
     let front = old.text.list.items in
     record {
       state = a.state;
-      candidates = candidates-read (detail_of s) start new (source_text name) a.state.candidates reads
-          (subst (λ v. AreCandidates (detail_of s) v.list.items start.candidates.list.items a.state.candidates) (sym same_text)
-          (subst (λ v. AreCandidates (detail_of s) front v.list.items a.state.candidates) (sym same_candidates) a.candidates));
+      scope = a.scope;
+      keeps = keeps-read s start new (source_text name) a.state.candidates reads
+          (keeps-same s old start a.state.candidates same_text same_candidates same_scope a.keeps);
       own = own;
       v = tree own false;
       tree_is = refl;
@@ -165,23 +154,30 @@ source-within s old start new name from a letter same_text same_candidates same_
       from_is = from_is ∙ ap (λ v. length v.list.items) same_text;
       prints = as-name own (source_text name) false (source-prints false name filled (name-unmarked s.bytes start.at name new.at is));
       no_return = refl;
-      goes = subst (λ v. ItemsGoOn s nowhere (TypeWithin s (Stands s (reverse v.list.items)) front) (λ l. encoding_of (tree own false) l) [] new.at a.state)
+      goes = subst (λ v. ItemsGoOn s nowhere (TypeWithin s (below s a.scope (reverse v.list.items)) front) (λ l. encoding_of (tree own false) l) [] new.at a.state)
           (sym (reads.waiting ∙ same_waiting))
-          (e.onward [] nowhere (tree own false) new.at a.state (λ k o. absurd (none-known k o)) refl
+          (e.onward (tree own false) new.at a.state
           (named_.bare new.at a.state (expects-empty s Kind.MaybeArguments (after own false here) named_.inner new.at a.state named_.awaits refl)));
     }
 
+-- a nested one names no arguments
+enclosing-closed : (s : Symbol) (scope : Scope) (w : Direct) (st : State) (t : Term) (mark : Mark) (n : IsNesting s scope Kind.NestTail w t st)
+    → w.nest.purpose ≡ purposes.Enclosing mark → Prints (detail_of s) t n.bytes false
+enclosing-closed s scope w st t mark n is_name =
+    let own : IsOwn w.nest.purpose = subst (λ p. IsOwn p) (sym is_name) tt in
+    subst (λ d. PrintsAs (detail_of s) scope.names d t n.bytes false) (n.is_nest.closed own) n.is_nest.prints
+
 -- a nested one is read
-pub name-within : (s : Symbol) (old : Direct) (st : State) (t : Term) (mark : Mark)
-    → AreCandidates (detail_of s) old.text.list.items old.candidates.list.items st.candidates → IsNesting s Kind.NestTail old t st
-    → has_return_type t ≡ false → StandsAt s.bytes old.at (69 ∷ [])
+pub name-within : (s : Symbol) {scope : Scope} (old : Direct) (st : State) (t : Term) (mark : Mark)
+    → Keeps s scope old st.candidates → IsNesting s scope Kind.NestTail old t st → has_return_type t ≡ false → StandsAt s.bytes old.at (69 ∷ [])
     → old.nest.purpose ≡ purposes.Enclosing mark → IsEnclosingNamed s (record old { at = old.at + 1 }) mark old.nest.from
 unfolding tree_of qualifiers_of ref_of
-name-within s old st t mark candidates n no_return here is_name =
-    let serves = subst (λ p. Serves s p (Stands s (reverse old.waiting.list.items)) n.outer n.front) is_name n.serves in
+name-within s {scope = scope} old st t mark keeps n no_return here is_name =
+    let serves = subst (λ p. Serves s p (below s scope (reverse old.waiting.list.items)) n.outer n.front) is_name n.serves in
     record {
       state = st;
-      candidates = candidates;
+      scope = scope;
+      keeps = keeps-same s old (record old { at = old.at + 1 }) st.candidates refl refl refl keeps;
       own = t;
       v = named t (qualifiers (has_const mark)) (called_on mark);
       tree_is = refl;
@@ -191,22 +187,22 @@ name-within s old st t mark candidates n no_return here is_name =
       name = n.bytes;
       written = n.written;
       from_is = n.is_nest.from_is;
-      prints = as-name t n.bytes false n.is_nest.prints;
+      prints = as-name t n.bytes false (enclosing-closed s scope old st t mark n is_name);
       no_return = no_return;
-      goes = serves [] nowhere t old.nest.is_listed (old.at + 1) st (λ k o. absurd (none-known k o)) refl (nest-comes s old st t n here);
+      goes = serves t old.nest.is_listed (old.at + 1) st (nest-comes s old st t n here);
     }
 
 -- an instance is read, whose return type is expected
-pub instance-within : (s : Symbol) (old : Direct) (st : State) (t : Term) (mark : Mark)
-    → AreCandidates (detail_of s) old.text.list.items old.candidates.list.items st.candidates → IsNesting s Kind.NestTail old t st
-    → has_return_type t ≡ true → HasArguments (detail_of s) old.text.list.items old.argument t → StandsAt s.bytes old.at (69 ∷ [])
+pub instance-within : (s : Symbol) {scope : Scope} (old : Direct) (st : State) (t : Term) (mark : Mark)
+    → Keeps s scope old st.candidates → IsNesting s scope Kind.NestTail old t st → has_return_type t ≡ true → StandsAt s.bytes old.at (69 ∷ [])
     → old.nest.purpose ≡ purposes.Enclosing mark → IsEnclosingInstance s (record old { at = old.at + 1 }) mark old.nest.from
 unfolding tree_of qualifiers_of ref_of
-instance-within s old st t mark candidates n returns names here is_name =
-    let serves = subst (λ p. Serves s p (Stands s (reverse old.waiting.list.items)) n.outer n.front) is_name n.serves in
+instance-within s {scope = scope} old st t mark keeps n returns here is_name =
+    let serves = subst (λ p. Serves s p (below s scope (reverse old.waiting.list.items)) n.outer n.front) is_name n.serves in
     record {
       state = st;
-      candidates = candidates;
+      scope = scope;
+      keeps = keeps-same s old (record old { at = old.at + 1 }) st.candidates refl refl refl keeps;
       own = t;
       v = named t (qualifiers (has_const mark)) (called_on mark);
       tree_is = refl;
@@ -216,20 +212,19 @@ instance-within s old st t mark candidates n returns names here is_name =
       name = n.bytes;
       written = n.written;
       from_is = n.is_nest.from_is;
-      prints = as-name t n.bytes false n.is_nest.prints;
+      prints = as-name t n.bytes false (enclosing-closed s scope old st t mark n is_name);
       returns = returns;
-      names = names;
-      goes = serves old.text.list.items (named_in 0 old.argument) t old.nest.is_listed (old.at + 1) st
-          (arguments-named old.text.list.items 0 old.argument t names) refl (nest-comes s old st t n here);
+      goes = serves t old.nest.is_listed (old.at + 1) st (nest-comes s old st t n here);
     }
 
 -- ## Parameters
 
 -- a function without a return type awaits its parameters
-pub plain-awaits : (s : Symbol) (w : Direct) (mark : Mark) (from : ℕ) → IsEnclosingNamed s w mark from → AwaitsEnclosingParameters s w mark from nowhere
+pub plain-awaits : (s : Symbol) (w : Direct) (mark : Mark) (from : ℕ) → IsEnclosingNamed s w mark from → AwaitsEnclosingParameters s w mark from
 plain-awaits s w mark from p = record {
   state = p.state;
-  candidates = p.candidates;
+  scope = p.scope;
+  keeps = p.keeps;
   make = λ l. encoding_of p.v l;
   front = p.front;
   name = p.name;
@@ -239,7 +234,6 @@ plain-awaits s w mark from p = record {
     makes = encoding-plain p.v mark p.own p.tree_is p.qualifiers_are p.mark_is p.no_return;
     prints = p.prints;
     elements = none-print-in (detail_of s) (types_of p.own) 6;
-    names = λ k o. absurd (none-known k o);
   };
   written = p.written;
   from_is = p.from_is;
@@ -249,19 +243,20 @@ plain-awaits s w mark from p = record {
 -- and so does one after its return type, which is a builtin one
 pub returned-awaits : (s : Symbol) (w : Direct) (n : ℕ) (mark : Mark) (from letter : ℕ) → IsEnclosingInstance s w mark from
     → look_up (letter ∷ []) builtin_texts ≢ [] → (letter ≢ 0 → StandsAt s.bytes w.at (letter ∷ [])) → n ≡ w.at + 1
-    → AwaitsEnclosingParameters s (record w { at = n }) mark from (named_in 0 w.argument)
+    → AwaitsEnclosingParameters s (record w { at = n }) mark from
 returned-awaits s w n mark from letter p has stands at_is =
     let r = builtin (letter ∷ []) in
     let make : Term → Term = λ l. encoding_of p.v l in
-    let becomes : Term → ℕ → State → Type 0 = TypeWithin s (Stands s (reverse w.waiting.list.items)) p.front in
+    let becomes : Term → ℕ → State → Type 0 = TypeWithin s (below s p.scope (reverse w.waiting.list.items)) p.front in
     let listed = builtin-listed letter has in
     let element = element-awaits s Kind.Items p.goes.inner p.goes.around w.at p.state tt p.goes.awaits in
-    let goes = parameter-goes_on s (named_in 0 w.argument) becomes make [] w.at p.state p.goes r (w.at + 1) p.state
+    let goes = parameter-goes_on s nowhere becomes make [] w.at p.state p.goes r (w.at + 1) p.state
     (element.onward r (w.at + 1) p.state
     (builtin-comes s Kind.Item p.goes.around element.inner w.at p.state letter tt listed element.awaits (stands (no-builtin letter listed)))) in
     record {
       state = p.state;
-      candidates = p.candidates;
+      scope = p.scope;
+      keeps = keeps-same s w (record w { at = n }) p.state.candidates refl refl refl p.keeps;
       make = λ l. make (list r l);
       front = p.front;
       name = p.name;
@@ -271,24 +266,23 @@ returned-awaits s w n mark from letter p has stands at_is =
         makes = λ t rest. encoding-returned p.v mark p.own p.tree_is p.qualifiers_are p.mark_is p.returns r (list t rest);
         prints = p.prints;
         elements = none-print-in (detail_of s) (types_of p.own) 6;
-        names = arguments-named w.text.list.items 0 w.argument p.own p.names;
       };
       written = p.written;
       from_is = p.from_is;
-      goes = subst (λ k. ItemsGoOn s (named_in 0 w.argument) becomes (λ l. make (list r l)) [] k p.state) (sym at_is)
+      goes = subst (λ k. ItemsGoOn s nowhere becomes (λ l. make (list r l)) [] k p.state) (sym at_is)
           (record { around = goes.around; inner = goes.inner; outside = goes.outside; scoped = goes.scoped; awaits = goes.awaits; onward = goes.onward });
     }
 
 -- a parameter comes next
-parameter-expected : (s : Symbol) (w : Direct) (st : State) (mark : Mark) (from to : ℕ) (argument : Arguments) (rest : List Open) (front : List ℕ)
+parameter-expected : (s : Symbol) (scope : Scope) (w : Direct) (st : State) (mark : Mark) (from to : ℕ) (rest : List Open) (front : List ℕ)
     (make : Term → Term) (ts : List Term) (name texts : List ℕ)
-    → AreCandidates (detail_of s) w.text.list.items w.candidates.list.items st.candidates → reverse w.waiting.list.items ≡ opens.Enclosing mark from to argument ∷ rest
-    → IsEnclosing (detail_of s) w.text.list.items argument mark make ts name texts → from ≡ length front
+    → Keeps s scope w st.candidates → reverse w.waiting.list.items ≡ opens.Enclosing mark from to ∷ rest
+    → IsEnclosing (detail_of s) mark make ts name texts → from ≡ length front
     → w.text.list.items ≡ front ++ name ++ codes "(" ++ in_front_of_next ts texts
-    → ItemsGoOn s argument (TypeWithin s (Stands s rest) front) make ts w.at st → to ≡ length (front ++ name) → IsWriting s w steps.Type
-parameter-expected s w st mark from to argument rest front make ts name texts candidates open_is is_enclosing from_is written p to_is =
+    → ItemsGoOn s nowhere (TypeWithin s (below s scope rest) front) make ts w.at st → to ≡ length (front ++ name) → IsWriting s w steps.Type
+parameter-expected s scope w st mark from to rest front make ts name texts keeps open_is is_enclosing from_is written p to_is =
     let element = element-awaits s Kind.Items p.inner p.around w.at st tt p.awaits in
-    let stands : Stands s (opens.Enclosing mark from to argument ∷ rest) element.inner w.text.list.items = (
+    let stands : Stands s scope (opens.Enclosing mark from to ∷ rest) element.inner w.text.list.items = (
       front,
       make,
       ts,
@@ -297,97 +291,85 @@ parameter-expected s w st mark from to argument rest front make ts name texts ca
       is_enclosing,
       from_is,
       written,
-      λ t here now comes. parameter-goes_on s argument (TypeWithin s (Stands s rest) front) make ts w.at st p t here now (element.onward t here now comes),
+      λ t here now comes.
+          parameter-goes_on s nowhere (TypeWithin s (below s scope rest) front) make ts w.at st p t here now (element.onward t here now comes),
       to_is,
     ) in
     record {
       state = st;
-      candidates = candidates;
+      scope = scope;
+      keeps = keeps;
       is_before = (
         element.inner,
         p.around,
         p.outside,
         inr (inl element.awaits),
-        subst (λ os. Stands s os element.inner w.text.list.items) (sym open_is) stands,
-        subst (λ os. IsScoped p.around os) (sym open_is) (enclosing-scoped p.around mark from to argument rest p.scoped),
+        subst (λ os. Stands s scope os element.inner w.text.list.items) (sym open_is) stands,
+        subst (λ os. IsScoped scope p.around os) (sym open_is) (none-scoped scope p.around (opens.Enclosing mark from to ∷ rest) refl),
       );
     }
 
 -- the first one comes next
-pub first-within : (s : Symbol) (w first last : Direct) (mark : Mark) (from to : ℕ) (argument : Arguments) → AwaitsEnclosingParameters s w mark from argument
-    → Writes w first (codes "(") → last.text ≡ first.text → last.candidates ≡ first.candidates → last.at ≡ first.at
-    → last.waiting.list.items ≡ first.waiting.list.items ++ opens.Enclosing mark from to argument ∷ [] → to ≡ length w.text.list.items
+pub first-within : (s : Symbol) (w first last : Direct) (mark : Mark) (from to : ℕ) → AwaitsEnclosingParameters s w mark from
+    → Writes w first (codes "(") → last.text ≡ first.text → last.candidates ≡ first.candidates → last.has_scope ≡ first.has_scope → last.at ≡ first.at
+    → last.waiting.list.items ≡ first.waiting.list.items ++ opens.Enclosing mark from to ∷ [] → to ≡ length w.text.list.items
     → IsWriting s last steps.Type
-first-within s w first last mark from to argument p one text candidates at waiting to_is =
-    let known = candidates-written (detail_of s) w first (codes "(") p.state.candidates one p.candidates in
-    let moved = candidates-same (detail_of s) first last p.state.candidates text candidates known in
-    let grown : last.text.list.items ≡ w.text.list.items ++ codes "(" = ap (λ l. l.list.items) text ∙ one.text in
-    parameter-expected s last p.state mark from to argument (reverse w.waiting.list.items) p.front p.make [] p.name [] moved
-    (ap reverse waiting ∙ reverse-last first.waiting.list.items (opens.Enclosing mark from to argument)
-    ∙ ap (λ v. opens.Enclosing mark from to argument ∷ reverse v.list.items) one.waiting)
-    (subst (λ l. IsEnclosing (detail_of s) l argument mark p.make [] p.name []) (sym grown)
-    (enclosing-stays w.text.list.items (codes "(") argument mark p.make [] p.name [] p.is_enclosing)) p.from_is
-    (grown ∙ ap (λ l. l ++ codes "(") p.written ∙ sym (append-nil (p.front ++ p.name ++ codes "(")))
-    (subst (λ n. ItemsGoOn s argument (TypeWithin s (Stands s (reverse w.waiting.list.items)) p.front) p.make [] n p.state) (sym (at ∙ one.at)) p.goes)
+first-within s w first last mark from to p one text candidates scope at waiting to_is =
+    parameter-expected s p.scope last p.state mark from to (reverse w.waiting.list.items) p.front p.make [] p.name []
+    (keeps-same s first last p.state.candidates text candidates scope (keeps-written s w first (codes "(") p.state.candidates one p.keeps))
+    (ap reverse waiting ∙ reverse-last first.waiting.list.items (opens.Enclosing mark from to)
+    ∙ ap (λ v. opens.Enclosing mark from to ∷ reverse v.list.items) one.waiting) p.is_enclosing p.from_is
+    (ap (λ l. l.list.items) text ∙ one.text ∙ ap (λ l. l ++ codes "(") p.written ∙ sym (append-nil (p.front ++ p.name ++ codes "(")))
+    (subst (λ n. ItemsGoOn s nowhere (TypeWithin s (below s p.scope (reverse w.waiting.list.items)) p.front) p.make [] n p.state) (sym (at ∙ one.at)) p.goes)
     (to_is ∙ ap length p.written)
 
 -- another one comes next
-pub next-within : (s : Symbol) (w last : Direct) (mark : Mark) (from to : ℕ) (argument : Arguments) → IsEnclosingParameterRead s w mark from to argument
+pub next-within : (s : Symbol) (w last : Direct) (mark : Mark) (from to : ℕ) → IsEnclosingParameterRead s w mark from to
     → Writes w last (codes ", ") → IsWriting s last steps.Type
-next-within s w last mark from to argument p one =
+next-within s w last mark from to p one =
     let front = p.front ++ p.name ++ codes "(" in
-    parameter-expected s last p.state mark from to argument p.rest p.front p.make p.ts p.name p.texts
-    (candidates-written (detail_of s) w last (codes ", ") p.state.candidates one p.candidates)
-    (ap (λ l. reverse l.list.items) one.waiting ∙ p.open_is)
-    (subst (λ l. IsEnclosing (detail_of s) l argument mark p.make p.ts p.name p.texts) (sym one.text)
-    (enclosing-stays w.text.list.items (codes ", ") argument mark p.make p.ts p.name p.texts p.is_enclosing)) p.from_is
+    parameter-expected s p.scope last p.state mark from to p.rest p.front p.make p.ts p.name p.texts
+    (keeps-written s w last (codes ", ") p.state.candidates one p.keeps)
+    (ap (λ l. reverse l.list.items) one.waiting ∙ p.open_is) p.is_enclosing p.from_is
     (one.text ∙ ap (λ l. l ++ codes ", ") p.written ∙ append_assoc front p.texts (codes ", ")
     ∙ ap (λ l. front ++ l) (sym (next-written p.ts p.texts p.some)))
-    (subst (λ n. ItemsGoOn s argument (TypeWithin s (Stands s p.rest) p.front) p.make p.ts n p.state) (sym one.at) p.goes) p.to_is
+    (subst (λ n. ItemsGoOn s nowhere (TypeWithin s (below s p.scope p.rest) p.front) p.make p.ts n p.state) (sym one.at) p.goes) p.to_is
 
 -- one is read
-pub parameter-got-within : (s : Symbol) (w : Direct) (mark : Mark) (from to : ℕ) (argument : Arguments) (st : State) (rest : List Open) (os : List Opened)
-    (t : Term) (before bytes : List ℕ) (waits : Stands s (opens.Enclosing mark from to argument ∷ rest) os before)
-    → AreCandidates (detail_of s) w.text.list.items w.candidates.list.items st.candidates → reverse w.waiting.list.items ≡ opens.Enclosing mark from to argument ∷ rest
-    → w.text.list.items ≡ before ++ bytes → Comes s os (tree t true) w.at st → IsElementIn (detail_of s) (types_of waits.5.own) 6 t bytes
-    → IsEnclosingParameterRead s w mark from to argument
-parameter-got-within s w mark from to argument st rest os t before bytes waits candidates open_is written comes element =
+pub parameter-read-within : (s : Symbol) (w : Direct) (mark : Mark) (from to : ℕ) → IsElementRead s w (opens.Enclosing mark from to)
+    → IsEnclosingParameterRead s w mark from to
+parameter-read-within s w mark from to p =
+    let waits = p.stands in
     let front = waits.0 in
     let ts = waits.2 in
     let name = waits.3 in
     let texts = waits.4 in
     let is_enclosing = waits.5 in
     record {
-      state = st;
-      candidates = candidates;
-      rest = rest;
-      open_is = open_is;
+      state = p.state;
+      scope = p.scope;
+      keeps = p.keeps;
+      rest = p.rest;
+      open_is = p.open_is;
       make = waits.1;
-      ts = ts ++ t ∷ [];
-      some = some-elements ts t;
+      ts = ts ++ p.own ∷ [];
+      some = some-elements ts p.own;
       front = front;
       name = name;
-      texts = in_front_of_next ts texts ++ bytes;
+      texts = in_front_of_next ts texts ++ p.bytes;
       is_enclosing = record {
         own = is_enclosing.own;
         returned = is_enclosing.returned;
         makes = is_enclosing.makes;
         prints = is_enclosing.prints;
-        elements = next-prints-in (types_of is_enclosing.own) 6 ts texts t bytes is_enclosing.elements element;
-        names = subst (λ l. HasArguments (detail_of s) l argument is_enclosing.own) (sym written)
-            (arguments-stay before bytes argument is_enclosing.own is_enclosing.names);
+        elements = next-prints-in (types_of is_enclosing.own) 6 ts texts p.own p.bytes is_enclosing.elements
+            (element-in (types_of is_enclosing.own) 6 p.own p.bytes (p.element 6));
       };
       from_is = waits.6;
-      written = written ∙ ap (λ l. l ++ bytes) waits.7 ∙ append_assoc (front ++ name ++ codes "(") (in_front_of_next ts texts) bytes;
+      written = p.written ∙ ap (λ l. l ++ p.bytes) waits.7 ∙ append_assoc (front ++ name ++ codes "(") (in_front_of_next ts texts) p.bytes;
       to_is = waits.9;
-      goes = waits.8 t w.at st comes;
+      goes = waits.8 p.own w.at p.state p.comes;
     }
-
-pub parameter-read-within : (s : Symbol) (w : Direct) (mark : Mark) (from to : ℕ) (argument : Arguments)
-    → IsElementRead s w (opens.Enclosing mark from to argument) → IsEnclosingParameterRead s w mark from to argument
-parameter-read-within s w mark from to argument p =
-    parameter-got-within s w mark from to argument p.state p.rest p.os p.own p.front p.bytes p.stands p.candidates p.open_is p.written p.comes
-    (element-in (types_of p.stands.5.own) 6 p.own p.bytes (p.element 6))
 
 -- ## Ends
 
@@ -402,7 +384,8 @@ object-within s w mark from p =
     (object-encoded p.v b (subst (λ t. PrintsName (detail_of s) t b) (sym p.tree_is) p.prints)) in
     record {
       state = p.state;
-      candidates = p.candidates;
+      scope = p.scope;
+      keeps = p.keeps;
       e = encoding_of p.v nil;
       front = p.front;
       bytes = b ++ q;
@@ -429,23 +412,22 @@ enclosed-with own returned mark make makes (t ∷ ts) some kept =
     makes t (list_of ts) ∙ ap (function own (qualifiers (has_const mark)) (called_on mark) returned) kept
 
 -- a function with a lone void is read
-pub void-within : (s : Symbol) (w here new : Direct) (mark : Mark) (from : ℕ) (argument : Arguments) → AwaitsEnclosingParameters s w mark from argument
-    → StandsAt s.bytes w.at (118 ∷ [])
-    → here.text ≡ w.text → here.candidates ≡ w.candidates → here.waiting ≡ w.waiting → here.at ≡ w.at + 1 → Writes here new (codes "()")
-    → s.is_bare ≡ false → IsEnclosingRead s new mark from
-void-within s w here new mark from argument p stands text candidates waiting at one whole =
+pub void-within : (s : Symbol) (w here new : Direct) (mark : Mark) (from : ℕ) → AwaitsEnclosingParameters s w mark from
+    → StandsAt s.bytes w.at (118 ∷ []) → here.text ≡ w.text → here.candidates ≡ w.candidates → here.waiting ≡ w.waiting
+    → here.has_scope ≡ w.has_scope → here.at ≡ w.at + 1 → Writes here new (codes "()") → s.is_bare ≡ false → IsEnclosingRead s new mark from
+void-within s w here new mark from p stands text candidates waiting scope at one whole =
     let f = p.is_enclosing in
     let b = p.name in
     let q = mark_text mark in
     let e = p.make (list_of (builtin (118 ∷ []) ∷ [])) in
-    let below = Stands s (reverse w.waiting.list.items) in
+    let below_ = below s p.scope (reverse w.waiting.list.items) in
     let shows : Shows (detail_of s) (function f.own (qualifiers (has_const mark)) (called_on mark) absent nil) (b ++ codes "()" ++ q) =
     subst (λ l. Shows (detail_of s) (function f.own (qualifiers (has_const mark)) (called_on mark) absent nil) (b ++ codes "()" ++ l)) (plain-text mark)
     (void-shows (has-parameters s whole) f.own b f.prints (qualifiers (has_const mark)) (called_on mark)) in
     record {
       state = p.state;
-      candidates = candidates-written (detail_of s) here new (codes "()") p.state.candidates one
-          (candidates-same (detail_of s) w here p.state.candidates text candidates p.candidates);
+      scope = p.scope;
+      keeps = keeps-written s here new (codes "()") p.state.candidates one (keeps-same s w here p.state.candidates text candidates scope p.keeps);
       e = e;
       front = p.front;
       bytes = b ++ codes "()" ++ q;
@@ -455,23 +437,23 @@ void-within s w here new mark from argument p stands text candidates waiting at 
       encloses = subst (λ t. Encloses (detail_of s) t (b ++ codes "()" ++ q)) (sym (enclosed-void f.own f.returned mark p.make f.makes))
           (returned-enclosing (detail_of s) f.own (qualifiers (has_const mark)) (called_on mark) f.returned nil (b ++ codes "()" ++ q)
           (function-encloses (detail_of s) f.own (qualifiers (has_const mark)) (called_on mark) nil (b ++ codes "()" ++ q) shows));
-      within = subst (λ v. TypeWithin s (Stands s (reverse v.list.items)) p.front e new.at p.state) (sym (one.waiting ∙ waiting))
-          (subst (λ n. TypeWithin s below p.front e n p.state) (sym (one.at ∙ at))
-          (void-read s argument (TypeWithin s below p.front) p.make w.at p.state p.goes stands));
+      within = subst (λ v. TypeWithin s (below s p.scope (reverse v.list.items)) p.front e new.at p.state) (sym (one.waiting ∙ waiting))
+          (subst (λ n. TypeWithin s below_ p.front e n p.state) (sym (one.at ∙ at))
+          (void-read s nowhere (TypeWithin s below_ p.front) p.make w.at p.state p.goes stands));
     }
 
 -- where functions are shown by their names alone, nothing more is written of it
-pub void-unwritten : (s : Symbol) (w here : Direct) (mark : Mark) (from : ℕ) (argument : Arguments) → AwaitsEnclosingParameters s w mark from argument
-    → StandsAt s.bytes w.at (118 ∷ [])
-    → here.text ≡ w.text → here.candidates ≡ w.candidates → here.waiting ≡ w.waiting → here.at ≡ w.at + 1 → s.is_bare ≡ true
-    → IsEnclosingRead s here marks.Plain from
-void-unwritten s w here mark from argument p stands text candidates waiting at bare =
+pub void-unwritten : (s : Symbol) (w here : Direct) (mark : Mark) (from : ℕ) → AwaitsEnclosingParameters s w mark from
+    → StandsAt s.bytes w.at (118 ∷ []) → here.text ≡ w.text → here.candidates ≡ w.candidates → here.waiting ≡ w.waiting
+    → here.has_scope ≡ w.has_scope → here.at ≡ w.at + 1 → s.is_bare ≡ true → IsEnclosingRead s here marks.Plain from
+void-unwritten s w here mark from p stands text candidates waiting scope at bare =
     let f = p.is_enclosing in
     let e = p.make (list_of (builtin (118 ∷ []) ∷ [])) in
-    let below = Stands s (reverse w.waiting.list.items) in
+    let below_ = below s p.scope (reverse w.waiting.list.items) in
     record {
       state = p.state;
-      candidates = candidates-same (detail_of s) w here p.state.candidates text candidates p.candidates;
+      scope = p.scope;
+      keeps = keeps-same s w here p.state.candidates text candidates scope p.keeps;
       e = e;
       front = p.front;
       bytes = p.name;
@@ -479,16 +461,17 @@ void-unwritten s w here mark from argument p stands text candidates waiting at b
       from_is = p.from_is;
       encloses = subst (λ t. Encloses (detail_of s) t p.name) (sym (enclosed-void f.own f.returned mark p.make f.makes))
           (name-encloses (has-none s bare) f.own p.name f.prints (qualifiers (has_const mark)) (called_on mark) f.returned nil);
-      within = subst (λ v. TypeWithin s (Stands s (reverse v.list.items)) p.front e here.at p.state) (sym waiting)
-          (subst (λ n. TypeWithin s below p.front e n p.state) (sym at) (void-read s argument (TypeWithin s below p.front) p.make w.at p.state p.goes stands));
+      within = subst (λ v. TypeWithin s (below s p.scope (reverse v.list.items)) p.front e here.at p.state) (sym waiting)
+          (subst (λ n. TypeWithin s below_ p.front e n p.state) (sym at)
+          (void-read s nowhere (TypeWithin s below_ p.front) p.make w.at p.state p.goes stands));
     }
 
 -- a function with its parameters is read, unless they are a lone void
-pub function-within : (s : Symbol) (w last new : Direct) (mark : Mark) (from to : ℕ) (argument : Arguments) (p : IsEnclosingParameterRead s w mark from to argument)
-    → p.texts ≢ codes "void" → Writes w last (codes ")") → new.text ≡ last.text → new.candidates ≡ last.candidates → new.at ≡ last.at
-    → reverse new.waiting.list.items ≡ p.rest → s.is_bare ≡ false → IsEnclosingRead s new mark from
+pub function-within : (s : Symbol) (w last new : Direct) (mark : Mark) (from to : ℕ) (p : IsEnclosingParameterRead s w mark from to)
+    → p.texts ≢ codes "void" → Writes w last (codes ")") → new.text ≡ last.text → new.candidates ≡ last.candidates
+    → new.has_scope ≡ last.has_scope → new.at ≡ last.at → reverse new.waiting.list.items ≡ p.rest → s.is_bare ≡ false → IsEnclosingRead s new mark from
 unfolding no_items may_be_empty
-function-within s w last new mark from to argument p apart one text candidates at waits whole =
+function-within s w last new mark from to p apart one text candidates scope at waits whole =
     let f = p.is_enclosing in
     let e = p.make (list_of p.ts) in
     let b = p.name in
@@ -496,17 +479,17 @@ function-within s w last new mark from to argument p apart one text candidates a
     let q = mark_text mark in
     let made = function f.own (qualifiers (has_const mark)) (called_on mark) f.returned (list_of p.ts) in
     let is : e ≡ made = enclosed-with f.own f.returned mark p.make f.makes p.ts p.some (parameters-kept (detail_of s) (types_of f.own) 6 p.ts l f.elements apart) in
-    let below = Stands s p.rest in
-    let within_ : TypeWithin s below p.front e w.at p.state = subst (λ u. TypeWithin s below p.front (p.make u) w.at p.state) (list-with-none p.ts)
+    let below_ = below s p.scope p.rest in
+    let within_ : TypeWithin s below_ p.front e w.at p.state = subst (λ u. TypeWithin s below_ p.front (p.make u) w.at p.state) (list-with-none p.ts)
     (p.goes.onward nothing_there w.at p.state (expects-empty s Kind.Items p.goes.around p.goes.inner w.at p.state p.goes.awaits refl)) in
-    let known = candidates-written (detail_of s) w last (codes ")") p.state.candidates one p.candidates in
     let shows : Shows (detail_of s) (function f.own (qualifiers (has_const mark)) (called_on mark) absent (list_of p.ts)) (b ++ codes "(" ++ l ++ codes ")" ++ q) =
     subst (λ x. Shows (detail_of s) (function f.own (qualifiers (has_const mark)) (called_on mark) absent (list_of p.ts)) (b ++ codes "(" ++ l ++ codes ")" ++ x))
     (plain-text mark)
     (function-shows (has-parameters s whole) f.own b f.prints p.ts l f.elements (qualifiers (has_const mark)) (called_on mark)) in
     record {
       state = p.state;
-      candidates = candidates-same (detail_of s) last new p.state.candidates text candidates known;
+      scope = p.scope;
+      keeps = keeps-same s last new p.state.candidates text candidates scope (keeps-written s w last (codes ")") p.state.candidates one p.keeps);
       e = e;
       front = p.front;
       bytes = b ++ codes "(" ++ l ++ codes ")" ++ q;
@@ -516,36 +499,43 @@ function-within s w last new mark from to argument p apart one text candidates a
       encloses = subst (λ t. Encloses (detail_of s) t (b ++ codes "(" ++ l ++ codes ")" ++ q)) (sym is)
           (returned-enclosing (detail_of s) f.own (qualifiers (has_const mark)) (called_on mark) f.returned (list_of p.ts) (b ++ codes "(" ++ l ++ codes ")" ++ q)
           (function-encloses (detail_of s) f.own (qualifiers (has_const mark)) (called_on mark) (list_of p.ts) (b ++ codes "(" ++ l ++ codes ")" ++ q) shows));
-      within = subst (λ ws. TypeWithin s (Stands s ws) p.front e new.at p.state) (sym waits)
-          (subst (λ n. TypeWithin s below p.front e n p.state) (sym (at ∙ one.at)) within_);
+      within = subst (λ ws. TypeWithin s (below s p.scope ws) p.front e new.at p.state) (sym waits)
+          (subst (λ n. TypeWithin s below_ p.front e n p.state) (sym (at ∙ one.at)) within_);
     }
 
 -- what was written after its name is taken away, where functions are shown by their names alone
-pub function-unwritten : (s : Symbol) (w shut new : Direct) (mark : Mark) (from to : ℕ) (argument : Arguments) (p : IsEnclosingParameterRead s w mark from to argument)
-    → p.texts ≢ codes "void" → shut.text ≡ w.text → shut.candidates ≡ w.candidates → shut.at ≡ w.at → reverse shut.waiting.list.items ≡ p.rest
-    → new.text.list.items ≡ take to shut.text.list.items → AreKeptTo to shut.candidates.list.items new.candidates.list.items
+pub function-unwritten : (s : Symbol) (w shut new : Direct) (mark : Mark) (from to : ℕ) (p : IsEnclosingParameterRead s w mark from to)
+    → p.texts ≢ codes "void" → w.has_scope ≡ false → shut.text ≡ w.text → shut.candidates ≡ w.candidates → shut.at ≡ w.at
+    → reverse shut.waiting.list.items ≡ p.rest → new.text.list.items ≡ take to shut.text.list.items → AreKeptTo to shut.candidates.list.items new.candidates.list.items
     → new.waiting ≡ shut.waiting → new.at ≡ shut.at → s.is_bare ≡ true → IsEnclosingRead s new marks.Plain from
 unfolding no_items may_be_empty
-function-unwritten s w shut new mark from to argument p apart same_text same_candidates same_at waits text kept waiting at bare =
+function-unwritten s w shut new mark from to p apart unknown same_text same_candidates same_at waits text kept waiting at bare =
     let f = p.is_enclosing in
     let e = p.make (list_of p.ts) in
     let made = function f.own (qualifiers (has_const mark)) (called_on mark) f.returned (list_of p.ts) in
     let is : e ≡ made = enclosed-with f.own f.returned mark p.make f.makes p.ts p.some
     (parameters-kept (detail_of s) (types_of f.own) 6 p.ts p.texts f.elements apart) in
-    let below = Stands s p.rest in
-    let within_ : TypeWithin s below p.front e w.at p.state = subst (λ u. TypeWithin s below p.front (p.make u) w.at p.state) (list-with-none p.ts)
+    let below_ = below s p.scope p.rest in
+    let within_ : TypeWithin s below_ p.front e w.at p.state = subst (λ u. TypeWithin s below_ p.front (p.make u) w.at p.state) (list-with-none p.ts)
     (p.goes.onward nothing_there w.at p.state (expects-empty s Kind.Items p.goes.around p.goes.inner w.at p.state p.goes.awaits refl)) in
     let left = p.front ++ p.name in
     let behind = codes "(" ++ p.texts in
-    let whole_ : shut.text.list.items ≡ left ++ behind = ap (λ v. v.list.items) same_text ∙ p.written ∙ append_assoc left (codes "(") p.texts in
+    let whole_ : w.text.list.items ≡ left ++ behind = p.written ∙ append_assoc left (codes "(") p.texts in
     let left_is : new.text.list.items ≡ left =
-    text ∙ ap (λ n. take n shut.text.list.items) p.to_is ∙ ap (λ l. take (length left) l) whole_ ∙ take-append_seam left behind in
-    let known = candidates-same (detail_of s) w shut p.state.candidates same_text same_candidates p.candidates in
+    text ∙ ap (λ n. take n shut.text.list.items) p.to_is ∙ ap (λ l. take (length left) l) (ap (λ v. v.list.items) same_text ∙ whole_)
+    ∙ take-append_seam left behind in
+    let none : p.scope ≡ no_scope = p.keeps.unknown unknown in
     record {
       state = p.state;
-      candidates = subst (λ l. AreCandidates (detail_of s) l new.candidates.list.items p.state.candidates) (sym left_is)
-          (candidates-kept (detail_of s) shut.text.list.items left behind to shut.candidates.list.items new.candidates.list.items p.state.candidates whole_ p.to_is
-          kept known);
+      scope = p.scope;
+      keeps = record {
+        candidates = subst (λ l. AreCandidates s p.scope.names l new.candidates.list.items p.state.candidates) (sym left_is)
+            (candidates-kept s p.scope.names w.text.list.items left behind to w.candidates.list.items new.candidates.list.items p.state.candidates whole_ p.to_is
+            (subst (λ v. AreKeptTo to v.list.items new.candidates.list.items) same_candidates kept) p.keeps.candidates);
+        own = p.keeps.own;
+        named = subst (λ (k : Scope). AreNamed new.text.list.items k) (sym none) (none-named new.text.list.items);
+        unknown = λ e. none;
+      };
       e = e;
       front = p.front;
       bytes = p.name;
@@ -553,14 +543,13 @@ function-unwritten s w shut new mark from to argument p apart same_text same_can
       from_is = p.from_is;
       encloses = subst (λ t. Encloses (detail_of s) t p.name) (sym is)
           (name-encloses (has-none s bare) f.own p.name f.prints (qualifiers (has_const mark)) (called_on mark) f.returned (list_of p.ts));
-      within = subst (λ ws. TypeWithin s (Stands s ws) p.front e new.at p.state) (sym (ap (λ v. reverse v.list.items) waiting ∙ waits))
-          (subst (λ n. TypeWithin s below p.front e n p.state) (sym (at ∙ same_at)) within_);
+      within = subst (λ ws. TypeWithin s (below s p.scope ws) p.front e new.at p.state) (sym (ap (λ v. reverse v.list.items) waiting ∙ waits))
+          (subst (λ n. TypeWithin s below_ p.front e n p.state) (sym (at ∙ same_at)) within_);
     }
 
 -- the name is within what is written
-pub name-inside : (s : Symbol) (w : Direct) (mark : Mark) (from to : ℕ) (argument : Arguments) → IsEnclosingParameterRead s w mark from to argument
-    → to ≤ length w.text.list.items
-name-inside s w mark from to argument p =
+pub name-inside : (s : Symbol) (w : Direct) (mark : Mark) (from to : ℕ) → IsEnclosingParameterRead s w mark from to → to ≤ length w.text.list.items
+name-inside s w mark from to p =
     omega (arith, p.to_is, ap length p.written, length-append (p.front ++ p.name ++ codes "(") p.texts, length-append (p.front ++ p.name) (codes "("))
 
 -- its qualifiers are written
@@ -568,15 +557,16 @@ pub marks-written-within : (s : Symbol) (old new : Direct) (mark : Mark) (from :
     → IsEnclosingRead s new marks.Plain from
 marks-written-within s old new mark from p writes = record {
   state = p.state;
-  candidates = candidates-written (detail_of s) old new (mark_text mark) p.state.candidates writes p.candidates;
+  scope = p.scope;
+  keeps = keeps-written s old new (mark_text mark) p.state.candidates writes p.keeps;
   e = p.e;
   front = p.front;
   bytes = p.bytes;
   written = append-nil new.text.list.items ∙ writes.text ∙ p.written;
   from_is = p.from_is;
   encloses = p.encloses;
-  within = subst (λ v. TypeWithin s (Stands s (reverse v.list.items)) p.front p.e new.at p.state) (sym writes.waiting)
-      (subst (λ n. TypeWithin s (Stands s (reverse old.waiting.list.items)) p.front p.e n p.state) (sym writes.at) p.within);
+  within = subst (λ v. TypeWithin s (below s p.scope (reverse v.list.items)) p.front p.e new.at p.state) (sym writes.waiting)
+      (subst (λ n. TypeWithin s (below s p.scope (reverse old.waiting.list.items)) p.front p.e n p.state) (sym writes.at) p.within);
 }
 
 -- ## Lambdas
@@ -621,9 +611,9 @@ lambda_front = codes "::{lambda("
 
 -- the first parameter of one comes next
 pub lambda-begun : (s : Symbol) (old new : Direct) (from : ℕ) → AwaitsTypeName s old from → short_numbers 0 s.bytes ≡ true → StandsAt s.bytes old.at (85 ∷ 108 ∷ [])
-    → new.text.list.items ≡ old.text.list.items ++ lambda_front → new.candidates ≡ old.candidates → new.at ≡ old.at + 2
-    → new.waiting.list.items ≡ old.waiting.list.items ++ opens.Lambda from ∷ [] → IsWriting s new steps.Type
-lambda-begun s old new from a short stands text candidates at waiting =
+    → new.text.list.items ≡ old.text.list.items ++ lambda_front → new.candidates ≡ old.candidates → new.has_scope ≡ old.has_scope
+    → new.at ≡ old.at + 2 → new.waiting.list.items ≡ old.waiting.list.items ++ opens.Lambda from ∷ [] → IsWriting s new steps.Type
+lambda-begun s old new from a short stands text candidates scope at waiting =
     let r = a.read in
     let w = r.within in
     let entity = w.2 a.letter in
@@ -634,9 +624,7 @@ lambda-begun s old new from a short stands text candidates at waiting =
     let front_written : old.text.list.items ≡ r.front ++ r.bytes = sym (append-nil old.text.list.items) ∙ r.written in
     let written : new.text.list.items ≡ r.front ++ (r.bytes ++ lambda_front) ++ [] =
     text ∙ ap (λ l. l ++ lambda_front) front_written ∙ append_assoc r.front r.bytes lambda_front ∙ sym (append-nil (r.front ++ (r.bytes ++ lambda_front))) in
-    let known : AreCandidates (detail_of s) new.text.list.items new.candidates.list.items r.state.candidates =
-    candidates-grown (detail_of s) old new lambda_front r.state.candidates text candidates r.candidates in
-    let stands_ : Stands s (opens.Lambda from ∷ rest) first.inner new.text.list.items = (
+    let stands_ : Stands s r.scope (opens.Lambda from ∷ rest) first.inner new.text.list.items = (
       r.front,
       r.e,
       r.bytes,
@@ -666,14 +654,16 @@ lambda-begun s old new from a short stands text candidates at waiting =
     ) in
     record {
       state = r.state;
-      candidates = known;
+      scope = r.scope;
+      keeps = keeps-grown s old new lambda_front r.state.candidates text candidates scope
+          (keeps-same s (record old { at = a.before }) old r.state.candidates refl refl refl r.keeps);
       is_before = (
         first.inner,
         first.around,
         first.outside,
         inr (inl (subst (λ k. Expects s Kind.Item first.around first.inner k r.state) (omega (arith, at, a.at_is)) first.awaits)),
-        subst (λ ws. Stands s ws first.inner new.text.list.items) (sym opened_) stands_,
-        subst (λ ws. IsScoped first.around ws) (sym opened_) (none-scoped first.around (opens.Lambda from ∷ rest) refl),
+        subst (λ ws. Stands s r.scope ws first.inner new.text.list.items) (sym opened_) stands_,
+        subst (λ ws. IsScoped r.scope first.around ws) (sym opened_) (none-scoped r.scope first.around (opens.Lambda from ∷ rest) refl),
       );
     }
 
@@ -685,7 +675,8 @@ lambda-parameter-read s w from p =
     let texts = waits.4 in
     record {
       state = p.state;
-      candidates = p.candidates;
+      scope = p.scope;
+      keeps = p.keeps;
       rest = p.rest;
       open_is = p.open_is;
       front = waits.0;
@@ -705,11 +696,11 @@ lambda-parameter-read s w from p =
 pub lambda-next : (s : Symbol) (w last : Direct) (from : ℕ) → IsLambdaParameterRead s w from → Writes w last (codes ", ") → IsWriting s last steps.Type
 lambda-next s w last from p one =
     let led = p.front ++ (p.bytes ++ lambda_front) in
-    let below = Stands s p.rest in
+    let below_ = below s p.scope p.rest in
     let opened_ = ap (λ l. reverse l.list.items) one.waiting ∙ p.open_is in
-    let goes = subst (λ n. ItemsGoOn s nowhere (LambdaWithin s below p.front p.e) (λ l. l) p.ts n p.state) (sym one.at) p.goes in
+    let goes = subst (λ n. ItemsGoOn s nowhere (LambdaWithin s below_ p.front p.e) (λ l. l) p.ts n p.state) (sym one.at) p.goes in
     let element = element-awaits s Kind.Items goes.inner goes.around last.at p.state tt goes.awaits in
-    let stands_ : Stands s (opens.Lambda from ∷ p.rest) element.inner last.text.list.items = (
+    let stands_ : Stands s p.scope (opens.Lambda from ∷ p.rest) element.inner last.text.list.items = (
       p.front,
       p.e,
       p.bytes,
@@ -719,18 +710,19 @@ lambda-next s w last from p one =
       p.elements,
       p.from_is,
       one.text ∙ ap (λ l. l ++ codes ", ") p.written ∙ append_assoc led p.texts (codes ", ") ∙ ap (λ l. led ++ l) (sym (next-written p.ts p.texts p.some)),
-      λ t here now comes. parameter-goes_on s nowhere (LambdaWithin s below p.front p.e) (λ l. l) p.ts last.at p.state goes t here now (element.onward t here now comes),
+      λ t here now comes. parameter-goes_on s nowhere (LambdaWithin s below_ p.front p.e) (λ l. l) p.ts last.at p.state goes t here now (element.onward t here now comes),
     ) in
     record {
       state = p.state;
-      candidates = candidates-written (detail_of s) w last (codes ", ") p.state.candidates one p.candidates;
+      scope = p.scope;
+      keeps = keeps-written s w last (codes ", ") p.state.candidates one p.keeps;
       is_before = (
         element.inner,
         goes.around,
         goes.outside,
         inr (inl element.awaits),
-        subst (λ ws. Stands s ws element.inner last.text.list.items) (sym opened_) stands_,
-        subst (λ ws. IsScoped goes.around ws) (sym opened_) (none-scoped goes.around (opens.Lambda from ∷ p.rest) refl),
+        subst (λ ws. Stands s p.scope ws element.inner last.text.list.items) (sym opened_) stands_,
+        subst (λ ws. IsScoped p.scope goes.around ws) (sym opened_) (none-scoped p.scope goes.around (opens.Lambda from ∷ p.rest) refl),
       );
     }
 
@@ -750,21 +742,23 @@ lambda-bracket f b l =
 
 -- its end is read
 pub lambda-done : (s : Symbol) (w begun pushed numbered popped_ last new : Direct) (from : ℕ) (p : IsLambdaParameterRead s w from) → p.texts ≢ codes "void"
-    → StandsAt s.bytes w.at (69 ∷ []) → begun.text ≡ w.text → begun.candidates ≡ w.candidates → begun.waiting ≡ w.waiting → begun.at ≡ w.at + 1
+    → StandsAt s.bytes w.at (69 ∷ []) → begun.text ≡ w.text → begun.candidates ≡ w.candidates → begun.waiting ≡ w.waiting
+    → begun.has_scope ≡ w.has_scope → begun.at ≡ w.at + 1
     → Writes begun pushed (codes ")#") → (number : Option ℕ) → IsLambdaDigit number → StandsAt s.bytes pushed.at (lambda_digits number ++ 95 ∷ [])
     → numbered.at ≡ pushed.at + length (lambda_digits number ++ 95 ∷ []) → Reads pushed numbered (lambda_number number ++ codes "}")
-    → popped_.text ≡ numbered.text → popped_.candidates ≡ numbered.candidates → popped_.at ≡ numbered.at → reverse popped_.waiting.list.items ≡ p.rest
+    → popped_.text ≡ numbered.text → popped_.candidates ≡ numbered.candidates → popped_.has_scope ≡ numbered.has_scope → popped_.at ≡ numbered.at
+    → reverse popped_.waiting.list.items ≡ p.rest
     → (digit : Discriminator) → IsDiscriminatorAt s.bytes popped_.at digit last.at → Reads popped_ last []
-    → new.candidates.list.items ≡ added last from false → new.text ≡ last.text → new.waiting ≡ last.waiting → new.at ≡ last.at
-    → IsWriting s new (steps.Value false)
+    → new.candidates.list.items ≡ added last from false false → new.text ≡ last.text → new.waiting ≡ last.waiting
+    → new.has_scope ≡ last.has_scope → new.at ≡ last.at → IsWriting s new (steps.Value false false)
 unfolding no_items may_be_empty
-lambda-done s w begun pushed numbered popped_ last new from p apart ends same_text same_candidates same_waiting at one number is digits_ numbered_at two
-    popped_text popped_candidates popped_at waits digit told three candidates text waiting here =
-    let below = Stands s p.rest in
+lambda-done s w begun pushed numbered popped_ last new from p apart ends same_text same_candidates same_waiting same_scope at one number is digits_ numbered_at two
+    popped_text popped_candidates popped_scope popped_at waits digit told three candidates text waiting scope here =
+    let below_ = below s p.scope p.rest in
     let items = list_of p.ts in
     let num = lambda_number number in
     let n = local_number (lambda_digits number) in
-    let ends_with : LambdaWithin s below p.front p.e items w.at p.state = subst (λ u. LambdaWithin s below p.front p.e u w.at p.state) (list-with-none p.ts)
+    let ends_with : LambdaWithin s below_ p.front p.e items w.at p.state = subst (λ u. LambdaWithin s below_ p.front p.e u w.at p.state) (list-with-none p.ts)
     (p.goes.onward nothing_there w.at p.state (expects-empty s Kind.Items p.goes.around p.goes.inner w.at p.state p.goes.awaits refl)) in
     let same : lambda items n ≡ lambda_with items number = ap (λ k. lambda k n) (sym (parameters-kept (detail_of s) closed 0 p.ts p.texts (all-in (detail_of s) closed 0 p.ts p.texts p.elements) apart)) in
     let own = local_in p.e (lambda_with items number) digit in
@@ -781,15 +775,14 @@ lambda-done s w begun pushed numbered popped_ last new from p apart ends same_te
     ∙ ap (λ l. l ++ (num ++ codes "}")) (one.text ∙ ap (λ v. v.list.items ++ codes ")#") same_text ∙ ap (λ l. l ++ codes ")#") p.written)
     ∙ whole-text p.front p.bytes p.texts num in
     let st = with_candidate ends_with.1 own p.state in
-    let known = candidates-same (detail_of s) w begun p.state.candidates same_text same_candidates p.candidates in
-    let numbered_known = candidates-read (detail_of s) pushed numbered (num ++ codes "}") p.state.candidates two
-    (candidates-written (detail_of s) begun pushed (codes ")#") p.state.candidates one known) in
-    let popped_known = candidates-same (detail_of s) numbered popped_ p.state.candidates popped_text popped_candidates numbered_known in
-    let more = candidates-with last p.state p.front bytes from own ends_with.1 false
-    (candidates-read (detail_of s) popped_ last [] p.state.candidates three popped_known) written p.from_is shown in
+    let begun_ = keeps-same s w begun p.state.candidates same_text same_candidates same_scope p.keeps in
+    let numbered_ = keeps-read s pushed numbered (num ++ codes "}") p.state.candidates two (keeps-written s begun pushed (codes ")#") p.state.candidates one begun_) in
+    let read = keeps-read s popped_ last [] p.state.candidates three
+    (keeps-same s numbered popped_ p.state.candidates popped_text popped_candidates popped_scope numbered_) in
     record {
       state = st;
-      candidates = candidates-as (detail_of s) new st.candidates (ap (λ v. v.list.items) text) candidates more;
+      scope = p.scope;
+      keeps = keeps-with s last new p.state p.front bytes from own ends_with.1 false false read written p.from_is shown (λ e. absurd (false≢true e)) text candidates scope;
       is_before = (
         ends_with.0,
         own,
@@ -797,8 +790,9 @@ lambda-done s w begun pushed numbered popped_ last new from p apart ends same_te
         bytes,
         ap (λ v. v.list.items) text ∙ written,
         shown,
+        (λ e. absurd (false≢true e)),
         subst (λ k. Comes s ends_with.0 (tree own true) k st) (sym here) (ends_with.2 number popped_.at digit last.at is ending middle told),
-        subst (λ ws. Stands s ws ends_with.0 p.front) (sym (ap (λ v. reverse v.list.items) (waiting ∙ three.waiting) ∙ waits)) ends_with.3,
+        subst (λ ws. Stands s p.scope ws ends_with.0 p.front) (sym (ap (λ v. reverse v.list.items) (waiting ∙ three.waiting) ∙ waits)) ends_with.3,
       );
     }
 
@@ -808,9 +802,9 @@ lambda-done s w begun pushed numbered popped_ last new from p apart ends same_te
 pub type-within : (s : Symbol) (old pushed read last new : Direct) (from : ℕ) → AwaitsTypeName s old from → Writes old pushed (codes "::")
     → (p : Term) (n : List ℕ) → IsPieceAt s pushed.at p read.at → PrintsPiece (detail_of s) p n → Reads pushed read n
     → (digit : Discriminator) → IsDiscriminatorAt s.bytes read.at digit last.at → Reads read last []
-    → new.candidates.list.items ≡ added last from false → new.text ≡ last.text → new.waiting ≡ last.waiting → new.at ≡ last.at
-    → IsWriting s new (steps.Value false)
-type-within s old pushed read last new from awaits one p n is prints two digit told three candidates text waiting here =
+    → new.candidates.list.items ≡ added last from false false → new.text ≡ last.text → new.waiting ≡ last.waiting
+    → new.has_scope ≡ last.has_scope → new.at ≡ last.at → IsWriting s new (steps.Value false false)
+type-within s old pushed read last new from awaits one p n is prints two digit told three candidates text waiting scope here =
     let a = awaits.read in
     let whole = reads-then old read last (codes "::" ++ n) [] (reads-then old pushed read (codes "::") n (reads-of old pushed (codes "::") one) two) three in
     let t = local_in a.e p digit in
@@ -823,12 +817,13 @@ type-within s old pushed read last new from awaits one p n is prints two digit t
     ∙ ap (λ l. l ++ codes "::" ++ n) old_written ∙ behind-three a.front a.bytes (codes "::") n in
     let st = with_candidate w.1 t a.state in
     let shown = local-prints a.e a.bytes a.encloses p n prints digit in
-    let more = candidates-with last a.state a.front bytes from t w.1 false
-    (candidates-read (detail_of s) old last (codes "::" ++ n ++ []) a.state.candidates whole a.candidates) written a.from_is shown in
+    let kept = keeps-read s old last (codes "::" ++ n ++ []) a.state.candidates whole
+    (keeps-same s (record old { at = awaits.before }) old a.state.candidates refl refl refl a.keeps) in
     let named_ = subst (λ k. IsPieceAt s k p read.at) (one.at ∙ awaits.at_is) is in
     record {
       state = st;
-      candidates = candidates-as (detail_of s) new st.candidates (ap (λ v. v.list.items) text) candidates more;
+      scope = a.scope;
+      keeps = keeps-with s last new a.state a.front bytes from t w.1 false false kept written a.from_is shown (λ e. absurd (false≢true e)) text candidates scope;
       is_before = (
         w.0,
         t,
@@ -836,8 +831,9 @@ type-within s old pushed read last new from awaits one p n is prints two digit t
         bytes,
         ap (λ v. v.list.items) text ∙ written,
         shown,
+        (λ e. absurd (false≢true e)),
         subst (λ k. Comes s w.0 (tree t true) k st) (sym here)
             (entity.onward p read.at a.state (named_ entity.inner entity.around a.e a.state entity.awaits) digit last.at told),
-        subst (λ v. Stands s (reverse v.list.items) w.0 a.front) (sym (waiting ∙ whole.waiting)) w.3,
+        subst (λ v. Stands s a.scope (reverse v.list.items) w.0 a.front) (sym (waiting ∙ whole.waiting)) w.3,
       );
     }

@@ -26,18 +26,18 @@ use Rattle.cpp_direct.specs.Holes.{StandsAt, ListGoesOn}
 use Rattle.cpp_direct.specs.HolesOfLists.{IsSuffix}
 use Rattle.cpp_direct.specs.Marks.{has_const, called_on, mark_text}
 use Rattle.cpp_direct.specs.Prints.{PrintsName, Shows, Encloses, list_of}
-use Rattle.cpp_direct.specs.WriterInvariant.{AreCandidates, AwaitsItems, Encoded, EndsBehind, EncodedBehind, Fronts, IsWhole, IsWriting, HasScope, IsFunction, IsScoped, ItemsGoOn, ParametersGoOn, Stands, qualifiers, in_front_of_next, encoding_place, named_in}
-use Rattle.cpp_direct.specs.MidStep.{AwaitsNextParameter, IsNameEnded, AwaitsParameters, IsParameterEnded, IsFunctionEnded, IsEncodingEnded, IsSymbolEnded}
+use Rattle.cpp_direct.specs.WriterInvariant.{AwaitsItems, Encoded, EndsBehind, EncodedBehind, Fronts, IsWhole, IsWriting, HasScope, IsFunction, IsScoped, ItemsGoOn, Keeps, ParametersGoOn, Scope, Stands, no_scope, qualifiers, in_front_of_next}
+use Rattle.cpp_direct.specs.MidStep.{AwaitsNextParameter, IsNameEnded, IsNameScoped, AwaitsParameters, IsParameterEnded, IsFunctionEnded, IsEncodingEnded, IsSymbolEnded}
 use Rattle.cpp_direct.specs.Written.{Writes, Cuts}
 use Rattle.cpp_direct.proofs.Unmarked.{suffix-unmarked}
-use Rattle.cpp_direct.proofs.Kept.{candidates-same, candidates-written, reverse-last}
+use Rattle.cpp_direct.proofs.Kept.{keeps-as, keeps-same, keeps-written, none-kept, reverse-last}
 use Rattle.cpp_direct.proofs.Moves.{expects-empty}
 use Rattle.cpp_direct.proofs.MovesOfLists.{element-awaits}
 use Rattle.cpp_direct.proofs.MovesOfTypes.{builtin-comes}
 use Rattle.cpp_direct.proofs.PrintedLists.{list-with-none, list-more, none-print-in}
 use Rattle.cpp_direct.proofs.PrintedParts.{has-none, has-parameters}
 use Rattle.cpp_direct.proofs.PrintedLocals.{object-enclosing, function-encloses, name-shows}
-use Rattle.cpp_direct.proofs.Scopes.{function-stays, parameters-scoped, arguments-named}
+use Rattle.cpp_direct.proofs.Scopes.{function-stays, parameters-scoped}
 use Rattle.cpp_direct.proofs.PrintedSymbols.{function-shows, void-shows, object-encoded, encoding-plain, made-with, made-void, symbol-text, symbol-cost, suffix-text, suffix-cost, parameters-kept, none_bracketed}
 
 -- ## The end
@@ -74,7 +74,8 @@ pub marks-written : (s : Symbol) (old new : Direct) (mark : Mark) → IsEncoding
     → IsEncodingEnded s new marks.Plain
 marks-written s old new mark p writes = record {
   state = p.state;
-  candidates = candidates-written (detail_of s) old new (mark_text mark) p.state.candidates writes p.candidates;
+  scope = p.scope;
+  keeps = keeps-written s old new (mark_text mark) p.state.candidates writes p.keeps;
   e = p.e;
   lead = p.lead;
   bytes = p.bytes;
@@ -90,7 +91,8 @@ symbol-ended s w p apart =
     let behind : EndsBehind s p.lead p.e w.at = p.behind.whole apart in
     record {
       state = p.state;
-      candidates = p.candidates;
+      scope = p.scope;
+      keeps = p.keeps;
       e = behind.made;
       encoded = behind.encoded;
       shows = subst (λ l. Shows (detail_of s) behind.made l) (sym p.written ∙ append-nil w.text.list.items) (behind.shows p.bytes p.shows);
@@ -101,7 +103,8 @@ pub ends-plain : (s : Symbol) (suffix : List ℕ) (w : Direct) → IsSymbolEnded
     → length suffix ≡ 0 → IsWriting s w steps.Ended
 ends-plain s suffix w p inside is none = record {
   state = p.state;
-  candidates = p.candidates;
+  scope = p.scope;
+  keeps = p.keeps;
   is_before = whole-plain s p.e w.at w.text.list.items p.encoded p.shows
       (omega (arith, none, (rest-stands s.bytes suffix w.at inside is).1));
 }
@@ -116,9 +119,9 @@ ends-suffixed s suffix w first second last p inside is is_suffix one two three =
     three.text ∙ ap (λ l. l ++ codes ")") (two.text ∙ ap (λ l. l ++ suffix) one.text) in
     record {
       state = p.state;
-      candidates = candidates-written (detail_of s) second last (codes ")") p.state.candidates three
-          (candidates-written (detail_of s) first second suffix p.state.candidates two
-          (candidates-written (detail_of s) w first (codes " (") p.state.candidates one p.candidates));
+      scope = p.scope;
+      keeps = keeps-written s second last (codes ")") p.state.candidates three
+          (keeps-written s first second suffix p.state.candidates two (keeps-written s w first (codes " (") p.state.candidates one p.keeps));
       is_before = subst (λ l. IsWhole s l) (sym text)
           (whole-suffixed s p.e w.at w.text.list.items suffix p.encoded p.shows
           there.0 there.1 is_suffix);
@@ -165,7 +168,8 @@ object-ended s w mark is_instance argument_ from p =
     (object-encoded p.v b (subst (λ t. PrintsName (detail_of s) t b) (sym p.tree_is) p.prints)) in
     record {
       state = p.state;
-      candidates = p.candidates;
+      scope = p.scope;
+      keeps = p.keeps;
       e = encoding_of p.v nil;
       lead = p.lead;
       bytes = b ++ q;
@@ -208,7 +212,7 @@ pub parameter-expected : (s : Symbol) (w : Direct) (mark : Mark) (start : ℕ) (
 parameter-expected s w mark start argument a =
     let p = a.goes in
     let element = element-awaits s Kind.Items p.inner p.around w.at a.state tt p.awaits in
-    let stands : Stands s (opens.Parameters mark start argument ∷ a.rest) element.inner w.text.list.items = (
+    let stands : Stands s a.scope (opens.Parameters mark start argument ∷ a.rest) element.inner w.text.list.items = (
       a.front,
       a.lead,
       a.make,
@@ -223,14 +227,16 @@ parameter-expected s w mark start argument a =
     ) in
     record {
       state = a.state;
-      candidates = a.candidates;
+      scope = a.scope;
+      keeps = a.keeps;
       is_before = (
         element.inner,
         p.around,
         p.outside,
         inr (inl element.awaits),
-        subst (λ os. Stands s os element.inner w.text.list.items) (sym a.open_is) stands,
-        subst (λ os. IsScoped p.around os) (sym a.open_is) (parameters-scoped p.around mark start argument a.rest p.scoped),
+        subst (λ os. Stands s a.scope os element.inner w.text.list.items) (sym a.open_is) stands,
+        subst (λ os. IsScoped a.scope p.around os) (sym a.open_is)
+            (parameters-scoped a.scope p.around mark start argument a.rest a.is_function.named p.scoped),
       );
     }
 
@@ -239,21 +245,20 @@ no-text [] from is none = refl
 no-text (b ∷ bs) from is none = absurd (omega (arith, is, none))
 
 -- in the types of an encoding parameters may name the arguments that its name ends in
-pub name-scoped : (s : Symbol) (w : Direct) (mark : Mark) (is_instance : Bool) (argument_ : Arguments) (from place : ℕ)
-    (p : IsNameEnded s w mark is_instance argument_ from) → (place ≢ 0 → from ≡ 0) → (place ≢ 0 → place ≡ encoding_place s.bytes)
-    → HasScope (named_in place argument_) p.awaits.around
-name-scoped s w mark is_instance argument_ from place p first place_is k o =
-    let n = arguments-named w.text.list.items place argument_ p.own p.names k o in (
-      record {
+pub name-scoped : (s : Symbol) (w : Direct) (mark : Mark) (is_instance : Bool) (argument : Arguments) (from : ℕ)
+    (p : IsNameScoped s w mark is_instance argument from) → HasScope argument p.ended.awaits.around
+name-scoped s w mark is_instance argument from p =
+    let e = p.ended in (
+      (λ real. (e.awaits.encoding_is (no-text e.lead from e.from_is (p.encoded real).0) ∙ sym (p.encoded real).1, e.awaits.no_lambda)),
+      (λ k o. let n = e.names k o in record {
         own = n.own;
         all = n.all;
-        scope_is = p.awaits.scope_is ∙ ap arguments_of p.tree_is ∙ n.all_are;
+        scope_is = e.awaits.scope_is ∙ ap arguments_of e.tree_is ∙ n.all_are;
         there = n.there;
         elements = n.elements;
-        alone = λ e. (n.alone e).0;
+        alone = λ is_pack. (n.alone is_pack).0;
         no_pack = n.prints.no_pack;
-      },
-      λ real. (p.awaits.encoding_is (no-text p.lead from p.from_is (first real)) ∙ sym (place_is real), p.awaits.no_lambda),
+      }),
     )
 
 -- the front of a function that has no return type
@@ -263,43 +268,47 @@ fronts-of true front start lead name is none all = ([], is ∙ sym (append-nil (
 fronts-of false front start lead name is none all = ([], is, none refl)
 
 -- the name of a function is read that has no return type
-pub parameters-begin : (s : Symbol) (w : Direct) (mark : Mark) (is_instance : Bool) (argument_ : Arguments) (from place start : ℕ)
-    → (p : IsNameEnded s w mark is_instance argument_ from) → is_instance ≡ false → (place ≢ 0 → from ≡ 0) → (place ≢ 0 → place ≡ encoding_place s.bytes)
-    → (s.is_bare ≡ false → start ≡ 0) → (s.is_bare ≡ true → start ≡ length w.text.list.items)
-    → AwaitsParameters s w mark start (named_in place argument_)
-parameters-begin s w mark is_instance argument_ from place start p plain first place_is none all = record {
-  state = p.state;
-  candidates = p.candidates;
-  make = λ l. encoding_of p.v l;
-  front = w.text.list.items;
-  lead = p.lead;
-  name = p.name;
-  is_function = record {
-    own = p.own;
-    makes = encoding-plain p.v mark p.own p.tree_is p.qualifiers_are p.mark_is (p.no_return plain);
-    prints = p.prints;
-    elements = none-print-in (detail_of s) (types_of p.own) 6;
-    names = arguments-named w.text.list.items place argument_ p.own p.names;
-  };
-  fronts = fronts-of s.is_bare w.text.list.items start p.lead p.name p.written none all;
-  written = refl;
-  goes = none-go_on s (named_in place argument_) p.lead p.v w.at p.state p.awaits
-      (name-scoped s w mark is_instance argument_ from place p first place_is);
-}
+pub parameters-begin : (s : Symbol) (w : Direct) (mark : Mark) (is_instance : Bool) (argument : Arguments) (from start : ℕ)
+    → IsNameScoped s w mark is_instance argument from → is_instance ≡ false
+    → (s.is_bare ≡ false → start ≡ 0) → (s.is_bare ≡ true → start ≡ length w.text.list.items) → AwaitsParameters s w mark start argument
+parameters-begin s w mark is_instance argument from start scoped plain none all =
+    let p = scoped.ended in
+    record {
+      state = p.state;
+      scope = p.scope;
+      keeps = p.keeps;
+      make = λ l. encoding_of p.v l;
+      front = w.text.list.items;
+      lead = p.lead;
+      name = p.name;
+      is_function = record {
+        own = p.own;
+        makes = encoding-plain p.v mark p.own p.tree_is p.qualifiers_are p.mark_is (p.no_return plain);
+        prints = p.prints;
+        elements = none-print-in (detail_of s) (types_of p.own) 6;
+        names = p.names;
+        given = scoped.given;
+        named = scoped.named;
+      };
+      fronts = fronts-of s.is_bare w.text.list.items start p.lead p.name p.written none all;
+      written = refl;
+      goes = none-go_on s argument p.lead p.v w.at p.state p.awaits (name-scoped s w mark is_instance argument from scoped);
+    }
 
 -- the first parameter comes next
 pub first-expected : (s : Symbol) (w first last : Direct) (mark : Mark) (start : ℕ) (argument : Arguments)
     → AwaitsParameters s w mark start argument → Writes w first (codes "(")
-    → last.text ≡ first.text → last.candidates ≡ first.candidates → last.at ≡ first.at
+    → last.text ≡ first.text → last.candidates ≡ first.candidates → last.has_scope ≡ first.has_scope → last.at ≡ first.at
     → last.waiting.list.items ≡ first.waiting.list.items ++ opens.Parameters mark start argument ∷ []
     → AwaitsNextParameter s last mark start argument
-first-expected s w first last mark start argument p one text candidates at waiting =
-    let known = candidates-written (detail_of s) w first (codes "(") p.state.candidates one p.candidates in
-    let moved = candidates-same (detail_of s) first last p.state.candidates text candidates known in
+first-expected s w first last mark start argument p one text candidates scope_same at waiting =
+    let known = keeps-written s w first (codes "(") p.state.candidates one p.keeps in
+    let moved = keeps-same s first last p.state.candidates text candidates scope_same known in
     let grown : last.text.list.items ≡ w.text.list.items ++ codes "(" = ap (λ l. l.list.items) text ∙ one.text in
     record {
       state = p.state;
-      candidates = moved;
+      scope = p.scope;
+      keeps = moved;
       rest = reverse first.waiting.list.items;
       open_is = ap reverse waiting ∙ reverse-last first.waiting.list.items (opens.Parameters mark start argument);
       make = p.make;
@@ -308,7 +317,7 @@ first-expected s w first last mark start argument p one text candidates at waiti
       lead = p.lead;
       name = p.name;
       texts = [];
-      is_function = subst (λ l. IsFunction (detail_of s) l argument mark p.make [] p.name []) (sym grown)
+      is_function = subst (λ l. IsFunction (detail_of s) p.scope l argument mark p.make [] p.name []) (sym grown)
           (function-stays w.text.list.items (codes "(") argument mark p.make [] p.name [] p.is_function);
       fronts = p.fronts;
       written = grown ∙ ap (λ l. l ++ codes "(") p.written ∙ sym (append-nil (p.front ++ codes "("));
@@ -322,7 +331,8 @@ next-expected s w last mark start argument p one =
     let front = p.front ++ codes "(" in
     record {
       state = p.state;
-      candidates = candidates-written (detail_of s) w last (codes ", ") p.state.candidates one p.candidates;
+      scope = p.scope;
+      keeps = keeps-written s w last (codes ", ") p.state.candidates one p.keeps;
       rest = p.rest;
       open_is = ap (λ l. reverse l.list.items) one.waiting ∙ p.open_is;
       make = p.make;
@@ -331,7 +341,7 @@ next-expected s w last mark start argument p one =
       lead = p.lead;
       name = p.name;
       texts = p.texts;
-      is_function = subst (λ l. IsFunction (detail_of s) l argument mark p.make p.ts p.name p.texts) (sym one.text)
+      is_function = subst (λ l. IsFunction (detail_of s) p.scope l argument mark p.make p.ts p.name p.texts) (sym one.text)
           (function-stays w.text.list.items (codes ", ") argument mark p.make p.ts p.name p.texts p.is_function);
       fronts = p.fronts;
       written = one.text ∙ ap (λ l. l ++ codes ", ") p.written ∙ append_assoc front p.texts (codes ", ")
@@ -342,19 +352,18 @@ next-expected s w last mark start argument p one =
 -- ## What comes before an encoding's text
 
 -- where that is taken away, what is left of the candidates is some
-cut-candidates : (detail : Detail) (old new : Direct) (start : ℕ) (st : State) → Cuts old new start
-    → AreCandidates detail old.text.list.items old.candidates.list.items st.candidates
-    → (now : State) × AreCandidates detail new.text.list.items new.candidates.list.items now.candidates
-cut-candidates detail old new start st cuts known = go cuts.candidates
+cut-keeps : (s : Symbol) (scope : Scope) (old new : Direct) (start : ℕ) (st : State) → Cuts old new start → Keeps s scope old st.candidates
+    → (now : State) × (left : Scope) × Keeps s left new now.candidates
+cut-keeps s scope old new start st cuts keeps = go cuts.candidates
   where
-    go : ((start ≡ 0) × (new.candidates ≡ old.candidates)) ⊎ (new.candidates.list.items ≡ [])
-        → (now : State) × AreCandidates detail new.text.list.items new.candidates.list.items now.candidates
+    go : ((start ≡ 0) × (new.candidates ≡ old.candidates)) ⊎ (new.candidates.list.items ≡ []) → (now : State) × (left : Scope) × Keeps s left new now.candidates
     go (inl same) = (
       st,
-      subst (λ v. AreCandidates detail new.text.list.items v.list.items st.candidates) (sym same.1)
-          (subst (λ l. AreCandidates detail l old.candidates.list.items st.candidates) (sym (cuts.text ∙ ap (λ n. drop n old.text.list.items) same.0)) known),
+      scope,
+      keeps-as s old new st.candidates (cuts.text ∙ ap (λ n. drop n old.text.list.items) same.0) (ap (λ v. v.list.items) same.1) cuts.scope
+          keeps.candidates keeps.named keeps.own keeps.unknown,
     )
-    go (inr none) = (record st { candidates = [] }, subst (λ ks. AreCandidates detail new.text.list.items ks []) (sym none) tt)
+    go (inr none) = (record st { candidates = [] }, no_scope, none-kept s new none)
 
 -- and the text is what came after it
 cut-text : (old new : Direct) (start : ℕ) (aside text : List ℕ) → Cuts old new start → start ≡ length aside → old.text.list.items ≡ aside ++ text
@@ -378,9 +387,10 @@ void-read s argument becomes make at st p stands =
 -- a name with a lone void is a function
 pub void-ended : (s : Symbol) (w first here : Direct) (mark : Mark) (start : ℕ) (argument : Arguments) → AwaitsParameters s w mark start argument
     → StandsAt s.bytes w.at (118 ∷ [])
-    → Writes w first (codes "(") → here.text ≡ first.text → here.candidates ≡ first.candidates → here.at ≡ first.at + 1
+    → Writes w first (codes "(") → here.text ≡ first.text → here.candidates ≡ first.candidates → here.has_scope ≡ first.has_scope
+    → here.at ≡ first.at + 1
     → IsFunctionEnded s here mark start
-void-ended s w first here mark start argument p stands one text candidates at =
+void-ended s w first here mark start argument p stands one text candidates scope_same at =
     let f = p.is_function in
     let b = p.name in
     let q = mark_text mark in
@@ -389,14 +399,15 @@ void-ended s w first here mark start argument p stands one text candidates at =
     let is : e ≡ made = made-void mark f.own p.make f.makes in
     let behind : EncodedBehind s p.lead e (w.at + 1) =
     void-read s argument (λ u there then_. EncodedBehind s p.lead u there) p.make w.at p.state p.goes stands in
-    let known = candidates-written (detail_of s) w first (codes "(") p.state.candidates one p.candidates in
-    let moved = candidates-same (detail_of s) first here p.state.candidates text candidates known in
+    let known = keeps-written s w first (codes "(") p.state.candidates one p.keeps in
+    let moved = keeps-same s first here p.state.candidates text candidates scope_same known in
     let shows : s.is_bare ≡ false → Shows (detail_of s) made (b ++ codes "()" ++ q) =
     λ whole. subst (λ l. Shows (detail_of s) made (b ++ codes "()" ++ l)) (plain-text mark)
     (void-shows (has-parameters s whole) f.own b f.prints (qualifiers (has_const mark)) (called_on mark)) in
     record {
       state = p.state;
-      candidates = moved;
+      scope = p.scope;
+      keeps = moved;
       own = f.own;
       items = nil;
       e = e;
@@ -428,7 +439,8 @@ function-ended s w mark start argument p apart =
     (p.goes.onward nothing_there w.at p.state (expects-empty s Kind.Items p.goes.around p.goes.inner w.at p.state p.goes.awaits refl)) in
     record {
       state = p.state;
-      candidates = p.candidates;
+      scope = p.scope;
+      keeps = p.keeps;
       own = f.own;
       items = list_of p.ts;
       e = e;
@@ -458,11 +470,12 @@ function-closed s w last new mark start p whole_ one cuts =
     cut-text last new start fronts.0 (p.lead ++ b ++ codes "(" ++ l ++ codes ")") cuts fronts.2
     (one.text ∙ ap (λ x. x ++ codes ")") p.written ∙ ap (λ x. x ++ codes "(" ++ l ++ codes ")") fronts.1
     ∙ behind-five fronts.0 p.lead b (codes "(") l (codes ")")) in
-    let now = cut-candidates (detail_of s) last new start p.state cuts (candidates-written (detail_of s) w last (codes ")") p.state.candidates one p.candidates) in
+    let now = cut-keeps s p.scope last new start p.state cuts (keeps-written s w last (codes ")") p.state.candidates one p.keeps) in
     let text = b ++ codes "(" ++ l ++ codes ")" ++ q in
     record {
       state = now.0;
-      candidates = now.1;
+      scope = now.1;
+      keeps = now.2;
       e = p.e;
       lead = p.lead;
       bytes = text;
@@ -488,13 +501,14 @@ function-named s w last new mark start end p bare end_is one cuts =
     ap (λ n. take n w.text.list.items) (omega (arith, fronts.2)) ∙ ap (λ l. take (length named) l) whole_ ∙ take-append_seam named behind_ in
     let left_over : new.text.list.items ≡ named =
     cut-text last new end w.text.list.items named cuts end_is (one.text ∙ ap (λ l. w.text.list.items ++ l) again) in
-    let now = cut-candidates (detail_of s) last new end p.state cuts
-    (candidates-written (detail_of s) w last (take (start - 0) (drop 0 w.text.list.items)) p.state.candidates one p.candidates) in
+    let now = cut-keeps s p.scope last new end p.state cuts
+    (keeps-written s w last (take (start - 0) (drop 0 w.text.list.items)) p.state.candidates one p.keeps) in
     let made = function p.own (qualifiers (has_const mark)) (called_on mark) absent p.items in
     let shows : Shows (detail_of s) made p.name = name-shows (has-none s bare) p.own p.name p.prints (qualifiers (has_const mark)) (called_on mark) absent p.items in
     record {
       state = now.0;
-      candidates = now.1;
+      scope = now.1;
+      keeps = now.2;
       e = p.e;
       lead = p.lead;
       bytes = p.name;

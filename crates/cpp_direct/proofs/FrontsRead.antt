@@ -20,36 +20,38 @@ use Rattle.cpp_direct.specs.declared.direct.Direct.{Direct}
 use Rattle.cpp_direct.specs.Bytes.{is_local}
 use Rattle.cpp_direct.specs.Holes.{Expects}
 use Rattle.cpp_direct.specs.Prints.{PrintsIn, Shows, Encloses}
-use Rattle.cpp_direct.specs.WriterInvariant.{AreCandidates, EncodedBehind, Fronts, HasArguments, IsScoped, IsWriting, IsInstance, named_in, ParametersGoOn, Stands, qualifiers, plain_encoding, encoding_place}
-use Rattle.cpp_direct.specs.MidStep.{IsNameEnded, IsFrontRead, AwaitsParameters}
+use Rattle.cpp_direct.specs.WriterInvariant.{EncodedBehind, Fronts, HasArguments, IsScoped, IsWriting, IsInstance, Keeps, ParametersGoOn, Scope, Stands, qualifiers, plain_encoding}
+use Rattle.cpp_direct.specs.MidStep.{IsNameScoped, IsFrontRead, AwaitsParameters}
 use Rattle.cpp_direct.specs.Written.{Writes}
 use Rattle.cpp_direct.proofs.Ending.{name-scoped, no-text, none-go_on, parameter-goes_on}
-use Rattle.cpp_direct.proofs.Kept.{candidates-same, candidates-written, reverse-last}
+use Rattle.cpp_direct.proofs.Kept.{keeps-same, keeps-written, reverse-last}
 use Rattle.cpp_direct.proofs.MovesOfLists.{element-awaits}
 use Rattle.cpp_direct.proofs.PrintedLists.{none-print-in}
-use Rattle.cpp_direct.proofs.Scopes.{arguments-named, arguments-stay, front-scoped}
+use Rattle.cpp_direct.proofs.Scopes.{arguments-stay, front-scoped}
 use Rattle.cpp_direct.proofs.PrintedSymbols.{encoding-returned, front-shows}
 
 -- the return type of a function is expected after its name
-pub front-begins : (s : Symbol) (w new : Direct) (mark : Mark) (argument_ : Arguments) (from start place : ℕ) (p : IsNameEnded s w mark true argument_ from)
-    → (is_local s.bytes ≡ false → from ≡ 0) → (place ≢ 0 → from ≡ 0) → (place ≢ 0 → place ≡ encoding_place s.bytes)
-    → start ≡ length w.text.list.items → new.text ≡ w.text → new.candidates ≡ w.candidates → new.at ≡ w.at
-    → new.waiting.list.items ≡ w.waiting.list.items ++ opens.Front mark start (named_in place argument_) ∷ [] → IsWriting s new steps.Type
-front-begins s w new mark argument_ from start place p apart first place_is start_is text candidates at waiting =
-    let argument = named_in place argument_ in
-    let instance_ : IsInstance (detail_of s) w.text.list.items argument mark p.v p.name = record {
+pub front-begins : (s : Symbol) (w new : Direct) (mark : Mark) (argument : Arguments) (from start : ℕ) → IsNameScoped s w mark true argument from
+    → (is_local s.bytes ≡ false → from ≡ 0) → start ≡ length w.text.list.items
+    → new.text ≡ w.text → new.candidates ≡ w.candidates → new.has_scope ≡ w.has_scope → new.at ≡ w.at
+    → new.waiting.list.items ≡ w.waiting.list.items ++ opens.Front mark start argument ∷ [] → IsWriting s new steps.Type
+front-begins s w new mark argument from start scoped apart start_is text candidates scope_same at waiting =
+    let p = scoped.ended in
+    let instance_ : IsInstance (detail_of s) p.scope w.text.list.items argument mark p.v p.name = record {
       own = p.own;
       tree_is = p.tree_is;
       qualifiers_are = p.qualifiers_are;
       mark_is = p.mark_is;
       prints = p.prints;
       returns = p.returns refl;
-      names = arguments-named w.text.list.items place argument_ p.own p.names;
+      names = p.names;
+      given = scoped.given;
+      named = scoped.named;
     } in
     let goes : ParametersGoOn s argument p.lead (λ l. encoding_of p.v l) [] w.at p.state =
-    none-go_on s argument p.lead p.v w.at p.state p.awaits (name-scoped s w mark true argument_ from place p first place_is) in
+    none-go_on s argument p.lead p.v w.at p.state p.awaits (name-scoped s w mark true argument from scoped) in
     let element = element-awaits s Kind.Items goes.inner goes.around w.at p.state tt goes.awaits in
-    let stands : Stands s (opens.Front mark start argument ∷ reverse w.waiting.list.items) element.inner w.text.list.items = (
+    let stands : Stands s p.scope (opens.Front mark start argument ∷ reverse w.waiting.list.items) element.inner w.text.list.items = (
       p.v,
       p.lead,
       p.name,
@@ -60,28 +62,52 @@ front-begins s w new mark argument_ from start place p apart first place_is star
       λ t here now comes. parameter-goes_on s argument (λ e there then_. EncodedBehind s p.lead e there) (λ l. encoding_of p.v l) [] w.at p.state goes
           t here now (element.onward t here now comes),
     ) in
+    let open_is = ap reverse waiting ∙ reverse-last w.waiting.list.items (opens.Front mark start argument) in
     record {
       state = p.state;
-      candidates = candidates-same (detail_of s) w new p.state.candidates text candidates p.candidates;
+      scope = p.scope;
+      keeps = keeps-same s w new p.state.candidates text candidates scope_same p.keeps;
       is_before = (
         element.inner,
         goes.around,
         goes.outside,
         inr (inl (subst (λ n. Expects s Kind.Item goes.around element.inner n p.state) (sym at) element.awaits)),
-        subst (λ v. Stands s (reverse new.waiting.list.items) element.inner v.list.items) (sym text)
-            (subst (λ ws. Stands s ws element.inner w.text.list.items)
-            (sym (ap reverse waiting ∙ reverse-last w.waiting.list.items (opens.Front mark start argument))) stands),
-        subst (λ ws. IsScoped goes.around ws) (sym (ap reverse waiting ∙ reverse-last w.waiting.list.items (opens.Front mark start argument)))
-            (front-scoped goes.around mark start argument (reverse w.waiting.list.items) goes.scoped),
+        subst (λ v. Stands s p.scope (reverse new.waiting.list.items) element.inner v.list.items) (sym text)
+            (subst (λ ws. Stands s p.scope ws element.inner w.text.list.items) (sym open_is) stands),
+        subst (λ ws. IsScoped p.scope goes.around ws) (sym open_is)
+            (front-scoped p.scope goes.around mark start argument (reverse w.waiting.list.items) scoped.named goes.scoped),
       );
     }
 
+-- it is read still where something else changes
+pub front-same : (s : Symbol) (w new : Direct) (mark : Mark) (start : ℕ) (argument : Arguments) → IsFrontRead s w mark start argument
+    → new.text ≡ w.text → new.candidates ≡ w.candidates → new.has_scope ≡ w.has_scope → new.at ≡ w.at → IsFrontRead s new mark start argument
+front-same s w new mark start argument p text candidates scope_same at = record {
+  state = p.state;
+  scope = p.scope;
+  keeps = keeps-same s w new p.state.candidates text candidates scope_same p.keeps;
+  v = p.v;
+  lead = p.lead;
+  name = p.name;
+  front = p.front;
+  front_is = p.front_is;
+  is_instance = p.is_instance;
+  apart = p.apart;
+  start_is = p.start_is;
+  returned = p.returned;
+  bytes = p.bytes;
+  is_reference = p.is_reference;
+  prints = p.prints;
+  written = ap (λ v. v.list.items) text ∙ p.written;
+  goes = subst (λ n. ParametersGoOn s argument p.lead (encoding_of p.v) (p.returned ∷ []) n p.state) (sym at) p.goes;
+}
+
 -- a function's return type comes before what it shows without one
-turned : (s : Symbol) (argument : Arguments) (mark : Mark) (v : Value) (name : List ℕ) (text : List ℕ) (is : IsInstance (detail_of s) text argument mark v name) (r : Term) (b : List ℕ)
-    (is_reference : Bool) → PrintsIn (detail_of s) (types_of is.own) 2 r b is_reference → (items : Term) (at : ℕ) → s.is_bare ≡ false
+turned : (s : Symbol) (scope : Scope) (argument : Arguments) (mark : Mark) (v : Value) (name text : List ℕ) (is : IsInstance (detail_of s) scope text argument mark v name)
+    (r : Term) (b : List ℕ) (is_reference : Bool) → PrintsIn (detail_of s) (types_of is.own) 2 r b is_reference → (items : Term) (at : ℕ) → s.is_bare ≡ false
     → is_local s.bytes ≡ false → EncodedBehind s [] (encoding_of v (list r items)) at
     → EncodedBehind s (b ++ codes " ") (plain_encoding mark is.own items) at
-turned s argument mark v name text is r b is_reference prints items at whole_ apart p = record {
+turned s scope argument mark v name text is r b is_reference prints items at whole_ apart p = record {
   whole = λ e. let w = p.whole e in record {
     made = w.made;
     encoded = w.encoded;
@@ -95,17 +121,18 @@ turned s argument mark v name text is r b is_reference prints items at whole_ ap
 
 -- after the return type parameters are awaited, where this was written since
 front-leads : (s : Symbol) (w last : Direct) (mark : Mark) (start to : ℕ) (argument : Arguments) (p : IsFrontRead s w mark start argument) (front lead : List ℕ)
-    → AreCandidates (detail_of s) last.text.list.items last.candidates.list.items p.state.candidates
+    → Keeps s p.scope last p.state.candidates
     → HasArguments (detail_of s) last.text.list.items argument p.is_instance.own → Fronts s.is_bare front to lead p.name → last.text.list.items ≡ front
     → last.at ≡ w.at
     → ((items : Term) (there : ℕ) → EncodedBehind s p.lead (encoding_of p.v (list p.returned items)) there
     → EncodedBehind s lead (plain_encoding mark p.is_instance.own items) there)
     → AwaitsParameters s last mark to argument
-front-leads s w last mark start to argument p front lead candidates names fronts written at turns =
+front-leads s w last mark start to argument p front lead keeps names fronts written at turns =
     let is = p.is_instance in
     record {
       state = p.state;
-      candidates = candidates;
+      scope = p.scope;
+      keeps = keeps;
       make = λ l. plain_encoding mark is.own l;
       front = front;
       lead = lead;
@@ -116,6 +143,8 @@ front-leads s w last mark start to argument p front lead candidates names fronts
         prints = is.prints;
         elements = none-print-in (detail_of s) (types_of is.own) 6;
         names = names;
+        given = is.given;
+        named = is.named;
       };
       fronts = fronts;
       written = written;
@@ -132,9 +161,9 @@ front-leads s w last mark start to argument p front lead candidates names fronts
 -- the return type is read, and after it the name is written once more
 pub front-turned : (s : Symbol) (w here first last : Direct) (mark : Mark) (start : ℕ) (argument : Arguments) → IsFrontRead s w mark start argument
     → s.is_bare ≡ false → is_local s.bytes ≡ false
-    → here.text ≡ w.text → here.candidates ≡ w.candidates → here.at ≡ w.at → Writes here first (codes " ")
+    → here.text ≡ w.text → here.candidates ≡ w.candidates → here.has_scope ≡ w.has_scope → here.at ≡ w.at → Writes here first (codes " ")
     → Writes first last (take (start - 0) (drop 0 first.text.list.items)) → AwaitsParameters s last mark start argument
-front-turned s w here first last mark start argument p whole_ plain text candidates at one two =
+front-turned s w here first last mark start argument p whole_ plain text candidates scope_same at one two =
     let is = p.is_instance in
     let lead = p.bytes ++ codes " " in
     let none : p.lead ≡ [] = p.apart plain in
@@ -144,22 +173,22 @@ front-turned s w here first last mark start argument p whole_ plain text candida
     let again : take (start - 0) (drop 0 first.text.list.items) ≡ p.front =
     ap (λ n. take n first.text.list.items) (omega (arith, p.start_is)) ∙ ap (λ l. take (length p.front) l) front ∙ take-append_seam p.front lead in
     let written : last.text.list.items ≡ p.front ++ lead ++ p.front = two.text ∙ ap (λ l. first.text.list.items ++ l) again ∙ ap (λ l. l ++ p.front) front in
-    let known = candidates-same (detail_of s) w here p.state.candidates text candidates p.candidates in
+    let known = keeps-same s w here p.state.candidates text candidates scope_same p.keeps in
     front-leads s w last mark start start argument p (p.front ++ lead ++ p.name) lead
-    (candidates-written (detail_of s) first last (take (start - 0) (drop 0 first.text.list.items)) p.state.candidates two
-    (candidates-written (detail_of s) here first (codes " ") p.state.candidates one known))
+    (keeps-written s first last (take (start - 0) (drop 0 first.text.list.items)) p.state.candidates two
+    (keeps-written s here first (codes " ") p.state.candidates one known))
     (subst (λ l. HasArguments (detail_of s) l argument is.own) (sym written)
     (arguments-stay (p.front ++ lead) p.front argument is.own (arguments-stay p.front lead argument is.own is.names)))
     (subst (λ b. Fronts b (p.front ++ lead ++ p.name) start lead p.name) (sym whole_) (p.front, refl, p.start_is))
     (written ∙ ap (λ l. p.front ++ lead ++ l) named) (two.at ∙ one.at ∙ at)
-    (λ items there goes. turned s argument mark p.v p.name p.front is p.returned p.bytes p.is_reference p.prints items there whole_ plain
+    (λ items there goes. turned s p.scope argument mark p.v p.name p.front is p.returned p.bytes p.is_reference p.prints items there whole_ plain
     (subst (λ x. EncodedBehind s x (encoding_of p.v (list p.returned items)) there) none goes))
 
 -- before a local entity a function shows no return type
-hidden-return : (s : Symbol) (lead : List ℕ) (argument : Arguments) (mark : Mark) (v : Value) (name text : List ℕ) (is : IsInstance (detail_of s) text argument mark v name)
-    (r : Term) → is_local s.bytes ≡ true → (items : Term) (at : ℕ) → EncodedBehind s lead (encoding_of v (list r items)) at
+hidden-return : (s : Symbol) (scope : Scope) (lead : List ℕ) (argument : Arguments) (mark : Mark) (v : Value) (name text : List ℕ)
+    (is : IsInstance (detail_of s) scope text argument mark v name) (r : Term) → is_local s.bytes ≡ true → (items : Term) (at : ℕ) → EncodedBehind s lead (encoding_of v (list r items)) at
     → EncodedBehind s lead (plain_encoding mark is.own items) at
-hidden-return s lead argument mark v name text is r local_ items at p = record {
+hidden-return s scope lead argument mark v name text is r local_ items at p = record {
   whole = λ e. absurd (false≢true (sym e ∙ local_));
   entity = λ e internal called digit end told. let w = p.entity e internal called digit end told in record {
     made = w.made;
@@ -182,18 +211,18 @@ front-hidden s w last mark start begins argument p whole_ local_ begins_is one =
     ap (λ n. take n w.text.list.items) (omega (arith, p.start_is)) ∙ ap (λ l. take (length p.front) l) p.written ∙ take-append_seam p.front p.bytes in
     let written : last.text.list.items ≡ aside ++ p.front = one.text ∙ ap (λ l. w.text.list.items ++ l) again ∙ ap (λ l. l ++ p.front) p.written in
     front-leads s w last mark start begins argument p (aside ++ p.lead ++ p.name) p.lead
-    (candidates-written (detail_of s) w last (take (start - 0) (drop 0 w.text.list.items)) p.state.candidates one p.candidates)
+    (keeps-written s w last (take (start - 0) (drop 0 w.text.list.items)) p.state.candidates one p.keeps)
     (subst (λ l. HasArguments (detail_of s) l argument is.own) (sym written)
     (arguments-stay aside p.front argument is.own (arguments-stay p.front p.bytes argument is.own is.names)))
     (subst (λ b. Fronts b (aside ++ p.lead ++ p.name) begins p.lead p.name) (sym whole_) (aside, refl, begins_is ∙ ap length p.written))
     (written ∙ ap (λ l. aside ++ l) p.front_is ∙ sym (append_assoc aside p.lead p.name)) one.at
-    (λ items there goes. hidden-return s p.lead argument mark p.v p.name p.front is p.returned local_ items there goes)
+    (λ items there goes. hidden-return s p.scope p.lead argument mark p.v p.name p.front is p.returned local_ items there goes)
 
 -- where functions are shown by their names alone none shows a return type
-bare-return : (s : Symbol) (lead : List ℕ) (argument : Arguments) (mark : Mark) (v : Value) (name text : List ℕ) (is : IsInstance (detail_of s) text argument mark v name)
-    (r : Term) → s.is_bare ≡ true → (items : Term) (at : ℕ) → EncodedBehind s lead (encoding_of v (list r items)) at
+bare-return : (s : Symbol) (scope : Scope) (lead : List ℕ) (argument : Arguments) (mark : Mark) (v : Value) (name text : List ℕ)
+    (is : IsInstance (detail_of s) scope text argument mark v name) (r : Term) → s.is_bare ≡ true → (items : Term) (at : ℕ) → EncodedBehind s lead (encoding_of v (list r items)) at
     → EncodedBehind s lead (plain_encoding mark is.own items) at
-bare-return s lead argument mark v name text is r bare items at p =
+bare-return s scope lead argument mark v name text is r bare items at p =
     let returns = sym (encoding-returned v mark is.own is.tree_is is.qualifiers_are is.mark_is is.returns r items) in
     record {
       whole = λ e. let w = p.whole e in record {
@@ -214,13 +243,13 @@ bare-return s lead argument mark v name text is r bare items at p =
 
 -- the return type is read, and the parameters are written after it
 pub front-bare : (s : Symbol) (w last : Direct) (mark : Mark) (start : ℕ) (argument : Arguments) → IsFrontRead s w mark start argument
-    → s.is_bare ≡ true → last.text ≡ w.text → last.candidates ≡ w.candidates → last.at ≡ w.at → AwaitsParameters s last mark start argument
-front-bare s w last mark start argument p bare text candidates at =
+    → s.is_bare ≡ true → last.text ≡ w.text → last.candidates ≡ w.candidates → last.has_scope ≡ w.has_scope → last.at ≡ w.at → AwaitsParameters s last mark start argument
+front-bare s w last mark start argument p bare text candidates scope_same at =
     let is = p.is_instance in
     let written : last.text.list.items ≡ p.front ++ p.bytes = ap (λ v. v.list.items) text ∙ p.written in
     front-leads s w last mark start start argument p (p.front ++ p.bytes) p.lead
-    (candidates-same (detail_of s) w last p.state.candidates text candidates p.candidates)
+    (keeps-same s w last p.state.candidates text candidates scope_same p.keeps)
     (subst (λ l. HasArguments (detail_of s) l argument is.own) (sym written) (arguments-stay p.front p.bytes argument is.own is.names))
     (subst (λ b. Fronts b (p.front ++ p.bytes) start p.lead p.name) (sym bare)
     (p.bytes, ap (λ l. l ++ p.bytes) p.front_is, p.start_is ∙ ap length p.front_is))
-    written at (λ items there goes. bare-return s p.lead argument mark p.v p.name p.front is p.returned bare items there goes)
+    written at (λ items there goes. bare-return s p.scope p.lead argument mark p.v p.name p.front is p.returned bare items there goes)

@@ -13,59 +13,63 @@ use Rattle.cpp_direct.specs.declared.open.Arguments.{Arguments}
 use Rattle.cpp_direct.specs.declared.open.Step.TheVariants as steps
 use Rattle.cpp_direct.specs.declared.direct.Direct.{Direct}
 use Rattle.cpp_direct.specs.Holes.{Opened, Comes}
-use Rattle.cpp_direct.specs.Prints.{Prints, PrintsIn, IsElementIn, Shows}
-use Rattle.cpp_direct.specs.WriterInvariant.{AreCandidates, HasArguments, IsTemplate, IsWriting, Marks, AwaitsEnumerator, Belongs, Listing, of_template, of_pack, Stands, opening_text, extra_of, led_by, in_front_of_next, argument_of}
-use Rattle.cpp_direct.specs.MidStep.{AwaitsMark, AwaitsNumber, AwaitsSignature, IsElementRead, IsFrontRead, IsParameterEnded, IsReturned, IsSymbolEnded}
+use Rattle.cpp_direct.specs.Prints.{Names, PrintsAs, PrintsIn, IsElementIn, Shows}
+use Rattle.cpp_direct.specs.WriterInvariant.{HasArguments, IsNaming, IsTemplate, IsWriting, Keeps, Marks, AwaitsEnumerator, Belongs, Listing, Scope, of_template, of_pack, Stands, below, opening_text, extra_of, led_by, may_name, in_front_of_next, argument_of}
+use Rattle.cpp_direct.specs.MidStep.{AwaitsMark, AwaitsNumber, AwaitsSignature, IsElementRead, IsFrontRead, IsParameterEnded, IsPassedClosed, IsReturned, IsSymbolEnded}
 use Rattle.cpp_direct.proofs.Listed.{TakesElements, last-found, list-waits, listing-at, some-elements}
-use Rattle.cpp_direct.proofs.PrintedLists.{element-in, next-prints, next-prints-in, type-element}
-use Rattle.cpp_direct.proofs.PrintedTypes.{prints-in}
+use Rattle.cpp_direct.proofs.PrintedLists.{element-as, element-in, next-prints, next-prints-as, next-prints-in, type-element}
+use Rattle.cpp_direct.proofs.PrintedTypes.{as-in, type-element-in}
 use Rattle.cpp_direct.proofs.PrintedSymbols.{special-shows}
-use Rattle.cpp_direct.proofs.Kept.{template-stays}
+use Rattle.cpp_direct.proofs.Kept.{made-here, template-stays}
 use Rattle.cpp_direct.proofs.Scopes.{arguments-stay}
 
 -- it is marked
-pub value-marked : (s : Symbol) (w : Direct) (is_reference marked_reference : Bool) (entry : Open) (from : ℕ) (made : Term → Term) (mark : List ℕ)
-    → IsWriting s w (steps.Value is_reference) → slice_get w.waiting.list.items (length w.waiting.list.items - 1) ≡ Some entry
-    → ((rest : List Open) (os : List Opened) (text : List ℕ) → Stands s (entry ∷ rest) os text → Marks s (Stands s rest) (argument_of rest) os text from made)
-    → ((t : Term) (b : List ℕ) → Prints (detail_of s) t b is_reference → Prints (detail_of s) (made t) (b ++ mark) marked_reference)
-    → AwaitsMark s w mark from marked_reference
-value-marked s w is_reference marked_reference entry from made mark p found stands_as prints_as =
+pub value-marked : (s : Symbol) (w : Direct) (is_reference marked_reference is_dependent : Bool) (entry : Open) (from : ℕ) (made : Term → Term) (mark : List ℕ)
+    → IsWriting s w (steps.Value is_reference is_dependent) → slice_get w.waiting.list.items (length w.waiting.list.items - 1) ≡ Some entry
+    → ((scope : Scope) (rest : List Open) (os : List Opened) (text : List ℕ) → Stands s scope (entry ∷ rest) os text → Marks s (below s scope rest) os text from made)
+    → ((rest : List Open) → argument_of (entry ∷ rest) ≡ argument_of rest)
+    → ((names : Names) (t : Term) (b : List ℕ) → PrintsAs (detail_of s) names is_dependent t b is_reference
+    → PrintsAs (detail_of s) names is_dependent (made t) (b ++ mark) marked_reference)
+    → AwaitsMark s w mark from marked_reference is_dependent
+value-marked s w is_reference marked_reference is_dependent entry from made mark p found stands_as argument_as prints_as =
     let os = p.is_before.0 in
     let t = p.is_before.1 in
     let front = p.is_before.2 in
     let bytes = p.is_before.3 in
-    let written = p.is_before.4 in
-    let prints = p.is_before.5 in
-    let comes = p.is_before.6 in
-    let stands = p.is_before.7 in
     let last = last-found w.waiting.list.items entry found in
-    let marks = stands_as last.0 os front (subst (λ ws. Stands s ws os front) last.1 stands) in
+    let marks = stands_as p.scope last.0 os front (subst (λ ws. Stands s p.scope ws os front) last.1 p.is_before.8) in
+    let naming : is_dependent ≡ true → IsNaming s p.scope last.0
+    = λ e. let n = p.is_before.6 e in (sym (argument_as last.0) ∙ ap argument_of (sym last.1) ∙ n.0, n.1) in
     record {
       state = p.state;
-      candidates = p.candidates;
+      scope = p.scope;
+      keeps = p.keeps;
       entry = entry;
       rest = last.0;
       open_is = last.1;
       outer = marks.0;
       made_in = marks.1;
       made = made t;
-      comes = marks.3 t w.at p.state comes;
+      comes = marks.3 t w.at p.state p.is_before.7;
       front = front;
       bytes = bytes;
-      written = written;
+      written = p.is_before.4;
       from_is = marks.2;
-      prints = prints_as t bytes prints;
-      stands = marks.4;
+      prints = prints_as p.scope.names t bytes p.is_before.5;
+      naming = naming;
+      made_here = λ e. made-here s p.scope marks.1 last.0 marks.4 (naming e);
+      stands = marks.5;
     }
 
 -- it is an element or a parameter
-pub value-element : (s : Symbol) (w : Direct) (is_reference : Bool) (o : Open) → IsWriting s w (steps.Value is_reference)
+pub value-element : (s : Symbol) (w : Direct) (is_reference : Bool) (o : Open) → IsWriting s w (steps.Value is_reference false)
     → slice_get w.waiting.list.items (length w.waiting.list.items - 1) ≡ Some o → IsElementRead s w o
 value-element s w is_reference o p found =
     let last = last-found w.waiting.list.items o found in
     record {
       state = p.state;
-      candidates = p.candidates;
+      scope = p.scope;
+      keeps = p.keeps;
       rest = last.0;
       open_is = last.1;
       os = p.is_before.0;
@@ -74,18 +78,18 @@ value-element s w is_reference o p found =
       bytes = p.is_before.3;
       written = p.is_before.4;
       element = λ extra. type-element extra p.is_before.1 p.is_before.3 is_reference p.is_before.5;
-      comes = p.is_before.6;
-      stands = subst (λ ws. Stands s ws p.is_before.0 p.is_before.2) last.1 p.is_before.7;
+      comes = p.is_before.7;
+      stands = subst (λ ws. Stands s p.scope ws p.is_before.0 p.is_before.2) last.1 p.is_before.8;
     }
 
 -- a parameter was read
-pub parameter-got : (s : Symbol) (w : Direct) (mark : Mark) (start : ℕ) (argument : Arguments) (st : State) (rest : List Open) (os : List Opened) (t : Term)
-    (front bytes : List ℕ) (waits : Stands s (opens.Parameters mark start argument ∷ rest) os front)
-    → AreCandidates (detail_of s) w.text.list.items w.candidates.list.items st.candidates
+pub parameter-got : (s : Symbol) {scope : Scope} (w : Direct) (mark : Mark) (start : ℕ) (argument : Arguments) (st : State) (rest : List Open) (os : List Opened) (t : Term)
+    (front bytes : List ℕ) (waits : Stands s scope (opens.Parameters mark start argument ∷ rest) os front)
+    → Keeps s scope w st.candidates
     → reverse w.waiting.list.items ≡ opens.Parameters mark start argument ∷ rest
     → w.text.list.items ≡ front ++ bytes → Comes s os (tree t true) w.at st → IsElementIn (detail_of s) (types_of waits.6.own) 6 t bytes
     → IsParameterEnded s w mark start argument
-parameter-got s w mark start argument st opened_ os t front bytes waits candidates open_is written comes element =
+parameter-got s {scope = scope} w mark start argument st opened_ os t front bytes waits keeps open_is written comes element =
     let before = waits.0 in
     let lead = waits.1 in
     let ts = waits.3 in
@@ -94,7 +98,8 @@ parameter-got s w mark start argument st opened_ os t front bytes waits candidat
     let is_function = waits.6 in
     record {
       state = st;
-      candidates = candidates;
+      scope = scope;
+      keeps = keeps;
       rest = opened_;
       open_is = open_is;
       make = waits.2;
@@ -111,6 +116,8 @@ parameter-got s w mark start argument st opened_ os t front bytes waits candidat
         elements = next-prints-in (types_of is_function.own) 6 ts texts t bytes is_function.elements element;
         names = subst (λ l. HasArguments (detail_of s) l argument is_function.own) (sym written)
             (arguments-stay front bytes argument is_function.own is_function.names);
+        given = is_function.given;
+        named = is_function.named;
       };
       fronts = waits.7;
       written = written ∙ ap (λ l. l ++ bytes) waits.8 ∙ append_assoc (before ++ codes "(") (in_front_of_next ts texts) bytes;
@@ -120,8 +127,23 @@ parameter-got s w mark start argument st opened_ os t front bytes waits candidat
 pub parameter-read : (s : Symbol) (w : Direct) (mark : Mark) (start : ℕ) (argument : Arguments) → IsElementRead s w (opens.Parameters mark start argument)
     → IsParameterEnded s w mark start argument
 parameter-read s w mark start argument p =
-    parameter-got s w mark start argument p.state p.rest p.os p.own p.front p.bytes p.stands p.candidates p.open_is p.written p.comes
+    parameter-got s w mark start argument p.state p.rest p.os p.own p.front p.bytes p.stands p.keeps p.open_is p.written p.comes
     (element-in (types_of p.stands.6.own) 6 p.own p.bytes (p.element 6))
+
+-- it is a type
+pub value-parameter : (s : Symbol) (w : Direct) (is_reference is_dependent : Bool) (mark : Mark) (start : ℕ) (argument : Arguments)
+    → IsWriting s w (steps.Value is_reference is_dependent)
+    → slice_get w.waiting.list.items (length w.waiting.list.items - 1) ≡ Some (opens.Parameters mark start argument) → IsParameterEnded s w mark start argument
+value-parameter s w is_reference is_dependent mark start argument p found =
+    let os = p.is_before.0 in
+    let t = p.is_before.1 in
+    let front = p.is_before.2 in
+    let bytes = p.is_before.3 in
+    let last = last-found w.waiting.list.items (opens.Parameters mark start argument) found in
+    let waits : Stands s p.scope (opens.Parameters mark start argument ∷ last.0) os front = subst (λ ws. Stands s p.scope ws os front) last.1 p.is_before.8 in
+    let types = types_of waits.6.own in
+    parameter-got s w mark start argument p.state last.0 os t front bytes waits p.keeps last.1 p.is_before.4 p.is_before.7
+    (type-element-in types t bytes is_reference (as-in (detail_of s) p.scope.names is_dependent types t bytes is_reference waits.6.given p.is_before.5))
 
 -- what a special object is of was read
 pub special-read : (s : Symbol) (w : Direct) → IsElementRead s w opens.Special → IsSymbolEnded s w
@@ -132,7 +154,8 @@ special-read s w p =
     let filled = waits.2 in
     record {
       state = p.state;
-      candidates = p.candidates;
+      scope = p.scope;
+      keeps = p.keeps;
       e = special letter p.own;
       encoded = waits.3 p.own w.at p.state p.comes;
       shows = subst (λ l. Shows (detail_of s) (special letter p.own) l) (sym (p.written ∙ ap (λ l. l ++ p.bytes) front_is))
@@ -140,21 +163,22 @@ special-read s w p =
     }
 
 -- it is the type of an enumerator
-pub value-enumerator : (s : Symbol) (w : Direct) (is_reference : Bool) → IsWriting s w (steps.Value is_reference)
+pub value-enumerator : (s : Symbol) (w : Direct) (is_reference : Bool) → IsWriting s w (steps.Value is_reference false)
     → slice_get w.waiting.list.items (length w.waiting.list.items - 1) ≡ Some opens.Enumerator → AwaitsNumber s w
 value-enumerator s w is_reference p found =
     let last = last-found w.waiting.list.items opens.Enumerator found in
-    go last.0 last.1 (subst (λ ws. Stands s ws p.is_before.0 p.is_before.2) last.1 p.is_before.7)
+    go last.0 last.1 (subst (λ ws. Stands s p.scope ws p.is_before.0 p.is_before.2) last.1 p.is_before.8)
   where
     number : (l : Listing) (opened : List Open) (owner : Open) (rest : List Open) → reverse w.waiting.list.items ≡ opens.Enumerator ∷ opened
-        → Belongs (detail_of s) l opened owner rest → AwaitsEnumerator s l owner (Stands s rest) p.is_before.0 p.is_before.2 → AwaitsNumber s w
+        → Belongs (detail_of s) p.scope.names l opened owner rest → AwaitsEnumerator s p.scope.names l owner (below s p.scope rest) p.is_before.0 p.is_before.2 → AwaitsNumber s w
     number l opened owner rest is belongs waits =
         let t = p.is_before.1 in
         let bytes = p.is_before.3 in
         let written = p.is_before.4 in
         record {
           state = p.state;
-          candidates = p.candidates;
+          scope = p.scope;
+          keeps = p.keeps;
           opened = opened;
           open_is = is;
           place = record {
@@ -165,8 +189,8 @@ value-enumerator s w is_reference p found =
             front = waits.0;
             template = waits.1;
             name = waits.2;
-            is_template = subst (λ k. IsTemplate (detail_of s) owner waits.0 waits.1 waits.2 k) (sym written)
-                (template-stays (detail_of s) owner waits.0 waits.1 waits.2 p.is_before.2 bytes waits.5);
+            is_template = subst (λ k. IsTemplate (detail_of s) p.scope.names owner waits.0 waits.1 waits.2 k) (sym written)
+                (template-stays (detail_of s) p.scope.names owner waits.0 waits.1 waits.2 p.is_before.2 bytes waits.5);
           };
           ts = waits.3;
           texts = waits.4;
@@ -176,44 +200,53 @@ value-enumerator s w is_reference p found =
           is_reference = is_reference;
           prints = p.is_before.5;
           written = written ∙ ap (λ k. k ++ bytes) waits.7;
-          goes = waits.8 t w.at p.state p.is_before.6;
+          goes = waits.8 t w.at p.state p.is_before.7;
         }
 
     go : (rest : List Open) → reverse w.waiting.list.items ≡ opens.Enumerator ∷ rest
-        → Stands s (opens.Enumerator ∷ rest) p.is_before.0 p.is_before.2 → AwaitsNumber s w
+        → Stands s p.scope (opens.Enumerator ∷ rest) p.is_before.0 p.is_before.2 → AwaitsNumber s w
     go [] is waits = absurd waits
     go (opens.Pack ∷ []) is waits = absurd waits
     go (opens.Pack ∷ owner ∷ rest) is waits = number (of_pack waits.0 waits.1) (opens.Pack ∷ owner ∷ rest) owner rest is (refl, waits.2) waits.3
     go (owner ∷ rest) is waits = number of_template (owner ∷ rest) owner rest is refl waits
 
+-- what waits for no type that names an argument of the function's template
+pub passed-closed : (o : Open) → ((x : ℕ) → o ≡ opens.Pointer x → ⊥) → ((x : ℕ) → o ≡ opens.Lvalue x → ⊥) → ((x : ℕ) → o ≡ opens.Rvalue x → ⊥)
+    → ((x : ℕ) → o ≡ opens.Const x → ⊥) → ((x : Mark) (y : ℕ) (z : Arguments) → o ≡ opens.Parameters x y z → ⊥)
+    → ((x : Mark) (y : ℕ) (z : Arguments) → o ≡ opens.Front x y z → ⊥) → IsPassedClosed o
+passed-closed (opens.Pointer x) p l r c f k = absurd (p x refl)
+passed-closed (opens.Lvalue x) p l r c f k = absurd (l x refl)
+passed-closed (opens.Rvalue x) p l r c f k = absurd (r x refl)
+passed-closed (opens.Const x) p l r c f k = absurd (c x refl)
+passed-closed (opens.Parameters x y z) p l r c f k = absurd (f x y z refl)
+passed-closed (opens.Front x y z) p l r c f k = absurd (k x y z refl)
+passed-closed _ p l r c f k = tt
+
 -- what is none of those that wait for something else
-pub takes-elements : (o : Open) → ((x : ℕ) → o ≡ opens.Pointer x → ⊥) → ((x : ℕ) → o ≡ opens.Lvalue x → ⊥)
-    → ((x : ℕ) → o ≡ opens.Rvalue x → ⊥) → ((x : ℕ) → o ≡ opens.Const x → ⊥) → ((x : Mark) (y : ℕ) (z : Arguments) → o ≡ opens.Parameters x y z → ⊥)
-    → ((x : Mark) (y : ℕ) (z : Arguments) → o ≡ opens.Front x y z → ⊥)
-    → ((x : Bool) → o ≡ opens.Returned x → ⊥) → ((x : Bool) → o ≡ opens.Signature x → ⊥)
-    → (o ≡ opens.Special → ⊥) → (o ≡ opens.Enumerator → ⊥) → ((x : Mark) (y t : ℕ) (z : Arguments) → o ≡ opens.Enclosing x y t z → ⊥)
+pub takes-elements : (o : Open) → IsPassedClosed o → ((x : Bool) → o ≡ opens.Returned x → ⊥) → ((x : Bool) → o ≡ opens.Signature x → ⊥)
+    → (o ≡ opens.Special → ⊥) → (o ≡ opens.Enumerator → ⊥) → ((x : Mark) (y z : ℕ) → o ≡ opens.Enclosing x y z → ⊥)
     → ((x y : ℕ) (z : Arguments) → o ≡ opens.Argument x y z → ⊥) → ((x : ℕ) → o ≡ opens.Lambda x → ⊥) → ((x y : ℕ) (z : Arguments) → o ≡ opens.Element x y z → ⊥)
     → ((x : Access) (y z : ℕ) → o ≡ opens.Array x y z → ⊥) → TakesElements o
-takes-elements (opens.Pointer x) p l r c f k u g z n m a q e j = absurd (p x refl)
-takes-elements (opens.Lvalue x) p l r c f k u g z n m a q e j = absurd (l x refl)
-takes-elements (opens.Rvalue x) p l r c f k u g z n m a q e j = absurd (r x refl)
-takes-elements (opens.Const x) p l r c f k u g z n m a q e j = absurd (c x refl)
-takes-elements (opens.Parameters x y w) p l r c f k u g z n m a q e j = absurd (f x y w refl)
-takes-elements (opens.Front x y w) p l r c f k u g z n m a q e j = absurd (k x y w refl)
-takes-elements (opens.Argument x y v) p l r c f k u g z n m a q e j = absurd (a x y v refl)
-takes-elements (opens.Returned x) p l r c f k u g z n m a q e j = absurd (u x refl)
-takes-elements (opens.Signature x) p l r c f k u g z n m a q e j = absurd (g x refl)
-takes-elements (opens.Enclosing x y t w) p l r c f k u g z n m a q e j = absurd (m x y t w refl)
-takes-elements (opens.Lambda x) p l r c f k u g z n m a q e j = absurd (q x refl)
-takes-elements (opens.Array x y w) p l r c f k u g z n m a q e j = absurd (j x y w refl)
-takes-elements (opens.Element x y w) p l r c f k u g z n m a q e j = absurd (e x y w refl)
-takes-elements opens.Special p l r c f k u g z n m a q e j = absurd (z refl)
-takes-elements opens.Enumerator p l r c f k u g z n m a q e j = absurd (n refl)
-takes-elements opens.Pack p l r c f k u g z n m a q e j = tt
-takes-elements (opens.TypeArguments x) p l r c f k u g z n m a q e j = tt
-takes-elements (opens.NestArguments x) p l r c f k u g z n m a q e j = tt
-takes-elements (opens.FirstArguments x) p l r c f k u g z n m a q e j = tt
-takes-elements (opens.NameArguments x) p l r c f k u g z n m a q e j = tt
+takes-elements (opens.Pointer x) w u g z n m a q e j = absurd w
+takes-elements (opens.Lvalue x) w u g z n m a q e j = absurd w
+takes-elements (opens.Rvalue x) w u g z n m a q e j = absurd w
+takes-elements (opens.Const x) w u g z n m a q e j = absurd w
+takes-elements (opens.Parameters x y v) w u g z n m a q e j = absurd w
+takes-elements (opens.Front x y v) w u g z n m a q e j = absurd w
+takes-elements (opens.Argument x y v) w u g z n m a q e j = absurd (a x y v refl)
+takes-elements (opens.Returned x) w u g z n m a q e j = absurd (u x refl)
+takes-elements (opens.Signature x) w u g z n m a q e j = absurd (g x refl)
+takes-elements (opens.Enclosing x y v) w u g z n m a q e j = absurd (m x y v refl)
+takes-elements (opens.Lambda x) w u g z n m a q e j = absurd (q x refl)
+takes-elements (opens.Array x y v) w u g z n m a q e j = absurd (j x y v refl)
+takes-elements (opens.Element x y v) w u g z n m a q e j = absurd (e x y v refl)
+takes-elements opens.Special w u g z n m a q e j = absurd (z refl)
+takes-elements opens.Enumerator w u g z n m a q e j = absurd (n refl)
+takes-elements opens.Pack w u g z n m a q e j = tt
+takes-elements (opens.TypeArguments x y) w u g z n m a q e j = tt
+takes-elements (opens.NestArguments x) w u g z n m a q e j = tt
+takes-elements (opens.FirstArguments x) w u g z n m a q e j = tt
+takes-elements (opens.NameArguments x) w u g z n m a q e j = tt
 
 -- an element was read
 pub argument-read : (s : Symbol) (w : Direct) (o : Open) → IsElementRead s w o → TakesElements o → IsWriting s w (steps.List false)
@@ -223,15 +256,17 @@ argument-read s w o p takes =
     let front = p.front in
     record {
       state = p.state;
-      candidates = p.candidates;
+      scope = p.scope;
+      keeps = p.keeps;
       is_before = (
         listing-at (o ∷ p.rest) front (reverse w.waiting.list.items) w.text.list.items place
-            (subst (λ ws. Belongs (detail_of s) place.listing ws place.owner place.rest) (sym p.open_is) place.belongs)
-            (subst (λ l. IsTemplate (detail_of s) place.owner place.front place.template place.name l) (sym p.written)
-            (template-stays (detail_of s) place.owner place.front place.template place.name front p.bytes place.is_template)),
+            (subst (λ ws. Belongs (detail_of s) p.scope.names place.listing ws place.owner place.rest) (sym p.open_is) place.belongs)
+            (subst (λ l. IsTemplate (detail_of s) p.scope.names place.owner place.front place.template place.name l) (sym p.written)
+            (template-stays (detail_of s) p.scope.names place.owner place.front place.template place.name front p.bytes place.is_template)),
         waits.ts ++ p.own ∷ [],
         in_front_of_next waits.ts waits.texts ++ p.bytes,
-        next-prints (extra_of place.listing) waits.ts waits.texts p.own p.bytes waits.elements (p.element (extra_of place.listing)),
+        next-prints-as (detail_of s) p.scope.names (may_name place.listing place.owner) (extra_of place.listing) waits.ts waits.texts p.own p.bytes waits.elements
+            (element-as (detail_of s) p.scope.names (may_name place.listing place.owner) (extra_of place.listing) p.own p.bytes (p.element (extra_of place.listing))),
         p.written ∙ ap (λ l. l ++ p.bytes) waits.written
             ∙ append_assoc (led_by (detail_of s) place.listing place.front place.name) (in_front_of_next waits.ts waits.texts) p.bytes,
         λ e. absurd (false≢true e),
@@ -243,13 +278,14 @@ argument-read s w o p takes =
 -- ## Return types
 
 -- it is the return type of a function
-pub front-got : (s : Symbol) (w : Direct) (is_reference : Bool) (mark : Mark) (start : ℕ) (argument : Arguments) (st : State) (rest : List Open) (os : List Opened)
-    (t : Term) (front bytes : List ℕ) (waits : Stands s (opens.Front mark start argument ∷ rest) os front)
-    → AreCandidates (detail_of s) w.text.list.items w.candidates.list.items st.candidates → w.text.list.items ≡ front ++ bytes → Comes s os (tree t true) w.at st
+pub front-got : (s : Symbol) {scope : Scope} (w : Direct) (is_reference : Bool) (mark : Mark) (start : ℕ) (argument : Arguments) (st : State) (rest : List Open) (os : List Opened)
+    (t : Term) (front bytes : List ℕ) (waits : Stands s scope (opens.Front mark start argument ∷ rest) os front)
+    → Keeps s scope w st.candidates → w.text.list.items ≡ front ++ bytes → Comes s os (tree t true) w.at st
     → PrintsIn (detail_of s) (types_of waits.3.own) 2 t bytes is_reference → IsFrontRead s w mark start argument
-front-got s w is_reference mark start argument st rest os t front bytes waits candidates written comes prints = record {
+front-got s {scope = scope} w is_reference mark start argument st rest os t front bytes waits keeps written comes prints = record {
   state = st;
-  candidates = candidates;
+  scope = scope;
+  keeps = keeps;
   v = waits.0;
   lead = waits.1;
   name = waits.2;
@@ -266,30 +302,34 @@ front-got s w is_reference mark start argument st rest os t front bytes waits ca
   goes = waits.7 t w.at st comes;
 }
 
-pub value-front : (s : Symbol) (w : Direct) (is_reference : Bool) (mark : Mark) (start : ℕ) (argument : Arguments) → IsWriting s w (steps.Value is_reference)
+pub value-front : (s : Symbol) (w : Direct) (is_reference is_dependent : Bool) (mark : Mark) (start : ℕ) (argument : Arguments)
+    → IsWriting s w (steps.Value is_reference is_dependent)
     → slice_get w.waiting.list.items (length w.waiting.list.items - 1) ≡ Some (opens.Front mark start argument) → IsFrontRead s w mark start argument
-value-front s w is_reference mark start argument p found =
+value-front s w is_reference is_dependent mark start argument p found =
     let os = p.is_before.0 in
+    let t = p.is_before.1 in
     let front = p.is_before.2 in
+    let bytes = p.is_before.3 in
     let last = last-found w.waiting.list.items (opens.Front mark start argument) found in
-    let waits : Stands s (opens.Front mark start argument ∷ last.0) os front = subst (λ ws. Stands s ws os front) last.1 p.is_before.7 in
-    front-got s w is_reference mark start argument p.state last.0 os p.is_before.1 front p.is_before.3 waits p.candidates p.is_before.4 p.is_before.6
-    (prints-in (types_of waits.3.own) 2 p.is_before.1 p.is_before.3 is_reference p.is_before.5)
+    let waits : Stands s p.scope (opens.Front mark start argument ∷ last.0) os front = subst (λ ws. Stands s p.scope ws os front) last.1 p.is_before.8 in
+    front-got s w is_reference mark start argument p.state last.0 os t front bytes waits p.keeps p.is_before.4 p.is_before.7
+    (as-in (detail_of s) p.scope.names is_dependent (types_of waits.3.own) t bytes is_reference waits.3.given p.is_before.5)
 
 -- ## Function types
 
 -- it is the return type of a function type
-pub value-returned : (s : Symbol) (w : Direct) (is_reference is_pointer : Bool) → IsWriting s w (steps.Value is_reference)
+pub value-returned : (s : Symbol) (w : Direct) (is_reference is_pointer : Bool) → IsWriting s w (steps.Value is_reference false)
     → slice_get w.waiting.list.items (length w.waiting.list.items - 1) ≡ Some (opens.Returned is_pointer) → IsReturned s w is_pointer
 value-returned s w is_reference is_pointer p found =
     let os = p.is_before.0 in
     let t = p.is_before.1 in
     let front = p.is_before.2 in
     let last = last-found w.waiting.list.items (opens.Returned is_pointer) found in
-    let waits : Stands s (opens.Returned is_pointer ∷ last.0) os front = subst (λ ws. Stands s ws os front) last.1 p.is_before.7 in
+    let waits : Stands s p.scope (opens.Returned is_pointer ∷ last.0) os front = subst (λ ws. Stands s p.scope ws os front) last.1 p.is_before.8 in
     record {
       state = p.state;
-      candidates = p.candidates;
+      scope = p.scope;
+      keeps = p.keeps;
       rest = last.0;
       open_is = last.1;
       outer = waits.0;
@@ -300,27 +340,28 @@ value-returned s w is_reference is_pointer p found =
       is_reference = is_reference;
       prints = p.is_before.5;
       written = p.is_before.4;
-      goes = waits.2 t w.at p.state p.is_before.6;
+      goes = waits.2 t w.at p.state p.is_before.7;
       takes = waits.3;
       stands = waits.4;
     }
 
 -- it is a parameter of one
-pub value-signature : (s : Symbol) (w : Direct) (is_reference is_pointer : Bool) → IsWriting s w (steps.Value is_reference)
+pub value-signature : (s : Symbol) (w : Direct) (is_reference is_pointer : Bool) → IsWriting s w (steps.Value is_reference false)
     → slice_get w.waiting.list.items (length w.waiting.list.items - 1) ≡ Some (opens.Signature is_pointer) → AwaitsSignature s w is_pointer false
 value-signature s w is_reference is_pointer p found =
     let os = p.is_before.0 in
     let t = p.is_before.1 in
     let b = p.is_before.3 in
     let last = last-found w.waiting.list.items (opens.Signature is_pointer) found in
-    let waits : Stands s (opens.Signature is_pointer ∷ last.0) os p.is_before.2 = subst (λ ws. Stands s ws os p.is_before.2) last.1 p.is_before.7 in
+    let waits : Stands s p.scope (opens.Signature is_pointer ∷ last.0) os p.is_before.2 = subst (λ ws. Stands s p.scope ws os p.is_before.2) last.1 p.is_before.8 in
     let front = waits.2 in
     let bytes = waits.4 in
     let ts = waits.6 in
     let texts = waits.7 in
     record {
       state = p.state;
-      candidates = p.candidates;
+      scope = p.scope;
+      keeps = p.keeps;
       rest = last.0;
       open_is = last.1;
       outer = waits.0;
@@ -337,7 +378,7 @@ value-signature s w is_reference is_pointer p found =
       elements = next-prints 0 ts texts t b waits.9 (type-element 0 t b is_reference p.is_before.5);
       written = p.is_before.4 ∙ ap (λ l. l ++ b) waits.10
           ∙ append_assoc (front ++ (bytes ++ opening_text is_pointer)) (in_front_of_next ts texts) b;
-      goes = waits.11 t w.at p.state p.is_before.6;
+      goes = waits.11 t w.at p.state p.is_before.7;
       takes = waits.12;
       stands = waits.13;
     }

@@ -1,20 +1,22 @@
 -- What a writer keeps while its text and its lists grow.
 use Rattle.sym_print.specs.declared.detail.Detail.{Detail}
-use Rattle.std.proofs.Common.{◌≡◌, ℕ, zero, suc, ◌+◌, ◌-◌, ◌≤◌, length, List, [], ◌∷◌, ◌++◌, take, drop, reverse, slice_get, Bool, true, false, Option, Some, None, is_some, refl, ap, sym, ◌∙◌, subst, arith, append_assoc, append-nil, ◌<◌, inl, inr, get_or, length-append}
+use Rattle.std.proofs.Common.{◌≡◌, ◌≢◌, ℕ, zero, suc, ◌+◌, ◌-◌, ◌≤◌, length, List, [], ◌∷◌, ◌++◌, take, drop, reverse, slice_get, Bool, true, false, Option, Some, None, is_some, refl, ap, sym, ◌∙◌, subst, arith, append_assoc, append-nil, ◌<◌, inl, inr, get_or, length-append, cond}
 use Rattle.std.proofs.lemmas.Bool.{false≢true}
 use Rattle.std.proofs.lemmas.List.{reverse-append, reverse-reverse}
 use Rattle.std.proofs.Math.Seq.{drop-append_seam, take-append_seam}
 use Rattle.cpp_grammar.specs.Term.{Term}
 use Rattle.cpp_grammar.specs.Values.{State, Around}
+use Rattle.cpp_direct.specs.Bytes.{is_local}
 use Rattle.cpp_direct.specs.WrittenParts.{opening_bracket}
 use Rattle.cpp_direct.specs.Symbol.{detail_of, Symbol}
 use Rattle.cpp_direct.specs.declared.open.Candidate.{Candidate}
+use Rattle.cpp_direct.specs.declared.open.Argument.{Argument}
 use Rattle.cpp_direct.specs.declared.open.Nest.{Nest}
 use Rattle.cpp_direct.specs.declared.open.Open.{Open}
 use Rattle.cpp_direct.specs.declared.direct.Direct.{Direct}
 use Rattle.cpp_direct.specs.Holes.{Opened, candidate, with_candidate, unless_listed}
-use Rattle.cpp_direct.specs.Prints.{Prints}
-use Rattle.cpp_direct.specs.WriterInvariant.{IsCandidate, PrintsAs, PrintsOrNames, AreCandidates, IsBefore, IsNest, IsTemplate, ArgumentsGoOn, Stands, of_template}
+use Rattle.cpp_direct.specs.Prints.{Names, PrintsAs}
+use Rattle.cpp_direct.specs.WriterInvariant.{AreCandidates, AreNamed, ArgumentsGoOn, HasScope, IsBefore, IsCandidate, IsNaming, IsNest, IsPlaced, IsScopeOf, IsScoped, IsTemplate, Keeps, Scope, Stands, argument_of, arguments_in, below, encoding_place, is_within_type, no_scope, of_template, place_of}
 use Rattle.cpp_direct.specs.Written.{Writes, Reads, added, added_unless, IsKeptTo, AreKeptTo}
 use Rattle.std.specs.Prelude.{slice_set}
 use Rattle.cpp_grammar.specs.Values as values
@@ -46,8 +48,8 @@ piece-found text front bytes back from to e from_is to_is = (omega (arith, from_
 -- ## Candidates
 
 -- a candidate stays one where more is written
-pub candidate-stays : {detail : Detail} (text more : List ℕ) (k : Candidate) (c : values.Candidate) → IsCandidate detail text k c
-    → IsCandidate detail (text ++ more) k c
+pub candidate-stays : {s : Symbol} {names : Names} (text more : List ℕ) (k : Candidate) (c : values.Candidate) → IsCandidate s names text k c
+    → IsCandidate s names (text ++ more) k c
 candidate-stays text more k c p = record {
   front = p.front;
   bytes = p.bytes;
@@ -56,30 +58,32 @@ candidate-stays text more k c p = record {
   from_is = p.from_is;
   to_is = p.to_is;
   prints = p.prints;
+  made_in = p.made_in;
 }
 
 -- candidates stay so where more is written
-pub candidates-stay : (detail : Detail) (text more : List ℕ) (ks : List Candidate) (cs : List values.Candidate) → AreCandidates detail text ks cs
-    → AreCandidates detail (text ++ more) ks cs
-candidates-stay detail text more [] [] p = tt
-candidates-stay detail text more (k ∷ ks) (c ∷ cs) p = ((λ e. candidate-stays text more k c (p.0 e)), candidates-stay detail text more ks cs p.1)
-candidates-stay detail text more [] (c ∷ cs) p = absurd p
-candidates-stay detail text more (k ∷ ks) [] p = absurd p
+pub candidates-stay : (s : Symbol) (names : Names) (text more : List ℕ) (ks : List Candidate) (cs : List values.Candidate) → AreCandidates s names text ks cs
+    → AreCandidates s names (text ++ more) ks cs
+candidates-stay s names text more [] [] p = tt
+candidates-stay s names text more (k ∷ ks) (c ∷ cs) p = ((λ e. candidate-stays text more k c (p.0 e)), candidates-stay s names text more ks cs p.1)
+candidates-stay s names text more [] (c ∷ cs) p = absurd p
+candidates-stay s names text more (k ∷ ks) [] p = absurd p
 
 -- one more
-pub candidates-more : {detail : Detail} (text : List ℕ) (ks : List Candidate) (cs : List values.Candidate) (k : Candidate) (c : values.Candidate)
-    → AreCandidates detail text ks cs → (k.from ≤ k.to → IsCandidate detail text k c) → AreCandidates detail text (ks ++ k ∷ []) (cs ++ c ∷ [])
+pub candidates-more : {s : Symbol} {names : Names} (text : List ℕ) (ks : List Candidate) (cs : List values.Candidate) (k : Candidate) (c : values.Candidate)
+    → AreCandidates s names text ks cs → (k.from ≤ k.to → IsCandidate s names text k c) → AreCandidates s names text (ks ++ k ∷ []) (cs ++ c ∷ [])
 candidates-more text [] [] k c p is = (is, tt)
 candidates-more text (x ∷ ks) (y ∷ cs) k c p is = (p.0, candidates-more text ks cs k c p.1 is)
 candidates-more text [] (y ∷ cs) k c p is = absurd p
 candidates-more text (x ∷ ks) [] k c p is = absurd p
 
 -- what is written from a place on becomes a candidate
-pub candidates-added : {detail : Detail} (text : List ℕ) (ks : List Candidate) (cs : List values.Candidate) (front bytes : List ℕ) (from : ℕ) (t : Term) (around : Around) (r : Bool)
-    → AreCandidates detail text ks cs → text ≡ front ++ bytes → from ≡ length front → Prints detail t bytes r
-    → AreCandidates detail text (ks ++ record { from = from; to = length text; is_reference = r; is_dependent = false; number = 0; encoding = 0 } ∷ []) (cs ++ candidate around t ∷ [])
-candidates-added text ks cs front bytes from t around r p written from_is prints =
-    candidates-more text ks cs (record { from = from; to = length text; is_reference = r; is_dependent = false; number = 0; encoding = 0 }) (candidate around t) p (λ ordered. record {
+pub candidates-added : (s : Symbol) (names : Names) (text : List ℕ) (ks : List Candidate) (cs : List values.Candidate) (front bytes : List ℕ) (from : ℕ) (t : Term) (around : Around) (r d : Bool)
+    → AreCandidates s names text ks cs → text ≡ front ++ bytes → from ≡ length front → PrintsAs (detail_of s) names d t bytes r
+    → (d ≡ true → around.encoding ≡ encoding_place s.bytes)
+    → AreCandidates s names text (ks ++ record { from = from; to = length text; is_reference = r; is_dependent = d } ∷ []) (cs ++ candidate around t ∷ [])
+candidates-added s names text ks cs front bytes from t around r d p written from_is prints made_in =
+    candidates-more text ks cs (record { from = from; to = length text; is_reference = r; is_dependent = d }) (candidate around t) p (λ ordered. record {
       front = front;
       bytes = bytes;
       back = [];
@@ -87,76 +91,145 @@ candidates-added text ks cs front bytes from t around r p written from_is prints
       from_is = from_is;
       to_is = ap length written ∙ length-append front bytes;
       prints = prints;
+      made_in = made_in;
     })
 
--- the same of a writer and a state
-pub candidates-with : {detail : Detail} (w : Direct) (st : State) (front bytes : List ℕ) (from : ℕ) (t : Term) (around : Around) (r : Bool)
-    → AreCandidates detail w.text.list.items w.candidates.list.items st.candidates → w.text.list.items ≡ front ++ bytes → from ≡ length front
-    → Prints detail t bytes r
-    → AreCandidates detail w.text.list.items (added w from r) (with_candidate around t st).candidates
-candidates-with w st front bytes from t around r p written from_is prints =
-    candidates-added w.text.list.items w.candidates.list.items st.candidates front bytes from t around r p written from_is prints
+-- ## What a writer keeps
 
--- the same unless it is one already
-pub candidates-unless : {detail : Detail} (w : Direct) (st : State) (listed : Bool) (front bytes : List ℕ) (from : ℕ) (t : Term) (around : Around)
-    → AreCandidates detail w.text.list.items w.candidates.list.items st.candidates → w.text.list.items ≡ front ++ bytes → from ≡ length front
-    → Prints detail t bytes false
-    → AreCandidates detail w.text.list.items (added_unless w listed from) (unless_listed listed around t st).candidates
-candidates-unless w st true front bytes from t around p written from_is prints = p
-candidates-unless w st false front bytes from t around p written from_is prints = candidates-with w st front bytes from t around false p written from_is prints
+-- a text is in its place still where more is written
+pub placed-stays : (text more : List ℕ) (p : Argument) (bytes : List ℕ) → IsPlaced text p bytes → IsPlaced (text ++ more) p bytes
+placed-stays text more p bytes h = record {
+  front = h.front;
+  back = h.back ++ more;
+  written = piece-stays text h.front bytes h.back more h.written;
+  from_is = h.from_is;
+  to_is = h.to_is;
+}
+
+-- so are the arguments that may be named
+named-stays : (text more : List ℕ) (scope : Scope) → AreNamed text scope → AreNamed (text ++ more) scope
+named-stays text more scope named = λ number plain. let n = named number plain in (n.0, n.1, placed-stays text more (place_of scope.arguments number) n.0 n.2)
+
+-- nothing may be named
+pub none-named : (text : List ℕ) → AreNamed text no_scope
+none-named text zero plain = absurd (omega (arith, plain.0))
+none-named text (suc zero) plain = absurd (omega (arith, plain.0))
+none-named text (suc (suc zero)) plain = absurd (omega (arith, plain.0))
+none-named text (suc (suc (suc zero))) plain = absurd (omega (arith, plain.0))
+none-named text (suc (suc (suc (suc number)))) plain = absurd (omega (arith, plain.0))
+
+none-own : (s : Symbol) → IsScopeOf s no_scope
+none-own s = record { encoded = λ real. absurd (real refl); plain = λ number bytes e. cc e }
+
+-- there is no candidate, and nothing may be named
+pub none-kept : (s : Symbol) (w : Direct) → w.candidates.list.items ≡ [] → Keeps s no_scope w []
+none-kept s w none = record {
+  candidates = subst (λ ks. AreCandidates s no_scope.names w.text.list.items ks []) (sym none) tt;
+  named = none-named w.text.list.items;
+  own = none-own s;
+  unknown = λ e. refl;
+}
 
 -- what is there has this text and these candidates
-pub candidates-as : (detail : Detail) (new : Direct) (cs : List values.Candidate) {text : List ℕ} {ks : List Candidate}
-    → new.text.list.items ≡ text → new.candidates.list.items ≡ ks
-    → AreCandidates detail text ks cs → AreCandidates detail new.text.list.items new.candidates.list.items cs
-candidates-as detail new cs {text = text} text_is candidates_are p =
-    subst (λ l. AreCandidates detail l new.candidates.list.items cs) (sym text_is) (subst (λ ks. AreCandidates detail text ks cs) (sym candidates_are) p)
+pub keeps-as : (s : Symbol) {scope : Scope} (old new : Direct) (cs : List values.Candidate) {text : List ℕ} {ks : List Candidate}
+    → new.text.list.items ≡ text → new.candidates.list.items ≡ ks → new.has_scope ≡ old.has_scope
+    → AreCandidates s scope.names text ks cs → AreNamed text scope → IsScopeOf s scope → (old.has_scope ≡ false → scope ≡ no_scope)
+    → Keeps s scope new cs
+keeps-as s {scope = scope} old new cs {text = text} text_is candidates_are scope_same candidates named own unknown = record {
+  candidates = subst (λ l. AreCandidates s scope.names l new.candidates.list.items cs) (sym text_is)
+      (subst (λ ks. AreCandidates s scope.names text ks cs) (sym candidates_are) candidates);
+  named = subst (λ l. AreNamed l scope) (sym text_is) named;
+  own = own;
+  unknown = λ none. unknown (sym scope_same ∙ none);
+}
 
 -- these bytes were written
-pub candidates-grown : (detail : Detail) (old new : Direct) (bytes : List ℕ) (cs : List values.Candidate)
-    → new.text.list.items ≡ old.text.list.items ++ bytes → new.candidates ≡ old.candidates
-    → AreCandidates detail old.text.list.items old.candidates.list.items cs → AreCandidates detail new.text.list.items new.candidates.list.items cs
-candidates-grown detail old new bytes cs text candidates p =
-    candidates-as detail new cs text (ap (λ v. v.list.items) candidates) (candidates-stay detail old.text.list.items bytes old.candidates.list.items cs p)
+pub keeps-grown : (s : Symbol) {scope : Scope} (old new : Direct) (bytes : List ℕ) (cs : List values.Candidate)
+    → new.text.list.items ≡ old.text.list.items ++ bytes → new.candidates ≡ old.candidates → new.has_scope ≡ old.has_scope
+    → Keeps s scope old cs → Keeps s scope new cs
+keeps-grown s {scope = scope} old new bytes cs text candidates scope_same keeps =
+    keeps-as s old new cs text (ap (λ v. v.list.items) candidates) scope_same
+    (candidates-stay s scope.names old.text.list.items bytes old.candidates.list.items cs keeps.candidates)
+    (named-stays old.text.list.items bytes scope keeps.named) keeps.own keeps.unknown
 
 -- a text was written
-pub candidates-written : (detail : Detail) (old new : Direct) (bytes : List ℕ) (cs : List values.Candidate) → Writes old new bytes
-    → AreCandidates detail old.text.list.items old.candidates.list.items cs → AreCandidates detail new.text.list.items new.candidates.list.items cs
-candidates-written detail old new bytes cs writes p = candidates-grown detail old new bytes cs writes.text writes.candidates p
+pub keeps-written : (s : Symbol) {scope : Scope} (old new : Direct) (bytes : List ℕ) (cs : List values.Candidate) → Writes old new bytes
+    → Keeps s scope old cs → Keeps s scope new cs
+keeps-written s old new bytes cs writes keeps = keeps-grown s old new bytes cs writes.text writes.candidates writes.scope keeps
 
 -- the same where something was read
-pub candidates-read : (detail : Detail) (old new : Direct) (bytes : List ℕ) (cs : List values.Candidate) → Reads old new bytes
-    → AreCandidates detail old.text.list.items old.candidates.list.items cs → AreCandidates detail new.text.list.items new.candidates.list.items cs
-candidates-read detail old new bytes cs reads p = candidates-grown detail old new bytes cs reads.text reads.candidates p
+pub keeps-read : (s : Symbol) {scope : Scope} (old new : Direct) (bytes : List ℕ) (cs : List values.Candidate) → Reads old new bytes
+    → Keeps s scope old cs → Keeps s scope new cs
+keeps-read s old new bytes cs reads keeps = keeps-grown s old new bytes cs reads.text reads.candidates reads.scope keeps
 
 -- nothing was written
-pub candidates-same : (detail : Detail) (old new : Direct) (cs : List values.Candidate) → new.text ≡ old.text → new.candidates ≡ old.candidates
-    → AreCandidates detail old.text.list.items old.candidates.list.items cs → AreCandidates detail new.text.list.items new.candidates.list.items cs
-candidates-same detail old new cs text candidates p =
-    candidates-as detail new cs (ap (λ v. v.list.items) text) (ap (λ v. v.list.items) candidates) p
+pub keeps-same : (s : Symbol) {scope : Scope} (old new : Direct) (cs : List values.Candidate) → new.text ≡ old.text → new.candidates ≡ old.candidates
+    → new.has_scope ≡ old.has_scope → Keeps s scope old cs → Keeps s scope new cs
+keeps-same s old new cs text candidates scope_same keeps =
+    keeps-as s old new cs (ap (λ v. v.list.items) text) (ap (λ v. v.list.items) candidates) scope_same keeps.candidates keeps.named keeps.own keeps.unknown
+
+-- what is written from a place on became a candidate
+pub keeps-with : (s : Symbol) {scope : Scope} (old new : Direct) (st : State) (front bytes : List ℕ) (from : ℕ) (t : Term) (around : Around) (r d : Bool)
+    → Keeps s scope old st.candidates → old.text.list.items ≡ front ++ bytes → from ≡ length front → PrintsAs (detail_of s) scope.names d t bytes r
+    → (d ≡ true → around.encoding ≡ encoding_place s.bytes)
+    → new.text ≡ old.text → new.candidates.list.items ≡ added old from r d → new.has_scope ≡ old.has_scope
+    → Keeps s scope new (with_candidate around t st).candidates
+keeps-with s {scope = scope} old new st front bytes from t around r d keeps written from_is prints made_in text_same added_is scope_same =
+    keeps-as s old new (with_candidate around t st).candidates (ap (λ v. v.list.items) text_same) added_is scope_same
+    (candidates-added s scope.names old.text.list.items old.candidates.list.items st.candidates front bytes from t around r d keeps.candidates written from_is prints made_in)
+    keeps.named keeps.own keeps.unknown
+
+-- the same unless it is one already
+pub keeps-unless : (s : Symbol) {scope : Scope} (old new : Direct) (st : State) (listed : Bool) (front bytes : List ℕ) (from : ℕ) (t : Term) (around : Around) (d : Bool)
+    → Keeps s scope old st.candidates → old.text.list.items ≡ front ++ bytes → from ≡ length front → PrintsAs (detail_of s) scope.names d t bytes false
+    → (d ≡ true → around.encoding ≡ encoding_place s.bytes)
+    → new.text ≡ old.text → new.candidates.list.items ≡ added_unless old listed from d → new.has_scope ≡ old.has_scope
+    → Keeps s scope new (unless_listed listed around t st).candidates
+keeps-unless s old new st true front bytes from t around d keeps written from_is prints made_in text_same added_is scope_same =
+    keeps-as s old new st.candidates (ap (λ v. v.list.items) text_same) added_is scope_same keeps.candidates keeps.named keeps.own keeps.unknown
+keeps-unless s old new st false front bytes from t around d keeps written from_is prints made_in text_same added_is scope_same =
+    keeps-with s old new st front bytes from t around false d keeps written from_is prints made_in text_same added_is scope_same
+
+-- ## What waits
 
 -- and these wait
-pub stands-same : (s : Symbol) (old new : Direct) (os : List Opened) {ws : List Open} → new.text ≡ old.text → reverse new.waiting.list.items ≡ ws
-    → Stands s ws os old.text.list.items → Stands s (reverse new.waiting.list.items) os new.text.list.items
-stands-same s old new os {ws = ws} text waits stands =
-    subst (λ v. Stands s (reverse new.waiting.list.items) os v.list.items) (sym text) (subst (λ ws. Stands s ws os old.text.list.items) (sym waits) stands)
+pub stands-same : (s : Symbol) (scope : Scope) (old new : Direct) (os : List Opened) {ws : List Open} → new.text ≡ old.text → reverse new.waiting.list.items ≡ ws
+    → Stands s scope ws os old.text.list.items → Stands s scope (reverse new.waiting.list.items) os new.text.list.items
+stands-same s scope old new os {ws = ws} text waits stands =
+    subst (λ v. Stands s scope (reverse new.waiting.list.items) os v.list.items) (sym text) (subst (λ ws. Stands s scope ws os old.text.list.items) (sym waits) stands)
 
--- what names no argument prints its text
-pub plainly-prints : {detail : Detail} (k : Candidate) (c : values.Candidate) (bytes : List ℕ) → k.is_dependent ≡ false → PrintsAs detail k c bytes
-    → Prints detail c.tree bytes k.is_reference
-plainly-prints {detail} k c bytes plain prints = subst (λ b. PrintsOrNames detail b k c bytes) plain prints
+-- what may be named within a type may be named in what is open in it
+pub scoped-within : (scope : Scope) (around : Around) (o : Open) (rest : List Open) → arguments_in o ≡ None
+    → (is_within_type o ≡ true → IsScoped scope around rest) → IsScoped scope around (o ∷ rest)
+scoped-within scope around o rest none scoped a found = go (is_within_type o) refl found
+  where
+    go : (within : Bool) → is_within_type o ≡ within → elim within [ true ↦ argument_of rest | false ↦ arguments_in o ] ≡ Some a → (scope.arguments ≡ a) × HasScope a around
+    go true is e = scoped is a e
+    go false is e = absurd (false≢true (ap is_some (sym none ∙ e)))
+
+-- in the symbol's own encoding types may name its arguments
+pub made-here : (s : Symbol) (scope : Scope) (around : Around) (open_ : List Open) → IsScoped scope around open_ → IsNaming s scope open_
+    → around.encoding ≡ encoding_place s.bytes
+made-here s scope around open_ scoped naming = ((scoped scope.arguments naming.0).1.0 not_none).0 ∙ naming.1
+  where
+    place : (b : Bool) (n : ℕ) → n ≡ cond b 3 2 → n ≢ 0
+    place true n is none = absurd (omega (arith, is, none))
+    place false n is none = absurd (omega (arith, is, none))
+
+    not_none : scope.arguments.encoding ≢ 0
+    not_none = place (is_local s.bytes) scope.arguments.encoding naming.1
 
 -- what a substitution names
-pub candidate-found : {detail : Detail} (text : List ℕ) (ks : List Candidate) (cs : List values.Candidate) (n : ℕ) (k : Candidate)
-    → AreCandidates detail text ks cs → k.from ≤ k.to → slice_get ks n ≡ Some k → (c : values.Candidate) × (slice_get cs n ≡ Some c) × IsCandidate detail text k c
-candidate-found {detail} text [] cs n k p ordered found = absurd (false≢true (ap is_some found))
-candidate-found {detail} text (x ∷ ks) [] n k p ordered found = absurd p
-candidate-found {detail} text (x ∷ ks) (y ∷ cs) zero k p ordered found = (y, refl, (subst (λ o. Named o) found p.0) ordered)
+pub candidate-found : {s : Symbol} {names : Names} (text : List ℕ) (ks : List Candidate) (cs : List values.Candidate) (n : ℕ) (k : Candidate)
+    → AreCandidates s names text ks cs → k.from ≤ k.to → slice_get ks n ≡ Some k → (c : values.Candidate) × (slice_get cs n ≡ Some c) × IsCandidate s names text k c
+candidate-found text [] cs n k p ordered found = absurd (false≢true (ap is_some found))
+candidate-found text (x ∷ ks) [] n k p ordered found = absurd p
+candidate-found {s} {names} text (x ∷ ks) (y ∷ cs) zero k p ordered found = (y, refl, (subst (λ o. Named o) found p.0) ordered)
   where
     Named : Option Candidate → Type 0
-    Named (Some z) = z.from ≤ z.to → IsCandidate detail text z y
+    Named (Some z) = z.from ≤ z.to → IsCandidate s names text z y
     Named None = ⊥
-candidate-found {detail} text (x ∷ ks) (y ∷ cs) (suc n) k p ordered found = candidate-found text ks cs n k p.1 ordered found
+candidate-found text (x ∷ ks) (y ∷ cs) (suc n) k p ordered found = candidate-found text ks cs n k p.1 ordered found
 
 -- ## What is open
 
@@ -171,13 +244,14 @@ last-reversed xs rest x e = sym (reverse-reverse xs) ∙ ap reverse e ∙ revers
 -- ## Nested names
 
 -- a nested name stays one where more is written
-pub nest-stays : {detail : Detail} (front bytes text more : List ℕ) (nest : Nest) (t : Term) → IsNest detail front bytes text nest t
-    → IsNest detail front bytes (text ++ more) nest t
+pub nest-stays : {detail : Detail} {names : Names} (front bytes text more : List ℕ) (nest : Nest) (t : Term) → IsNest detail names front bytes text nest t
+    → IsNest detail names front bytes (text ++ more) nest t
 nest-stays front bytes text more nest t p = record {
   back = p.back ++ more;
   written = piece-stays text front bytes p.back more p.written;
   from_is = p.from_is;
   prints = p.prints;
+  closed = p.closed;
   class_front = p.class_front;
   class = p.class;
   class_back = p.class_back ++ more;
@@ -188,21 +262,22 @@ nest-stays front bytes text more nest t p = record {
 }
 
 -- and a template before its arguments
-pub template-stays : (detail : Detail) (owner : Open) (front : List ℕ) (t : Term) (name text more : List ℕ) → IsTemplate detail owner front t name text
-    → IsTemplate detail owner front t name (text ++ more)
-template-stays detail (opens.TypeArguments from) front t name text more p = p
-template-stays detail (opens.NestArguments nest) front t name text more p = (nest-stays front name text more nest t p.0, p.1, p.2)
-template-stays detail (opens.FirstArguments nest) front t name text more p = nest-stays front name text more nest t p
-template-stays detail (opens.NameArguments from) front t name text more p = p
-template-stays detail _ front t name text more p = p
+pub template-stays : (detail : Detail) (names : Names) (owner : Open) (front : List ℕ) (t : Term) (name text more : List ℕ) → IsTemplate detail names owner front t name text
+    → IsTemplate detail names owner front t name (text ++ more)
+template-stays detail names (opens.TypeArguments from is_dependent) front t name text more p = p
+template-stays detail names (opens.NestArguments nest) front t name text more p = (nest-stays front name text more nest t p.0, p.1, p.2)
+template-stays detail names (opens.FirstArguments nest) front t name text more p = nest-stays front name text more nest t p
+template-stays detail names (opens.NameArguments from) front t name text more p = p
+template-stays detail names _ front t name text more p = p
 
 -- ## Lists
 
 -- arguments begin
-pub arguments-begun : (s : Symbol) (w : Direct) (st : State) (owner : Open) (rest : List Open) (front name : List ℕ) (t : Term)
-    → reverse w.waiting.list.items ≡ owner ∷ rest → IsTemplate (detail_of s) owner front t name w.text.list.items → w.text.list.items ≡ front ++ name ++ opening_bracket (detail_of s)
-    → ArgumentsGoOn s owner (Stands s rest) front t [] w.at st → IsBefore s w st (steps.List true)
-arguments-begun s w st owner rest front name t open_is is_template written goes = (
+pub arguments-begun : (s : Symbol) {scope : Scope} (w : Direct) (st : State) (owner : Open) (rest : List Open) (front name : List ℕ) (t : Term)
+    → reverse w.waiting.list.items ≡ owner ∷ rest → IsTemplate (detail_of s) scope.names owner front t name w.text.list.items
+    → w.text.list.items ≡ front ++ name ++ opening_bracket (detail_of s)
+    → ArgumentsGoOn s owner (below s scope rest) front t [] w.at st → IsBefore s scope w st (steps.List true)
+arguments-begun s {scope = scope} w st owner rest front name t open_is is_template written goes = (
   record {
     listing = of_template;
     owner = owner;
@@ -231,8 +306,8 @@ front-more zero k (x ∷ xs) ys e = absurd (omega (arith, e))
 front-more (suc n) k (x ∷ xs) ys e = ap (λ l. x ∷ l) (front-more n k xs ys (omega (arith, e)))
 
 -- a candidate that ends in the front of a text is one of that
-candidate-kept : {detail : Detail} (text kept rest : List ℕ) (k : Candidate) (c : values.Candidate) → text ≡ kept ++ rest → IsCandidate detail text k c
-    → k.to ≤ length kept → IsCandidate detail kept k c
+candidate-kept : {s : Symbol} {names : Names} (text kept rest : List ℕ) (k : Candidate) (c : values.Candidate) → text ≡ kept ++ rest → IsCandidate s names text k c
+    → k.to ≤ length kept → IsCandidate s names kept k c
 candidate-kept text kept rest k c is p within =
     let own = p.front ++ p.bytes in
     let more = length kept - length own in
@@ -245,27 +320,28 @@ candidate-kept text kept rest k c is p within =
       from_is = p.from_is;
       to_is = p.to_is;
       prints = p.prints;
+      made_in = p.made_in;
     }
 
-one-kept : {detail : Detail} (text kept rest : List ℕ) (to : ℕ) (k n : Candidate) (c : values.Candidate) → text ≡ kept ++ rest → to ≡ length kept
-    → IsKeptTo to k n → (k.from ≤ k.to → IsCandidate detail text k c) → n.from ≤ n.to → IsCandidate detail kept n c
-one-kept {detail} text kept rest to k n c is to_is (inl (same, within)) p ordered =
-    subst (λ m. IsCandidate detail kept m c) (sym same)
+one-kept : {s : Symbol} {names : Names} (text kept rest : List ℕ) (to : ℕ) (k n : Candidate) (c : values.Candidate) → text ≡ kept ++ rest → to ≡ length kept
+    → IsKeptTo to k n → (k.from ≤ k.to → IsCandidate s names text k c) → n.from ≤ n.to → IsCandidate s names kept n c
+one-kept {s} {names} text kept rest to k n c is to_is (inl (same, within)) p ordered =
+    subst (λ m. IsCandidate s names kept m c) (sym same)
     (candidate-kept text kept rest k c is (p (subst (λ (m : Candidate). m.from ≤ m.to) same ordered)) (omega (arith, within, to_is)))
-one-kept {detail} text kept rest to k n c is to_is (inr none) p ordered =
+one-kept text kept rest to k n c is to_is (inr none) p ordered =
     let never : 1 ≤ 0 = subst (λ (m : Candidate). m.from ≤ m.to) none ordered in
     absurd (omega (arith, never))
 
 -- So are all, where those that end after it are nowhere.
-pub candidates-kept : (detail : Detail) (text kept rest : List ℕ) (to : ℕ) (ks ns : List Candidate) (cs : List values.Candidate) → text ≡ kept ++ rest
-    → to ≡ length kept → AreKeptTo to ks ns → AreCandidates detail text ks cs → AreCandidates detail kept ns cs
-candidates-kept detail text kept rest to [] [] [] is to_is are p = tt
-candidates-kept detail text kept rest to (k ∷ ks) (n ∷ ns) (c ∷ cs) is to_is are p =
-    (one-kept text kept rest to k n c is to_is are.0 p.0, candidates-kept detail text kept rest to ks ns cs is to_is are.1 p.1)
-candidates-kept detail text kept rest to [] [] (c ∷ cs) is to_is are p = absurd p
-candidates-kept detail text kept rest to [] (n ∷ ns) cs is to_is are p = absurd are
-candidates-kept detail text kept rest to (k ∷ ks) [] cs is to_is are p = absurd are
-candidates-kept detail text kept rest to (k ∷ ks) (n ∷ ns) [] is to_is are p = absurd p
+pub candidates-kept : (s : Symbol) (names : Names) (text kept rest : List ℕ) (to : ℕ) (ks ns : List Candidate) (cs : List values.Candidate) → text ≡ kept ++ rest
+    → to ≡ length kept → AreKeptTo to ks ns → AreCandidates s names text ks cs → AreCandidates s names kept ns cs
+candidates-kept s names text kept rest to [] [] [] is to_is are p = tt
+candidates-kept s names text kept rest to (k ∷ ks) (n ∷ ns) (c ∷ cs) is to_is are p =
+    (one-kept text kept rest to k n c is to_is are.0 p.0, candidates-kept s names text kept rest to ks ns cs is to_is are.1 p.1)
+candidates-kept s names text kept rest to [] [] (c ∷ cs) is to_is are p = absurd p
+candidates-kept s names text kept rest to [] (n ∷ ns) cs is to_is are p = absurd are
+candidates-kept s names text kept rest to (k ∷ ks) [] cs is to_is are p = absurd are
+candidates-kept s names text kept rest to (k ∷ ks) (n ∷ ns) [] is to_is are p = absurd p
 
 -- ## One after the other
 

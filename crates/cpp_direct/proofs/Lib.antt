@@ -17,8 +17,10 @@ pub mod MovesOfLocals
 pub mod MovesOfNests
 pub mod MovesOfTypes
 pub mod NamePlaces
+pub mod NamedArguments
 pub mod NestComponents
 pub mod Nesting
+pub mod Noted
 pub mod PrintedFunctions
 pub mod PrintedLists
 pub mod PrintedLocals

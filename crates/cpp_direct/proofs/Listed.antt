@@ -9,29 +9,32 @@ use Rattle.cpp_grammar.specs.declared.kind.Kind.{Kind}
 use Rattle.cpp_grammar.specs.Grammar.{may_be_empty}
 use Rattle.cpp_grammar.specs.Term.{Term, nil, list, instance, pack}
 use Rattle.cpp_grammar.specs.Scope.{arguments_of}
-use Rattle.cpp_grammar.specs.Values.{State, tree, nothing_there, tree_of, qualifiers_of, ref_of}
+use Rattle.cpp_grammar.specs.Values.{Around, State, tree, nothing_there, tree_of, qualifiers_of, ref_of}
 use Rattle.cpp_grammar.specs.Between.{no_items}
 use Rattle.cpp_direct.specs.WrittenParts.{opening_bracket, closing_bracket}
 use Rattle.cpp_direct.specs.Symbol.{detail_of, Symbol}
 use Rattle.cpp_direct.specs.declared.open.Mark.TheVariants as marks
 use Rattle.cpp_direct.specs.declared.open.Nest.{Nest}
+use Rattle.cpp_direct.specs.declared.open.Purpose.{Purpose}
+use Rattle.cpp_direct.specs.declared.open.Purpose.TheVariants as purposes
 use Rattle.cpp_direct.specs.declared.open.Open.{Open}
 use Rattle.cpp_direct.specs.declared.open.Open.TheVariants as opens
 use Rattle.cpp_direct.specs.declared.open.Step.TheVariants as steps
 use Rattle.cpp_direct.specs.declared.direct.Direct.{Direct}
 use Rattle.cpp_direct.specs.Holes.{Opened, Comes, Expects, IsListKind, ListGoesOn, StandsAt, AwaitsComponent, with_candidate}
 use Rattle.cpp_direct.specs.HolesOfLists.{IsArgumentKind}
-use Rattle.cpp_direct.specs.Prints.{PrintAll, list_of}
-use Rattle.cpp_direct.specs.WriterInvariant.{HasArguments, argument_of, AreCandidates, IsListing, IsNest, IsTail, IsTemplate, IsWriting, Owns, Serves, ArgumentsGoOn, AwaitsElementOf, AwaitsEnumerator, Belongs, Closes, ElementsGoOn, EnumeratorGoesOn, GoesOn, Listing, of_template, of_pack, Stands, element_kind, extra_of, led_by, list_with, in_front_of_next, nowhere}
+use Rattle.cpp_direct.specs.Prints.{Names, PrintAllAs, PrintsAs, list_of}
+use Rattle.cpp_direct.specs.WriterInvariant.{HasArguments, arguments_in, below, IsListing, IsNaming, IsScoped, IsOwn, Keeps, Scope, scoped_in, is_noted, is_type, may_name, IsNest, IsTail, IsTemplate, IsWriting, Owns, Serves, ArgumentsGoOn, AwaitsElementOf, AwaitsEnumerator, Belongs, Closes, ElementsGoOn, EnumeratorGoesOn, GoesOn, Listing, of_template, of_pack, Stands, element_kind, extra_of, led_by, list_with, in_front_of_next, nowhere}
 use Rattle.cpp_direct.specs.MidStep.{AreKnown, IsListEnded, AwaitsNextArgument, IsNameEnded}
 use Rattle.cpp_direct.specs.Written.{Writes, added}
 use Rattle.cpp_direct.proofs.Moves.{expects-empty, stands-split}
 use Rattle.cpp_direct.proofs.MovesOfLists.{element-awaits, pack-opens}
-use Rattle.cpp_direct.proofs.PrintedLists.{list-more, list-with-none, next-prints, none-print, pack-element}
+use Rattle.cpp_direct.proofs.PrintedLists.{element-as, list-more, list-with-none, next-prints-as, none-print, pack-element}
 use Rattle.cpp_direct.proofs.PrintedNames.{as-name}
-use Rattle.cpp_direct.proofs.PrintedNests.{instance-prints, instance-class}
+use Rattle.cpp_direct.proofs.PrintedNests.{instance-as, instance-prints, instance-class}
+use Rattle.cpp_direct.proofs.PrintedTypes.{prints-as}
 use Rattle.cpp_direct.proofs.Scopes.{element-there, instance-returns, known-stay, none-known, none-scoped, structor-returns}
-use Rattle.cpp_direct.proofs.Kept.{candidates-as, candidates-same, candidates-stay, candidates-with, template-stays, reverse-last, last-reversed}
+use Rattle.cpp_direct.proofs.Kept.{keeps-grown, keeps-same, keeps-with, made-here, scoped-within, template-stays, reverse-last, last-reversed}
 
 -- ## What is open
 
@@ -77,22 +80,23 @@ element-kind of_template = tt
 element-kind (of_pack before written) = tt
 
 -- a list goes on after one more
-pub element-goes-on : (s : Symbol) (kind : Kind) (closes : Term → (at : ℕ) → State → Type 0) (ts : List Term) (t : Term)
-    (before at : ℕ) (earlier st : State) (goes : ElementsGoOn s kind closes ts before earlier) → ListGoesOn s kind goes.1 goes.0 t at st
-    → ElementsGoOn s kind closes (ts ++ t ∷ []) at st
+pub element-goes-on : (s : Symbol) (kind : Kind) (scoped : Around → Type 0) (closes : Term → (at : ℕ) → State → Type 0) (ts : List Term) (t : Term)
+    (before at : ℕ) (earlier st : State) (goes : ElementsGoOn s kind scoped closes ts before earlier) → ListGoesOn s kind goes.1 goes.0 t at st
+    → ElementsGoOn s kind scoped closes (ts ++ t ∷ []) at st
 unfolding no_items tree_of
-element-goes-on s kind closes ts t before at earlier st goes g = (
+element-goes-on s kind scoped closes ts t before at earlier st goes g = (
   goes.0,
   g.inner,
   goes.2,
+  goes.3,
   g.awaits,
   λ l there now comes ended. subst (λ u. closes u (there + 1) now) (sym (list-more ts t (no_items l)))
-      (goes.4 (tree (list t (no_items l)) true) there now (g.passes l there now comes) ended),
+      (goes.5 (tree (list t (no_items l)) true) there now (g.passes l there now comes) ended),
 )
 
 -- a list is open still where something else is
-abbrev pub listing-at : {detail : Detail} (opened : List Open) (text : List ℕ) (now : List Open) (later : List ℕ) (p : IsListing detail opened text)
-    → Belongs detail p.listing now p.owner p.rest → IsTemplate detail p.owner p.front p.template p.name later → IsListing detail now later
+abbrev pub listing-at : {detail : Detail} {names : Names} (opened : List Open) (text : List ℕ) (now : List Open) (later : List ℕ) (p : IsListing detail names opened text)
+    → Belongs detail names p.listing now p.owner p.rest → IsTemplate detail names p.owner p.front p.template p.name later → IsListing detail names now later
 listing-at opened text now later p belongs is_template = record {
   listing = p.listing;
   owner = p.owner;
@@ -121,7 +125,8 @@ in-front (t ∷ ts) l false none some = refl
 -- The arguments of what was opened last are read and written.
 pub record IsClosed (s : Symbol) (w : Direct) (owner : Open) : Type 0 where
   pub state : State
-  pub candidates : AreCandidates (detail_of s) w.text.list.items w.candidates.list.items state.candidates
+  pub scope : Scope
+  pub keeps : Keeps s scope w state.candidates
   pub front : List ℕ
   pub template : Term
   pub name : List ℕ
@@ -129,10 +134,10 @@ pub record IsClosed (s : Symbol) (w : Direct) (owner : Open) : Type 0 where
   pub tail : Term
   pub is_tail : IsTail tail
   pub arguments : List ℕ
-  pub is_template : IsTemplate (detail_of s) owner front template name w.text.list.items
-  pub elements : PrintAll (detail_of s) 3 ts arguments
+  pub is_template : IsTemplate (detail_of s) scope.names owner front template name w.text.list.items
+  pub elements : PrintAllAs (detail_of s) scope.names (is_noted owner) 3 ts arguments
   pub written : w.text.list.items ≡ front ++ (name ++ opening_bracket (detail_of s) ++ arguments ++ closing_bracket (detail_of s))
-  pub owns : Owns s owner (Stands s (reverse w.waiting.list.items)) front (instance template (list_with ts tail)) w.at state
+  pub owns : Owns s owner (below s scope (reverse w.waiting.list.items)) front (instance template (list_with ts tail)) w.at state
   pub known : AreKnown (detail_of s) w.text.list.items w.argument ts tail
 
 closing : (o e a b d : List ℕ) → (a ++ b ++ o ++ d) ++ e ≡ a ++ (b ++ o ++ d ++ e)
@@ -140,14 +145,16 @@ closing o e a b d = ap (λ l. l ++ d ++ e) (append_assoc a b o) ∙ ap (λ l. l 
 
 -- the last bracket is written, and what was opened last is taken away
 pub closes : (s : Symbol) (old new : Direct) (owner : Open) → IsListEnded s old new.argument → new.text.list.items ≡ old.text.list.items ++ closing_bracket (detail_of s)
-    → new.candidates.list.items ≡ old.candidates.list.items → new.at ≡ old.at → old.waiting.list.items ≡ new.waiting.list.items ++ owner ∷ [] → IsClosed s new owner
-closes s old new owner p text candidates at opened =
+    → new.candidates ≡ old.candidates → new.has_scope ≡ old.has_scope → new.at ≡ old.at → old.waiting.list.items ≡ new.waiting.list.items ++ owner ∷ []
+    → IsClosed s new owner
+closes s old new owner p text candidates scope_same at opened =
+    let scope = p.scope in
     let last = opened-last old.waiting.list.items new.waiting.list.items owner p.owner p.rest p.open_is opened in
     let made = instance p.template (list_with p.ts p.tail) in
     record {
       state = p.state;
-      candidates = candidates-as (detail_of s) new p.state.candidates text candidates
-          (candidates-stay (detail_of s) old.text.list.items (closing_bracket (detail_of s)) old.candidates.list.items p.state.candidates p.candidates);
+      scope = scope;
+      keeps = keeps-grown s old new (closing_bracket (detail_of s)) p.state.candidates text candidates scope_same p.keeps;
       front = p.front;
       template = p.template;
       name = p.name;
@@ -155,24 +162,24 @@ closes s old new owner p text candidates at opened =
       tail = p.tail;
       is_tail = p.is_tail;
       arguments = p.arguments;
-      is_template = subst (λ l. IsTemplate (detail_of s) owner p.front p.template p.name l) (sym text)
-          (subst (λ o. IsTemplate (detail_of s) o p.front p.template p.name (old.text.list.items ++ closing_bracket (detail_of s))) last.0
-          (template-stays (detail_of s) p.owner p.front p.template p.name old.text.list.items (closing_bracket (detail_of s)) p.is_template));
-      elements = p.elements;
+      is_template = subst (λ l. IsTemplate (detail_of s) scope.names owner p.front p.template p.name l) (sym text)
+          (subst (λ o. IsTemplate (detail_of s) scope.names o p.front p.template p.name (old.text.list.items ++ closing_bracket (detail_of s))) last.0
+          (template-stays (detail_of s) scope.names p.owner p.front p.template p.name old.text.list.items (closing_bracket (detail_of s)) p.is_template));
+      elements = subst (λ o. PrintAllAs (detail_of s) scope.names (is_noted o) 3 p.ts p.arguments) last.0 p.elements;
       written = text ∙ ap (λ l. l ++ closing_bracket (detail_of s)) p.written ∙ closing (opening_bracket (detail_of s)) (closing_bracket (detail_of s)) p.front p.name p.arguments;
-      owns = subst (λ n. Owns s owner (Stands s (reverse new.waiting.list.items)) p.front made n p.state) (sym at)
-          (subst (λ r. Owns s owner (Stands s r) p.front made old.at p.state) last.1
-          (subst (λ o. Owns s o (Stands s p.rest) p.front made old.at p.state) last.0 p.owns));
+      owns = subst (λ n. Owns s owner (below s scope (reverse new.waiting.list.items)) p.front made n p.state) (sym at)
+          (subst (λ r. Owns s owner (below s scope r) p.front made old.at p.state) last.1
+          (subst (λ o. Owns s o (below s scope p.rest) p.front made old.at p.state) last.0 p.owns));
       known = subst (λ l. AreKnown (detail_of s) l new.argument p.ts p.tail) (sym text) (known-stay old.text.list.items (closing_bracket (detail_of s)) new.argument p.ts p.tail p.known);
     }
 
 -- the same by what was written and taken away
 pub closed-by : (s : Symbol) (old mid new : Direct) (x owner : Open) → IsListEnded s old new.argument → Writes old mid (closing_bracket (detail_of s))
-    → new.text ≡ mid.text → new.candidates ≡ mid.candidates → new.at ≡ mid.at → mid.waiting.list.items ≡ new.waiting.list.items ++ x ∷ [] → x ≡ owner
-    → IsClosed s new owner
-closed-by s old mid new x owner p writes text candidates at items is =
+    → new.text ≡ mid.text → new.candidates ≡ mid.candidates → new.has_scope ≡ mid.has_scope → new.at ≡ mid.at
+    → mid.waiting.list.items ≡ new.waiting.list.items ++ x ∷ [] → x ≡ owner → IsClosed s new owner
+closed-by s old mid new x owner p writes text candidates scope_same at items is =
     closes s old new owner p (subst (λ v. v.list.items ≡ old.text.list.items ++ closing_bracket (detail_of s)) (sym text) writes.text)
-    (subst (λ v. v.list.items ≡ old.candidates.list.items) (sym (candidates ∙ writes.candidates)) refl) (at ∙ writes.at)
+    (candidates ∙ writes.candidates) (scope_same ∙ writes.scope) (at ∙ writes.at)
     (subst (λ v. v.list.items ≡ new.waiting.list.items ++ owner ∷ []) writes.waiting (items ∙ ap (λ o. new.waiting.list.items ++ o ∷ []) is))
 
 -- what is known of them is known of the arguments of what they make
@@ -205,18 +212,23 @@ closed-arguments s w owner p k known = elim (p.known k known) [
 ]
 
 -- the arguments of a type
-pub type-closed : (s : Symbol) (w new : Direct) (from : ℕ) → IsClosed s w (opens.TypeArguments from)
-    → new.candidates.list.items ≡ added w from false → new.text ≡ w.text → new.waiting ≡ w.waiting → new.at ≡ w.at → IsWriting s new (steps.Value false)
-type-closed s w new from p candidates text waiting at =
+pub type-closed : (s : Symbol) (w new : Direct) (from : ℕ) (is_dependent : Bool) → IsClosed s w (opens.TypeArguments from is_dependent)
+    → new.candidates.list.items ≡ added w from false is_dependent → new.text ≡ w.text → new.waiting ≡ w.waiting → new.has_scope ≡ w.has_scope → new.at ≡ w.at
+    → IsWriting s new (steps.Value false is_dependent)
+type-closed s w new from is_dependent p candidates text waiting scope_same at =
+    let scope = p.scope in
     let t = instance p.template (list_with p.ts p.tail) in
     let bytes = p.name ++ opening_bracket (detail_of s) ++ p.arguments ++ closing_bracket (detail_of s) in
     let outer = p.owns.0 in
-    let state = with_candidate p.owns.1 t p.state in
-    let prints = instance-prints p.template p.name p.is_template.1 p.ts p.tail p.arguments p.is_tail p.elements in
+    let around = p.owns.1 in
+    let state = with_candidate around t p.state in
+    let prints = instance-as (detail_of s) scope.names is_dependent p.template p.name
+    (prints-as (detail_of s) scope.names is_dependent p.template p.name false p.is_template.1) p.ts p.tail p.arguments p.is_tail p.elements in
     record {
       state = state;
-      candidates = candidates-as (detail_of s) new state.candidates (ap (λ v. v.list.items) text) candidates
-          (candidates-with w p.state p.front bytes from t p.owns.1 false p.candidates p.written p.is_template.0 prints);
+      scope = scope;
+      keeps = keeps-with s w new p.state p.front bytes from t around false is_dependent p.keeps p.written p.is_template.0 prints
+          (λ named. made-here s scope around (reverse w.waiting.list.items) p.owns.3 (p.owns.4 named)) text candidates scope_same;
       is_before = (
         outer,
         t,
@@ -224,37 +236,43 @@ type-closed s w new from p candidates text waiting at =
         bytes,
         subst (λ v. v.list.items ≡ p.front ++ bytes) (sym text) p.written,
         prints,
+        λ named. subst (λ v. IsNaming s scope (reverse v.list.items)) (sym waiting) (p.owns.4 named),
         subst (λ n. Comes s outer (tree t true) n state) (sym at) p.owns.2,
-        subst (λ v. Stands s (reverse v.list.items) outer p.front) (sym waiting) p.owns.3,
+        subst (λ v. Stands s scope (reverse v.list.items) outer p.front) (sym waiting) p.owns.5,
       );
     }
 
-instance-nest : {detail : Detail} (front name text : List ℕ) (nest : Nest) (is_listed is_instance : Bool) (t : Term) (ts : List Term) (tail : Term) (l : List ℕ)
-    → IsTail tail → IsNest detail front name text nest t → PrintAll detail 3 ts l → text ≡ front ++ (name ++ opening_bracket detail ++ l ++ closing_bracket detail)
-    → IsNest detail front (name ++ opening_bracket detail ++ l ++ closing_bracket detail) text (record nest { is_listed = is_listed; is_instance = is_instance })
-    (instance t (list_with ts tail))
-instance-nest {detail} front name text nest is_listed is_instance t ts tail l is p all written = record {
+instance-nest : {detail : Detail} (names : Names) (front name text : List ℕ) (nest : Nest) (is_listed is_instance : Bool) (t : Term) (ts : List Term) (tail : Term) (l : List ℕ)
+    → IsTail tail → IsNest detail names front name text nest t → PrintAllAs detail names nest.is_dependent 3 ts l
+    → text ≡ front ++ (name ++ opening_bracket detail ++ l ++ closing_bracket detail)
+    → IsNest detail names front (name ++ opening_bracket detail ++ l ++ closing_bracket detail) text
+    (record nest { is_listed = is_listed; is_instance = is_instance }) (instance t (list_with ts tail))
+instance-nest {detail} names front name text nest is_listed is_instance t ts tail l is p all written = record {
   back = [];
   written = written ∙ sym (append-nil (front ++ (name ++ opening_bracket detail ++ l ++ closing_bracket detail)));
   from_is = p.from_is;
-  prints = instance-prints t name p.prints ts tail l is all;
+  prints = instance-as detail names nest.is_dependent t name p.prints ts tail l is all;
+  closed = p.closed;
   class_front = p.class_front;
   class = p.class;
   class_back = p.class_back;
   class_written = p.class_written;
   class_from = p.class_from;
   class_to = p.class_to;
-  names_class = λ h. instance-class t name p.class p.prints (p.names_class h) ts tail l is all;
+  names_class = λ h plain. instance-class t name p.class (subst (λ d. PrintsAs detail names d t name false) plain p.prints) (p.names_class h plain)
+      ts tail l is (subst (λ d. PrintAllAs detail names d 3 ts l) plain all);
 }
 
 -- the arguments of a piece of a nested name
 pub nest-closed : (s : Symbol) (w : Direct) (nest : Nest) → IsClosed s w (opens.NestArguments nest)
     → IsWriting s (record w { nest = record nest { is_listed = false; is_instance = true } }) steps.Tail
 nest-closed s w nest p =
+    let new : Direct = record w { nest = record nest { is_listed = false; is_instance = true } } in
     let t = instance p.template (list_with p.ts p.tail) in
     record {
       state = p.state;
-      candidates = p.candidates;
+      scope = p.scope;
+      keeps = keeps-same s w new p.state.candidates refl refl refl p.keeps;
       is_before = (
         t,
         record {
@@ -263,10 +281,11 @@ nest-closed s w nest p =
           outer = p.owns.1;
           bytes = p.name ++ opening_bracket (detail_of s) ++ p.arguments ++ closing_bracket (detail_of s);
           written = p.written;
-          is_nest = instance-nest p.front p.name w.text.list.items nest false true p.template p.ts p.tail p.arguments p.is_tail p.is_template.0
+          is_nest = instance-nest p.scope.names p.front p.name w.text.list.items nest false true p.template p.ts p.tail p.arguments p.is_tail p.is_template.0
               p.elements p.written;
           goes = p.owns.2;
-          serves = p.owns.3;
+          scoped = record { scoped = p.owns.3; naming = p.owns.4 };
+          serves = p.owns.5;
         },
         (λ own h. structor-returns p.template (list_with p.ts p.tail) (p.is_template.1 own h)),
         (λ h. instance-returns p.template (list_with p.ts p.tail) (p.is_template.2 h)),
@@ -274,23 +293,33 @@ nest-closed s w nest p =
       );
     }
 
+-- a nested name that names arguments is a type
+in-type : (purpose : Purpose) (is_dependent : Bool) → (IsOwn purpose → is_dependent ≡ false) → is_dependent ≡ true → is_type purpose ≡ true
+in-type purposes.Type is_dependent closed named = refl
+in-type (purposes.Name mark) is_dependent closed named = absurd (false≢true (sym (closed tt) ∙ named))
+in-type (purposes.Enclosing mark) is_dependent closed named = absurd (false≢true (sym (closed tt) ∙ named))
+
 -- the arguments of the first piece of a nested name
 pub first-closed : (s : Symbol) (w new : Direct) (nest : Nest) → IsClosed s w (opens.FirstArguments nest)
-    → new.candidates.list.items ≡ added w nest.from false → new.text ≡ w.text → new.waiting ≡ w.waiting → new.at ≡ w.at
-    → IsWriting s (record new { nest = nest }) steps.Component
-first-closed s w new nest p candidates text waiting at =
+    → new.candidates.list.items ≡ added w nest.from false nest.is_dependent → new.text ≡ w.text → new.waiting ≡ w.waiting → new.has_scope ≡ w.has_scope
+    → new.at ≡ w.at → IsWriting s (record new { nest = nest }) steps.Component
+first-closed s w new nest p candidates text waiting scope_same at =
+    let scope = p.scope in
     let t = instance p.template (list_with p.ts p.tail) in
     let bytes = p.name ++ opening_bracket (detail_of s) ++ p.arguments ++ closing_bracket (detail_of s) in
     let around = p.owns.0 in
     let outer = p.owns.1 in
     let state = with_candidate around t p.state in
-    let is_nest : IsNest (detail_of s) p.front bytes w.text.list.items nest t
-    = instance-nest p.front p.name w.text.list.items nest nest.is_listed nest.is_instance p.template p.ts p.tail p.arguments p.is_tail p.is_template
+    let now : Direct = record new { nest = nest } in
+    let is_nest : IsNest (detail_of s) scope.names p.front bytes w.text.list.items nest t
+    = instance-nest scope.names p.front p.name w.text.list.items nest nest.is_listed nest.is_instance p.template p.ts p.tail p.arguments p.is_tail p.is_template
     p.elements p.written in
     record {
       state = state;
-      candidates = candidates-as (detail_of s) new state.candidates (ap (λ v. v.list.items) text) candidates
-          (candidates-with w p.state p.front bytes nest.from t around false p.candidates p.written p.is_template.from_is is_nest.prints);
+      scope = scope;
+      keeps = keeps-with s w now p.state p.front bytes nest.from t around false nest.is_dependent p.keeps p.written p.is_template.from_is is_nest.prints
+          (λ named. made-here s scope around (reverse w.waiting.list.items) (p.owns.3 (in-type nest.purpose nest.is_dependent p.is_template.closed named))
+          (p.owns.4 named)) text candidates scope_same;
       is_before = (
         t,
         p.front,
@@ -298,9 +327,13 @@ first-closed s w new nest p candidates text waiting at =
         around,
         outer,
         subst (λ v. v.list.items ≡ p.front ++ bytes) (sym text) p.written,
-        subst (λ v. IsNest (detail_of s) p.front bytes v.list.items nest t) (sym text) is_nest,
+        subst (λ v. IsNest (detail_of s) scope.names p.front bytes v.list.items nest t) (sym text) is_nest,
         subst (λ n. AwaitsComponent s outer around t n state) (sym at) p.owns.2,
-        subst (λ v. Serves s nest.purpose (Stands s (reverse v.list.items)) outer p.front) (sym waiting) p.owns.3,
+        record {
+          scoped = λ within. subst (λ v. IsScoped scope around (reverse v.list.items)) (sym waiting) (p.owns.3 within);
+          naming = λ named. subst (λ v. IsNaming s scope (reverse v.list.items)) (sym waiting) (p.owns.4 named);
+        },
+        subst (λ v. Serves s nest.purpose (below s scope (reverse v.list.items)) outer p.front) (sym waiting) p.owns.5,
       );
     }
 
@@ -312,7 +345,8 @@ name-closed s w from p =
     let bytes = p.name ++ opening_bracket (detail_of s) ++ p.arguments ++ closing_bracket (detail_of s) in
     record {
       state = p.state;
-      candidates = p.candidates;
+      scope = p.scope;
+      keeps = p.keeps;
       own = t;
       v = tree t false;
       tree_is = refl;
@@ -334,8 +368,8 @@ name-closed s w from p =
 -- The arguments of a name end, which are no pack, with these after their elements.
 ended-so : (s : Symbol) (w : Direct) (first : Bool) (owner : Open) (to : ℕ) (tail : Term) → IsTail tail → (p : IsWriting s w (steps.List first))
     → slice_get w.waiting.list.items (length w.waiting.list.items - 1) ≡ Some owner → (owner ≡ opens.Pack → ⊥)
-    → ((o : Open) (rest : List Open) (front : List ℕ) (template : Term) → ArgumentsGoOn s o (Stands s rest) front template p.is_before.1 w.at p.state
-    → Owns s o (Stands s rest) front (instance template (list_with p.is_before.1 tail)) to p.state)
+    → ((o : Open) (rest : List Open) (front : List ℕ) (template : Term) → ArgumentsGoOn s o (below s p.scope rest) front template p.is_before.1 w.at p.state
+    → Owns s o (below s p.scope rest) front (instance template (list_with p.is_before.1 tail)) to p.state)
     → IsListEnded s (record w { at = to }) nowhere
 ended-so s w first owner to tail is_tail p found other owns = go p.is_before.0.listing refl
   where
@@ -345,17 +379,18 @@ ended-so s w first owner to tail is_tail p found other owns = go p.is_before.0.l
     go : (l : Listing) → p.is_before.0.listing ≡ l → IsListEnded s (record w { at = to }) nowhere
     go (of_pack before written) is =
         absurd (other (cc (sym last.1
-        ∙ (subst (λ l. Belongs (detail_of s) l (reverse w.waiting.list.items) p.is_before.0.owner p.is_before.0.rest) is p.is_before.0.belongs).0)))
+        ∙ (subst (λ l. Belongs (detail_of s) p.scope.names l (reverse w.waiting.list.items) p.is_before.0.owner p.is_before.0.rest) is p.is_before.0.belongs).0)))
     go of_template is =
         let place = p.is_before.0 in
         let ts = p.is_before.1 in
         let texts = p.is_before.2 in
         record {
           state = p.state;
-          candidates = p.candidates;
+          scope = p.scope;
+          keeps = keeps-same s w (record w { at = to }) p.state.candidates refl refl refl p.keeps;
           owner = place.owner;
           rest = place.rest;
-          open_is = subst (λ l. Belongs (detail_of s) l (reverse w.waiting.list.items) place.owner place.rest) is place.belongs;
+          open_is = subst (λ l. Belongs (detail_of s) p.scope.names l (reverse w.waiting.list.items) place.owner place.rest) is place.belongs;
           front = place.front;
           template = place.template;
           name = place.name;
@@ -364,11 +399,11 @@ ended-so s w first owner to tail is_tail p found other owns = go p.is_before.0.l
           is_tail = is_tail;
           arguments = texts;
           is_template = place.is_template;
-          elements = subst (λ l. PrintAll (detail_of s) (extra_of l) ts texts) is p.is_before.3;
+          elements = subst (λ l. PrintAllAs (detail_of s) p.scope.names (may_name l place.owner) (extra_of l) ts texts) is p.is_before.3;
           written = subst (λ l. w.text.list.items ≡ led_by (detail_of s) l place.front place.name ++ texts) is p.is_before.4;
           known = λ k o. absurd (none-known k o);
           owns = owns place.owner place.rest place.front place.template
-              (subst (λ l. GoesOn s l place.owner (Stands s place.rest) place.front place.template ts w.at p.state) is p.is_before.7);
+              (subst (λ l. GoesOn s l place.owner (below s p.scope place.rest) place.front place.template ts w.at p.state) is p.is_before.7);
         }
 
 -- an E ends the arguments
@@ -378,7 +413,7 @@ pub list-ends : (s : Symbol) (w : Direct) (first : Bool) (owner : Open) → IsWr
 unfolding no_items may_be_empty
 list-ends s w first owner p stands found other =
     ended-so s w first owner (w.at + 1) nil (inl refl) p found other (λ o rest front template goes.
-    goes.4 nothing_there w.at p.state (expects-empty s Kind.ArgumentList goes.0 goes.1 w.at p.state goes.3 refl) stands)
+    goes.5 nothing_there w.at p.state (expects-empty s Kind.ArgumentList goes.0 goes.1 w.at p.state goes.4 refl) stands)
 
 -- a pack of nothing and an E end them too
 pub empty-pack-ends : (s : Symbol) (w : Direct) (first : Bool) (owner : Open) → IsWriting s w (steps.List first)
@@ -391,47 +426,48 @@ empty-pack-ends s w first owner p stands found other =
     let begins = stands-split s.bytes w.at (74 ∷ []) (69 ∷ 69 ∷ []) stands in
     let ends = stands-split s.bytes (w.at + 1) (69 ∷ []) (69 ∷ []) begins.1 in
     ended-so s w first owner (w.at + 3) (list (pack nil) nil) (inr refl) p found other (λ o rest front template goes.
-    let opened = pack-opens s goes.1 goes.0 w.at p.state goes.3 begins.0 in
+    let opened = pack-opens s goes.1 goes.0 w.at p.state goes.4 begins.0 in
     let more = opened.onward nothing_there (w.at + 1) p.state
     (expects-empty s Kind.PackList goes.0 opened.inner (w.at + 1) p.state opened.awaits refl) ends.0 in
-    let behind = element-goes-on s Kind.ArgumentList (λ u there later. Owns s o (Stands s rest) front (instance template u) there later)
+    let behind = element-goes-on s Kind.ArgumentList (scoped_in o (below s p.scope rest)) (λ u there later. Owns s o (below s p.scope rest) front (instance template u) there later)
     ts (pack nil) w.at (w.at + 1 + 1) p.state p.state goes more in
-    subst (λ k. Owns s o (Stands s rest) front (instance template (list_with ts (list (pack nil) nil))) k p.state) (omega arith)
-    (subst (λ l. Owns s o (Stands s rest) front (instance template l) (w.at + 1 + 1 + 1) p.state) (list-more ts (pack nil) nil)
-    (behind.4 nothing_there (w.at + 1 + 1) p.state
-    (expects-empty s Kind.ArgumentList behind.0 behind.1 (w.at + 1 + 1) p.state behind.3 refl) ends.1)))
+    subst (λ k. Owns s o (below s p.scope rest) front (instance template (list_with ts (list (pack nil) nil))) k p.state) (omega arith)
+    (subst (λ l. Owns s o (below s p.scope rest) front (instance template l) (w.at + 1 + 1 + 1) p.state) (list-more ts (pack nil) nil)
+    (behind.5 nothing_there (w.at + 1 + 1) p.state
+    (expects-empty s Kind.ArgumentList behind.0 behind.1 (w.at + 1 + 1) p.state behind.4 refl) ends.1)))
 
 -- an E ends a pack, which is an argument
 pub pack-ends : (s : Symbol) (w new : Direct) → IsWriting s w (steps.List false) → StandsAt s.bytes w.at (69 ∷ [])
     → slice_get w.waiting.list.items (length w.waiting.list.items - 1) ≡ Some opens.Pack
-    → new.text ≡ w.text → new.candidates ≡ w.candidates → new.at ≡ w.at + 1
+    → new.text ≡ w.text → new.candidates ≡ w.candidates → new.has_scope ≡ w.has_scope → new.at ≡ w.at + 1
     → ((opened : List Open) → reverse w.waiting.list.items ≡ opens.Pack ∷ opened → reverse new.waiting.list.items ≡ opened)
     → IsWriting s new (steps.List false)
 unfolding no_items may_be_empty
-pack-ends s w new p stands found text candidates at popped = go p.is_before.0.listing refl
+pack-ends s w new p stands found text candidates scope_same at popped = go p.is_before.0.listing refl
   where
     last : (rest : List Open) × (reverse w.waiting.list.items ≡ opens.Pack ∷ rest)
     last = last-found w.waiting.list.items opens.Pack found
 
     go : (l : Listing) → p.is_before.0.listing ≡ l → IsWriting s new (steps.List false)
     go of_template is = absurd (no-template p.is_before.0.owner p.is_before.0.is_template
-        (cc (sym last.1 ∙ subst (λ l. Belongs (detail_of s) l (reverse w.waiting.list.items) p.is_before.0.owner p.is_before.0.rest) is p.is_before.0.belongs)))
+        (cc (sym last.1 ∙ subst (λ l. Belongs (detail_of s) p.scope.names l (reverse w.waiting.list.items) p.is_before.0.owner p.is_before.0.rest) is p.is_before.0.belongs)))
       where
-        no-template : (o : Open) → IsTemplate (detail_of s) o p.is_before.0.front p.is_before.0.template p.is_before.0.name w.text.list.items → opens.Pack ≡ o → ⊥
-        no-template o t e = subst (λ x. IsTemplate (detail_of s) x p.is_before.0.front p.is_before.0.template p.is_before.0.name w.text.list.items) (sym e) t
+        no-template : (o : Open) → IsTemplate (detail_of s) p.scope.names o p.is_before.0.front p.is_before.0.template p.is_before.0.name w.text.list.items → opens.Pack ≡ o → ⊥
+        no-template o t e = subst (λ x. IsTemplate (detail_of s) p.scope.names x p.is_before.0.front p.is_before.0.template p.is_before.0.name w.text.list.items) (sym e) t
     go (of_pack before written) is =
         let place = p.is_before.0 in
         let us = p.is_before.1 in
         let texts = p.is_before.2 in
-        let belongs = subst (λ l. Belongs (detail_of s) l (reverse w.waiting.list.items) place.owner place.rest) is place.belongs in
-        let goes = subst (λ l. GoesOn s l place.owner (Stands s place.rest) place.front place.template us w.at p.state) is p.is_before.7 in
-        let us_print = subst (λ l. PrintAll (detail_of s) (extra_of l) us texts) is p.is_before.3 in
+        let belongs = subst (λ l. Belongs (detail_of s) p.scope.names l (reverse w.waiting.list.items) place.owner place.rest) is place.belongs in
+        let goes = subst (λ l. GoesOn s l place.owner (below s p.scope place.rest) place.front place.template us w.at p.state) is p.is_before.7 in
+        let us_print = subst (λ l. PrintAllAs (detail_of s) p.scope.names (may_name l place.owner) (extra_of l) us texts) is p.is_before.3 in
         let us_written = subst (λ l. w.text.list.items ≡ led_by (detail_of s) l place.front place.name ++ texts) is p.is_before.4 in
         let made = pack (list_of us) in
         let same : new.text.list.items ≡ w.text.list.items = ap (λ v. v.list.items) text in
         record {
           state = p.state;
-          candidates = candidates-same (detail_of s) w new p.state.candidates text candidates p.candidates;
+          scope = p.scope;
+          keeps = keeps-same s w new p.state.candidates text candidates scope_same p.keeps;
           is_before = (
             record {
               listing = of_template;
@@ -441,44 +477,46 @@ pack-ends s w new p stands found text candidates at popped = go p.is_before.0.li
               front = place.front;
               template = place.template;
               name = place.name;
-              is_template = subst (λ v. IsTemplate (detail_of s) place.owner place.front place.template place.name v.list.items) (sym text) place.is_template;
+              is_template = subst (λ v. IsTemplate (detail_of s) p.scope.names place.owner place.front place.template place.name v.list.items) (sym text) place.is_template;
             },
             before ++ made ∷ [],
             in_front_of_next before written ++ texts,
-            next-prints 3 before written made texts belongs.1 (pack-element us texts (p.is_before.6 refl) us_print),
+            next-prints-as (detail_of s) p.scope.names (is_noted place.owner) 3 before written made texts belongs.1
+                (element-as (detail_of s) p.scope.names (is_noted place.owner) 3 made texts (pack-element us texts (p.is_before.6 refl) us_print)),
             same ∙ us_written ∙ append_assoc (place.front ++ place.name ++ opening_bracket (detail_of s)) (in_front_of_next before written) texts,
             λ e. absurd (false≢true e),
             λ e. some-elements before made,
-            subst (λ n. ArgumentsGoOn s place.owner (Stands s place.rest) place.front place.template (before ++ made ∷ []) n p.state) (sym at)
-                (subst (λ l. ArgumentsGoOn s place.owner (Stands s place.rest) place.front place.template (before ++ pack l ∷ []) (w.at + 1) p.state)
+            subst (λ n. ArgumentsGoOn s place.owner (below s p.scope place.rest) place.front place.template (before ++ made ∷ []) n p.state) (sym at)
+                (subst (λ l. ArgumentsGoOn s place.owner (below s p.scope place.rest) place.front place.template (before ++ pack l ∷ []) (w.at + 1) p.state)
                 (list-with-none us)
-                (goes.4 nothing_there w.at p.state (expects-empty s Kind.PackList goes.0 goes.1 w.at p.state goes.3 refl) stands)),
+                (goes.5 nothing_there w.at p.state (expects-empty s Kind.PackList goes.0 goes.1 w.at p.state goes.4 refl) stands)),
           );
         }
 
 -- one more element is expected, and a comma comes before it but at the first
 pub argument-expected : (s : Symbol) (w new : Direct) (first : Bool) → IsWriting s w (steps.List first)
-    → new.text.list.items ≡ w.text.list.items ++ comma first → new.candidates.list.items ≡ w.candidates.list.items → new.waiting ≡ w.waiting → new.at ≡ w.at
+    → new.text.list.items ≡ w.text.list.items ++ comma first → new.candidates ≡ w.candidates → new.waiting ≡ w.waiting
+    → new.has_scope ≡ w.has_scope → new.at ≡ w.at
     → AwaitsNextArgument s new
-argument-expected s w new first p text candidates waiting at =
+argument-expected s w new first p text candidates waiting scope_same at =
     let place = p.is_before.0 in
     let ts = p.is_before.1 in
     let texts = p.is_before.2 in
     let led = led_by (detail_of s) place.listing place.front place.name in
     record {
       state = p.state;
-      candidates = candidates-as (detail_of s) new p.state.candidates text candidates
-          (candidates-stay (detail_of s) w.text.list.items (comma first) w.candidates.list.items p.state.candidates p.candidates);
+      scope = p.scope;
+      keeps = keeps-grown s w new (comma first) p.state.candidates text candidates scope_same p.keeps;
       place = listing-at (reverse w.waiting.list.items) w.text.list.items (reverse new.waiting.list.items) new.text.list.items place
-          (subst (λ v. Belongs (detail_of s) place.listing (reverse v.list.items) place.owner place.rest) (sym waiting) place.belongs)
-          (subst (λ l. IsTemplate (detail_of s) place.owner place.front place.template place.name l) (sym text)
-          (template-stays (detail_of s) place.owner place.front place.template place.name w.text.list.items (comma first) place.is_template));
+          (subst (λ v. Belongs (detail_of s) p.scope.names place.listing (reverse v.list.items) place.owner place.rest) (sym waiting) place.belongs)
+          (subst (λ l. IsTemplate (detail_of s) p.scope.names place.owner place.front place.template place.name l) (sym text)
+          (template-stays (detail_of s) p.scope.names place.owner place.front place.template place.name w.text.list.items (comma first) place.is_template));
       ts = ts;
       texts = texts;
       elements = p.is_before.3;
       written = text ∙ ap (λ l. l ++ comma first) p.is_before.4 ∙ append_assoc led texts (comma first)
           ∙ ap (λ l. led ++ l) (sym (in-front ts texts first p.is_before.5 p.is_before.6));
-      goes = subst (λ n. GoesOn s place.listing place.owner (Stands s place.rest) place.front place.template ts n p.state) (sym at) p.is_before.7;
+      goes = subst (λ n. GoesOn s place.listing place.owner (below s p.scope place.rest) place.front place.template ts n p.state) (sym at) p.is_before.7;
     }
 
 -- the comma is written
@@ -487,38 +525,39 @@ pub another-expected : (s : Symbol) (w new self : Direct) (first : Bool) → IsW
 another-expected s w new self first p is writes same =
     subst (λ d. AwaitsNextArgument s d) (sym same)
     (argument-expected s w new false (subst (λ f. IsWriting s w (steps.List f)) is p) writes.text
-    (subst (λ v. v.list.items ≡ w.candidates.list.items) (sym writes.candidates) refl) writes.waiting writes.at)
+    writes.candidates writes.waiting writes.scope writes.at)
 
 -- none is written at the first
 pub first-expected : (s : Symbol) (w self : Direct) (first : Bool) → IsWriting s w (steps.List first) → first ≡ true
     → self ≡ w → AwaitsNextArgument s self
 first-expected s w self first p is same =
     subst (λ d. AwaitsNextArgument s d) (sym same)
-    (argument-expected s w w true (subst (λ f. IsWriting s w (steps.List f)) is p) (sym (append-nil w.text.list.items)) refl refl refl)
+    (argument-expected s w w true (subst (λ f. IsWriting s w (steps.List f)) is p) (sym (append-nil w.text.list.items)) refl refl refl refl)
 
 -- a pack begins
 pub pack-begins : (s : Symbol) (old new : Direct) (owner : Open) → AwaitsNextArgument s old → StandsAt s.bytes old.at (74 ∷ [])
     → slice_get old.waiting.list.items (length old.waiting.list.items - 1) ≡ Some owner → (owner ≡ opens.Pack → ⊥)
     → new.waiting.list.items ≡ old.waiting.list.items ++ opens.Pack ∷ [] → new.at ≡ old.at + 1 → new.text ≡ old.text → new.candidates ≡ old.candidates
-    → IsWriting s new (steps.List true)
-pack-begins s old new owner a stands found other waits at text candidates = go a.place.listing refl
+    → new.has_scope ≡ old.has_scope → IsWriting s new (steps.List true)
+pack-begins s old new owner a stands found other waits at text candidates scope_same = go a.place.listing refl
   where
     last : (rest : List Open) × (reverse old.waiting.list.items ≡ owner ∷ rest)
     last = last-found old.waiting.list.items owner found
 
     go : (l : Listing) → a.place.listing ≡ l → IsWriting s new (steps.List true)
     go (of_pack before written) is =
-        absurd (other (cc (sym last.1 ∙ (subst (λ l. Belongs (detail_of s) l (reverse old.waiting.list.items) a.place.owner a.place.rest) is a.place.belongs).0)))
+        absurd (other (cc (sym last.1 ∙ (subst (λ l. Belongs (detail_of s) a.scope.names l (reverse old.waiting.list.items) a.place.owner a.place.rest) is a.place.belongs).0)))
     go of_template is =
         let p = a.place in
-        let goes = subst (λ l. GoesOn s l p.owner (Stands s p.rest) p.front p.template a.ts old.at a.state) is a.goes in
-        let opened = pack-opens s goes.1 goes.0 old.at a.state goes.3 stands in
-        let belongs = subst (λ l. Belongs (detail_of s) l (reverse old.waiting.list.items) p.owner p.rest) is p.belongs in
-        let elements = subst (λ l. PrintAll (detail_of s) (extra_of l) a.ts a.texts) is a.elements in
+        let goes = subst (λ l. GoesOn s l p.owner (below s a.scope p.rest) p.front p.template a.ts old.at a.state) is a.goes in
+        let opened = pack-opens s goes.1 goes.0 old.at a.state goes.4 stands in
+        let belongs = subst (λ l. Belongs (detail_of s) a.scope.names l (reverse old.waiting.list.items) p.owner p.rest) is p.belongs in
+        let elements = subst (λ l. PrintAllAs (detail_of s) a.scope.names (may_name l p.owner) (extra_of l) a.ts a.texts) is a.elements in
         let written = subst (λ l. old.text.list.items ≡ led_by (detail_of s) l p.front p.name ++ in_front_of_next a.ts a.texts) is a.written in
         record {
           state = a.state;
-          candidates = candidates-same (detail_of s) old new a.state.candidates text candidates a.candidates;
+          scope = a.scope;
+          keeps = keeps-same s old new a.state.candidates text candidates scope_same a.keeps;
           is_before = (
             record {
               listing = of_pack a.ts a.texts;
@@ -531,7 +570,7 @@ pack-begins s old new owner a stands found other waits at text candidates = go a
               front = p.front;
               template = p.template;
               name = p.name;
-              is_template = subst (λ v. IsTemplate (detail_of s) p.owner p.front p.template p.name v.list.items) (sym text) p.is_template;
+              is_template = subst (λ v. IsTemplate (detail_of s) a.scope.names p.owner p.front p.template p.name v.list.items) (sym text) p.is_template;
             },
             [],
             [],
@@ -543,27 +582,29 @@ pack-begins s old new owner a stands found other waits at text candidates = go a
               goes.0,
               opened.inner,
               goes.2,
+              goes.3,
               subst (λ n. Expects s Kind.PackList goes.0 opened.inner n a.state) (sym at) opened.awaits,
               λ l here now comes ended.
-                  element-goes-on s Kind.ArgumentList (λ u there later. Owns s p.owner (Stands s p.rest) p.front (instance p.template u) there later)
+                  element-goes-on s Kind.ArgumentList (scoped_in p.owner (below s a.scope p.rest))
+                  (λ u there later. Owns s p.owner (below s a.scope p.rest) p.front (instance p.template u) there later)
                   a.ts (pack (no_items l)) old.at (here + 1) a.state now goes (opened.onward l here now comes ended),
             ),
           );
         }
 
 -- a list waits for a type among its elements
-pub record ListWaits (s : Symbol) (opened : List Open) (os : List Opened) (text : List ℕ) : Type 0 where
-  pub place : IsListing (detail_of s) opened text
+pub record ListWaits (s : Symbol) (scope : Scope) (opened : List Open) (os : List Opened) (text : List ℕ) : Type 0 where
+  pub place : IsListing (detail_of s) scope.names opened text
   pub ts : List Term
   pub texts : List ℕ
-  pub elements : PrintAll (detail_of s) (extra_of place.listing) ts texts
+  pub elements : PrintAllAs (detail_of s) scope.names (may_name place.listing place.owner) (extra_of place.listing) ts texts
   pub written : text ≡ led_by (detail_of s) place.listing place.front place.name ++ in_front_of_next ts texts
   pub onward : (t : Term) (at : ℕ) (st : State) → Comes s os (tree t true) at st
-      → GoesOn s place.listing place.owner (Stands s place.rest) place.front place.template (ts ++ t ∷ []) at st
+      → GoesOn s place.listing place.owner (below s scope place.rest) place.front place.template (ts ++ t ∷ []) at st
 
 -- what is open takes arguments
 abbrev pub TakesArguments : Open → Type 0
-TakesArguments (opens.TypeArguments from) = Unit {0}
+TakesArguments (opens.TypeArguments from is_dependent) = Unit {0}
 TakesArguments (opens.NestArguments nest) = Unit {0}
 TakesArguments (opens.FirstArguments nest) = Unit {0}
 TakesArguments (opens.NameArguments from) = Unit {0}
@@ -574,79 +615,77 @@ abbrev pub TakesElements : Open → Type 0
 TakesElements opens.Pack = Unit {0}
 TakesElements o = TakesArguments o
 
-template-takes : (detail : Detail) (o : Open) (front : List ℕ) (t : Term) (name text : List ℕ) → IsTemplate detail o front t name text → TakesArguments o
-template-takes detail (opens.TypeArguments from) front t name text is = tt
-template-takes detail (opens.NestArguments nest) front t name text is = tt
-template-takes detail (opens.FirstArguments nest) front t name text is = tt
-template-takes detail (opens.NameArguments from) front t name text is = tt
-template-takes detail _ front t name text is = absurd is
+template-takes : (detail : Detail) (names : Names) (o : Open) (front : List ℕ) (t : Term) (name text : List ℕ) → IsTemplate detail names o front t name text
+    → TakesArguments o
+template-takes detail names (opens.TypeArguments from is_dependent) front t name text is = tt
+template-takes detail names (opens.NestArguments nest) front t name text is = tt
+template-takes detail names (opens.FirstArguments nest) front t name text is = tt
+template-takes detail names (opens.NameArguments from) front t name text is = tt
+template-takes detail names _ front t name text is = absurd is
 
-argument-stands : (s : Symbol) (owner : Open) (rest : List Open) (os : List Opened) (text : List ℕ) → TakesArguments owner
-    → AwaitsElementOf s of_template owner (Stands s rest) os text → Stands s (owner ∷ rest) os text
-argument-stands s (opens.TypeArguments from) rest os text takes p = p
-argument-stands s (opens.NestArguments nest) rest os text takes p = p
-argument-stands s (opens.FirstArguments nest) rest os text takes p = p
-argument-stands s (opens.NameArguments from) rest os text takes p = p
-argument-stands s _ rest os text takes p = absurd takes
+argument-stands : (s : Symbol) (scope : Scope) (owner : Open) (rest : List Open) (os : List Opened) (text : List ℕ) → TakesArguments owner
+    → AwaitsElementOf s scope.names of_template owner (below s scope rest) os text → Stands s scope (owner ∷ rest) os text
+argument-stands s scope (opens.TypeArguments from is_dependent) rest os text takes p = p
+argument-stands s scope (opens.NestArguments nest) rest os text takes p = p
+argument-stands s scope (opens.FirstArguments nest) rest os text takes p = p
+argument-stands s scope (opens.NameArguments from) rest os text takes p = p
+argument-stands s scope _ rest os text takes p = absurd takes
 
--- in arguments and packs no parameter of a template is named
-takes-none : (o : Open) (rest : List Open) → TakesArguments o → argument_of (o ∷ rest) ≡ None
-takes-none (opens.TypeArguments from) rest takes = refl
-takes-none (opens.NestArguments nest) rest takes = refl
-takes-none (opens.FirstArguments nest) rest takes = refl
-takes-none (opens.NameArguments from) rest takes = refl
-takes-none _ rest takes = absurd takes
+-- they have none that types name
+takes-none : (o : Open) → TakesArguments o → arguments_in o ≡ None
+takes-none (opens.TypeArguments from is_dependent) takes = refl
+takes-none (opens.NestArguments nest) takes = refl
+takes-none (opens.FirstArguments nest) takes = refl
+takes-none (opens.NameArguments from) takes = refl
+takes-none _ takes = absurd takes
 
-list-none : {detail : Detail} (opened : List Open) (text : List ℕ) (p : IsListing detail opened text) → argument_of opened ≡ None
-list-none {detail} opened text p = go p.listing refl
+-- in arguments types may name what they may name around them, and in a pack nothing
+list-scoped : (s : Symbol) (scope : Scope) (around : Around) (opened : List Open) (text : List ℕ) (p : IsListing (detail_of s) scope.names opened text)
+    → scoped_in p.owner (below s scope p.rest) around → IsScoped scope around opened
+list-scoped s scope around opened text p scoped = go p.listing refl
   where
-    go : (l : Listing) → p.listing ≡ l → argument_of opened ≡ None
-    go of_template is = ap argument_of (subst (λ l. Belongs detail l opened p.owner p.rest) is p.belongs)
-        ∙ takes-none p.owner p.rest (template-takes detail p.owner p.front p.template p.name text p.is_template)
-    go (of_pack before written) is = ap argument_of (subst (λ l. Belongs detail l opened p.owner p.rest) is p.belongs).0
+    go : (l : Listing) → p.listing ≡ l → IsScoped scope around opened
+    go of_template is =
+        subst (λ ws. IsScoped scope around ws) (sym (subst (λ l. Belongs (detail_of s) scope.names l opened p.owner p.rest) is p.belongs))
+        (scoped-within scope around p.owner p.rest
+        (takes-none p.owner (template-takes (detail_of s) scope.names p.owner p.front p.template p.name text p.is_template)) scoped)
+    go (of_pack before written) is =
+        subst (λ ws. IsScoped scope around ws) (sym (subst (λ l. Belongs (detail_of s) scope.names l opened p.owner p.rest) is p.belongs).0)
+        (none-scoped scope around (opens.Pack ∷ p.owner ∷ p.rest) refl)
 
 -- it is open so
-list-stands : (s : Symbol) (opened : List Open) (os : List Opened) (text : List ℕ) → ListWaits s opened os text → Stands s opened os text
-list-stands s opened os text w = go w.place.listing refl
+list-stands : (s : Symbol) (scope : Scope) (opened : List Open) (os : List Opened) (text : List ℕ) → ListWaits s scope opened os text
+    → Stands s scope opened os text
+list-stands s scope opened os text w = go w.place.listing refl
   where
-    go : (l : Listing) → w.place.listing ≡ l → Stands s opened os text
-    go of_template is =
-        let p = w.place in
-        subst (λ ws. Stands s ws os text) (sym (subst (λ l. Belongs (detail_of s) l opened p.owner p.rest) is p.belongs))
-        (argument-stands s p.owner p.rest os text (template-takes (detail_of s) p.owner p.front p.template p.name text p.is_template) (
+    awaits : (l : Listing) → w.place.listing ≡ l → AwaitsElementOf s scope.names l w.place.owner (below s scope w.place.rest) os text
+    awaits l is =
+        let p = w.place in (
           p.front,
           p.template,
           p.name,
           w.ts,
           w.texts,
           p.is_template,
-          subst (λ l. PrintAll (detail_of s) (extra_of l) w.ts w.texts) is w.elements,
+          subst (λ l. PrintAllAs (detail_of s) scope.names (may_name l p.owner) (extra_of l) w.ts w.texts) is w.elements,
           subst (λ l. text ≡ led_by (detail_of s) l p.front p.name ++ in_front_of_next w.ts w.texts) is w.written,
-          λ t at st comes. subst (λ l. GoesOn s l p.owner (Stands s p.rest) p.front p.template (w.ts ++ t ∷ []) at st) is (w.onward t at st comes),
-        ))
-    go (of_pack before written) is =
-        let p = w.place in
-        let belongs = subst (λ l. Belongs (detail_of s) l opened p.owner p.rest) is p.belongs in
-        subst (λ ws. Stands s ws os text) (sym belongs.0) (
-          before,
-          written,
-          belongs.1,
-          (
-            p.front,
-            p.template,
-            p.name,
-            w.ts,
-            w.texts,
-            p.is_template,
-            subst (λ l. PrintAll (detail_of s) (extra_of l) w.ts w.texts) is w.elements,
-            subst (λ l. text ≡ led_by (detail_of s) l p.front p.name ++ in_front_of_next w.ts w.texts) is w.written,
-            λ t at st comes. subst (λ l. GoesOn s l p.owner (Stands s p.rest) p.front p.template (w.ts ++ t ∷ []) at st) is (w.onward t at st comes),
-          ),
+          λ t at st comes. subst (λ l. GoesOn s l p.owner (below s scope p.rest) p.front p.template (w.ts ++ t ∷ []) at st) is (w.onward t at st comes),
         )
 
-waits-of : (s : Symbol) (owner : Open) (rest : List Open) (os : List Opened) (text : List ℕ)
-    → AwaitsElementOf s of_template owner (Stands s rest) os text → ListWaits s (owner ∷ rest) os text
-waits-of s owner rest os text p = record {
+    go : (l : Listing) → w.place.listing ≡ l → Stands s scope opened os text
+    go of_template is =
+        let p = w.place in
+        subst (λ ws. Stands s scope ws os text) (sym (subst (λ l. Belongs (detail_of s) scope.names l opened p.owner p.rest) is p.belongs))
+        (argument-stands s scope p.owner p.rest os text
+        (template-takes (detail_of s) scope.names p.owner p.front p.template p.name text p.is_template) (awaits of_template is))
+    go (of_pack before written) is =
+        let p = w.place in
+        let belongs = subst (λ l. Belongs (detail_of s) scope.names l opened p.owner p.rest) is p.belongs in
+        subst (λ ws. Stands s scope ws os text) (sym belongs.0) (before, written, belongs.1, awaits (of_pack before written) is)
+
+waits-of : (s : Symbol) (scope : Scope) (owner : Open) (rest : List Open) (os : List Opened) (text : List ℕ)
+    → AwaitsElementOf s scope.names of_template owner (below s scope rest) os text → ListWaits s scope (owner ∷ rest) os text
+waits-of s scope owner rest os text p = record {
   place = record {
     listing = of_template;
     owner = owner;
@@ -665,8 +704,8 @@ waits-of s owner rest os text p = record {
 }
 
 -- and what is open so is a list
-pub list-waits : (s : Symbol) (o : Open) (rest : List Open) (os : List Opened) (text : List ℕ) → TakesElements o → Stands s (o ∷ rest) os text
-    → ListWaits s (o ∷ rest) os text
+pub list-waits : (s : Symbol) {scope : Scope} (o : Open) (rest : List Open) (os : List Opened) (text : List ℕ) → TakesElements o
+    → Stands s scope (o ∷ rest) os text → ListWaits s scope (o ∷ rest) os text
 list-waits s opens.Pack [] os text takes p = absurd p
 list-waits s opens.Pack (owner ∷ rest) os text takes p = record {
   place = record {
@@ -685,52 +724,55 @@ list-waits s opens.Pack (owner ∷ rest) os text takes p = record {
   written = p.3.7;
   onward = p.3.8;
 }
-list-waits s (opens.TypeArguments from) rest os text takes p = waits-of s (opens.TypeArguments from) rest os text p
-list-waits s (opens.NestArguments nest) rest os text takes p = waits-of s (opens.NestArguments nest) rest os text p
-list-waits s (opens.FirstArguments nest) rest os text takes p = waits-of s (opens.FirstArguments nest) rest os text p
-list-waits s (opens.NameArguments from) rest os text takes p = waits-of s (opens.NameArguments from) rest os text p
+list-waits s {scope = scope} (opens.TypeArguments from is_dependent) rest os text takes p = waits-of s scope (opens.TypeArguments from is_dependent) rest os text p
+list-waits s {scope = scope} (opens.NestArguments nest) rest os text takes p = waits-of s scope (opens.NestArguments nest) rest os text p
+list-waits s {scope = scope} (opens.FirstArguments nest) rest os text takes p = waits-of s scope (opens.FirstArguments nest) rest os text p
+list-waits s {scope = scope} (opens.NameArguments from) rest os text takes p = waits-of s scope (opens.NameArguments from) rest os text p
 list-waits s _ rest os text takes p = absurd takes
 
 -- an element may be a type
 pub type-expected : (s : Symbol) (w : Direct) → AwaitsNextArgument s w → IsWriting s w steps.Type
 type-expected s w a =
     let p = a.place in
+    let scope = a.scope in
     let kind = element_kind p.listing in
-    let element = element-awaits s kind a.goes.1 a.goes.0 w.at a.state (list-kind p.listing) a.goes.3 in
+    let element = element-awaits s kind a.goes.1 a.goes.0 w.at a.state (list-kind p.listing) a.goes.4 in
     record {
       state = a.state;
-      candidates = a.candidates;
+      scope = scope;
+      keeps = a.keeps;
       is_before = (
         element.inner,
         a.goes.0,
         a.goes.2,
         inr (inl element.awaits),
-        list-stands s (reverse w.waiting.list.items) element.inner w.text.list.items (record {
+        list-stands s scope (reverse w.waiting.list.items) element.inner w.text.list.items (record {
           place = p;
           ts = a.ts;
           texts = a.texts;
           elements = a.elements;
           written = a.written;
           onward = λ t here now comes.
-              element-goes-on s kind (λ l there later. Closes s p.listing p.owner (Stands s p.rest) p.front p.template l there later)
+              element-goes-on s kind (scoped_in p.owner (below s scope p.rest))
+              (λ l there later. Closes s p.listing p.owner (below s scope p.rest) p.front p.template l there later)
               a.ts t w.at here a.state now a.goes (element.onward t here now comes);
         }),
-        none-scoped a.goes.0 (reverse w.waiting.list.items) (list-none (reverse w.waiting.list.items) w.text.list.items p),
+        list-scoped s scope a.goes.0 (reverse w.waiting.list.items) w.text.list.items p a.goes.3,
       );
     }
 
 -- ## Enumerators
 
 -- a list waits for the type of an enumerator
-pub enumerator-stands : (s : Symbol) (opened : List Open) (text : List ℕ) (os : List Opened) (p : IsListing (detail_of s) opened text) (ts : List Term)
-    (texts : List ℕ) → PrintAll (detail_of s) (extra_of p.listing) ts texts
+pub enumerator-stands : (s : Symbol) (scope : Scope) (opened : List Open) (text : List ℕ) (os : List Opened) (p : IsListing (detail_of s) scope.names opened text)
+    (ts : List Term) (texts : List ℕ) → PrintAllAs (detail_of s) scope.names (may_name p.listing p.owner) (extra_of p.listing) ts texts
     → text ≡ led_by (detail_of s) p.listing p.front p.name ++ in_front_of_next ts texts ++ codes "("
     → ((t : Term) (at : ℕ) (st : State) → Comes s os (tree t true) at st
-    → EnumeratorGoesOn s p.listing p.owner (Stands s p.rest) p.front p.template ts t at st)
-    → Stands s (opens.Enumerator ∷ opened) os text
-enumerator-stands s opened text os p ts texts elements written onward = go p.listing refl
+    → EnumeratorGoesOn s p.listing p.owner (below s scope p.rest) p.front p.template ts t at st)
+    → Stands s scope (opens.Enumerator ∷ opened) os text
+enumerator-stands s scope opened text os p ts texts elements written onward = go p.listing refl
   where
-    awaits : (l : Listing) → p.listing ≡ l → AwaitsEnumerator s l p.owner (Stands s p.rest) os text
+    awaits : (l : Listing) → p.listing ≡ l → AwaitsEnumerator s scope.names l p.owner (below s scope p.rest) os text
     awaits l is = (
       p.front,
       p.template,
@@ -738,25 +780,25 @@ enumerator-stands s opened text os p ts texts elements written onward = go p.lis
       ts,
       texts,
       p.is_template,
-      subst (λ k. PrintAll (detail_of s) (extra_of k) ts texts) is elements,
+      subst (λ k. PrintAllAs (detail_of s) scope.names (may_name k p.owner) (extra_of k) ts texts) is elements,
       subst (λ k. text ≡ led_by (detail_of s) k p.front p.name ++ in_front_of_next ts texts ++ codes "(") is written,
-      λ t at st comes. subst (λ k. EnumeratorGoesOn s k p.owner (Stands s p.rest) p.front p.template ts t at st) is (onward t at st comes),
+      λ t at st comes. subst (λ k. EnumeratorGoesOn s k p.owner (below s scope p.rest) p.front p.template ts t at st) is (onward t at st comes),
     )
 
-    go : (l : Listing) → p.listing ≡ l → Stands s (opens.Enumerator ∷ opened) os text
+    go : (l : Listing) → p.listing ≡ l → Stands s scope (opens.Enumerator ∷ opened) os text
     go of_template is =
-        subst (λ ws. Stands s (opens.Enumerator ∷ ws) os text) (sym (subst (λ l. Belongs (detail_of s) l opened p.owner p.rest) is p.belongs))
-        (of-arguments p.owner (template-takes (detail_of s) p.owner p.front p.template p.name text p.is_template) (awaits of_template is))
+        subst (λ ws. Stands s scope (opens.Enumerator ∷ ws) os text) (sym (subst (λ l. Belongs (detail_of s) scope.names l opened p.owner p.rest) is p.belongs))
+        (of-arguments p.owner (template-takes (detail_of s) scope.names p.owner p.front p.template p.name text p.is_template) (awaits of_template is))
       where
-        of-arguments : (o : Open) → TakesArguments o → AwaitsEnumerator s of_template o (Stands s p.rest) os text
-            → Stands s (opens.Enumerator ∷ o ∷ p.rest) os text
-        of-arguments (opens.TypeArguments from) takes e = e
+        of-arguments : (o : Open) → TakesArguments o → AwaitsEnumerator s scope.names of_template o (below s scope p.rest) os text
+            → Stands s scope (opens.Enumerator ∷ o ∷ p.rest) os text
+        of-arguments (opens.TypeArguments from is_dependent) takes e = e
         of-arguments (opens.NestArguments nest) takes e = e
         of-arguments (opens.FirstArguments nest) takes e = e
         of-arguments (opens.NameArguments from) takes e = e
         of-arguments _ takes e = absurd takes
     go (of_pack before written_) is =
-        let belongs = subst (λ l. Belongs (detail_of s) l opened p.owner p.rest) is p.belongs in
+        let belongs = subst (λ l. Belongs (detail_of s) scope.names l opened p.owner p.rest) is p.belongs in
         let e = awaits (of_pack before written_) is in
-        subst (λ ws. Stands s (opens.Enumerator ∷ ws) os text) (sym belongs.0)
+        subst (λ ws. Stands s scope (opens.Enumerator ∷ ws) os text) (sym belongs.0)
         (before, written_, belongs.1, e)

@@ -25,7 +25,7 @@ use Rattle.sym_direct.specs.Holes as direct
 use Rattle.sym_direct.proofs.Moves as moves
 use Rattle.cpp_direct.specs.HolesOfLocals.{Discriminator, unnumbered, by_digit, by_digits, discriminator_value, IsDiscriminatorAt, IsLambdaDigit, IsPieceAt, LocalOpened, LocalTypeOpened, GuardOpened, lambda_digits, lambda_ending, lambda_with}
 use Rattle.cpp_direct.specs.Bytes.{short_numbers}
-use Rattle.cpp_direct.specs.WriterInvariant.{ItemsGoOn, nowhere}
+use Rattle.cpp_direct.specs.WriterInvariant.{HasScope, ItemsGoOn, nowhere}
 use Rattle.cpp_direct.proofs.Scopes.{none-known}
 use Rattle.cpp_direct.proofs.ShortNumbers.{lambda-begins}
 use Rattle.cpp_direct.specs.HolesOfTypes.{IsNamedKind}
@@ -246,6 +246,10 @@ pub record LambdaOpened (s : Symbol) (os : List Opened) (e : Term) (at : ℕ) (s
   pub awaits : Expects s Kind.Item around inner at st
   pub onward : (t : Term) (at : ℕ) (st : State) → Comes s inner (tree t true) at st → ItemsGoOn s nowhere (LambdaEnds s os e) (λ l. l) (t ∷ []) at st
 
+-- no parameter names an argument there
+pub nowhere-scoped : (around : Around) → HasScope nowhere around
+nowhere-scoped around = ((λ placed. absurd (placed refl)), (λ k known. absurd (none-known k known)))
+
 -- a lambda begins in a symbol without long numbers
 pub lambda-opens : (s : Symbol) (os : List Opened) (around : Around) (e : Term) (at : ℕ) (st : State) → short_numbers 0 s.bytes ≡ true
     → Expects s Kind.TypeEntity (after e true around) os at st → StandsAt s.bytes at (85 ∷ 108 ∷ []) → LambdaOpened s os e (at + 2) st
@@ -275,7 +279,7 @@ lambda-opens s os around e at st short expects stands =
             around = c;
             inner = open_at more;
             outside = refl;
-            scoped = λ k o. absurd (none-known k o);
+            scoped = nowhere-scoped c;
             awaits = more.expects;
             onward = λ l to then_ last number end is ending ends_.
                 let digits = lambda_digits number in

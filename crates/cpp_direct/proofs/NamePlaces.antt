@@ -133,12 +133,14 @@ some-by (Some x) h f = f h
 -- a text was written after a place that was changed
 pub reads-written : (old middle new : Direct) (bytes text : List ℕ) → Writes middle new bytes → middle.text ≡ old.text
     → middle.candidates ≡ old.candidates
-    → middle.waiting ≡ old.waiting → middle.nest ≡ old.nest → middle.rounds ≡ old.rounds → bytes ≡ text → Reads old new text
-reads-written old middle new bytes text w same_text same_candidates same_waiting same_nest same_rounds is = record {
+    → middle.waiting ≡ old.waiting → middle.nest ≡ old.nest → middle.has_scope ≡ old.has_scope → middle.rounds ≡ old.rounds → bytes ≡ text
+    → Reads old new text
+reads-written old middle new bytes text w same_text same_candidates same_waiting same_nest same_scope same_rounds is = record {
   text = w.text ∙ ap (λ v. v.list.items ++ bytes) same_text ∙ ap (λ l. old.text.list.items ++ l) is;
   candidates = w.candidates ∙ same_candidates;
   waiting = w.waiting ∙ same_waiting;
   nest = w.nest ∙ same_nest;
+  scope = w.scope ∙ same_scope;
   rounds = w.rounds ∙ same_rounds;
 }
 
@@ -158,12 +160,13 @@ reads-then a b c x y first second = record {
   candidates = second.candidates ∙ first.candidates;
   waiting = second.waiting ∙ first.waiting;
   nest = second.nest ∙ first.nest;
+  scope = second.scope ∙ first.scope;
   rounds = second.rounds ∙ first.rounds;
 }
 
 -- what was written was read
 pub reads-of : (a b : Direct) (x : List ℕ) → Writes a b x → Reads a b x
-reads-of a b x w = record { text = w.text; candidates = w.candidates; waiting = w.waiting; nest = w.nest; rounds = w.rounds }
+reads-of a b x w = record { text = w.text; candidates = w.candidates; waiting = w.waiting; nest = w.nest; scope = w.scope; rounds = w.rounds }
 
 -- the digits of a number were read, and written after a sign
 pub digits-read : (s : List ℕ) (old new : Direct) (place : TokenPlace) (is_negative : Bool) (written : List ℕ)
@@ -178,13 +181,14 @@ digits-read s old new place is_negative written h le there reads is =
     )
 
 -- nothing was written yet
-pub reads-begun : (a b : Direct) → b.text ≡ a.text → b.candidates ≡ a.candidates → b.waiting ≡ a.waiting → b.nest ≡ a.nest → b.rounds ≡ a.rounds
-    → Reads a b []
-reads-begun a b same_text same_candidates same_waiting same_nest same_rounds = record {
+pub reads-begun : (a b : Direct) → b.text ≡ a.text → b.candidates ≡ a.candidates → b.waiting ≡ a.waiting → b.nest ≡ a.nest → b.has_scope ≡ a.has_scope
+    → b.rounds ≡ a.rounds → Reads a b []
+reads-begun a b same_text same_candidates same_waiting same_nest same_scope same_rounds = record {
   text = ap (λ v. v.list.items) same_text ∙ sym (append-nil a.text.list.items);
   candidates = same_candidates;
   waiting = same_waiting;
   nest = same_nest;
+  scope = same_scope;
   rounds = same_rounds;
 }
 
@@ -335,14 +339,14 @@ name-placed s at place h le = record {
 -- a name was read and written
 pub name-read : (s : List ℕ) (old middle new : Direct) (place : NamePlace) (bytes : List ℕ) → IsNamePlace s old.at place
     → bytes ≡ source_text (take (place.to - place.from) (drop place.from s)) → middle.at ≡ place.to
-    → middle.text ≡ old.text → middle.candidates ≡ old.candidates → middle.waiting ≡ old.waiting → middle.nest ≡ old.nest → middle.rounds ≡ old.rounds
-    → Writes middle new bytes
+    → middle.text ≡ old.text → middle.candidates ≡ old.candidates → middle.waiting ≡ old.waiting → middle.nest ≡ old.nest
+    → middle.has_scope ≡ old.has_scope → middle.rounds ≡ old.rounds → Writes middle new bytes
     → (name : List ℕ) × IsNameAt s old.at name new.at × (name ≢ []) × Reads old new (source_text name)
-name-read s old middle new place bytes n is there same_text same_candidates same_waiting same_nest same_rounds w = (
+name-read s old middle new place bytes n is there same_text same_candidates same_waiting same_nest same_scope same_rounds w = (
   n.name,
   subst (λ e. IsNameAt s old.at n.name e) (sym (w.at ∙ there)) n.is,
   n.some,
-  reads-written old middle new bytes (source_text n.name) w same_text same_candidates same_waiting same_nest same_rounds (is ∙ ap source_text n.own),
+  reads-written old middle new bytes (source_text n.name) w same_text same_candidates same_waiting same_nest same_scope same_rounds (is ∙ ap source_text n.own),
 )
 
 -- a tag was read, and its text written
@@ -361,6 +365,7 @@ tag-read s old first second third place at letter here n a b c =
         candidates = c.candidates ∙ b.candidates ∙ a.candidates;
         waiting = c.waiting ∙ b.waiting ∙ a.waiting;
         nest = c.nest ∙ b.nest ∙ a.nest;
+        scope = c.scope ∙ b.scope ∙ a.scope;
         rounds = c.rounds ∙ b.rounds ∙ a.rounds;
       },
     )

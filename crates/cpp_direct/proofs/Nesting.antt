@@ -3,7 +3,7 @@ use Rattle.sym_print.specs.declared.detail.Detail.{Detail}
 use Rattle.cpp_direct.specs.WrittenParts.{opening_bracket}
 use Rattle.cpp_direct.specs.declared.open.Arguments.{Arguments}
 use Rattle.cpp_direct.proofs.Unmarked.{name-unmarked}
-use Rattle.cpp_direct.proofs.Scopes.{none-known}
+use Rattle.cpp_direct.proofs.Scopes.{none-known, scoped-inside}
 use Rattle.std.proofs.Common.{◌≡◌, ◌≢◌, ℕ, ◌+◌, ◌-◌, ◌≤◌, List, [], ◌∷◌, ◌++◌, length, take, drop, reverse, slice_get, Bool, true, false, Option, Some, None, refl, ap, sym, ◌∙◌, subst, arith, codes, append-nil, append_assoc, ◌&&◌, length-append}
 use Rattle.std.specs.Option.{IfSome, OnSome}
 use Rattle.std.proofs.lemmas.Bool.{false≢true}
@@ -14,6 +14,7 @@ use Rattle.cpp_grammar.specs.Grammar.{may_be_empty}
 use Rattle.cpp_grammar.specs.Term.{Term, alone, in_std, source, abbreviation, instance}
 use Rattle.cpp_grammar.specs.Texts.{look_up, abbreviation_texts, same_bytes}
 use Rattle.cpp_grammar.specs.Parts.{source_text}
+use Rattle.cpp_grammar.specs.References.{is_function_type}
 use Rattle.cpp_grammar.specs.Scope.{has_return_type, arguments_of, is_structor}
 use Rattle.cpp_grammar.specs.Values.{State, Around, tree, named, tree_of, qualifiers_of, ref_of}
 use Rattle.cpp_grammar.specs.Between.{with_tag, after, inside, no_items}
@@ -32,27 +33,29 @@ use Rattle.cpp_direct.specs.declared.direct.Direct.{Direct}
 use Rattle.cpp_direct.specs.Holes.{Opened, Comes, StandsAt, IsNameAt, IsSeqAt, SamePasses, NestGoesOn, AwaitsComponent, with_candidate, unless_listed, IsTagAt}
 use Rattle.cpp_direct.specs.HolesOfNests.{IsRest, IsFirstRest}
 use Rattle.cpp_direct.specs.Names.{tag_text}
-use Rattle.cpp_direct.specs.Prints.{Prints, NamesClass}
-use Rattle.cpp_direct.specs.WriterInvariant.{HasArguments, AreCandidates, IsNest, IsNesting, IsOwn, IsTemplate, ArgumentsGoOn, Serves, Stands, IsWriting, qualifiers, IsKnown, nowhere, place_of}
+use Rattle.cpp_direct.specs.Prints.{Names, Prints, PrintsAs, NamesClass}
+use Rattle.cpp_direct.specs.WriterInvariant.{HasArguments, IsNaming, IsNest, IsNestScoped, IsNesting, IsOwn, IsScoped, IsTemplate, ArgumentsGoOn, Keeps, Scope, Serves, Stands, IsWriting, below, encoding_place, is_type, qualifiers, IsKnown, nowhere, place_of}
 use Rattle.cpp_direct.specs.MidStep.{AwaitsNest, IsNestKnown, IsNestNamed, IsNameEnded, IsOperatorRead}
 use Rattle.cpp_direct.specs.Written.{Reads, added, added_unless}
 use Rattle.cpp_direct.proofs.Moves.{alone-arguments, any-tail, expects-empty, stands-join, comes-moved}
-use Rattle.cpp_direct.proofs.Kept.{candidates-as, candidates-grown, arguments-begun, candidates-read, candidates-stay, candidates-with, candidates-unless, candidate-found, piece-found, nest-stays, reverse-last, plainly-prints}
+use Rattle.cpp_direct.proofs.Kept.{arguments-begun, keeps-grown, keeps-read, keeps-same, keeps-with, keeps-unless, made-here, candidate-found, piece-found, nest-stays, reverse-last}
 use Rattle.cpp_direct.proofs.MovesOfComponents.{component-awaits, component-outside, any-arguments, instance-arguments, nest-end, tag-follows}
 use Rattle.cpp_direct.proofs.MovesOfLists.{arguments-open}
 use Rattle.cpp_direct.proofs.MovesOfNests.{nest-source, nest-abbreviation, nest-substitution, nest-std}
 use Rattle.cpp_direct.proofs.PrintedNames.{as-name, source-prints, source-class, std-prints, std-class, abbreviation-prints}
-use Rattle.cpp_direct.proofs.PrintedNests.{tagged-prints, std-tagged, again-tagged}
+use Rattle.cpp_direct.proofs.PrintedNests.{tagged-as, std-tagged, again-tagged}
+use Rattle.cpp_direct.proofs.PrintedTypes.{prints-as}
 use Rattle.cpp_direct.proofs.TypesRead.{abbreviation-listed}
 
 -- ## What small functions did
 
 -- the candidates are these, and nothing else changed
-pub record Keeps (old new : Direct) (ks : List Candidate) : Type 0 where
+pub record Lists (old new : Direct) (ks : List Candidate) : Type 0 where
   pub candidates : new.candidates.list.items ≡ ks
   pub text : new.text ≡ old.text
   pub waiting : new.waiting ≡ old.waiting
   pub nest : new.nest ≡ old.nest
+  pub scope : new.has_scope ≡ old.has_scope
   pub at : new.at ≡ old.at
 
 -- arguments were opened
@@ -61,30 +64,72 @@ pub record OpensArguments (detail : Detail) (old new : Direct) (owner : Open) : 
   pub waiting : new.waiting.list.items ≡ old.waiting.list.items ++ owner ∷ []
   pub at : new.at ≡ old.at + 1
   pub candidates : new.candidates ≡ old.candidates
+  pub scope : new.has_scope ≡ old.has_scope
+
+-- ## What types may name
+
+-- where a nested name goes on they may name the same
+pub nest-scoped : (s : Symbol) {scope : Scope} (old new : Direct) (around : Around) → new.waiting.list.items ≡ old.waiting.list.items
+    → new.nest.purpose ≡ old.nest.purpose → new.nest.is_dependent ≡ old.nest.is_dependent → IsNestScoped s scope old around → IsNestScoped s scope new around
+nest-scoped s {scope} old new around waiting_is purpose_same dependent_same n = record {
+  scoped = λ e. subst (λ (o : List Open). IsScoped scope around (reverse o)) (sym waiting_is) (n.scoped (ap is_type (sym purpose_same) ∙ e));
+  naming = λ e. subst (λ (o : List Open). IsNaming s scope (reverse o)) (sym waiting_is) (n.naming (sym dependent_same ∙ e));
+}
+
+-- they name none in one that begins
+nest-closed : (s : Symbol) {scope : Scope} (old new : Direct) (around : Around) (purpose : Purpose)
+    → (is_type purpose ≡ true → IsScoped scope around (reverse old.waiting.list.items)) → new.waiting ≡ old.waiting → new.nest.purpose ≡ purpose
+    → new.nest.is_dependent ≡ false → IsNestScoped s scope new around
+nest-closed s {scope} old new around purpose scoped waiting_is purpose_is closed = record {
+  scoped = λ e. subst (λ o. IsScoped scope around (reverse o.list.items)) (sym waiting_is) (scoped (ap is_type (sym purpose_is) ∙ e));
+  naming = λ e. absurd (false≢true (sym closed ∙ e));
+}
+
+-- the name of a function or of data names none
+type-named : (purpose : Purpose) (d : Bool) → (IsOwn purpose → d ≡ false) → d ≡ true → is_type purpose ≡ true
+type-named purposes.Type d closed e = refl
+type-named (purposes.Name mark) d closed e = absurd (false≢true (sym (closed tt) ∙ e))
+type-named (purposes.Enclosing mark) d closed e = absurd (false≢true (sym (closed tt) ∙ e))
+
+-- one that names any is in the symbol's own encoding
+nest-here : (s : Symbol) {scope : Scope} (w : Direct) (around : Around) → IsNestScoped s scope w around → (IsOwn w.nest.purpose → w.nest.is_dependent ≡ false)
+    → w.nest.is_dependent ≡ true → around.encoding ≡ encoding_place s.bytes
+nest-here s {scope} w around n closed e =
+    made-here s scope around (reverse w.waiting.list.items) (n.scoped (type-named w.nest.purpose w.nest.is_dependent closed e)) (n.naming e)
+
+-- what names none prints its text anywhere
+pub closed-prints : {detail : Detail} (names : Names) {d : Bool} {t : Term} {bytes : List ℕ} → d ≡ false → PrintsAs detail names d t bytes false → Prints detail t bytes false
+closed-prints {detail} names {t = t} {bytes = bytes} closed prints = subst (λ b. PrintsAs detail names b t bytes false) closed prints
+
+-- it is no function type
+no-function : (detail : Detail) (names : Names) (d : Bool) (t : Term) (bytes : List ℕ) → PrintsAs detail names d t bytes false → is_function_type t ≡ false
+no-function detail names true t bytes prints = prints.no_function
+no-function detail names false t bytes prints = prints.no_function
+
+-- ## Arguments are opened
 
 -- what a byte says of the symbol, where it isn't after its end
 pub byte-there : (s : List ℕ) (at byte known : ℕ) → byte ≡ known → known ≢ 0 → (byte ≢ 0 → StandsAt s at (byte ∷ [])) → StandsAt s at (known ∷ [])
 byte-there s at byte known is some there = subst (λ b. StandsAt s at (b ∷ [])) is (there (λ e. some (sym is ∙ e)))
 
 -- arguments begin after a name
-list-begins : (s : Symbol) (old mid new : Direct) (ks : List Candidate) (st : State) (owner : Open) (front name : List ℕ) (t : Term)
-    → Keeps old mid ks → OpensArguments (detail_of s) mid new owner → AreCandidates (detail_of s) old.text.list.items ks st.candidates
-    → IsTemplate (detail_of s) owner front t name (old.text.list.items ++ opening_bracket (detail_of s)) → old.text.list.items ≡ front ++ name
-    → ArgumentsGoOn s owner (Stands s (reverse old.waiting.list.items)) front t [] (old.at + 1) st
+list-begins : (s : Symbol) (scope : Scope) (old mid new : Direct) (ks : List Candidate) (st : State) (owner : Open) (front name : List ℕ) (t : Term)
+    → Lists old mid ks → OpensArguments (detail_of s) mid new owner → Keeps s scope mid st.candidates
+    → IsTemplate (detail_of s) scope.names owner front t name (old.text.list.items ++ opening_bracket (detail_of s)) → old.text.list.items ≡ front ++ name
+    → ArgumentsGoOn s owner (below s scope (reverse old.waiting.list.items)) front t [] (old.at + 1) st
     → IsWriting s new (steps.List true)
-list-begins s old mid new ks st owner front name t keeps opening_ candidates template written goes =
-    let text_is : new.text.list.items ≡ old.text.list.items ++ opening_bracket (detail_of s) = cc (opening_.text, keeps.text) in
-    let candidates_are : new.candidates.list.items ≡ ks = cc (opening_.candidates, keeps.candidates) in
-    let waiting_is : new.waiting.list.items ≡ old.waiting.list.items ++ owner ∷ [] = cc (opening_.waiting, keeps.waiting) in
-    let at_is : new.at ≡ old.at + 1 = cc (opening_.at, keeps.at) in
+list-begins s scope old mid new ks st owner front name t lists opening_ keeps template written goes =
+    let text_is : new.text.list.items ≡ old.text.list.items ++ opening_bracket (detail_of s) = cc (opening_.text, lists.text) in
+    let waiting_is : new.waiting.list.items ≡ old.waiting.list.items ++ owner ∷ [] = cc (opening_.waiting, lists.waiting) in
+    let at_is : new.at ≡ old.at + 1 = cc (opening_.at, lists.at) in
     record {
       state = st;
-      candidates = candidates-as (detail_of s) new st.candidates text_is candidates_are
-          (candidates-stay (detail_of s) old.text.list.items (opening_bracket (detail_of s)) ks st.candidates candidates);
+      scope = scope;
+      keeps = keeps-grown s mid new (opening_bracket (detail_of s)) st.candidates opening_.text opening_.candidates opening_.scope keeps;
       is_before = arguments-begun s new st owner (reverse old.waiting.list.items) front name t
           (ap reverse waiting_is ∙ reverse-last old.waiting.list.items owner)
-          (subst (λ l. IsTemplate (detail_of s) owner front t name l) (sym text_is) template) (text_is ∙ ap (λ l. l ++ opening_bracket (detail_of s)) written)
-          (subst (λ n. ArgumentsGoOn s owner (Stands s (reverse old.waiting.list.items)) front t [] n st) (sym at_is) goes);
+          (subst (λ l. IsTemplate (detail_of s) scope.names owner front t name l) (sym text_is) template) (text_is ∙ ap (λ l. l ++ opening_bracket (detail_of s)) written)
+          (subst (λ n. ArgumentsGoOn s owner (below s scope (reverse old.waiting.list.items)) front t [] n st) (sym at_is) goes);
     }
 
 -- ## A name with or without arguments
@@ -94,7 +139,8 @@ pub named-goes-on : (s : Symbol) (w : Direct) → IsNestNamed s w → IsWriting 
 unfolding may_be_empty
 named-goes-on s w n = record {
   state = n.state;
-  candidates = n.candidates;
+  scope = n.scope;
+  keeps = n.keeps;
   is_before = (
     n.own,
     record {
@@ -106,6 +152,7 @@ named-goes-on s w n = record {
       is_nest = n.is_nest;
       goes = subst (λ b. NestGoesOn s Kind.NestTail n.outer n.around n.own b w.at n.state) (sym n.unlisted)
           (n.named.bare w.at n.state (expects-empty s Kind.MaybeArguments (after n.own false n.around) n.named.inner w.at n.state n.named.awaits refl));
+      scoped = n.scoped;
       serves = n.serves;
     },
     (λ own e. n.no_return),
@@ -122,16 +169,19 @@ named-tagged s old new tag wide n is reads =
     let g = tag-follows s n.named.inner n.around n.own old.at n.state tag new.at wide n.named.awaits is in
     let own : Term = with_tag n.own tag in
     let plain = name-unmarked s.bytes (old.at + 1) tag new.at is.1 in
-    let prints = tagged-prints (is_structor n.own) n.own n.bytes n.is_nest.prints tag plain in
+    let names = n.scope.names in
+    let prints = tagged-as (detail_of s) names old.nest.is_dependent (is_structor n.own) n.own n.bytes n.is_nest.prints tag plain in
     let written : new.text.list.items ≡ n.front ++ (n.bytes ++ tag_text tag)
     = reads.text ∙ ap (λ l. l ++ tag_text tag) n.written ∙ append_assoc n.front n.bytes (tag_text tag) in
     let nest = sym reads.nest in
     let classed : new.nest.has_class ≡ true → old.nest.has_class ≡ true = λ e. ap (λ x. x.has_class) nest ∙ e in
-    let is_nest : IsNest (detail_of s) n.front (n.bytes ++ tag_text tag) new.text.list.items new.nest own = record {
+    let closed : new.nest.is_dependent ≡ false → old.nest.is_dependent ≡ false = λ e. ap (λ x. x.is_dependent) nest ∙ e in
+    let is_nest : IsNest (detail_of s) names n.front (n.bytes ++ tag_text tag) new.text.list.items new.nest own = record {
       back = [];
       written = written ∙ sym (append-nil (n.front ++ (n.bytes ++ tag_text tag)));
       from_is = ap (λ x. x.from) reads.nest ∙ n.is_nest.from_is;
-      prints = prints;
+      prints = subst (λ b. PrintsAs (detail_of s) names b own (n.bytes ++ tag_text tag) false) (ap (λ x. x.is_dependent) nest) prints;
+      closed = subst (λ x. IsOwn x.purpose → x.is_dependent ≡ false) nest n.is_nest.closed;
       class_front = n.is_nest.class_front;
       class = n.is_nest.class;
       class_back = n.is_nest.class_back ++ tag_text tag;
@@ -139,11 +189,12 @@ named-tagged s old new tag wide n is reads =
           ∙ append_assoc (n.is_nest.class_front ++ n.is_nest.class) n.is_nest.class_back (tag_text tag);
       class_from = ap (λ x. x.class_from) reads.nest ∙ n.is_nest.class_from;
       class_to = ap (λ x. x.class_to) reads.nest ∙ n.is_nest.class_to;
-      names_class = λ e. n.names_tagged (classed e) tag plain;
+      names_class = λ e none. n.names_tagged (classed e) (closed none) tag plain;
     } in
     record {
       state = n.state;
-      candidates = candidates-read (detail_of s) old new (tag_text tag) n.state.candidates reads n.candidates;
+      scope = n.scope;
+      keeps = keeps-read s old new (tag_text tag) n.state.candidates reads n.keeps;
       around = n.around;
       outer = n.outer;
       own = own;
@@ -158,34 +209,45 @@ named-tagged s old new tag wide n is reads =
       bytes = n.bytes ++ tag_text tag;
       written = written;
       is_nest = is_nest;
-      names_tagged = λ e more more_plain.
-          again-tagged (is_structor n.own) n.own n.bytes n.is_nest.prints tag more n.is_nest.class plain more_plain (n.names_tagged (classed e) tag plain);
+      scoped = nest-scoped s old new n.around (ap (λ v. v.list.items) reads.waiting) (ap (λ x. x.purpose) reads.nest) (ap (λ x. x.is_dependent) reads.nest) n.scoped;
+      names_tagged = λ e none more more_plain.
+          again-tagged (is_structor n.own) n.own n.bytes (closed-prints names (closed none) n.is_nest.prints) tag more n.is_nest.class plain more_plain
+          (n.names_tagged (classed e) (closed none) tag plain);
       unlisted = ap (λ x. x.is_listed) reads.nest ∙ n.unlisted;
       no_instance = ap (λ x. x.is_instance) reads.nest ∙ n.no_instance;
       no_return = refl;
       structor = λ e. n.structor (ap (λ x. x.has_class) nest ∙ e);
       no_structor = λ e. n.no_structor (classed e);
-      serves = subst (λ x. Serves s x.purpose (Stands s (reverse new.waiting.list.items)) n.outer n.front) nest
-          (subst (λ v. Serves s old.nest.purpose (Stands s (reverse v.list.items)) n.outer n.front) (sym reads.waiting) n.serves);
+      serves = subst (λ x. Serves s x.purpose (below s n.scope (reverse new.waiting.list.items)) n.outer n.front) nest
+          (subst (λ v. Serves s old.nest.purpose (below s n.scope (reverse v.list.items)) n.outer n.front) (sym reads.waiting) n.serves);
     }
 
 -- arguments come after it
 pub named-opens : (s : Symbol) (old mid new : Direct) → IsNestNamed s old → StandsAt s.bytes old.at (73 ∷ [])
-    → Keeps old mid (added old old.nest.from false) → OpensArguments (detail_of s) mid new (opens.NestArguments mid.nest) → IsWriting s new (steps.List true)
+    → Lists old mid (added old old.nest.from false old.nest.is_dependent) → OpensArguments (detail_of s) mid new (opens.NestArguments mid.nest)
+    → IsWriting s new (steps.List true)
 unfolding inside
-named-opens s old mid new n here keeps opening_ =
-    let around = n.around in
+named-opens s old mid new n here lists opening_ =
     let begun = arguments-open s n.named.inner n.around n.own false old.at n.state
     (alone-arguments s (after n.own false n.around) n.named.inner old.at n.state n.named.awaits) here in
-    list-begins s old mid new (added old old.nest.from false) (with_candidate around n.own n.state) (opens.NestArguments old.nest) n.front n.bytes n.own
-    keeps (subst (λ x. OpensArguments (detail_of s) mid new (opens.NestArguments x)) keeps.nest opening_)
-    (candidates-with old n.state n.front n.bytes old.nest.from n.own around false n.candidates n.written n.is_nest.from_is n.is_nest.prints)
+    list-begins s n.scope old mid new (added old old.nest.from false old.nest.is_dependent) (with_candidate n.around n.own n.state) (opens.NestArguments old.nest) n.front n.bytes
+    n.own lists (subst (λ x. OpensArguments (detail_of s) mid new (opens.NestArguments x)) lists.nest opening_)
+    (keeps-with s old mid n.state n.front n.bytes old.nest.from n.own n.around false old.nest.is_dependent n.keeps n.written n.is_nest.from_is n.is_nest.prints
+    (nest-here s old n.around n.scoped n.is_nest.closed) lists.text lists.candidates lists.scope)
     (nest-stays n.front n.bytes old.text.list.items (opening_bracket (detail_of s)) old.nest n.own n.is_nest, (λ own. n.structor), n.no_structor) n.written (
       inside n.around,
       begun.inner,
       refl,
+      (λ within. scoped-inside n.scope n.around (reverse old.waiting.list.items) (n.scoped.scoped within)),
       begun.awaits,
-      (λ l at st comes ended. (n.around, n.outer, n.named.argued (no_items l) (at + 1) st (begun.onward l at st comes ended), n.serves)),
+      (λ l at st comes ended. (
+        n.around,
+        n.outer,
+        n.named.argued (no_items l) (at + 1) st (begun.onward l at st comes ended),
+        n.scoped.scoped,
+        n.scoped.naming,
+        n.serves,
+      )),
     )
 
 -- ## A name that an S stands for
@@ -194,7 +256,8 @@ named-opens s old mid new n here keeps opening_ =
 pub known-goes-on : (s : Symbol) (w : Direct) → IsNestKnown s w → IsWriting s w steps.Rest
 known-goes-on s w n = record {
   state = n.state;
-  candidates = n.candidates;
+  scope = n.scope;
+  keeps = n.keeps;
   is_before = (
     n.own,
     Kind.NestRestOrEnd,
@@ -207,6 +270,7 @@ known-goes-on s w n = record {
       written = n.written;
       is_nest = n.is_nest;
       goes = subst (λ b. NestGoesOn s Kind.NestRestOrEnd n.outer n.around n.own b w.at n.state) (sym n.listed) n.known;
+      scoped = n.scoped;
       serves = n.serves;
     },
   );
@@ -232,8 +296,8 @@ known-opens s old new n wide is_type here opening_ =
     let g = n.known in
     let begun = instance-arguments s g.inner n.around n.own true old.at n.state g.awaits here in
     let not_own : IsOwn old.nest.purpose → ⊥ = λ own. subst IsOwn is_type own in
-    list-begins s old old new old.candidates.list.items n.state (opens.NestArguments old.nest) n.front n.bytes n.own
-    (record { candidates = refl; text = refl; waiting = refl; nest = refl; at = refl }) opening_ n.candidates (
+    list-begins s n.scope old old new old.candidates.list.items n.state (opens.NestArguments old.nest) n.front n.bytes n.own
+    (record { candidates = refl; text = refl; waiting = refl; nest = refl; scope = refl; at = refl }) opening_ n.keeps (
       nest-stays n.front n.bytes old.text.list.items (opening_bracket (detail_of s)) old.nest n.own n.is_nest,
       (λ own. absurd (not_own own)),
       (λ e. absurd (false≢true (sym n.classless ∙ e))),
@@ -241,12 +305,15 @@ known-opens s old new n wide is_type here opening_ =
       inside n.around,
       begun.inner,
       refl,
+      (λ within. scoped-inside n.scope n.around (reverse old.waiting.list.items) (n.scoped.scoped within)),
       begun.awaits,
       (λ l at st comes ended. (
         n.around,
         n.outer,
         nest-outside s Kind.NestTail g.inner n.outer n.around (instance n.own (no_items l)) false (at + 1) st g.passes
             (may-end s g.inner n.around (instance n.own (no_items l)) false (at + 1) st wide (begun.onward l at st comes ended)),
+        n.scoped.scoped,
+        n.scoped.naming,
         n.serves,
       )),
     )
@@ -254,19 +321,19 @@ known-opens s old new n wide is_type here opening_ =
 -- ## After a name so far
 
 -- a component follows
-pub component-next : (s : Symbol) (kind : Kind) (old new : Direct) (st : State) (t : Term) → IsRest kind
-    → AreCandidates (detail_of s) old.text.list.items old.candidates.list.items st.candidates → IsNesting s kind old t st
-    → Keeps old new (added_unless old old.nest.is_listed old.nest.from) → IsWriting s new steps.Component
-component-next s kind old new st t rest candidates n keeps =
-    let around = n.around in
+pub component-next : (s : Symbol) (scope : Scope) (kind : Kind) (old new : Direct) (st : State) (t : Term) → IsRest kind
+    → Keeps s scope old st.candidates → IsNesting s scope kind old t st
+    → Lists old new (added_unless old old.nest.is_listed old.nest.from old.nest.is_dependent) → IsWriting s new steps.Component
+component-next s scope kind old new st t rest keeps n lists =
     let listed = old.nest.is_listed in
-    let text_is : new.text.list.items ≡ old.text.list.items = cc (keeps.text) in
-    let waiting_is : new.waiting.list.items ≡ old.waiting.list.items = cc (keeps.waiting) in
-    let later = unless_listed listed around t st in
+    let text_is : new.text.list.items ≡ old.text.list.items = cc (lists.text) in
+    let waiting_is : new.waiting.list.items ≡ old.waiting.list.items = cc (lists.waiting) in
+    let later = unless_listed listed n.around t st in
     record {
       state = later;
-      candidates = candidates-as (detail_of s) new later.candidates text_is keeps.candidates
-          (candidates-unless old st listed n.front n.bytes old.nest.from t around candidates n.written n.is_nest.from_is n.is_nest.prints);
+      scope = scope;
+      keeps = keeps-unless s old new st listed n.front n.bytes old.nest.from t n.around old.nest.is_dependent keeps n.written n.is_nest.from_is n.is_nest.prints
+          (nest-here s old n.around n.scoped n.is_nest.closed) lists.text lists.candidates lists.scope;
       is_before = (
         t,
         n.front,
@@ -274,39 +341,44 @@ component-next s kind old new st t rest candidates n keeps =
         n.around,
         n.outer,
         text_is ∙ n.written,
-        subst (λ x. IsNest (detail_of s) n.front n.bytes new.text.list.items x t) (sym keeps.nest)
-            (subst (λ l. IsNest (detail_of s) n.front n.bytes l old.nest t) (sym text_is) n.is_nest),
-        subst (λ m. AwaitsComponent s n.outer n.around t m later) (sym keeps.at)
+        subst (λ x. IsNest (detail_of s) scope.names n.front n.bytes new.text.list.items x t) (sym lists.nest)
+            (subst (λ l. IsNest (detail_of s) scope.names n.front n.bytes l old.nest t) (sym text_is) n.is_nest),
+        subst (λ m. AwaitsComponent s n.outer n.around t m later) (sym lists.at)
             (component-outside s n.goes.inner n.outer n.around t old.at later n.goes.passes
             (component-awaits s kind n.goes.inner n.around t listed old.at st rest n.goes.awaits)),
-        subst (λ x. Serves s x.purpose (Stands s (reverse new.waiting.list.items)) n.outer n.front) (sym keeps.nest)
-            (subst (λ l. Serves s old.nest.purpose (Stands s (reverse l)) n.outer n.front) (sym waiting_is) n.serves),
+        nest-scoped s old new n.around waiting_is (ap (λ x. x.purpose) lists.nest) (ap (λ x. x.is_dependent) lists.nest) n.scoped,
+        subst (λ x. Serves s x.purpose (below s scope (reverse new.waiting.list.items)) n.outer n.front) (sym lists.nest)
+            (subst (λ l. Serves s old.nest.purpose (below s scope (reverse l)) n.outer n.front) (sym waiting_is) n.serves),
       );
     }
 
 -- arguments of the first piece follow
-pub first-opens : (s : Symbol) (kind : Kind) (old mid new : Direct) (st : State) (t : Term) → IsFirstRest kind
-    → AreCandidates (detail_of s) old.text.list.items old.candidates.list.items st.candidates → IsNesting s kind old t st → StandsAt s.bytes old.at (73 ∷ [])
-    → Keeps old mid (added_unless old old.nest.is_listed old.nest.from) → OpensArguments (detail_of s) mid new (opens.FirstArguments mid.nest)
+pub first-opens : (s : Symbol) (scope : Scope) (kind : Kind) (old mid new : Direct) (st : State) (t : Term) → IsFirstRest kind
+    → Keeps s scope old st.candidates → IsNesting s scope kind old t st → StandsAt s.bytes old.at (73 ∷ [])
+    → Lists old mid (added_unless old old.nest.is_listed old.nest.from old.nest.is_dependent) → OpensArguments (detail_of s) mid new (opens.FirstArguments mid.nest)
     → IsWriting s new (steps.List true)
 unfolding inside
-first-opens s kind old mid new st t first candidates n here keeps opening_ =
+first-opens s scope kind old mid new st t first keeps n here lists opening_ =
     let around = n.around in
     let listed = old.nest.is_listed in
     let begun = any-arguments s kind n.goes.inner n.around t listed old.at st first n.goes.awaits here in
-    list-begins s old mid new (added_unless old listed old.nest.from) (unless_listed listed around t st) (opens.FirstArguments old.nest) n.front n.bytes t
-    keeps (subst (λ x. OpensArguments (detail_of s) mid new (opens.FirstArguments x)) keeps.nest opening_)
-    (candidates-unless old st listed n.front n.bytes old.nest.from t around candidates n.written n.is_nest.from_is n.is_nest.prints)
+    list-begins s scope old mid new (added_unless old listed old.nest.from old.nest.is_dependent) (unless_listed listed around t st) (opens.FirstArguments old.nest) n.front n.bytes t
+    lists (subst (λ x. OpensArguments (detail_of s) mid new (opens.FirstArguments x)) lists.nest opening_)
+    (keeps-unless s old mid st listed n.front n.bytes old.nest.from t around old.nest.is_dependent keeps n.written n.is_nest.from_is n.is_nest.prints
+    (nest-here s old around n.scoped n.is_nest.closed) lists.text lists.candidates lists.scope)
     (nest-stays n.front n.bytes old.text.list.items (opening_bracket (detail_of s)) old.nest t n.is_nest) n.written (
       inside n.around,
       begun.inner,
       refl,
+      (λ within. scoped-inside scope around (reverse old.waiting.list.items) (n.scoped.scoped within)),
       begun.awaits,
       (λ l at later comes ended. (
         n.around,
         n.outer,
         component-outside s n.goes.inner n.outer n.around (instance t (no_items l)) (at + 1)
             (with_candidate around (instance t (no_items l)) later) n.goes.passes (begun.onward l at later comes ended),
+        n.scoped.scoped,
+        n.scoped.naming,
         n.serves,
       )),
     )
@@ -314,27 +386,29 @@ first-opens s kind old mid new st t first candidates n here keeps opening_ =
 -- ## The end of a nested name
 
 -- a name that ends comes outside
-pub nest-comes : (s : Symbol) (old : Direct) (st : State) (t : Term) (n : IsNesting s Kind.NestTail old t st) → StandsAt s.bytes old.at (69 ∷ [])
-    → Comes s n.outer (tree t old.nest.is_listed) (old.at + 1) st
+pub nest-comes : (s : Symbol) {scope : Scope} (old : Direct) (st : State) (t : Term) (n : IsNesting s scope Kind.NestTail old t st)
+    → StandsAt s.bytes old.at (69 ∷ []) → Comes s n.outer (tree t old.nest.is_listed) (old.at + 1) st
 nest-comes s old st t n here = n.goes.passes (tree t old.nest.is_listed) (old.at + 1) st
     (nest-end s n.goes.inner n.around t old.nest.is_listed old.at st n.goes.awaits here)
 
 -- it is a type
-pub type-ended : (s : Symbol) (old new : Direct) (st : State) (t : Term)
-    → AreCandidates (detail_of s) old.text.list.items old.candidates.list.items st.candidates → IsNesting s Kind.NestTail old t st
-    → StandsAt s.bytes old.at (69 ∷ [])
-    → old.nest.purpose ≡ purposes.Type → Keeps (record old { at = old.at + 1 }) new (added_unless old old.nest.is_listed old.nest.from)
-    → IsWriting s new (steps.Value false)
-type-ended s old new st t candidates n here is_type keeps =
+pub type-ended : (s : Symbol) (scope : Scope) (old new : Direct) (st : State) (t : Term) → Keeps s scope old st.candidates
+    → IsNesting s scope Kind.NestTail old t st → StandsAt s.bytes old.at (69 ∷ []) → old.nest.purpose ≡ purposes.Type
+    → Lists (record old { at = old.at + 1 }) new (added_unless old old.nest.is_listed old.nest.from old.nest.is_dependent)
+    → IsWriting s new (steps.Value false old.nest.is_dependent)
+type-ended s scope old new st t keeps n here is_type lists =
     let listed = old.nest.is_listed in
-    let serves = subst (λ p. Serves s p (Stands s (reverse old.waiting.list.items)) n.outer n.front) is_type n.serves in
-    let text_is : new.text.list.items ≡ old.text.list.items = cc (keeps.text) in
-    let waiting_is : new.waiting.list.items ≡ old.waiting.list.items = cc (keeps.waiting) in
+    let d = old.nest.is_dependent in
+    let open_ = reverse old.waiting.list.items in
+    let serves = subst (λ p. Serves s p (below s scope open_) n.outer n.front) is_type n.serves in
+    let text_is : new.text.list.items ≡ old.text.list.items = cc (lists.text) in
+    let waiting_is : new.waiting.list.items ≡ old.waiting.list.items = cc (lists.waiting) in
     let later = unless_listed listed serves.1 t st in
     record {
       state = later;
-      candidates = candidates-as (detail_of s) new later.candidates text_is keeps.candidates
-          (candidates-unless old st listed n.front n.bytes old.nest.from t serves.1 candidates n.written n.is_nest.from_is n.is_nest.prints);
+      scope = scope;
+      keeps = keeps-unless s old new st listed n.front n.bytes old.nest.from t serves.1 d keeps n.written n.is_nest.from_is n.is_nest.prints
+          (λ e. made-here s scope serves.1 open_ serves.3 (n.scoped.naming e)) lists.text lists.candidates lists.scope;
       is_before = (
         serves.0,
         t,
@@ -342,9 +416,10 @@ type-ended s old new st t candidates n here is_type keeps =
         n.bytes,
         text_is ∙ n.written,
         n.is_nest.prints,
-        comes-moved s serves.0 (tree t true) (old.at + 1) new.at later (sym keeps.at)
-            (serves.2 t listed (old.at + 1) st n.is_nest.prints.no_function (nest-comes s old st t n here)),
-        subst (λ l. Stands s (reverse l) serves.0 n.front) (sym waiting_is) serves.3,
+        (λ e. subst (λ l. IsNaming s scope (reverse l)) (sym waiting_is) (n.scoped.naming e)),
+        comes-moved s serves.0 (tree t true) (old.at + 1) new.at later (sym lists.at)
+            (serves.2 t listed (old.at + 1) st (no-function (detail_of s) scope.names d t n.bytes n.is_nest.prints) (nest-comes s old st t n here)),
+        subst (λ l. Stands s scope (reverse l) serves.0 n.front) (sym waiting_is) serves.4,
       );
     }
 
@@ -354,23 +429,20 @@ pub arguments-noted : {detail : Detail} (b : Bool) (text : List ℕ) (a r : Argu
 arguments-noted {detail} true text a r t known none has = subst (λ (k : Arguments). HasArguments detail text k t) (sym (known refl)) (has refl)
 arguments-noted {detail} false text a r t known none has = λ k o. absurd (none-known k (subst (λ (q : Arguments). IsKnown (place_of q k)) (none refl) o))
 
-pub left-true : (a b : Bool) → (a && b) ≡ true → a ≡ true
-left-true true b e = refl
-left-true false b e = e
-
 -- it is the name of the encoding
-pub name-comes : (s : Symbol) (old : Direct) (st : State) (t : Term) (mark : Mark) (is_function : Bool) (argument_ : Arguments)
-    → AreCandidates (detail_of s) old.text.list.items old.candidates.list.items st.candidates → IsNesting s Kind.NestTail old t st
+pub name-comes : (s : Symbol) (scope : Scope) (old : Direct) (st : State) (t : Term) (mark : Mark) (is_function : Bool) (argument_ : Arguments)
+    → Keeps s scope old st.candidates → IsNesting s scope Kind.NestTail old t st
     → (is_function ≡ false → has_return_type t ≡ false) → (is_function ≡ true → has_return_type t ≡ true)
     → HasArguments (detail_of s) old.text.list.items argument_ t
     → StandsAt s.bytes old.at (69 ∷ [])
     → old.nest.purpose ≡ purposes.Name mark → IsNameEnded s (record old { at = old.at + 1 }) mark is_function argument_ old.nest.from
 unfolding tree_of qualifiers_of ref_of
-name-comes s old st t mark is_function argument_ candidates n no_return returns names here is_name =
-    let serves = subst (λ p. Serves s p (Stands s (reverse old.waiting.list.items)) n.outer n.front) is_name n.serves in
+name-comes s scope old st t mark is_function argument_ keeps n no_return returns names here is_name =
+    let serves = subst (λ p. Serves s p (below s scope (reverse old.waiting.list.items)) n.outer n.front) is_name n.serves in
     record {
       state = st;
-      candidates = candidates;
+      scope = scope;
+      keeps = keeps-same s old (record old { at = old.at + 1 }) st.candidates refl refl refl keeps;
       own = t;
       v = named t (qualifiers (has_const mark)) (called_on mark);
       tree_is = refl;
@@ -380,7 +452,7 @@ name-comes s old st t mark is_function argument_ candidates n no_return returns 
       name = n.bytes;
       written = n.written;
       from_is = n.is_nest.from_is;
-      prints = as-name t n.bytes false n.is_nest.prints;
+      prints = as-name t n.bytes false (closed-prints scope.names (n.is_nest.closed (subst IsOwn (sym is_name) tt)) n.is_nest.prints);
       no_return = no_return;
       returns = returns;
       names = names;
@@ -394,11 +466,12 @@ unfolding may_be_empty tree_of qualifiers_of ref_of
 operator-ends s w mark p here is_name =
     let t = p.own in
     let st = p.state in
-    let serves = subst (λ u. Serves s u (Stands s (reverse w.waiting.list.items)) p.outer p.front) is_name p.serves in
+    let serves = subst (λ u. Serves s u (below s p.scope (reverse w.waiting.list.items)) p.outer p.front) is_name p.serves in
     let goes = p.named.bare w.at st (expects-empty s Kind.MaybeArguments (after t false p.around) p.named.inner w.at st p.named.awaits refl) in
     record {
       state = st;
-      candidates = p.candidates;
+      scope = p.scope;
+      keeps = keeps-same s w (record w { at = w.at + 1 }) st.candidates refl refl refl p.keeps;
       own = t;
       v = named t (qualifiers (has_const mark)) (called_on mark);
       tree_is = refl;
@@ -419,49 +492,55 @@ operator-ends s w mark p here is_name =
 -- ## The first piece
 
 -- a name so far whose last piece names a class
-class-nest : {detail : Detail} (front before class : List ℕ) (nest : Nest) (t : Term) → nest.from ≡ length front → nest.class_from ≡ length (front ++ before)
-    → nest.class_to ≡ length (front ++ before) + length class → Prints detail t (before ++ class) false → NamesClass detail t class
-    → IsNest detail front (before ++ class) (front ++ (before ++ class)) nest t
-class-nest front before class nest t from_is class_from class_to prints names = record {
+class-nest : {detail : Detail} (names : Names) (front before class : List ℕ) (nest : Nest) (t : Term) → nest.from ≡ length front
+    → nest.class_from ≡ length (front ++ before) → nest.class_to ≡ length (front ++ before) + length class → nest.is_dependent ≡ false
+    → Prints detail t (before ++ class) false → NamesClass detail t class
+    → IsNest detail names front (before ++ class) (front ++ (before ++ class)) nest t
+class-nest {detail} names front before class nest t from_is class_from class_to closed prints names_class = record {
   back = [];
   written = sym (append-nil (front ++ (before ++ class)));
   from_is = from_is;
-  prints = prints;
+  prints = prints-as detail names nest.is_dependent t (before ++ class) false prints;
+  closed = λ own. closed;
   class_front = front ++ before;
   class = class;
   class_back = [];
   class_written = sym (append_assoc front before class) ∙ sym (append-nil (front ++ before ++ class));
   class_from = class_from;
   class_to = class_to;
-  names_class = λ e. names;
+  names_class = λ e none. names_class;
 }
 
 -- one that a reference stands for, which names none
-classless-nest : {detail : Detail} (front bytes : List ℕ) (nest : Nest) (t : Term) → nest.from ≡ length front → nest.class_from ≡ length front
-    → nest.class_to ≡ length front → nest.has_class ≡ false → Prints detail t bytes false → IsNest detail front bytes (front ++ bytes) nest t
-classless-nest front bytes nest t from_is class_from class_to none prints = record {
+classless-nest : {detail : Detail} (names : Names) (front bytes : List ℕ) (nest : Nest) (t : Term) → nest.from ≡ length front → nest.class_from ≡ length front
+    → nest.class_to ≡ length front → nest.has_class ≡ false → nest.is_dependent ≡ false → Prints detail t bytes false
+    → IsNest detail names front bytes (front ++ bytes) nest t
+classless-nest {detail} names front bytes nest t from_is class_from class_to none closed prints = record {
   back = [];
   written = sym (append-nil (front ++ bytes));
   from_is = from_is;
-  prints = prints;
+  prints = prints-as detail names nest.is_dependent t bytes false prints;
+  closed = λ own. closed;
   class_front = front;
   class = [];
   class_back = bytes;
   class_written = ap (λ l. l ++ bytes) (sym (append-nil front));
   class_from = class_from;
   class_to = omega (arith, class_to);
-  names_class = λ e. absurd (false≢true (sym none ∙ e));
+  names_class = λ e closed. absurd (false≢true (sym none ∙ e));
 }
 
 -- the rest is expected after a first piece
 nest-begins : (s : Symbol) (old new : Direct) (purpose : Purpose) (a : AwaitsNest s old purpose) (t : Term) (bytes : List ℕ)
-    → new.text.list.items ≡ old.text.list.items ++ bytes → new.candidates ≡ old.candidates → new.waiting ≡ old.waiting → new.nest.purpose ≡ purpose
-    → IsNest (detail_of s) old.text.list.items bytes (old.text.list.items ++ bytes) new.nest t
+    → new.text.list.items ≡ old.text.list.items ++ bytes → new.candidates ≡ old.candidates → new.waiting ≡ old.waiting → new.has_scope ≡ old.has_scope
+    → new.nest.purpose ≡ purpose → new.nest.is_dependent ≡ false
+    → IsNest (detail_of s) a.scope.names old.text.list.items bytes (old.text.list.items ++ bytes) new.nest t
     → NestGoesOn s Kind.NestRestAlone a.outer a.around t new.nest.is_listed new.at a.state
     → IsWriting s new steps.Rest
-nest-begins s old new purpose a t bytes text_is candidates_are waiting_is purpose_is is_nest goes = record {
+nest-begins s old new purpose a t bytes text_is candidates_are waiting_is scope_same purpose_is closed is_nest goes = record {
   state = a.state;
-  candidates = candidates-grown (detail_of s) old new bytes a.state.candidates text_is candidates_are a.candidates;
+  scope = a.scope;
+  keeps = keeps-grown s old new bytes a.state.candidates text_is candidates_are scope_same a.keeps;
   is_before = (
     t,
     Kind.NestRestAlone,
@@ -472,22 +551,26 @@ nest-begins s old new purpose a t bytes text_is candidates_are waiting_is purpos
       outer = a.outer;
       bytes = bytes;
       written = text_is;
-      is_nest = subst (λ l. IsNest (detail_of s) old.text.list.items bytes l new.nest t) (sym text_is) is_nest;
+      is_nest = subst (λ l. IsNest (detail_of s) a.scope.names old.text.list.items bytes l new.nest t) (sym text_is) is_nest;
       goes = goes;
-      serves = subst (λ p. Serves s p (Stands s (reverse new.waiting.list.items)) a.outer old.text.list.items) (sym purpose_is)
-          (subst (λ o. Serves s purpose (Stands s (reverse o.list.items)) a.outer old.text.list.items) (sym waiting_is) a.serves);
+      scoped = nest-closed s old new a.around purpose a.scoped waiting_is purpose_is closed;
+      serves = subst (λ p. Serves s p (below s a.scope (reverse new.waiting.list.items)) a.outer old.text.list.items) (sym purpose_is)
+          (subst (λ o. Serves s purpose (below s a.scope (reverse o.list.items)) a.outer old.text.list.items) (sym waiting_is) a.serves);
     },
   );
 }
 
 -- and after one that an S stands for
 known-begins : (s : Symbol) (old new : Direct) (purpose : Purpose) (a : AwaitsNest s old purpose) (t : Term) (bytes : List ℕ)
-    → new.text.list.items ≡ old.text.list.items ++ bytes → new.candidates ≡ old.candidates → new.waiting ≡ old.waiting → new.nest.purpose ≡ purpose
-    → IsNest (detail_of s) old.text.list.items bytes (old.text.list.items ++ bytes) new.nest t → new.nest.is_listed ≡ true → new.nest.has_class ≡ false
+    → new.text.list.items ≡ old.text.list.items ++ bytes → new.candidates ≡ old.candidates → new.waiting ≡ old.waiting → new.has_scope ≡ old.has_scope
+    → new.nest.purpose ≡ purpose → new.nest.is_dependent ≡ false
+    → IsNest (detail_of s) a.scope.names old.text.list.items bytes (old.text.list.items ++ bytes) new.nest t → new.nest.is_listed ≡ true
+    → new.nest.has_class ≡ false
     → NestGoesOn s Kind.NestRestOrEnd a.outer a.around t true new.at a.state → IsNestKnown s new
-known-begins s old new purpose a t bytes text_is candidates_are waiting_is purpose_is is_nest listed classless known = record {
+known-begins s old new purpose a t bytes text_is candidates_are waiting_is scope_same purpose_is closed is_nest listed classless known = record {
   state = a.state;
-  candidates = candidates-grown (detail_of s) old new bytes a.state.candidates text_is candidates_are a.candidates;
+  scope = a.scope;
+  keeps = keeps-grown s old new bytes a.state.candidates text_is candidates_are scope_same a.keeps;
   around = a.around;
   outer = a.outer;
   own = t;
@@ -495,11 +578,12 @@ known-begins s old new purpose a t bytes text_is candidates_are waiting_is purpo
   front = old.text.list.items;
   bytes = bytes;
   written = text_is;
-  is_nest = subst (λ l. IsNest (detail_of s) old.text.list.items bytes l new.nest t) (sym text_is) is_nest;
+  is_nest = subst (λ l. IsNest (detail_of s) a.scope.names old.text.list.items bytes l new.nest t) (sym text_is) is_nest;
+  scoped = nest-closed s old new a.around purpose a.scoped waiting_is purpose_is closed;
   listed = listed;
   classless = classless;
-  serves = subst (λ p. Serves s p (Stands s (reverse new.waiting.list.items)) a.outer old.text.list.items) (sym purpose_is)
-      (subst (λ o. Serves s purpose (Stands s (reverse o.list.items)) a.outer old.text.list.items) (sym waiting_is) a.serves);
+  serves = subst (λ p. Serves s p (below s a.scope (reverse new.waiting.list.items)) a.outer old.text.list.items) (sym purpose_is)
+      (subst (λ o. Serves s purpose (below s a.scope (reverse o.list.items)) a.outer old.text.list.items) (sym waiting_is) a.serves);
 }
 
 -- a nest whose class is written at these places
@@ -512,6 +596,7 @@ nest_of from class_from class_to purpose is_listed has_class = record {
   is_listed = is_listed;
   has_class = has_class;
   is_instance = false;
+  is_dependent = false;
 }
 
 -- a name begins a nested one
@@ -522,9 +607,9 @@ pub source-begins : (s : Symbol) (old mid : Direct) (purpose : Purpose) (name : 
 source-begins s old mid purpose name a is filled reads from to from_is to_is =
     let nest = nest_of from from to purpose false true in
     let t : Term = alone (source false name) in
-    nest-begins s old (record mid { nest = nest }) purpose a t (source_text name) reads.text reads.candidates reads.waiting refl
-    (class-nest old.text.list.items [] (source_text name) nest t from_is (from_is ∙ ap length (sym (append-nil old.text.list.items)))
-    (omega (arith, to_is, ap length reads.text, length-append old.text.list.items (source_text name), ap length (append-nil old.text.list.items)))
+    nest-begins s old (record mid { nest = nest }) purpose a t (source_text name) reads.text reads.candidates reads.waiting reads.scope refl refl
+    (class-nest a.scope.names old.text.list.items [] (source_text name) nest t from_is (from_is ∙ ap length (sym (append-nil old.text.list.items)))
+    (omega (arith, to_is, ap length reads.text, length-append old.text.list.items (source_text name), ap length (append-nil old.text.list.items))) refl
     (source-prints false name filled (name-unmarked s.bytes old.at name mid.at is)) (source-class false name filled (name-unmarked s.bytes old.at name mid.at is)))
     (nest-source s a.outer a.around old.at a.state name mid.at a.outside a.awaits is)
 
@@ -532,16 +617,16 @@ source-begins s old mid purpose name a is filled reads from to from_is to_is =
 pub abbreviation-begins : (s : Symbol) (old mid : Direct) (purpose : Purpose) (letter : ℕ) → AwaitsNest s old purpose → StandsAt s.bytes old.at (83 ∷ [])
     → (letter ≢ 0 → StandsAt s.bytes (old.at + 1) (letter ∷ [])) → look_up (letter ∷ []) abbreviation_texts ≢ []
     → mid.text.list.items ≡ old.text.list.items ++ look_up (letter ∷ []) abbreviation_texts → mid.candidates ≡ old.candidates → mid.waiting ≡ old.waiting
-    → mid.at ≡ old.at + 1 + 1 → (from : ℕ) → from ≡ length old.text.list.items
+    → mid.has_scope ≡ old.has_scope → mid.at ≡ old.at + 1 + 1 → (from : ℕ) → from ≡ length old.text.list.items
     → IsNestKnown s (record mid { nest = nest_of from from from purpose true false })
 unfolding look_up abbreviation_texts same_bytes
-abbreviation-begins s old mid purpose letter a here behind there text_is candidates_are waiting_is at_is from from_is =
+abbreviation-begins s old mid purpose letter a here behind there text_is candidates_are waiting_is scope_same at_is from from_is =
     let nest = nest_of from from from purpose true false in
     let t : Term = abbreviation letter in
     let bytes = look_up (letter ∷ []) abbreviation_texts in
     let some : letter ≢ 0 = λ e. there (ap (λ l. look_up (l ∷ []) abbreviation_texts) e) in
-    known-begins s old (record mid { nest = nest }) purpose a t bytes text_is candidates_are waiting_is refl
-    (classless-nest old.text.list.items bytes nest t from_is from_is from_is refl (abbreviation-prints letter there))
+    known-begins s old (record mid { nest = nest }) purpose a t bytes text_is candidates_are waiting_is scope_same refl refl
+    (classless-nest a.scope.names old.text.list.items bytes nest t from_is from_is from_is refl refl (abbreviation-prints letter there))
     refl refl (subst (λ n. NestGoesOn s Kind.NestRestOrEnd a.outer a.around t true n a.state) (omega (arith, at_is))
     (nest-abbreviation s a.outer a.around old.at a.state letter a.awaits (stands-join s.bytes old.at (83 ∷ []) (letter ∷ []) here (behind some))
     (abbreviation-listed letter there)))
@@ -550,7 +635,7 @@ abbreviation-begins s old mid purpose letter a here behind there text_is candida
 pub candidate-text : (s : Symbol) (w : Direct) (purpose : Purpose) (a : AwaitsNest s w purpose) (n : ℕ) (k : Candidate)
     → k.from ≤ k.to → slice_get w.candidates.list.items n ≡ Some k → (k.from ≤ k.to) × (k.to ≤ length w.text.list.items)
 candidate-text s w purpose a n k ordered found =
-    let one = candidate-found w.text.list.items w.candidates.list.items a.state.candidates n k a.candidates ordered found in
+    let one = candidate-found w.text.list.items w.candidates.list.items a.state.candidates n k a.keeps.candidates ordered found in
     let is = one.2 in
     let piece = piece-found w.text.list.items is.front is.bytes is.back k.from k.to is.written is.from_is is.to_is in
     (piece.0, piece.1)
@@ -560,34 +645,36 @@ pub reference-begins : (s : Symbol) (old mid : Direct) (purpose : Purpose) (digi
     → StandsAt s.bytes old.at (83 ∷ []) → IsSeqAt s.bytes (old.at + 1) digits mid.at
     → k.from ≤ k.to → slice_get old.candidates.list.items (counted_value Seq36 digits) ≡ Some k → k.is_reference ≡ false → k.is_dependent ≡ false
     → mid.text.list.items ≡ old.text.list.items ++ take (k.to - k.from) (drop k.from old.text.list.items) → mid.candidates ≡ old.candidates
-    → mid.waiting ≡ old.waiting → (from : ℕ) → from ≡ length old.text.list.items
+    → mid.waiting ≡ old.waiting → mid.has_scope ≡ old.has_scope → (from : ℕ) → from ≡ length old.text.list.items
     → IsNestKnown s (record mid { nest = nest_of from from from purpose true false })
-reference-begins s old mid purpose digits k a here is ordered found plain closed text_is candidates_are waiting_is from from_is =
+reference-begins s old mid purpose digits k a here is ordered found plain closed text_is candidates_are waiting_is scope_same from from_is =
     let nest = nest_of from from from purpose true false in
-    let one = candidate-found old.text.list.items old.candidates.list.items a.state.candidates (counted_value Seq36 digits) k a.candidates ordered found in
+    let one = candidate-found old.text.list.items old.candidates.list.items a.state.candidates (counted_value Seq36 digits) k a.keeps.candidates ordered found in
     let c = one.0 in
     let it = one.2 in
     let piece = piece-found old.text.list.items it.front it.bytes it.back k.from k.to it.written it.from_is it.to_is in
-    let prints = subst (λ b. Prints (detail_of s) c.tree it.bytes b) plain (plainly-prints k c it.bytes closed it.prints) in
+    let own = subst (λ r. PrintsAs (detail_of s) a.scope.names k.is_dependent c.tree it.bytes r) plain it.prints in
+    let prints : Prints (detail_of s) c.tree it.bytes false = closed-prints a.scope.names closed own in
     known-begins s old (record mid { nest = nest }) purpose a c.tree it.bytes (text_is ∙ ap (λ l. old.text.list.items ++ l) piece.2) candidates_are
-    waiting_is refl (classless-nest old.text.list.items it.bytes nest c.tree from_is from_is from_is refl prints)
+    waiting_is scope_same refl refl (classless-nest a.scope.names old.text.list.items it.bytes nest c.tree from_is from_is from_is refl refl prints)
     refl refl (nest-substitution s a.outer a.around old.at a.state digits mid.at c a.awaits here is one.1 prints.is_closed prints.packless)
 
 -- a name in std begins a nested one
 pub std-begins : (s : Symbol) (old mid : Direct) (purpose : Purpose) (before : ℕ) (name : List ℕ)
     → AwaitsNest s (record old { at = before }) purpose → StandsAt s.bytes before (83 ∷ 116 ∷ []) → IsNameAt s.bytes (before + 2) name mid.at → name ≢ []
     → mid.text.list.items ≡ old.text.list.items ++ codes "std::" ++ source_text name → mid.candidates ≡ old.candidates → mid.waiting ≡ old.waiting
-    → (from class_from to : ℕ) → from ≡ length old.text.list.items → class_from ≡ length (old.text.list.items ++ codes "std::") → to ≡ length mid.text.list.items
+    → mid.has_scope ≡ old.has_scope → (from class_from to : ℕ) → from ≡ length old.text.list.items → class_from ≡ length (old.text.list.items ++ codes "std::") → to ≡ length mid.text.list.items
     → IsNestNamed s (record mid { nest = nest_of from class_from to purpose false true })
 unfolding has_return_type arguments_of is_structor
-std-begins s old mid purpose before name a here is filled text_is candidates_are waiting_is from class_from to from_is class_from_is to_is =
+std-begins s old mid purpose before name a here is filled text_is candidates_are waiting_is scope_same from class_from to from_is class_from_is to_is =
     let nest = nest_of from class_from to purpose false true in
     let t : Term = in_std (source false name) in
     let bytes = codes "std::" ++ source_text name in
     let written : mid.text.list.items ≡ old.text.list.items ++ bytes = text_is ∙ append_assoc old.text.list.items (codes "std::") (source_text name) in
     record {
       state = a.state;
-      candidates = candidates-grown (detail_of s) old mid bytes a.state.candidates written candidates_are a.candidates;
+      scope = a.scope;
+      keeps = keeps-grown s (record old { at = before }) (record mid { nest = nest }) bytes a.state.candidates written candidates_are scope_same a.keeps;
       around = a.around;
       outer = a.outer;
       own = t;
@@ -600,28 +687,30 @@ std-begins s old mid purpose before name a here is filled text_is candidates_are
         written = written ∙ sym (append-nil (old.text.list.items ++ bytes));
         from_is = from_is;
         prints = std-prints false name filled (name-unmarked s.bytes (before + 2) name mid.at is);
+        closed = λ own. refl;
         class_front = old.text.list.items ++ codes "std::";
         class = source_text name;
         class_back = [];
         class_written = text_is ∙ sym (append-nil (old.text.list.items ++ codes "std::" ++ source_text name));
         class_from = class_from_is;
         class_to = omega (arith, to_is, ap length text_is, length-append (old.text.list.items ++ codes "std::") (source_text name));
-        names_class = λ e. std-class false name filled (name-unmarked s.bytes (before + 2) name mid.at is);
+        names_class = λ e none. std-class false name filled (name-unmarked s.bytes (before + 2) name mid.at is);
       };
-      names_tagged = λ e tag plain. std-tagged false name filled (name-unmarked s.bytes (before + 2) name mid.at is) tag plain;
+      scoped = nest-closed s old (record mid { nest = nest }) a.around purpose a.scoped waiting_is refl refl;
+      names_tagged = λ e none tag plain. std-tagged false name filled (name-unmarked s.bytes (before + 2) name mid.at is) tag plain;
       unlisted = refl;
       no_instance = refl;
       no_return = refl;
       structor = λ e. absurd (false≢true (sym e));
       no_structor = λ e. refl;
-      serves = subst (λ o. Serves s purpose (Stands s (reverse o.list.items)) a.outer old.text.list.items) (sym waiting_is) a.serves;
+      serves = subst (λ o. Serves s purpose (below s a.scope (reverse o.list.items)) a.outer old.text.list.items) (sym waiting_is) a.serves;
     }
 
 -- what opening arguments says where there was memory
 pub opened-by : (s : Symbol) (r : Option Step) (old new : Direct) (owner : Open) → IfSome r (λ next. next ≡ steps.List true)
     → OnSome r (new.waiting.list.items ≡ old.waiting.list.items ++ owner ∷ []) → OnSome r (new.at ≡ old.at + 1)
     → OnSome r (new.text.list.items ≡ old.text.list.items ++ opening_bracket (detail_of s)) → OnSome r (new.candidates ≡ old.candidates)
-    → (OpensArguments (detail_of s) old new owner → IsWriting s new (steps.List true)) → IfSome r (IsWriting s new)
-opened-by s None old new owner step waiting at text candidates goes = tt
-opened-by s (Some next) old new owner step waiting at text candidates goes =
-    subst (λ x. IsWriting s new x) (sym step) (goes (record { text = text; waiting = waiting; at = at; candidates = candidates }))
+    → OnSome r (new.has_scope ≡ old.has_scope) → (OpensArguments (detail_of s) old new owner → IsWriting s new (steps.List true)) → IfSome r (IsWriting s new)
+opened-by s None old new owner step waiting at text candidates scope_same goes = tt
+opened-by s (Some next) old new owner step waiting at text candidates scope_same goes =
+    subst (λ x. IsWriting s new x) (sym step) (goes (record { text = text; waiting = waiting; at = at; candidates = candidates; scope = scope_same }))

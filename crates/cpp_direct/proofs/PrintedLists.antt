@@ -1,13 +1,13 @@
 -- Lists of trees of which the texts are known.
 use Rattle.sym_print.specs.declared.detail.Detail.{Detail}
-use Rattle.std.proofs.Common.{◌≡◌, ◌≢◌, inl, inr, refl, ap, sym, subst, ◌∙◌, ℕ, ◌+◌, ◌*◌, ◌≤◌, List, [], ◌∷◌, ◌++◌, length, Bool, false, None, arith, codes, length-append, append-nil, append_assoc}
+use Rattle.std.proofs.Common.{◌≡◌, ◌≢◌, inl, inr, refl, ap, sym, subst, ◌∙◌, ℕ, ◌+◌, ◌*◌, ◌≤◌, List, [], ◌∷◌, ◌++◌, length, Bool, true, false, None, arith, codes, length-append, append-nil, append_assoc}
 use Rattle.sym_print.specs.Unshared.{text_of, cost_of}
 use Rattle.cpp_grammar.specs.Term.{Term, nil, list, pack}
 use Rattle.cpp_grammar.specs.Scope.{is_open, pack_length, first_of}
 use Rattle.cpp_grammar.specs.Items.{left, right, first, more, Context, is_empty}
 use Rattle.cpp_grammar.specs.Meaning.{is_void}
 use Rattle.cpp_grammar.specs.Parts.{as_item, says, list_part, first_parts, more_parts, left_parts, right_parts, parts_in, not_empty}
-use Rattle.cpp_direct.specs.Prints.{written_of, Prints, IsElement, list_of, joined, IsElementIn, PrintEachBy, PrintAllBy, PrintEach, PrintAll, PrintEachIn, PrintAllIn}
+use Rattle.cpp_direct.specs.Prints.{written_of, Prints, PrintsIn, PrintsAs, Names, IsGiven, AreSingle, IsElement, IsElementGiven, IsElementAs, list_of, joined, IsElementIn, PrintEachBy, PrintAllBy, PrintEach, PrintAll, PrintAllAs, PrintEachIn, PrintAllIn}
 use Rattle.cpp_direct.specs.WriterInvariant.{IsTail, list_with, in_front_of_next}
 use Rattle.cpp_direct.proofs.PrintedParts.{shown_by, text_shown, cost_shown}
 
@@ -155,27 +155,30 @@ pub list-more : (ts : List Term) (t r : Term) → list_with (ts ++ t ∷ []) r �
 list-more [] t r = refl
 list-more (u ∷ ts) t r = ap (λ l. list u l) (list-more ts t r)
 
--- What prints anywhere prints in a context.
-each-in : (detail : Detail) (c : Context) (extra : ℕ) (ts : List Term) (texts : List (List ℕ)) → PrintEach detail extra ts texts
-    → PrintEachIn detail c extra ts texts
-each-in detail c extra [] [] each = tt
-each-in detail c extra (t ∷ ts) (b ∷ bs) each = (element-in c extra t b each.0, each-in detail c extra ts bs each.1)
-each-in detail c extra [] (b ∷ bs) each = elim each [ ]
-each-in detail c extra (t ∷ ts) [] each = elim each [ ]
+-- Elements that print in one sense do so in another that follows from it.
+each-by : (by so : Term → List ℕ → Type 0) → ((t : Term) (b : List ℕ) → by t b → so t b) → (ts : List Term) (texts : List (List ℕ)) → PrintEachBy by ts texts
+    → PrintEachBy so ts texts
+each-by by so follows [] [] each = tt
+each-by by so follows (t ∷ ts) (b ∷ bs) each = (follows t b each.0, each-by by so follows ts bs each.1)
+each-by by so follows [] (b ∷ bs) each = elim each [ ]
+each-by by so follows (t ∷ ts) [] each = elim each [ ]
 
+all-by : (by so : Term → List ℕ → Type 0) → ((t : Term) (b : List ℕ) → by t b → so t b) → (ts : List Term) (l : List ℕ) → PrintAllBy by ts l → PrintAllBy so ts l
+all-by by so follows ts l all = (all.0, each-by by so follows ts all.0 all.1, all.2)
+
+-- What print anywhere print in a context.
 pub all-in : (detail : Detail) (c : Context) (extra : ℕ) (ts : List Term) (l : List ℕ) → PrintAll detail extra ts l → PrintAllIn detail c extra ts l
-all-in detail c extra ts l all = (all.0, each-in detail c extra ts all.0 all.1, all.2)
+all-in detail c extra ts l all = all-by (IsElement detail extra) (IsElementIn detail c extra) (λ t b p. element-in c extra t b p) ts l all
 
--- What a list prints whose last elements may be nothing,
-pub list-text-before : (detail : Detail) (c : Context) (extra : ℕ) (ts : List Term) (tail : Term) (l : List ℕ) → IsTail tail → PrintAll detail extra ts l
+-- What a list prints in a context whose last elements may be nothing,
+pub list-text-before : (detail : Detail) (c : Context) (extra : ℕ) (ts : List Term) (tail : Term) (l : List ℕ) → IsTail tail → PrintAllIn detail c extra ts l
     → text_of (shown_by detail (list_part first c (list_with ts tail))) ≡ l
-list-text-before detail c extra ts tail l is all = first-text c extra ts tail all.0 1 (ends-list tail is) (each-in detail c extra ts all.0 all.1) ∙ all.2
+list-text-before detail c extra ts tail l is all = first-text c extra ts tail all.0 1 (ends-list tail is) all.1 ∙ all.2
 
 -- at a cost that its text bounds
-pub list-cost-before : (detail : Detail) (c : Context) (extra : ℕ) (ts : List Term) (tail : Term) (l : List ℕ) → extra ≤ 6 → IsTail tail → PrintAll detail extra ts l
-    → cost_of (shown_by detail (list_part first c (list_with ts tail))) ≤ 2 + extra + 4 * length l
-list-cost-before detail c extra ts tail l few is all =
-    omega (arith, first-cost c extra ts tail all.0 1 few (ends-list tail is) (each-in detail c extra ts all.0 all.1), ap length all.2)
+pub list-cost-before : (detail : Detail) (c : Context) (extra : ℕ) (ts : List Term) (tail : Term) (l : List ℕ) → extra ≤ 6 → IsTail tail
+    → PrintAllIn detail c extra ts l → cost_of (shown_by detail (list_part first c (list_with ts tail))) ≤ 2 + extra + 4 * length l
+list-cost-before detail c extra ts tail l few is all = omega (arith, first-cost c extra ts tail all.0 1 few (ends-list tail is) all.1, ap length all.2)
 
 -- What a list prints in a context,
 pub list-text-in : (detail : Detail) (c : Context) (extra : ℕ) (ts : List Term) (l : List ℕ) → PrintAllIn detail c extra ts l
@@ -211,14 +214,15 @@ each-closed extra (t ∷ ts) tail (b ∷ bs) most ends each = rw (each.0.is_clos
 each-closed extra [] tail (b ∷ bs) most ends each = elim each [ ]
 each-closed extra (t ∷ ts) tail [] most ends each = elim each [ ]
 
-each-packless : {detail : Detail} (scope : Term) (extra : ℕ) (ts : List Term) (tail : Term) (texts : List (List ℕ)) (most : ℕ) → EndsList detail most tail
-    → PrintEach detail extra ts texts
+each-packless : {detail : Detail} (scope : Term) (by : Term → List ℕ → Type 0) → ((t : Term) (b : List ℕ) → by t b → pack_length scope t ≡ None)
+    → (ts : List Term) (tail : Term) (texts : List (List ℕ)) (most : ℕ) → EndsList detail most tail → PrintEachBy by ts texts
     → pack_length scope (list_with ts tail) ≡ None
 unfolding pack_length first_of
-each-packless scope extra [] tail [] most ends each = ends.packless scope
-each-packless scope extra (t ∷ ts) tail (b ∷ bs) most ends each = rw (each.0.packless scope, each-packless scope extra ts tail bs most ends each.1) refl
-each-packless scope extra [] tail (b ∷ bs) most ends each = elim each [ ]
-each-packless scope extra (t ∷ ts) tail [] most ends each = elim each [ ]
+each-packless scope by none [] tail [] most ends each = ends.packless scope
+each-packless {detail = detail} scope by none (t ∷ ts) tail (b ∷ bs) most ends each =
+    rw (none t b each.0, each-packless {detail = detail} scope by none ts tail bs most ends each.1) refl
+each-packless scope by none [] tail (b ∷ bs) most ends each = elim each [ ]
+each-packless scope by none (t ∷ ts) tail [] most ends each = elim each [ ]
 
 -- No parameter is free in a list of such trees.
 pub list-closed : (detail : Detail) (extra : ℕ) (ts : List Term) (tail : Term) (l : List ℕ) → IsTail tail → PrintAll detail extra ts l
@@ -228,7 +232,8 @@ list-closed detail extra ts tail l is all = each-closed extra ts tail all.0 1 (e
 -- It names no packs.
 pub list-packless : (detail : Detail) (scope : Term) (extra : ℕ) (ts : List Term) (tail : Term) (l : List ℕ) → IsTail tail → PrintAll detail extra ts l
     → pack_length scope (list_with ts tail) ≡ None
-list-packless detail scope extra ts tail l is all = each-packless scope extra ts tail all.0 1 (ends-list tail is) all.1
+list-packless detail scope extra ts tail l is all =
+    each-packless {detail = detail} scope (IsElement detail extra) (λ t b p. p.packless scope) ts tail all.0 1 (ends-list tail is) all.1
 
 -- ## Elements are read one after the other
 
@@ -240,6 +245,16 @@ type-element extra t b r p = record {
   filled = p.filled;
   is_closed = p.is_closed;
   packless = p.packless;
+  void = p.void;
+}
+
+-- What prints in a context prints so as an element there.
+pub type-in : {detail : Detail} (c : Context) (extra most : ℕ) → extra ≤ most → (t : Term) (b : List ℕ) (r : Bool) → PrintsIn detail c extra t b r
+    → IsElementIn detail c most t b
+type-in c extra most few t b r p = record {
+  both_texts = rw (p.left_text, p.right_text) (append-nil b);
+  cost = omega (arith, p.cost, few);
+  filled = p.filled;
   void = p.void;
 }
 
@@ -320,3 +335,55 @@ pub next-prints-in : {detail : Detail} (c : Context) (extra : ℕ) (ts : List Te
     → IsElementIn detail c extra t b
     → PrintAllIn detail c extra (ts ++ t ∷ []) (in_front_of_next ts l ++ b)
 next-prints-in {detail} c extra ts l t b all p = next-prints-by (IsElementIn detail c extra) ts l t b all p
+
+-- ## Elements where parameters name arguments with these texts
+
+-- What is an element anywhere is one there,
+pub element-as : (detail : Detail) (names : Names) (is_dependent : Bool) (extra : ℕ) (t : Term) (b : List ℕ) → IsElement detail extra t b
+    → IsElementAs detail names is_dependent extra t b
+element-as detail names false extra t b p = p
+element-as detail names true extra t b p = record { prints = λ c given. element-in c extra t b p; packless = λ arguments single. p.packless arguments }
+
+pub element-given : (detail : Detail) (names : Names) (is_dependent : Bool) (extra : ℕ) (t : Term) (b : List ℕ) → IsElementAs detail names is_dependent extra t b
+    → IsElementGiven detail names extra t b
+element-given detail names false extra t b p = element-as detail names true extra t b p
+element-given detail names true extra t b p = p
+
+-- and so are all of a list.
+pub all-as : (detail : Detail) (names : Names) (is_dependent : Bool) (extra : ℕ) (ts : List Term) (l : List ℕ) → PrintAll detail extra ts l
+    → PrintAllAs detail names is_dependent extra ts l
+all-as detail names is_dependent extra ts l all =
+    all-by (IsElement detail extra) (IsElementAs detail names is_dependent extra) (λ t b p. element-as detail names is_dependent extra t b p) ts l all
+
+pub all-given : (detail : Detail) (names : Names) (is_dependent : Bool) (extra : ℕ) (ts : List Term) (l : List ℕ) → PrintAllAs detail names is_dependent extra ts l
+    → PrintAllAs detail names true extra ts l
+all-given detail names is_dependent extra ts l all =
+    all-by (IsElementAs detail names is_dependent extra) (IsElementGiven detail names extra) (λ t b p. element-given detail names is_dependent extra t b p) ts l all
+
+-- In a context where parameters name such arguments they print so.
+pub all-as-in : (detail : Detail) (names : Names) (is_dependent : Bool) (c : Context) (extra : ℕ) (ts : List Term) (l : List ℕ) → IsGiven detail names c
+    → PrintAllAs detail names is_dependent extra ts l → PrintAllIn detail c extra ts l
+all-as-in detail names is_dependent c extra ts l given all =
+    all-by (IsElementAs detail names is_dependent extra) (IsElementIn detail c extra) (λ t b p. (element-given detail names is_dependent extra t b p).prints c given) ts l all
+
+-- They name no packs if these arguments are none.
+pub list-packless-as : (detail : Detail) (names : Names) (is_dependent : Bool) (arguments : Term) (extra : ℕ) (ts : List Term) (tail : Term) (l : List ℕ)
+    → AreSingle names arguments → IsTail tail → PrintAllAs detail names is_dependent extra ts l → pack_length arguments (list_with ts tail) ≡ None
+list-packless-as detail names is_dependent arguments extra ts tail l single is all =
+    each-packless {detail = detail} arguments (IsElementAs detail names is_dependent extra) (λ t b p. (element-given detail names is_dependent extra t b p).packless arguments single)
+    ts tail all.0 1 (ends-list tail is) all.1
+
+-- A type is an element.
+pub type-element-as : (detail : Detail) (names : Names) (is_dependent : Bool) (t : Term) (b : List ℕ) (r : Bool) → PrintsAs detail names is_dependent t b r
+    → IsElementAs detail names is_dependent 3 t b
+type-element-as detail names false t b r p = type-element 3 t b r p
+type-element-as detail names true t b r p = record { prints = λ c given. type-in c 2 3 (omega arith) t b r (p.prints c given); packless = p.packless }
+
+-- No elements print nothing, and one more prints after those before it.
+pub none-print-as : (detail : Detail) (names : Names) (is_dependent : Bool) (extra : ℕ) → PrintAllAs detail names is_dependent extra [] []
+none-print-as detail names is_dependent extra = ([], tt, refl)
+
+pub next-prints-as : (detail : Detail) (names : Names) (is_dependent : Bool) (extra : ℕ) (ts : List Term) (l : List ℕ) (t : Term) (b : List ℕ)
+    → PrintAllAs detail names is_dependent extra ts l → IsElementAs detail names is_dependent extra t b
+    → PrintAllAs detail names is_dependent extra (ts ++ t ∷ []) (in_front_of_next ts l ++ b)
+next-prints-as detail names is_dependent extra ts l t b all p = next-prints-by (IsElementAs detail names is_dependent extra) ts l t b all p

@@ -1,5 +1,5 @@
 -- Names, types and arguments that are one text: source names, abbreviations, builtin types, booleans and integers.
-use Rattle.std.proofs.Common.{◌≡◌, ◌≢◌, refl, ap, Option, None, sym, ◌∙◌, ℕ, ◌+◌, ◌≤◌, List, [], ◌∷◌, ◌++◌, length, Bool, true, false, arith, codes, length-append, append-nil, subst, nat_eq, ◌||◌, inl, inr, cond, append_assoc}
+use Rattle.std.proofs.Common.{◌≡◌, ◌≢◌, refl, ap, Option, None, sym, ◌∙◌, ℕ, ◌+◌, ◌*◌, ◌≤◌, List, [], ◌∷◌, ◌++◌, length, Bool, true, false, arith, codes, length-append, append-nil, subst, nat_eq, ◌||◌, inl, inr, cond, append_assoc}
 use Rattle.std.proofs.lemmas.Bool.{eqb-true, false≢true}
 use Rattle.sym_print.specs.declared.detail.Detail.{Detail}
 use Rattle.sym_print.specs.Details.{has_arguments}
@@ -13,10 +13,11 @@ use Rattle.cpp_grammar.specs.Items.{Item, left, right, base, piece, closed, Cont
 use Rattle.cpp_grammar.specs.Meaning.{is_void}
 use Rattle.cpp_grammar.specs.Parts.{as_item, says, source_text, prefix_item, last_piece, opening_text, piece_parts, left_parts, right_parts, base_parts, parts_in, not_empty, is_plain_integer, text_part, sign_part, builtin_code, integer_parts}
 use Rattle.cpp_direct.specs.Names.{is_angle, operator_text}
-use Rattle.cpp_direct.specs.Prints.{written_of, EndsAsInteger, Prints, PrintsName, NamesClass, sign_text}
+use Rattle.cpp_direct.specs.Prints.{written_of, EndsAsInteger, Prints, PrintsIn, PrintsName, NamesClass, sign_text}
 use Rattle.cpp_direct.specs.WrittenParts.{IsUnmarked, unmarked_parts, written_in}
 use Rattle.cpp_direct.proofs.Unmarked.{source-unmarked, operator-unmarked, abbreviation-unmarked, builtin-unmarked, truth-unmarked, ending-unmarked, rest-unmarked}
 use Rattle.cpp_direct.proofs.PrintedParts.{text_shown, cost_shown, alone_shown, first_cost_shown, length-filled, shown_by, first_shown, text_append, cost_append, part-text, part-cost}
+use Rattle.cpp_direct.proofs.PrintedTypes.{made-prints}
 use Rattle.cpp_grammar.specs.Values.{normal}
 
 -- what a tree is beside its text at the left
@@ -59,27 +60,29 @@ nothing_besides c t = record {
   integer = false;
 }
 
--- a tree that is a name or a value, and nothing besides, prints its text
+-- a tree that is a name or a value, and nothing besides, prints its text in a context,
+pub own-in : {detail : Detail} (c : Context) (extra : ℕ) (t : Term) (bytes : List ℕ) → text_of (written_of detail left c t) ≡ bytes
+    → 1 + cost_of (written_of detail left c t) + cost_of (written_of detail right c t) ≤ extra + 4 * length bytes → besides c t ≡ nothing_besides c t
+    → PrintsIn detail c extra t bytes false
+unfolding besides parts_in not_empty right_parts head head_with is_reference is_funarr is_empty is_function_type is_void
+own-in {detail} c extra t bytes left_text cost is = record {
+  left_text = left_text;
+  right_text = text_shown detail right c t [] (ap (λ b. b.behind) is) refl;
+  cost = cost;
+  is_reference_head = ap (λ b. b.reference) is;
+  is_funarr_head = ap (λ b. b.function_or_array) is;
+  filled = ap (λ b. b.empty) is;
+  no_function = ap (λ b. b.function) is;
+  void = λ e. absurd (false≢true (sym (ap (λ b. b.void) is) ∙ e));
+}
+
+-- and anywhere
 pub own-prints : {detail : Detail} (t : Term) (bytes : List ℕ) → PrintsName detail t bytes → is_open t ≡ false → ((scope : Term) → pack_length scope t ≡ None)
     → opening_text (last_piece t) ≡ codes "<" → ((c : Context) → besides c t ≡ nothing_besides c t) → Prints detail t bytes false
-unfolding besides parts_in not_empty right_parts head head_with is_reference is_funarr is_empty is_function_type length_if_pack prefix_item is_void is_plain_integer
-own-prints {detail} t bytes n is_closed packless opening is = record {
-  left_text = n.left_text;
-  right_text = λ c. text_shown detail right c t [] (ap (λ b. b.behind) (is c)) refl;
-  cost = n.cost;
-  is_reference_head = λ c. ap (λ b. b.reference) (is c);
-  is_funarr_head = λ c. ap (λ b. b.function_or_array) (is c);
-  filled = λ c. ap (λ b. b.empty) (is c);
-  is_closed = is_closed;
-  packless = packless;
-  no_function = ap (λ b. b.function) (is closed);
-  no_pack = ap (λ b. b.pack) (is closed);
-  reference_cost = λ e. cc e;
-  as_prefix = λ c. ap (λ b. b.prefix) (is c);
-  opening = opening;
-  void = λ e. absurd (false≢true (sym (ap (λ b. b.void) (is closed)) ∙ e));
-  integer = λ e. absurd (false≢true (sym (ap (λ b. b.integer) (is closed)) ∙ e));
-}
+unfolding besides length_if_pack prefix_item is_plain_integer
+own-prints t bytes n is_closed packless opening is =
+    made-prints t bytes false (λ c. own-in c 0 t bytes (n.left_text c) (omega (arith, n.cost c)) (is c)) is_closed packless (ap (λ b. b.pack) (is closed))
+    (λ c. ap (λ b. b.prefix) (is c)) opening (λ e. absurd (false≢true (sym (ap (λ b. b.integer) (is closed)) ∙ e))) (λ e. cc e)
 
 -- a tree of which one text is written at the left, and nothing at the right, names something by it
 one-text-names : {detail : Detail} (t : Term) (b : List ℕ) → ((c : Context) → parts_in detail c left t ≡ text b ∷ [])

@@ -5,18 +5,20 @@ use Rattle.sym_print.specs.Details.{has_arguments}
 use Rattle.sym_print.specs.Unfold.{text}
 use Rattle.sym_print.specs.Unshared.{text_of, cost_of}
 use Rattle.cpp_grammar.specs.Term.{Term, within, instance, source, operator, constructor, destructor, in_std, tagged}
-use Rattle.cpp_grammar.specs.Scope.{is_open, pack_length, first_of, is_structor, without_tags}
+use Rattle.cpp_grammar.specs.Scope.{is_open, pack_length, length_if_pack, first_of, is_structor, without_tags}
+use Rattle.cpp_grammar.specs.References.{is_function_type}
 use Rattle.cpp_grammar.specs.Texts.{look_up, operator_texts}
 use Rattle.cpp_grammar.specs.Items.{left, right, base, piece, first, Context}
-use Rattle.cpp_grammar.specs.Parts.{as_item, says, list_part, source_text, prefix_item, last_piece, opening_text, own_piece, piece_parts, within_parts, base_within, base_tagged, instance_parts, left_parts, right_parts, base_parts, parts_in, not_empty}
+use Rattle.cpp_grammar.specs.Parts.{as_item, says, list_part, source_text, prefix_item, last_piece, opening_text, own_piece, piece_parts, within_parts, base_within, base_tagged, instance_parts, left_parts, right_parts, base_parts, parts_in, not_empty, is_plain_integer}
 use Rattle.cpp_direct.specs.Names.{is_angle, operator_text, tag_text}
-use Rattle.cpp_direct.specs.Prints.{written_of, Prints, PrintsName, NamesClass, PrintAll}
+use Rattle.cpp_direct.specs.Prints.{written_of, Prints, PrintsIn, PrintsAs, Names, PrintsName, NamesClass, PrintAll, PrintAllIn, PrintAllAs}
 use Rattle.cpp_direct.specs.WriterInvariant.{IsTail, list_with}
 use Rattle.cpp_direct.proofs.PrintedParts.{printed_by, shown_by, text_shown, cost_shown, alone_shown, first_cost_shown, writes_parts, text-append, cost-append, list-unmarked, first_shown}
 use Rattle.cpp_direct.specs.WrittenParts.{IsUnmarked, opening_byte, closing_byte, opening_bracket, closing_bracket, written_instance}
 use Rattle.cpp_direct.proofs.Unmarked.{source-unmarked, operator-unmarked}
-use Rattle.cpp_direct.proofs.PrintedNames.{besides, own-prints, source-filled, piece-text, piece-cost, operator-text, operator-cost, std-prints}
-use Rattle.cpp_direct.proofs.PrintedLists.{list-text-before, list-cost-before, list-closed, list-packless}
+use Rattle.cpp_direct.proofs.PrintedNames.{besides, own-in, own-prints, source-filled, piece-text, piece-cost, operator-text, operator-cost, std-prints}
+use Rattle.cpp_direct.proofs.PrintedLists.{list-text-before, list-cost-before, list-closed, list-packless, list-packless-as, all-in, all-as-in}
+use Rattle.cpp_direct.proofs.PrintedTypes.{prints-in, made-prints, made-given}
 use Rattle.cpp_grammar.specs.Between.{with_tag}
 
 -- a text, a mark and a text
@@ -84,48 +86,64 @@ within-is : {detail : Detail} (c : Context) (t p : Term) (x : List ℕ) → IsPi
     → within_parts c t p ≡ as_item left c t ∷ says "::" ∷ as_item piece c p ∷ []
 within-is c t p x is e = is.within_is c t ∙ ap (λ i. i ∷ says "::" ∷ as_item piece c p ∷ []) e
 
-within-text : {detail : Detail} (t : Term) (b : List ℕ) → Prints detail t b false → (p : Term) (x : List ℕ) → IsPiece detail p x → (c : Context)
-    → text_of (written_of detail left c (within t p)) ≡ b ++ codes "::" ++ x
+within-text : {detail : Detail} (c : Context) (t : Term) (b : List ℕ) → text_of (written_of detail left c t) ≡ b → prefix_item c t ≡ as_item left c t
+    → (p : Term) (x : List ℕ) → IsPiece detail p x → text_of (written_of detail left c (within t p)) ≡ b ++ codes "::" ++ x
 unfolding parts_in left_parts not_empty
-within-text {detail} t b prints p x is c =
-    text_shown detail left c (within t p) (as_item left c t ∷ says "::" ∷ as_item piece c p ∷ []) (within-is c t p x is (prints.as_prefix c)) refl
-    ∙ joins (text_of (written_of detail left c t)) (codes "::") (text_of (written_of detail piece c p)) b x (prints.left_text c) (is.piece_text c)
+within-text {detail} c t b text_is prefix p x is =
+    text_shown detail left c (within t p) (as_item left c t ∷ says "::" ∷ as_item piece c p ∷ []) (within-is c t p x is prefix) refl
+    ∙ joins (text_of (written_of detail left c t)) (codes "::") (text_of (written_of detail piece c p)) b x text_is (is.piece_text c)
 
-within-cost : {detail : Detail} (t : Term) (b : List ℕ) → Prints detail t b false → (p : Term) (x : List ℕ) → IsPiece detail p x → (c : Context)
+within-cost : {detail : Detail} (c : Context) (t : Term) → prefix_item c t ≡ as_item left c t → (p : Term) (x : List ℕ) → IsPiece detail p x
     → cost_of (written_of detail left c (within t p)) ≡ cost_of (written_of detail left c t) + 4 + length x
 unfolding parts_in left_parts not_empty
-within-cost {detail} t b prints p x is c =
+within-cost {detail} c t prefix p x is =
     omega (
       arith,
-      cost_shown detail left c (within t p) (as_item left c t ∷ says "::" ∷ as_item piece c p ∷ []) (within-is c t p x is (prints.as_prefix c)) refl,
+      cost_shown detail left c (within t p) (as_item left c t ∷ says "::" ∷ as_item piece c p ∷ []) (within-is c t p x is prefix) refl,
       is.piece_cost c,
     )
 
--- A piece in a class or a namespace names something by both.
+-- A piece in a class or a namespace prints both in a context,
+within-in : {detail : Detail} (c : Context) (extra : ℕ) (t : Term) (b : List ℕ) → PrintsIn detail c extra t b false → prefix_item c t ≡ as_item left c t
+    → (p : Term) (x : List ℕ) → IsPiece detail p x → PrintsIn detail c extra (within t p) (b ++ codes "::" ++ x) false
+unfolding parts_in right_parts not_empty besides
+within-in {detail} c extra t b prints prefix p x is =
+    let w = within t p in
+    own-in c extra w (b ++ codes "::" ++ x) (within-text c t b prints.left_text prefix p x is)
+    (omega (
+      arith,
+      prints.cost,
+      within-cost c t prefix p x is,
+      cost_shown detail right c w [] refl refl,
+      is.filled,
+      length-append (b ++ codes "::") x,
+      length-append b (codes "::"),
+    )) refl
+
+-- and names something by them.
 pub within-names : {detail : Detail} (t : Term) (b : List ℕ) → Prints detail t b false → (p : Term) (x : List ℕ) → IsPiece detail p x
     → PrintsName detail (within t p) (b ++ codes "::" ++ x)
-unfolding parts_in right_parts not_empty
-within-names {detail} t b prints p x is = let w = within t p in record {
-  left_text = within-text t b prints p x is;
-  cost = λ c. omega (
-    arith,
-    prints.cost c,
-    within-cost t b prints p x is c,
-    cost_shown detail right c w [] refl refl,
-    is.filled,
-    length-append (b ++ codes "::") x,
-    length-append b (codes "::"),
-  );
+within-names t b prints p x is = record {
+  left_text = λ c. (within-in c 0 t b (prints-in c 0 t b false prints) (prints.as_prefix c) p x is).left_text;
+  cost = λ c. omega (arith, (within-in c 0 t b (prints-in c 0 t b false prints) (prints.as_prefix c) p x is).cost);
 }
 
--- A piece in a class or a namespace prints both.
+-- It does so anywhere,
 pub within-prints : {detail : Detail} (t : Term) (b : List ℕ) → Prints detail t b false → (p : Term) (x : List ℕ) → IsPiece detail p x → opening_text p ≡ codes "<"
     → Prints detail (within t p) (b ++ codes "::" ++ x) false
-unfolding parts_in left_parts right_parts piece_parts not_empty is_open pack_length last_piece opening_text besides first_of
-within-prints {detail} t b prints p x is opening =
-    let w = within t p in
-    let n = within-names t b prints p x is in
-    own-prints w (b ++ codes "::" ++ x) n (rw (prints.is_closed, is.is_closed) refl) (λ scope. rw (prints.packless scope, is.packless scope) refl) opening (λ c. refl)
+unfolding is_open pack_length last_piece besides first_of
+within-prints t b prints p x is opening =
+    own-prints (within t p) (b ++ codes "::" ++ x) (within-names t b prints p x is) (rw (prints.is_closed, is.is_closed) refl)
+    (λ scope. rw (prints.packless scope, is.packless scope) refl) opening (λ c. refl)
+
+-- or where parameters name arguments with these texts.
+pub within-as : (detail : Detail) (names : Names) (is_dependent : Bool) (t : Term) (b : List ℕ) → PrintsAs detail names is_dependent t b false
+    → (p : Term) (x : List ℕ) → IsPiece detail p x → opening_text p ≡ codes "<" → PrintsAs detail names is_dependent (within t p) (b ++ codes "::" ++ x) false
+unfolding pack_length last_piece first_of is_function_type length_if_pack prefix_item
+within-as detail names false t b prints p x is opening = within-prints t b prints p x is opening
+within-as detail names true t b prints p x is opening =
+    made-given names (within t p) (b ++ codes "::" ++ x) false (λ c given. within-in c 2 t b (prints.prints c given) (prints.as_prefix c) p x is)
+    (λ arguments single. rw (prints.packless arguments single, is.packless arguments) refl) refl refl (λ c. refl) opening
 
 -- It names its class without what it is in.
 pub within-class : {detail : Detail} (t : Term) (b : List ℕ) → Prints detail t b false → (p : Term) (x : List ℕ) → IsPiece detail p x
@@ -136,12 +154,12 @@ within-class {detail} t b prints p x is = let w = within t p in record {
   base_cost = λ c. omega (
     arith,
     prints.cost c,
-    within-cost t b prints p x is c,
+    within-cost c t (prints.as_prefix c) p x is,
     cost_shown detail right c w [] refl refl,
     is.filled,
     cost_shown detail base c w (text x ∷ []) (is.base_is c t) refl,
     first_cost_shown detail x [],
-    ap length (within-text t b prints p x is c),
+    ap length (within-text c t b (prints.left_text c) (prints.as_prefix c) p x is),
     length-append (b ++ codes "::") x,
     length-append b (codes "::"),
   );
@@ -213,51 +231,72 @@ list-printed : (detail : Detail) (c : Context) (arguments : Term)
     → shown_by detail (list_part first c arguments) ≡ printed_by detail (list_part first c arguments)
 list-printed detail c arguments = ap (λ ps. printed_by detail ps) (list-unmarked (has_arguments detail) first c arguments)
 
-instance-text : {detail : Detail} (t : Term) (b : List ℕ) → Prints detail t b false
-    → (ts : List Term) (tail : Term) (l : List ℕ) → IsTail tail → PrintAll detail 3 ts l → (c : Context)
+instance-text : (detail : Detail) (c : Context) (t : Term) (b : List ℕ) → text_of (written_of detail left c t) ≡ b → opening_text (last_piece t) ≡ codes "<"
+    → (ts : List Term) (tail : Term) (l : List ℕ) → IsTail tail → PrintAllIn detail c 3 ts l
     → text_of (written_of detail left c (instance t (list_with ts tail))) ≡ b ++ opening_bracket detail ++ l ++ closing_bracket detail
 unfolding not_empty
-instance-text {detail} t b p ts tail l is all c =
+instance-text detail c t b text_is opening ts tail l is all =
     let arguments = list_part first c (list_with ts tail) in
     let ps = as_item left c t ∷ text (opening_bracket detail) ∷ arguments in
-    ap text_of (instance-is detail c t (list_with ts tail) p.opening)
+    ap text_of (instance-is detail c t (list_with ts tail) opening)
     ∙ text-append detail ps (text (closing_bracket detail) ∷ [])
-    ∙ bracketed (opening_bracket detail) (closing_bracket detail) b l (text_of (written_of detail left c t)) (text_of (printed_by detail arguments)) (p.left_text c)
+    ∙ bracketed (opening_bracket detail) (closing_bracket detail) b l (text_of (written_of detail left c t)) (text_of (printed_by detail arguments)) text_is
     (sym (ap text_of (list-printed detail c (list_with ts tail))) ∙ list-text-before detail c 3 ts tail l is all)
 
-instance-cost : {detail : Detail} (t : Term) (b : List ℕ) → Prints detail t b false
-    → (ts : List Term) (tail : Term) (l : List ℕ) → IsTail tail → PrintAll detail 3 ts l → (c : Context)
+instance-cost : (detail : Detail) (c : Context) (t : Term) → opening_text (last_piece t) ≡ codes "<"
+    → (ts : List Term) (tail : Term) (l : List ℕ) → IsTail tail → PrintAllIn detail c 3 ts l
     → cost_of (written_of detail left c (instance t (list_with ts tail))) ≤ cost_of (written_of detail left c t) + 7 + 4 * length l
 unfolding not_empty
-instance-cost {detail} t b p ts tail l is all c =
+instance-cost detail c t opening ts tail l is all =
     let ps = as_item left c t ∷ text (opening_bracket detail) ∷ list_part first c (list_with ts tail) in
     omega (
       arith,
-      ap cost_of (instance-is detail c t (list_with ts tail) p.opening),
+      ap cost_of (instance-is detail c t (list_with ts tail) opening),
       cost-append detail ps (text (closing_bracket detail) ∷ []),
       ap cost_of (list-printed detail c (list_with ts tail)),
       list-cost-before detail c 3 ts tail l (omega arith) is all,
     )
 
--- A name with arguments prints them in brackets.
+-- A name with arguments prints them in brackets in a context,
+instance-in : {detail : Detail} (c : Context) (extra : ℕ) (t : Term) (b : List ℕ) → PrintsIn detail c extra t b false → opening_text (last_piece t) ≡ codes "<"
+    → (ts : List Term) (tail : Term) (l : List ℕ) → IsTail tail → PrintAllIn detail c 3 ts l
+    → PrintsIn detail c extra (instance t (list_with ts tail)) (b ++ opening_bracket detail ++ l ++ closing_bracket detail) false
+unfolding parts_in right_parts not_empty besides
+instance-in {detail} c extra t b p opening ts tail l is all =
+    let i = instance t (list_with ts tail) in
+    own-in c extra i (b ++ opening_bracket detail ++ l ++ closing_bracket detail) (instance-text detail c t b p.left_text opening ts tail l is all)
+    (omega (
+      arith,
+      p.cost,
+      instance-cost detail c t opening ts tail l is all,
+      cost_shown detail right c i [] refl refl,
+      length-append (b ++ opening_bracket detail ++ l) (closing_bracket detail),
+      length-append (b ++ opening_bracket detail) l,
+      length-append b (opening_bracket detail),
+    )) refl
+
+-- anywhere,
 pub instance-prints : {detail : Detail} (t : Term) (b : List ℕ) → Prints detail t b false
     → (ts : List Term) (tail : Term) (l : List ℕ) → IsTail tail → PrintAll detail 3 ts l
     → Prints detail (instance t (list_with ts tail)) (b ++ opening_bracket detail ++ l ++ closing_bracket detail) false
-unfolding parts_in left_parts right_parts piece_parts not_empty is_open pack_length last_piece opening_text besides first_of
+unfolding is_open pack_length length_if_pack prefix_item last_piece opening_text is_plain_integer first_of
 instance-prints {detail} t b p ts tail l is all =
-    let i = instance t (list_with ts tail) in
-    own-prints i (b ++ opening_bracket detail ++ l ++ closing_bracket detail) (record {
-      left_text = instance-text t b p ts tail l is all;
-      cost = λ c. omega (
-        arith,
-        p.cost c,
-        instance-cost t b p ts tail l is all c,
-        cost_shown detail right c i [] refl refl,
-        length-append (b ++ opening_bracket detail ++ l) (closing_bracket detail),
-        length-append (b ++ opening_bracket detail) l,
-        length-append b (opening_bracket detail),
-      );
-    }) (rw (p.is_closed, list-closed detail 3 ts tail l is all) refl) (λ scope. rw (p.packless scope, list-packless detail scope 3 ts tail l is all) refl) refl (λ c. refl)
+    made-prints (instance t (list_with ts tail)) (b ++ opening_bracket detail ++ l ++ closing_bracket detail) false
+    (λ c. instance-in c 0 t b (prints-in c 0 t b false p) p.opening ts tail l is (all-in detail c 3 ts l all))
+    (rw (p.is_closed, list-closed detail 3 ts tail l is all) refl) (λ scope. rw (p.packless scope, list-packless detail scope 3 ts tail l is all) refl)
+    refl (λ c. refl) refl (λ e. cc e) (λ e. cc e)
+
+-- or where parameters name arguments with these texts.
+pub instance-as : (detail : Detail) (names : Names) (is_dependent : Bool) (t : Term) (b : List ℕ) → PrintsAs detail names is_dependent t b false
+    → (ts : List Term) (tail : Term) (l : List ℕ) → IsTail tail → PrintAllAs detail names is_dependent 3 ts l
+    → PrintsAs detail names is_dependent (instance t (list_with ts tail)) (b ++ opening_bracket detail ++ l ++ closing_bracket detail) false
+unfolding pack_length is_function_type length_if_pack prefix_item last_piece opening_text first_of
+instance-as detail names false t b p ts tail l is all = instance-prints t b p ts tail l is all
+instance-as detail names true t b p ts tail l is all =
+    made-given names (instance t (list_with ts tail)) (b ++ opening_bracket detail ++ l ++ closing_bracket detail) false
+    (λ c given. instance-in c 2 t b (p.prints c given) p.opening ts tail l is (all-as-in detail names true c 3 ts l given all))
+    (λ arguments single. rw (p.packless arguments single, list-packless-as detail names true arguments 3 ts tail l single is all) refl)
+    refl refl (λ c. refl) refl
 
 -- Its class is named without them.
 pub instance-class : {detail : Detail} (t : Term) (b class : List ℕ) → Prints detail t b false → NamesClass detail t class
@@ -270,10 +309,10 @@ instance-class {detail} t b class p n ts tail l is all = let i = instance t (lis
     arith,
     n.base_cost c,
     ap length (p.left_text c),
-    instance-cost t b p ts tail l is all c,
+    instance-cost detail c t p.opening ts tail l is (all-in detail c 3 ts l all),
     cost_shown detail right c i [] refl refl,
     cost_shown detail base c i (as_item base c t ∷ []) refl refl,
-    ap length (instance-text t b p ts tail l is all c),
+    ap length (instance-text detail c t b (p.left_text c) p.opening ts tail l is (all-in detail c 3 ts l all)),
     length-append (b ++ opening_bracket detail ++ l) (closing_bracket detail),
     length-append (b ++ opening_bracket detail) l,
     length-append b (opening_bracket detail),
@@ -299,12 +338,12 @@ tag-length b tag = omega (
   length-append (codes "[abi:") tag,
 )
 
-tagged-left : (detail : Detail) (of_structor : Bool) (t : Term) (b tag : List ℕ) → IsUnmarked tag → ((c : Context) → text_of (written_of detail left c t) ≡ b) → (c : Context)
+tagged-left : (detail : Detail) (of_structor : Bool) (t : Term) (b tag : List ℕ) → IsUnmarked tag → (c : Context) → text_of (written_of detail left c t) ≡ b
     → text_of (written_of detail left c (tagged of_structor t tag)) ≡ b ++ tag_text tag
 unfolding parts_in left_parts not_empty
-tagged-left detail of_structor t b tag plain prints c =
+tagged-left detail of_structor t b tag plain c text_is =
     text_shown detail left c (tagged of_structor t tag) (as_item left c t ∷ says "[abi:" ∷ text tag ∷ says "]" ∷ []) refl refl
-    ∙ ap (λ l. text_of (written_of detail left c t) ++ l) (behind-text detail tag plain) ∙ ap (λ l. l ++ tag_text tag) (prints c)
+    ∙ ap (λ l. text_of (written_of detail left c t) ++ l) (behind-text detail tag plain) ∙ ap (λ l. l ++ tag_text tag) text_is
 
 tagged-cost : (detail : Detail) (of_structor : Bool) (t : Term) (tag : List ℕ) (c : Context)
     → cost_of (written_of detail left c (tagged of_structor t tag)) ≡ cost_of (written_of detail left c t) + 7 + length tag
@@ -315,14 +354,23 @@ tagged-cost detail of_structor t tag c = omega (
   behind-cost detail tag,
 )
 
+tagged-costs : (detail : Detail) (extra : ℕ) (of_structor : Bool) (t : Term) (b tag : List ℕ) (c : Context)
+    → 1 + cost_of (written_of detail left c t) + cost_of (written_of detail right c t) ≤ extra + 4 * length b
+    → 1 + cost_of (written_of detail left c (tagged of_structor t tag)) + cost_of (written_of detail right c (tagged of_structor t tag))
+    ≤ extra + 4 * length (b ++ tag_text tag)
+unfolding parts_in right_parts not_empty
+tagged-costs detail extra of_structor t b tag c cost =
+    omega (arith, cost, tagged-cost detail of_structor t tag c, cost_shown detail right c (tagged of_structor t tag) [] refl refl, tag-length b tag)
+
 -- A name with a tag prints it after itself.
 pub tagged-names : {detail : Detail} (of_structor : Bool) (t : Term) (b : List ℕ) → PrintsName detail t b → (tag : List ℕ) → IsUnmarked tag
     → PrintsName detail (tagged of_structor t tag) (b ++ tag_text tag)
-unfolding parts_in right_parts not_empty
 tagged-names {detail} of_structor t b p tag plain = record {
-  left_text = tagged-left detail of_structor t b tag plain p.left_text;
-  cost = λ c. omega (arith, p.cost c, tagged-cost detail of_structor t tag c, cost_shown detail right c (tagged of_structor t tag) [] refl refl, tag-length b tag);
+  left_text = λ c. tagged-left detail of_structor t b tag plain c (p.left_text c);
+  cost = λ c. omega (arith, tagged-costs detail 0 of_structor t b tag c (omega (arith, p.cost c)));
 }
+
+-- A type with one does so,
 
 pub tagged-prints : {detail : Detail} (of_structor : Bool) (t : Term) (b : List ℕ) → Prints detail t b false → (tag : List ℕ) → IsUnmarked tag
     → Prints detail (tagged of_structor t tag) (b ++ tag_text tag) false
@@ -331,6 +379,18 @@ tagged-prints {detail} of_structor t b p tag plain =
     let w = tagged of_structor t tag in
     let n = tagged-names of_structor t b (record { left_text = p.left_text; cost = p.cost }) tag plain in
     own-prints w (b ++ tag_text tag) n p.is_closed p.packless refl (λ c. refl)
+
+-- also where parameters name arguments with these texts.
+pub tagged-as : (detail : Detail) (names : Names) (is_dependent of_structor : Bool) (t : Term) (b : List ℕ) → PrintsAs detail names is_dependent t b false
+    → (tag : List ℕ) → IsUnmarked tag → PrintsAs detail names is_dependent (tagged of_structor t tag) (b ++ tag_text tag) false
+unfolding besides pack_length last_piece opening_text is_function_type length_if_pack prefix_item
+tagged-as detail names false of_structor t b p tag plain = tagged-prints of_structor t b p tag plain
+tagged-as detail names true of_structor t b p tag plain =
+    let w = tagged of_structor t tag in
+    made-given names w (b ++ tag_text tag) false
+    (λ c given. own-in c 2 w (b ++ tag_text tag) (tagged-left detail of_structor t b tag plain c (p.prints c given).left_text)
+    (tagged-costs detail 2 of_structor t b tag c (p.prints c given).cost) refl)
+    p.packless refl refl (λ c. refl) refl
 
 -- Where its class has this text at the base it names its class so.
 names-by : {detail : Detail} (of_structor : Bool) (t : Term) (b : List ℕ) → Prints detail t b false → (tag class : List ℕ) → IsUnmarked tag
@@ -346,7 +406,7 @@ names-by {detail} of_structor t b p tag class plain base_text base_cost = record
     base_cost c,
     tagged-cost detail of_structor t tag c,
     cost_shown detail right c (tagged of_structor t tag) [] refl refl,
-    ap length (tagged-left detail of_structor t b tag plain p.left_text c),
+    ap length (tagged-left detail of_structor t b tag plain c (p.left_text c)),
     tag-length b tag,
   );
 }
@@ -390,7 +450,7 @@ again-tagged {detail} true t b p before tag class first_plain plain n =
         cost_shown detail right c all [] refl refl,
         cost_shown detail right c own [] refl refl,
         cost_shown detail base c all (as_item base c own ∷ []) refl refl,
-        ap length (tagged-left detail true own (b ++ tag_text before) tag plain prints.left_text c),
+        ap length (tagged-left detail true own (b ++ tag_text before) tag plain c (prints.left_text c)),
         ap length (prints.left_text c),
         tag-length (b ++ tag_text before) tag,
       );
@@ -410,7 +470,7 @@ again-tagged {detail} false t b p before tag class first_plain plain n =
         cost_shown detail right c own [] refl refl,
         cost_shown detail base c all (piece_parts c (own_piece (without_tags t))) refl refl,
         cost_shown detail base c own (piece_parts c (own_piece (without_tags t))) refl refl,
-        ap length (tagged-left detail false own (b ++ tag_text before) tag plain prints.left_text c),
+        ap length (tagged-left detail false own (b ++ tag_text before) tag plain c (prints.left_text c)),
         ap length (prints.left_text c),
         tag-length (b ++ tag_text before) tag,
       );

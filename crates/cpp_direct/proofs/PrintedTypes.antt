@@ -6,17 +6,17 @@ use Rattle.sym_print.specs.Details.{has_arguments}
 use Rattle.sym_print.specs.Unfold.{text}
 use Rattle.cpp_direct.specs.WrittenParts.{IsUnmarked, unmarked_parts, written_in}
 use Rattle.cpp_direct.proofs.PrintedParts.{text_shown, cost_shown, alone_shown, first_cost_shown, shown_by}
-use Rattle.cpp_direct.specs.Prints.{Prints, PrintsIn, EndsAsInteger, written_of, NamesArgument, IsElementIn, PrintEachBy, PrintAllBy, forwarded, joined, list_of}
+use Rattle.cpp_direct.specs.Prints.{Prints, PrintsIn, PrintsGiven, PrintsAs, Names, IsGiven, AreSingle, EndsAsInteger, written_of, IsElementIn, PrintEachBy, PrintAllBy, forwarded, joined, list_of}
 use Rattle.cpp_grammar.specs.Items.{closed, Form, left, right, low, Context, Head, lref, collapsed, head_with, head, is_reference, is_funarr, is_empty, argument, head_closed, expand, indexed, packs_of, is_none_of}
 use Rattle.cpp_grammar.specs.Meaning.{is_void}
 use Rattle.cpp_grammar.specs.Parts.{as_item, says, text_part, qualifier_text, prefix_item, last_piece, opening_text, marked_parts, reference_parts, qualified_left, qualified_right, closing_right, left_parts, right_parts, parts_in, not_empty, is_plain_integer, at_index, comma_before, expand_parts, expand_rest, expansion_parts, is_below, types_of}
 use Rattle.cpp_grammar.specs.References.{is_function_type}
 use Rattle.cpp_grammar.specs.Scope.{is_open, pack_length, length_if_pack, arguments_of, count, element}
 use Rattle.cpp_grammar.specs.Term.{Qualifiers, Term, function_type, pointer, lvalue, rvalue, qualified, parameter, expansion, pack, nil, list}
-use Rattle.std.proofs.Common.{◌≡◌, refl, ap, ◌∙◌, ℕ, ◌+◌, ◌*◌, ◌≤◌, List, [], ◌∷◌, ◌++◌, length, Bool, true, false, None, arith, codes, length-append, sym, subst, append-nil, append_assoc, ◌≢◌, slice_get, Option, Some, zero, suc, ◌<◌, nat_lt, nat_eq}
+use Rattle.std.proofs.Common.{◌≡◌, refl, ap, ◌∙◌, ℕ, ◌+◌, ◌*◌, ◌≤◌, List, [], ◌∷◌, ◌++◌, length, Bool, true, false, None, arith, codes, length-append, sym, subst, append-nil, ◌≢◌, slice_get, Option, Some, zero, suc, ◌<◌, nat_lt, nat_eq}
 use Rattle.sym_print.specs.Unshared.{text_of, cost_of}
 use Rattle.cpp_direct.specs.MidStep.{PrintsForwarded}
-use Rattle.cpp_direct.proofs.PrintedLists.{further, joined-further}
+use Rattle.cpp_direct.proofs.PrintedLists.{further, joined-further, type-in}
 
 marked : (c : Context) (t : Term) (mark : String) → is_funarr (head c t) ≡ false → marked_parts c t mark ≡ as_item left c t ∷ says mark ∷ []
 unfolding marked_parts
@@ -45,7 +45,7 @@ prints-in c extra t b r p = record {
 }
 
 -- What prints in each context prints anywhere, if it is closed and names no packs.
-made-prints : {detail : Detail} (t : Term) (b : List ℕ) (r : Bool) → ((c : Context) → PrintsIn detail c 0 t b r) → is_open t ≡ false
+pub made-prints : {detail : Detail} (t : Term) (b : List ℕ) (r : Bool) → ((c : Context) → PrintsIn detail c 0 t b r) → is_open t ≡ false
     → ((scope : Term) → pack_length scope t ≡ None)
     → length_if_pack t ≡ None → ((c : Context) → prefix_item c t ≡ as_item left c t) → opening_text (last_piece t) ≡ codes "<"
     → (is_plain_integer t ≡ true → EndsAsInteger b)
@@ -67,6 +67,53 @@ made-prints t b r h is_closed packless no_pack as_prefix opening integer referen
   void = (h closed).void;
   integer = integer;
 }
+
+-- What prints in each context where parameters name arguments with these texts prints so where they do.
+pub made-given : {detail : Detail} (names : Names) (t : Term) (b : List ℕ) (r : Bool) → ((c : Context) → IsGiven detail names c → PrintsIn detail c 2 t b r)
+    → ((arguments : Term) → AreSingle names arguments → pack_length arguments t ≡ None) → is_function_type t ≡ false → length_if_pack t ≡ None
+    → ((c : Context) → prefix_item c t ≡ as_item left c t) → opening_text (last_piece t) ≡ codes "<" → PrintsGiven detail names t b r
+made-given names t b r prints packless no_function no_pack as_prefix opening =
+    record { prints = prints; packless = packless; no_function = no_function; no_pack = no_pack; as_prefix = as_prefix; opening = opening }
+
+-- ## Where parameters name arguments with these texts
+
+-- What prints anywhere prints there,
+pub prints-given : {detail : Detail} (names : Names) (t : Term) (b : List ℕ) (r : Bool) → Prints detail t b r → PrintsGiven detail names t b r
+prints-given names t b r p =
+    made-given names t b r (λ c given. prints-in c 2 t b r p) (λ arguments single. p.packless arguments) p.no_function p.no_pack p.as_prefix p.opening
+
+pub prints-as : (detail : Detail) (names : Names) (is_dependent : Bool) (t : Term) (b : List ℕ) (r : Bool) → Prints detail t b r
+    → PrintsAs detail names is_dependent t b r
+prints-as detail names false t b r p = p
+prints-as detail names true t b r p = prints-given names t b r p
+
+pub prints-as-given : (detail : Detail) (names : Names) (is_dependent : Bool) (t : Term) (b : List ℕ) (r : Bool) → PrintsAs detail names is_dependent t b r
+    → PrintsGiven detail names t b r
+prints-as-given detail names false t b r p = prints-given names t b r p
+prints-as-given detail names true t b r p = p
+
+-- and so does what needs none of them.
+pub given-more : {detail : Detail} (names : Names) (t : Term) (b : List ℕ) (r : Bool) → PrintsGiven detail (λ k. None) t b r → PrintsGiven detail names t b r
+given-more names t b r p =
+    made-given names t b r (λ c given. p.prints c (λ k own e. cc e)) (λ arguments single. p.packless arguments (λ k own e. cc e)) p.no_function p.no_pack p.as_prefix p.opening
+
+-- In a context where they do it prints so.
+pub as-in : (detail : Detail) (names : Names) (is_dependent : Bool) (c : Context) (t : Term) (b : List ℕ) (r : Bool) → IsGiven detail names c
+    → PrintsAs detail names is_dependent t b r → PrintsIn detail c 2 t b r
+as-in detail names is_dependent c t b r given p = (prints-as-given detail names is_dependent t b r p).prints c given
+
+-- So it is one of a function's parameters.
+pub type-element-in : {detail : Detail} (c : Context) (t : Term) (b : List ℕ) (r : Bool) → PrintsIn detail c 2 t b r → IsElementIn detail c 6 t b
+type-element-in c t b r p = type-in c 2 6 (omega arith) t b r p
+
+-- The types of a function's name are such a context if its arguments have these texts.
+pub types-given : {detail : Detail} (names : Names) (name all : Term) → arguments_of name ≡ Some all
+    → ((k : ℕ) (b : List ℕ) → names k ≡ Some b → (own : Term) × (element all k ≡ own) × Prints detail own b false) → IsGiven detail names (types_of name)
+unfolding argument types_of indexed
+types-given {detail} names name all e known k b is =
+    let own = known k b is in
+    let there : argument (types_of name) k ≡ own.0 = rw e own.1 in
+    subst (λ t. Prints detail t b false) (sym there) own.2
 
 -- ## Marks
 
@@ -124,6 +171,13 @@ pointer-prints t b r p =
     made-prints (pointer t) (b ++ codes "*") false (λ c. pointer-in c 0 t b r (prints-in c 0 t b r p)) p.is_closed p.packless refl (λ c. refl) refl (λ e. cc e)
     (λ e. cc e)
 
+pub pointer-as : (detail : Detail) (names : Names) (is_dependent : Bool) (t : Term) (b : List ℕ) (r : Bool) → PrintsAs detail names is_dependent t b r
+    → PrintsAs detail names is_dependent (pointer t) (b ++ codes "*") false
+unfolding pack_length is_function_type length_if_pack prefix_item last_piece opening_text
+pointer-as detail names false t b r p = pointer-prints t b r p
+pointer-as detail names true t b r p =
+    made-given names (pointer t) (b ++ codes "*") false (λ c given. pointer-in c 2 t b r (p.prints c given)) p.packless refl refl (λ c. refl) refl
+
 -- An lvalue reference prints its type, which is no reference, and its mark.
 lvalue-marks : (detail : Detail) (c : Context) (t : Term) → is_reference (head c t) ≡ false → is_funarr (head c t) ≡ false → IsMarked detail c t (lvalue t) (codes "&")
 unfolding parts_in left_parts right_parts
@@ -146,6 +200,13 @@ lvalue-prints {detail} t b p =
       length-append b (codes "&"),
       marked-cost c t (lvalue t) (codes "&") (lvalue-marks detail c t (p.is_reference_head c) (p.is_funarr_head c)),
     ))
+
+pub lvalue-as : (detail : Detail) (names : Names) (is_dependent : Bool) (t : Term) (b : List ℕ) → PrintsAs detail names is_dependent t b false
+    → PrintsAs detail names is_dependent (lvalue t) (b ++ codes "&") true
+unfolding pack_length is_function_type length_if_pack prefix_item last_piece opening_text
+lvalue-as detail names false t b p = lvalue-prints t b p
+lvalue-as detail names true t b p =
+    made-given names (lvalue t) (b ++ codes "&") true (λ c given. lvalue-in c 2 t b (p.prints c given)) p.packless refl refl (λ c. refl) refl
 
 collapsed-refers : (h : Head) → is_reference (collapsed h) ≡ true
 unfolding is_reference collapsed
@@ -180,6 +241,13 @@ rvalue-prints {detail} t b p =
       length-append b (codes "&&"),
       marked-cost c t (rvalue t) (codes "&&") (rvalue-marks detail c t (p.is_reference_head c) (p.is_funarr_head c)),
     ))
+
+pub rvalue-as : (detail : Detail) (names : Names) (is_dependent : Bool) (t : Term) (b : List ℕ) → PrintsAs detail names is_dependent t b false
+    → PrintsAs detail names is_dependent (rvalue t) (b ++ codes "&&") true
+unfolding pack_length is_function_type length_if_pack prefix_item last_piece opening_text
+rvalue-as detail names false t b p = rvalue-prints t b p
+rvalue-as detail names true t b p =
+    made-given names (rvalue t) (b ++ codes "&&") true (λ c given. rvalue-in c 2 t b (p.prints c given)) p.packless refl refl (λ c. refl) refl
 
 -- the qualifiers of a type that is declared const
 abbrev pub constant : Qualifiers
@@ -217,16 +285,14 @@ const-prints t b p =
     made-prints (qualified constant t) (b ++ codes " const") false (λ c. const-in c 0 t b (prints-in c 0 t b false p)) p.is_closed p.packless refl (λ c. refl) refl (λ e. cc e)
     (λ e. cc e)
 
--- ## Types that name the argument of a function's template
+pub const-as : (detail : Detail) (names : Names) (is_dependent : Bool) (t : Term) (b : List ℕ) → PrintsAs detail names is_dependent t b false
+    → PrintsAs detail names is_dependent (qualified constant t) (b ++ codes " const") false
+unfolding pack_length is_function_type length_if_pack prefix_item last_piece opening_text
+const-as detail names false t b p = const-prints t b p
+const-as detail names true t b p =
+    made-given names (qualified constant t) (b ++ codes " const") false (λ c given. const-in c 2 t b (p.prints c given)) p.packless refl refl (λ c. refl) refl
 
--- What prints in a context prints so as an element.
-pub type-element-in : {detail : Detail} (c : Context) (t : Term) (b : List ℕ) (r : Bool) → PrintsIn detail c 2 t b r → IsElementIn detail c 6 t b
-type-element-in c t b r p = record {
-  both_texts = rw (p.left_text, p.right_text) (append-nil b);
-  cost = omega (arith, p.cost);
-  filled = p.filled;
-  void = p.void;
-}
+-- ## Parameters
 
 -- A parameter prints the argument that it names.
 pub parameter-in : {detail : Detail} (c : Context) (k : ℕ) (b : List ℕ) (r : Bool) → Prints detail (argument c k) b r → PrintsIn detail c 2 (parameter k) b r
@@ -250,13 +316,11 @@ parameter-in {detail} c k b r p =
       void = λ e. cc e;
     }
 
-pub parameter-prints : {detail : Detail} (k : ℕ) → NamesArgument detail k (parameter k) [] false
-unfolding pack_length is_function_type
-parameter-prints {detail} k = record {
-  prints = λ c b p. subst (λ l. PrintsIn detail c 2 (parameter k) l false) (sym (append-nil b)) (parameter-in c k b false p);
-  packless = λ scope h. h;
-  no_function = refl;
-}
+-- It does so where the argument has this text.
+pub parameter-given : {detail : Detail} (names : Names) (k : ℕ) (b : List ℕ) → names k ≡ Some b → PrintsGiven detail names (parameter k) b false
+unfolding pack_length is_function_type length_if_pack prefix_item last_piece opening_text
+parameter-given names k b e =
+    made-given names (parameter k) b false (λ c given. parameter-in c k b false (given k b e)) (λ arguments single. single k b e) refl refl (λ c. refl) refl
 
 -- An rvalue reference to a reference prints what this does.
 pub rvalue-again : {detail : Detail} (c : Context) (b : List ℕ) → Prints detail (argument c 0) b true → PrintsIn detail c 3 (rvalue (parameter 0)) b true
@@ -284,41 +348,6 @@ rvalue-again {detail} c b p =
       no_function = refl;
       void = λ e. cc e;
     }
-
--- With a mark after it a type that names the argument prints that too.
-pub pointer-behind : {detail : Detail} (k : ℕ) (t : Term) (m : List ℕ) (r : Bool) → NamesArgument detail k t m r
-    → NamesArgument detail k (pointer t) (m ++ codes "*") false
-unfolding pack_length is_function_type
-pointer-behind {detail} k t m r h = record {
-  prints = λ c b p. subst (λ l. PrintsIn detail c 2 (pointer t) l false) (append_assoc b m (codes "*")) (pointer-in c 2 t (b ++ m) r (h.prints c b p));
-  packless = h.packless;
-  no_function = refl;
-}
-
-pub lvalue-behind : {detail : Detail} (k : ℕ) (t : Term) (m : List ℕ) → NamesArgument detail k t m false → NamesArgument detail k (lvalue t) (m ++ codes "&") true
-unfolding pack_length is_function_type
-lvalue-behind {detail} k t m h = record {
-  prints = λ c b p. subst (λ l. PrintsIn detail c 2 (lvalue t) l true) (append_assoc b m (codes "&")) (lvalue-in c 2 t (b ++ m) (h.prints c b p));
-  packless = h.packless;
-  no_function = refl;
-}
-
-pub rvalue-behind : {detail : Detail} (k : ℕ) (t : Term) (m : List ℕ) → NamesArgument detail k t m false → NamesArgument detail k (rvalue t) (m ++ codes "&&") true
-unfolding pack_length is_function_type
-rvalue-behind {detail} k t m h = record {
-  prints = λ c b p. subst (λ l. PrintsIn detail c 2 (rvalue t) l true) (append_assoc b m (codes "&&")) (rvalue-in c 2 t (b ++ m) (h.prints c b p));
-  packless = h.packless;
-  no_function = refl;
-}
-
-pub const-behind : {detail : Detail} (k : ℕ) (t : Term) (m : List ℕ) → NamesArgument detail k t m false
-    → NamesArgument detail k (qualified constant t) (m ++ codes " const") false
-unfolding pack_length is_function_type
-const-behind {detail} k t m h = record {
-  prints = λ c b p. subst (λ l. PrintsIn detail c 2 (qualified constant t) l false) (append_assoc b m (codes " const")) (const-in c 2 t (b ++ m) (h.prints c b p));
-  packless = h.packless;
-  no_function = refl;
-}
 
 -- ## Expansions
 

@@ -1,28 +1,21 @@
 -- What a parameter of a template may name, and where it is.
 use Rattle.sym_print.specs.declared.detail.Detail.{Detail}
-use Rattle.std.proofs.Common.{◌≡◌, ℕ, zero, suc, ◌<◌, List, [], ◌∷◌, ◌++◌, slice_get, Some, None, arith, ap, sym, ◌∙◌, subst, append_assoc, refl, inl, inr, Bool, true, false}
+use Rattle.std.proofs.Common.{◌≡◌, ℕ, zero, suc, ◌<◌, List, [], ◌∷◌, ◌++◌, slice_get, Some, None, is_some, arith, ap, sym, ◌∙◌, subst, refl, inl, inr, Bool, true, false}
+use Rattle.std.proofs.lemmas.Bool.{false≢true}
 use Rattle.cpp_grammar.specs.Scope.{count, element, arguments_of, before_arguments, has_return_type, is_structor}
 use Rattle.cpp_grammar.specs.Term.{Term, instance}
 use Rattle.cpp_grammar.specs.Values.{Around}
+use Rattle.cpp_grammar.specs.Between.{inside}
 use Rattle.cpp_direct.specs.declared.open.Mark.{Mark}
 use Rattle.cpp_direct.specs.declared.open.Open.{Open}
 use Rattle.cpp_direct.specs.declared.open.Open.TheVariants as opens
 use Rattle.cpp_direct.specs.declared.open.Argument.{Argument}
 use Rattle.cpp_direct.specs.declared.open.Arguments.{Arguments}
-use Rattle.cpp_direct.specs.WriterInvariant.{IsArgument, IsPlaced, IsAmong, AreAmong, IsEnclosing, HasArguments, HasScope, IsEncodingOf, IsFunction, IsKnown, IsScoped, argument_of, list_with, named_in, nowhere, place_of}
+use Rattle.cpp_direct.specs.WriterInvariant.{IsArgument, IsAmong, AreAmong, HasArguments, HasScope, IsFunction, IsKnown, IsScope, IsScoped, Scope, argument_of, list_with, nowhere, place_of}
 use Rattle.cpp_direct.specs.MidStep.{AreKnown}
+use Rattle.cpp_direct.proofs.Kept.{placed-stays}
 
--- what is at a place stays there where more is written
-pub placed-stays : (text more : List ℕ) (p : Argument) (bytes : List ℕ) → IsPlaced text p bytes → IsPlaced (text ++ more) p bytes
-placed-stays text more p bytes h = record {
-  front = h.front;
-  back = h.back ++ more;
-  written = ap (λ l. l ++ more) h.written ∙ append_assoc (h.front ++ bytes) h.back more;
-  from_is = h.from_is;
-  to_is = h.to_is;
-}
-
--- and so do the arguments of a name
+-- the arguments of a name stay at their places where more is written
 pub arguments-stay : {detail : Detail} (text more : List ℕ) (a : Arguments) (name : Term) → HasArguments detail text a name
     → HasArguments detail (text ++ more) a name
 arguments-stay text more a name has k o = let h = has k o in record {
@@ -76,57 +69,45 @@ none-known (suc (suc (suc zero))) o = absurd (omega (arith, o))
 none-known (suc (suc (suc (suc k)))) o = absurd (omega (arith, o))
 
 -- and a function's
-pub function-stays : {detail : Detail} (text more : List ℕ) (p : Arguments) (mark : Mark) (make : Term → Term) (ts : List Term) (name texts : List ℕ)
-    → IsFunction detail text p mark make ts name texts → IsFunction detail (text ++ more) p mark make ts name texts
+pub function-stays : {detail : Detail} {scope : Scope} (text more : List ℕ) (p : Arguments) (mark : Mark) (make : Term → Term) (ts : List Term) (name texts : List ℕ)
+    → IsFunction detail scope text p mark make ts name texts → IsFunction detail scope (text ++ more) p mark make ts name texts
 function-stays text more p mark make ts name texts f = record {
   own = f.own;
   makes = f.makes;
   prints = f.prints;
   elements = f.elements;
   names = arguments-stay text more p f.own f.names;
+  given = f.given;
+  named = f.named;
 }
 
--- and that of a function in which a type is
-pub enclosing-stays : {detail : Detail} (text more : List ℕ) (p : Arguments) (mark : Mark) (make : Term → Term) (ts : List Term) (name texts : List ℕ)
-    → IsEnclosing detail text p mark make ts name texts → IsEnclosing detail (text ++ more) p mark make ts name texts
-enclosing-stays text more p mark make ts name texts f = record {
-  own = f.own;
-  returned = f.returned;
-  makes = f.makes;
-  prints = f.prints;
-  elements = f.elements;
-  names = arguments-stay text more p f.own f.names;
-}
-
-scoped-by : (around : Around) (p q : Arguments) → q ≡ p → HasScope p around → HasScope q around
-scoped-by around p q e h = subst (λ (k : Arguments). HasScope k around) (sym e) h
+scoped-by : (scope : Scope) (around : Around) (p q : Arguments) → q ≡ p → scope.arguments ≡ p → HasScope p around
+    → (scope.arguments ≡ q) × HasScope q around
+scoped-by scope around p q e named h = (named ∙ sym e, subst (λ (k : Arguments). HasScope k around) (sym e) h)
 
 -- a parameter of a function may name its arguments
-pub parameters-scoped : (around : Around) (mark : Mark) (start : ℕ) (p : Arguments) (rest : List Open) → HasScope p around
-    → IsScoped around (opens.Parameters mark start p ∷ rest)
-parameters-scoped around mark start p rest h q e = scoped-by around p q (cc e) h
+pub parameters-scoped : (scope : Scope) (around : Around) (mark : Mark) (start : ℕ) (p : Arguments) (rest : List Open) → scope.arguments ≡ p
+    → HasScope p around → IsScoped scope around (opens.Parameters mark start p ∷ rest)
+parameters-scoped scope around mark start p rest named h q e = scoped-by scope around p q (cc e) named h
 
 -- and so may its return type
-pub front-scoped : (around : Around) (mark : Mark) (start : ℕ) (p : Arguments) (rest : List Open) → HasScope p around
-    → IsScoped around (opens.Front mark start p ∷ rest)
-front-scoped around mark start p rest h q e = scoped-by around p q (cc e) h
+pub front-scoped : (scope : Scope) (around : Around) (mark : Mark) (start : ℕ) (p : Arguments) (rest : List Open) → scope.arguments ≡ p
+    → HasScope p around → IsScoped scope around (opens.Front mark start p ∷ rest)
+front-scoped scope around mark start p rest named h q e = scoped-by scope around p q (cc e) named h
 
--- a parameter of a function in which a type is may name its argument, too
-pub enclosing-scoped : (around : Around) (mark : Mark) (from to : ℕ) (p : Arguments) (rest : List Open) → HasScope p around
-    → IsScoped around (opens.Enclosing mark from to p ∷ rest)
-enclosing-scoped around mark from to p rest h q e = scoped-by around p q (cc e) h
-
--- where one may be named, the encoding is the arguments'
-pub scoped-encoding : (around : Around) (open_ : List Open) → IsScoped around open_ → IsEncodingOf (argument_of open_) around.encoding
-scoped-encoding around open_ scoped a k e known real = ((scoped a e k known).1 real).0
-
--- they are where they were
-pub named-there : (place : ℕ) (a : Arguments) (k : ℕ) → place_of (named_in place a) k ≡ place_of a k
+-- which encoding is theirs says nothing of where they are
+named-there : (place : ℕ) (a : Arguments) (k : ℕ) → place_of (record a { encoding = place }) k ≡ place_of a k
 named-there place a zero = refl
 named-there place a (suc zero) = refl
 named-there place a (suc (suc zero)) = refl
 named-there place a (suc (suc (suc zero))) = refl
 named-there place a (suc (suc (suc (suc k)))) = refl
+
+pub arguments-named : {detail : Detail} (text : List ℕ) (place : ℕ) (a : Arguments) (name : Term) → HasArguments detail text a name
+    → HasArguments detail text (record a { encoding = place }) name
+arguments-named {detail} text place a name has k o =
+    let same = named-there place a k in
+    subst (λ (p : Argument). IsArgument detail text a.elements p k name) (sym same) (has k (subst IsKnown same o))
 
 -- how many elements a pack has says nothing of where they are
 pub elements-there : (size : ℕ) (a : Arguments) (k : ℕ) → place_of (record a { elements = size }) k ≡ place_of a k
@@ -136,15 +117,28 @@ elements-there size a (suc (suc zero)) = refl
 elements-there size a (suc (suc (suc zero))) = refl
 elements-there size a (suc (suc (suc (suc k)))) = refl
 
-pub arguments-named : {detail : Detail} (text : List ℕ) (place : ℕ) (a : Arguments) (name : Term) → HasArguments detail text a name
-    → HasArguments detail text (named_in place a) name
-arguments-named {detail} text place a name has k o =
-    let same = named-there place a k in
-    subst (λ (p : Argument). IsArgument detail text a.elements p k name) (sym same) (has k (subst IsKnown same o))
+scope-inside : (number : ℕ) (is_pack : Bool) (around : Around) → IsScope number is_pack around → IsScope number is_pack (inside around)
+unfolding inside
+scope-inside number is_pack around h = record {
+  own = h.own;
+  all = h.all;
+  scope_is = h.scope_is;
+  there = h.there;
+  elements = h.elements;
+  alone = h.alone;
+  no_pack = h.no_pack;
+}
+
+-- what may be named in a name may be named in its arguments
+pub scoped-inside : (scope : Scope) (around : Around) (open_ : List Open) → IsScoped scope around open_ → IsScoped scope (inside around) open_
+unfolding inside
+scoped-inside scope around open_ scoped a found =
+    let h = scoped a found in
+    (h.0, (h.1.0, λ k known. scope-inside k (place_of a k).is_pack around (h.1.1 k known)))
 
 -- elsewhere none does
-pub none-scoped : (around : Around) (open_ : List Open) → argument_of open_ ≡ None → IsScoped around open_
-none-scoped around open_ none q e k ordered = cc (none, e)
+pub none-scoped : (scope : Scope) (around : Around) (open_ : List Open) → argument_of open_ ≡ None → IsScoped scope around open_
+none-scoped scope around open_ none q e = absurd (false≢true (ap is_some (sym none ∙ e)))
 
 -- ## Names with arguments
 

@@ -19,12 +19,12 @@ use Rattle.cpp_direct.specs.Bytes.{is_builtin}
 use Rattle.cpp_direct.specs.Holes.{Opened, StandsAt, Comes, Expects, candidate, with_candidate, IsReferable}
 use Rattle.cpp_direct.specs.HolesOfFunctions.{SignatureGoesOn, plain_function, pointed, with_pointed, reference, reference_letter, FunctionOpened}
 use Rattle.cpp_direct.specs.HolesOfTypes.{NoReference, IsQualifiable}
-use Rattle.cpp_direct.specs.Prints.{PrintEach, PrintAll, joined}
-use Rattle.cpp_direct.specs.WriterInvariant.{IsScoped, AreCandidates, IsWriting, Marks, Stands, TakesFunction, opening_text, list_with, in_front_of_next, argument_of}
+use Rattle.cpp_direct.specs.Prints.{Names, PrintEach, PrintAll, joined}
+use Rattle.cpp_direct.specs.WriterInvariant.{below, IsScoped, AreCandidates, IsWriting, Marks, Scope, Stands, TakesFunction, opening_text, list_with, in_front_of_next}
 use Rattle.cpp_direct.specs.MidStep.{AwaitsParameter, AwaitsSignature, IsElementPassed, IsFunctionRead, IsReturned, IsArrayRead, IsElementRead}
 use Rattle.cpp_direct.specs.Written.{Writes, hidden, with_hidden}
 use Rattle.cpp_direct.proofs.Ending.{no-void, next-written}
-use Rattle.cpp_direct.proofs.Kept.{candidates-grown, candidates-same, candidates-more, candidates-stay, candidates-written, reverse-last, candidates-as}
+use Rattle.cpp_direct.proofs.Kept.{keeps-as, keeps-grown, keeps-same, keeps-written, candidates-more, reverse-last}
 use Rattle.cpp_direct.proofs.Listed.{TakesElements, last-found}
 use Rattle.cpp_direct.proofs.Moves.{stands-split}
 use Rattle.cpp_direct.proofs.MovesOfTypes.{parameter-opens, reference-opens, signature-ends, builtin-comes, function-opens, pointed-function-opens, array-opens}
@@ -58,8 +58,8 @@ return-opens s false kind os around at st whole outside expects stands = functio
 -- a function type begins, where what was opened last takes one
 pub function-begins : (s : Symbol) (old new : Direct) (is_pointer : Bool) → IsWriting s old steps.Type
     → StandsAt s.bytes old.at (if is_pointer then 80 ∷ 70 ∷ [] else 70 ∷ []) → TakesFunction (reverse old.waiting.list.items) → new.waiting.list.items ≡ old.waiting.list.items ++ opens.Returned is_pointer ∷ []
-    → new.at ≡ old.at + (if is_pointer then 2 else 1) → new.text ≡ old.text → new.candidates ≡ old.candidates → IsWriting s new steps.Type
-function-begins s old new is_pointer p letters takes waits at text candidates = go p.is_before.3
+    → new.at ≡ old.at + (if is_pointer then 2 else 1) → new.text ≡ old.text → new.candidates ≡ old.candidates → new.has_scope ≡ old.has_scope → IsWriting s new steps.Type
+function-begins s old new is_pointer p letters takes waits at text candidates scope_same = go p.is_before.3
   where
     os : List Opened
     os = p.is_before.0
@@ -72,18 +72,19 @@ function-begins s old new is_pointer p letters takes waits at text candidates = 
         let f = return-opens s is_pointer kind os around old.at p.state whole p.is_before.2 expects letters in
         record {
           state = p.state;
-          candidates = candidates-same (detail_of s) old new p.state.candidates text candidates p.candidates;
+          scope = p.scope;
+          keeps = keeps-same s old new p.state.candidates text candidates scope_same p.keeps;
           is_before = (
             f.inner,
             around,
             p.is_before.2,
             inl (subst (λ k. Expects s Kind.Type around f.inner k p.state) (sym at) f.awaits),
-            subst (λ l. Stands s l f.inner new.text.list.items)
+            subst (λ l. Stands s p.scope l f.inner new.text.list.items)
                 (sym (ap reverse waits ∙ reverse-last old.waiting.list.items (opens.Returned is_pointer)))
-                (subst (λ v. Stands s (opens.Returned is_pointer ∷ reverse old.waiting.list.items) f.inner v.list.items) (sym text)
+                (subst (λ v. Stands s p.scope (opens.Returned is_pointer ∷ reverse old.waiting.list.items) f.inner v.list.items) (sym text)
                 (os, around, f.onward, takes, p.is_before.4)),
-            subst (λ l. IsScoped around l) (sym (ap reverse waits ∙ reverse-last old.waiting.list.items (opens.Returned is_pointer)))
-                (none-scoped around (opens.Returned is_pointer ∷ reverse old.waiting.list.items) refl),
+            subst (λ l. IsScoped p.scope around l) (sym (ap reverse waits ∙ reverse-last old.waiting.list.items (opens.Returned is_pointer)))
+                (none-scoped p.scope around (opens.Returned is_pointer ∷ reverse old.waiting.list.items) refl),
           );
         }
 
@@ -97,13 +98,14 @@ function-begins s old new is_pointer p letters takes waits at text candidates = 
 
 -- the parameters come
 pub signature-begins : (s : Symbol) (old new : Direct) (is_pointer : Bool) (p : IsReturned s old is_pointer)
-    → new.text.list.items ≡ old.text.list.items ++ opening_text is_pointer → new.candidates ≡ old.candidates
+    → new.text.list.items ≡ old.text.list.items ++ opening_text is_pointer → new.candidates ≡ old.candidates → new.has_scope ≡ old.has_scope
     → reverse new.waiting.list.items ≡ opens.Signature is_pointer ∷ p.rest → new.at ≡ old.at → AwaitsSignature s new is_pointer true
-signature-begins s old new is_pointer p text candidates waits at =
+signature-begins s old new is_pointer p text candidates scope_same waits at =
     let opening = opening_text is_pointer in
     record {
       state = p.state;
-      candidates = candidates-grown (detail_of s) old new opening p.state.candidates text candidates p.candidates;
+      scope = p.scope;
+      keeps = keeps-grown s old new opening p.state.candidates text candidates scope_same p.keeps;
       rest = p.rest;
       open_is = waits;
       outer = p.outer;
@@ -130,7 +132,8 @@ signature-begins s old new is_pointer p text candidates waits at =
 pub first-next : (s : Symbol) (w : Direct) (is_pointer : Bool) → AwaitsSignature s w is_pointer true → AwaitsParameter s w is_pointer
 first-next s w is_pointer a = record {
   state = a.state;
-  candidates = a.candidates;
+  scope = a.scope;
+  keeps = a.keeps;
   rest = a.rest;
   open_is = a.open_is;
   outer = a.outer;
@@ -160,7 +163,8 @@ another-next s old new is_pointer a one =
     let led = a.front ++ (a.bytes ++ opening_text is_pointer) in
     record {
       state = a.state;
-      candidates = candidates-written (detail_of s) old new (codes ", ") a.state.candidates one a.candidates;
+      scope = a.scope;
+      keeps = keeps-written s old new (codes ", ") a.state.candidates one a.keeps;
       rest = a.rest;
       open_is = ap (λ v. reverse v.list.items) one.waiting ∙ a.open_is;
       outer = a.outer;
@@ -200,7 +204,7 @@ one-more s outer made_in is_pointer returned ts t at st g = record {
 signature-stands : (s : Symbol) (w : Direct) (is_pointer : Bool) (a : AwaitsParameter s w is_pointer) (os : List Opened)
     → ((t : Term) (at : ℕ) (st : State) → Comes s os (tree t true) at st
     → SignatureGoesOn s a.outer a.made_in is_pointer (λ l. plain_function a.returned (list_with a.ts (list t l))) at st)
-    → Stands s (opens.Signature is_pointer ∷ a.rest) os w.text.list.items
+    → Stands s a.scope (opens.Signature is_pointer ∷ a.rest) os w.text.list.items
 signature-stands s w is_pointer a os onward = (
   a.outer,
   a.made_in,
@@ -224,14 +228,15 @@ parameter-comes s w is_pointer a none =
     let p = parameter-opens s a.outer a.made_in is_pointer (λ l. plain_function a.returned (list_with a.ts l)) w.at a.state a.goes in
     record {
       state = a.state;
-      candidates = a.candidates;
+      scope = a.scope;
+      keeps = a.keeps;
       is_before = (
         p.inner,
         p.around,
         p.outside,
         inr (inr (p.awaits, none)),
-        subst (λ ws. Stands s ws p.inner w.text.list.items) (sym a.open_is) (signature-stands s w is_pointer a p.inner p.onward),
-        subst (λ ws. IsScoped p.around ws) (sym a.open_is) (none-scoped p.around (opens.Signature is_pointer ∷ a.rest) refl),
+        subst (λ ws. Stands s a.scope ws p.inner w.text.list.items) (sym a.open_is) (signature-stands s w is_pointer a p.inner p.onward),
+        subst (λ ws. IsScoped a.scope p.around ws) (sym a.open_is) (none-scoped a.scope p.around (opens.Signature is_pointer ∷ a.rest) refl),
       );
     }
 
@@ -248,23 +253,23 @@ abbrev pub reference_entry : (is_lvalue : Bool) → (from : ℕ) → Open
 reference_entry true from = opens.Lvalue from
 reference_entry false from = opens.Rvalue from
 
-reference-stands : (s : Symbol) (is_lvalue : Bool) (rest : List Open) (os : List Opened) (text : List ℕ) (from : ℕ)
-    → Marks s (Stands s rest) (argument_of rest) os text from (reference is_lvalue) → Stands s (reference_entry is_lvalue from ∷ rest) os text
-reference-stands s true rest os text from marks = marks
-reference-stands s false rest os text from marks = marks
+reference-stands : (s : Symbol) (scope : Scope) (is_lvalue : Bool) (rest : List Open) (os : List Opened) (text : List ℕ) (from : ℕ)
+    → Marks s (below s scope rest) os text from (reference is_lvalue) → Stands s scope (reference_entry is_lvalue from ∷ rest) os text
+reference-stands s scope true rest os text from marks = marks
+reference-stands s scope false rest os text from marks = marks
 
 -- no parameter of a template is named there
-reference-scoped : (around : Around) (is_lvalue : Bool) (from : ℕ) (is_pointer : Bool) (rest : List Open)
-    → IsScoped around (reference_entry is_lvalue from ∷ opens.Signature is_pointer ∷ rest)
-reference-scoped around true from is_pointer rest = none-scoped around (opens.Lvalue from ∷ opens.Signature is_pointer ∷ rest) refl
-reference-scoped around false from is_pointer rest = none-scoped around (opens.Rvalue from ∷ opens.Signature is_pointer ∷ rest) refl
+reference-scoped : (scope : Scope) (around : Around) (is_lvalue : Bool) (from : ℕ) (is_pointer : Bool) (rest : List Open)
+    → IsScoped scope around (reference_entry is_lvalue from ∷ opens.Signature is_pointer ∷ rest)
+reference-scoped scope around true from is_pointer rest = none-scoped scope around (opens.Lvalue from ∷ opens.Signature is_pointer ∷ rest) refl
+reference-scoped scope around false from is_pointer rest = none-scoped scope around (opens.Rvalue from ∷ opens.Signature is_pointer ∷ rest) refl
 
 -- a parameter comes that is a reference
 pub reference-comes : (s : Symbol) (old new : Direct) (o : Option Step) (is_pointer is_lvalue : Bool) (from : ℕ) → AwaitsParameter s old is_pointer
     → from ≡ length old.text.list.items → StandsAt s.bytes old.at (reference_letter is_lvalue ∷ []) → IfSome o (λ next. next ≡ steps.Type)
     → OnSome o (new.waiting.list.items ≡ old.waiting.list.items ++ reference_entry is_lvalue from ∷ []) → OnSome o (new.at ≡ old.at + 1)
-    → new.text ≡ old.text → new.candidates ≡ old.candidates → IfSome o (IsWriting s new)
-reference-comes s old new o is_pointer is_lvalue from a begins stands is waits at text candidates =
+    → new.text ≡ old.text → new.candidates ≡ old.candidates → new.has_scope ≡ old.has_scope → IfSome o (IsWriting s new)
+reference-comes s old new o is_pointer is_lvalue from a begins stands is waits at text candidates scope_same =
     by-step o steps.Type (IsWriting s new) is
     (λ e. go (given _ o steps.Type e waits) (given _ o steps.Type e at))
   where
@@ -277,17 +282,18 @@ reference-comes s old new o is_pointer is_lvalue from a begins stands is waits a
         let whole = signature-stands s old is_pointer a p.whole p.onward in
         record {
           state = a.state;
-          candidates = candidates-same (detail_of s) old new a.state.candidates text candidates a.candidates;
+          scope = a.scope;
+          keeps = keeps-same s old new a.state.candidates text candidates scope_same a.keeps;
           is_before = (
             p.inner,
             p.around,
             p.outside,
             inl (subst (λ n. Expects s Kind.Type p.around p.inner n a.state) (sym at) p.awaits),
-            subst (λ v. Stands s (reverse new.waiting.list.items) p.inner v.list.items) (sym text)
-                (subst (λ ws. Stands s ws p.inner old.text.list.items) (sym turned)
-                (reference-stands s is_lvalue (opens.Signature is_pointer ∷ a.rest) p.inner old.text.list.items from
-                (p.whole, p.around, begins, p.passes, whole, λ q k found known. cc found))),
-            subst (λ ws. IsScoped p.around ws) (sym turned) (reference-scoped p.around is_lvalue from is_pointer a.rest),
+            subst (λ v. Stands s a.scope (reverse new.waiting.list.items) p.inner v.list.items) (sym text)
+                (subst (λ ws. Stands s a.scope ws p.inner old.text.list.items) (sym turned)
+                (reference-stands s a.scope is_lvalue (opens.Signature is_pointer ∷ a.rest) p.inner old.text.list.items from
+                (p.whole, p.around, begins, p.passes, none-scoped a.scope p.around (opens.Signature is_pointer ∷ a.rest) refl, whole))),
+            subst (λ ws. IsScoped a.scope p.around ws) (sym turned) (reference-scoped a.scope p.around is_lvalue from is_pointer a.rest),
           );
         }
 
@@ -295,14 +301,15 @@ reference-comes s old new o is_pointer is_lvalue from a begins stands is waits a
 
 -- an E ends a function type whose parameters aren't a lone void
 pub signature-closed : (s : Symbol) (old new : Direct) (is_pointer is_first : Bool) (a : AwaitsSignature s old is_pointer is_first)
-    → StandsAt s.bytes old.at (69 ∷ []) → ends_with nat_eq old.text.list.items (codes "(void") ≡ false → new.text ≡ old.text → new.candidates ≡ old.candidates
+    → StandsAt s.bytes old.at (69 ∷ []) → ends_with nat_eq old.text.list.items (codes "(void") ≡ false → new.text ≡ old.text → new.candidates ≡ old.candidates → new.has_scope ≡ old.has_scope
     → new.waiting ≡ old.waiting → new.at ≡ old.at + 1 → IsFunctionRead s new is_pointer
-signature-closed s old new is_pointer is_first a ends apart text candidates waits at =
+signature-closed s old new is_pointer is_first a ends apart text candidates scope_same waits at =
     let opening = opening_text is_pointer in
     let made = plain_function a.returned (list_with a.ts nil) in
     record {
       state = a.state;
-      candidates = candidates-same (detail_of s) old new a.state.candidates text candidates a.candidates;
+      scope = a.scope;
+      keeps = keeps-same s old new a.state.candidates text candidates scope_same a.keeps;
       rest = a.rest;
       open_is = ap (λ v. reverse v.list.items) waits ∙ a.open_is;
       outer = a.outer;
@@ -338,10 +345,10 @@ none-written detail l all = go all.0 all.1 all.2
 
 -- and a lone void is no parameter
 pub void-closed : (s : Symbol) (old new : Direct) (is_pointer : Bool) (a : AwaitsSignature s old is_pointer true)
-    → StandsAt s.bytes old.at (118 ∷ 69 ∷ []) → new.text ≡ old.text → new.candidates ≡ old.candidates → new.waiting ≡ old.waiting
+    → StandsAt s.bytes old.at (118 ∷ 69 ∷ []) → new.text ≡ old.text → new.candidates ≡ old.candidates → new.has_scope ≡ old.has_scope → new.waiting ≡ old.waiting
     → new.at ≡ old.at + 2 → IsFunctionRead s new is_pointer
 unfolding is_builtin among
-void-closed s old new is_pointer a stands text candidates waits at =
+void-closed s old new is_pointer a stands text candidates scope_same waits at =
     let opening = opening_text is_pointer in
     let v = builtin (118 ∷ []) in
     let none = a.none refl in
@@ -353,7 +360,8 @@ void-closed s old new is_pointer a stands text candidates waits at =
     (builtin-comes s Kind.ItemButRef p.around p.inner old.at a.state 118 tt refl p.awaits both.0) in
     record {
       state = a.state;
-      candidates = candidates-same (detail_of s) old new a.state.candidates text candidates a.candidates;
+      scope = a.scope;
+      keeps = keeps-same s old new a.state.candidates text candidates scope_same a.keeps;
       rest = a.rest;
       open_is = ap (λ x. reverse x.list.items) waits ∙ a.open_is;
       outer = a.outer;
@@ -375,17 +383,17 @@ void-closed s old new is_pointer a stands text candidates waits at =
 -- ## Handed on
 
 -- one more candidate of which nothing is known
-pub one-hidden : (detail : Detail) (text : List ℕ) (ks : List Candidate) (cs : List values.Candidate) (c : values.Candidate) → AreCandidates detail text ks cs
-    → AreCandidates detail text (ks ++ hidden ∷ []) (cs ++ c ∷ [])
-one-hidden detail text ks cs c p = candidates-more text ks cs hidden c p (λ ordered. absurd (omega (arith, ordered)))
+pub one-hidden : (s : Symbol) (names : Names) (text : List ℕ) (ks : List Candidate) (cs : List values.Candidate) (c : values.Candidate)
+    → AreCandidates s names text ks cs → AreCandidates s names text (ks ++ hidden ∷ []) (cs ++ c ∷ [])
+one-hidden s names text ks cs c p = candidates-more text ks cs hidden c p (λ ordered. absurd (omega (arith, ordered)))
 
-pub hidden-candidates : (detail : Detail) (w : Direct) (is_pointer : Bool) (text : List ℕ) (made_in : Around) (t : Term) (st : State)
-    → AreCandidates detail text w.candidates.list.items st.candidates
-    → AreCandidates detail text (with_hidden w is_pointer) (with_pointed is_pointer made_in t st).candidates
-hidden-candidates detail w true text made_in t st p =
-    one-hidden detail text (w.candidates.list.items ++ hidden ∷ []) (with_candidate made_in t st).candidates (candidate made_in (pointer t))
-    (one-hidden detail text w.candidates.list.items st.candidates (candidate made_in t) p)
-hidden-candidates detail w false text made_in t st p = one-hidden detail text w.candidates.list.items st.candidates (candidate made_in t) p
+hidden-candidates : (s : Symbol) (names : Names) (w : Direct) (is_pointer : Bool) (text : List ℕ) (made_in : Around) (t : Term) (st : State)
+    → AreCandidates s names text w.candidates.list.items st.candidates
+    → AreCandidates s names text (with_hidden w is_pointer) (with_pointed is_pointer made_in t st).candidates
+hidden-candidates s names w true text made_in t st p =
+    one-hidden s names text (w.candidates.list.items ++ hidden ∷ []) (with_candidate made_in t st).candidates (candidate made_in (pointer t))
+    (one-hidden s names text w.candidates.list.items st.candidates (candidate made_in t) p)
+hidden-candidates s names w false text made_in t st p = one-hidden s names text w.candidates.list.items st.candidates (candidate made_in t) p
 
 -- they are added to the candidates as they were
 pub hidden-behind : (old new : Direct) (is_pointer : Bool) → new.candidates ≡ old.candidates → with_hidden new is_pointer ≡ with_hidden old is_pointer
@@ -401,17 +409,19 @@ still-popped s old new is_pointer p left size same length_is is =
 
 -- a function type is an element or a parameter
 pub function-handed : (s : Symbol) (old new : Direct) (is_pointer : Bool) (p : IsFunctionRead s old is_pointer)
-    → new.text.list.items ≡ old.text.list.items ++ codes ")" → new.candidates.list.items ≡ with_hidden old is_pointer → reverse new.waiting.list.items ≡ p.rest
+    → new.text.list.items ≡ old.text.list.items ++ codes ")" → new.candidates.list.items ≡ with_hidden old is_pointer → new.has_scope ≡ old.has_scope → reverse new.waiting.list.items ≡ p.rest
     → new.at ≡ old.at → IsElementPassed s new
-function-handed s old new is_pointer p text candidates waits at =
+function-handed s old new is_pointer p text candidates scope_same waits at =
     let own = pointed is_pointer p.made in
     let then_ = with_pointed is_pointer p.made_in p.made p.state in
+    let grown : Direct = record old { text = new.text } in
+    let keeps = keeps-grown s old grown (codes ")") p.state.candidates text refl refl p.keeps in
     record {
       state = then_;
-      candidates = subst (λ l. AreCandidates (detail_of s) l new.candidates.list.items then_.candidates) (sym text)
-          (subst (λ l. AreCandidates (detail_of s) (old.text.list.items ++ codes ")") l then_.candidates) (sym candidates)
-          (hidden-candidates (detail_of s) old is_pointer (old.text.list.items ++ codes ")") p.made_in p.made p.state
-          (candidates-stay (detail_of s) old.text.list.items (codes ")") old.candidates.list.items p.state.candidates p.candidates)));
+      scope = p.scope;
+      keeps = keeps-as s grown new then_.candidates refl candidates scope_same
+          (hidden-candidates s p.scope.names old is_pointer new.text.list.items p.made_in p.made p.state keeps.candidates)
+          keeps.named keeps.own keeps.unknown;
       os = p.outer;
       own = own;
       front = p.front;
@@ -420,25 +430,25 @@ function-handed s old new is_pointer p text candidates waits at =
       element = p.element;
       comes = subst (λ n. Comes s p.outer (tree own true) n then_) (sym at) p.comes;
       takes = subst TakesFunction (sym waits) p.takes;
-      stands = subst (λ ws. Stands s ws p.outer p.front) (sym waits) p.stands;
+      stands = subst (λ ws. Stands s p.scope ws p.outer p.front) (sym waits) p.stands;
     }
 
 -- what takes a function type, and isn't parameters or a special object, takes elements
 pub takes-as-element : (o : Open) (rest ws : List Open) → ws ≡ o ∷ rest → TakesFunction ws
     → ((x : Mark) (y : ℕ) (z : Arguments) → o ≡ opens.Parameters x y z → ⊥)
-    → (o ≡ opens.Special → ⊥) → ((x : Mark) (y t : ℕ) (z : Arguments) → o ≡ opens.Enclosing x y t z → ⊥) → TakesElements o
+    → (o ≡ opens.Special → ⊥) → ((x : Mark) (y t : ℕ) → o ≡ opens.Enclosing x y t → ⊥) → TakesElements o
 takes-as-element o rest ws is takes apart no_special within = go o (subst TakesFunction is takes) apart no_special within
   where
     go : (o : Open) → TakesFunction (o ∷ rest) → ((x : Mark) (y : ℕ) (z : Arguments) → o ≡ opens.Parameters x y z → ⊥) → (o ≡ opens.Special → ⊥)
-        → ((x : Mark) (y t : ℕ) (z : Arguments) → o ≡ opens.Enclosing x y t z → ⊥) → TakesElements o
-    go (opens.TypeArguments from) takes apart z m = tt
+        → ((x : Mark) (y t : ℕ) → o ≡ opens.Enclosing x y t → ⊥) → TakesElements o
+    go (opens.TypeArguments from is_dependent) takes apart z m = tt
     go (opens.NestArguments nest) takes apart z m = tt
     go (opens.FirstArguments nest) takes apart z m = tt
     go (opens.NameArguments from) takes apart z m = tt
     go opens.Pack takes apart z m = tt
     go (opens.Parameters x y w) takes apart z m = absurd (apart x y w refl)
     go opens.Special takes apart z m = absurd (z refl)
-    go (opens.Enclosing x y t w) takes apart z m = absurd (m x y t w refl)
+    go (opens.Enclosing x y t) takes apart z m = absurd (m x y t refl)
     go _ takes apart z m = absurd takes
 
 -- ## The beginning of an array
@@ -452,9 +462,9 @@ pub array-begins : (s : Symbol) (old new : Direct) (access : Access) (digits : L
     → StandsAt s.bytes old.at (access_letters access) → TakesFunction (reverse old.waiting.list.items)
     → IsSizeAt s.bytes (old.at + length (access_letters access)) digits new.at
     → from ≤ to → to ≤ length s.bytes → take (to - from) (drop from s.bytes) ≡ digits
-    → new.waiting.list.items ≡ old.waiting.list.items ++ opens.Array access from to ∷ [] → new.text ≡ old.text → new.candidates ≡ old.candidates
+    → new.waiting.list.items ≡ old.waiting.list.items ++ opens.Array access from to ∷ [] → new.text ≡ old.text → new.candidates ≡ old.candidates → new.has_scope ≡ old.has_scope
     → IsWriting s new steps.Type
-array-begins s old new access digits from to p letters takes is ordered inside size waits text candidates = go p.is_before.3
+array-begins s old new access digits from to p letters takes is ordered inside size waits text candidates scope_same = go p.is_before.3
   where
     os : List Opened
     os = p.is_before.0
@@ -469,17 +479,18 @@ array-begins s old new access digits from to p letters takes is ordered inside s
         let entry = opens.Array access from to in
         record {
           state = p.state;
-          candidates = candidates-same (detail_of s) old new p.state.candidates text candidates p.candidates;
+          scope = p.scope;
+          keeps = keeps-same s old new p.state.candidates text candidates scope_same p.keeps;
           is_before = (
             f.inner,
             around,
             p.is_before.2,
             inl f.awaits,
-            subst (λ l. Stands s l f.inner new.text.list.items) (sym (ap reverse waits ∙ reverse-last old.waiting.list.items entry))
-                (subst (λ v. Stands s (entry ∷ reverse old.waiting.list.items) f.inner v.list.items) (sym text)
+            subst (λ l. Stands s p.scope l f.inner new.text.list.items) (sym (ap reverse waits ∙ reverse-last old.waiting.list.items entry))
+                (subst (λ v. Stands s p.scope (entry ∷ reverse old.waiting.list.items) f.inner v.list.items) (sym text)
                 (os, around, digits, ordered, inside, size, f.onward, takes, p.is_before.4)),
-            subst (λ l. IsScoped around l) (sym (ap reverse waits ∙ reverse-last old.waiting.list.items entry))
-                (none-scoped around (entry ∷ reverse old.waiting.list.items) refl),
+            subst (λ l. IsScoped p.scope around l) (sym (ap reverse waits ∙ reverse-last old.waiting.list.items entry))
+                (none-scoped p.scope around (entry ∷ reverse old.waiting.list.items) refl),
           );
         }
 
@@ -492,16 +503,17 @@ array-begins s old new access digits from to p letters takes is ordered inside s
 -- ## The end of an array
 
 -- the type of an array's elements was read
-pub value-array : (s : Symbol) (w : Direct) (is_reference : Bool) (access : Access) (from to : ℕ) → IsWriting s w (steps.Value is_reference)
+pub value-array : (s : Symbol) (w : Direct) (is_reference : Bool) (access : Access) (from to : ℕ) → IsWriting s w (steps.Value is_reference false)
     → slice_get w.waiting.list.items (length w.waiting.list.items - 1) ≡ Some (opens.Array access from to) → IsArrayRead s w access from to
 value-array s w is_reference access from to p found =
     let os = p.is_before.0 in
     let front = p.is_before.2 in
     let last = last-found w.waiting.list.items (opens.Array access from to) found in
-    let waits : Stands s (opens.Array access from to ∷ last.0) os front = subst (λ ws. Stands s ws os front) last.1 p.is_before.7 in
+    let waits : Stands s p.scope (opens.Array access from to ∷ last.0) os front = subst (λ ws. Stands s p.scope ws os front) last.1 p.is_before.8 in
     record {
       state = p.state;
-      candidates = p.candidates;
+      scope = p.scope;
+      keeps = p.keeps;
       rest = last.0;
       open_is = last.1;
       outer = waits.0;
@@ -516,7 +528,7 @@ value-array s w is_reference access from to p found =
       is_reference = is_reference;
       prints = p.is_before.5;
       written = p.is_before.4;
-      comes = waits.6 p.is_before.1 w.at p.state p.is_before.6;
+      comes = waits.6 p.is_before.1 w.at p.state p.is_before.7;
       takes = waits.7;
       stands = waits.8;
     }
@@ -527,16 +539,16 @@ hidden_behind true ks = (ks ++ hidden ∷ []) ++ hidden ∷ []
 hidden_behind false ks = ks ++ hidden ∷ []
 
 -- it becomes a candidate, and so does what points or refers to it
-hidden-accessed : (detail : Detail) (access : Access) (ks : List Candidate) (text : List ℕ) (made_in : Around) (t : Term) (st : State)
-    → AreCandidates detail text ks st.candidates
-    → AreCandidates detail text (hidden_behind (is_marked access) ks) (with_accessed access made_in t st).candidates
-hidden-accessed detail accesses.Plain ks text made_in t st p = one-hidden detail text ks st.candidates (candidate made_in t) p
-hidden-accessed detail accesses.Pointer ks text made_in t st p =
-    one-hidden detail text (ks ++ hidden ∷ []) (with_candidate made_in t st).candidates (candidate made_in (pointer t))
-    (one-hidden detail text ks st.candidates (candidate made_in t) p)
-hidden-accessed detail accesses.Lvalue ks text made_in t st p =
-    one-hidden detail text (ks ++ hidden ∷ []) (with_candidate made_in t st).candidates (candidate made_in (lvalue t))
-    (one-hidden detail text ks st.candidates (candidate made_in t) p)
+hidden-accessed : (s : Symbol) (names : Names) (access : Access) (ks : List Candidate) (text : List ℕ) (made_in : Around) (t : Term) (st : State)
+    → AreCandidates s names text ks st.candidates
+    → AreCandidates s names text (hidden_behind (is_marked access) ks) (with_accessed access made_in t st).candidates
+hidden-accessed s names accesses.Plain ks text made_in t st p = one-hidden s names text ks st.candidates (candidate made_in t) p
+hidden-accessed s names accesses.Pointer ks text made_in t st p =
+    one-hidden s names text (ks ++ hidden ∷ []) (with_candidate made_in t st).candidates (candidate made_in (pointer t))
+    (one-hidden s names text ks st.candidates (candidate made_in t) p)
+hidden-accessed s names accesses.Lvalue ks text made_in t st p =
+    one-hidden s names text (ks ++ hidden ∷ []) (with_candidate made_in t st).candidates (candidate made_in (lvalue t))
+    (one-hidden s names text ks st.candidates (candidate made_in t) p)
 
 with-hidden : (w : Direct) (b : Bool) → with_hidden w b ≡ hidden_behind b w.candidates.list.items
 with-hidden w true = refl
@@ -550,11 +562,12 @@ size-unmarked s from to digits readable ordered inside is =
     (all-reached digits (own-each s from (to - from) digits (omega (arith, ordered, inside)) (omega (arith, ordered, inside)) (sym is) readable.plain))
 
 pub array-written : (s : Symbol) → IsReadable s.bytes → (w begun first second third last : Direct) (access : Access) (from to : ℕ) (p : IsArrayRead s w access from to) (size : List ℕ)
-    → begun.text ≡ w.text → begun.candidates ≡ w.candidates → begun.at ≡ w.at → reverse begun.waiting.list.items ≡ p.rest
+    → begun.text ≡ w.text → begun.candidates ≡ w.candidates → begun.has_scope ≡ w.has_scope → begun.at ≡ w.at → reverse begun.waiting.list.items ≡ p.rest
     → Writes begun first (array_opening access) → size ≡ values.normal (take (to - from) (drop from s.bytes)) → Writes first second size
     → Writes second third (codes "]") → last.candidates.list.items ≡ with_hidden third (is_marked access) → last.text ≡ third.text → last.waiting ≡ third.waiting
-    → last.at ≡ third.at → IsElementPassed s last
-array-written s readable w begun first second third last access from to p size text candidates at waits one size_is two three more same_text same_waits same_at =
+    → last.has_scope ≡ third.has_scope → last.at ≡ third.at → IsElementPassed s last
+array-written s readable w begun first second third last access from to p size text candidates scope_same at waits one size_is two three more same_text same_waits
+    same_scope same_at =
     let opening = array_opening access in
     let digits = values.normal p.digits in
     let own = array digits p.own in
@@ -563,7 +576,7 @@ array-written s readable w begun first second third last access from to p size t
     let bytes = p.bytes ++ opening ++ digits ++ codes "]" in
     let then_ = with_accessed access p.made_in own p.state in
     let is : size ≡ digits = size_is ∙ ap (λ l. values.normal l) p.size in
-    let known = candidates-same (detail_of s) w begun p.state.candidates text candidates p.candidates in
+    let known = keeps-same s w begun p.state.candidates text candidates scope_same p.keeps in
     let grown : third.text.list.items ≡ p.front ++ bytes =
     three.text ∙ ap (λ l. l ++ codes "]") (two.text ∙ ap (λ l. first.text.list.items ++ l) is
     ∙ ap (λ l. l ++ digits) (one.text ∙ ap (λ v. v.list.items ++ opening) text ∙ ap (λ l. l ++ opening) p.written))
@@ -571,12 +584,14 @@ array-written s readable w begun first second third last access from to p size t
     let written : last.text.list.items ≡ p.front ++ bytes = ap (λ v. v.list.items) same_text ∙ grown in
     let open_is : reverse last.waiting.list.items ≡ p.rest =
     ap (λ v. reverse v.list.items) (same_waits ∙ three.waiting ∙ two.waiting ∙ one.waiting) ∙ waits in
-    let there = candidates-written (detail_of s) second third (codes "]") p.state.candidates three
-    (candidates-written (detail_of s) first second size p.state.candidates two (candidates-written (detail_of s) begun first opening p.state.candidates one known)) in
+    let there = keeps-written s second third (codes "]") p.state.candidates three
+    (keeps-written s first second size p.state.candidates two (keeps-written s begun first opening p.state.candidates one known)) in
     record {
       state = then_;
-      candidates = candidates-as (detail_of s) last then_.candidates (ap (λ v. v.list.items) same_text) (more ∙ with-hidden third (is_marked access))
-          (hidden-accessed (detail_of s) access third.candidates.list.items third.text.list.items p.made_in own p.state there);
+      scope = p.scope;
+      keeps = keeps-as s third last then_.candidates (ap (λ v. v.list.items) same_text) (more ∙ with-hidden third (is_marked access)) same_scope
+          (hidden-accessed s p.scope.names access third.candidates.list.items third.text.list.items p.made_in own p.state there.candidates)
+          there.named there.own there.unknown;
       os = p.outer;
       own = whole;
       front = p.front;
@@ -585,7 +600,7 @@ array-written s readable w begun first second third last access from to p size t
       element = λ extra. array-element extra access digits plain p.own p.bytes p.is_reference p.prints;
       comes = subst (λ n. Comes s p.outer (tree whole true) n then_) (sym (same_at ∙ three.at ∙ two.at ∙ one.at ∙ at)) p.comes;
       takes = subst TakesFunction (sym open_is) p.takes;
-      stands = subst (λ ws. Stands s ws p.outer p.front) (sym open_is) p.stands;
+      stands = subst (λ ws. Stands s p.scope ws p.outer p.front) (sym open_is) p.stands;
     }
   where
     joined : (f b o d e : List ℕ) → f ++ b ++ o ++ d ++ e ≡ f ++ (b ++ o ++ d ++ e)
@@ -602,7 +617,8 @@ passed-on s w o p found =
     let last = last-found w.waiting.list.items o found in
     record {
       state = p.state;
-      candidates = p.candidates;
+      scope = p.scope;
+      keeps = p.keeps;
       rest = last.0;
       open_is = last.1;
       os = p.os;
@@ -612,5 +628,5 @@ passed-on s w o p found =
       written = p.written;
       element = p.element;
       comes = p.comes;
-      stands = subst (λ ws. Stands s ws p.os p.front) last.1 p.stands;
+      stands = subst (λ ws. Stands s p.scope ws p.os p.front) last.1 p.stands;
     }

@@ -1,5 +1,5 @@
 -- A writer reads a type, or the first bytes of one.
-use Rattle.std.proofs.Common.{◌≡◌, ◌≢◌, ◌⊎◌, inl, inr, ℕ, ◌+◌, ◌-◌, ◌≤◌, List, [], ◌∷◌, ◌++◌, length, take, drop, reverse, slice_get, Bool, true, false, ◌&&◌, nat_eq, Option, Some, None, codes, refl, ap, sym, subst, ◌∙◌, arith, append_assoc, if◌then◌else◌}
+use Rattle.std.proofs.Common.{◌≡◌, ◌≢◌, ◌⊎◌, inl, inr, ℕ, ◌+◌, ◌-◌, ◌≤◌, List, [], ◌∷◌, ◌++◌, length, take, drop, reverse, slice_get, Bool, true, false, ◌&&◌, nat_eq, Option, Some, None, codes, refl, ap, sym, subst, ◌∙◌, arith, append_assoc, append-nil, if◌then◌else◌}
 use Rattle.std.proofs.lemmas.List.{length-append, reverse-reverse}
 use Rattle.std.proofs.Math.Seq.{take-append_seam}
 use Rattle.std.specs.Option.{OnSome, IfSome}
@@ -27,13 +27,13 @@ use Rattle.cpp_direct.specs.declared.open.Step.TheVariants as steps
 use Rattle.cpp_direct.specs.declared.direct.Direct.{Direct}
 use Rattle.cpp_direct.specs.Holes.{Opened, StandsAt, Comes, Expects, IsTyped, IsReferable, IsNameAt, IsSeqAt, TypeNamed, with_candidate, unless_listed}
 use Rattle.cpp_direct.specs.HolesOfTypes.{NoReference, IsQualifiable, TypeOpens}
-use Rattle.cpp_direct.specs.Prints.{Prints}
-use Rattle.cpp_direct.specs.WriterInvariant.{IsScoped, AreCandidates, Marks, Stands, IsWriting, argument_of}
+use Rattle.cpp_direct.specs.Prints.{Prints, PrintsAs}
+use Rattle.cpp_direct.specs.WriterInvariant.{IsNaming, IsScoped, IsWriting, Keeps, Marks, Scope, Stands, below}
 use Rattle.cpp_direct.specs.MidStep.{AwaitsType, AwaitsNamedType, AwaitsNest, IsNamedAgain, IsTypeNamed, AwaitsMark}
-use Rattle.cpp_direct.specs.Written.{Reads, added, added_unless}
+use Rattle.cpp_direct.specs.Written.{Reads, Writes, added, added_unless}
 use Rattle.cpp_direct.proofs.Unmarked.{name-unmarked}
-use Rattle.cpp_direct.proofs.Scopes.{scoped-encoding}
-use Rattle.cpp_direct.proofs.Kept.{candidates-grown, candidates-same, plainly-prints, arguments-begun, piece-found, candidates-stay, candidates-added, candidates-read, candidate-found, reverse-last, last-reversed}
+use Rattle.cpp_direct.proofs.Scopes.{scoped-inside}
+use Rattle.cpp_direct.proofs.Kept.{arguments-begun, candidate-found, keeps-as, keeps-grown, keeps-read, keeps-same, keeps-with, last-reversed, piece-found, reverse-last, stands-same}
 use Rattle.cpp_direct.proofs.Moves.{expects-empty, stands-join}
 use Rattle.cpp_direct.proofs.MovesOfLists.{arguments-open}
 use Rattle.cpp_direct.proofs.MovesOfTypes.{solid-opens, builtin-comes, builtin-with-d-comes, pointer-opens, lvalue-opens, rvalue-opens, const-opens, source-opens, std-opens, abbreviation-opens, substitution-opens, nested-type-opens}
@@ -70,121 +70,116 @@ popped xs ys rest x n size e is =
 -- ## Marks
 
 -- a type ends with its mark
-pub mark-done : (s : Symbol) (old new : Direct) (mark : List ℕ) (from : ℕ) (r : Bool) (a : AwaitsMark s old mark from r)
-    → reverse new.waiting.list.items ≡ a.rest → new.text.list.items ≡ old.text.list.items ++ mark
-    → new.candidates.list.items ≡ old.candidates.list.items ++ record { from = from; to = length new.text.list.items; is_reference = r; is_dependent = false; number = 0; encoding = 0 } ∷ []
-    → new.at ≡ old.at → IsWriting s new (steps.Value r)
-mark-done s old new mark from r a waits text candidates at =
-    let written : new.text.list.items ≡ a.front ++ (a.bytes ++ mark)
-    = text ∙ ap (λ l. l ++ mark) a.written ∙ append_assoc a.front a.bytes mark in
+pub mark-answer : (s : Symbol) (old mid new : Direct) (mark : List ℕ) (from : ℕ) (r d : Bool) (a : AwaitsMark s old mark from r d)
+    → reverse mid.waiting.list.items ≡ a.rest → mid.text.list.items ≡ old.text.list.items ++ mark → mid.candidates ≡ old.candidates
+    → mid.has_scope ≡ old.has_scope → mid.at ≡ old.at
+    → new.candidates.list.items ≡ added mid from r d → new.text ≡ mid.text → new.waiting ≡ mid.waiting → new.has_scope ≡ mid.has_scope → new.at ≡ mid.at
+    → IsWriting s new (steps.Value r d)
+mark-answer s old mid new mark from r d a waits text candidates scope at more same_text same_waits same_scope same_at =
+    let marked : mid.text.list.items ≡ a.front ++ (a.bytes ++ mark) = text ∙ ap (λ l. l ++ mark) a.written ∙ append_assoc a.front a.bytes mark in
+    let open_is : reverse new.waiting.list.items ≡ a.rest = ap (λ v. reverse v.list.items) same_waits ∙ waits in
     let state : State = with_candidate a.made_in a.made a.state in
     record {
       state = state;
-      candidates = subst (λ l. AreCandidates (detail_of s) new.text.list.items l state.candidates) (sym candidates)
-          (candidates-added new.text.list.items old.candidates.list.items a.state.candidates a.front (a.bytes ++ mark) from a.made a.made_in r
-          (subst (λ l. AreCandidates (detail_of s) l old.candidates.list.items a.state.candidates) (sym text)
-          (candidates-stay (detail_of s) old.text.list.items mark old.candidates.list.items a.state.candidates a.candidates)) written a.from_is a.prints);
+      scope = a.scope;
+      keeps = keeps-with s mid new a.state a.front (a.bytes ++ mark) from a.made a.made_in r d
+          (keeps-grown s old mid mark a.state.candidates text candidates scope a.keeps) marked a.from_is a.prints a.made_here same_text more same_scope;
       is_before = (
         a.outer,
         a.made,
         a.front,
         a.bytes ++ mark,
-        written,
+        ap (λ v. v.list.items) same_text ∙ marked,
         a.prints,
-        subst (λ k. Comes s a.outer (tree a.made true) k state) (sym at) a.comes,
-        subst (λ l. Stands s l a.outer a.front) (sym waits) a.stands,
+        λ e. subst (λ ws. IsNaming s a.scope ws) (sym open_is) (a.naming e),
+        subst (λ k. Comes s a.outer (tree a.made true) k state) (sym (same_at ∙ at)) a.comes,
+        subst (λ l. Stands s a.scope l a.outer a.front) (sym open_is) a.stands,
       );
     }
 
--- the same, by what the calls give
-pub mark-answer : (s : Symbol) (old mid new : Direct) (mark : List ℕ) (from : ℕ) (r : Bool) (a : AwaitsMark s old mark from r)
-    → reverse mid.waiting.list.items ≡ a.rest → mid.text.list.items ≡ old.text.list.items ++ mark → mid.candidates ≡ old.candidates → mid.at ≡ old.at
-    → new.candidates.list.items ≡ added mid from r → new.text ≡ mid.text → new.waiting ≡ mid.waiting → new.at ≡ mid.at → IsWriting s new (steps.Value r)
-mark-answer s old mid new mark from r a waits text candidates at more same_text same_waits same_at =
-    mark-done s old new mark from r a (ap (λ v. reverse v.list.items) same_waits ∙ waits) (ap (λ v. v.list.items) same_text ∙ text)
-    (more ∙ ap (λ v. v.list.items ++ record { from = from; to = length mid.text.list.items; is_reference = r; is_dependent = false; number = 0; encoding = 0 } ∷ []) candidates
-    ∙ ap (λ v. old.candidates.list.items ++ record { from = from; to = length v.list.items; is_reference = r; is_dependent = false; number = 0; encoding = 0 } ∷ []) (sym same_text))
-    (same_at ∙ at)
-
 -- ## Names of types
 
-named-candidates : (s : Symbol) (old new : Direct) (from : ℕ) (listed r : Bool) (a : IsTypeNamed s old from listed r)
-    → new.candidates.list.items ≡ added_unless old listed from
-    → AreCandidates (detail_of s) old.text.list.items new.candidates.list.items (unless_listed listed a.around a.own a.state).candidates
-named-candidates s old new from true r a candidates =
-    subst (λ l. AreCandidates (detail_of s) old.text.list.items l a.state.candidates) (sym candidates) a.candidates
-named-candidates s old new from false r a candidates =
-    let state : State = with_candidate a.around a.own a.state in
-    subst (λ l. AreCandidates (detail_of s) old.text.list.items l state.candidates) (sym candidates)
-    (candidates-added old.text.list.items old.candidates.list.items a.state.candidates a.front a.bytes from a.own a.around false a.candidates a.written
-    a.from_is (subst (λ b. Prints (detail_of s) a.own a.bytes b) (a.no_reference refl) a.prints))
+named-keeps : (s : Symbol) (old new : Direct) (from : ℕ) (listed r : Bool) (a : IsTypeNamed s old from listed r) → new.text ≡ old.text
+    → new.candidates.list.items ≡ added_unless old listed from false → new.has_scope ≡ old.has_scope
+    → Keeps s a.scope new (unless_listed listed a.around a.own a.state).candidates
+named-keeps s old new from true r a text candidates scope =
+    keeps-as s old new a.state.candidates (ap (λ v. v.list.items) text) candidates scope a.keeps.candidates a.keeps.named a.keeps.own a.keeps.unknown
+named-keeps s old new from false r a text candidates scope =
+    keeps-with s old new a.state a.front a.bytes from a.own a.around false false a.keeps a.written a.from_is
+    (subst (λ b. Prints (detail_of s) a.own a.bytes b) (a.no_reference refl) a.prints) (λ e. absurd (false≢true e)) text candidates scope
 
 -- nothing comes after the name of a type
 pub bare-done : (s : Symbol) (old new : Direct) (from : ℕ) (listed r : Bool) → IsTypeNamed s old from listed r
-    → new.waiting.list.items ≡ old.waiting.list.items → new.text.list.items ≡ old.text.list.items → new.candidates.list.items ≡ added_unless old listed from
-    → new.at ≡ old.at → IsWriting s new (steps.Value r)
+    → new.waiting ≡ old.waiting → new.text ≡ old.text → new.candidates.list.items ≡ added_unless old listed from false → new.has_scope ≡ old.has_scope
+    → new.at ≡ old.at → IsWriting s new (steps.Value r false)
 unfolding may_be_empty
-bare-done s old new from listed r a waits text candidates at =
+bare-done s old new from listed r a waits text candidates scope at =
     let state : State = unless_listed listed a.around a.own a.state in
     record {
       state = state;
-      candidates = subst (λ l. AreCandidates (detail_of s) l new.candidates.list.items state.candidates) (sym text)
-          (named-candidates s old new from listed r a candidates);
+      scope = a.scope;
+      keeps = named-keeps s old new from listed r a text candidates scope;
       is_before = (
         a.outer,
         a.own,
         a.front,
         a.bytes,
-        text ∙ a.written,
+        ap (λ v. v.list.items) text ∙ a.written,
         a.prints,
+        λ e. absurd (false≢true e),
         subst (λ k. Comes s a.outer (tree a.own true) k state) (sym at) (a.named.bare old.at a.state a.prints.no_function
             (expects-empty s Kind.ArgumentsAlone (after a.own listed a.around) a.named.inner old.at a.state a.named.awaits refl)),
-        subst (λ l. Stands s (reverse l) a.outer a.front) (sym waits) a.stands,
+        subst (λ v. Stands s a.scope (reverse v.list.items) a.outer a.front) (sym waits) a.stands,
       );
     }
 
 -- and arguments do
-pub argued-done : (s : Symbol) (old new : Direct) (from : ℕ) (listed : Bool) → IsTypeNamed s old from listed false → StandsAt s.bytes old.at (73 ∷ [])
-    → new.waiting.list.items ≡ old.waiting.list.items ++ opens.TypeArguments from ∷ [] → new.text.list.items ≡ old.text.list.items ++ opening_bracket (detail_of s)
-    → new.candidates.list.items ≡ added_unless old listed from → new.at ≡ old.at + 1 → IsWriting s new (steps.List true)
+argued-done : (s : Symbol) (old mid new : Direct) (from : ℕ) (listed : Bool) → IsTypeNamed s old from listed false → StandsAt s.bytes old.at (73 ∷ [])
+    → mid.candidates.list.items ≡ added_unless old listed from false → mid.text ≡ old.text → mid.waiting ≡ old.waiting → mid.has_scope ≡ old.has_scope
+    → mid.at ≡ old.at → new.waiting.list.items ≡ mid.waiting.list.items ++ opens.TypeArguments from false ∷ []
+    → new.text.list.items ≡ mid.text.list.items ++ opening_bracket (detail_of s) → new.candidates ≡ mid.candidates → new.has_scope ≡ mid.has_scope
+    → new.at ≡ mid.at + 1 → IsWriting s new (steps.List true)
 unfolding inside
-argued-done s old new from listed a stands waits text candidates at =
+argued-done s old mid new from listed a stands mid_candidates mid_text mid_waits mid_scope mid_at waits text candidates scope at =
     let state : State = unless_listed listed a.around a.own a.state in
+    let opened : Open = opens.TypeArguments from false in
     let o = arguments-open s a.named.inner a.around a.own listed old.at a.state a.named.awaits stands in
     record {
       state = state;
-      candidates = subst (λ l. AreCandidates (detail_of s) l new.candidates.list.items state.candidates) (sym text)
-          (candidates-stay (detail_of s) old.text.list.items (opening_bracket (detail_of s)) new.candidates.list.items state.candidates
-          (named-candidates s old new from listed false a candidates));
-      is_before = arguments-begun s new state (opens.TypeArguments from) (reverse old.waiting.list.items) a.front a.bytes a.own
-          (ap reverse waits ∙ reverse-last old.waiting.list.items (opens.TypeArguments from)) (a.from_is, a.prints)
-          (text ∙ ap (λ l. l ++ opening_bracket (detail_of s)) a.written) (
+      scope = a.scope;
+      keeps = keeps-grown s mid new (opening_bracket (detail_of s)) state.candidates text candidates scope
+          (named-keeps s old mid from listed false a mid_text mid_candidates mid_scope);
+      is_before = arguments-begun s new state opened (reverse old.waiting.list.items) a.front a.bytes a.own
+          (ap reverse waits ∙ reverse-last mid.waiting.list.items opened ∙ ap (λ v. opened ∷ reverse v.list.items) mid_waits) (a.from_is, a.prints)
+          (text ∙ ap (λ v. v.list.items ++ opening_bracket (detail_of s)) mid_text ∙ ap (λ l. l ++ opening_bracket (detail_of s)) a.written) (
             inside a.around,
             o.inner,
             refl,
-            subst (λ k. Expects s Kind.ArgumentList (inside a.around) o.inner k state) (sym at) o.awaits,
+            λ within. scoped-inside a.scope a.around (reverse old.waiting.list.items) a.scoped,
+            subst (λ k. Expects s Kind.ArgumentList (inside a.around) o.inner k state) (sym (at ∙ ap (λ k. k + 1) mid_at)) o.awaits,
             λ l here now comes ended. (
               a.outer,
               a.around,
               a.named.argued (no_items l) (here + 1) now (o.onward l here now comes ended),
+              a.scoped,
+              λ e. absurd (false≢true e),
               a.stands,
             ),
           );
     }
 
--- the same, by what the calls give
+-- the same, if the calls give something
 pub argued-answer : (s : Symbol) (old mid new : Direct) (from : ℕ) (listed r : Bool) (o : Option Step) → IsTypeNamed s old from listed r → r ≡ false
-    → mid.candidates.list.items ≡ added_unless old listed from → mid.text ≡ old.text → mid.waiting ≡ old.waiting → mid.at ≡ old.at
-    → StandsAt s.bytes mid.at (73 ∷ []) → IfSome o (λ next. next ≡ steps.List true)
-    → OnSome o (new.waiting.list.items ≡ mid.waiting.list.items ++ opens.TypeArguments from ∷ []) → OnSome o (new.at ≡ mid.at + 1)
-    → OnSome o (new.text.list.items ≡ mid.text.list.items ++ opening_bracket (detail_of s)) → OnSome o (new.candidates ≡ mid.candidates) → IfSome o (IsWriting s new)
-argued-answer s old mid new from listed r o a none candidates text waits at stands is new_waits new_at new_text new_candidates =
+    → mid.candidates.list.items ≡ added_unless old listed from false → mid.text ≡ old.text → mid.waiting ≡ old.waiting → mid.has_scope ≡ old.has_scope
+    → mid.at ≡ old.at → StandsAt s.bytes mid.at (73 ∷ []) → IfSome o (λ next. next ≡ steps.List true)
+    → OnSome o (new.waiting.list.items ≡ mid.waiting.list.items ++ opens.TypeArguments from false ∷ []) → OnSome o (new.at ≡ mid.at + 1)
+    → OnSome o (new.text.list.items ≡ mid.text.list.items ++ opening_bracket (detail_of s)) → OnSome o (new.candidates ≡ mid.candidates)
+    → OnSome o (new.has_scope ≡ mid.has_scope) → IfSome o (IsWriting s new)
+argued-answer s old mid new from listed r o a none candidates text waits scope at stands is new_waits new_at new_text new_candidates new_scope =
     by-step o (steps.List true) (IsWriting s new) is
-    (λ e. argued-done s old new from listed (subst (λ b. IsTypeNamed s old from listed b) none a) (subst (λ k. StandsAt s.bytes k (73 ∷ [])) at stands)
-    (given _ o (steps.List true) e new_waits ∙ ap (λ v. v.list.items ++ opens.TypeArguments from ∷ []) waits)
-    (given _ o (steps.List true) e new_text ∙ ap (λ v. v.list.items ++ opening_bracket (detail_of s)) text)
-    (ap (λ v. v.list.items) (given _ o (steps.List true) e new_candidates) ∙ candidates)
-    (given _ o (steps.List true) e new_at ∙ ap (λ k. k + 1) at))
+    (λ e. argued-done s old mid new from listed (subst (λ b. IsTypeNamed s old from listed b) none a) (subst (λ k. StandsAt s.bytes k (73 ∷ [])) at stands)
+    candidates text waits scope at (given _ o (steps.List true) e new_waits) (given _ o (steps.List true) e new_text)
+    (given _ o (steps.List true) e new_candidates) (given _ o (steps.List true) e new_scope) (given _ o (steps.List true) e new_at))
 
 -- ## Letters of tables
 
@@ -241,13 +236,14 @@ no-abbreviation letter is none = absurd (false≢true (subst (λ l. is_abbreviat
 -- ## Types
 
 -- a type is expected as one of the kinds that it may be of
-expected-as : (s : Symbol) (w : Direct) (st : State) → AreCandidates (detail_of s) w.text.list.items w.candidates.list.items st.candidates
+expected-as : (s : Symbol) {scope : Scope} (w : Direct) (st : State) → Keeps s scope w st.candidates
     → (kind : Kind) → IsTyped kind → IsReferable kind ⊎ NoReference s.bytes w.at → (os : List Opened) (around : Around) → around.prefix ≡ outermost
-    → Expects s kind around os w.at st → Stands s (reverse w.waiting.list.items) os w.text.list.items → IsScoped around (reverse w.waiting.list.items)
-    → AwaitsType s w
-expected-as s w st candidates kind typed referable os around outside awaits stands scoped = record {
+    → Expects s kind around os w.at st → Stands s scope (reverse w.waiting.list.items) os w.text.list.items
+    → IsScoped scope around (reverse w.waiting.list.items) → AwaitsType s w
+expected-as s {scope = scope} w st keeps kind typed referable os around outside awaits stands scoped = record {
   state = st;
-  candidates = candidates;
+  scope = scope;
+  keeps = keeps;
   kind = kind;
   typed = typed;
   around = around;
@@ -262,38 +258,46 @@ expected-as s w st candidates kind typed referable os around outside awaits stan
 -- what is expected where a type is
 pub awaits-type : (s : Symbol) (w : Direct) (is_plain : Bool) → IsWriting s w (if is_plain then steps.Plain else steps.Type) → AwaitsType s w
 awaits-type s w true p =
-    expected-as s w p.state p.candidates Kind.Plain tt (inl tt) p.is_before.0 p.is_before.1 p.is_before.2 p.is_before.3 p.is_before.4 p.is_before.5
+    expected-as s w p.state p.keeps Kind.Plain tt (inl tt) p.is_before.0 p.is_before.1 p.is_before.2 p.is_before.3 p.is_before.4 p.is_before.5
 awaits-type s w false p = elim p.is_before.3 [
-  | inl awaits ↦ expected-as s w p.state p.candidates Kind.Type tt (inl tt) p.is_before.0 p.is_before.1 p.is_before.2 awaits p.is_before.4 p.is_before.5
-  | inr (inl awaits) ↦ expected-as s w p.state p.candidates Kind.Item tt (inl tt) p.is_before.0 p.is_before.1 p.is_before.2 awaits p.is_before.4 p.is_before.5
+  | inl awaits ↦ expected-as s w p.state p.keeps Kind.Type tt (inl tt) p.is_before.0 p.is_before.1 p.is_before.2 awaits p.is_before.4 p.is_before.5
+  | inr (inl awaits) ↦ expected-as s w p.state p.keeps Kind.Item tt (inl tt) p.is_before.0 p.is_before.1 p.is_before.2 awaits p.is_before.4 p.is_before.5
   | inr (inr awaits) ↦
-      expected-as s w p.state p.candidates Kind.ItemButRef tt (inr awaits.1) p.is_before.0 p.is_before.1 p.is_before.2 awaits.0 p.is_before.4 p.is_before.5
+      expected-as s w p.state p.keeps Kind.ItemButRef tt (inr awaits.1) p.is_before.0 p.is_before.1 p.is_before.2 awaits.0 p.is_before.4 p.is_before.5
 ]
+
+-- a type is read that is no candidate
+value-done : (s : Symbol) (old new : Direct) (a : AwaitsType s old) (t : Term) (bytes : List ℕ) → Prints (detail_of s) t bytes false
+    → new.text.list.items ≡ old.text.list.items ++ bytes → new.candidates ≡ old.candidates → new.waiting ≡ old.waiting → new.has_scope ≡ old.has_scope
+    → Comes s a.os (tree t true) new.at a.state → IsWriting s new (steps.Value false false)
+value-done s old new a t bytes prints text candidates waits scope comes = record {
+  state = a.state;
+  scope = a.scope;
+  keeps = keeps-grown s old new bytes a.state.candidates text candidates scope a.keeps;
+  is_before = (
+    a.os,
+    t,
+    old.text.list.items,
+    bytes,
+    text,
+    prints,
+    λ e. absurd (false≢true e),
+    comes,
+    subst (λ v. Stands s a.scope (reverse v.list.items) a.os old.text.list.items) (sym waits) a.stands,
+  );
+}
 
 -- a builtin type is read
 pub builtin-done : (s : Symbol) (old new : Direct) (letter : ℕ) → AwaitsType s old → (letter ≢ 0 → StandsAt s.bytes old.at (letter ∷ []))
     → look_up (letter ∷ []) builtin_texts ≢ [] → new.text.list.items ≡ old.text.list.items ++ look_up (letter ∷ []) builtin_texts
-    → new.candidates.list.items ≡ old.candidates.list.items → new.waiting.list.items ≡ old.waiting.list.items → new.at ≡ old.at + 1 → IsWriting s new (steps.Value false)
-builtin-done s old new letter a stands has text candidates waits at =
+    → new.candidates ≡ old.candidates → new.waiting ≡ old.waiting → new.has_scope ≡ old.has_scope → new.at ≡ old.at + 1
+    → IsWriting s new (steps.Value false false)
+builtin-done s old new letter a stands has text candidates waits scope at =
     let is = builtin-listed letter has in
     let bytes : List ℕ = look_up (letter ∷ []) builtin_texts in
-    record {
-      state = a.state;
-      candidates = subst (λ l. AreCandidates (detail_of s) new.text.list.items l a.state.candidates) (sym candidates)
-          (subst (λ l. AreCandidates (detail_of s) l old.candidates.list.items a.state.candidates) (sym text)
-          (candidates-stay (detail_of s) old.text.list.items bytes old.candidates.list.items a.state.candidates a.candidates));
-      is_before = (
-        a.os,
-        builtin (letter ∷ []),
-        old.text.list.items,
-        bytes,
-        text,
-        builtin-prints letter has,
-        subst (λ k. Comes s a.os (tree (builtin (letter ∷ [])) true) k a.state) (sym at)
-            (builtin-comes s a.kind a.around a.os old.at a.state letter a.typed is a.awaits (stands (no-builtin letter is))),
-        subst (λ l. Stands s (reverse l) a.os old.text.list.items) (sym waits) a.stands,
-      );
-    }
+    value-done s old new a (builtin (letter ∷ [])) bytes (builtin-prints letter has) text candidates waits scope
+    (subst (λ k. Comes s a.os (tree (builtin (letter ∷ [])) true) k a.state) (sym at)
+    (builtin-comes s a.kind a.around a.os old.at a.state letter a.typed is a.awaits (stands (no-builtin letter is))))
 
 no-builtin-with-d : (letter : ℕ) → is_builtin_with_d letter ≡ true → letter ≢ 0
 unfolding is_builtin_with_d among
@@ -303,26 +307,15 @@ no-builtin-with-d letter is none = absurd (false≢true (subst (λ l. is_builtin
 pub builtin-with-d-done : (s : Symbol) (old new : Direct) (letter : ℕ) → AwaitsType s old → StandsAt s.bytes old.at (68 ∷ [])
     → (letter ≢ 0 → StandsAt s.bytes (old.at + 1) (letter ∷ []))
     → is_builtin_with_d letter ≡ true → new.text.list.items ≡ old.text.list.items ++ look_up (68 ∷ letter ∷ []) builtin_texts
-    → new.candidates ≡ old.candidates → new.waiting ≡ old.waiting → new.at ≡ old.at + 1 + 1 → IsWriting s new (steps.Value false)
-builtin-with-d-done s old new letter a first stands is text candidates waits at =
+    → new.candidates ≡ old.candidates → new.waiting ≡ old.waiting → new.has_scope ≡ old.has_scope → new.at ≡ old.at + 1 + 1
+    → IsWriting s new (steps.Value false false)
+builtin-with-d-done s old new letter a first stands is text candidates waits scope at =
     let has = builtin-with-d-text letter is in
     let bytes : List ℕ = look_up (68 ∷ letter ∷ []) builtin_texts in
-    record {
-      state = a.state;
-      candidates = candidates-grown (detail_of s) old new bytes a.state.candidates text candidates a.candidates;
-      is_before = (
-        a.os,
-        builtin (68 ∷ letter ∷ []),
-        old.text.list.items,
-        bytes,
-        text,
-        builtin-with-d-prints letter has,
-        subst (λ k. Comes s a.os (tree (builtin (68 ∷ letter ∷ [])) true) k a.state) (omega (arith, at))
-            (builtin-with-d-comes s a.kind a.around a.os old.at a.state letter a.typed is a.awaits
-            (stands-join s.bytes old.at (68 ∷ []) (letter ∷ []) first (stands (no-builtin-with-d letter is)))),
-        subst (λ v. Stands s (reverse v.list.items) a.os old.text.list.items) (sym waits) a.stands,
-      );
-    }
+    value-done s old new a (builtin (68 ∷ letter ∷ [])) bytes (builtin-with-d-prints letter has) text candidates waits scope
+    (subst (λ k. Comes s a.os (tree (builtin (68 ∷ letter ∷ [])) true) k a.state) (omega (arith, at))
+    (builtin-with-d-comes s a.kind a.around a.os old.at a.state letter a.typed is a.awaits
+    (stands-join s.bytes old.at (68 ∷ []) (letter ∷ []) first (stands (no-builtin-with-d letter is)))))
 
 -- ## Names
 
@@ -330,7 +323,8 @@ builtin-with-d-done s old new letter a first stands is text candidates waits at 
 pub names-awaited : (s : Symbol) (w : Direct) → AwaitsType s w → AwaitsNamedType s w
 names-awaited s w a = record {
   state = a.state;
-  candidates = a.candidates;
+  scope = a.scope;
+  keeps = a.keeps;
   kind = Kind.Solid;
   is_named = tt;
   around = a.around;
@@ -343,12 +337,13 @@ names-awaited s w a = record {
 
 -- a name was read where one was awaited
 named-from : (s : Symbol) (old new : Direct) (from : ℕ) (listed r : Bool) (a : AwaitsNamedType s old) (own : Term) (bytes : List ℕ)
-    → AreCandidates (detail_of s) new.text.list.items new.candidates.list.items a.state.candidates → TypeNamed s a.os a.around own listed new.at a.state
+    → Keeps s a.scope new a.state.candidates → TypeNamed s a.os a.around own listed new.at a.state
     → new.text.list.items ≡ old.text.list.items ++ bytes → from ≡ length old.text.list.items → Prints (detail_of s) own bytes r
     → (listed ≡ false → r ≡ false) → new.waiting ≡ old.waiting → IsTypeNamed s new from listed r
-named-from s old new from listed r a own bytes candidates named written from_is prints no_reference waits = record {
+named-from s old new from listed r a own bytes keeps named written from_is prints no_reference waits = record {
   state = a.state;
-  candidates = candidates;
+  scope = a.scope;
+  keeps = keeps;
   around = a.around;
   outside = a.outside;
   outer = a.os;
@@ -360,7 +355,8 @@ named-from s old new from listed r a own bytes candidates named written from_is 
   from_is = from_is;
   prints = prints;
   no_reference = no_reference;
-  stands = subst (λ v. Stands s (reverse v.list.items) a.os old.text.list.items) (sym waits) a.stands;
+  stands = subst (λ v. Stands s a.scope (reverse v.list.items) a.os old.text.list.items) (sym waits) a.stands;
+  scoped = subst (λ v. IsScoped a.scope a.around (reverse v.list.items)) (sym waits) a.scoped;
 }
 
 -- a name with its length is read
@@ -368,19 +364,20 @@ pub source-named : (s : Symbol) (old new : Direct) (from : ℕ) (name : List ℕ
     → Reads old new (source_text name) → from ≡ length old.text.list.items → IsTypeNamed s new from false false
 source-named s old new from name a is some reads begins =
     named-from s old new from false false a (alone (source false name)) (source_text name)
-    (candidates-read (detail_of s) old new (source_text name) a.state.candidates reads a.candidates)
+    (keeps-read s old new (source_text name) a.state.candidates reads a.keeps)
     (source-opens s a.kind a.around a.os old.at a.state name new.at a.is_named a.outside a.begins is)
     reads.text begins (source-prints false name some (name-unmarked s.bytes old.at name new.at is)) (λ e. refl) reads.waiting
 
 -- a name in std
 pub std-named : (s : Symbol) (old mid new : Direct) (from : ℕ) (name : List ℕ) → AwaitsNamedType s old → StandsAt s.bytes old.at (83 ∷ [])
     → StandsAt s.bytes (old.at + 1) (116 ∷ [])
-    → mid.text.list.items ≡ old.text.list.items ++ codes "std::" → mid.candidates ≡ old.candidates → mid.waiting ≡ old.waiting → mid.at ≡ old.at + 1 + 1
+    → mid.text.list.items ≡ old.text.list.items ++ codes "std::" → mid.candidates ≡ old.candidates → mid.waiting ≡ old.waiting
+    → mid.has_scope ≡ old.has_scope → mid.at ≡ old.at + 1 + 1
     → IsNameAt s.bytes mid.at name new.at → name ≢ [] → Reads mid new (source_text name) → from ≡ length old.text.list.items → IsTypeNamed s new from false false
-std-named s old mid new from name a s_stands t_stands text candidates waits at is some reads begins =
+std-named s old mid new from name a s_stands t_stands text candidates waits scope at is some reads begins =
     named-from s old new from false false a (in_std (source false name)) (codes "std::" ++ source_text name)
-    (candidates-read (detail_of s) mid new (source_text name) a.state.candidates reads
-    (candidates-grown (detail_of s) old mid (codes "std::") a.state.candidates text candidates a.candidates))
+    (keeps-read s mid new (source_text name) a.state.candidates reads
+    (keeps-grown s old mid (codes "std::") a.state.candidates text candidates scope a.keeps))
     (std-opens s a.kind a.around a.os old.at a.state name new.at a.is_named a.begins (stands-join s.bytes old.at (83 ∷ []) (116 ∷ []) s_stands t_stands)
     (subst (λ k. IsNameAt s.bytes k name new.at) (omega (arith, at)) is))
     (reads.text ∙ ap (λ l. l ++ source_text name) text ∙ append_assoc old.text.list.items (codes "std::") (source_text name))
@@ -390,12 +387,12 @@ std-named s old mid new from name a s_stands t_stands text candidates waits at i
 pub abbreviation-named : (s : Symbol) (old new : Direct) (from letter : ℕ) → AwaitsNamedType s old → StandsAt s.bytes old.at (83 ∷ [])
     → (letter ≢ 0 → StandsAt s.bytes (old.at + 1) (letter ∷ [])) → look_up (letter ∷ []) abbreviation_texts ≢ []
     → new.text.list.items ≡ old.text.list.items ++ look_up (letter ∷ []) abbreviation_texts → new.candidates ≡ old.candidates → new.waiting ≡ old.waiting
-    → new.at ≡ old.at + 1 + 1 → from ≡ length old.text.list.items → IsTypeNamed s new from true false
-abbreviation-named s old new from letter a s_stands stands has text candidates waits at begins =
+    → new.has_scope ≡ old.has_scope → new.at ≡ old.at + 1 + 1 → from ≡ length old.text.list.items → IsTypeNamed s new from true false
+abbreviation-named s old new from letter a s_stands stands has text candidates waits scope at begins =
     let is = abbreviation-listed letter has in
     let bytes : List ℕ = look_up (letter ∷ []) abbreviation_texts in
     named-from s old new from true false a (abbreviation letter) bytes
-    (candidates-grown (detail_of s) old new bytes a.state.candidates text candidates a.candidates)
+    (keeps-grown s old new bytes a.state.candidates text candidates scope a.keeps)
     (subst (λ k. TypeNamed s a.os a.around (abbreviation letter) true k a.state) (omega (arith, at))
     (abbreviation-opens s a.kind a.around a.os old.at a.state letter a.is_named is a.begins
     (stands-join s.bytes old.at (83 ∷ []) (letter ∷ []) s_stands (stands (no-abbreviation letter is)))))
@@ -405,49 +402,52 @@ abbreviation-named s old new from letter a s_stands stands has text candidates w
 pub substitution-stands : (s : Symbol) (old : Direct) (n : ℕ) (k : Candidate) → AwaitsNamedType s old → k.from ≤ k.to → slice_get old.candidates.list.items n ≡ Some k
     → (k.from ≤ k.to) × (k.to ≤ length old.text.list.items)
 substitution-stands s old n k a ordered found =
-    let c = candidate-found old.text.list.items old.candidates.list.items a.state.candidates n k a.candidates ordered found in
+    let c = candidate-found old.text.list.items old.candidates.list.items a.state.candidates n k a.keeps.candidates ordered found in
     let piece = piece-found old.text.list.items c.2.front c.2.bytes c.2.back k.from k.to c.2.written c.2.from_is c.2.to_is in
     (piece.0, piece.1)
 
 -- a substitution
-pub substitution-named : (s : Symbol) (old new : Direct) (from : ℕ) (digits : List ℕ) (k : Candidate) → AwaitsNamedType s old → StandsAt s.bytes old.at (83 ∷ [])
-    → IsSeqAt s.bytes (old.at + 1) digits new.at → k.from ≤ k.to → slice_get old.candidates.list.items (counted_value Seq36 digits) ≡ Some k
-    → new.text.list.items ≡ old.text.list.items ++ take (k.to - k.from) (drop k.from old.text.list.items) → new.candidates ≡ old.candidates
-    → new.waiting ≡ old.waiting → from ≡ length old.text.list.items → k.is_dependent ≡ false → IsTypeNamed s new from true k.is_reference
-substitution-named s old new from digits k a stands is ordered found text candidates waits begins plain =
-    let c = candidate-found old.text.list.items old.candidates.list.items a.state.candidates (counted_value Seq36 digits) k a.candidates ordered found in
-    let piece = piece-found old.text.list.items c.2.front c.2.bytes c.2.back k.from k.to c.2.written c.2.from_is c.2.to_is in
-    let written : new.text.list.items ≡ old.text.list.items ++ c.2.bytes = text ∙ ap (λ l. old.text.list.items ++ l) piece.2 in
-    let prints = plainly-prints k c.0 c.2.bytes plain c.2.prints in
+pub substitution-named : (s : Symbol) (old mid new : Direct) (n from : ℕ) (digits : List ℕ) (k : Candidate) → AwaitsNamedType s old → StandsAt s.bytes old.at (83 ∷ [])
+    → IsSeqAt s.bytes (old.at + 1) digits mid.at → k.from ≤ k.to → slice_get old.candidates.list.items (counted_value Seq36 digits) ≡ Some k
+    → Reads (record old { at = n }) mid [] → Writes mid new (take (k.to - k.from) (drop k.from mid.text.list.items)) → from ≡ length old.text.list.items
+    → k.is_dependent ≡ false → IsTypeNamed s new from true k.is_reference
+substitution-named s old mid new n from digits k a stands is ordered found reads writes begins plain =
+    let text = old.text.list.items in
+    let c = candidate-found text old.candidates.list.items a.state.candidates (counted_value Seq36 digits) k a.keeps.candidates ordered found in
+    let piece = piece-found text c.2.front c.2.bytes c.2.back k.from k.to c.2.written c.2.from_is c.2.to_is in
+    let written : new.text.list.items ≡ text ++ c.2.bytes =
+    writes.text ∙ ap (λ l. l ++ take (k.to - k.from) (drop k.from l)) (reads.text ∙ append-nil text) ∙ ap (λ l. text ++ l) piece.2 in
+    let prints = subst (λ b. PrintsAs (detail_of s) a.scope.names b c.0.tree c.2.bytes k.is_reference) plain c.2.prints in
     named-from s old new from true k.is_reference a c.0.tree c.2.bytes
-    (candidates-grown (detail_of s) old new c.2.bytes a.state.candidates written candidates a.candidates)
-    (substitution-opens s a.kind a.around a.os old.at a.state digits new.at c.0 a.is_named c.1 prints.is_closed prints.packless a.begins stands is)
-    written begins prints (λ e. absurd (false≢true (sym e))) waits
+    (keeps-grown s old new c.2.bytes a.state.candidates written (writes.candidates ∙ reads.candidates) (writes.scope ∙ reads.scope) a.keeps)
+    (substitution-opens s a.kind a.around a.os old.at a.state digits new.at c.0 a.is_named c.1 prints.is_closed prints.packless a.begins stands
+    (subst (λ n. IsSeqAt s.bytes (old.at + 1) digits n) (sym writes.at) is))
+    written begins prints (λ e. absurd (false≢true (sym e))) (writes.waiting ∙ reads.waiting)
 
 -- one that names an argument
-pub named-again : (s : Symbol) (old new : Direct) (digits : List ℕ) (k : Candidate) → AwaitsNamedType s old → StandsAt s.bytes old.at (83 ∷ [])
+pub named-again : (s : Symbol) (old new : Direct) (n : ℕ) (digits : List ℕ) (k : Candidate) → AwaitsNamedType s old → StandsAt s.bytes old.at (83 ∷ [])
     → IsSeqAt s.bytes (old.at + 1) digits new.at → k.from ≤ k.to → slice_get old.candidates.list.items (counted_value Seq36 digits) ≡ Some k
-    → new.text.list.items ≡ old.text.list.items → new.candidates ≡ old.candidates → new.waiting ≡ old.waiting → k.is_dependent ≡ true → IsNamedAgain s new k
-named-again s old new digits k a stands is ordered found text candidates waits dependent = record {
+    → Reads (record old { at = n }) new [] → k.is_dependent ≡ true → IsNamedAgain s new k
+named-again s old new n digits k a stands is ordered found reads dependent = record {
   before = old.at;
   awaits = record {
     state = a.state;
-    candidates = subst (λ v. AreCandidates (detail_of s) new.text.list.items v.list.items a.state.candidates) (sym candidates)
-        (subst (λ l. AreCandidates (detail_of s) l old.candidates.list.items a.state.candidates) (sym text) a.candidates);
+    scope = a.scope;
+    keeps = keeps-grown s old (record new { at = old.at }) [] a.state.candidates reads.text reads.candidates reads.scope a.keeps;
     kind = a.kind;
     is_named = a.is_named;
     around = a.around;
     outside = a.outside;
     os = a.os;
     begins = a.begins;
-    stands = subst (λ l. Stands s (reverse new.waiting.list.items) a.os l) (sym text)
-        (subst (λ v. Stands s (reverse v.list.items) a.os old.text.list.items) (sym waits) a.stands);
-    scoped = subst (λ v. IsScoped a.around (reverse v.list.items)) (sym waits) a.scoped;
+    stands = subst (λ l. Stands s a.scope (reverse new.waiting.list.items) a.os l) (sym (reads.text ∙ append-nil old.text.list.items))
+        (subst (λ v. Stands s a.scope (reverse v.list.items) a.os old.text.list.items) (sym reads.waiting) a.stands);
+    scoped = subst (λ v. IsScoped a.scope a.around (reverse v.list.items)) (sym reads.waiting) a.scoped;
   };
   letter = stands;
   digits = digits;
   number = is;
-  found = subst (λ v. slice_get v.list.items (counted_value Seq36 digits) ≡ Some k) (sym candidates) found;
+  found = subst (λ v. slice_get v.list.items (counted_value Seq36 digits) ≡ Some k) (sym reads.candidates) found;
   ordered = ordered;
   is = dependent;
 }
@@ -457,84 +457,83 @@ named-again s old new digits k a stands is ordered found text candidates waits d
 -- a type within another one is expected
 pub type-opened : (s : Symbol) (old new : Direct) (o : Option Step) (entry : Open) (from : ℕ) (made : Term → Term) (a : AwaitsType s old)
     (t : TypeOpens s Kind.Type a.os a.around made (old.at + 1) a.state) → from ≡ length old.text.list.items
-    → (Marks s (Stands s (reverse old.waiting.list.items)) (argument_of (reverse old.waiting.list.items)) t.inner old.text.list.items from made → Stands s (entry ∷ reverse old.waiting.list.items) t.inner old.text.list.items)
-    → IsScoped a.around (entry ∷ reverse old.waiting.list.items)
+    → (Marks s (below s a.scope (reverse old.waiting.list.items)) t.inner old.text.list.items from made
+    → Stands s a.scope (entry ∷ reverse old.waiting.list.items) t.inner old.text.list.items)
+    → IsScoped a.scope a.around (entry ∷ reverse old.waiting.list.items)
     → IfSome o (λ next. next ≡ steps.Type) → OnSome o (new.waiting.list.items ≡ old.waiting.list.items ++ entry ∷ []) → OnSome o (new.at ≡ old.at + 1)
-    → new.text ≡ old.text → new.candidates ≡ old.candidates → IfSome o (IsWriting s new)
-type-opened s old new o entry from made a t begins stands scoped is waits at text candidates = by-step o steps.Type (IsWriting s new) is (λ e.
+    → new.text ≡ old.text → new.candidates ≡ old.candidates → new.has_scope ≡ old.has_scope → IfSome o (IsWriting s new)
+type-opened s old new o entry from made a t begins stands scoped is waits at text candidates scope = by-step o steps.Type (IsWriting s new) is (λ e.
+    let open_is : reverse new.waiting.list.items ≡ entry ∷ reverse old.waiting.list.items
+    = ap reverse (given _ o steps.Type e waits) ∙ reverse-last old.waiting.list.items entry in
     record {
       state = a.state;
-      candidates = candidates-same (detail_of s) old new a.state.candidates text candidates a.candidates;
+      scope = a.scope;
+      keeps = keeps-same s old new a.state.candidates text candidates scope a.keeps;
       is_before = (
         t.inner,
         a.around,
         a.outside,
         inl (subst (λ k. Expects s Kind.Type a.around t.inner k a.state) (sym (given _ o steps.Type e at)) t.awaits),
-        subst (λ l. Stands s l t.inner new.text.list.items)
-            (sym (ap reverse (given _ o steps.Type e waits) ∙ reverse-last old.waiting.list.items entry))
-            (subst (λ v. Stands s (entry ∷ reverse old.waiting.list.items) t.inner v.list.items) (sym text)
-            (stands (a.os, a.around, begins, t.passes, a.stands, scoped-encoding a.around (reverse old.waiting.list.items) a.scoped))),
-        subst (λ l. IsScoped a.around l) (sym (ap reverse (given _ o steps.Type e waits) ∙ reverse-last old.waiting.list.items entry)) scoped,
+        stands-same s a.scope old new t.inner text open_is (stands (a.os, a.around, begins, t.passes, a.scoped, a.stands)),
+        subst (λ l. IsScoped a.scope a.around l) (sym open_is) scoped,
       );
     })
 
 -- after a P
 pub pointer-opened : (s : Symbol) (old new : Direct) (o : Option Step) (from : ℕ) → AwaitsType s old → from ≡ length old.text.list.items
     → StandsAt s.bytes old.at (80 ∷ []) → IfSome o (λ next. next ≡ steps.Type) → OnSome o (new.waiting.list.items ≡ old.waiting.list.items ++ opens.Pointer from ∷ [])
-    → OnSome o (new.at ≡ old.at + 1) → new.text ≡ old.text → new.candidates ≡ old.candidates → IfSome o (IsWriting s new)
-pointer-opened s old new o from a begins stands is waits at text candidates =
+    → OnSome o (new.at ≡ old.at + 1) → new.text ≡ old.text → new.candidates ≡ old.candidates → new.has_scope ≡ old.has_scope → IfSome o (IsWriting s new)
+pointer-opened s old new o from a begins stands is waits at text candidates scope =
     type-opened s old new o (opens.Pointer from) from pointer a (pointer-opens s a.kind a.around a.os old.at a.state a.typed a.awaits stands) begins
-    (λ m. m) a.scoped is waits at text candidates
+    (λ m. m) a.scoped is waits at text candidates scope
 
 -- after an R
 pub lvalue-opened : (s : Symbol) (old new : Direct) (o : Option Step) (from : ℕ) → AwaitsType s old → from ≡ length old.text.list.items
     → StandsAt s.bytes old.at (82 ∷ []) → IfSome o (λ next. next ≡ steps.Type) → OnSome o (new.waiting.list.items ≡ old.waiting.list.items ++ opens.Lvalue from ∷ [])
-    → OnSome o (new.at ≡ old.at + 1) → new.text ≡ old.text → new.candidates ≡ old.candidates → IfSome o (IsWriting s new)
-lvalue-opened s old new o from a begins stands is waits at text candidates =
+    → OnSome o (new.at ≡ old.at + 1) → new.text ≡ old.text → new.candidates ≡ old.candidates → new.has_scope ≡ old.has_scope → IfSome o (IsWriting s new)
+lvalue-opened s old new o from a begins stands is waits at text candidates scope =
     go a.referable
   where
     go : IsReferable a.kind ⊎ NoReference s.bytes old.at → IfSome o (IsWriting s new)
     go (inr none) = absurd (none.0 stands)
     go (inl referable) =
         type-opened s old new o (opens.Lvalue from) from lvalue a (lvalue-opens s a.kind a.around a.os old.at a.state referable a.awaits stands) begins
-        (λ m. m) a.scoped is waits at text candidates
+        (λ m. m) a.scoped is waits at text candidates scope
 
 -- and after an O
 pub rvalue-opened : (s : Symbol) (old new : Direct) (o : Option Step) (from : ℕ) → AwaitsType s old → from ≡ length old.text.list.items
     → StandsAt s.bytes old.at (79 ∷ []) → IfSome o (λ next. next ≡ steps.Type) → OnSome o (new.waiting.list.items ≡ old.waiting.list.items ++ opens.Rvalue from ∷ [])
-    → OnSome o (new.at ≡ old.at + 1) → new.text ≡ old.text → new.candidates ≡ old.candidates → IfSome o (IsWriting s new)
-rvalue-opened s old new o from a begins stands is waits at text candidates =
+    → OnSome o (new.at ≡ old.at + 1) → new.text ≡ old.text → new.candidates ≡ old.candidates → new.has_scope ≡ old.has_scope → IfSome o (IsWriting s new)
+rvalue-opened s old new o from a begins stands is waits at text candidates scope =
     go a.referable
   where
     go : IsReferable a.kind ⊎ NoReference s.bytes old.at → IfSome o (IsWriting s new)
     go (inr none) = absurd (none.1 stands)
     go (inl referable) =
         type-opened s old new o (opens.Rvalue from) from rvalue a (rvalue-opens s a.kind a.around a.os old.at a.state referable a.awaits stands) begins
-        (λ m. m) a.scoped is waits at text candidates
+        (λ m. m) a.scoped is waits at text candidates scope
 
 -- a plain type is expected, where one with a qualifier may be
 plain-opened : (s : Symbol) (old new : Direct) (o : Option Step) (from : ℕ) (a : AwaitsType s old) → IsQualifiable a.kind
     → from ≡ length old.text.list.items
     → StandsAt s.bytes old.at (75 ∷ []) → IfSome o (λ next. next ≡ steps.Plain) → OnSome o (new.waiting.list.items ≡ old.waiting.list.items ++ opens.Const from ∷ [])
-    → OnSome o (new.at ≡ old.at + 1) → new.text ≡ old.text → new.candidates ≡ old.candidates → IfSome o (IsWriting s new)
-plain-opened s old new o from a may begins stands is waits at text candidates =
+    → OnSome o (new.at ≡ old.at + 1) → new.text ≡ old.text → new.candidates ≡ old.candidates → new.has_scope ≡ old.has_scope → IfSome o (IsWriting s new)
+plain-opened s old new o from a may begins stands is waits at text candidates scope =
     let t = const-opens s a.kind a.around a.os old.at a.state may a.awaits stands in
     by-step o steps.Plain (IsWriting s new) is (λ e.
+    let open_is : reverse new.waiting.list.items ≡ opens.Const from ∷ reverse old.waiting.list.items
+    = ap reverse (given _ o steps.Plain e waits) ∙ reverse-last old.waiting.list.items (opens.Const from) in
     record {
       state = a.state;
-      candidates = candidates-same (detail_of s) old new a.state.candidates text candidates a.candidates;
+      scope = a.scope;
+      keeps = keeps-same s old new a.state.candidates text candidates scope a.keeps;
       is_before = (
         t.inner,
         a.around,
         a.outside,
-        subst (λ k. Expects s Kind.Plain a.around t.inner k a.state) (sym (given _ o steps.Plain e at))
-            t.awaits,
-        subst (λ l. Stands s l t.inner new.text.list.items)
-            (sym (ap reverse (given _ o steps.Plain e waits) ∙ reverse-last old.waiting.list.items (opens.Const from)))
-            (subst (λ v. Stands s (opens.Const from ∷ reverse old.waiting.list.items) t.inner v.list.items) (sym text)
-            (a.os, a.around, begins, t.passes, a.stands, scoped-encoding a.around (reverse old.waiting.list.items) a.scoped)),
-        subst (λ l. IsScoped a.around l) (sym (ap reverse (given _ o steps.Plain e waits) ∙ reverse-last old.waiting.list.items (opens.Const from)))
-            a.scoped,
+        subst (λ k. Expects s Kind.Plain a.around t.inner k a.state) (sym (given _ o steps.Plain e at)) t.awaits,
+        stands-same s a.scope old new t.inner text open_is (a.os, a.around, begins, t.passes, a.scoped, a.stands),
+        subst (λ l. IsScoped a.scope a.around l) (sym open_is) a.scoped,
       );
     })
 
@@ -542,51 +541,22 @@ plain-opened s old new o from a may begins stands is waits at text candidates =
 pub const-opened : (s : Symbol) (old new : Direct) (o : Option Step) (from : ℕ) (is_plain : Bool)
     → IsWriting s old (if is_plain then steps.Plain else steps.Type) → is_plain ≡ false → from ≡ length old.text.list.items
     → StandsAt s.bytes old.at (75 ∷ []) → IfSome o (λ next. next ≡ steps.Plain) → OnSome o (new.waiting.list.items ≡ old.waiting.list.items ++ opens.Const from ∷ [])
-    → OnSome o (new.at ≡ old.at + 1) → new.text ≡ old.text → new.candidates ≡ old.candidates → IfSome o (IsWriting s new)
-const-opened s old new o from true p plain begins stands is waits at text candidates = absurd (false≢true (sym plain))
-const-opened s old new o from false p plain begins stands is waits at text candidates = go p.is_before.3
+    → OnSome o (new.at ≡ old.at + 1) → new.text ≡ old.text → new.candidates ≡ old.candidates → new.has_scope ≡ old.has_scope → IfSome o (IsWriting s new)
+unfolding expected-as
+const-opened s old new o from true p plain begins stands is waits at text candidates scope = absurd (false≢true (sym plain))
+const-opened s old new o from false p plain begins stands is waits at text candidates scope = go p.is_before.3
   where
     go : Expects s Kind.Type p.is_before.1 p.is_before.0 old.at p.state ⊎ Expects s Kind.Item p.is_before.1 p.is_before.0 old.at p.state
         ⊎ (Expects s Kind.ItemButRef p.is_before.1 p.is_before.0 old.at p.state × NoReference s.bytes old.at) → IfSome o (IsWriting s new)
-    go (inl awaits) = plain-opened s old new o from (record {
-      state = p.state;
-      candidates = p.candidates;
-      kind = Kind.Type;
-      typed = tt;
-      around = p.is_before.1;
-      outside = p.is_before.2;
-      os = p.is_before.0;
-      referable = inl tt;
-      awaits = awaits;
-      stands = p.is_before.4;
-      scoped = p.is_before.5;
-    }) tt begins stands is waits at text candidates
-    go (inr (inl awaits)) = plain-opened s old new o from (record {
-      state = p.state;
-      candidates = p.candidates;
-      kind = Kind.Item;
-      typed = tt;
-      around = p.is_before.1;
-      outside = p.is_before.2;
-      os = p.is_before.0;
-      referable = inl tt;
-      awaits = awaits;
-      stands = p.is_before.4;
-      scoped = p.is_before.5;
-    }) tt begins stands is waits at text candidates
-    go (inr (inr awaits)) = plain-opened s old new o from (record {
-      state = p.state;
-      candidates = p.candidates;
-      kind = Kind.ItemButRef;
-      typed = tt;
-      around = p.is_before.1;
-      outside = p.is_before.2;
-      os = p.is_before.0;
-      referable = inr awaits.1;
-      awaits = awaits.0;
-      stands = p.is_before.4;
-      scoped = p.is_before.5;
-    }) tt begins stands is waits at text candidates
+    go (inl awaits) = plain-opened s old new o from
+        (expected-as s old p.state p.keeps Kind.Type tt (inl tt) p.is_before.0 p.is_before.1 p.is_before.2 awaits p.is_before.4 p.is_before.5)
+        tt begins stands is waits at text candidates scope
+    go (inr (inl awaits)) = plain-opened s old new o from
+        (expected-as s old p.state p.keeps Kind.Item tt (inl tt) p.is_before.0 p.is_before.1 p.is_before.2 awaits p.is_before.4 p.is_before.5)
+        tt begins stands is waits at text candidates scope
+    go (inr (inr awaits)) = plain-opened s old new o from
+        (expected-as s old p.state p.keeps Kind.ItemButRef tt (inr awaits.1) p.is_before.0 p.is_before.1 p.is_before.2 awaits.0 p.is_before.4 p.is_before.5)
+        tt begins stands is waits at text candidates scope
 
 -- a nested name is expected after an N
 pub nest-awaited : (s : Symbol) (old : Direct) (n : ℕ) → AwaitsNamedType s old → n ≡ old.at + 1 → StandsAt s.bytes old.at (78 ∷ [])
@@ -595,10 +565,12 @@ nest-awaited s old n a at stands =
     let t = nested-type-opens s a.kind a.around a.os old.at a.state a.is_named a.begins stands in
     record {
       state = a.state;
-      candidates = a.candidates;
+      scope = a.scope;
+      keeps = keeps-same s old (record old { at = n }) a.state.candidates refl refl refl a.keeps;
       around = a.around;
       outside = a.outside;
       outer = t.inner;
       awaits = subst (λ k. Expects s Kind.Nest a.around t.inner k a.state) (sym at) t.awaits;
-      serves = (a.os, a.around, t.passes, a.stands);
+      scoped = λ within. a.scoped;
+      serves = (a.os, a.around, t.passes, a.scoped, a.stands);
     }

@@ -18,14 +18,14 @@ use Rattle.cpp_direct.specs.declared.direct.Direct.{Direct}
 use Rattle.cpp_direct.specs.Holes.{StandsAt, Comes, Expects, IsNameAt, Named, with_candidate, IsTagAt}
 use Rattle.cpp_direct.specs.Names.{IsOperatorAt, is_angle, operator_text, tag_text}
 use Rattle.cpp_direct.specs.Prints.{Prints, PrintsName, Shows}
-use Rattle.cpp_direct.specs.WriterInvariant.{AreCandidates, IsWriting, nowhere, EntityBehind}
+use Rattle.cpp_direct.specs.WriterInvariant.{IsWriting, Keeps, Scope, no_scope, nowhere, EntityBehind}
 use Rattle.cpp_direct.specs.MidStep.{AwaitsEncoding, AwaitsSource, HasName, IsNameEnded, IsUnscoped, IsFresh, IsSymbolEnded}
 use Rattle.cpp_direct.specs.Written.{Writes, Reads, added}
 use Rattle.cpp_direct.proofs.Begins.{encoding-expected, items-await, encoded-whole, third-tells}
 use Rattle.cpp_direct.proofs.Moves.{alone-arguments, expects-empty, stands-join}
 use Rattle.cpp_direct.proofs.MovesOfComponents.{tag-follows}
 use Rattle.cpp_direct.proofs.PrintedNests.{tagged-names, tagged-prints}
-use Rattle.cpp_direct.proofs.Kept.{candidates-as, arguments-begun, candidates-stay, candidates-with, candidates-read, reverse-last}
+use Rattle.cpp_direct.proofs.Kept.{arguments-begun, keeps-grown, keeps-read, keeps-same, keeps-with, none-kept, reverse-last}
 use Rattle.cpp_direct.proofs.NamePlaces.{reads-then, reads-of, reads-begun}
 use Rattle.cpp_direct.proofs.MovesOfEncodings.{name-source, name-internal, name-operator, name-std, operator-piece-comes, symbol-starts, encoding-opens}
 use Rattle.cpp_direct.proofs.MovesOfLists.{arguments-open}
@@ -77,14 +77,15 @@ name-has s false w p at name end letter at_is is =
     (name-source s encoding.inner (in_name w.at) w.at name end p.state encoding.awaits refl (subst (λ n. IsNameAt s.bytes n name end) here is))
 
 -- A name was read and written that is in no class.
-unscoped-read : (s : Symbol) (old new : Direct) (takes : Bool) (own : Term) (bytes : List ℕ) (st : State) (encoding : ℕ)
-    → AreCandidates (detail_of s) old.text.list.items old.candidates.list.items st.candidates → HasName s old.text.list.items encoding own new.at st
+unscoped-read : (s : Symbol) (scope : Scope) (old new : Direct) (takes : Bool) (own : Term) (bytes : List ℕ) (st : State) (encoding : ℕ)
+    → Keeps s scope old st.candidates → HasName s old.text.list.items encoding own new.at st
     → Reads old new bytes → PrintsName (detail_of s) own bytes → (takes ≡ true → Prints (detail_of s) own bytes false) → has_return_type own ≡ false
     → is_structor own ≡ false
     → (from : ℕ) → from ≡ length old.text.list.items → IsUnscoped s new from takes
-unscoped-read s old new takes own bytes st encoding candidates has reads names prints no_return no_structor from from_is = record {
+unscoped-read s scope old new takes own bytes st encoding keeps has reads names prints no_return no_structor from from_is = record {
   state = st;
-  candidates = candidates-read (detail_of s) old new bytes st.candidates reads candidates;
+  scope = scope;
+  keeps = keeps-read s old new bytes st.candidates reads keeps;
   encoding = encoding;
   own = own;
   front = old.text.list.items;
@@ -105,7 +106,8 @@ unfolding has_return_type arguments_of is_structor
 source-unscoped s internal old new name p is filled reads from from_is =
     let own = alone (source internal name) in
     let prints = source-prints internal name filled (name-unmarked s.bytes old.at name new.at is) in
-    unscoped-read s old new true own (source_text name) p.awaits.state p.before p.awaits.candidates
+    unscoped-read s p.awaits.scope old new true own (source_text name) p.awaits.state p.before
+    (keeps-same s (record old { at = p.before }) old p.awaits.state.candidates refl refl refl p.awaits.keeps)
     (name-has s internal (record old { at = p.before }) p.awaits old.at name new.at p.letter p.at_is is)
     reads (as-name own (source_text name) false prints) (λ e. prints) refl refl from from_is
 
@@ -117,7 +119,7 @@ unfolding has_return_type arguments_of is_structor in_name
 operator-unscoped s old new first second takes p is plain reads from from_is =
     let own = alone (operator first second) in
     let encoding = encoding-expected s old p in
-    unscoped-read s old new takes own (operator_text first second) p.state old.at p.candidates
+    unscoped-read s p.scope old new takes own (operator_text first second) p.state old.at p.keeps
     (subst (λ n. HasName s old.text.list.items old.at own n p.state) (sym is.ends)
     (named-has s old p own (old.at + 2)
     (name-operator s encoding.inner (in_name old.at) old.at p.state first second (operator-listed first second is.known) encoding.awaits refl is.stands)))
@@ -128,7 +130,7 @@ std-reads : (old marked read : Direct) (n : ℕ) (bytes : List ℕ) → Writes (
     → Reads old read (codes "std::" ++ bytes)
 std-reads old marked read n bytes w r =
     reads-then old marked read (codes "std::") bytes
-    (record { text = w.text; candidates = w.candidates; waiting = w.waiting; nest = w.nest; rounds = w.rounds }) r
+    (record { text = w.text; candidates = w.candidates; waiting = w.waiting; nest = w.nest; scope = w.scope; rounds = w.rounds }) r
 
 std-place : (n first second at : ℕ) → first ≡ n + 1 → second ≡ first + 1 → at ≡ second → at ≡ n + 2
 std-place n first second at e f g = omega (arith, e, f, g)
@@ -146,7 +148,7 @@ std-source-unscoped s old marked read first second name p letter next mark then_
     let prints = std-prints false name filled (name-unmarked s.bytes marked.at name read.at is) in
     let here = stands-join s.bytes old.at (83 ∷ []) (116 ∷ []) letter (subst (λ n. StandsAt s.bytes n (116 ∷ [])) next mark) in
     let there = subst (λ n. IsNameAt s.bytes n name read.at) (std-place old.at first second marked.at next then_ w.at) is in
-    unscoped-read s old read true own x p.state old.at p.candidates
+    unscoped-read s p.scope old read true own x p.state old.at p.keeps
     (named-has s old p own read.at
     (name-std s encoding.inner (in_name old.at) old.at (source false name) read.at p.state encoding.awaits here
     (λ inner expects. piece-comes s inner (in_name old.at) (old.at + 2) p.state name read.at expects there)))
@@ -164,7 +166,7 @@ std-operator-unscoped s old marked read first second a b takes p letter next mar
     let here = stands-join s.bytes old.at (83 ∷ []) (116 ∷ []) letter (subst (λ n. StandsAt s.bytes n (116 ∷ [])) next mark) in
     let place = std-place old.at first second marked.at next then_ w.at in
     let there = subst (λ n. IsOperatorAt s.bytes n a b read.at) place is in
-    unscoped-read s old read takes own (codes "std::" ++ operator_text a b) p.state old.at p.candidates
+    unscoped-read s p.scope old read takes own (codes "std::" ++ operator_text a b) p.state old.at p.keeps
     (named-has s old p own read.at
     (name-std s encoding.inner (in_name old.at) old.at (operator a b) read.at p.state encoding.awaits here
     (λ inner expects. subst (λ n. Comes s inner (piece (operator a b)) n p.state) (sym there.ends)
@@ -178,7 +180,8 @@ pub unscoped-bare : (s : Symbol) (w : Direct) (from : ℕ) (takes : Bool) → Is
 unfolding may_be_empty tree_of qualifiers_of ref_of
 unscoped-bare s w from takes p = record {
   state = p.state;
-  candidates = p.candidates;
+  scope = p.scope;
+  keeps = p.keeps;
   own = p.own;
   v = tree p.own false;
   tree_is = refl;
@@ -206,7 +209,8 @@ unscoped-tagged s old new from takes tag wide p is reads =
     let plain = name-unmarked s.bytes (old.at + 1) tag new.at is.1 in
     record {
       state = p.state;
-      candidates = candidates-read (detail_of s) old new (tag_text tag) p.state.candidates reads p.candidates;
+      scope = p.scope;
+      keeps = keeps-read s old new (tag_text tag) p.state.candidates reads p.keeps;
       encoding = p.encoding;
       own = own;
       front = p.front;
@@ -227,11 +231,16 @@ unscoped-tagged s old new from takes tag wide p is reads =
     }
 
 -- where arguments were opened after it
-list-stands : (s : Symbol) (read new : Direct) (from : ℕ) (takes : Bool) → IsUnscoped s read from takes → takes ≡ true → StandsAt s.bytes read.at (73 ∷ [])
-    → new.candidates.list.items ≡ added read from false → new.text.list.items ≡ read.text.list.items ++ opening_bracket (detail_of s)
-    → new.waiting.list.items ≡ read.waiting.list.items ++ opens.NameArguments from ∷ [] → new.at ≡ read.at + 1 → IsWriting s new (steps.List true)
+list-stands : (s : Symbol) (read kept new : Direct) (from : ℕ) (takes : Bool) → IsUnscoped s read from takes → takes ≡ true → StandsAt s.bytes read.at (73 ∷ [])
+    → kept.candidates.list.items ≡ added read from false false → kept.text ≡ read.text → kept.waiting ≡ read.waiting → kept.has_scope ≡ read.has_scope → kept.at ≡ read.at
+    → new.waiting.list.items ≡ kept.waiting.list.items ++ opens.NameArguments from ∷ [] → new.at ≡ kept.at + 1
+    → new.text.list.items ≡ kept.text.list.items ++ opening_bracket (detail_of s) → new.candidates ≡ kept.candidates → new.has_scope ≡ kept.has_scope
+    → IsWriting s new (steps.List true)
 unfolding in_name inside
-list-stands s read new from takes p some there candidates_are text_is waiting_is here_is =
+list-stands s read kept new from takes p some there ks same_text same_open same_scope same_at open_ at_ text_ candidates_ scope_ =
+    let text_is : new.text.list.items ≡ read.text.list.items ++ opening_bracket (detail_of s) = cc (text_, same_text) in
+    let waiting_is : new.waiting.list.items ≡ read.waiting.list.items ++ opens.NameArguments from ∷ [] = cc (open_, same_open) in
+    let here_is : new.at ≡ read.at + 1 = cc (at_, same_at) in
     let own = p.own in
     let st = p.state in
     let place = p.encoding in
@@ -242,15 +251,16 @@ list-stands s read new from takes p some there candidates_are text_is waiting_is
     let state = with_candidate (in_name place) own st in
     record {
       state = state;
-      candidates = candidates-as (detail_of s) new state.candidates text_is candidates_are
-          (candidates-stay (detail_of s) read.text.list.items (opening_bracket (detail_of s)) (added read from false) state.candidates
-          (candidates-with read st p.front p.bytes from own (in_name place) false p.candidates p.written p.from_is prints));
+      scope = p.scope;
+      keeps = keeps-grown s kept new (opening_bracket (detail_of s)) state.candidates text_ candidates_ scope_
+          (keeps-with s read kept st p.front p.bytes from own (in_name place) false false p.keeps p.written p.from_is prints (λ e. absurd (false≢true e)) same_text ks same_scope);
       is_before = arguments-begun s new state (opens.NameArguments from) (reverse read.waiting.list.items) p.front p.bytes own
           (ap reverse waiting_is ∙ reverse-last read.waiting.list.items (opens.NameArguments from)) (p.from_is, prints, p.no_structor)
           (text_is ∙ ap (λ l. l ++ opening_bracket (detail_of s)) p.written) (
             inside (in_name place),
             list.inner,
             refl,
+            (λ e. absurd (false≢true e)),
             subst (λ n. Expects s Kind.ArgumentList (inside (in_name place)) list.inner n state) (sym here_is) list.awaits,
             λ l at now comes ended. has.argued (no_items l) (at + 1) now (list.onward l at now comes ended),
           );
@@ -258,17 +268,15 @@ list-stands s read new from takes p some there candidates_are text_is waiting_is
 
 -- arguments
 pub unscoped-argued : (s : Symbol) (read kept new : Direct) (from : ℕ) (takes : Bool) (r : Option Step) → IsUnscoped s read from takes → takes ≡ true
-    → StandsAt s.bytes read.at (73 ∷ []) → kept.candidates.list.items ≡ added read from false → kept.text ≡ read.text → kept.waiting ≡ read.waiting → kept.at ≡ read.at
+    → StandsAt s.bytes read.at (73 ∷ []) → kept.candidates.list.items ≡ added read from false false → kept.text ≡ read.text → kept.waiting ≡ read.waiting
+    → kept.has_scope ≡ read.has_scope → kept.at ≡ read.at
     → IfSome r (λ next. next ≡ steps.List true) → OnSome r (new.waiting.list.items ≡ kept.waiting.list.items ++ opens.NameArguments from ∷ []) → OnSome r (new.at ≡ kept.at + 1)
-    → OnSome r (new.text.list.items ≡ kept.text.list.items ++ opening_bracket (detail_of s)) → OnSome r (new.candidates ≡ kept.candidates) → IfSome r (IsWriting s new)
-unscoped-argued s read kept new from takes None p some there ks same_text same_open same_at step open_ at_ text_ candidates_ = tt
-unscoped-argued s read kept new from takes (Some next) p some there ks same_text same_open same_at step open_ at_ text_ candidates_ =
+    → OnSome r (new.text.list.items ≡ kept.text.list.items ++ opening_bracket (detail_of s)) → OnSome r (new.candidates ≡ kept.candidates)
+    → OnSome r (new.has_scope ≡ kept.has_scope) → IfSome r (IsWriting s new)
+unscoped-argued s read kept new from takes None p some there ks same_text same_open same_scope same_at step open_ at_ text_ candidates_ scope_ = tt
+unscoped-argued s read kept new from takes (Some next) p some there ks same_text same_open same_scope same_at step open_ at_ text_ candidates_ scope_ =
     subst (λ x. IsWriting s new x) (sym step)
-    (list-stands s read new from takes p some there
-    (ap (λ v. v.list.items) candidates_ ∙ ks)
-    (text_ ∙ ap (λ v. v.list.items ++ opening_bracket (detail_of s)) same_text)
-    (open_ ∙ ap (λ v. v.list.items ++ opens.NameArguments from ∷ []) same_open)
-    (at_ ∙ ap (λ n. n + 1) same_at))
+    (list-stands s read kept new from takes p some there ks same_text same_open same_scope same_at open_ at_ text_ candidates_ scope_)
 
 -- ## The beginnings of local entities
 
@@ -291,7 +299,8 @@ local-begins s w fresh starts letter =
     let here : LocalOpened s encoding_.inner (in_name 2) 3 first_state = local-opens s encoding_.inner (in_name 2) 2 first_state encoding_.awaits letter in
     record {
       state = first_state;
-      candidates = subst (λ ks. AreCandidates (detail_of s) w.text.list.items ks []) (sym fresh.no_candidate) tt;
+      scope = no_scope;
+      keeps = none-kept s (record w { at = 3 }) fresh.no_candidate;
       around = in_name 2;
       outer = here.inner;
       begins = λ none. sym (ap (λ b. cond b 3 2) (third-tells s.bytes 90 letter));
@@ -326,7 +335,8 @@ guard-begins s old new fresh starts marks letter stands writes =
     let text_is : new.text.list.items ≡ codes "guard variable for " = writes.text ∙ ap (λ l. l ++ codes "guard variable for ") fresh.no_text in
     record {
       state = first_state;
-      candidates = subst (λ ks. AreCandidates (detail_of s) new.text.list.items ks []) (sym (ap (λ v. v.list.items) writes.candidates ∙ fresh.no_candidate)) tt;
+      scope = no_scope;
+      keeps = none-kept s (record new { at = 5 }) (ap (λ v. v.list.items) writes.candidates ∙ fresh.no_candidate);
       around = in_name 2;
       outer = here.inner;
       begins = λ none. absurd (guard-text (sym text_is ∙ none));
@@ -371,7 +381,8 @@ entity-ended s internal old pushed read last p one name is_name filled two digit
     ∙ ap (λ l. l ++ codes "::" ++ n) (sym (append-nil old.text.list.items) ∙ e.written) ∙ behind-three e.lead e.bytes (codes "::") n in
     record {
       state = e.state;
-      candidates = candidates-read (detail_of s) old last (codes "::" ++ n ++ []) e.state.candidates whole e.candidates;
+      scope = e.scope;
+      keeps = keeps-grown s (record old { at = p.before }) last (codes "::" ++ n ++ []) e.state.candidates whole.text whole.candidates whole.scope e.keeps;
       e = behind.made;
       encoded = behind.encoded;
       shows = subst (λ l. Shows (detail_of s) behind.made l) (sym written) (behind.shows e.bytes e.encloses);
@@ -381,7 +392,7 @@ entity-ended s internal old pushed read last p one name is_name filled two digit
 
 -- no discriminator was read
 pub none-told : (s : List ℕ) (w : Direct) → (told : Discriminator) × IsDiscriminatorAt s w.at told w.at × Reads w w []
-none-told s w = (unnumbered, refl, reads-begun w w refl refl refl refl refl)
+none-told s w = (unnumbered, refl, reads-begun w w refl refl refl refl refl refl)
 
 -- a digit was read after a _
 pub digit-told : (s : List ℕ) (old new : Direct) (digit : ℕ) → StandsAt s old.at (95 ∷ []) → StandsAt s (old.at + 1) (digit ∷ []) → 48 ≤ digit → digit ≤ 57

@@ -17,6 +17,7 @@ use Rattle.cpp_direct.specs.declared.open.Mark.{Mark}
 use Rattle.cpp_direct.specs.declared.open.Candidate.{Candidate}
 use Rattle.cpp_direct.specs.declared.open.Access.{Access}
 use Rattle.cpp_direct.specs.declared.open.Purpose.{Purpose}
+use Rattle.cpp_direct.specs.declared.open.Purpose.TheVariants as purposes
 use Rattle.cpp_direct.specs.declared.open.Open.{Open}
 use Rattle.cpp_direct.specs.declared.open.Argument.{Argument}
 use Rattle.cpp_direct.specs.declared.open.Arguments.{Arguments}
@@ -30,8 +31,8 @@ use Rattle.cpp_direct.specs.HolesOfFunctions.{SignatureGoesOn, plain_function, p
 use Rattle.cpp_direct.specs.HolesOfArrays.{accessed, with_accessed}
 use Rattle.cpp_direct.specs.HolesOfTypes.{IsNamedKind, NoReference, TreeOpens}
 use Rattle.cpp_direct.specs.Marks.{has_const, called_on, mark_text}
-use Rattle.cpp_direct.specs.Prints.{NamesClass, Prints, PrintsName, IsElement, PrintAll, Shows, Encloses, sign_text, PrintsIn, NamesArgument, list_of, PrintAllBy, forwarded}
-use Rattle.cpp_direct.specs.WriterInvariant.{AreCandidates, AwaitsItems, Encoded, EncodedBehind, Fronts, IsFunction, IsInstance, IsListing, IsNest, IsTail, IsTemplate, GoesOn, EnumeratorGoesOn, Owns, ParametersGoOn, Serves, Stands, TakesFunction, opening_text, qualifiers, extra_of, led_by, list_with, in_front_of_next, IsPlaced, IsAmong, AreAmong, HasArguments, IsKnown, IsScoped, argument_of, place_of, of_pack, IsPlain, ArgumentsGoOn, encoding_place}
+use Rattle.cpp_direct.specs.Prints.{NamesClass, Prints, PrintsName, IsElement, PrintAll, Shows, Encloses, sign_text, PrintsAs, PrintsIn, PrintAllAs, IsGiven, list_of, PrintAllBy, forwarded}
+use Rattle.cpp_direct.specs.WriterInvariant.{AwaitsItems, Encoded, EncodedBehind, Fronts, IsFunction, IsInstance, IsListing, IsNest, IsTail, IsTemplate, GoesOn, EnumeratorGoesOn, Owns, ParametersGoOn, Serves, Stands, TakesFunction, opening_text, qualifiers, extra_of, led_by, list_with, in_front_of_next, IsPlaced, IsAmong, AreAmong, HasArguments, IsKnown, IsScoped, is_type, place_of, of_pack, IsNaming, IsNestScoped, Keeps, Scope, below, is_noted, may_name, ArgumentsGoOn, encoding_place}
 
 -- the digits after the T of a parameter with this number
 abbrev pub parameter_digits : (number : ℕ) → List ℕ
@@ -54,7 +55,8 @@ pub record IsFresh (w : Direct) : Type 0 where
 -- an encoding is expected after what is written
 pub record AwaitsEncoding (s : Symbol) (w : Direct) : Type 0 where
   pub state : State
-  pub candidates : AreCandidates (detail_of s) w.text.list.items w.candidates.list.items state.candidates
+  pub scope : Scope
+  pub keeps : Keeps s scope w state.candidates
   pub around : Around
   pub outer : List Opened
   pub begins : w.text.list.items ≡ [] → w.at ≡ encoding_place s.bytes
@@ -79,7 +81,8 @@ pub record HasName (s : Symbol) (lead : List ℕ) (encoding : ℕ) (t : Term) (a
 -- The name of an encoding that is in no class was read, and written from a place on. It takes arguments after it, or may have none.
 pub record IsUnscoped (s : Symbol) (w : Direct) (from : ℕ) (takes : Bool) : Type 0 where
   pub state : State
-  pub candidates : AreCandidates (detail_of s) w.text.list.items w.candidates.list.items state.candidates
+  pub scope : Scope
+  pub keeps : Keeps s scope w state.candidates
   pub encoding : ℕ
   pub own : Term
   pub front : List ℕ
@@ -95,7 +98,8 @@ pub record IsUnscoped (s : Symbol) (w : Direct) (from : ℕ) (takes : Bool) : Ty
 -- a type is expected
 pub record AwaitsType (s : Symbol) (w : Direct) : Type 0 where
   pub state : State
-  pub candidates : AreCandidates (detail_of s) w.text.list.items w.candidates.list.items state.candidates
+  pub scope : Scope
+  pub keeps : Keeps s scope w state.candidates
   pub kind : Kind
   pub typed : IsTyped kind
   pub referable : IsReferable kind ⊎ NoReference s.bytes w.at
@@ -103,21 +107,22 @@ pub record AwaitsType (s : Symbol) (w : Direct) : Type 0 where
   pub outside : around.prefix ≡ outermost
   pub os : List Opened
   pub awaits : Expects s kind around os w.at state
-  pub stands : Stands s (reverse w.waiting.list.items) os w.text.list.items
-  pub scoped : IsScoped around (reverse w.waiting.list.items)
+  pub stands : Stands s scope (reverse w.waiting.list.items) os w.text.list.items
+  pub scoped : IsScoped scope around (reverse w.waiting.list.items)
 
 -- a type is expected that is a name
 pub record AwaitsNamedType (s : Symbol) (w : Direct) : Type 0 where
   pub state : State
-  pub candidates : AreCandidates (detail_of s) w.text.list.items w.candidates.list.items state.candidates
+  pub scope : Scope
+  pub keeps : Keeps s scope w state.candidates
   pub kind : Kind
   pub is_named : IsNamedKind kind
   pub around : Around
   pub outside : around.prefix ≡ outermost
   pub os : List Opened
   pub begins : TreeOpens s kind os around w.at state
-  pub stands : Stands s (reverse w.waiting.list.items) os w.text.list.items
-  pub scoped : IsScoped around (reverse w.waiting.list.items)
+  pub stands : Stands s scope (reverse w.waiting.list.items) os w.text.list.items
+  pub scoped : IsScoped scope around (reverse w.waiting.list.items)
 
 -- A substitution was read that names a type, which names an argument of the function's template.
 pub record IsNamedAgain (s : Symbol) (w : Direct) (k : Candidate) : Type 0 where
@@ -133,7 +138,8 @@ pub record IsNamedAgain (s : Symbol) (w : Direct) (k : Candidate) : Type 0 where
 -- the name of a type was read, which is a candidate already or not, and was written from a place on
 pub record IsTypeNamed (s : Symbol) (w : Direct) (from : ℕ) (is_listed is_reference : Bool) : Type 0 where
   pub state : State
-  pub candidates : AreCandidates (detail_of s) w.text.list.items w.candidates.list.items state.candidates
+  pub scope : Scope
+  pub keeps : Keeps s scope w state.candidates
   pub around : Around
   pub outside : around.prefix ≡ outermost
   pub outer : List Opened
@@ -145,12 +151,14 @@ pub record IsTypeNamed (s : Symbol) (w : Direct) (from : ℕ) (is_listed is_refe
   pub from_is : from ≡ length front
   pub prints : Prints (detail_of s) own bytes is_reference
   pub no_reference : is_listed ≡ false → is_reference ≡ false
-  pub stands : Stands s (reverse w.waiting.list.items) outer front
+  pub stands : Stands s scope (reverse w.waiting.list.items) outer front
+  pub scoped : IsScoped scope around (reverse w.waiting.list.items)
 
 -- A type was read that what waits for it marks. It was written from a place on, but for its mark.
-pub record AwaitsMark (s : Symbol) (w : Direct) (mark : List ℕ) (from : ℕ) (is_reference : Bool) : Type 0 where
+pub record AwaitsMark (s : Symbol) (w : Direct) (mark : List ℕ) (from : ℕ) (is_reference is_dependent : Bool) : Type 0 where
   pub state : State
-  pub candidates : AreCandidates (detail_of s) w.text.list.items w.candidates.list.items state.candidates
+  pub scope : Scope
+  pub keeps : Keeps s scope w state.candidates
   pub entry : Open
   pub rest : List Open
   pub open_is : reverse w.waiting.list.items ≡ entry ∷ rest
@@ -162,38 +170,16 @@ pub record AwaitsMark (s : Symbol) (w : Direct) (mark : List ℕ) (from : ℕ) (
   pub bytes : List ℕ
   pub written : w.text.list.items ≡ front ++ bytes
   pub from_is : from ≡ length front
-  pub prints : Prints (detail_of s) made (bytes ++ mark) is_reference
-  pub stands : Stands s rest outer front
-
--- A type that names the argument of the function's template was read, and what waits for it marks it. It was written, but for its mark.
-pub record AwaitsDependentMark (s : Symbol) (w : Direct) (mark : List ℕ) (is_reference : Bool) (begins number place : ℕ) : Type 0 where
-  pub state : State
-  pub candidates : AreCandidates (detail_of s) w.text.list.items w.candidates.list.items state.candidates
-  pub entry : Open
-  pub rest : List Open
-  pub open_is : reverse w.waiting.list.items ≡ entry ∷ rest
-  pub outer : List Opened
-  pub made_in : Around
-  pub made : Term
-  pub comes : Comes s outer (tree made true) w.at (with_candidate made_in made state)
-  pub front : List ℕ
-  pub bytes : List ℕ
-  pub marks : List ℕ
-  pub argument : Arguments
-  pub written : w.text.list.items ≡ front ++ bytes ++ marks
-  pub begins_is : begins ≡ length (front ++ bytes)
-  pub prints : NamesArgument (detail_of s) number made (marks ++ mark) is_reference
-  pub encoding_is : place ≢ 0 → made_in.encoding ≡ place
-  pub place_is : place ≡ argument.encoding
-  pub found : argument_of rest ≡ Some argument
-  pub plain : IsPlain (place_of argument number)
-  pub placed : IsPlaced front (place_of argument number) bytes
-  pub stands : Stands s rest outer front
+  pub prints : PrintsAs (detail_of s) scope.names is_dependent made (bytes ++ mark) is_reference
+  pub naming : is_dependent ≡ true → IsNaming s scope rest
+  pub made_here : is_dependent ≡ true → made_in.encoding ≡ encoding_place s.bytes
+  pub stands : Stands s scope rest outer front
 
 -- An argument of a name was read, which is a type, after so many others.
 pub record IsArgumentRead (s : Symbol) (w : Direct) (from number : ℕ) (known : Arguments) (is_reference : Bool) : Type 0 where
   pub state : State
-  pub candidates : AreCandidates (detail_of s) w.text.list.items w.candidates.list.items state.candidates
+  pub scope : Scope
+  pub keeps : Keeps s scope w state.candidates
   pub owner : Open
   pub rest : List Open
   pub open_is : reverse w.waiting.list.items ≡ opens.Argument from number known ∷ owner ∷ rest
@@ -204,19 +190,20 @@ pub record IsArgumentRead (s : Symbol) (w : Direct) (from number : ℕ) (known :
   pub texts : List ℕ
   pub t : Term
   pub bytes : List ℕ
-  pub is_template : IsTemplate (detail_of s) owner front template name w.text.list.items
+  pub is_template : IsTemplate (detail_of s) scope.names owner front template name w.text.list.items
   pub elements : PrintAll (detail_of s) 3 ts texts
   pub written : w.text.list.items ≡ (front ++ name ++ opening_bracket (detail_of s) ++ in_front_of_next ts texts) ++ bytes
   pub from_is : from ≡ length (front ++ name ++ opening_bracket (detail_of s) ++ in_front_of_next ts texts)
   pub number_is : number ≡ length ts
   pub among : AreAmong (detail_of s) w.text.list.items false known ts
   pub prints : Prints (detail_of s) t bytes is_reference
-  pub goes : ArgumentsGoOn s owner (Stands s rest) front template (ts ++ t ∷ []) w.at state
+  pub goes : ArgumentsGoOn s owner (below s scope rest) front template (ts ++ t ∷ []) w.at state
 
 -- A type is expected as an argument of a name, after these and so many, of which some are known.
 pub record AwaitsKnownArgument (s : Symbol) (w : Direct) (before : ℕ) (known : Arguments) : Type 0 where
   pub state : State
-  pub candidates : AreCandidates (detail_of s) w.text.list.items w.candidates.list.items state.candidates
+  pub scope : Scope
+  pub keeps : Keeps s scope w state.candidates
   pub owner : Open
   pub rest : List Open
   pub open_is : reverse w.waiting.list.items ≡ owner ∷ rest
@@ -225,18 +212,19 @@ pub record AwaitsKnownArgument (s : Symbol) (w : Direct) (before : ℕ) (known :
   pub name : List ℕ
   pub ts : List Term
   pub texts : List ℕ
-  pub is_template : IsTemplate (detail_of s) owner front template name w.text.list.items
+  pub is_template : IsTemplate (detail_of s) scope.names owner front template name w.text.list.items
   pub elements : PrintAll (detail_of s) 3 ts texts
   pub some : ts ≢ []
   pub written : w.text.list.items ≡ front ++ name ++ opening_bracket (detail_of s) ++ texts
   pub number_is : before + 1 ≡ length ts
   pub among : AreAmong (detail_of s) w.text.list.items false known ts
-  pub goes : ArgumentsGoOn s owner (Stands s rest) front template ts w.at state
+  pub goes : ArgumentsGoOn s owner (below s scope rest) front template ts w.at state
 
 -- An element of a pack was read, which is the first argument of a name, after so many others.
 pub record IsPackElementRead (s : Symbol) (w : Direct) (from number : ℕ) (known : Arguments) (is_reference : Bool) : Type 0 where
   pub state : State
-  pub candidates : AreCandidates (detail_of s) w.text.list.items w.candidates.list.items state.candidates
+  pub scope : Scope
+  pub keeps : Keeps s scope w state.candidates
   pub owner : Open
   pub rest : List Open
   pub open_is : reverse w.waiting.list.items ≡ opens.Element from number known ∷ opens.Pack ∷ owner ∷ rest
@@ -247,19 +235,20 @@ pub record IsPackElementRead (s : Symbol) (w : Direct) (from number : ℕ) (know
   pub texts : List ℕ
   pub t : Term
   pub bytes : List ℕ
-  pub is_template : IsTemplate (detail_of s) owner front template name w.text.list.items
+  pub is_template : IsTemplate (detail_of s) scope.names owner front template name w.text.list.items
   pub elements : PrintAll (detail_of s) 0 ts texts
   pub written : w.text.list.items ≡ (front ++ name ++ opening_bracket (detail_of s) ++ in_front_of_next ts texts) ++ bytes
   pub from_is : from ≡ length (front ++ name ++ opening_bracket (detail_of s) ++ in_front_of_next ts texts)
   pub number_is : number ≡ length ts
   pub among : AreAmong (detail_of s) w.text.list.items true known ts
   pub prints : Prints (detail_of s) t bytes is_reference
-  pub goes : GoesOn s (of_pack [] []) owner (Stands s rest) front template (ts ++ t ∷ []) w.at state
+  pub goes : GoesOn s (of_pack [] []) owner (below s scope rest) front template (ts ++ t ∷ []) w.at state
 
 -- Another one is expected, after so many.
 pub record AwaitsPackElement (s : Symbol) (w : Direct) (before : ℕ) (known : Arguments) : Type 0 where
   pub state : State
-  pub candidates : AreCandidates (detail_of s) w.text.list.items w.candidates.list.items state.candidates
+  pub scope : Scope
+  pub keeps : Keeps s scope w state.candidates
   pub owner : Open
   pub rest : List Open
   pub open_is : reverse w.waiting.list.items ≡ opens.Pack ∷ owner ∷ rest
@@ -268,28 +257,31 @@ pub record AwaitsPackElement (s : Symbol) (w : Direct) (before : ℕ) (known : A
   pub name : List ℕ
   pub ts : List Term
   pub texts : List ℕ
-  pub is_template : IsTemplate (detail_of s) owner front template name w.text.list.items
+  pub is_template : IsTemplate (detail_of s) scope.names owner front template name w.text.list.items
   pub elements : PrintAll (detail_of s) 0 ts texts
   pub some : ts ≢ []
   pub written : w.text.list.items ≡ front ++ name ++ opening_bracket (detail_of s) ++ texts
   pub number_is : before + 1 ≡ length ts
   pub among : AreAmong (detail_of s) w.text.list.items true known ts
-  pub goes : GoesOn s (of_pack [] []) owner (Stands s rest) front template ts w.at state
+  pub goes : GoesOn s (of_pack [] []) owner (below s scope rest) front template ts w.at state
 
 -- the first piece of a nested name is expected
 pub record AwaitsNest (s : Symbol) (w : Direct) (purpose : Purpose) : Type 0 where
   pub state : State
-  pub candidates : AreCandidates (detail_of s) w.text.list.items w.candidates.list.items state.candidates
+  pub scope : Scope
+  pub keeps : Keeps s scope w state.candidates
   pub around : Around
   pub outside : around.prefix ≡ outermost
   pub outer : List Opened
   pub awaits : Expects s Kind.Nest around outer w.at state
-  pub serves : Serves s purpose (Stands s (reverse w.waiting.list.items)) outer w.text.list.items
+  pub scoped : is_type purpose ≡ true → IsScoped scope around (reverse w.waiting.list.items)
+  pub serves : Serves s purpose (below s scope (reverse w.waiting.list.items)) outer w.text.list.items
 
 -- A name that an S stands for was read at the front of a nested one.
 pub record IsNestKnown (s : Symbol) (w : Direct) : Type 0 where
   pub state : State
-  pub candidates : AreCandidates (detail_of s) w.text.list.items w.candidates.list.items state.candidates
+  pub scope : Scope
+  pub keeps : Keeps s scope w state.candidates
   pub around : Around
   pub outer : List Opened
   pub own : Term
@@ -297,15 +289,17 @@ pub record IsNestKnown (s : Symbol) (w : Direct) : Type 0 where
   pub front : List ℕ
   pub bytes : List ℕ
   pub written : w.text.list.items ≡ front ++ bytes
-  pub is_nest : IsNest (detail_of s) front bytes w.text.list.items w.nest own
+  pub is_nest : IsNest (detail_of s) scope.names front bytes w.text.list.items w.nest own
+  pub scoped : IsNestScoped s scope w around
   pub listed : w.nest.is_listed ≡ true
   pub classless : w.nest.has_class ≡ false
-  pub serves : Serves s w.nest.purpose (Stands s (reverse w.waiting.list.items)) outer front
+  pub serves : Serves s w.nest.purpose (below s scope (reverse w.waiting.list.items)) outer front
 
 -- A component of a nested name was read, or a name in std. Arguments may come after it, or tags.
 pub record IsNestNamed (s : Symbol) (w : Direct) : Type 0 where
   pub state : State
-  pub candidates : AreCandidates (detail_of s) w.text.list.items w.candidates.list.items state.candidates
+  pub scope : Scope
+  pub keeps : Keeps s scope w state.candidates
   pub around : Around
   pub outer : List Opened
   pub own : Term
@@ -313,19 +307,21 @@ pub record IsNestNamed (s : Symbol) (w : Direct) : Type 0 where
   pub front : List ℕ
   pub bytes : List ℕ
   pub written : w.text.list.items ≡ front ++ bytes
-  pub is_nest : IsNest (detail_of s) front bytes w.text.list.items w.nest own
-  pub names_tagged : w.nest.has_class ≡ true → (tag : List ℕ) → IsUnmarked tag → NamesClass (detail_of s) (with_tag own tag) is_nest.class
+  pub is_nest : IsNest (detail_of s) scope.names front bytes w.text.list.items w.nest own
+  pub scoped : IsNestScoped s scope w around
+  pub names_tagged : w.nest.has_class ≡ true → w.nest.is_dependent ≡ false → (tag : List ℕ) → IsUnmarked tag → NamesClass (detail_of s) (with_tag own tag) is_nest.class
   pub unlisted : w.nest.is_listed ≡ false
   pub no_instance : w.nest.is_instance ≡ false
   pub no_return : has_return_type own ≡ false
   pub structor : w.nest.has_class ≡ false → is_structor own ≡ true
   pub no_structor : w.nest.has_class ≡ true → is_structor own ≡ false
-  pub serves : Serves s w.nest.purpose (Stands s (reverse w.waiting.list.items)) outer front
+  pub serves : Serves s w.nest.purpose (below s scope (reverse w.waiting.list.items)) outer front
 
 -- An operator was read that ends a nested name: no arguments are read after it.
 pub record IsOperatorRead (s : Symbol) (w : Direct) : Type 0 where
   pub state : State
-  pub candidates : AreCandidates (detail_of s) w.text.list.items w.candidates.list.items state.candidates
+  pub scope : Scope
+  pub keeps : Keeps s scope w state.candidates
   pub around : Around
   pub outer : List Opened
   pub own : Term
@@ -336,12 +332,13 @@ pub record IsOperatorRead (s : Symbol) (w : Direct) : Type 0 where
   pub from_is : w.nest.from ≡ length front
   pub prints : PrintsName (detail_of s) own bytes
   pub no_return : has_return_type own ≡ false
-  pub serves : Serves s w.nest.purpose (Stands s (reverse w.waiting.list.items)) outer front
+  pub serves : Serves s w.nest.purpose (below s scope (reverse w.waiting.list.items)) outer front
 
 -- A constructor or a destructor was read, and was written but for the name of its class.
 pub record AwaitsClass (s : Symbol) (w : Direct) : Type 0 where
   pub state : State
-  pub candidates : AreCandidates (detail_of s) w.text.list.items w.candidates.list.items state.candidates
+  pub scope : Scope
+  pub keeps : Keeps s scope w state.candidates
   pub around : Around
   pub outer : List Opened
   pub own : Term
@@ -356,10 +353,12 @@ pub record AwaitsClass (s : Symbol) (w : Direct) : Type 0 where
   pub class_written : w.text.list.items ≡ class_front ++ class ++ class_back
   pub class_from : w.nest.class_from ≡ length class_front
   pub class_to : w.nest.class_to ≡ length class_front + length class
+  pub closed : w.nest.is_dependent ≡ false
+  pub scoped : IsNestScoped s scope w around
   pub prints : Prints (detail_of s) own (bytes ++ class) false
   pub no_return : has_return_type own ≡ false
   pub structor : is_structor own ≡ true
-  pub serves : Serves s w.nest.purpose (Stands s (reverse w.waiting.list.items)) outer front
+  pub serves : Serves s w.nest.purpose (below s scope (reverse w.waiting.list.items)) outer front
 
 -- the known ones among arguments are at their places, and a pack is the only one
 abbrev pub AreKnown : (detail : Detail) (text : List ℕ) → Arguments → List Term → (tail : Term) → Type 0
@@ -371,7 +370,8 @@ AreKnown detail text a ts tail =
 -- The arguments of what was opened last are read and their E, but for their last bracket. Those that are known are at their places.
 pub record IsListEnded (s : Symbol) (w : Direct) (argument : Arguments) : Type 0 where
   pub state : State
-  pub candidates : AreCandidates (detail_of s) w.text.list.items w.candidates.list.items state.candidates
+  pub scope : Scope
+  pub keeps : Keeps s scope w state.candidates
   pub owner : Open
   pub rest : List Open
   pub open_is : reverse w.waiting.list.items ≡ owner ∷ rest
@@ -382,45 +382,48 @@ pub record IsListEnded (s : Symbol) (w : Direct) (argument : Arguments) : Type 0
   pub tail : Term
   pub is_tail : IsTail tail
   pub arguments : List ℕ
-  pub is_template : IsTemplate (detail_of s) owner front template name w.text.list.items
-  pub elements : PrintAll (detail_of s) 3 ts arguments
+  pub is_template : IsTemplate (detail_of s) scope.names owner front template name w.text.list.items
+  pub elements : PrintAllAs (detail_of s) scope.names (is_noted owner) 3 ts arguments
   pub written : w.text.list.items ≡ front ++ name ++ opening_bracket (detail_of s) ++ arguments
-  pub owns : Owns s owner (Stands s rest) front (instance template (list_with ts tail)) w.at state
+  pub owns : Owns s owner (below s scope rest) front (instance template (list_with ts tail)) w.at state
   pub known : AreKnown (detail_of s) w.text.list.items argument ts tail
 
 -- An element is expected, and the comma before it is written.
 pub record AwaitsNextArgument (s : Symbol) (w : Direct) : Type 0 where
   pub state : State
-  pub candidates : AreCandidates (detail_of s) w.text.list.items w.candidates.list.items state.candidates
-  pub place : IsListing (detail_of s) (reverse w.waiting.list.items) w.text.list.items
+  pub scope : Scope
+  pub keeps : Keeps s scope w state.candidates
+  pub place : IsListing (detail_of s) scope.names (reverse w.waiting.list.items) w.text.list.items
   pub ts : List Term
   pub texts : List ℕ
-  pub elements : PrintAll (detail_of s) (extra_of place.listing) ts texts
+  pub elements : PrintAllAs (detail_of s) scope.names (may_name place.listing place.owner) (extra_of place.listing) ts texts
   pub written : w.text.list.items ≡ led_by (detail_of s) place.listing place.front place.name ++ in_front_of_next ts texts
-  pub goes : GoesOn s place.listing place.owner (Stands s place.rest) place.front place.template ts w.at state
+  pub goes : GoesOn s place.listing place.owner (below s scope place.rest) place.front place.template ts w.at state
 
 -- The type of an enumerator was read, which is an element. Its number is expected.
 pub record AwaitsNumber (s : Symbol) (w : Direct) : Type 0 where
   pub state : State
-  pub candidates : AreCandidates (detail_of s) w.text.list.items w.candidates.list.items state.candidates
+  pub scope : Scope
+  pub keeps : Keeps s scope w state.candidates
   pub opened : List Open
   pub open_is : reverse w.waiting.list.items ≡ opens.Enumerator ∷ opened
-  pub place : IsListing (detail_of s) opened w.text.list.items
+  pub place : IsListing (detail_of s) scope.names opened w.text.list.items
   pub ts : List Term
   pub texts : List ℕ
-  pub elements : PrintAll (detail_of s) (extra_of place.listing) ts texts
+  pub elements : PrintAllAs (detail_of s) scope.names (may_name place.listing place.owner) (extra_of place.listing) ts texts
   pub type : Term
   pub bytes : List ℕ
   pub is_reference : Bool
   pub prints : Prints (detail_of s) type bytes is_reference
   pub written : w.text.list.items ≡ led_by (detail_of s) place.listing place.front place.name ++ in_front_of_next ts texts ++ codes "(" ++ bytes
-  pub goes : EnumeratorGoesOn s place.listing place.owner (Stands s place.rest) place.front place.template ts type w.at state
+  pub goes : EnumeratorGoesOn s place.listing place.owner (below s scope place.rest) place.front place.template ts type w.at state
 
 -- The name of an encoding was read and written from a place on, but for its qualifier. The known ones of these arguments are at their
 -- places.
 pub record IsNameEnded (s : Symbol) (w : Direct) (mark : Mark) (is_instance : Bool) (argument : Arguments) (from : ℕ) : Type 0 where
   pub state : State
-  pub candidates : AreCandidates (detail_of s) w.text.list.items w.candidates.list.items state.candidates
+  pub scope : Scope
+  pub keeps : Keeps s scope w state.candidates
   pub own : Term
   pub v : Value
   pub tree_is : tree_of v ≡ own
@@ -436,16 +439,24 @@ pub record IsNameEnded (s : Symbol) (w : Direct) (mark : Mark) (is_instance : Bo
   pub names : HasArguments (detail_of s) w.text.list.items argument own
   pub awaits : AwaitsItems s lead v w.at state
 
+-- The same, and the known ones of these arguments are those that types may name from here on.
+pub record IsNameScoped (s : Symbol) (w : Direct) (mark : Mark) (is_instance : Bool) (argument : Arguments) (from : ℕ) : Type 0 where
+  pub ended : IsNameEnded s w mark is_instance argument from
+  pub given : IsGiven (detail_of s) ended.scope.names (types_of ended.own)
+  pub named : ended.scope.arguments ≡ argument
+  pub encoded : argument.encoding ≢ 0 → (from ≡ 0) × (argument.encoding ≡ encoding_place s.bytes)
+
 -- The return type of a function was read, and comes after the function's name and what is written before it.
 pub record IsFrontRead (s : Symbol) (w : Direct) (mark : Mark) (start : ℕ) (argument : Arguments) : Type 0 where
   pub state : State
-  pub candidates : AreCandidates (detail_of s) w.text.list.items w.candidates.list.items state.candidates
+  pub scope : Scope
+  pub keeps : Keeps s scope w state.candidates
   pub v : Value
   pub lead : List ℕ
   pub name : List ℕ
   pub front : List ℕ
   pub front_is : front ≡ lead ++ name
-  pub is_instance : IsInstance (detail_of s) front argument mark v name
+  pub is_instance : IsInstance (detail_of s) scope front argument mark v name
   pub apart : is_local s.bytes ≡ false → lead ≡ []
   pub start_is : start ≡ length front
   pub returned : Term
@@ -458,20 +469,39 @@ pub record IsFrontRead (s : Symbol) (w : Direct) (mark : Mark) (start : ℕ) (ar
 -- A function's name was read and written, and what comes before it. Its parameters are expected.
 pub record AwaitsParameters (s : Symbol) (w : Direct) (mark : Mark) (start : ℕ) (argument : Arguments) : Type 0 where
   pub state : State
-  pub candidates : AreCandidates (detail_of s) w.text.list.items w.candidates.list.items state.candidates
+  pub scope : Scope
+  pub keeps : Keeps s scope w state.candidates
   pub make : Term → Term
   pub front : List ℕ
   pub lead : List ℕ
   pub name : List ℕ
-  pub is_function : IsFunction (detail_of s) w.text.list.items argument mark make [] name []
+  pub is_function : IsFunction (detail_of s) scope w.text.list.items argument mark make [] name []
   pub fronts : Fronts s.is_bare front start lead name
   pub written : w.text.list.items ≡ front
   pub goes : ParametersGoOn s argument lead make [] w.at state
 
+-- this is passed on to what is open where it names no argument of the function's template alone
+abbrev pub IsPassedClosed : Open → Type 0
+IsPassedClosed (opens.Pointer from) = ⊥
+IsPassedClosed (opens.Lvalue from) = ⊥
+IsPassedClosed (opens.Rvalue from) = ⊥
+IsPassedClosed (opens.Const from) = ⊥
+IsPassedClosed (opens.Front mark start argument) = ⊥
+IsPassedClosed (opens.Parameters mark start argument) = ⊥
+IsPassedClosed _ = Unit {0}
+
+-- what is open for arguments of which one names an argument of the function's template
+abbrev pub IsDependentNow : (old new : Open) → Type 0
+IsDependentNow (opens.TypeArguments from is_dependent) new = new ≡ opens.TypeArguments from true
+IsDependentNow (opens.NestArguments nest) new = (nest.purpose ≡ purposes.Type) × (new ≡ opens.NestArguments (record nest { is_dependent = true }))
+IsDependentNow (opens.FirstArguments nest) new = (nest.purpose ≡ purposes.Type) × (new ≡ opens.FirstArguments (record nest { is_dependent = true }))
+IsDependentNow _ new = ⊥
+
 -- A parameter of a function is expected.
 pub record AwaitsNextParameter (s : Symbol) (w : Direct) (mark : Mark) (start : ℕ) (argument : Arguments) : Type 0 where
   pub state : State
-  pub candidates : AreCandidates (detail_of s) w.text.list.items w.candidates.list.items state.candidates
+  pub scope : Scope
+  pub keeps : Keeps s scope w state.candidates
   pub rest : List Open
   pub open_is : reverse w.waiting.list.items ≡ opens.Parameters mark start argument ∷ rest
   pub make : Term → Term
@@ -480,7 +510,7 @@ pub record AwaitsNextParameter (s : Symbol) (w : Direct) (mark : Mark) (start : 
   pub lead : List ℕ
   pub name : List ℕ
   pub texts : List ℕ
-  pub is_function : IsFunction (detail_of s) w.text.list.items argument mark make ts name texts
+  pub is_function : IsFunction (detail_of s) scope w.text.list.items argument mark make ts name texts
   pub fronts : Fronts s.is_bare front start lead name
   pub written : w.text.list.items ≡ front ++ codes "(" ++ in_front_of_next ts texts
   pub goes : ParametersGoOn s argument lead make ts w.at state
@@ -512,7 +542,8 @@ pub record AreForwarded (detail : Detail) (old new : Direct) (ts : List Term) (n
 -- A parameter of a function was read.
 pub record IsParameterEnded (s : Symbol) (w : Direct) (mark : Mark) (start : ℕ) (argument : Arguments) : Type 0 where
   pub state : State
-  pub candidates : AreCandidates (detail_of s) w.text.list.items w.candidates.list.items state.candidates
+  pub scope : Scope
+  pub keeps : Keeps s scope w state.candidates
   pub rest : List Open
   pub open_is : reverse w.waiting.list.items ≡ opens.Parameters mark start argument ∷ rest
   pub make : Term → Term
@@ -522,7 +553,7 @@ pub record IsParameterEnded (s : Symbol) (w : Direct) (mark : Mark) (start : ℕ
   pub lead : List ℕ
   pub name : List ℕ
   pub texts : List ℕ
-  pub is_function : IsFunction (detail_of s) w.text.list.items argument mark make ts name texts
+  pub is_function : IsFunction (detail_of s) scope w.text.list.items argument mark make ts name texts
   pub fronts : Fronts s.is_bare front start lead name
   pub written : w.text.list.items ≡ front ++ codes "(" ++ texts
   pub goes : ParametersGoOn s argument lead make ts w.at state
@@ -530,7 +561,8 @@ pub record IsParameterEnded (s : Symbol) (w : Direct) (mark : Mark) (start : ℕ
 -- A function was read and written but for its last bracket and its qualifiers.
 pub record IsFunctionEnded (s : Symbol) (w : Direct) (mark : Mark) (start : ℕ) : Type 0 where
   pub state : State
-  pub candidates : AreCandidates (detail_of s) w.text.list.items w.candidates.list.items state.candidates
+  pub scope : Scope
+  pub keeps : Keeps s scope w state.candidates
   pub own : Term
   pub items : Term
   pub e : Term
@@ -548,7 +580,8 @@ pub record IsFunctionEnded (s : Symbol) (w : Direct) (mark : Mark) (start : ℕ)
 -- An encoding was read and written after a text, but for its qualifier.
 pub record IsEncodingEnded (s : Symbol) (w : Direct) (mark : Mark) : Type 0 where
   pub state : State
-  pub candidates : AreCandidates (detail_of s) w.text.list.items w.candidates.list.items state.candidates
+  pub scope : Scope
+  pub keeps : Keeps s scope w state.candidates
   pub e : Term
   pub lead : List ℕ
   pub bytes : List ℕ
@@ -560,7 +593,8 @@ pub record IsEncodingEnded (s : Symbol) (w : Direct) (mark : Mark) : Type 0 wher
 -- The encoding of a symbol was read and written, as it is shown in a detail.
 pub record IsSymbolEnded (s : Symbol) (w : Direct) : Type 0 where
   pub state : State
-  pub candidates : AreCandidates (detail_of s) w.text.list.items w.candidates.list.items state.candidates
+  pub scope : Scope
+  pub keeps : Keeps s scope w state.candidates
   pub e : Term
   pub encoded : Encoded s e w.at
   pub shows : Shows (detail_of s) e w.text.list.items
@@ -570,7 +604,8 @@ pub record IsSymbolEnded (s : Symbol) (w : Direct) : Type 0 where
 -- A type was read after a text, as an element or a parameter of what is open.
 pub record IsElementRead (s : Symbol) (w : Direct) (o : Open) : Type 0 where
   pub state : State
-  pub candidates : AreCandidates (detail_of s) w.text.list.items w.candidates.list.items state.candidates
+  pub scope : Scope
+  pub keeps : Keeps s scope w state.candidates
   pub rest : List Open
   pub open_is : reverse w.waiting.list.items ≡ o ∷ rest
   pub os : List Opened
@@ -580,12 +615,13 @@ pub record IsElementRead (s : Symbol) (w : Direct) (o : Open) : Type 0 where
   pub written : w.text.list.items ≡ front ++ bytes
   pub element : (extra : ℕ) → IsElement (detail_of s) extra own bytes
   pub comes : Comes s os (tree own true) w.at state
-  pub stands : Stands s (o ∷ rest) os front
+  pub stands : Stands s scope (o ∷ rest) os front
 
 -- The same of a type that prints on both sides of a name, where what is open takes it.
 pub record IsElementPassed (s : Symbol) (w : Direct) : Type 0 where
   pub state : State
-  pub candidates : AreCandidates (detail_of s) w.text.list.items w.candidates.list.items state.candidates
+  pub scope : Scope
+  pub keeps : Keeps s scope w state.candidates
   pub os : List Opened
   pub own : Term
   pub front : List ℕ
@@ -594,12 +630,13 @@ pub record IsElementPassed (s : Symbol) (w : Direct) : Type 0 where
   pub element : (extra : ℕ) → IsElement (detail_of s) extra own bytes
   pub comes : Comes s os (tree own true) w.at state
   pub takes : TakesFunction (reverse w.waiting.list.items)
-  pub stands : Stands s (reverse w.waiting.list.items) os front
+  pub stands : Stands s scope (reverse w.waiting.list.items) os front
 
 -- The type of an array's elements was read. The digits of the size are between two places of the symbol.
 pub record IsArrayRead (s : Symbol) (w : Direct) (access : Access) (from to : ℕ) : Type 0 where
   pub state : State
-  pub candidates : AreCandidates (detail_of s) w.text.list.items w.candidates.list.items state.candidates
+  pub scope : Scope
+  pub keeps : Keeps s scope w state.candidates
   pub rest : List Open
   pub open_is : reverse w.waiting.list.items ≡ opens.Array access from to ∷ rest
   pub outer : List Opened
@@ -617,12 +654,13 @@ pub record IsArrayRead (s : Symbol) (w : Direct) (access : Access) (from to : �
   pub comes : Comes s outer (tree (accessed access (array (values.normal digits) own)) true) w.at
       (with_accessed access made_in (array (values.normal digits) own) state)
   pub takes : TakesFunction rest
-  pub stands : Stands s rest outer front
+  pub stands : Stands s scope rest outer front
 
 -- Of a function type the return type was read, or a parameter.
 pub record AwaitsSignature (s : Symbol) (w : Direct) (is_pointer is_first : Bool) : Type 0 where
   pub state : State
-  pub candidates : AreCandidates (detail_of s) w.text.list.items w.candidates.list.items state.candidates
+  pub scope : Scope
+  pub keeps : Keeps s scope w state.candidates
   pub rest : List Open
   pub open_is : reverse w.waiting.list.items ≡ opens.Signature is_pointer ∷ rest
   pub outer : List Opened
@@ -640,12 +678,13 @@ pub record AwaitsSignature (s : Symbol) (w : Direct) (is_pointer is_first : Bool
   pub written : w.text.list.items ≡ front ++ (bytes ++ opening_text is_pointer) ++ texts
   pub goes : SignatureGoesOn s outer made_in is_pointer (λ l. plain_function returned (list_with ts l)) w.at state
   pub takes : TakesFunction rest
-  pub stands : Stands s rest outer front
+  pub stands : Stands s scope rest outer front
 
 -- A parameter of a function type comes next.
 pub record AwaitsParameter (s : Symbol) (w : Direct) (is_pointer : Bool) : Type 0 where
   pub state : State
-  pub candidates : AreCandidates (detail_of s) w.text.list.items w.candidates.list.items state.candidates
+  pub scope : Scope
+  pub keeps : Keeps s scope w state.candidates
   pub rest : List Open
   pub open_is : reverse w.waiting.list.items ≡ opens.Signature is_pointer ∷ rest
   pub outer : List Opened
@@ -661,12 +700,13 @@ pub record AwaitsParameter (s : Symbol) (w : Direct) (is_pointer : Bool) : Type 
   pub written : w.text.list.items ≡ front ++ (bytes ++ opening_text is_pointer) ++ in_front_of_next ts texts
   pub goes : SignatureGoesOn s outer made_in is_pointer (λ l. plain_function returned (list_with ts l)) w.at state
   pub takes : TakesFunction rest
-  pub stands : Stands s rest outer front
+  pub stands : Stands s scope rest outer front
 
 -- The return type of a function type was read.
 pub record IsReturned (s : Symbol) (w : Direct) (is_pointer : Bool) : Type 0 where
   pub state : State
-  pub candidates : AreCandidates (detail_of s) w.text.list.items w.candidates.list.items state.candidates
+  pub scope : Scope
+  pub keeps : Keeps s scope w state.candidates
   pub rest : List Open
   pub open_is : reverse w.waiting.list.items ≡ opens.Returned is_pointer ∷ rest
   pub outer : List Opened
@@ -679,12 +719,13 @@ pub record IsReturned (s : Symbol) (w : Direct) (is_pointer : Bool) : Type 0 whe
   pub written : w.text.list.items ≡ front ++ bytes
   pub goes : SignatureGoesOn s outer made_in is_pointer (λ l. plain_function returned l) w.at state
   pub takes : TakesFunction rest
-  pub stands : Stands s rest outer front
+  pub stands : Stands s scope rest outer front
 
 -- A function type was read, or a pointer to one, and written but for its last bracket.
 pub record IsFunctionRead (s : Symbol) (w : Direct) (is_pointer : Bool) : Type 0 where
   pub state : State
-  pub candidates : AreCandidates (detail_of s) w.text.list.items w.candidates.list.items state.candidates
+  pub scope : Scope
+  pub keeps : Keeps s scope w state.candidates
   pub rest : List Open
   pub open_is : reverse w.waiting.list.items ≡ opens.Signature is_pointer ∷ rest
   pub outer : List Opened
@@ -696,7 +737,7 @@ pub record IsFunctionRead (s : Symbol) (w : Direct) (is_pointer : Bool) : Type 0
   pub element : (extra : ℕ) → IsElement (detail_of s) extra (pointed is_pointer made) (bytes ++ codes ")")
   pub comes : Comes s outer (tree (pointed is_pointer made) true) w.at (with_pointed is_pointer made_in made state)
   pub takes : TakesFunction rest
-  pub stands : Stands s rest outer front
+  pub stands : Stands s scope rest outer front
 
 -- ## Literals
 

@@ -8,14 +8,13 @@ use Rattle.cpp_direct.specs.Symbol.{detail_of, Symbol}
 use Rattle.cpp_direct.specs.declared.open.Mark.{Mark}
 use Rattle.cpp_direct.specs.declared.open.Mark.TheVariants as marks
 use Rattle.cpp_direct.specs.declared.open.Open.{Open}
-use Rattle.cpp_direct.specs.declared.open.Arguments.{Arguments}
 use Rattle.cpp_direct.specs.declared.open.Open.TheVariants as opens
 use Rattle.cpp_direct.specs.declared.direct.Direct.{Direct}
 use Rattle.cpp_direct.specs.Bytes.{is_local}
 use Rattle.cpp_direct.specs.Holes.{StandsAt}
 use Rattle.cpp_direct.specs.Marks.{has_const, called_on, mark_text}
 use Rattle.cpp_direct.specs.Prints.{PrintsName, PrintAll, Encloses}
-use Rattle.cpp_direct.specs.WriterInvariant.{AreCandidates, IsEnclosing, ItemsGoOn, LambdaWithin, Stands, TypeWithin, qualifiers, HasArguments, nowhere, named_in}
+use Rattle.cpp_direct.specs.WriterInvariant.{IsEnclosing, ItemsGoOn, Keeps, LambdaWithin, Scope, TypeWithin, below, nowhere, qualifiers}
 use Rattle.cpp_direct.specs.MidStep.{IsEncodingEnded}
 
 -- ## Local entities
@@ -34,7 +33,8 @@ pub record AwaitsEntity (s : Symbol) (w : Direct) (is_internal : Bool) : Type 0 
 -- The name of a function in which a type is was read and written from a place on, but for its qualifier.
 pub record IsEnclosingNamed (s : Symbol) (w : Direct) (mark : Mark) (from : ℕ) : Type 0 where
   pub state : State
-  pub candidates : AreCandidates (detail_of s) w.text.list.items w.candidates.list.items state.candidates
+  pub scope : Scope
+  pub keeps : Keeps s scope w state.candidates
   pub own : Term
   pub v : Value
   pub tree_is : tree_of v ≡ own
@@ -46,13 +46,13 @@ pub record IsEnclosingNamed (s : Symbol) (w : Direct) (mark : Mark) (from : ℕ)
   pub from_is : from ≡ length front
   pub prints : PrintsName (detail_of s) own name
   pub no_return : has_return_type own ≡ false
-  pub goes : ItemsGoOn s nowhere (TypeWithin s (Stands s (reverse w.waiting.list.items)) front) (λ l. encoding_of v l) [] w.at state
+  pub goes : ItemsGoOn s nowhere (TypeWithin s (below s scope (reverse w.waiting.list.items)) front) (λ l. encoding_of v l) [] w.at state
 
--- The same of an instance of a function template. Its return type is expected, and the argument of the template is where it was
--- noted last, or it isn't known.
+-- The same of an instance of a function template. Its return type is expected.
 pub record IsEnclosingInstance (s : Symbol) (w : Direct) (mark : Mark) (from : ℕ) : Type 0 where
   pub state : State
-  pub candidates : AreCandidates (detail_of s) w.text.list.items w.candidates.list.items state.candidates
+  pub scope : Scope
+  pub keeps : Keeps s scope w state.candidates
   pub own : Term
   pub v : Value
   pub tree_is : tree_of v ≡ own
@@ -64,50 +64,52 @@ pub record IsEnclosingInstance (s : Symbol) (w : Direct) (mark : Mark) (from : �
   pub from_is : from ≡ length front
   pub prints : PrintsName (detail_of s) own name
   pub returns : has_return_type own ≡ true
-  pub names : HasArguments (detail_of s) w.text.list.items w.argument own
-  pub goes : ItemsGoOn s (named_in 0 w.argument) (TypeWithin s (Stands s (reverse w.waiting.list.items)) front) (λ l. encoding_of v l) [] w.at state
+  pub goes : ItemsGoOn s nowhere (TypeWithin s (below s scope (reverse w.waiting.list.items)) front) (λ l. encoding_of v l) [] w.at state
 
 -- The name of a function in which a type is was read, and its return type if it has one. Its parameters are expected.
-pub record AwaitsEnclosingParameters (s : Symbol) (w : Direct) (mark : Mark) (from : ℕ) (argument : Arguments) : Type 0 where
+pub record AwaitsEnclosingParameters (s : Symbol) (w : Direct) (mark : Mark) (from : ℕ) : Type 0 where
   pub state : State
-  pub candidates : AreCandidates (detail_of s) w.text.list.items w.candidates.list.items state.candidates
+  pub scope : Scope
+  pub keeps : Keeps s scope w state.candidates
   pub make : Term → Term
   pub front : List ℕ
   pub name : List ℕ
-  pub is_enclosing : IsEnclosing (detail_of s) w.text.list.items argument mark make [] name []
+  pub is_enclosing : IsEnclosing (detail_of s) mark make [] name []
   pub written : w.text.list.items ≡ front ++ name
   pub from_is : from ≡ length front
-  pub goes : ItemsGoOn s argument (TypeWithin s (Stands s (reverse w.waiting.list.items)) front) make [] w.at state
+  pub goes : ItemsGoOn s nowhere (TypeWithin s (below s scope (reverse w.waiting.list.items)) front) make [] w.at state
 
 -- A parameter of such a function was read.
-pub record IsEnclosingParameterRead (s : Symbol) (w : Direct) (mark : Mark) (from to : ℕ) (argument : Arguments) : Type 0 where
+pub record IsEnclosingParameterRead (s : Symbol) (w : Direct) (mark : Mark) (from to : ℕ) : Type 0 where
   pub state : State
-  pub candidates : AreCandidates (detail_of s) w.text.list.items w.candidates.list.items state.candidates
+  pub scope : Scope
+  pub keeps : Keeps s scope w state.candidates
   pub rest : List Open
-  pub open_is : reverse w.waiting.list.items ≡ opens.Enclosing mark from to argument ∷ rest
+  pub open_is : reverse w.waiting.list.items ≡ opens.Enclosing mark from to ∷ rest
   pub make : Term → Term
   pub ts : List Term
   pub some : ts ≢ []
   pub front : List ℕ
   pub name : List ℕ
   pub texts : List ℕ
-  pub is_enclosing : IsEnclosing (detail_of s) w.text.list.items argument mark make ts name texts
+  pub is_enclosing : IsEnclosing (detail_of s) mark make ts name texts
   pub from_is : from ≡ length front
   pub written : w.text.list.items ≡ front ++ name ++ codes "(" ++ texts
   pub to_is : to ≡ length (front ++ name)
-  pub goes : ItemsGoOn s argument (TypeWithin s (Stands s rest) front) make ts w.at state
+  pub goes : ItemsGoOn s nowhere (TypeWithin s (below s scope rest) front) make ts w.at state
 
 -- Such a function was read and written from a place on, but for its qualifier.
 pub record IsEnclosingRead (s : Symbol) (w : Direct) (mark : Mark) (from : ℕ) : Type 0 where
   pub state : State
-  pub candidates : AreCandidates (detail_of s) w.text.list.items w.candidates.list.items state.candidates
+  pub scope : Scope
+  pub keeps : Keeps s scope w state.candidates
   pub e : Term
   pub front : List ℕ
   pub bytes : List ℕ
   pub written : w.text.list.items ++ mark_text mark ≡ front ++ bytes
   pub from_is : from ≡ length front
   pub encloses : Encloses (detail_of s) e bytes
-  pub within : TypeWithin s (Stands s (reverse w.waiting.list.items)) front e w.at state
+  pub within : TypeWithin s (below s scope (reverse w.waiting.list.items)) front e w.at state
 
 -- The name of a type is expected after the E of the function that it is in, which was written from a place on.
 pub record AwaitsTypeName (s : Symbol) (w : Direct) (from : ℕ) : Type 0 where
@@ -119,7 +121,8 @@ pub record AwaitsTypeName (s : Symbol) (w : Direct) (from : ℕ) : Type 0 where
 -- A parameter of a lambda was read, which is a type that is in a function.
 pub record IsLambdaParameterRead (s : Symbol) (w : Direct) (from : ℕ) : Type 0 where
   pub state : State
-  pub candidates : AreCandidates (detail_of s) w.text.list.items w.candidates.list.items state.candidates
+  pub scope : Scope
+  pub keeps : Keeps s scope w state.candidates
   pub rest : List Open
   pub open_is : reverse w.waiting.list.items ≡ opens.Lambda from ∷ rest
   pub front : List ℕ
@@ -132,4 +135,4 @@ pub record IsLambdaParameterRead (s : Symbol) (w : Direct) (from : ℕ) : Type 0
   pub elements : PrintAll (detail_of s) 0 ts texts
   pub from_is : from ≡ length front
   pub written : w.text.list.items ≡ front ++ (bytes ++ codes "::{lambda(") ++ texts
-  pub goes : ItemsGoOn s nowhere (LambdaWithin s (Stands s rest) front e) (λ l. l) ts w.at state
+  pub goes : ItemsGoOn s nowhere (LambdaWithin s (below s scope rest) front e) (λ l. l) ts w.at state

@@ -1,5 +1,5 @@
 -- Trees of which the text is known: those that print it at the left and nothing at the right, wherever they are.
-use Rattle.std.specs.Prelude.{◌≡◌, ℕ, ◌+◌, ◌*◌, ◌≤◌, List, [], ◌∷◌, ◌++◌, length, Bool, true, false, cond, None, codes, ◌⊎◌}
+use Rattle.std.specs.Prelude.{◌≡◌, ℕ, ◌+◌, ◌*◌, ◌≤◌, List, [], ◌∷◌, ◌++◌, length, Bool, true, false, cond, Option, None, Some, codes, ◌⊎◌}
 use Rattle.sym_print.specs.declared.detail.Detail.{Detail}
 use Rattle.sym_print.specs.Unshared.{Unshared, text_of, cost_of}
 use Rattle.cpp_grammar.specs.Term.{Signed, Term, nil, list}
@@ -53,16 +53,33 @@ pub record PrintsIn (detail : Detail) (context : Context) (extra : ℕ) (t : Ter
   pub no_function : is_function_type t ≡ false
   pub void : is_void t ≡ true → bytes ≡ codes "void"
 
--- A tree that names an argument of its scope: wherever that is a type with a text, and no reference, it prints this after it.
-abbrev pub PrintsBehind : (detail : Detail) (number : ℕ) → Term → (marks : List ℕ) → (reference : Bool) → Type 0
-PrintsBehind detail number t marks reference =
-    (context : Context) (bytes : List ℕ) → Prints detail (argument context number) bytes false → PrintsIn detail context 2 t (bytes ++ marks) reference
+-- ## Types that name arguments of a function's template
 
--- A tree that names an argument of its scope, and is a type that may be named itself where that isn't a pack.
-pub record NamesArgument (detail : Detail) (number : ℕ) (t : Term) (marks : List ℕ) (reference : Bool) : Type 0 where
-  pub prints : PrintsBehind detail number t marks reference
-  pub packless : (scope : Term) → length_if_pack (element scope number) ≡ None → pack_length scope t ≡ None
+-- the texts of the arguments of a function's template, by their numbers: of those that are types, and no references, and may be named
+abbrev pub Names : Type 0
+Names = (number : ℕ) → Option (List ℕ)
+
+-- in this context parameters name arguments with these texts
+abbrev pub IsGiven : (detail : Detail) → Names → Context → Type 0
+IsGiven detail names context = (number : ℕ) (bytes : List ℕ) → names number ≡ Some bytes → Prints detail (argument context number) bytes false
+
+-- of these arguments those that may be named are no packs
+abbrev pub AreSingle : Names → (arguments : Term) → Type 0
+AreSingle names arguments = (number : ℕ) (bytes : List ℕ) → names number ≡ Some bytes → length_if_pack (element arguments number) ≡ None
+
+-- A tree that has this text where parameters name arguments with these texts.
+pub record PrintsGiven (detail : Detail) (names : Names) (t : Term) (bytes : List ℕ) (reference : Bool) : Type 0 where
+  pub prints : (context : Context) → IsGiven detail names context → PrintsIn detail context 2 t bytes reference
+  pub packless : (arguments : Term) → AreSingle names arguments → pack_length arguments t ≡ None
   pub no_function : is_function_type t ≡ false
+  pub no_pack : length_if_pack t ≡ None
+  pub as_prefix : (context : Context) → prefix_item context t ≡ as_item left context t
+  pub opening : opening_text (last_piece t) ≡ codes "<"
+
+-- a tree that has this text there, or anywhere
+abbrev pub PrintsAs : (detail : Detail) → Names → (is_dependent : Bool) → Term → (bytes : List ℕ) → (reference : Bool) → Type 0
+PrintsAs detail names false t bytes reference = Prints detail t bytes reference
+PrintsAs detail names true t bytes reference = PrintsGiven detail names t bytes reference
 
 -- what an rvalue reference to a type has after its text, if it is no reference
 abbrev pub forwarded : (reference : Bool) → List ℕ
@@ -153,3 +170,17 @@ PrintEachIn detail context extra ts texts = PrintEachBy (IsElementIn detail cont
 
 abbrev pub PrintAllIn : (detail : Detail) → Context → (extra : ℕ) → List Term → (bytes : List ℕ) → Type 0
 PrintAllIn detail context extra ts bytes = PrintAllBy (IsElementIn detail context extra) ts bytes
+
+-- A tree prints this text as the element of a list where parameters name arguments with these texts.
+pub record IsElementGiven (detail : Detail) (names : Names) (extra : ℕ) (t : Term) (bytes : List ℕ) : Type 0 where
+  pub prints : (context : Context) → IsGiven detail names context → IsElementIn detail context extra t bytes
+  pub packless : (arguments : Term) → AreSingle names arguments → pack_length arguments t ≡ None
+
+-- an element that prints so there, or anywhere
+abbrev pub IsElementAs : (detail : Detail) → Names → (is_dependent : Bool) → (extra : ℕ) → Term → (bytes : List ℕ) → Type 0
+IsElementAs detail names false extra t bytes = IsElement detail extra t bytes
+IsElementAs detail names true extra t bytes = IsElementGiven detail names extra t bytes
+
+-- these elements print so
+abbrev pub PrintAllAs : (detail : Detail) → Names → (is_dependent : Bool) → (extra : ℕ) → List Term → (bytes : List ℕ) → Type 0
+PrintAllAs detail names is_dependent extra ts bytes = PrintAllBy (IsElementAs detail names is_dependent extra) ts bytes

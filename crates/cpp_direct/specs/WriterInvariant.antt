@@ -37,34 +37,31 @@ use Rattle.cpp_direct.specs.HolesOfNests.{IsFirstRest}
 use Rattle.cpp_direct.specs.HolesOfLists.{IsSuffix, IsDigitsAt, minus_sign}
 use Rattle.cpp_direct.specs.HolesOfLocals.{Discriminator, EntityOpened, IsDiscriminatorAt, IsEntityAt, IsLambdaDigit, lambda_ending, lambda_with, local_in}
 use Rattle.cpp_direct.specs.Marks.{has_const, called_on}
-use Rattle.cpp_direct.specs.Prints.{Prints, PrintsName, Shows, Encloses, NamesClass, PrintAll, NamesArgument, PrintAllIn, list_of}
+use Rattle.cpp_direct.specs.Prints.{Names, IsGiven, Prints, PrintsAs, PrintsName, Shows, Encloses, NamesClass, PrintAll, PrintAllAs, PrintAllIn, list_of}
 use Rattle.cpp_grammar.specs.Parts.{types_of}
 
 -- ## Candidates
 
--- It prints a text, or that after an argument, in the encoding that begins at its place, if this is known.
-abbrev pub PrintsOrNames : (detail : Detail) (is_dependent : Bool) → Candidate → values.Candidate → (bytes : List ℕ) → Type 0
-PrintsOrNames detail false k c bytes = Prints detail c.tree bytes k.is_reference
-PrintsOrNames detail true k c bytes = NamesArgument detail k.number c.tree bytes k.is_reference × (k.encoding ≢ 0 → c.encoding ≡ k.encoding)
+-- where the encoding begins that a symbol has after no text
+abbrev pub encoding_place : List ℕ → ℕ
+encoding_place s = cond (is_local s) 3 2
 
-abbrev pub PrintsAs : (detail : Detail) → Candidate → values.Candidate → (bytes : List ℕ) → Type 0
-PrintsAs detail k c bytes = PrintsOrNames detail k.is_dependent k c bytes
-
--- what a substitution may name prints the text that is at its place
-pub record IsCandidate (detail : Detail) (text : List ℕ) (k : Candidate) (c : values.Candidate) : Type 0 where
+-- what a substitution may name prints the text that is at its place; where it names arguments it was made in the symbol's own encoding
+pub record IsCandidate (s : Symbol) (names : Names) (text : List ℕ) (k : Candidate) (c : values.Candidate) : Type 0 where
   pub front : List ℕ
   pub bytes : List ℕ
   pub back : List ℕ
   pub written : text ≡ front ++ bytes ++ back
   pub from_is : k.from ≡ length front
   pub to_is : k.to ≡ length front + length bytes
-  pub prints : PrintsAs detail k c bytes
+  pub prints : PrintsAs (detail_of s) names k.is_dependent c.tree bytes k.is_reference
+  pub made_in : k.is_dependent ≡ true → c.encoding ≡ encoding_place s.bytes
 
 -- each candidate is so, but for those that end before they begin, of which nothing is known
-abbrev pub AreCandidates : (detail : Detail) (text : List ℕ) → List Candidate → List values.Candidate → Type 0
-AreCandidates detail text [] [] = Unit {0}
-AreCandidates detail text (k ∷ ks) (c ∷ cs) = (k.from ≤ k.to → IsCandidate detail text k c) × AreCandidates detail text ks cs
-AreCandidates detail text _ _ = ⊥
+abbrev pub AreCandidates : (s : Symbol) → Names → (text : List ℕ) → List Candidate → List values.Candidate → Type 0
+AreCandidates s names text [] [] = Unit {0}
+AreCandidates s names text (k ∷ ks) (c ∷ cs) = (k.from ≤ k.to → IsCandidate s names text k c) × AreCandidates s names text ks cs
+AreCandidates s names text _ _ = ⊥
 
 -- ## Arguments of templates
 
@@ -82,10 +79,6 @@ no_place = record { from = 1; to = 0; is_pack = false; is_reference = false }
 
 abbrev pub nowhere : Arguments
 nowhere = record { first = no_place; second = no_place; third = no_place; fourth = no_place; encoding = 0; elements = 0 }
-
--- the same in the types of the encoding that begins at a place
-abbrev pub named_in : (place : ℕ) → Arguments → Arguments
-named_in place a = record a { encoding = place }
 
 -- the argument with this number
 abbrev pub place_of : Arguments → (number : ℕ) → Argument
@@ -133,26 +126,72 @@ IsEncodedAt place around = place ≢ 0 → (around.encoding ≡ place) × (aroun
 -- parameters may name the known arguments here
 abbrev pub HasScope : Arguments → Around → Type 0
 HasScope a around =
-    (number : ℕ) → IsKnown (place_of a number) → IsScope number (place_of a number).is_pack around × IsEncodedAt a.encoding around
+    IsEncodedAt a.encoding around × ((number : ℕ) → IsKnown (place_of a number) → IsScope number (place_of a number).is_pack around)
 
--- the arguments that a type names, or one that is marked
+-- a nested name is a type
+abbrev pub is_type : Purpose → Bool
+is_type purposes.Type = true
+is_type _ = false
+
+-- what is in it is in a type
+abbrev pub is_within_type : Open → Bool
+is_within_type (opens.Pointer from) = true
+is_within_type (opens.Lvalue from) = true
+is_within_type (opens.Rvalue from) = true
+is_within_type (opens.Const from) = true
+is_within_type (opens.TypeArguments from is_dependent) = true
+is_within_type (opens.NestArguments nest) = is_type nest.purpose
+is_within_type (opens.FirstArguments nest) = is_type nest.purpose
+is_within_type _ = false
+
+-- the arguments that its types may name
+abbrev pub arguments_in : Open → Option Arguments
+arguments_in (opens.Front mark start argument) = Some argument
+arguments_in (opens.Parameters mark start argument) = Some argument
+arguments_in _ = None
+
+-- the arguments that a type may name
 abbrev pub argument_of : List Open → Option Arguments
-argument_of (opens.Pointer from ∷ rest) = argument_of rest
-argument_of (opens.Lvalue from ∷ rest) = argument_of rest
-argument_of (opens.Rvalue from ∷ rest) = argument_of rest
-argument_of (opens.Const from ∷ rest) = argument_of rest
-argument_of (opens.Front mark start argument ∷ rest) = Some argument
-argument_of (opens.Parameters mark start argument ∷ rest) = Some argument
-argument_of (opens.Enclosing mark from to argument ∷ rest) = Some argument
-argument_of _ = None
-
--- if there are any, parameters may name them
-abbrev pub IsScoped : Around → List Open → Type 0
-IsScoped around open_ = (a : Arguments) → argument_of open_ ≡ Some a → HasScope a around
+argument_of [] = None
+argument_of (o ∷ rest) = elim (is_within_type o) [ true ↦ argument_of rest | false ↦ arguments_in o ]
 
 -- it is a type, and no reference
 abbrev pub IsPlain : Argument → Type 0
 IsPlain p = IsKnown p × (p.is_pack ≡ false) × (p.is_reference ≡ false)
+
+-- What types may name: the arguments of the symbol's own name, where they are known, and their texts.
+pub record Scope : Type 0 where
+  pub arguments : Arguments
+  pub names : Names
+
+-- nothing
+abbrev pub no_scope : Scope
+no_scope = record { arguments = nowhere; names = λ number. None }
+
+-- the arguments that may be named have these texts at their places
+abbrev pub AreNamed : (text : List ℕ) → Scope → Type 0
+AreNamed text scope =
+    (number : ℕ) → IsPlain (place_of scope.arguments number) → (bytes : List ℕ) × (scope.names number ≡ Some bytes) × IsPlaced text (place_of scope.arguments number) bytes
+
+-- They are those of the symbol's own encoding, if it is known where theirs begins, and types that are no references.
+pub record IsScopeOf (s : Symbol) (scope : Scope) : Type 0 where
+  pub encoded : scope.arguments.encoding ≢ 0 → scope.arguments.encoding ≡ encoding_place s.bytes
+  pub plain : (number : ℕ) (bytes : List ℕ) → scope.names number ≡ Some bytes → IsPlain (place_of scope.arguments number)
+
+-- What a writer keeps: its candidates, and the arguments that types may name, of which none are known before the symbol's own name.
+pub record Keeps (s : Symbol) (scope : Scope) (w : Direct) (cs : List values.Candidate) : Type 0 where
+  pub candidates : AreCandidates s scope.names w.text.list.items w.candidates.list.items cs
+  pub named : AreNamed w.text.list.items scope
+  pub own : IsScopeOf s scope
+  pub unknown : w.has_scope ≡ false → scope ≡ no_scope
+
+-- if there are any, parameters may name them
+abbrev pub IsScoped : Scope → Around → List Open → Type 0
+IsScoped scope around open_ = (a : Arguments) → argument_of open_ ≡ Some a → (scope.arguments ≡ a) × HasScope a around
+
+-- the symbol's own encoding has the arguments that types name here
+abbrev pub IsNaming : (s : Symbol) → Scope → List Open → Type 0
+IsNaming s scope open_ = (argument_of open_ ≡ Some scope.arguments) × (scope.arguments.encoding ≡ encoding_place s.bytes)
 
 -- ## The end
 
@@ -180,10 +219,6 @@ pub record EncodedBehind (s : Symbol) (lead : List ℕ) (e : Term) (at : ℕ) : 
   pub whole : is_local s.bytes ≡ false → EndsBehind s lead e at
   pub entity : is_local s.bytes ≡ true → (internal : Bool) (name : List ℕ) (digit : Discriminator) (end : ℕ) → IsEntityAt s.bytes at internal name digit end
       → EntityBehind s lead e name end
-
--- where the encoding begins that a symbol has after no text
-abbrev pub encoding_place : List ℕ → ℕ
-encoding_place s = cond (is_local s) 3 2
 
 -- the name of an encoding after a text was read, and items may follow
 pub record AwaitsItems (s : Symbol) (lead : List ℕ) (v : Value) (at : ℕ) (st : State) : Type 0 where
@@ -215,19 +250,25 @@ pub record IsShown (s : Symbol) (most : ℕ) (text : List ℕ) : Type 0 where
 abbrev pub qualifiers : (is_const : Bool) → Qualifiers
 qualifiers is_const = record { restrict = false; volatile = false; const = is_const }
 
+-- a nested name is that of a function or of data
+abbrev pub IsOwn : Purpose → Type 0
+IsOwn purposes.Type = ⊥
+IsOwn _ = Unit {0}
+
 -- a name so far, with these bytes after a front
-pub record IsNest (detail : Detail) (front bytes text : List ℕ) (nest : Nest) (t : Term) : Type 0 where
+pub record IsNest (detail : Detail) (names : Names) (front bytes text : List ℕ) (nest : Nest) (t : Term) : Type 0 where
   pub back : List ℕ
   pub written : text ≡ front ++ bytes ++ back
   pub from_is : nest.from ≡ length front
-  pub prints : Prints detail t bytes false
+  pub prints : PrintsAs detail names nest.is_dependent t bytes false
+  pub closed : IsOwn nest.purpose → nest.is_dependent ≡ false
   pub class_front : List ℕ
   pub class : List ℕ
   pub class_back : List ℕ
   pub class_written : text ≡ class_front ++ class ++ class_back
   pub class_from : nest.class_from ≡ length class_front
   pub class_to : nest.class_to ≡ length class_front + length class
-  pub names_class : nest.has_class ≡ true → NamesClass detail t class
+  pub names_class : nest.has_class ≡ true → nest.is_dependent ≡ false → NamesClass detail t class
 
 -- ## Lists
 
@@ -264,12 +305,14 @@ plain_encoding mark own items = function own (qualifiers (has_const mark)) (call
 
 -- A function's name and the parameters so far, with their texts. All parameters make a function that has no return type. The known
 -- arguments of its template are at their places.
-pub record IsFunction (detail : Detail) (text : List ℕ) (argument : Arguments) (mark : Mark) (make : Term → Term) (ts : List Term) (name texts : List ℕ) : Type 0 where
+pub record IsFunction (detail : Detail) (scope : Scope) (text : List ℕ) (argument : Arguments) (mark : Mark) (make : Term → Term) (ts : List Term) (name texts : List ℕ) : Type 0 where
   pub own : Term
   pub makes : (t rest : Term) → make (list t rest) ≡ plain_encoding mark own (list t rest)
   pub prints : PrintsName detail own name
   pub elements : PrintAllIn detail (types_of own) 6 ts texts
   pub names : HasArguments detail text argument own
+  pub given : IsGiven detail scope.names (types_of own)
+  pub named : scope.arguments ≡ argument
 
 -- What is written of a function before its parameters. Its text begins at this place in it. Where functions are shown by their names
 -- alone, it ends there.
@@ -279,16 +322,15 @@ Fronts true front start lead name =
     (aside : List ℕ) × (front ≡ lead ++ name ++ aside) × (start ≡ length (lead ++ name))
 
 -- The same of a function in which a type is. All parameters make one that has some return type, or none.
-pub record IsEnclosing (detail : Detail) (text : List ℕ) (argument : Arguments) (mark : Mark) (make : Term → Term) (ts : List Term) (name texts : List ℕ) : Type 0 where
+pub record IsEnclosing (detail : Detail) (mark : Mark) (make : Term → Term) (ts : List Term) (name texts : List ℕ) : Type 0 where
   pub own : Term
   pub returned : Term
   pub makes : (t rest : Term) → make (list t rest) ≡ function own (qualifiers (has_const mark)) (called_on mark) returned (parameters (list t rest))
   pub prints : PrintsName detail own name
   pub elements : PrintAllIn detail (types_of own) 6 ts texts
-  pub names : HasArguments detail text argument own
 
 -- the name of a function that has a return type, and its text, and where the arguments of its template are
-pub record IsInstance (detail : Detail) (text : List ℕ) (argument : Arguments) (mark : Mark) (v : Value) (name : List ℕ) : Type 0 where
+pub record IsInstance (detail : Detail) (scope : Scope) (text : List ℕ) (argument : Arguments) (mark : Mark) (v : Value) (name : List ℕ) : Type 0 where
   pub own : Term
   pub tree_is : tree_of v ≡ own
   pub qualifiers_are : qualifiers_of v ≡ qualifiers (has_const mark)
@@ -296,28 +338,32 @@ pub record IsInstance (detail : Detail) (text : List ℕ) (argument : Arguments)
   pub prints : PrintsName detail own name
   pub returns : has_return_type own ≡ true
   pub names : HasArguments detail text argument own
+  pub given : IsGiven detail scope.names (types_of own)
+  pub named : scope.arguments ≡ argument
 
 -- ## What is open
 
--- what is open below: what waits for a value, after this text
-abbrev pub Below : Type 1
-Below = List Opened → (text : List ℕ) → Type 0
+-- What is open below: what waits for a value, after this text; what types may name there; and that they do so.
+pub record Below : Type 1 where
+  pub waits : List Opened → (text : List ℕ) → Type 0
+  pub scoped : Around → Type 0
+  pub naming : Type 0
 
--- where an argument may be named, the encoding begins at its place, if this is known
-abbrev pub IsEncodingOf : Option Arguments → (e : ℕ) → Type 0
-IsEncodingOf scope e = (a : Arguments) (number : ℕ) → scope ≡ Some a → IsKnown (place_of a number) → a.encoding ≢ 0 → e ≡ a.encoding
+-- types may name in it what they may name below, if it is in a type
+abbrev pub scoped_in : Open → Below → Around → Type 0
+scoped_in entry below around = is_within_type entry ≡ true → below.scoped around
 
 -- A type that comes is marked.
-abbrev pub Marks : (s : Symbol) → Below → (scope : Option Arguments) → List Opened → (text : List ℕ) → (from : ℕ) → (made : Term → Term) → Type 0
-Marks s below scope os text from made =
-    (outer : List Opened) × (around : Around) × (from ≡ length text) × TypePasses s os outer around made × below outer text × IsEncodingOf scope around.encoding
+abbrev pub Marks : (s : Symbol) → Below → List Opened → (text : List ℕ) → (from : ℕ) → (made : Term → Term) → Type 0
+Marks s below os text from made =
+    (outer : List Opened) × (around : Around) × (from ≡ length text) × TypePasses s os outer around made × below.scoped around × below.waits outer text
 
 -- An encoding with this tree ends at the place, and a type that is in it comes for what is open below, after this text.
 abbrev pub TypeWithin : (s : Symbol) → Below → (front : List ℕ) → (e : Term) → (at : ℕ) → State → Type 0
 TypeWithin s below front e at st =
     (outer : List Opened) × (around : Around)
     × (StandsAt s.bytes at (69 ∷ []) → EntityOpened s (λ t end now. Comes s outer (tree t true) end (with_candidate around t now)) e (at + 1) st)
-    × below outer front
+    × below.waits outer front
 
 -- The same of the parameters of a lambda, which is such a type, before the E after them.
 abbrev pub LambdaWithin : (s : Symbol) → Below → (front : List ℕ) → (e : Term) → (items : Term) → (at : ℕ) → State → Type 0
@@ -326,44 +372,45 @@ LambdaWithin s below front e items at st =
     × ((number : Option ℕ) (middle : ℕ) (digit : Discriminator) (end : ℕ) → IsLambdaDigit number → StandsAt s.bytes at (lambda_ending number)
     → middle ≡ at + length (lambda_ending number) → IsDiscriminatorAt s.bytes middle digit end
     → Comes s outer (tree (local_in e (lambda_with items number) digit) true) end (with_candidate around (local_in e (lambda_with items number) digit) st))
-    × below outer front
+    × below.waits outer front
 
--- A nested name that comes is what it is read as.
+-- A nested name that comes is what it is read as, and what types may name in it.
 abbrev pub Serves : (s : Symbol) → Purpose → Below → List Opened → (front : List ℕ) → Type 0
 Serves s purposes.Type below os front =
     (outer : List Opened) × (around : Around)
     × ((t : Term) (listed : Bool) (at : ℕ) (st : State) → is_function_type t ≡ false → Comes s os (tree t listed) at st
     → Comes s outer (tree t true) at (unless_listed listed around t st))
-    × below outer front
+    × below.scoped around × below.waits outer front
 Serves s (purposes.Name mark) below os front =
     (t : Term) (listed : Bool) (at : ℕ) (st : State) → Comes s os (tree t listed) at st → AwaitsItems s front (named t (qualifiers (has_const mark)) (called_on mark)) at st
 Serves s (purposes.Enclosing mark) below os front =
-    (text : List ℕ) (argument : Arguments) (t : Term) (listed : Bool) (at : ℕ) (st : State)
-    → HasArguments (detail_of s) text argument t → argument.encoding ≡ 0 → Comes s os (tree t listed) at st
-    → ItemsGoOn s argument (TypeWithin s below front) (λ l. encoding_of (named t (qualifiers (has_const mark)) (called_on mark)) l) [] at st
+    (t : Term) (listed : Bool) (at : ℕ) (st : State) → Comes s os (tree t listed) at st
+    → ItemsGoOn s nowhere (TypeWithin s below front) (λ l. encoding_of (named t (qualifiers (has_const mark)) (called_on mark)) l) [] at st
 
 -- An instance is read, after this text: what becomes of it.
 abbrev pub Owns : (s : Symbol) → Open → Below → (front : List ℕ) → Term → (at : ℕ) → State → Type 0
-Owns s (opens.TypeArguments from) below front u at st =
-    (outer : List Opened) × (around : Around) × Comes s outer (tree u true) at (with_candidate around u st) × below outer front
+Owns s (opens.TypeArguments from is_dependent) below front u at st =
+    (outer : List Opened) × (around : Around) × Comes s outer (tree u true) at (with_candidate around u st)
+    × below.scoped around × (is_dependent ≡ true → below.naming) × below.waits outer front
 Owns s (opens.NestArguments nest) below front u at st =
-    (around : Around) × (outer : List Opened) × NestGoesOn s Kind.NestTail outer around u false at st × Serves s nest.purpose below outer front
+    (around : Around) × (outer : List Opened) × NestGoesOn s Kind.NestTail outer around u false at st
+    × scoped_in (opens.NestArguments nest) below around × (nest.is_dependent ≡ true → below.naming) × Serves s nest.purpose below outer front
 Owns s (opens.FirstArguments nest) below front u at st =
     (around : Around) × (outer : List Opened) × AwaitsComponent s outer around u at (with_candidate around u st)
-    × Serves s nest.purpose below outer front
+    × scoped_in (opens.FirstArguments nest) below around × (nest.is_dependent ≡ true → below.naming) × Serves s nest.purpose below outer front
 Owns s (opens.NameArguments from) below front u at st = AwaitsItems s front (tree u false) at st
 Owns s _ below front u at st = ⊥
 
 -- elements go on after these, up to an E, and what becomes of the list that they make
-abbrev pub ElementsGoOn : (s : Symbol) → Kind → (closes : Term → (at : ℕ) → State → Type 0) → List Term → (at : ℕ) → State → Type 0
-ElementsGoOn s kind closes ts at st =
-    (around : Around) × (inner : List Opened) × (around.prefix ≡ outermost) × Expects s kind around inner at st
+abbrev pub ElementsGoOn : (s : Symbol) → Kind → (scoped : Around → Type 0) → (closes : Term → (at : ℕ) → State → Type 0) → List Term → (at : ℕ) → State → Type 0
+ElementsGoOn s kind scoped closes ts at st =
+    (around : Around) × (inner : List Opened) × (around.prefix ≡ outermost) × scoped around × Expects s kind around inner at st
     × ((l : Value) (at : ℕ) (st : State) → Comes s inner l at st → StandsAt s.bytes at (69 ∷ []) → closes (list_with ts (no_items l)) (at + 1) st)
 
 -- arguments go on after these
 abbrev pub ArgumentsGoOn : (s : Symbol) → Open → Below → (front : List ℕ) → (template : Term) → List Term → (at : ℕ) → State → Type 0
 ArgumentsGoOn s owner below front template ts at st =
-    ElementsGoOn s Kind.ArgumentList (λ l now then. Owns s owner below front (instance template l) now then) ts at st
+    ElementsGoOn s Kind.ArgumentList (scoped_in owner below) (λ l now then. Owns s owner below front (instance template l) now then) ts at st
 
 -- the list that is read: the arguments of a template, or a pack among them, after these and their text
 pub data Listing : Type 0 where
@@ -380,6 +427,18 @@ abbrev pub extra_of : Listing → ℕ
 extra_of of_template = 3
 extra_of (of_pack before written) = 0
 
+-- whether it is noted that arguments of what is open, or its name, name arguments of the function's template
+abbrev pub is_noted : Open → Bool
+is_noted (opens.TypeArguments from is_dependent) = is_dependent
+is_noted (opens.NestArguments nest) = nest.is_dependent
+is_noted (opens.FirstArguments nest) = nest.is_dependent
+is_noted _ = false
+
+-- whether elements of the list may do so
+abbrev pub may_name : Listing → Open → Bool
+may_name of_template owner = is_noted owner
+may_name (of_pack before written) owner = false
+
 -- the text before them
 abbrev pub led_by : Detail → Listing → (front name : List ℕ) → List ℕ
 led_by detail of_template front name = front ++ name ++ opening_bracket detail
@@ -394,7 +453,7 @@ Closes s (of_pack before written) owner below front template l at st =
 -- the list goes on after these elements
 abbrev pub GoesOn : (s : Symbol) → Listing → Open → Below → (front : List ℕ) → (template : Term) → List Term → (at : ℕ) → State → Type 0
 GoesOn s listing owner below front template ts at st =
-    ElementsGoOn s (element_kind listing) (λ l now then. Closes s listing owner below front template l now then) ts at st
+    ElementsGoOn s (element_kind listing) (scoped_in owner below) (λ l now then. Closes s listing owner below front template l now then) ts at st
 
 -- Arguments are these elements, and what is known of them so far. The one with this number is at a place.
 pub record IsAmong (detail : Detail) (text : List ℕ) (p : Argument) (number : ℕ) (ts : List Term) : Type 0 where
@@ -409,27 +468,22 @@ abbrev pub AreAmong : (detail : Detail) (text : List ℕ) → (is_pack : Bool) �
 AreAmong detail text is_pack a ts =
     (number : ℕ) → IsKnown (place_of a number) → IsAmong detail text (place_of a number) number ts × ((place_of a number).is_pack ≡ is_pack)
 
--- a nested name is that of a function or of data
-abbrev pub IsOwn : Purpose → Type 0
-IsOwn purposes.Type = ⊥
-IsOwn _ = Unit {0}
-
 -- this template comes before the arguments
-abbrev pub IsTemplate : (detail : Detail) → Open → (front : List ℕ) → Term → (name : List ℕ) → (text : List ℕ) → Type 0
-IsTemplate detail (opens.TypeArguments from) front template name text = (from ≡ length front) × Prints detail template name false
-IsTemplate detail (opens.NestArguments nest) front template name text =
-    IsNest detail front name text nest template × (IsOwn nest.purpose → nest.has_class ≡ false → is_structor template ≡ true)
+abbrev pub IsTemplate : (detail : Detail) → Names → Open → (front : List ℕ) → Term → (name : List ℕ) → (text : List ℕ) → Type 0
+IsTemplate detail names (opens.TypeArguments from is_dependent) front template name text = (from ≡ length front) × Prints detail template name false
+IsTemplate detail names (opens.NestArguments nest) front template name text =
+    IsNest detail names front name text nest template × (IsOwn nest.purpose → nest.has_class ≡ false → is_structor template ≡ true)
     × (nest.has_class ≡ true → is_structor template ≡ false)
-IsTemplate detail (opens.FirstArguments nest) front template name text = IsNest detail front name text nest template
-IsTemplate detail (opens.NameArguments from) front template name text =
+IsTemplate detail names (opens.FirstArguments nest) front template name text = IsNest detail names front name text nest template
+IsTemplate detail names (opens.NameArguments from) front template name text =
     (from ≡ length front) × Prints detail template name false × (is_structor template ≡ false)
-IsTemplate detail _ front template name text = ⊥
+IsTemplate detail names _ front template name text = ⊥
 
 -- a type comes as an element
-abbrev pub AwaitsElementOf : (s : Symbol) → Listing → Open → Below → List Opened → (text : List ℕ) → Type 0
-AwaitsElementOf s listing owner below os text =
+abbrev pub AwaitsElementOf : (s : Symbol) → Names → Listing → Open → Below → List Opened → (text : List ℕ) → Type 0
+AwaitsElementOf s names listing owner below os text =
     (front : List ℕ) × (template : Term) × (name : List ℕ) × (ts : List Term) × (elements : List ℕ)
-    × IsTemplate (detail_of s) owner front template name text × PrintAll (detail_of s) (extra_of listing) ts elements
+    × IsTemplate (detail_of s) names owner front template name text × PrintAllAs (detail_of s) names (may_name listing owner) (extra_of listing) ts elements
     × (text ≡ led_by (detail_of s) listing front name ++ in_front_of_next ts elements)
     × ((t : Term) (at : ℕ) (st : State) → Comes s os (tree t true) at st → GoesOn s listing owner below front template (ts ++ t ∷ []) at st)
 
@@ -441,28 +495,28 @@ EnumeratorGoesOn s listing owner below front template ts t at st =
     → GoesOn s listing owner below front template (ts ++ integer t (signed_digits negative digits) ∷ []) (end + 1) st
 
 -- a type comes as that of an enumerator, which is an element
-abbrev pub AwaitsEnumerator : (s : Symbol) → Listing → Open → Below → List Opened → (text : List ℕ) → Type 0
-AwaitsEnumerator s listing owner below os text =
+abbrev pub AwaitsEnumerator : (s : Symbol) → Names → Listing → Open → Below → List Opened → (text : List ℕ) → Type 0
+AwaitsEnumerator s names listing owner below os text =
     (front : List ℕ) × (template : Term) × (name : List ℕ) × (ts : List Term) × (elements : List ℕ)
-    × IsTemplate (detail_of s) owner front template name text × PrintAll (detail_of s) (extra_of listing) ts elements
+    × IsTemplate (detail_of s) names owner front template name text × PrintAllAs (detail_of s) names (may_name listing owner) (extra_of listing) ts elements
     × (text ≡ led_by (detail_of s) listing front name ++ in_front_of_next ts elements ++ codes "(")
     × ((t : Term) (at : ℕ) (st : State) → Comes s os (tree t true) at st → EnumeratorGoesOn s listing owner below front template ts t at st)
 
 -- what is open is this list of this owner
-abbrev pub Belongs : (detail : Detail) → Listing → (opened : List Open) → (owner : Open) → (rest : List Open) → Type 0
-Belongs detail of_template opened owner rest = opened ≡ owner ∷ rest
-Belongs detail (of_pack before written) opened owner rest = (opened ≡ opens.Pack ∷ owner ∷ rest) × PrintAll detail 3 before written
+abbrev pub Belongs : (detail : Detail) → Names → Listing → (opened : List Open) → (owner : Open) → (rest : List Open) → Type 0
+Belongs detail names of_template opened owner rest = opened ≡ owner ∷ rest
+Belongs detail names (of_pack before written) opened owner rest = (opened ≡ opens.Pack ∷ owner ∷ rest) × PrintAllAs detail names (is_noted owner) 3 before written
 
 -- a list is open, and what it belongs to
-pub record IsListing (detail : Detail) (opened : List Open) (text : List ℕ) : Type 0 where
+pub record IsListing (detail : Detail) (names : Names) (opened : List Open) (text : List ℕ) : Type 0 where
   pub listing : Listing
   pub owner : Open
   pub rest : List Open
-  pub belongs : Belongs detail listing opened owner rest
+  pub belongs : Belongs detail names listing opened owner rest
   pub front : List ℕ
   pub template : Term
   pub name : List ℕ
-  pub is_template : IsTemplate detail owner front template name text
+  pub is_template : IsTemplate detail names owner front template name text
 
 -- what follows the return type of a function type, or of one that is pointed to
 abbrev pub opening_text : (is_pointer : Bool) → List ℕ
@@ -477,139 +531,152 @@ EndsNamed _ = ⊥
 
 -- what takes an element or a parameter may take a function type or an array, and so may a special object
 abbrev pub TakesFunction : List Open → Type 0
-TakesFunction (opens.TypeArguments from ∷ rest) = Unit {0}
+TakesFunction (opens.TypeArguments from is_dependent ∷ rest) = Unit {0}
 TakesFunction (opens.NestArguments nest ∷ rest) = Unit {0}
 TakesFunction (opens.FirstArguments nest ∷ rest) = Unit {0}
 TakesFunction (opens.NameArguments from ∷ rest) = Unit {0}
 TakesFunction (opens.Pack ∷ rest) = Unit {0}
 TakesFunction (opens.Parameters mark start argument ∷ rest) = Unit {0}
 TakesFunction (opens.Special ∷ rest) = Unit {0}
-TakesFunction (opens.Enclosing mark from to argument ∷ rest) = Unit {0}
+TakesFunction (opens.Enclosing mark from to ∷ rest) = Unit {0}
 TakesFunction _ = ⊥
 
+-- what is below, if that waits so
+abbrev pub outside : (s : Symbol) → Scope → List Open → (waits : List Opened → List ℕ → Type 0) → Below
+outside s scope rest waits = record { waits = waits; scoped = λ around. IsScoped scope around rest; naming = IsNaming s scope rest }
+
 -- A type comes for the last of the open ones, after what is written.
-abbrev pub Stands : (s : Symbol) → List Open → List Opened → (text : List ℕ) → Type 0
-Stands s [] os text = ⊥
-Stands s (opens.Pointer from ∷ rest) os text = Marks s (Stands s rest) (argument_of rest) os text from pointer
-Stands s (opens.Lvalue from ∷ rest) os text = Marks s (Stands s rest) (argument_of rest) os text from lvalue
-Stands s (opens.Rvalue from ∷ rest) os text = Marks s (Stands s rest) (argument_of rest) os text from rvalue
-Stands s (opens.Const from ∷ rest) os text = Marks s (Stands s rest) (argument_of rest) os text from (qualified (qualifiers true))
-Stands s (opens.Front mark start argument ∷ rest) os text =
-    (v : Value) × (lead : List ℕ) × (name : List ℕ) × IsInstance (detail_of s) text argument mark v name × (is_local s.bytes ≡ false → lead ≡ [])
+abbrev pub Stands : (s : Symbol) → Scope → List Open → List Opened → (text : List ℕ) → Type 0
+Stands s scope [] os text = ⊥
+Stands s scope (opens.Pointer from ∷ rest) os text = Marks s (outside s scope rest (Stands s scope rest)) os text from pointer
+Stands s scope (opens.Lvalue from ∷ rest) os text = Marks s (outside s scope rest (Stands s scope rest)) os text from lvalue
+Stands s scope (opens.Rvalue from ∷ rest) os text = Marks s (outside s scope rest (Stands s scope rest)) os text from rvalue
+Stands s scope (opens.Const from ∷ rest) os text = Marks s (outside s scope rest (Stands s scope rest)) os text from (qualified (qualifiers true))
+Stands s scope (opens.Front mark start argument ∷ rest) os text =
+    (v : Value) × (lead : List ℕ) × (name : List ℕ) × IsInstance (detail_of s) scope text argument mark v name × (is_local s.bytes ≡ false → lead ≡ [])
     × (text ≡ lead ++ name) × (start ≡ length text)
     × ((t : Term) (at : ℕ) (st : State) → Comes s os (tree t true) at st → ParametersGoOn s argument lead (encoding_of v) (t ∷ []) at st)
-Stands s (opens.Parameters mark start argument ∷ rest) os text =
+Stands s scope (opens.Parameters mark start argument ∷ rest) os text =
     (front : List ℕ) × (lead : List ℕ) × (make : Term → Term) × (ts : List Term) × (name : List ℕ) × (texts : List ℕ)
-    × IsFunction (detail_of s) text argument mark make ts name texts × Fronts s.is_bare front start lead name
+    × IsFunction (detail_of s) scope text argument mark make ts name texts × Fronts s.is_bare front start lead name
     × (text ≡ front ++ codes "(" ++ in_front_of_next ts texts)
     × ((t : Term) (at : ℕ) (st : State) → Comes s os (tree t true) at st → ParametersGoOn s argument lead make (ts ++ t ∷ []) at st)
-Stands s (opens.Enclosing mark from to argument ∷ rest) os text =
+Stands s scope (opens.Enclosing mark from to ∷ rest) os text =
     (front : List ℕ) × (make : Term → Term) × (ts : List Term) × (name : List ℕ) × (texts : List ℕ)
-    × IsEnclosing (detail_of s) text argument mark make ts name texts × (from ≡ length front) × (text ≡ front ++ name ++ codes "(" ++ in_front_of_next ts texts)
+    × IsEnclosing (detail_of s) mark make ts name texts × (from ≡ length front) × (text ≡ front ++ name ++ codes "(" ++ in_front_of_next ts texts)
     × ((t : Term) (at : ℕ) (st : State) → Comes s os (tree t true) at st
-    → ItemsGoOn s argument (TypeWithin s (Stands s rest) front) make (ts ++ t ∷ []) at st)
+    → ItemsGoOn s nowhere (TypeWithin s (outside s scope rest (Stands s scope rest)) front) make (ts ++ t ∷ []) at st)
     × (to ≡ length (front ++ name))
-Stands s (opens.Lambda from ∷ rest) os text =
+Stands s scope (opens.Lambda from ∷ rest) os text =
     (front : List ℕ) × (e : Term) × (bytes : List ℕ) × (ts : List Term) × (texts : List ℕ)
     × Encloses (detail_of s) e bytes × PrintAll (detail_of s) 0 ts texts × (from ≡ length front)
     × (text ≡ front ++ (bytes ++ codes "::{lambda(") ++ in_front_of_next ts texts)
     × ((t : Term) (at : ℕ) (st : State) → Comes s os (tree t true) at st
-    → ItemsGoOn s nowhere (LambdaWithin s (Stands s rest) front e) (λ l. l) (ts ++ t ∷ []) at st)
-Stands s (opens.Returned is_pointer ∷ rest) os text =
+    → ItemsGoOn s nowhere (LambdaWithin s (outside s scope rest (Stands s scope rest)) front e) (λ l. l) (ts ++ t ∷ []) at st)
+Stands s scope (opens.Returned is_pointer ∷ rest) os text =
     (outer : List Opened) × (around : Around)
     × ((r : Term) (at : ℕ) (st : State) → Comes s os (tree r true) at st → SignatureGoesOn s outer around is_pointer (λ l. plain_function r l) at st)
-    × TakesFunction rest × Stands s rest outer text
-Stands s (opens.Signature is_pointer ∷ rest) os text =
+    × TakesFunction rest × Stands s scope rest outer text
+Stands s scope (opens.Signature is_pointer ∷ rest) os text =
     (outer : List Opened) × (around : Around) × (front : List ℕ) × (r : Term) × (bytes : List ℕ) × (is_reference : Bool) × (ts : List Term) × (texts : List ℕ)
     × Prints (detail_of s) r bytes is_reference × PrintAll (detail_of s) 0 ts texts
     × (text ≡ front ++ (bytes ++ opening_text is_pointer) ++ in_front_of_next ts texts)
     × ((t : Term) (at : ℕ) (st : State) → Comes s os (tree t true) at st
     → SignatureGoesOn s outer around is_pointer (λ l. plain_function r (list_with (ts ++ t ∷ []) l)) at st)
-    × TakesFunction rest × Stands s rest outer front
-Stands s (opens.Array access from to ∷ rest) os text =
+    × TakesFunction rest × Stands s scope rest outer front
+Stands s scope (opens.Array access from to ∷ rest) os text =
     (outer : List Opened) × (around : Around) × (digits : List ℕ) × (from ≤ to) × (to ≤ length s.bytes) × (take (to - from) (drop from s.bytes) ≡ digits)
     × ((t : Term) (at : ℕ) (st : State) → Comes s os (tree t true) at st
     → Comes s outer (tree (accessed access (array (values.normal digits) t)) true) at (with_accessed access around (array (values.normal digits) t) st))
-    × TakesFunction rest × Stands s rest outer text
-Stands s (opens.Special ∷ rest) os text =
+    × TakesFunction rest × Stands s scope rest outer text
+Stands s scope (opens.Special ∷ rest) os text =
     (letter : ℕ) × (text ≡ look_up (letter ∷ []) special_texts) × (text ≢ [])
     × ((t : Term) (at : ℕ) (st : State) → Comes s os (tree t true) at st → Encoded s (special letter t) at)
-Stands s (opens.Argument from number known ∷ []) os text = ⊥
-Stands s (opens.Argument from number known ∷ owner ∷ rest) os text =
-    (front : List ℕ) × (template : Term) × (name : List ℕ) × (ts : List Term) × (elements : List ℕ) × IsTemplate (detail_of s) owner front template name text
+Stands s scope (opens.Argument from number known ∷ []) os text = ⊥
+Stands s scope (opens.Argument from number known ∷ owner ∷ rest) os text =
+    (front : List ℕ) × (template : Term) × (name : List ℕ) × (ts : List Term) × (elements : List ℕ) × IsTemplate (detail_of s) scope.names owner front template name text
     × PrintAll (detail_of s) 3 ts elements × (text ≡ front ++ name ++ opening_bracket (detail_of s) ++ in_front_of_next ts elements) × (from ≡ length text) × (number ≡ length ts)
     × AreAmong (detail_of s) text false known ts
     × ((t : Term) (at : ℕ) (st : State) → Comes s os (tree t true) at st
-    → ArgumentsGoOn s owner (Stands s rest) front template (ts ++ t ∷ []) at st)
-Stands s (opens.Element from number known ∷ opens.Pack ∷ owner ∷ rest) os text =
-    (front : List ℕ) × (template : Term) × (name : List ℕ) × (ts : List Term) × (elements : List ℕ) × IsTemplate (detail_of s) owner front template name text
+    → ArgumentsGoOn s owner (outside s scope rest (Stands s scope rest)) front template (ts ++ t ∷ []) at st)
+Stands s scope (opens.Element from number known ∷ opens.Pack ∷ owner ∷ rest) os text =
+    (front : List ℕ) × (template : Term) × (name : List ℕ) × (ts : List Term) × (elements : List ℕ) × IsTemplate (detail_of s) scope.names owner front template name text
     × PrintAll (detail_of s) 0 ts elements × (text ≡ front ++ name ++ opening_bracket (detail_of s) ++ in_front_of_next ts elements) × (from ≡ length text) × (number ≡ length ts)
     × AreAmong (detail_of s) text true known ts
     × ((t : Term) (at : ℕ) (st : State) → Comes s os (tree t true) at st
-    → GoesOn s (of_pack [] []) owner (Stands s rest) front template (ts ++ t ∷ []) at st)
-Stands s (opens.Element from number known ∷ rest) os text = ⊥
-Stands s (opens.Enumerator ∷ []) os text = ⊥
-Stands s (opens.Enumerator ∷ opens.Pack ∷ []) os text = ⊥
-Stands s (opens.Enumerator ∷ opens.Pack ∷ owner ∷ rest) os text =
-    (before : List Term) × (written : List ℕ) × PrintAll (detail_of s) 3 before written × AwaitsEnumerator s (of_pack before written) owner (Stands s rest) os text
-Stands s (opens.Enumerator ∷ owner ∷ rest) os text = AwaitsEnumerator s of_template owner (Stands s rest) os text
-Stands s (opens.Pack ∷ []) os text = ⊥
-Stands s (opens.Pack ∷ owner ∷ rest) os text =
-    (before : List Term) × (written : List ℕ) × PrintAll (detail_of s) 3 before written × AwaitsElementOf s (of_pack before written) owner (Stands s rest) os text
-Stands s (owner ∷ rest) os text = AwaitsElementOf s of_template owner (Stands s rest) os text
+    → GoesOn s (of_pack [] []) owner (outside s scope rest (Stands s scope rest)) front template (ts ++ t ∷ []) at st)
+Stands s scope (opens.Element from number known ∷ rest) os text = ⊥
+Stands s scope (opens.Enumerator ∷ []) os text = ⊥
+Stands s scope (opens.Enumerator ∷ opens.Pack ∷ []) os text = ⊥
+Stands s scope (opens.Enumerator ∷ opens.Pack ∷ owner ∷ rest) os text =
+    (before : List Term) × (written : List ℕ) × PrintAllAs (detail_of s) scope.names (is_noted owner) 3 before written
+    × AwaitsEnumerator s scope.names (of_pack before written) owner (outside s scope rest (Stands s scope rest)) os text
+Stands s scope (opens.Enumerator ∷ owner ∷ rest) os text = AwaitsEnumerator s scope.names of_template owner (outside s scope rest (Stands s scope rest)) os text
+Stands s scope (opens.Pack ∷ []) os text = ⊥
+Stands s scope (opens.Pack ∷ owner ∷ rest) os text =
+    (before : List Term) × (written : List ℕ) × PrintAllAs (detail_of s) scope.names (is_noted owner) 3 before written
+    × AwaitsElementOf s scope.names (of_pack before written) owner (outside s scope rest (Stands s scope rest)) os text
+Stands s scope (owner ∷ rest) os text = AwaitsElementOf s scope.names of_template owner (outside s scope rest (Stands s scope rest)) os text
+
+-- what is open below these
+abbrev pub below : (s : Symbol) → Scope → List Open → Below
+below s scope rest = outside s scope rest (Stands s scope rest)
 
 -- ## What comes next
 
+-- where a nested name is read that has come so far: what types may name in it, if it is a type
+pub record IsNestScoped (s : Symbol) (scope : Scope) (w : Direct) (around : Around) : Type 0 where
+  pub scoped : is_type w.nest.purpose ≡ true → IsScoped scope around (reverse w.waiting.list.items)
+  pub naming : w.nest.is_dependent ≡ true → IsNaming s scope (reverse w.waiting.list.items)
+
 -- a nested name goes on, of which this was read
-pub record IsNesting (s : Symbol) (kind : Kind) (w : Direct) (t : Term) (st : State) : Type 0 where
+pub record IsNesting (s : Symbol) (scope : Scope) (kind : Kind) (w : Direct) (t : Term) (st : State) : Type 0 where
   pub front : List ℕ
   pub around : Around
   pub outer : List Opened
   pub bytes : List ℕ
   pub written : w.text.list.items ≡ front ++ bytes
-  pub is_nest : IsNest (detail_of s) front bytes w.text.list.items w.nest t
+  pub is_nest : IsNest (detail_of s) scope.names front bytes w.text.list.items w.nest t
   pub goes : NestGoesOn s kind outer around t w.nest.is_listed w.at st
-  pub serves : Serves s w.nest.purpose (Stands s (reverse w.waiting.list.items)) outer front
+  pub scoped : IsNestScoped s scope w around
+  pub serves : Serves s w.nest.purpose (below s scope (reverse w.waiting.list.items)) outer front
 
 -- where a writer is, before it takes a step
-abbrev pub IsBefore : (s : Symbol) → Direct → State → Step → Type 0
-IsBefore s w st steps.Type =
+abbrev pub IsBefore : (s : Symbol) → Scope → Direct → State → Step → Type 0
+IsBefore s scope w st steps.Type =
     (os : List Opened) × (around : Around) × (around.prefix ≡ outermost)
     × (Expects s Kind.Type around os w.at st ⊎ Expects s Kind.Item around os w.at st
-    ⊎ (Expects s Kind.ItemButRef around os w.at st × NoReference s.bytes w.at)) × Stands s (reverse w.waiting.list.items) os w.text.list.items
-    × IsScoped around (reverse w.waiting.list.items)
-IsBefore s w st steps.Plain =
+    ⊎ (Expects s Kind.ItemButRef around os w.at st × NoReference s.bytes w.at)) × Stands s scope (reverse w.waiting.list.items) os w.text.list.items
+    × IsScoped scope around (reverse w.waiting.list.items)
+IsBefore s scope w st steps.Plain =
     (os : List Opened) × (around : Around) × (around.prefix ≡ outermost)
-    × Expects s Kind.Plain around os w.at st × Stands s (reverse w.waiting.list.items) os w.text.list.items
-    × IsScoped around (reverse w.waiting.list.items)
-IsBefore s w st (steps.Value is_reference) =
+    × Expects s Kind.Plain around os w.at st × Stands s scope (reverse w.waiting.list.items) os w.text.list.items
+    × IsScoped scope around (reverse w.waiting.list.items)
+IsBefore s scope w st (steps.Value is_reference is_dependent) =
     (os : List Opened) × (t : Term) × (front : List ℕ) × (bytes : List ℕ)
-    × (w.text.list.items ≡ front ++ bytes) × Prints (detail_of s) t bytes is_reference
-    × Comes s os (tree t true) w.at st × Stands s (reverse w.waiting.list.items) os front
-IsBefore s w st (steps.Dependent is_reference begins number encoding) =
-    (os : List Opened) × (t : Term) × (front : List ℕ) × (bytes : List ℕ) × (marks : List ℕ) × (a : Arguments)
-    × (w.text.list.items ≡ front ++ bytes ++ marks) × NamesArgument (detail_of s) number t marks is_reference
-    × (argument_of (reverse w.waiting.list.items) ≡ Some a) × IsPlain (place_of a number) × IsPlaced front (place_of a number) bytes
-    × (begins ≡ length (front ++ bytes))
-    × Comes s os (tree t true) w.at st × Stands s (reverse w.waiting.list.items) os front × (encoding ≡ a.encoding)
-IsBefore s w st (steps.List is_first) =
-    (place : IsListing (detail_of s) (reverse w.waiting.list.items) w.text.list.items) × (ts : List Term) × (elements : List ℕ)
-    × PrintAll (detail_of s) (extra_of place.listing) ts elements
+    × (w.text.list.items ≡ front ++ bytes) × PrintsAs (detail_of s) scope.names is_dependent t bytes is_reference
+    × (is_dependent ≡ true → IsNaming s scope (reverse w.waiting.list.items))
+    × Comes s os (tree t true) w.at st × Stands s scope (reverse w.waiting.list.items) os front
+IsBefore s scope w st (steps.List is_first) =
+    (place : IsListing (detail_of s) scope.names (reverse w.waiting.list.items) w.text.list.items) × (ts : List Term) × (elements : List ℕ)
+    × PrintAllAs (detail_of s) scope.names (may_name place.listing place.owner) (extra_of place.listing) ts elements
     × (w.text.list.items ≡ led_by (detail_of s) place.listing place.front place.name ++ elements)
     × (is_first ≡ true → ts ≡ []) × (is_first ≡ false → ts ≢ [])
-    × GoesOn s place.listing place.owner (Stands s place.rest) place.front place.template ts w.at st
-IsBefore s w st steps.Rest = (t : Term) × (kind : Kind) × IsFirstRest kind × IsNesting s kind w t st
-IsBefore s w st steps.Tail =
-    (t : Term) × IsNesting s Kind.NestTail w t st × (IsOwn w.nest.purpose → w.nest.is_instance && w.nest.has_class ≡ false → has_return_type t ≡ false)
+    × GoesOn s place.listing place.owner (below s scope place.rest) place.front place.template ts w.at st
+IsBefore s scope w st steps.Rest = (t : Term) × (kind : Kind) × IsFirstRest kind × IsNesting s scope kind w t st
+IsBefore s scope w st steps.Tail =
+    (t : Term) × IsNesting s scope Kind.NestTail w t st × (IsOwn w.nest.purpose → w.nest.is_instance && w.nest.has_class ≡ false → has_return_type t ≡ false)
     × (w.nest.is_instance && w.nest.has_class ≡ true → has_return_type t ≡ true)
     × (w.nest.is_instance ≡ true → HasArguments (detail_of s) w.text.list.items w.argument t)
-IsBefore s w st steps.Component =
+IsBefore s scope w st steps.Component =
     (t : Term) × (front : List ℕ) × (bytes : List ℕ) × (around : Around) × (outer : List Opened)
-    × (w.text.list.items ≡ front ++ bytes) × IsNest (detail_of s) front bytes w.text.list.items w.nest t × AwaitsComponent s outer around t w.at st × Serves s w.nest.purpose (Stands s (reverse w.waiting.list.items)) outer front
-IsBefore s w st steps.Ended = IsWhole s w.text.list.items
+    × (w.text.list.items ≡ front ++ bytes) × IsNest (detail_of s) scope.names front bytes w.text.list.items w.nest t × AwaitsComponent s outer around t w.at st
+    × IsNestScoped s scope w around × Serves s w.nest.purpose (below s scope (reverse w.waiting.list.items)) outer front
+IsBefore s scope w st steps.Ended = IsWhole s w.text.list.items
 
 -- a writer that has come so far, and what comes next
 pub record IsWriting (s : Symbol) (w : Direct) (step : Step) : Type 0 where
   pub state : State
-  pub candidates : AreCandidates (detail_of s) w.text.list.items w.candidates.list.items state.candidates
-  pub is_before : IsBefore s w state step
+  pub scope : Scope
+  pub keeps : Keeps s scope w state.candidates
+  pub is_before : IsBefore s scope w state step

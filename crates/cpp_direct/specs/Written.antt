@@ -9,6 +9,7 @@ pub record Writes (old new : Direct) (bytes : List ℕ) : Type 0 where
   pub candidates : new.candidates ≡ old.candidates
   pub waiting : new.waiting ≡ old.waiting
   pub nest : new.nest ≡ old.nest
+  pub scope : new.has_scope ≡ old.has_scope
   pub at : new.at ≡ old.at
   pub rounds : new.rounds ≡ old.rounds
 
@@ -18,34 +19,29 @@ pub record Reads (old new : Direct) (bytes : List ℕ) : Type 0 where
   pub candidates : new.candidates ≡ old.candidates
   pub waiting : new.waiting ≡ old.waiting
   pub nest : new.nest ≡ old.nest
+  pub scope : new.has_scope ≡ old.has_scope
   pub rounds : new.rounds ≡ old.rounds
 
 -- What was written up to a place was taken away, and if there was any of it each candidate.
 pub record Cuts (old new : Direct) (start : ℕ) : Type 0 where
   pub text : new.text.list.items ≡ drop start old.text.list.items
   pub candidates : ((start ≡ 0) × (new.candidates ≡ old.candidates)) ⊎ (new.candidates.list.items ≡ [])
+  pub scope : new.has_scope ≡ old.has_scope
   pub at : new.at ≡ old.at
 
 -- the candidates, and what is written from a place on
-abbrev pub added : Direct → (from : ℕ) → (is_reference : Bool) → List Candidate
-added w from is_reference =
-    w.candidates.list.items
-    ++ record { from = from; to = length w.text.list.items; is_reference = is_reference; is_dependent = false; number = 0; encoding = 0 } ∷ []
-
--- the candidates, and what is written from a place on, which follows the text of an argument
-abbrev pub with_dependent : Direct → (from : ℕ) → (is_reference : Bool) → (number encoding : ℕ) → List Candidate
-with_dependent w from is_reference number encoding =
-    w.candidates.list.items
-    ++ record { from = from; to = length w.text.list.items; is_reference = is_reference; is_dependent = true; number = number; encoding = encoding } ∷ []
+abbrev pub added : Direct → (from : ℕ) → (is_reference is_dependent : Bool) → List Candidate
+added w from is_reference is_dependent =
+    w.candidates.list.items ++ record { from = from; to = length w.text.list.items; is_reference = is_reference; is_dependent = is_dependent } ∷ []
 
 -- the same unless that is one already
-abbrev pub added_unless : Direct → (is_listed : Bool) → (from : ℕ) → List Candidate
-added_unless w true from = w.candidates.list.items
-added_unless w false from = added w from false
+abbrev pub added_unless : Direct → (is_listed : Bool) → (from : ℕ) → (is_dependent : Bool) → List Candidate
+added_unless w true from is_dependent = w.candidates.list.items
+added_unless w false from is_dependent = added w from false is_dependent
 
 -- a candidate that ends before it begins
 abbrev pub hidden : Candidate
-hidden = record { from = 1; to = 0; is_reference = false; is_dependent = false; number = 0; encoding = 0 }
+hidden = record { from = 1; to = 0; is_reference = false; is_dependent = false }
 
 -- a candidate is what it was, and its text ends by a place, or it is nowhere
 abbrev pub IsKeptTo : (to : ℕ) → (old new : Candidate) → Type 0

@@ -22,6 +22,8 @@ pub struct Direct {
     /// the arguments of the name that was read last: the first of them, if they are types, but no function types and no arrays, or
     /// the elements of a pack of such types, if this is the only one
     pub(crate) argument: Arguments,
+    /// whether the arguments of the symbol's own name are known, which types may name
+    pub(crate) has_scope: bool,
     pub(crate) at: usize,
     /// the steps that the last symbol took
     pub(crate) rounds: usize,
@@ -36,6 +38,7 @@ impl Direct {
             waiting: Bounded::new(alloc),
             nest: NO_NEST,
             argument: NOWHERE,
+            has_scope: false,
             at: 0,
             rounds: 0,
         }
@@ -78,6 +81,7 @@ impl Direct {
         self.text.begin(bytes);
         self.candidates.begin(entries);
         self.waiting.begin(entries);
+        self.has_scope = false;
     }
 
     /// A symbol is done, after so many steps: the candidates and what was open are forgotten.

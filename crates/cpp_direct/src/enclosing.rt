@@ -17,8 +17,7 @@ ghost use Rattle.cpp_direct.specs.Symbol.{detail_by, symbol_by};
 use crate::direct::Direct;
 use crate::grammar::Grammar;
 use crate::marks::mark_at;
-use crate::open::{Arguments, Mark, Open, Purpose, Step};
-use crate::symbols::NOWHERE;
+use crate::open::{Mark, Open, Purpose, Step};
 use crate::tokens::{are_numbers_short, byte_at};
 
 /// The longest symbol that is gone over once more, or its candidates are, at a lambda with parameters or at parameters that aren't
@@ -62,7 +61,7 @@ impl Direct {
         if byte_at(s, self.at) == b'E' {
             return self.enclosing_ended::<G>(s, mark, from);
         }
-        self.enclosing_parameters::<G>(s, mark, from, NOWHERE)
+        self.enclosing_parameters::<G>(s, mark, from)
     }
 
     /// The name of an instance of a function template is read in which a type is. The function's return type follows, a builtin
@@ -82,25 +81,15 @@ impl Direct {
             return None;
         }
         self.at = self.at.checked_add(1)?;
-        let argument = Arguments {
-            encoding: 0,
-            ..self.argument
-        };
-        self.enclosing_parameters::<G>(s, mark, from, argument)
+        self.enclosing_parameters::<G>(s, mark, from)
     }
 
     /// Reads the parameters of a function in which a type is, up to the first type in them. Where functions are shown by their names
     /// alone, a symbol in which it has any is not to be a long one: they are taken away at their end, with all that they made.
     // <bare-function-type> ::= <parameter type>+ | v
-    fn enclosing_parameters<G: Grammar>(
-        &mut self,
-        s: &[u8],
-        mark: Mark,
-        from: u32,
-        argument: Arguments,
-    ) -> Option<Step>
+    fn enclosing_parameters<G: Grammar>(&mut self, s: &[u8], mark: Mark, from: u32) -> Option<Step>
         requires fits { IsReadable s.now }
-        requires awaits { AwaitsEnclosingParameters (symbol_by G.IS_WIDE G.IS_BARE G.IS_BRIEF s.now) self.old mark from argument }
+        requires awaits { AwaitsEnclosingParameters (symbol_by G.IS_WIDE G.IS_BARE G.IS_BRIEF s.now) self.old mark from }
         ensures { IfSome result (IsWriting (symbol_by G.IS_WIDE G.IS_BARE G.IS_BRIEF s.now) self.new) }
     {
         let behind = byte_at(s, self.at.checked_add(1)?);
@@ -117,12 +106,7 @@ impl Direct {
         }
         let to = self.text.end();
         self.push_byte(b'(')?;
-        self.waiting.push(Open::Enclosing {
-            mark,
-            from,
-            to,
-            argument,
-        })?;
+        self.waiting.push(Open::Enclosing { mark, from, to })?;
         Some(Step::Type)
     }
 
@@ -135,10 +119,9 @@ impl Direct {
         mark: Mark,
         from: u32,
         to: u32,
-        _argument: Arguments,
     ) -> Option<Step>
         requires fits { IsReadable s.now }
-        requires read { IsEnclosingParameterRead (symbol_by G.IS_WIDE G.IS_BARE G.IS_BRIEF s.now) self.old mark from to _argument }
+        requires read { IsEnclosingParameterRead (symbol_by G.IS_WIDE G.IS_BARE G.IS_BRIEF s.now) self.old mark from to }
         ensures { IfSome result (IsWriting (symbol_by G.IS_WIDE G.IS_BARE G.IS_BRIEF s.now) self.new) }
     {
         if byte_at(s, self.at) != b'E' {
@@ -150,6 +133,10 @@ impl Direct {
             return None;
         }
         if G::IS_BARE {
+            // the arguments that types may name stay where they are
+            if self.has_scope {
+                return None;
+            }
             let _named = self.waiting.pop();
             self.leave_out(to)?;
             return self.enclosed::<G>(s, from);
@@ -200,9 +187,10 @@ impl Direct {
         self.push_pair(b':', b':')?;
         self.enclosed_piece::<G>(s)?;
         self.discriminator(s)?;
-        self.add_candidate(from, false)?;
+        self.add_candidate(from, false, false)?;
         Some(Step::Value {
             is_reference: false,
+            is_dependent: false,
         })
     }
 
@@ -298,9 +286,10 @@ impl Direct {
         self.lambda_number(s)?;
         let _open = self.waiting.pop();
         self.discriminator(s)?;
-        self.add_candidate(from, false)?;
+        self.add_candidate(from, false, false)?;
         Some(Step::Value {
             is_reference: false,
+            is_dependent: false,
         })
     }
 }

@@ -149,12 +149,7 @@ impl Direct {
                 start,
                 argument,
             } => self.parameter_ended::<G>(s, mark, start, argument),
-            Open::Enclosing {
-                mark,
-                from,
-                to,
-                argument,
-            } => self.enclosing_parameter::<G>(s, mark, from, to, argument),
+            Open::Enclosing { mark, from, to } => self.enclosing_parameter::<G>(s, mark, from, to),
             Open::Special => self.finish::<G>(s),
             _ => Some(Step::List { is_first: false }),
         }

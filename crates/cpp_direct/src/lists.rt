@@ -167,10 +167,11 @@ impl Direct {
         self.end_arguments::<G>()?;
         self.argument = argument;
         match self.waiting.pop()? {
-            Open::TypeArguments { from } => {
-                self.add_candidate(from, false)?;
+            Open::TypeArguments { from, is_dependent } => {
+                self.add_candidate(from, false, is_dependent)?;
                 Some(Step::Value {
                     is_reference: false,
+                    is_dependent,
                 })
             }
             Open::NestArguments { nest } => {
@@ -182,7 +183,7 @@ impl Direct {
                 Some(Step::Tail)
             }
             Open::FirstArguments { nest } => {
-                self.add_candidate(nest.from, false)?;
+                self.add_candidate(nest.from, false, nest.is_dependent)?;
                 self.nest = nest;
                 Some(Step::Component)
             }

@@ -18,7 +18,7 @@ use crate::tokens::byte_at;
 /// A first piece that is a candidate already, and names no class.
 #[inline(always)]
 fn listed_nest(from: u32, purpose: Purpose) -> Nest
-    ensures { result ≡ record { from = from; class_from = from; class_to = from; purpose = purpose; is_listed = true; has_class = false; is_instance = false } }
+    ensures { result ≡ record { from = from; class_from = from; class_to = from; purpose = purpose; is_listed = true; has_class = false; is_instance = false; is_dependent = false } }
 {
     Nest {
         from,
@@ -28,6 +28,7 @@ fn listed_nest(from: u32, purpose: Purpose) -> Nest
         is_listed: true,
         has_class: false,
         is_instance: false,
+        is_dependent: false,
     }
 }
 
@@ -82,6 +83,7 @@ impl Direct {
             is_listed: false,
             has_class: true,
             is_instance: false,
+            is_dependent: false,
         };
         Some(Step::Rest)
     }
@@ -152,6 +154,7 @@ impl Direct {
             is_listed: false,
             has_class: true,
             is_instance: false,
+            is_dependent: false,
         };
         self.nest_named::<G>(s)
     }
@@ -181,7 +184,7 @@ impl Direct {
         if byte_at(s, self.at) != b'I' {
             return Some(Step::Tail);
         }
-        self.add_candidate(self.nest.from, false)?;
+        self.add_candidate(self.nest.from, false, self.nest.is_dependent)?;
         self.open_arguments::<G>(Open::NestArguments { nest: self.nest })
     }
 
@@ -191,7 +194,7 @@ impl Direct {
         requires writing { IsWriting (symbol_by G.IS_WIDE G.IS_BARE G.IS_BRIEF s.now) self.old steps.Rest }
         ensures { IfSome result (IsWriting (symbol_by G.IS_WIDE G.IS_BARE G.IS_BRIEF s.now) self.new) }
     {
-        self.add_unless(self.nest.is_listed, self.nest.from)?;
+        self.add_unless(self.nest.is_listed, self.nest.from, self.nest.is_dependent)?;
         if byte_at(s, self.at) == b'I' {
             return self.open_arguments::<G>(Open::FirstArguments { nest: self.nest });
         }
@@ -207,7 +210,7 @@ impl Direct {
         if byte_at(s, self.at) == b'E' {
             return self.nest_ended::<G>(s);
         }
-        self.add_unless(self.nest.is_listed, self.nest.from)?;
+        self.add_unless(self.nest.is_listed, self.nest.from, self.nest.is_dependent)?;
         self.component_at::<G>(s)
     }
 
@@ -239,9 +242,10 @@ impl Direct {
         self.at = self.at.checked_add(1)?;
         match self.nest.purpose {
             Purpose::Type => {
-                self.add_unless(self.nest.is_listed, self.nest.from)?;
+                self.add_unless(self.nest.is_listed, self.nest.from, self.nest.is_dependent)?;
                 Some(Step::Value {
                     is_reference: false,
+                    is_dependent: self.nest.is_dependent,
                 })
             }
             Purpose::Name { mark } => {
@@ -306,6 +310,9 @@ impl Direct {
         requires writing { IsWriting (symbol_by G.IS_WIDE G.IS_BARE G.IS_BRIEF s.now) self.old steps.Component }
         ensures { IfSome result (IsWriting (symbol_by G.IS_WIDE G.IS_BARE G.IS_BRIEF s.now) self.new) }
     {
+        if self.nest.is_dependent {
+            return None;
+        }
         self.push_pair(b':', b':')?;
         let class_from = self.text.end();
         if !self.operator_name(s)? {
@@ -347,7 +354,7 @@ impl Direct {
     {
         self.at = self.at.checked_add(1)?;
         let digit = byte_at(s, self.at);
-        if !is_constructor_digit::<G>(digit) || !self.nest.has_class {
+        if !is_constructor_digit::<G>(digit) || !self.nest.has_class || self.nest.is_dependent {
             return None;
         }
         self.at = self.at.checked_add(1)?;
@@ -364,7 +371,7 @@ impl Direct {
     {
         self.at = self.at.checked_add(1)?;
         let digit = byte_at(s, self.at);
-        if !is_destructor_digit::<G>(digit) || !self.nest.has_class {
+        if !is_destructor_digit::<G>(digit) || !self.nest.has_class || self.nest.is_dependent {
             return None;
         }
         self.at = self.at.checked_add(1)?;

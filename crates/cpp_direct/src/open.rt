@@ -6,12 +6,8 @@ pub struct Candidate {
     pub from: u32,
     pub to: u32,
     pub is_reference: bool,
-    /// It names an argument of the function's template, and its text is only what follows the argument's.
+    /// It names arguments of the function's template: this is its text in the types of that function alone.
     pub is_dependent: bool,
-    /// the argument's number
-    pub number: u16,
-    /// the place where the encoding begins in which it names the argument, 0 if this isn't known
-    pub encoding: u16,
 }
 
 /// An argument of a name, or an element of a pack, and where its text is in what is written. One that ends before it begins is
@@ -72,6 +68,8 @@ pub struct Nest {
     pub has_class: bool,
     /// It ends in arguments. No name of a class comes before those of a constructor or a destructor.
     pub is_instance: bool,
+    /// It names arguments of the function's template.
+    pub is_dependent: bool,
 }
 
 /// How an array is read: by itself, or after a pointer or an lvalue reference.
@@ -97,9 +95,10 @@ pub enum Open {
     Const {
         from: u32,
     },
-    /// the arguments of a type
+    /// the arguments of a type, and whether one of them names an argument of the function's template
     TypeArguments {
         from: u32,
+        is_dependent: bool,
     },
     /// the arguments of a component, or of a name in std, in a nested name
     NestArguments {
@@ -131,7 +130,6 @@ pub enum Open {
         mark: Mark,
         from: u32,
         to: u32,
-        argument: Arguments,
     },
     /// the parameters of a lambda that is in a function, whose text begins at this place
     Lambda {
@@ -179,17 +177,10 @@ pub enum Step {
     Type,
     /// a type after a const
     Plain,
-    /// a type was read
+    /// a type was read, and whether it names arguments of the function's template
     Value {
         is_reference: bool,
-    },
-    /// a type was read that names an argument of a function's template, the one with this number; what follows the argument's
-    /// text begins at this place, and the encoding at that one, if it is known
-    Dependent {
-        is_reference: bool,
-        begins: u32,
-        number: u16,
-        encoding: u16,
+        is_dependent: bool,
     },
     /// an argument or an element of a pack, or the end of either
     List {

@@ -8,8 +8,8 @@ ghost use Rattle.cpp_direct.specs.declared.direct.Direct.{Direct};
 ghost use Rattle.cpp_direct.specs.Names.{IsReadable};
 ghost use Rattle.cpp_direct.specs.declared.open.Step.TheVariants as steps;
 ghost use Rattle.cpp_direct.specs.Holes.{StandsAt};
-ghost use Rattle.cpp_direct.specs.WriterInvariant.{EndsNamed, IsWriting, argument_of, place_of};
-ghost use Rattle.cpp_direct.specs.MidStep.{AwaitsType, AwaitsDependentMark, AwaitsKnownArgument, AwaitsNextParameter, IsArgumentRead, IsNamedAgain, IsPackElementRead, AwaitsPackElement, AreForwarded, IsPackOf, comma_text, KnowsMore, parameter_digits};
+ghost use Rattle.cpp_direct.specs.WriterInvariant.{EndsNamed, IsWriting, argument_of, arguments_in, is_type, is_within_type, place_of};
+ghost use Rattle.cpp_direct.specs.MidStep.{AwaitsType, AwaitsKnownArgument, AwaitsNextParameter, IsArgumentRead, IsNamedAgain, IsPackElementRead, AwaitsPackElement, AreForwarded, IsPackOf, comma_text, KnowsMore, parameter_digits};
 ghost use Rattle.cpp_direct.specs.Symbol.{symbol_by};
 ghost use Rattle.cpp_direct.specs.Written.{Writes};
 
@@ -117,6 +117,46 @@ fn parameter_number(s: &[u8], at: usize) -> Option<ParameterNumber>
     }
     let end = behind.checked_add(1)?;
     Some(ParameterNumber { number, end })
+}
+
+/// Among how many levels of types a type that names an argument of the function's template may be: marks, and arguments of types.
+const MOST_LEVELS: usize = 16;
+
+/// Whether what is in it is in a type: a mark, or the arguments of a type.
+fn is_within_type(entry: Open) -> bool
+    ensures { result ≡ is_within_type entry }
+{
+    match entry {
+        Open::Pointer { .. } => true,
+        Open::Lvalue { .. } => true,
+        Open::Rvalue { .. } => true,
+        Open::Const { .. } => true,
+        Open::TypeArguments { .. } => true,
+        Open::NestArguments { nest } => is_type(nest.purpose),
+        Open::FirstArguments { nest } => is_type(nest.purpose),
+        _ => false,
+    }
+}
+
+/// Whether a nested name is read as a type.
+fn is_type(purpose: Purpose) -> bool
+    ensures { result ≡ is_type purpose }
+{
+    match purpose {
+        Purpose::Type => true,
+        _ => false,
+    }
+}
+
+/// The arguments that its types may name.
+fn arguments_in(entry: Open) -> Option<Arguments>
+    ensures { result ≡ arguments_in entry }
+{
+    match entry {
+        Open::Front { argument, .. } => Some(argument),
+        Open::Parameters { argument, .. } => Some(argument),
+        _ => None,
+    }
 }
 
 /// Whether a function type or an array is at a place, or what points or refers to one: these are elements alone.
@@ -400,22 +440,19 @@ impl Direct {
         Some(Step::Type)
     }
 
-    /// The arguments that are named in what is open.
+    /// The arguments that types may name in what is open, if it is few levels within the types of a function.
     fn argument(&self) -> Option<Arguments>
         ensures { IfSome result (λ a. argument_of (reverse self.now.waiting.list.items) ≡ Some a) }
     {
         let mut open = self.waiting.as_slice();
-        'marks: while let Some((last, rest)) = open.split_last() {
-            match *last {
-                Open::Pointer { .. } => open = rest,
-                Open::Lvalue { .. } => open = rest,
-                Open::Rvalue { .. } => open = rest,
-                Open::Const { .. } => open = rest,
-                Open::Front { argument, .. } => return Some(argument),
-                Open::Parameters { argument, .. } => return Some(argument),
-                Open::Enclosing { argument, .. } => return Some(argument),
-                _ => return None,
+        let mut left = MOST_LEVELS;
+        'levels: while left > 0 {
+            let (last, rest) = open.split_last()?;
+            if !is_within_type(*last) {
+                return arguments_in(*last);
             }
+            open = rest;
+            left -= 1;
         }
         None
     }
@@ -432,145 +469,40 @@ impl Direct {
         let named = self.argument()?;
         let argument = known(named.at(read.number))?;
         // a pack is named in what is expanded alone
-        if argument.is_pack || argument.is_reference {
+        if argument.is_pack || argument.is_reference || named.encoding == 0 {
             return None;
         }
         self.at = read.end;
+        let from = self.text.end();
         self.repeat(argument.from as u32, argument.to as u32)?;
-        let begins = self.text.end();
-        self.add_dependent(begins, false, read.number, named.encoding)?;
-        Some(Step::Dependent {
+        self.add_candidate(from, false, true)?;
+        Some(Step::Value {
             is_reference: false,
-            begins,
-            number: read.number,
-            encoding: named.encoding,
+            is_dependent: true,
         })
     }
 
-    /// A type that names an argument is named once more.
+    /// A type that names arguments of the function's template is named once more, among the types of that function.
     // <substitution> ::= S <seq-id> _ | S_
     #[inline(never)]
     pub(crate) fn dependent_again<G: Grammar>(
         &mut self,
-        s: &[u8],
+        _s: &[u8],
         candidate: Candidate,
     ) -> Option<Step>
-        requires fits { IsReadable s.now }
-        requires again { IsNamedAgain (symbol_by G.IS_WIDE G.IS_BARE G.IS_BRIEF s.now) self.old candidate }
-        ensures { IfSome result (IsWriting (symbol_by G.IS_WIDE G.IS_BARE G.IS_BRIEF s.now) self.new) }
+        requires fits { IsReadable _s.now }
+        requires again { IsNamedAgain (symbol_by G.IS_WIDE G.IS_BARE G.IS_BRIEF _s.now) self.old candidate }
+        ensures { IfSome result (IsWriting (symbol_by G.IS_WIDE G.IS_BARE G.IS_BRIEF _s.now) self.new) }
     {
         let named = self.argument()?;
         // in another encoding it isn't the same type
-        if candidate.encoding == 0 || candidate.encoding != named.encoding {
+        if named.encoding == 0 {
             return None;
         }
-        let argument = known(named.at(candidate.number))?;
-        if argument.is_pack || argument.is_reference {
-            return None;
-        }
-        self.repeat(argument.from as u32, argument.to as u32)?;
-        let begins = self.text.end();
         self.repeat(candidate.from, candidate.to)?;
-        Some(Step::Dependent {
+        Some(Step::Value {
             is_reference: candidate.is_reference,
-            begins,
-            number: candidate.number,
-            encoding: candidate.encoding,
-        })
-    }
-
-    /// Hands a type that names an argument on to what waits for it.
-    // <type> ::= P <type>
-    #[inline(never)]
-    pub(crate) fn pass_dependent<G: Grammar>(
-        &mut self,
-        s: &[u8],
-        is_reference: bool,
-        begins: u32,
-        number: u16,
-        encoding: u16,
-    ) -> Option<Step>
-        requires fits { IsReadable s.now }
-        requires writing { IsWriting (symbol_by G.IS_WIDE G.IS_BARE G.IS_BRIEF s.now) self.old (steps.Dependent is_reference begins number encoding) }
-        ensures { IfSome result (IsWriting (symbol_by G.IS_WIDE G.IS_BARE G.IS_BRIEF s.now) self.new) }
-    {
-        match *self.waiting.as_slice().last()? {
-            Open::Pointer { .. } => self.mark_dependent::<G>(
-                s, b"*", false, begins, number, encoding,
-            ),
-            Open::Parameters {
-                mark,
-                start,
-                argument,
-            } => self.parameter_ended::<G>(s, mark, start, argument),
-            Open::Front {
-                mark,
-                start,
-                argument,
-            } => self.front_ended::<G>(s, mark, start, argument),
-            Open::Enclosing {
-                mark,
-                from,
-                to,
-                argument,
-            } => self.enclosing_parameter::<G>(s, mark, from, to, argument),
-            _ => {
-                // a reference to a reference, or a const one, prints otherwise
-                if is_reference {
-                    return None;
-                }
-                self.mark_plain::<G>(s, begins, number, encoding)
-            }
-        }
-    }
-
-    /// Ends a type that names the argument, and is no reference, with a mark.
-    // <type> ::= R <type> | O <type> | <CV-qualifiers> <type>
-    fn mark_plain<G: Grammar>(
-        &mut self,
-        s: &[u8],
-        begins: u32,
-        number: u16,
-        encoding: u16,
-    ) -> Option<Step>
-        requires { IsWriting (symbol_by G.IS_WIDE G.IS_BARE G.IS_BRIEF s.now) self.old (steps.Dependent false begins number encoding) }
-        ensures { IfSome result (IsWriting (symbol_by G.IS_WIDE G.IS_BARE G.IS_BRIEF s.now) self.new) }
-    {
-        match *self.waiting.as_slice().last()? {
-            Open::Lvalue { .. } => self.mark_dependent::<G>(
-                s, b"&", true, begins, number, encoding,
-            ),
-            Open::Rvalue { .. } => self.mark_dependent::<G>(
-                s, b"&&", true, begins, number, encoding,
-            ),
-            Open::Const { .. } => self.mark_dependent::<G>(
-                s, b" const", false, begins, number, encoding,
-            ),
-            _ => None,
-        }
-    }
-
-    /// Ends a type that names the argument with a mark.
-    fn mark_dependent<G: Grammar>(
-        &mut self,
-        _s: &[u8],
-        mark: &[u8],
-        is_reference: bool,
-        begins: u32,
-        number: u16,
-        encoding: u16,
-    ) -> Option<Step>
-        requires { AwaitsDependentMark (symbol_by G.IS_WIDE G.IS_BARE G.IS_BRIEF _s.now) self.old mark.now is_reference begins number encoding }
-        ensures { IfSome result (IsWriting (symbol_by G.IS_WIDE G.IS_BARE G.IS_BRIEF _s.now) self.new) }
-    {
-        let _open = self.waiting.pop();
-        self.push(mark)?;
-        self.add_dependent(begins, is_reference, number, encoding)?;
-        Some(Step::Dependent {
-            is_reference,
-            begins,
-            number,
-            encoding,
+            is_dependent: true,
         })
     }
 }

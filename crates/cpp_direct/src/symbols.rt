@@ -1,13 +1,13 @@
 // A symbol from its first byte to its last.
 
 ghost use Rattle.std.specs.Prelude.{◌≡◌, ◌≢◌, ◌+◌, ◌∷◌, [], length, true, false};
-ghost use Rattle.std.specs.Option.{IfSome};
+ghost use Rattle.std.specs.Option.{IfSome, OnSome};
 ghost use Rattle.cpp_direct.specs.declared.open.Mark.TheVariants as marks;
 ghost use Rattle.cpp_direct.specs.Holes.{StandsAt};
 ghost use Rattle.cpp_direct.specs.Names.{IsReadable};
 ghost use Rattle.cpp_direct.specs.WriterInvariant.{IsWriting, encoding_place};
 ghost use Rattle.cpp_direct.specs.Bytes.{is_local};
-ghost use Rattle.cpp_direct.specs.MidStep.{IsFresh, AwaitsEncoding, IsNameEnded, IsFrontRead, AwaitsParameters, IsParameterEnded, IsEncodingEnded, IsFunctionEnded, IsSymbolEnded};
+ghost use Rattle.cpp_direct.specs.MidStep.{IsFresh, AwaitsEncoding, IsNameEnded, IsNameScoped, IsFrontRead, AwaitsParameters, IsParameterEnded, IsEncodingEnded, IsFunctionEnded, IsSymbolEnded};
 ghost use Rattle.cpp_direct.specs.Symbol.{symbol_by};
 
 use crate::direct::Direct;
@@ -25,6 +25,7 @@ pub const NO_NEST: Nest = Nest {
     is_listed: false,
     has_class: false,
     is_instance: false,
+    is_dependent: false,
 };
 
 /// An argument that isn't known.
@@ -80,13 +81,10 @@ impl Direct {
         match step {
             Step::Type => self.type_at::<G>(s, false),
             Step::Plain => self.type_at::<G>(s, true),
-            Step::Value { is_reference } => self.pass::<G>(s, is_reference),
-            Step::Dependent {
+            Step::Value {
                 is_reference,
-                begins,
-                number,
-                encoding,
-            } => self.pass_dependent::<G>(s, is_reference, begins, number, encoding),
+                is_dependent,
+            } => self.pass::<G>(s, is_reference, is_dependent),
             Step::List { is_first } => self.list_at::<G>(s, is_first),
             Step::Rest => self.rest_at::<G>(s),
             Step::Tail => self.tail_at::<G>(s),
@@ -187,15 +185,29 @@ impl Direct {
         if may_end(byte_at(s, self.at)) {
             return self.end::<G>(s, mark);
         }
+        let argument = self.begin_scope(s, argument, from)?;
         if is_instance {
             return self.begin_front::<G>(s, mark, argument, from);
         }
-        let argument = Arguments {
-            encoding: encoding_place(s, from),
-            ..argument
-        };
         let start = self.start::<G>();
         self.begin_parameters::<G>(s, mark, start, argument)
+    }
+
+    /// The arguments of the symbol's own name are known now, which its types may name. It has one name.
+    #[inline(always)]
+    fn begin_scope(&mut self, s: &[u8], argument: Arguments, from: u32) -> Option<Arguments>
+        ensures is { IfSome result (λ a. (a ≡ record argument { encoding = a.encoding }) × (a.encoding ≢ 0 → (from ≡ 0) × (a.encoding ≡ encoding_place s.now))) }
+        ensures first { IfSome result (λ a. self.old.has_scope ≡ false) }
+        ensures same { OnSome result (self.new ≡ record self.old { has_scope = true }) }
+    {
+        if self.has_scope {
+            return None;
+        }
+        self.has_scope = true;
+        Some(Arguments {
+            encoding: encoding_place(s, from),
+            ..argument
+        })
     }
 
     /// Where the text of a function that has no return type begins, after its name was written, or where it ends if that is all of it.
@@ -221,17 +233,13 @@ impl Direct {
         from: u32,
     ) -> Option<Step>
         requires fits { IsReadable s.now }
-        requires ended { IsNameEnded (symbol_by G.IS_WIDE G.IS_BARE G.IS_BRIEF s.now) self.old mark true argument from }
+        requires scoped { IsNameScoped (symbol_by G.IS_WIDE G.IS_BARE G.IS_BRIEF s.now) self.old mark true argument from }
         ensures { IfSome result (IsWriting (symbol_by G.IS_WIDE G.IS_BARE G.IS_BRIEF s.now) self.new) }
     {
         if !has_front(s, from) {
             return None;
         }
         let start = self.text.end();
-        let argument = Arguments {
-            encoding: encoding_place(s, from),
-            ..argument
-        };
         self.waiting.push(Open::Front {
             mark,
             start,

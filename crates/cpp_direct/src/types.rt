@@ -1,18 +1,19 @@
 // Types.
 
-ghost use Rattle.std.specs.Prelude.{◌≡◌, ◌≢◌, ◌+◌, ◌-◌, ◌∷◌, [], length, slice_get, Some, true, if◌then◌else◌};
+ghost use Rattle.std.specs.Prelude.{◌≡◌, ◌≢◌, ◌+◌, ◌-◌, ◌∷◌, [], length, slice_get, Some, Bool, true, false, if◌then◌else◌};
 ghost use Rattle.std.specs.Option.{IfSome};
 ghost use Rattle.cpp_direct.specs.Names.{IsReadable};
 ghost use Rattle.cpp_direct.specs.declared.open.Step.TheVariants as steps;
+ghost use Rattle.cpp_direct.specs.declared.open.Purpose.TheVariants as purposes;
 ghost use Rattle.cpp_direct.specs.Holes.{StandsAt};
 ghost use Rattle.cpp_direct.specs.WriterInvariant.{IsWriting};
-ghost use Rattle.cpp_direct.specs.MidStep.{AwaitsType, AwaitsNamedType, IsTypeNamed, AwaitsMark};
+ghost use Rattle.cpp_direct.specs.MidStep.{AwaitsType, AwaitsNamedType, IsTypeNamed, AwaitsMark, IsDependentNow, IsPassedClosed};
 ghost use Rattle.cpp_direct.specs.Symbol.{symbol_by};
 
 use crate::direct::Direct;
 use crate::grammar::Grammar;
 use crate::letters::is_builtin_with_d;
-use crate::open::{Access, Open, Purpose, Step};
+use crate::open::{Access, Nest, Open, Purpose, Step};
 use crate::tokens::byte_at;
 
 /// Whether an array begins after the byte at a place.
@@ -23,6 +24,38 @@ fn is_array_behind(s: &[u8], at: usize) -> bool
     match at.checked_add(1) {
         Some(behind) => byte_at(s, behind) == b'A',
         None => false,
+    }
+}
+
+/// What is open for arguments of which one names an argument of the function's template, if these may do so.
+fn dependent(entry: Open) -> Option<Open>
+    ensures { IfSome result (IsDependentNow entry) }
+{
+    match entry {
+        Open::TypeArguments { from, .. } => Some(Open::TypeArguments {
+            from,
+            is_dependent: true,
+        }),
+        Open::NestArguments { nest } => Some(Open::NestArguments {
+            nest: dependent_nest(nest)?,
+        }),
+        Open::FirstArguments { nest } => Some(Open::FirstArguments {
+            nest: dependent_nest(nest)?,
+        }),
+        _ => None,
+    }
+}
+
+/// The same of a nested name that is a type.
+fn dependent_nest(nest: Nest) -> Option<Nest>
+    ensures { IfSome result (λ new. (nest.purpose ≡ purposes.Type) × (new ≡ record nest { is_dependent = true })) }
+{
+    match nest.purpose {
+        Purpose::Type => Some(Nest {
+            is_dependent: true,
+            ..nest
+        }),
+        _ => None,
     }
 }
 
@@ -126,6 +159,7 @@ impl Direct {
         self.push(text)?;
         Some(Step::Value {
             is_reference: false,
+            is_dependent: false,
         })
     }
 
@@ -145,6 +179,7 @@ impl Direct {
         self.push(cpp_layout::builtin_with_d_text(letter))?;
         Some(Step::Value {
             is_reference: false,
+            is_dependent: false,
         })
     }
 
@@ -191,26 +226,37 @@ impl Direct {
         requires { IsTypeNamed (symbol_by G.IS_WIDE G.IS_BARE G.IS_BRIEF s.now) self.old from is_listed is_reference }
         ensures { IfSome result (IsWriting (symbol_by G.IS_WIDE G.IS_BARE G.IS_BRIEF s.now) self.new) }
     {
-        self.add_unless(is_listed, from)?;
+        self.add_unless(is_listed, from, false)?;
         if byte_at(s, self.at) != b'I' {
-            return Some(Step::Value { is_reference });
+            return Some(Step::Value {
+                is_reference,
+                is_dependent: false,
+            });
         }
         if is_reference {
             return None;
         }
-        self.open_arguments::<G>(Open::TypeArguments { from })
+        self.open_arguments::<G>(Open::TypeArguments {
+            from,
+            is_dependent: false,
+        })
     }
 
     /// Hands a type on to what waits for it.
-    pub(crate) fn pass<G: Grammar>(&mut self, s: &[u8], is_reference: bool) -> Option<Step>
+    pub(crate) fn pass<G: Grammar>(
+        &mut self,
+        s: &[u8],
+        is_reference: bool,
+        is_dependent: bool,
+    ) -> Option<Step>
         requires fits { IsReadable s.now }
-        requires writing { IsWriting (symbol_by G.IS_WIDE G.IS_BARE G.IS_BRIEF s.now) self.old (steps.Value is_reference) }
+        requires writing { IsWriting (symbol_by G.IS_WIDE G.IS_BARE G.IS_BRIEF s.now) self.old (steps.Value is_reference is_dependent) }
         ensures { IfSome result (IsWriting (symbol_by G.IS_WIDE G.IS_BARE G.IS_BRIEF s.now) self.new) }
     {
         let entry = *self.waiting.as_slice().last()?;
         match entry {
             Open::Pointer { .. } | Open::Lvalue { .. } | Open::Rvalue { .. } | Open::Const { .. } =>
-                self.pass_to_mark::<G>(s, entry, is_reference),
+                self.pass_to_mark::<G>(s, entry, is_reference, is_dependent),
             Open::Parameters {
                 mark,
                 start,
@@ -221,15 +267,29 @@ impl Direct {
                 start,
                 argument,
             } => self.front_ended::<G>(s, mark, start, argument),
+            _ => {
+                if is_dependent {
+                    return self.pass_dependent::<G>(s);
+                }
+                self.pass_closed::<G>(s, entry, is_reference)
+            }
+        }
+    }
+
+    /// Hands on a type that names no argument of the function's template.
+    #[inline(always)]
+    fn pass_closed<G: Grammar>(&mut self, s: &[u8], entry: Open, is_reference: bool) -> Option<Step>
+        requires fits { IsReadable s.now }
+        requires writing { IsWriting (symbol_by G.IS_WIDE G.IS_BARE G.IS_BRIEF s.now) self.old (steps.Value is_reference false) }
+        requires waits { slice_get self.old.waiting.list.items (length self.old.waiting.list.items - 1) ≡ Some entry }
+        requires others { IsPassedClosed entry }
+        ensures { IfSome result (IsWriting (symbol_by G.IS_WIDE G.IS_BARE G.IS_BRIEF s.now) self.new) }
+    {
+        match entry {
             Open::Returned { is_pointer } => self.returned::<G>(s, is_pointer),
             Open::Signature { is_pointer } => self.parameter_at::<G>(s, is_pointer, false),
             Open::Array { access, from, to } => self.array_ended::<G>(s, access, from, to),
-            Open::Enclosing {
-                mark,
-                from,
-                to,
-                argument,
-            } => self.enclosing_parameter::<G>(s, mark, from, to, argument),
+            Open::Enclosing { mark, from, to } => self.enclosing_parameter::<G>(s, mark, from, to),
             Open::Lambda { from } => self.lambda_parameter::<G>(s, from),
             Open::Special => self.finish::<G>(s),
             Open::Enumerator => self.enumerator::<G>(s),
@@ -247,6 +307,18 @@ impl Direct {
         }
     }
 
+    /// Hands on a type that names arguments of the function's template, which the arguments of a type may do.
+    // <template-arg> ::= <type>
+    #[inline(never)]
+    fn pass_dependent<G: Grammar>(&mut self, _s: &[u8]) -> Option<Step>
+        requires writing { (is_reference : Bool) × IsWriting (symbol_by G.IS_WIDE G.IS_BARE G.IS_BRIEF _s.now) self.old (steps.Value is_reference true) }
+        ensures { IfSome result (IsWriting (symbol_by G.IS_WIDE G.IS_BARE G.IS_BRIEF _s.now) self.new) }
+    {
+        let entry = dependent(self.waiting.pop()?)?;
+        self.waiting.push(entry)?;
+        Some(Step::List { is_first: false })
+    }
+
     /// Hands a type on to the mark that waits for it.
     #[inline(always)]
     fn pass_to_mark<G: Grammar>(
@@ -254,31 +326,32 @@ impl Direct {
         s: &[u8],
         entry: Open,
         is_reference: bool,
+        is_dependent: bool,
     ) -> Option<Step>
         requires fits { IsReadable s.now }
-        requires writing { IsWriting (symbol_by G.IS_WIDE G.IS_BARE G.IS_BRIEF s.now) self.old (steps.Value is_reference) }
+        requires writing { IsWriting (symbol_by G.IS_WIDE G.IS_BARE G.IS_BRIEF s.now) self.old (steps.Value is_reference is_dependent) }
         requires waits { slice_get self.old.waiting.list.items (length self.old.waiting.list.items - 1) ≡ Some entry }
         ensures { IfSome result (IsWriting (symbol_by G.IS_WIDE G.IS_BARE G.IS_BRIEF s.now) self.new) }
     {
         match entry {
-            Open::Pointer { from } => self.mark::<G>(s, b"*", from, false),
+            Open::Pointer { from } => self.mark::<G>(s, b"*", from, false, is_dependent),
             Open::Lvalue { from } => {
                 if is_reference {
                     return None;
                 }
-                self.mark::<G>(s, b"&", from, true)
+                self.mark::<G>(s, b"&", from, true, is_dependent)
             }
             Open::Rvalue { from } => {
                 if is_reference {
                     return None;
                 }
-                self.mark::<G>(s, b"&&", from, true)
+                self.mark::<G>(s, b"&&", from, true, is_dependent)
             }
             Open::Const { from } => {
                 if is_reference {
                     return None;
                 }
-                self.mark::<G>(s, b" const", from, false)
+                self.mark::<G>(s, b" const", from, false, is_dependent)
             }
             _ => None,
         }
@@ -292,13 +365,17 @@ impl Direct {
         mark: &[u8],
         from: u32,
         is_reference: bool,
+        is_dependent: bool,
     ) -> Option<Step>
-        requires { AwaitsMark (symbol_by G.IS_WIDE G.IS_BARE G.IS_BRIEF _s.now) self.old mark.now from is_reference }
+        requires { AwaitsMark (symbol_by G.IS_WIDE G.IS_BARE G.IS_BRIEF _s.now) self.old mark.now from is_reference is_dependent }
         ensures { IfSome result (IsWriting (symbol_by G.IS_WIDE G.IS_BARE G.IS_BRIEF _s.now) self.new) }
     {
         let _open = self.waiting.pop();
         self.push(mark)?;
-        self.add_candidate(from, is_reference)?;
-        Some(Step::Value { is_reference })
+        self.add_candidate(from, is_reference, is_dependent)?;
+        Some(Step::Value {
+            is_reference,
+            is_dependent,
+        })
     }
 }

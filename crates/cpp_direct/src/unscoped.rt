@@ -94,7 +94,7 @@ impl Direct {
         if !takes {
             return None;
         }
-        self.add_candidate(from, false)?;
+        self.add_candidate(from, false, false)?;
         self.open_arguments::<G>(Open::NameArguments { from })
     }
 

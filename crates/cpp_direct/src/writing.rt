@@ -5,7 +5,7 @@ ghost use Rattle.std.specs.Option.{OnSome, IfSome};
 ghost use Rattle.cpp_direct.specs.declared.open.Step.TheVariants as steps;
 ghost use Rattle.cpp_direct.specs.Symbol.{detail_by};
 ghost use Rattle.cpp_direct.specs.WrittenParts.{opening_bracket, closing_bracket};
-ghost use Rattle.cpp_direct.specs.Written.{Writes, Cuts, added, added_unless, with_dependent, with_hidden, AreKeptTo};
+ghost use Rattle.cpp_direct.specs.Written.{Writes, Cuts, added, added_unless, with_hidden, AreKeptTo};
 
 use crate::direct::Direct;
 use crate::grammar::Grammar;
@@ -18,8 +18,6 @@ const HIDDEN: Candidate = Candidate {
     to: 0,
     is_reference: false,
     is_dependent: false,
-    number: 0,
-    encoding: 0,
 };
 
 impl Direct {
@@ -49,37 +47,17 @@ impl Direct {
 
     /// What is written from a place on becomes a candidate.
     #[inline(always)]
-    pub(crate) fn add_candidate(&mut self, from: u32, is_reference: bool) -> Option<()>
-        ensures candidates { OnSome result (self.new.candidates.list.items ≡ added self.old from is_reference) }
-        ensures text { self.new.text ≡ self.old.text }
-        ensures open { self.new.waiting ≡ self.old.waiting }
-        ensures nest { self.new.nest ≡ self.old.nest }
-        ensures at { self.new.at ≡ self.old.at }
-        ensures rounds { self.new.rounds ≡ self.old.rounds }
-    {
-        let to = self.text.end();
-        self.candidates.push(Candidate {
-            from,
-            to,
-            is_reference,
-            is_dependent: false,
-            number: 0,
-            encoding: 0,
-        })
-    }
-
-    /// A type that names an argument becomes a candidate: what is written from a place on comes after the argument's text.
-    pub(crate) fn add_dependent(
+    pub(crate) fn add_candidate(
         &mut self,
         from: u32,
         is_reference: bool,
-        number: u16,
-        encoding: u16,
+        is_dependent: bool,
     ) -> Option<()>
-        ensures candidates { OnSome result (self.new.candidates.list.items ≡ with_dependent self.old from is_reference number encoding) }
+        ensures candidates { OnSome result (self.new.candidates.list.items ≡ added self.old from is_reference is_dependent) }
         ensures text { self.new.text ≡ self.old.text }
         ensures open { self.new.waiting ≡ self.old.waiting }
         ensures nest { self.new.nest ≡ self.old.nest }
+        ensures scope { self.new.has_scope ≡ self.old.has_scope }
         ensures at { self.new.at ≡ self.old.at }
         ensures rounds { self.new.rounds ≡ self.old.rounds }
     {
@@ -88,9 +66,7 @@ impl Direct {
             from,
             to,
             is_reference,
-            is_dependent: true,
-            number,
-            encoding,
+            is_dependent,
         })
     }
 
@@ -100,6 +76,7 @@ impl Direct {
         ensures text { self.new.text ≡ self.old.text }
         ensures open { self.new.waiting ≡ self.old.waiting }
         ensures nest { self.new.nest ≡ self.old.nest }
+        ensures scope { self.new.has_scope ≡ self.old.has_scope }
         ensures at { self.new.at ≡ self.old.at }
         ensures rounds { self.new.rounds ≡ self.old.rounds }
     {
@@ -111,18 +88,24 @@ impl Direct {
 
     /// The same unless it is one already.
     #[inline(always)]
-    pub(crate) fn add_unless(&mut self, is_listed: bool, from: u32) -> Option<()>
-        ensures candidates { OnSome result (self.new.candidates.list.items ≡ added_unless self.old is_listed from) }
+    pub(crate) fn add_unless(
+        &mut self,
+        is_listed: bool,
+        from: u32,
+        is_dependent: bool,
+    ) -> Option<()>
+        ensures candidates { OnSome result (self.new.candidates.list.items ≡ added_unless self.old is_listed from is_dependent) }
         ensures text { self.new.text ≡ self.old.text }
         ensures open { self.new.waiting ≡ self.old.waiting }
         ensures nest { self.new.nest ≡ self.old.nest }
+        ensures scope { self.new.has_scope ≡ self.old.has_scope }
         ensures at { self.new.at ≡ self.old.at }
         ensures rounds { self.new.rounds ≡ self.old.rounds }
     {
         if is_listed {
             return Some(());
         }
-        self.add_candidate(from, false)
+        self.add_candidate(from, false, is_dependent)
     }
 
     /// Writes what is in the text once more.
@@ -156,6 +139,7 @@ impl Direct {
         ensures text { OnSome result (self.new.text.list.items ≡ take to self.old.text.list.items) }
         ensures candidates { OnSome result (AreKeptTo to self.old.candidates.list.items self.new.candidates.list.items) }
         ensures open { OnSome result (self.new.waiting ≡ self.old.waiting) }
+        ensures scope { OnSome result (self.new.has_scope ≡ self.old.has_scope) }
         ensures at { OnSome result (self.new.at ≡ self.old.at) }
     {
         let end = self.text.end();
@@ -174,6 +158,7 @@ impl Direct {
         ensures text { self.new.text ≡ self.old.text }
         ensures candidates { self.new.candidates ≡ self.old.candidates }
         ensures nest { self.new.nest ≡ self.old.nest }
+        ensures scope { self.new.has_scope ≡ self.old.has_scope }
     {
         self.at = self.at.checked_add(1)?;
         self.waiting.push(entry)?;
@@ -190,6 +175,7 @@ impl Direct {
         ensures text { OnSome result (self.new.text.list.items ≡ self.old.text.list.items ++ opening_bracket (detail_by G.IS_BARE G.IS_BRIEF)) }
         ensures candidates { OnSome result (self.new.candidates ≡ self.old.candidates) }
         ensures nest { OnSome result (self.new.nest ≡ self.old.nest) }
+        ensures scope { OnSome result (self.new.has_scope ≡ self.old.has_scope) }
     {
         self.push_byte(if G::IS_BRIEF { OPENS } else { b'<' })?;
         self.open_type(entry, Step::List { is_first: true })

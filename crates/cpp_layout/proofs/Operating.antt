@@ -1,7 +1,6 @@
 -- The operations of code are those of the table.
-use Rattle.std.specs.Prelude.{nat_le}
-use Rattle.std.proofs.Common.{◌≡◌, refl, sym, ap, ◌∙◌, subst, arith, append-nil, append_assoc, ℕ, ◌+◌, ◌*◌, ◌<◌, ◌≤◌, List, [], ◌∷◌, ◌++◌, length, Bool, true, false, nat_eq, ◌||◌, ◌&&◌, Option, Some, None, inl, inr}
-use Rattle.std.proofs.lemmas.Bool.{true≢false, and_parts, leb-true, le-leb, lt-leb}
+use Rattle.std.proofs.Common.{◌≡◌, refl, sym, ap, ◌∙◌, subst, arith, append-nil, append_assoc, ℕ, ◌+◌, ◌*◌, ◌<◌, ◌≤◌, List, [], ◌∷◌, ◌++◌, length, Bool, true, false, nat_eq, ◌||◌, Option, Some, None, inl, inr}
+use Rattle.std.proofs.lemmas.Bool.{true≢false, le-leb, lt-leb}
 use Rattle.std.proofs.lemmas.Bool.Decides.{eqb_tells}
 use Rattle.cpp_grammar.specs.Texts.{same_bytes}
 use Rattle.cpp_grammar.specs.Operations as table
@@ -9,8 +8,7 @@ use Rattle.cpp_grammar.specs.Operations.{operations, operation_of_code, from_pre
 use Rattle.cpp_grammar.specs.Items as heads
 use Rattle.cpp_grammar.specs.Parts.{printed, no_operation}
 use Rattle.cpp_layout.specs.declared.operation_rows.Operation.{Operation}
-use Rattle.cpp_layout.specs.declared.operation_rows.Operand.{Operand}
-use Rattle.cpp_layout.specs.Operations.{IsOperation, operand_of, most_parts, most_of, text_parts}
+use Rattle.cpp_layout.specs.Operations.{IsOperation, operand_of}
 use Rattle.cpp_layout.proofs.Coding.{same_bytes_sound}
 use Rattle.cpp_layout.proofs.Functions.{part-none}
 use Rattle.sym_print.specs.Unfold.{PartOf}
@@ -115,54 +113,6 @@ closed-from c least t asked = ap (from_parts c t) (le-leb least (precedence_of t
 pub open-from : (c : items.Context) (least : ℕ) (t : Term) → precedence_of t < least → operand_parts c (from_precedence least) t ≡ as_item heads.left c t ∷ []
 unfolding operand_parts from_parts
 open-from c least t free = ap (from_parts c t) (lt-leb least (precedence_of t) free)
-
--- ## How many parts an operation has
-
-most_operand : table.Operand → ℕ
-most_operand table.not_printed = 0
-most_operand table.as_it_is = 1
-most_operand table.as_type = 2
-most_operand table.as_list = 1
-most_operand (table.from_precedence least) = 3
-
-most_printed : table.Operation → ℕ
-most_printed o = length (text_part o.front) + most_operand o.left + length (text_part o.between) + most_operand o.right + length (text_part o.back)
-
-all_few : List table.Operation → Bool
-all_few [] = true
-all_few (o ∷ os) = nat_le (most_printed o) 7 && all_few os
-
-rows_few : all_few operations ≡ true
-unfolding operations text_part all_few most_printed most_operand
-rows_few = refl
-
-row_few : (code : List ℕ) (os : List table.Operation) → all_few os ≡ true → most_printed (elim (operation_of_code code os) [ Some o ↦ o | None ↦ no_operation ]) ≤ 7
-unfolding operation_of_code text_part all_few most_printed most_operand
-row_few code [] h = omega arith
-row_few code (o ∷ os) h = go (row_few code os (and_parts (nat_le (most_printed o) 7) (all_few os) h).1) (same_bytes code o.code)
-  where
-    go : most_printed (elim (operation_of_code code os) [ Some p ↦ p | None ↦ no_operation ]) ≤ 7 → (b : Bool) → most_printed (elim (elim b as (λ _. Option table.Operation) [ true ↦ Some o | false ↦ operation_of_code code os ]) [ Some p ↦ p | None ↦ no_operation ]) ≤ 7
-    go rest true = leb-true (most_printed o) 7 (and_parts (nat_le (most_printed o) 7) (all_few os) h).0
-    go rest false = rest
-
-same-most : (operand : Operand) → most_parts operand ≡ most_operand (operand_of operand)
-unfolding most_operand
-same-most Operand.NotPrinted = refl
-same-most Operand.AsItIs = refl
-same-most Operand.AsType = refl
-same-most Operand.AsList = refl
-same-most (Operand.From least) = refl
-
-pub few-printed : (a b : ℕ) (o : Operation) → IsOperation o (printed a b) → most_of o ≤ 7
-unfolding printed most_printed
-few-printed a b o is =
-    let few : most_printed (printed a b) ≤ 7 = row_few (a ∷ b ∷ []) operations rows_few in
-    let front : text_parts o.front ≡ length (text_part (printed a b).front) = ap (λ t. length (text_part t)) is.front in
-    let between : text_parts o.between ≡ length (text_part (printed a b).between) = ap (λ t. length (text_part t)) is.between in
-    let back : text_parts o.back ≡ length (text_part (printed a b).back) = ap (λ t. length (text_part t)) is.back in
-    let one : most_parts o.left ≡ most_operand (printed a b).left = same-most o.left ∙ ap most_operand is.left in
-    let other : most_parts o.right ≡ most_operand (printed a b).right = same-most o.right ∙ ap most_operand is.right in
-    omega (arith, few, front, one, between, other, back)
 
 -- ## An operation's parts one after the other
 

@@ -216,7 +216,8 @@ unfolding state_after gained
 own-type form leave around place vs left one = λ byte began state. omega (arith, left (meant form byte around vs), one vs, appended-one around (tree_of (meant form byte around vs)) state)
 
 -- where a type becomes one before what is of it
-of-type-flow : (form : Form) (leave : Left) (around : Around) (place : ℕ) (x y : Sym) → Untaken x → Untaken y → ((v : Value) → pending x v ≡ few_.unlisted v) → ((v : Value) → leave v ≡ 0)
+of-type-flow : (form : Form) (leave : Left) (around : Around) (place : ℕ) (x y : Sym) → Untaken x → Untaken y → ((v : Value) → pending x v ≡ few_.unlisted v)
+    → ((byte : ℕ) (vs : List Value) → leave (meant form byte around vs) ≤ nodes_at_end form vs)
     → RowFlow (after_steps (quiet ∷ goes (type_of 0) as_before ∷ []) form) leave around place (x ∷ y ∷ []) [] 0
 unfolding before_part done around_part packs_within state_after gained nodes_before part
 of-type-flow form leave around place x y none free is left = λ state next e. came (going [] around state) next e (record {
@@ -228,7 +229,7 @@ of-type-flow form leave around place x y none free is left = λ state next e. ca
     goes = λ later after_ f. came (going (v ∷ []) around (with_type around v later)) after_ f (record {
       over = 0;
       few = omega (arith, typed-one around v later);
-      later = λ w. record { now = 0; few = omega (arith, free around w); goes = λ byte began last. omega (arith, left (meant form byte around (v ∷ w ∷ []))) };
+      later = λ w. record { now = 0; few = omega (arith, free around w); goes = λ byte began last. omega (arith, left byte (v ∷ w ∷ [])) };
     });
   };
 })
@@ -475,8 +476,8 @@ module _ (p : Production) (is : closes_by_row p ≡ true) (around : Around) (pla
   unqualified x row none is_ left =
       of-row p is around place (x ∷ []) [] 0 (subst (λ r. RowFlow r (leaves p) around place (x ∷ []) [] 0) (sym row) (unqualified-flow (leaves p) around place x none is_ left))
 
-  of_type : (form : Form) (x y : Sym) → row_of p ≡ after_steps (quiet ∷ goes (type_of 0) as_before ∷ []) form → Untaken x → Untaken y → ((v : Value) → pending x v ≡ few_.unlisted v) → ((v : Value) → leaves p v ≡ 0)
-      → Flow p around place (x ∷ y ∷ []) [] 0
+  of_type : (form : Form) (x y : Sym) → row_of p ≡ after_steps (quiet ∷ goes (type_of 0) as_before ∷ []) form → Untaken x → Untaken y → ((v : Value) → pending x v ≡ few_.unlisted v)
+      → ((byte : ℕ) (vs : List Value) → leaves p (meant form byte around vs) ≤ nodes_at_end form vs) → Flow p around place (x ∷ y ∷ []) [] 0
   of_type form x y row none free is_ left =
       of-row p is around place (x ∷ y ∷ []) [] 0 (subst (λ r. RowFlow r (leaves p) around place (x ∷ y ∷ []) [] 0) (sym row) (of-type-flow form (leaves p) around place x y none free is_ left))
 
@@ -551,7 +552,7 @@ flows Production.PlainWithD around place = unqualified Production.PlainWithD ref
 flows Production.QualifiedPlain around place = unqualified Production.QualifiedPlain refl around place (OfKind SOLID) refl (λ a v. refl) (λ v. refl) (λ v. refl)
 flows Production.ItemWithD around place = typed Production.ItemWithD refl around place (OfKind ITEM_AFTER_D) refl (λ a v. refl) (λ v. refl) (λ v. refl)
 flows Production.Tag around place = made_name Production.Tag refl around place _ _ Name MAYBE_ARGUMENTS refl (λ vs. refl) (λ vs. refl) (λ a v. refl) maybe-arguments
-flows Production.IntegerLiteral around place = of_type Production.IntegerLiteral refl around place _ (OfKind LITERAL_TYPE) (OfKind INTEGER) refl (λ a v. refl) (λ a v. refl) (λ v. refl) (λ v. refl)
+flows Production.IntegerLiteral around place = of_type Production.IntegerLiteral refl around place _ (OfKind LITERAL_TYPE) (OfKind INTEGER) refl (λ a v. refl) (λ a v. refl) (λ v. refl) (λ byte vs. omega arith)
 flows Production.OperatorNameWithC around place = made_name Production.OperatorNameWithC refl around place _ _ (OfKind OPERATOR_AFTER_C) MAYBE_ARGUMENTS refl (λ vs. refl) (λ vs. refl) (λ a v. refl) maybe-arguments
 flows Production.TaggedStdType around place = made_name Production.TaggedStdType refl around place _ _ (OfKind SOURCE_OR_LOCAL) MAYBE_TAGS refl (λ vs. refl) (λ vs. refl) (λ a v. refl) maybe-tags
 flows Production.TypeTag around place = made_name Production.TypeTag refl around place _ _ Name MAYBE_TAGS refl (λ vs. refl) (λ vs. refl) (λ a v. refl) maybe-tags
@@ -564,7 +565,7 @@ flows Production.ConvertedConst around place = own_type Production.ConvertedCons
 flows Production.ConvertedPointer around place = own_type Production.ConvertedPointer refl around place _ (parts_of Production.ConvertedPointer) refl refl refl (λ v. refl) (λ vs. refl)
 flows Production.ConvertedReference around place = own_type Production.ConvertedReference refl around place _ (parts_of Production.ConvertedReference) refl refl refl (λ v. refl) (λ vs. refl)
 flows Production.ConvertedType around place = typed Production.ConvertedType refl around place (OfKind CONVERTED_SOLID) refl (λ a v. refl) (λ v. refl) (λ v. refl)
-flows Production.UnresolvedInType around place = of_type Production.UnresolvedInType refl around place _ (OfKind UNRESOLVED_TYPE) (OfKind UNRESOLVED_NAME) refl (λ a v. refl) (λ a v. refl) (λ v. refl) (λ v. refl)
+flows Production.UnresolvedInType around place = of_type Production.UnresolvedInType refl around place _ (OfKind UNRESOLVED_TYPE) (OfKind UNRESOLVED_NAME) refl (λ a v. refl) (λ a v. refl) (λ v. refl) (λ byte vs. omega arith)
 flows Production.DestroyedType around place = typed Production.DestroyedType refl around place (OfKind UNRESOLVED_TYPE) refl (λ a v. refl) (λ v. refl) (λ v. refl)
 flows Production.TaggedSource around place = made_name Production.TaggedSource refl around place _ _ Name MAYBE_TAGS refl (λ vs. refl) (λ vs. refl) (λ a v. refl) maybe-tags
 -- no candidate becomes of any other before its end

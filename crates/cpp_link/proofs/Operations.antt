@@ -2,15 +2,12 @@
 use Rattle.std.proofs.Common.{◌≡◌, refl, ℕ, List, true, false, Option, None}
 use Rattle.std.proofs.lemmas.Bool.{true≢false}
 use Rattle.cpp_term.specs.Term.{Term}
-use Rattle.cpp_term.specs.Meaning.{operation_or_address, operation_by, is_comma, ends_arguments}
+use Rattle.cpp_term.specs.Meaning.{operation_or_address, is_comma, ends_arguments}
 use Rattle.cpp_term.specs.Reargued.{reargued}
 use Rattle.cpp_tree.specs.declared.node.Node.{Node}
 use Rattle.cpp_tree.specs.declared.node.Thunk.{Thunk}
 use Rattle.cpp_tree.specs.Nodes as nodes
 use Rattle.cpp_tree.specs.Nodes.{is_again, IsBelow, IsThereBelow}
-use Rattle.cpp_link.specs.declared.part.Part.{Part}
-use Rattle.cpp_link.specs.NodeCount.{operation_at_end}
-use Rattle.cpp_link.specs.Parts.{value_of}
 use Rattle.cpp_link.specs.Reads.{comma_node, ending_node, encoding_in, operation_read}
 
 pub comma_is : (s : List ℕ) (us : List Thunk) (ts : List Term) (given : Option Term) (node : Node) → is_again node ≡ false → is_comma (reargued given (nodes.tree_of s us ts node)) ≡ comma_node node
@@ -41,14 +38,3 @@ pub encoding_there : (s : List ℕ) (held n : ℕ) (node : Node) → IsBelow s h
 unfolding encoding_in
 encoding_there s held n (Node.EncodingLiteral encoding) below = below
 encoding_there s held n _ below = tt
-
--- what is no operands is an expression already
-pub no_operands : (first : ℕ) (s : List ℕ) (ts : List Term) (part : Part) → ((letter left right : ℕ) → part ≡ Part.Pair letter left right → ⊥) → operation_by first (value_of s ts part) ≡ value_of s ts part
-unfolding operation_by value_of
-no_operands first s ts (Part.Pair letter left right) other = absurd (other letter left right refl)
-no_operands first s ts _ other = refl
-
-pub none_made : (s : List ℕ) (ts : List Term) (part : Part) → ((letter left right : ℕ) → part ≡ Part.Pair letter left right → ⊥) → operation_at_end (value_of s ts part) ≡ 0
-unfolding operation_at_end value_of
-none_made s ts (Part.Pair letter left right) other = absurd (other letter left right refl)
-none_made s ts _ other = refl

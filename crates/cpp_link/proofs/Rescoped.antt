@@ -10,6 +10,8 @@ use Rattle.sym_link.specs.Reading.{Open, Found}
 use Rattle.sym_link.specs.Driving.{Fails}
 use Rattle.sym_link.specs.Linking.{Puts}
 use Rattle.sym_link.specs.Threads.{IsAt, Goes, GoesOn, ClosesAll}
+use Rattle.sym_link.specs.Tally.{tallied_view}
+use Rattle.sym_link.proofs.Tally.{finish_tallied}
 use Rattle.sym_link.specs.Unfold.{found}
 use Rattle.cpp_grammar.specs.declared.production.Production.{Production}
 use Rattle.cpp_grammar.specs.Rescoping.{generic_number}
@@ -32,10 +34,11 @@ use Rattle.cpp_tree.specs.Nodes.{Stored, tree_at, piece_of}
 use Rattle.cpp_tree.specs.declared.node.Piece.{Piece}
 use Rattle.cpp_link.specs.declared.linked.Linked.{Linked}
 use Rattle.cpp_link.specs.declared.part.Part.{Part}
+use Rattle.cpp_link.specs.declared.rescoping.Rescoping.{Rescoping}
 use Rattle.cpp_references.specs.declared.around.Surroundings.{Surroundings}
 use Rattle.cpp_link.specs.declared.part.Step.{Step}
 use Rattle.cpp_link.specs.LinkReading.{link_close, link_meaning}
-use Rattle.cpp_link.specs.LinkRescoping.{link_close_wide, linked_wide, is_parameter, is_parameter_argument, generic_read, is_substitution, is_lambda_production, is_holder, is_own_arguments, is_inheriting, names_generic, names_holder, counts_base, number_in, named_by, substituted_nodes, wide_at_end, wide_view}
+use Rattle.cpp_link.specs.LinkRescoping.{link_close_wide, linked_wide, is_parameter, is_parameter_argument, generic_read, is_holder, is_own_arguments, names_generic, names_holder, counts_base, number_in, named_by, substituted_nodes, wide_at_end, wide_view, wide_makes, wide_counted}
 use Rattle.cpp_link.specs.Making.{state_of}
 use Rattle.cpp_link.specs.NodeCount.{makes_before, makes_at_end}
 use Rattle.cpp_link.specs.Parts.{trees_in, value_of, values_of, value_in, values_in, is_lambda, around_of, candidates_of, packs_of, IsClosed, IsThere, AreCandidatesThere}
@@ -46,7 +49,7 @@ use Rattle.cpp_link.specs.View.{IsWhole, Surrounds, cpp_view}
 use Rattle.cpp_link.proofs.NodeCount.{before_read, end_read}
 use Rattle.cpp_link.proofs.Places.{values_length}
 use Rattle.cpp_link.proofs.Viewing.{parts_are, parts_all}
-use Rattle.cpp_link.proofs.Within.{at_plain}
+use Rattle.cpp_link.proofs.Within.{at_plain, closes_within}
 
 -- ## Before a part
 
@@ -285,6 +288,23 @@ apart_end_read s old new frame parts result begun apart made rule known state is
     (apart_end (production_at rule.rule.number) rule.context known state (λ substitution. apart (ap production_at is.number ∙ substitution)))
     (end_read s old new frame parts result begun made rule known state (at_plain s old frame (drop frame.base parts) rule known state is))
 
+-- what closes a rule by the wide reading, and makes so many nodes, closes it where they are counted
+pub closes_counted : (s : List ℕ) (old : Rescoping) (new : Linked) (frame : Frame Surroundings) (parts new_parts : List Part) (result : Result (Unit {0}) Refusal)
+    → ((rule : Open State Around) (known : List Value) (state : State) → IsAt (wide_view s) s old.linked frame (drop frame.base parts) rule known state
+    → OnOk result (length new.nodes.nodes - 4 ≡ length old.linked.nodes.nodes - 4 + wide_at_end (production_at rule.rule.number) rule.context known state))
+    → ClosesAll (wide_view s) s old.linked new frame parts new_parts result → ClosesAll (wide_counted s) s old (record { linked = new }) frame parts new_parts result
+closes_counted s old new frame parts new_parts result made closes =
+    closes_within (tallied_view (wide_view s) wide_makes) s old (record { linked = new }) frame parts new_parts result
+    (finish_tallied (wide_view s) wide_makes s old.linked new frame parts new_parts result made closes)
+
+-- as what is no substitution does
+pub apart_counted : (s : List ℕ) (old : Rescoping) (new : Linked) (frame : Frame Surroundings) (parts new_parts : List Part) (result : Result (Unit {0}) Refusal) → 4 ≤ length old.linked.nodes.nodes
+    → (production_at frame.rule ≡ Production.Substitution → ⊥)
+    → OnOk result (length new.nodes.nodes ≡ length old.linked.nodes.nodes + makes_at_end (production_at frame.rule) (values_in s old.linked.nodes (drop frame.base parts)))
+    → ClosesAll (wide_view s) s old.linked new frame parts new_parts result → ClosesAll (wide_counted s) s old (record { linked = new }) frame parts new_parts result
+apart_counted s old new frame parts new_parts result begun apart made closes =
+    closes_counted s old new frame parts new_parts result (apart_end_read s old.linked new frame parts result begun apart made) closes
+
 pub substitution_end_read : (s : List ℕ) (old new : Linked) (frame : Frame Surroundings) (parts : List Part) (result : Result (Unit {0}) Refusal) → 4 ≤ length old.nodes.nodes
     → production_at frame.rule ≡ Production.Substitution
     → OnOk result (length new.nodes.nodes ≡ length old.nodes.nodes + substituted_nodes (around_of (trees_in s old.nodes) frame.kept) (named_by (state_of s old) (values_in s old.nodes (drop frame.base parts))))
@@ -349,37 +369,10 @@ pub no_pack : (p : Production) → is_parameter p ≡ true → p ≡ Production.
 unfolding is_parameter
 no_pack p is pack = absurd (false≢true (ap is_parameter (sym pack) ∙ is))
 
-pub substitution_alone : (p : Production) → is_substitution p ≡ true → p ≡ Production.Substitution
-unfolding is_substitution
-substitution_alone Production.Substitution is = refl
-substitution_alone _ is = absurd (false≢true is)
-
-pub lambda_alone : (p : Production) → is_lambda_production p ≡ true → p ≡ Production.Lambda
-unfolding is_lambda_production
-lambda_alone Production.Lambda is = refl
-lambda_alone _ is = absurd (false≢true is)
-
-pub no_lambda : (p : Production) → is_lambda_production p ≡ false → p ≡ Production.Lambda → ⊥
-unfolding is_lambda_production
-no_lambda p is lambda = absurd (true≢false (ap is_lambda_production (sym lambda) ∙ is))
-
 pub own_arguments_alone : (p : Production) → is_own_arguments p ≡ true → p ≡ Production.OwnArguments
 unfolding is_own_arguments
 own_arguments_alone Production.OwnArguments is = refl
 own_arguments_alone _ is = absurd (false≢true is)
-
-pub inheriting_alone : (p : Production) → is_inheriting p ≡ true → p ≡ Production.Inheriting
-unfolding is_inheriting
-inheriting_alone Production.Inheriting is = refl
-inheriting_alone _ is = absurd (false≢true is)
-
-pub not_inheriting : (p : Production) → is_inheriting p ≡ false → p ≡ Production.Inheriting → ⊥
-unfolding is_inheriting
-not_inheriting p is inheriting = absurd (true≢false (ap is_inheriting (sym inheriting) ∙ is))
-
-pub no_substitution : (p : Production) → is_substitution p ≡ false → p ≡ Production.Substitution → ⊥
-unfolding is_substitution
-no_substitution p is substitution = absurd (true≢false (ap is_substitution (sym substitution) ∙ is))
 
 -- ## Lambdas
 

@@ -59,10 +59,6 @@ unfoldable pub is_parameter_argument : Production → Bool
 is_parameter_argument Production.ParameterExpression = true
 is_parameter_argument _ = false
 
-unfoldable pub is_substitution : Production → Bool
-is_substitution Production.Substitution = true
-is_substitution _ = false
-
 unfoldable pub is_holder : Production → Bool
 is_holder Production.Holder = true
 is_holder _ = false
@@ -70,10 +66,6 @@ is_holder _ = false
 unfoldable pub is_own_arguments : Production → Bool
 is_own_arguments Production.OwnArguments = true
 is_own_arguments _ = false
-
-unfoldable pub is_inheriting : Production → Bool
-is_inheriting Production.Inheriting = true
-is_inheriting _ = false
 
 -- before the part after these the base class of a constructor that is inherited is counted
 abbrev pub counts_base : Production → (held : ℕ) → Bool
@@ -101,10 +93,6 @@ names_generic p in_lambda held = in_lambda && is_parameter p && nat_eq held 1
 unfoldable pub generic_read : (is_argument : Bool) → Around → ℕ → State → Going
 generic_read true around k state = next (tree (parameter (generic_number k) auto) true ∷ []) around state
 generic_read false around k state = generic_so_far around k [] state
-
-unfoldable pub is_lambda_production : Production → Bool
-is_lambda_production Production.Lambda = true
-is_lambda_production _ = false
 
 -- the number of the candidate that a substitution with these parts names
 abbrev pub number_in : List Value → ℕ

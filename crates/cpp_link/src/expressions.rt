@@ -75,7 +75,7 @@ fn ends_arguments(node: Node) -> bool
 
 /// The letters of an operator.
 #[tactic(auto, unfolding(cpp_term::specs::Meaning::first_letter, cpp_tree::specs::Nodes::piece_of))]
-fn first_letter(piece: Piece) -> u8
+pub(crate) fn first_letter(piece: Piece) -> u8
     ensures { (s : List ℕ) (ts : List Term) → result ≡ first_letter (nodes.piece_of s ts piece) }
 {
     match piece {
@@ -86,7 +86,7 @@ fn first_letter(piece: Piece) -> u8
 
 /// The second of them.
 #[tactic(auto, unfolding(cpp_term::specs::Meaning::second_letter, cpp_tree::specs::Nodes::piece_of))]
-fn second_letter(piece: Piece) -> u8
+pub(crate) fn second_letter(piece: Piece) -> u8
     ensures { (s : List ℕ) (ts : List Term) → result ≡ second_letter (nodes.piece_of s ts piece) }
 {
     match piece {
@@ -104,18 +104,6 @@ fn encoding_in(node: Node) -> Option<u32>
         Node::EncodingLiteral(encoding) => Some(encoding),
         _ => None,
     }
-}
-
-/// A letter and two trees.
-#[inline(always)]
-pub(crate) fn pair(letter: u8, left: u32, right: u32) -> Outcome
-    ensures { result ≡ Outcome.Given (Part.Pair letter left right) }
-{
-    Outcome::Given(Part::Pair {
-        letter,
-        left,
-        right,
-    })
 }
 
 impl Linked {
@@ -237,131 +225,5 @@ impl Linked {
     {
         let letter = self.letter(symbol, parts, k);
         if letter == 0 { byte } else { letter }
-    }
-
-    /// An operator's second letter and its only operand.
-    #[tactic(auto, unfolding(crate::specs::Parts::outcome_value, crate::specs::Parts::value_of, crate::specs::Making::nodes_of_outcome))]
-    #[inline(always)]
-    pub(crate) fn operand(&self, symbol: &[u8], letter: u8, operand: u32) -> Outcome
-        requires table { IsTable (over symbol.now self.now.nodes) }
-        ensures is { outcome_value symbol.now self.now.nodes result ≡ values.pair letter (tree_at (trees_in symbol.now self.now.nodes) operand) term.absent }
-        ensures there { operand < length self.now.nodes.nodes → IsOutcomeThere symbol.now (length self.now.nodes.thunks) (length self.now.nodes.nodes) result }
-        ensures nodes { nodes_of_outcome result ≡ 0 }
-    {
-        pair(letter, operand, ABSENT)
-    }
-
-    /// The second letter and the operands of an operator, of which the last two are an operation with these letters by themselves.
-    #[tactic(auto, unfolding(crate::specs::Parts::outcome_value, cpp_tree::specs::Nodes::tree_of, crate::specs::Making::nodes_of_outcome))]
-    pub(crate) fn operands(
-        &self,
-        symbol: &[u8],
-        letter: u8,
-        first: u8,
-        second: u8,
-        parts: &[Part],
-    ) -> Outcome
-        requires table { IsTable (over symbol.now self.now.nodes) }
-        requires there { AreThere symbol.now (length self.now.nodes.nodes) parts.now }
-        ensures is { outcome_value symbol.now self.now.nodes result
-            ≡ values.pair letter (tree_of (part (values_in symbol.now self.now.nodes parts.now) 0)) (term.operation first second (tree_of (part (values_in symbol.now self.now.nodes parts.now) 1)) (tree_of (part (values_in symbol.now self.now.nodes parts.now) 2))) }
-        ensures there { IsOutcomeThere symbol.now (length self.now.nodes.thunks) (length self.now.nodes.nodes) result }
-        ensures nodes { nodes_of_outcome result ≡ 1 }
-    {
-        Outcome::MadeOperand {
-            letter,
-            left: Some(self.tree(symbol, parts, 0)),
-            node: Node::Operation {
-                first,
-                second,
-                left: self.tree(symbol, parts, 1),
-                right: self.tree(symbol, parts, 2),
-            },
-        }
-    }
-
-    /// The second letter of a fold from the left, and the operation of its operator, which has only the right operand.
-    #[tactic(auto, unfolding(crate::specs::Parts::outcome_value, cpp_tree::specs::Nodes::tree_of, crate::specs::Making::nodes_of_outcome))]
-    pub(crate) fn left_fold(&self, symbol: &[u8], letter: u8, parts: &[Part]) -> Outcome
-        requires table { IsTable (over symbol.now self.now.nodes) }
-        requires there { AreThere symbol.now (length self.now.nodes.nodes) parts.now }
-        ensures is { outcome_value symbol.now self.now.nodes result
-            ≡ values.pair letter (term.operation (first_letter (piece_of (part (values_in symbol.now self.now.nodes parts.now) 0))) (second_letter (piece_of (part (values_in symbol.now self.now.nodes parts.now) 0)))
-            term.absent (tree_of (part (values_in symbol.now self.now.nodes parts.now) 1))) term.absent }
-        ensures there { IsOutcomeThere symbol.now (length self.now.nodes.thunks) (length self.now.nodes.nodes) result }
-        ensures nodes { nodes_of_outcome result ≡ 1 }
-    {
-        let operator = self.piece(symbol, parts, 0);
-        Outcome::MadeOperand {
-            letter,
-            left: None,
-            node: Node::Operation {
-                first: first_letter(operator),
-                second: second_letter(operator),
-                left: ABSENT,
-                right: self.tree(symbol, parts, 1),
-            },
-        }
-    }
-
-    /// The second letter of a fold from the right, and the operation of its operator, which has only the left operand.
-    #[tactic(auto, unfolding(crate::specs::Parts::outcome_value, cpp_tree::specs::Nodes::tree_of, crate::specs::Making::nodes_of_outcome))]
-    pub(crate) fn right_fold(&self, symbol: &[u8], letter: u8, parts: &[Part]) -> Outcome
-        requires table { IsTable (over symbol.now self.now.nodes) }
-        requires there { AreThere symbol.now (length self.now.nodes.nodes) parts.now }
-        ensures is { outcome_value symbol.now self.now.nodes result
-            ≡ values.pair letter (term.operation (first_letter (piece_of (part (values_in symbol.now self.now.nodes parts.now) 0))) (second_letter (piece_of (part (values_in symbol.now self.now.nodes parts.now) 0)))
-            (tree_of (part (values_in symbol.now self.now.nodes parts.now) 1)) term.absent) term.absent }
-        ensures there { IsOutcomeThere symbol.now (length self.now.nodes.thunks) (length self.now.nodes.nodes) result }
-        ensures nodes { nodes_of_outcome result ≡ 1 }
-    {
-        let operator = self.piece(symbol, parts, 0);
-        Outcome::MadeOperand {
-            letter,
-            left: None,
-            node: Node::Operation {
-                first: first_letter(operator),
-                second: second_letter(operator),
-                left: self.tree(symbol, parts, 1),
-                right: ABSENT,
-            },
-        }
-    }
-
-    /// The second letter of the operator that counts a pack, and the pack.
-    #[tactic(auto, unfolding(crate::specs::Parts::outcome_value, cpp_tree::specs::Nodes::tree_of, crate::specs::Making::nodes_of_outcome))]
-    pub(crate) fn pack_size(&self, symbol: &[u8], letter: u8, parts: &[Part]) -> Outcome
-        requires table { IsTable (over symbol.now self.now.nodes) }
-        requires there { AreThere symbol.now (length self.now.nodes.nodes) parts.now }
-        ensures is { outcome_value symbol.now self.now.nodes result ≡ values.pair letter (term.expansion (tree_of (part (values_in symbol.now self.now.nodes parts.now) 0))) term.absent }
-        ensures there { IsOutcomeThere symbol.now (length self.now.nodes.thunks) (length self.now.nodes.nodes) result }
-        ensures nodes { nodes_of_outcome result ≡ 1 }
-    {
-        Outcome::MadeOperand {
-            letter,
-            left: None,
-            node: Node::Expansion(self.tree(symbol, parts, 0)),
-        }
-    }
-
-    /// A name in a scope.
-    #[tactic(auto, unfolding(crate::specs::Parts::outcome_value, cpp_tree::specs::Nodes::tree_of, crate::specs::Making::nodes_of_outcome))]
-    pub(crate) fn in_scope(&self, symbol: &[u8], parts: &[Part]) -> Outcome
-        requires table { IsTable (over symbol.now self.now.nodes) }
-        requires there { AreThere symbol.now (length self.now.nodes.nodes) parts.now }
-        ensures is { outcome_value symbol.now self.now.nodes result
-            ≡ values.tree (term.operation 115 114 (tree_of (part (values_in symbol.now self.now.nodes parts.now) 0)) (tree_of (part (values_in symbol.now self.now.nodes parts.now) 1))) true }
-        ensures there { IsOutcomeThere symbol.now (length self.now.nodes.thunks) (length self.now.nodes.nodes) result }
-        ensures nodes { nodes_of_outcome result ≡ 1 }
-    {
-        made(
-            Node::Operation {
-                first: b's',
-                second: b'r',
-                left: self.tree(symbol, parts, 0),
-                right: self.tree(symbol, parts, 1),
-            },
-            true,
-        )
     }
 }

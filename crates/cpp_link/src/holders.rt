@@ -19,7 +19,7 @@ ghost use Rattle.cpp_link.specs.declared.part.Part.TheVariants as variants;
 ghost use Rattle.cpp_link.specs.Closes.{ends_of};
 ghost use Rattle.cpp_link.specs.Grows.{HasPlace};
 ghost use Rattle.cpp_link.specs.LinkReading.{link_meaning};
-ghost use Rattle.cpp_link.specs.LinkRescoping.{is_holder, is_own_arguments, is_inheriting, is_counted, base_counted, number_in, named_by, substituted_nodes, wide_view};
+ghost use Rattle.cpp_link.specs.LinkRescoping.{is_holder, is_own_arguments, is_counted, base_counted, number_in, named_by, substituted_nodes, wide_view};
 ghost use Rattle.cpp_link.specs.Making.{state_of};
 ghost use Rattle.cpp_link.specs.NodeCount.{makes_before, makes_at_end};
 ghost use Rattle.cpp_link.specs.Parts.{trees_in, value_of, value_in, values_in, around_of, candidates_of, IsClosed, IsThere, AreThere, IsKeptThere, AreCandidatesThere};
@@ -56,17 +56,6 @@ pub fn is_own_arguments(production: Production) -> bool
 {
     match production {
         Production::OwnArguments => true,
-        _ => false,
-    }
-}
-
-/// Whether a production is a constructor that is inherited.
-#[tactic(auto, unfolding(crate::specs::LinkRescoping::is_inheriting))]
-pub fn is_inheriting(production: Production) -> bool
-    ensures { result ≡ is_inheriting production }
-{
-    match production {
-        Production::Inheriting => true,
         _ => false,
     }
 }
@@ -180,34 +169,13 @@ impl Linked {
         Some(self.node(symbol, base))
     }
 
-    /// A base class is counted: it becomes a candidate, and again as a mark of that.
-    ///
-    /// # Errors
-    ///
-    /// `Memory` where the candidates couldn't grow.
-    fn count_base(&mut self, kept: Surroundings, base: u32) -> Result<(), Refusal>
-        requires below { base < length self.old.nodes.nodes }
-        requires there { AreCandidatesThere (length self.old.nodes.nodes) self.old.candidates.items }
-        ensures nodes { self.new.nodes ≡ self.old.nodes }
-        ensures packs { self.new.packs ≡ self.old.packs }
-        ensures there { OnOk result (AreCandidatesThere (length self.old.nodes.nodes) self.new.candidates.items) }
-        ensures is { OnOk result ((s : List ℕ) → with_base (around_of (trees_in s self.old.nodes) kept) (tree_at (trees_in s self.old.nodes) base) (state_of s self.old) ≡ state_of s self.new) }
-        ensures memory { IfErr result (λ e. e ≡ refusals.Memory) }
-        ensures keeps { KeepsRoom self.old self.new }
-        ensures full { OnErr result (LacksRoom self.old self.new) }
-    {
-        self.push_candidate(kept, base, false)?;
-        self.push_candidate(kept, base, true)?;
-        Ok(())
-    }
-
-    /// The same, if there is one to count.
+    /// A base class is counted, if there is one to count: it becomes a candidate, and again as a mark of that.
     ///
     /// # Errors
     ///
     /// `Memory` where the candidates couldn't grow.
     #[tactic(auto, unfolding(crate::specs::LinkRescoping::base_counted))]
-    fn count_base_if(&mut self, kept: Surroundings, base: Option<u32>) -> Result<(), Refusal>
+    fn count_base(&mut self, kept: Surroundings, base: Option<u32>) -> Result<(), Refusal>
         requires below { IsThereBelow (length self.old.nodes.nodes) base }
         requires there { AreCandidatesThere (length self.old.nodes.nodes) self.old.candidates.items }
         ensures nodes { self.new.nodes ≡ self.old.nodes }
@@ -221,7 +189,8 @@ impl Linked {
         match base {
             None => Ok(()),
             Some(base) => {
-                self.count_base(kept, base)?;
+                self.push_candidate(kept, base, false)?;
+                self.push_candidate(kept, base, true)?;
                 Ok(())
             }
         }
@@ -246,7 +215,7 @@ impl Linked {
         ensures keeps { KeepsRoom self.old self.new }
         ensures full { OnErr result (LacksRoom self.old self.new) }
     {
-        self.count_base(frame.kept, self.prefix_node(symbol, frame.kept))?;
+        self.count_base(frame.kept, Some(self.prefix_node(symbol, frame.kept)))?;
         Ok(self.inside(frame.kept))
     }
 
@@ -283,7 +252,7 @@ impl Linked {
     {
         let base = self.base_to_count(symbol, self.given(symbol, parts, 1));
         let made = self.make_rare(symbol, Production::Inheriting, place, kept, parts)?;
-        self.count_base_if(kept, base)?;
+        self.count_base(kept, base)?;
         Ok(made)
     }
 

@@ -18,7 +18,7 @@ ghost use Rattle.cpp_term.specs.Rescoping.{is_foreign, restated, substituted_wid
 ghost use Rattle.cpp_tree.specs.Nodes.{over, tree_at, bytes_at, piece_of, IsPieceBelow, IsWithin, IsTable};
 ghost use Rattle.cpp_link.specs.declared.part.Part.TheVariants as variants;
 ghost use Rattle.cpp_link.specs.Grows.{HasPlace};
-ghost use Rattle.cpp_link.specs.LinkRescoping.{is_parameter, is_parameter_argument, generic_read, is_substitution, is_lambda_production, named_by, substituted_nodes, wide_view};
+ghost use Rattle.cpp_link.specs.LinkRescoping.{is_parameter, is_parameter_argument, generic_read, named_by, substituted_nodes, wide_view};
 ghost use Rattle.cpp_link.specs.Making.{state_of};
 ghost use Rattle.cpp_link.specs.NodeCount.{makes_before, makes_at_end};
 ghost use Rattle.cpp_link.specs.Parts.{trees_in, value_in, values_in, is_lambda, around_of, candidate_of, IsClosed, IsThere, AreThere, IsKeptThere, IsStepThere};
@@ -81,17 +81,6 @@ fn is_parameter_argument(production: Production) -> bool
     }
 }
 
-/// Whether a production is a substitution.
-#[tactic(auto, unfolding(crate::specs::LinkRescoping::is_substitution))]
-pub fn is_substitution(production: Production) -> bool
-    ensures { result ≡ is_substitution production }
-{
-    match production {
-        Production::Substitution => true,
-        _ => false,
-    }
-}
-
 /// The number of a lambda's own parameter: all that are past any argument are one.
 #[tactic(auto, unfolding(cpp_grammar::specs::Rescoping::generic_number))]
 fn generic_number(counted: Option<u64>) -> u32
@@ -105,17 +94,6 @@ fn generic_number(counted: Option<u64>) -> u32
             number as u32
         }
         None => u32::MAX,
-    }
-}
-
-/// Whether a production is a lambda.
-#[tactic(auto, unfolding(crate::specs::LinkRescoping::is_lambda_production))]
-pub fn is_lambda_production(production: Production) -> bool
-    ensures { result ≡ is_lambda_production production }
-{
-    match production {
-        Production::Lambda => true,
-        _ => false,
     }
 }
 

@@ -75,6 +75,7 @@ impl Linked {
 
     /// A name, with arguments where there are some.
     #[tactic(auto, unfolding(cpp_term::specs::Between::applied, crate::specs::Parts::outcome_value, crate::specs::Parts::value_of, cpp_tree::specs::Nodes::tree_of, crate::specs::Making::nodes_of_outcome, crate::specs::NodeCount::name_at_end, crate::specs::NodeCount::one_if_arguments, crate::specs::NodeCount::one_if_there))]
+    #[inline(always)]
     pub fn applied(&self, symbol: &[u8], parts: &[Part], listed: bool) -> Outcome
         requires table { IsTable (over symbol.now self.now.nodes) }
         requires there { AreThere symbol.now (length self.now.nodes.nodes) parts.now }

@@ -111,6 +111,7 @@ impl Linked {
 
     /// What an encoding stands for: an object, or a function with its return type.
     #[tactic(auto, unfolding(crate::specs::Parts::outcome_value, cpp_tree::specs::Nodes::tree_of, crate::specs::Reads::encoding_by, crate::specs::Making::nodes_of_outcome))]
+    #[inline(always)]
     pub fn encoding(&self, symbol: &[u8], parts: &[Part]) -> Outcome
         requires table { IsTable (over symbol.now self.now.nodes) }
         requires few { length self.now.nodes.nodes < 2 ^ 32 }

@@ -17,10 +17,10 @@ ghost use Rattle.cpp_link.specs.declared.rescoping.Rescoping.{Rescoping};
 
 use crate::between::quiet_parts;
 use crate::dispatch::{part_count, parts_ahead, production_of};
-use crate::holders::{is_holder, is_inheriting, is_own_arguments};
+use crate::holders::{is_holder, is_own_arguments};
 use crate::language::OUTSIDE;
 use crate::part::{Part, Surroundings};
-use crate::rescoping::{Rescoping, is_lambda_production, is_parameter, is_substitution};
+use crate::rescoping::{Rescoping, is_parameter};
 use cpp_grammar::production::Production;
 use sym_core::Refusal;
 use sym_link::language::{Frame, Linking};
@@ -173,16 +173,12 @@ impl Threading for Rescoping {
         ensures full { NeedsRoom (wide_counted symbol.now) self.old self.new parts.old parts.new result }
     {
         let production = production_of(frame.rule);
-        if is_substitution(production) {
-            return self.linked.finish_substitution(symbol, frame, parts);
+        match production {
+            Production::Substitution => self.linked.finish_substitution(symbol, frame, parts),
+            Production::Lambda => self.linked.finish_lambda(symbol, frame, parts),
+            Production::Inheriting => self.linked.finish_inheriting(symbol, frame, parts),
+            _ => self.linked.finish_rule(symbol, frame, parts),
         }
-        if is_lambda_production(production) {
-            return self.linked.finish_lambda(symbol, frame, parts);
-        }
-        if is_inheriting(production) {
-            return self.linked.finish_inheriting(symbol, frame, parts);
-        }
-        self.linked.finish_rule(symbol, frame, parts)
     }
 
     fn text(&mut self, symbol: &[u8], row: Row) -> Result<Part, Refusal>

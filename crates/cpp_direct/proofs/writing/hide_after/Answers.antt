@@ -16,7 +16,7 @@ candidates-preserved c =
     let now = c.candidates.candidates.list.items in
     let gone = c.candidates.invariant.gone in
     let next = next-there to at old now gone (omega (arith, c.candidates-test.true, c.len.ensures)) in
-    let other : Candidate = record { from = 0; to = 0; is_reference = false; is_dependent = false; number = 0; encoding = 0 } in
+    let other : Candidate = record { from = 0; to = 0; is_reference = false; is_dependent = false } in
     let within : (get_or c.as_slice.result.now at other).to ≤ to → next.0.to ≤ to =
     λ e. subst (λ (k : Candidate). k.to ≤ to) (ap (λ l. get_or l at other) c.as_slice.ensures ∙ next.3 other) e in
     elim c.if-as_slice-at.branch [

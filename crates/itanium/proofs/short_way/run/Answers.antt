@@ -8,7 +8,7 @@ steps-init g c = (c.in-Some.ensures, omega (arith, c.requires.none))
 
 pub end-requires : goal.end-requires
 end-requires g c =
-    subst (λ k. IsBefore (symbol_by g.G.Grammar.IS_WIDE g.G.Grammar.IS_BARE g.G.Grammar.IS_BRIEF c.args.s.now) c.steps.direct c.steps.invariant.0.state k) c.in-Ended.is
+    subst (λ k. IsBefore (symbol_by g.G.Grammar.IS_WIDE g.G.Grammar.IS_BARE g.G.Grammar.IS_BRIEF c.args.s.now) c.steps.invariant.0.scope c.steps.direct c.steps.invariant.0.state k) c.in-Ended.is
     c.steps.invariant.0.is_before
 
 pub begin-requires-clause-fits : goal.begin-requires-clause-fits

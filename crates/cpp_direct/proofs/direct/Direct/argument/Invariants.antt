@@ -1,10 +1,10 @@
--- What is open has the argument that what is left of it has.
-use Rattle.std.proofs.Common.{◌≡◌, length, reverse}
+-- What is open has the arguments that what is left of it has.
+use Rattle.std.proofs.Common.{◌≡◌, reverse}
 use Rattle.cpp_direct.specs.WriterInvariant.{argument_of}
 use Rattle.cpp_direct.proofs.direct.Direct.argument.Given as goal
 
-abbrev pub invariant-marks : goal.invariant-marks
-invariant-marks l = argument_of (reverse l.open) ≡ argument_of (reverse l.self.waiting.list.items)
+abbrev pub invariant-levels : goal.invariant-levels
+invariant-levels l = argument_of (reverse l.open) ≡ argument_of (reverse l.self.waiting.list.items)
 
-abbrev pub decreases-marks : goal.decreases-marks
-decreases-marks l = length l.open
+abbrev pub decreases-levels : goal.decreases-levels
+decreases-levels l = l.left

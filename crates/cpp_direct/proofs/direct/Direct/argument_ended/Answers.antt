@@ -11,7 +11,7 @@ returns-then-byte-eq76 g c =
     let p = c.requires.read in
     argument-passes (symbol_by g.G.Grammar.IS_WIDE g.G.Grammar.IS_BARE g.G.Grammar.IS_BRIEF c.args.s.now) c.args.self.now _ c.args.from c.args.number c.args.known c.args.is_reference p
     (popped c.args.self.now.waiting.list.items c.pop-open.new.self.list.items (p.owner ∷ p.rest)
-    (opens.Argument c.args.from c.args.number c.args.known) _ refl p.open_is c.pop-open.ensures.rest) refl refl refl
+    (opens.Argument c.args.from c.args.number c.args.known) _ refl p.open_is c.pop-open.ensures.rest) refl refl refl refl
 
 pub next_argument-requires-clause-awaits : goal.next_argument-requires-clause-awaits
 next_argument-requires-clause-awaits g c =
@@ -19,7 +19,7 @@ next_argument-requires-clause-awaits g c =
     argument-awaits (symbol_by g.G.Grammar.IS_WIDE g.G.Grammar.IS_BARE g.G.Grammar.IS_BRIEF c.args.s.now) c.args.self.now _ c.args.from c.end-to.result c.args.number c.placed.result c.args.known c.with-more.result
     c.args.is_reference p
     (popped c.args.self.now.waiting.list.items c.pop-open.new.self.list.items (p.owner ∷ p.rest)
-    (opens.Argument c.args.from c.args.number c.args.known) _ refl p.open_is c.pop-open.ensures.rest) refl refl refl c.end-to.ensures c.placed.ensures
+    (opens.Argument c.args.from c.args.number c.args.known) _ refl p.open_is c.pop-open.ensures.rest) refl refl refl refl c.end-to.ensures c.placed.ensures
     c.with-more.ensures
 
 pub close_list-requires-clause-ended : goal.close_list-requires-clause-ended
@@ -30,4 +30,4 @@ close_list-requires-clause-ended g c =
     argument-closes s w _ c.args.from c.end-to.result c.args.number c.placed.result c.args.known c.with-more.result c.args.is_reference p
     (subst (λ b. StandsAt s.bytes w.at (b ∷ [])) c.if-byte-ne69.false (c.byte_at-byte.ensures (λ e. omega (arith, e, c.if-byte-ne69.false))))
     (popped w.waiting.list.items c.pop-open.new.self.list.items (p.owner ∷ p.rest) (opens.Argument c.args.from c.args.number c.args.known) _ refl
-    p.open_is c.pop-open.ensures.rest) refl refl c.in_ok-self.ensures.1 c.end-to.ensures c.placed.ensures c.with-more.ensures
+    p.open_is c.pop-open.ensures.rest) refl refl refl c.in_ok-self.ensures.1 c.end-to.ensures c.placed.ensures c.with-more.ensures

@@ -17,4 +17,4 @@ returns g c =
     array-begins (symbol_by g.G.Grammar.IS_WIDE g.G.Grammar.IS_BARE g.G.Grammar.IS_BRIEF s) c.args.self.now _ c.args.access n.0 place.from place.to c.requires.writing c.requires.letters
     (c.takes_element.ensures c.if-not-takes_element.false)
     (subst (λ k. IsSizeAt s k n.0 place.end) (c.in_ok-at.ensures.1 ∙ ap (λ l. c.args.self.now.at + l) c.letters.ensures) n.1) n.2 n.3 n.4
-    c.in_ok-push.ensures.items refl refl
+    c.in_ok-push.ensures.items refl refl refl

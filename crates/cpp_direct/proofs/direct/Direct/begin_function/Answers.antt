@@ -13,4 +13,4 @@ returns g c =
     ] in
     function-begins (symbol_by g.G.Grammar.IS_WIDE g.G.Grammar.IS_BARE g.G.Grammar.IS_BRIEF c.args.s.now) old _ c.args.is_pointer c.requires.writing c.requires.letters
     (c.takes_element.ensures c.if-not-takes_element.false) c.in_ok-push.ensures.items
-    (c.in_ok-self.ensures.1 ∙ ap (λ n. old.at + n) size) refl refl
+    (c.in_ok-self.ensures.1 ∙ ap (λ n. old.at + n) size) refl refl refl

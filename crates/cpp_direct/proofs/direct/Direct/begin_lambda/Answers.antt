@@ -15,5 +15,5 @@ returns g c =
     (stands-join s.bytes w.at (85 ∷ []) (108 ∷ []) c.requires.letter
     (stands-moved s.bytes c.in_ok-self.field-0 (w.at + 1) (108 ∷ []) c.in_ok-self.ensures.1
     (there s.bytes c.in_ok-self.field-0 c.byte_at.result 108 c.if-byte_at-ne108.false (omega arith) c.byte_at.ensures)))
-    one.text one.candidates (omega (arith, one.at, c.in_ok-self-2.ensures.1, c.in_ok-self.ensures.1))
+    one.text one.candidates one.scope (omega (arith, one.at, c.in_ok-self-2.ensures.1, c.in_ok-self.ensures.1))
     (c.in_ok-push-2.ensures.items ∙ ap (λ v. v.list.items ++ opens.Lambda c.args.from ∷ []) one.waiting)

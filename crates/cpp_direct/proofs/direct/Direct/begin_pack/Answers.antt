@@ -13,4 +13,4 @@ returns-in_default g c =
     by-step o list (IsWriting (symbol_by g.G.Grammar.IS_WIDE g.G.Grammar.IS_BARE g.G.Grammar.IS_BRIEF c.args.s.now) c.open_type.new.self) c.open_type.ensures.step
     (λ e. pack-begins (symbol_by g.G.Grammar.IS_WIDE g.G.Grammar.IS_BARE g.G.Grammar.IS_BRIEF c.args.s.now) c.args.self.now c.open_type.new.self c.in_ok-last.field-0.now c.requires.awaits c.requires.letter
     (waits-last _ _ _ _ c.as_slice.ensures c.in_ok-last.ensures.value refl) c.in_default.not-Pack
-    (given _ o list e c.open_type.ensures.open) (given _ o list e c.open_type.ensures.at) c.open_type.ensures.text c.open_type.ensures.candidates)
+    (given _ o list e c.open_type.ensures.open) (given _ o list e c.open_type.ensures.at) c.open_type.ensures.text c.open_type.ensures.candidates c.open_type.ensures.scope)

@@ -10,5 +10,5 @@ returns g c =
     (subst (λ k. c.byte_at-letter.result ≢ 0 → StandsAt c.args.s.now k (c.byte_at-letter.result ∷ [])) c.in_ok-self.ensures.1 c.byte_at-letter.ensures)
     (sym c.if-not-is_builtin_with_d.ensures)
     (c.in_ok-push.ensures.text ∙ ap (λ l. c.args.self.now.text.list.items ++ l) c.builtin_with_d_text.ensures)
-    c.in_ok-push.ensures.candidates c.in_ok-push.ensures.waiting
+    c.in_ok-push.ensures.candidates c.in_ok-push.ensures.waiting c.in_ok-push.ensures.scope
     (c.in_ok-push.ensures.at ∙ c.in_ok-self-2.ensures.1 ∙ ap (λ k. k + 1) c.in_ok-self.ensures.1)

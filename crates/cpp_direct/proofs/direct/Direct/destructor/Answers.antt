@@ -8,8 +8,8 @@ pub class_again-requires-clause-awaits : goal.class_again-requires-clause-awaits
 class_again-requires-clause-awaits g c =
     let is = c.is_destructor_digit.ensures c.if-not-is_destructor_digit.false in
     destructor-awaits (symbol_by g.G.Grammar.IS_WIDE g.G.Grammar.IS_BARE g.G.Grammar.IS_BRIEF c.args.s.now) c.args.self.now _ c.push.new.self c.byte_at-digit.result c.in_ok-push.ensures
-    (record { text = refl; candidates = refl; waiting = refl; nest = refl; at = omega (arith, c.in_ok-self.ensures, c.in_ok-self-2.ensures) })
+    (record { text = refl; candidates = refl; waiting = refl; scope = refl; nest = refl; at = omega (arith, c.in_ok-self.ensures, c.in_ok-self-2.ensures) })
     c.requires.writing c.requires.letter
     (stands-moved c.args.s.now _ (c.args.self.now.at + 1) (c.byte_at-digit.result ∷ []) (omega (arith, c.in_ok-self.ensures))
     (c.byte_at-digit.ensures (destructor-digit-some g.G.Grammar.IS_WIDE c.byte_at-digit.result is)))
-    is c.if-not-self.false
+    is c.if-not-self.false c.if-self.false

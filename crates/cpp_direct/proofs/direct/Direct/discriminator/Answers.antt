@@ -19,7 +19,7 @@ returns-then-digit-eq95 c =
     (stands-moved s _ (old.at + 1) (95 ∷ []) (omega (arith, c.in_ok-self.ensures))
     (there s _ c.byte_at-digit.result 95 c.if-digit-eq95.true (omega arith) c.byte_at-digit.ensures))
     (subst (λ n. IsDigitsAt s n r.0 r.1) (omega (arith, c.in_ok-self.ensures, c.in_ok-self-2.ensures)) r.2) r.3 r.4
-    (record { text = r.5.text; candidates = r.5.candidates; waiting = r.5.waiting; nest = r.5.nest; rounds = r.5.rounds }))
+    (record { text = r.5.text; candidates = r.5.candidates; waiting = r.5.waiting; nest = r.5.nest; scope = r.5.scope; rounds = r.5.rounds }))
 
 pub returns : goal.returns
 returns c =
@@ -30,4 +30,4 @@ returns c =
     (subst (λ b. StandsAt s old.at (b ∷ [])) c.if-byte_at-ne95.false (c.byte_at.ensures (λ e. omega (arith, e, c.if-byte_at-ne95.false))))
     (stands-moved s _ (old.at + 1) (c.byte_at-digit.result ∷ []) (omega (arith, c.in_ok-self.ensures)) (c.byte_at-digit.ensures (λ e. omega (arith, e, low))))
     low (omega (arith, c.if-digit-gt57.false)) (omega (arith, c.in_ok-self.ensures, c.in_ok-self-3.ensures))
-    (reads-begun old _ refl refl refl refl refl)
+    (reads-begun old _ refl refl refl refl refl refl)

@@ -17,7 +17,7 @@ returns c =
       found.1,
       subst (λ b. StandsAt s place.end (b ∷ [])) c.if-byte_at-ne95.false (c.byte_at.ensures (λ e. omega (arith, e, c.if-byte_at-ne95.false))),
       c.in_ok-self.ensures.1,
-      reads-begun c.args.self.now _ refl refl refl refl refl,
+      reads-begun c.args.self.now _ refl refl refl refl refl refl,
     )
 
 pub find_number-requires-clause-fits : goal.find_number-requires-clause-fits

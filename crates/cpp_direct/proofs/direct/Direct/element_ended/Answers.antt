@@ -11,7 +11,7 @@ returns-then-byte-eq76 g c =
     let p = c.requires.read in
     element-passes (symbol_by g.G.Grammar.IS_WIDE g.G.Grammar.IS_BARE g.G.Grammar.IS_BRIEF c.args.s.now) c.args.self.now _ c.args.from c.args.number c.args.known c.args.is_reference p
     (popped c.args.self.now.waiting.list.items c.pop-element.new.self.list.items (opens.Pack ∷ p.owner ∷ p.rest)
-    (opens.Element c.args.from c.args.number c.args.known) _ refl p.open_is c.pop-element.ensures.rest) refl refl refl
+    (opens.Element c.args.from c.args.number c.args.known) _ refl p.open_is c.pop-element.ensures.rest) refl refl refl refl
 
 pub next_element-requires-clause-awaits : goal.next_element-requires-clause-awaits
 next_element-requires-clause-awaits g c =
@@ -19,7 +19,7 @@ next_element-requires-clause-awaits g c =
     pack-element-awaits (symbol_by g.G.Grammar.IS_WIDE g.G.Grammar.IS_BARE g.G.Grammar.IS_BRIEF c.args.s.now) c.args.self.now _ c.args.from c.end-to.result c.args.number c.placed.result c.args.known c.with-more.result
     c.args.is_reference p
     (popped c.args.self.now.waiting.list.items c.pop-element.new.self.list.items (opens.Pack ∷ p.owner ∷ p.rest)
-    (opens.Element c.args.from c.args.number c.args.known) _ refl p.open_is c.pop-element.ensures.rest) refl refl refl c.end-to.ensures c.placed.ensures
+    (opens.Element c.args.from c.args.number c.args.known) _ refl p.open_is c.pop-element.ensures.rest) refl refl refl refl c.end-to.ensures c.placed.ensures
     c.with-more.ensures
 
 pub returns-then-byte_at-ne69 : goal.returns-then-byte_at-ne69
@@ -27,7 +27,7 @@ returns-then-byte_at-ne69 g c =
     let p = c.requires.read in
     element-passes (symbol_by g.G.Grammar.IS_WIDE g.G.Grammar.IS_BARE g.G.Grammar.IS_BRIEF c.args.s.now) c.args.self.now _ c.args.from c.args.number c.args.known c.args.is_reference p
     (popped c.args.self.now.waiting.list.items c.pop-element.new.self.list.items (opens.Pack ∷ p.owner ∷ p.rest)
-    (opens.Element c.args.from c.args.number c.args.known) _ refl p.open_is c.pop-element.ensures.rest) refl refl refl
+    (opens.Element c.args.from c.args.number c.args.known) _ refl p.open_is c.pop-element.ensures.rest) refl refl refl refl
 
 pub close_list-requires-clause-ended : goal.close_list-requires-clause-ended
 close_list-requires-clause-ended g c =
@@ -43,5 +43,5 @@ close_list-requires-clause-ended g c =
     (popped w.waiting.list.items left (opens.Pack ∷ p.owner ∷ p.rest) (opens.Element c.args.from c.args.number c.args.known) _ refl p.open_is
     c.pop-element.ensures.rest)
     c.pop-pack.ensures.rest)
-    refl refl (c.in_ok-self.ensures.1 ∙ ap (λ n. n + 1) c.in_ok-behind.ensures.1) c.end-to.ensures c.placed.ensures c.with-more.ensures
+    refl refl refl (c.in_ok-self.ensures.1 ∙ ap (λ n. n + 1) c.in_ok-behind.ensures.1) c.end-to.ensures c.placed.ensures c.with-more.ensures
     c.in_ok-elements.ensures.1

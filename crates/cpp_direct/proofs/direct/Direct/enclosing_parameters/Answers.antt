@@ -8,19 +8,19 @@ pub enclosed-requires-clause-read : goal.enclosed-requires-clause-read
 enclosed-requires-clause-read g c =
     let s = symbol_by g.G.Grammar.IS_WIDE g.G.Grammar.IS_BARE g.G.Grammar.IS_BRIEF c.args.s.now in
     let w = c.args.self.now in
-    void-unwritten s w _ c.args.mark c.args.from c.args.argument c.requires.awaits
+    void-unwritten s w _ c.args.mark c.args.from c.requires.awaits
     (there s.bytes w.at c.byte_at.result 118 c.if-byte_at-eq118.true (omega arith) c.byte_at.ensures)
-    refl refl refl c.in_ok-self.ensures.1 (sym c.IS_BARE.ensures ∙ c.if-IS_BARE.true)
+    refl refl refl refl c.in_ok-self.ensures.1 (sym c.IS_BARE.ensures ∙ c.if-IS_BARE.true)
 
 pub enclosing_ended-requires-clause-read : goal.enclosing_ended-requires-clause-read
 enclosing_ended-requires-clause-read g c =
     let s = symbol_by g.G.Grammar.IS_WIDE g.G.Grammar.IS_BARE g.G.Grammar.IS_BRIEF c.args.s.now in
     let w = c.args.self.now in
-    void-within s w _ c.push_pair.new.self c.args.mark c.args.from c.args.argument c.requires.awaits
+    void-within s w _ c.push_pair.new.self c.args.mark c.args.from c.requires.awaits
     (there s.bytes w.at c.byte_at.result 118 c.if-byte_at-eq118.true (omega arith) c.byte_at.ensures)
-    refl refl refl c.in_ok-self.ensures.1 c.in_ok-push_pair.ensures (sym c.IS_BARE.ensures ∙ c.if-IS_BARE.false)
+    refl refl refl refl c.in_ok-self.ensures.1 c.in_ok-push_pair.ensures (sym c.IS_BARE.ensures ∙ c.if-IS_BARE.false)
 
 pub returns : goal.returns
 returns g c =
-    first-within (symbol_by g.G.Grammar.IS_WIDE g.G.Grammar.IS_BARE g.G.Grammar.IS_BRIEF c.args.s.now) c.args.self.now c.push_byte.new.self _ c.args.mark c.args.from c.end-to.result c.args.argument c.requires.awaits c.in_ok-push_byte.ensures
-    refl refl refl c.in_ok-push.ensures.items c.end-to.ensures
+    first-within (symbol_by g.G.Grammar.IS_WIDE g.G.Grammar.IS_BARE g.G.Grammar.IS_BRIEF c.args.s.now) c.args.self.now c.push_byte.new.self _ c.args.mark c.args.from c.end-to.result c.requires.awaits c.in_ok-push_byte.ensures
+    refl refl refl refl c.in_ok-push.ensures.items c.end-to.ensures

@@ -19,6 +19,6 @@ returns g c =
       long = subst (λ l. ends_with nat_eq l (codes "(long") ≡ false) c.as_slice-3.ensures (sym c.ends_with-3.ensures.value ∙ c.if-ends_with-3.false);
       blank_long = subst (λ l. ends_with nat_eq l (codes " long") ≡ false) c.as_slice-4.ensures (sym c.ends_with-4.ensures.value ∙ c.if-ends_with-4.false);
     })
-    refl refl refl
+    refl refl refl refl
     (popped old.waiting.list.items c.pop-open.new.self.list.items a.opened opens.Enumerator _ refl a.open_is c.pop-open.ensures.rest)
     c.in_ok-push.ensures c.in_ok-number.ensures c.in_ok-literal_ended.ensures

@@ -55,10 +55,11 @@ close_parameters-requires-clause-ended g c =
     let one = c.in_ok-forward.ensures (detail_by g.G.Grammar.IS_BARE g.G.Grammar.IS_BRIEF) begun ts pack (none-forwarded begun ts) in
     let three = c.in_ok-forward-3.ensures (detail_by g.G.Grammar.IS_BARE g.G.Grammar.IS_BRIEF) begun ts pack (c.in_ok-forward-2.ensures (detail_by g.G.Grammar.IS_BARE g.G.Grammar.IS_BRIEF) begun ts pack one) in
     expansion-read (symbol_by g.G.Grammar.IS_WIDE g.G.Grammar.IS_BARE g.G.Grammar.IS_BRIEF c.args.s.now) old begun c.forward-4.new.self c.add_hidden-3.new.self c.args.mark c.args.start c.args.argument a
-    c.requires.is_pack c.if-first.false (omega (arith, c.if-argument-gt4.false)) c.in-Some.ensures.stands refl refl refl c.in-Some.ensures.end
+    c.requires.is_pack c.if-first.false (omega (arith, c.if-argument-gt4.false)) c.in-Some.ensures.stands refl refl refl refl c.in-Some.ensures.end
     (c.in_ok-forward-4.ensures (detail_by g.G.Grammar.IS_BARE g.G.Grammar.IS_BRIEF) begun ts pack three)
     (c.add_hidden-3.ensures.text ∙ c.add_hidden-2.ensures.text ∙ c.add_hidden.ensures.text)
     (c.in_ok-add_hidden-3.ensures.candidates
     ∙ ap (λ l. l ++ hidden ∷ []) (c.in_ok-add_hidden-2.ensures.candidates ∙ ap (λ l. l ++ hidden ∷ []) c.in_ok-add_hidden.ensures.candidates))
     (c.add_hidden-3.ensures.open ∙ c.add_hidden-2.ensures.open ∙ c.add_hidden.ensures.open)
+    (c.add_hidden-3.ensures.scope ∙ c.add_hidden-2.ensures.scope ∙ c.add_hidden.ensures.scope)
     (c.add_hidden-3.ensures.at ∙ c.add_hidden-2.ensures.at ∙ c.add_hidden.ensures.at)

@@ -14,4 +14,4 @@ function_ended-requires-clause-ended g c =
     (stands-join s.bytes w.at (118 ∷ []) (69 ∷ []) (there s.bytes w.at c.byte_at.result 118 c.if-byte_at-eq118.true (omega arith) c.byte_at.ensures)
     (subst (λ k. StandsAt s.bytes k (69 ∷ [])) c.in_ok-checked_add.ensures.1
     (there s.bytes c.in_ok-checked_add.field-0 c.byte_at-behind.result 69 c.if-behind-eq69.true (omega arith) c.byte_at-behind.ensures)))
-    refl refl refl c.in_ok-self.ensures.1
+    refl refl refl refl c.in_ok-self.ensures.1

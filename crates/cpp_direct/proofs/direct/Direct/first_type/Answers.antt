@@ -10,7 +10,7 @@ returns-then-not-is_named g c = type-expected (symbol_by g.G.Grammar.IS_WIDE g.G
 pub returns : goal.returns
 returns g c =
     argument-begins (symbol_by g.G.Grammar.IS_WIDE g.G.Grammar.IS_BARE g.G.Grammar.IS_BRIEF c.args.s.now) c.args.self.now _ c.end-from.result c.requires.writing (c.is_named.ensures c.if-not-is_named.false)
-    c.end-from.ensures c.in_ok-push.ensures.items refl refl refl
+    c.end-from.ensures c.in_ok-push.ensures.items refl refl refl refl
 
 pub returns-then-is_element_at : goal.returns-then-is_element_at
 returns-then-is_element_at g c = type-expected (symbol_by g.G.Grammar.IS_WIDE g.G.Grammar.IS_BARE g.G.Grammar.IS_BRIEF c.args.s.now) _ (first-expected (symbol_by g.G.Grammar.IS_WIDE g.G.Grammar.IS_BARE g.G.Grammar.IS_BRIEF c.args.s.now) c.args.self.now _ true c.requires.writing refl refl)

@@ -11,5 +11,6 @@ pass_element-requires-clause-passed g c =
     function-handed s w _ c.args.is_pointer p
     (ap (λ t. t.list.items) c.add_hidden.ensures.text ∙ c.in_ok-push_byte.ensures.text)
     (c.in_ok-add_hidden.ensures.candidates ∙ hidden-behind w c.push_byte.new.self c.args.is_pointer c.in_ok-push_byte.ensures.candidates)
+    (c.add_hidden.ensures.scope ∙ c.in_ok-push_byte.ensures.scope)
     (still-popped s w c.add_hidden.new.self c.args.is_pointer p c.pop-open.new.self.list.items _ (c.add_hidden.ensures.open ∙ c.in_ok-push_byte.ensures.waiting) refl c.pop-open.ensures.rest)
     (c.add_hidden.ensures.at ∙ c.in_ok-push_byte.ensures.at)

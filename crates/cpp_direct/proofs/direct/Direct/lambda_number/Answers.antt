@@ -14,7 +14,7 @@ returns-then-digit-eq95 c =
       tt,
       there s old.at c.byte_at-digit.result 95 c.if-digit-eq95.true (omega arith) c.byte_at-digit.ensures,
       omega (arith, w.at, c.in_ok-self.ensures.1),
-      reads-written old _ c.push.new.self _ _ w refl refl refl refl refl refl,
+      reads-written old _ c.push.new.self _ _ w refl refl refl refl refl refl refl,
     ))
 
 pub returns : goal.returns
@@ -32,5 +32,5 @@ returns c =
           (stands-moved s c.in_ok-self.field-0 (old.at + 1) (95 ∷ []) c.in_ok-self.ensures.1
           (there s c.in_ok-self.field-0 c.byte_at.result 95 c.if-byte_at-ne95.false (omega arith) c.byte_at.ensures)),
       omega (arith, w.at, c.in_ok-self-2.ensures.1, c.in_ok-self.ensures.1),
-      reads-written old _ c.push_pair.new.self _ _ w refl refl refl refl refl refl,
+      reads-written old _ c.push_pair.new.self _ _ w refl refl refl refl refl refl refl,
     ))

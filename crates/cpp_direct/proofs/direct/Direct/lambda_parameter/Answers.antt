@@ -23,8 +23,8 @@ returns g c =
     (no-void c.as_slice.result.now (p.front ++ (p.bytes ++ codes "::{lambda")) p.texts (c.as_slice.ensures ∙ p.written ∙ lambda-bracket p.front p.bytes p.texts)
     (sym c.ends_with.ensures.value ∙ c.if-ends_with.false))
     (there s.bytes w.at c.byte_at.result 69 c.if-byte_at-ne69.false (omega arith) c.byte_at.ensures)
-    refl refl refl c.in_ok-self.ensures.1 one number.0 number.1 number.2 number.3 number.4 refl refl refl
+    refl refl refl refl c.in_ok-self.ensures.1 one number.0 number.1 number.2 number.3 number.4 refl refl refl refl
     (popped c.lambda_number.new.self.waiting.list.items c.pop-open.new.self.list.items p.rest (opens.Lambda c.args.from) _ refl
     (ap (λ v. reverse v.list.items) (number.4.waiting ∙ one.waiting) ∙ p.open_is) c.pop-open.ensures.rest)
     told.0 told.1 told.2
-    c.in_ok-add_candidate.ensures.candidates c.add_candidate.ensures.text c.add_candidate.ensures.open c.add_candidate.ensures.at
+    c.in_ok-add_candidate.ensures.candidates c.add_candidate.ensures.text c.add_candidate.ensures.open c.add_candidate.ensures.scope c.add_candidate.ensures.at

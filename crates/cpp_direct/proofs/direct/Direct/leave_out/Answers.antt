@@ -12,5 +12,6 @@ returns c =
           ∙ ap (λ l. drop (length old) l) writes.text ∙ drop-append_seam old (take (c.args.to - 0) (drop 0 old)) ∙ ap (λ n. take n old) (omega arith);
       candidates = subst (λ v. AreKeptTo c.args.to v.list.items c.hide_after.new.candidates.list.items) writes.candidates c.hide_after.ensures;
       «open» = writes.waiting;
+      scope = writes.scope;
       at = writes.at;
     }

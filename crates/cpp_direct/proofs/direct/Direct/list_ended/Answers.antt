@@ -20,5 +20,5 @@ returns-else-is_first g c =
     let old = c.args.self.now in
     let w : Direct = record old { waiting = c.pop-open.new.self; at = c.in_ok-self.field-0 } in
     pack-ends (symbol_by g.G.Grammar.IS_WIDE g.G.Grammar.IS_BARE g.G.Grammar.IS_BRIEF c.args.s.now) old w (subst (λ f. IsWriting (symbol_by g.G.Grammar.IS_WIDE g.G.Grammar.IS_BARE g.G.Grammar.IS_BRIEF c.args.s.now) old (steps.List f)) c.if-is_first.false c.requires.writing) c.requires.letter
-    (waits-last _ _ _ _ c.as_slice.ensures c.in_ok-last.ensures.value c.in-Pack.is) refl refl c.in_ok-self.ensures.1
+    (waits-last _ _ _ _ c.as_slice.ensures c.in_ok-last.ensures.value c.in-Pack.is) refl refl refl c.in_ok-self.ensures.1
     (λ opened is. popped old.waiting.list.items c.pop-open.new.self.list.items opened opens.Pack _ refl is c.pop-open.ensures.rest)

@@ -9,7 +9,7 @@ returns g c =
     let opened = c.open_arguments.ensures in
     let old = c.args.self.now in
     opened-by (symbol_by g.G.Grammar.IS_WIDE g.G.Grammar.IS_BARE g.G.Grammar.IS_BRIEF c.args.s.now) c.open_arguments.result old c.open_arguments.new.self (opens.NestArguments old.nest)
-    opened.step opened.«open» opened.at opened.text opened.candidates
+    opened.step opened.«open» opened.at opened.text opened.candidates opened.scope
     (known-opens (symbol_by g.G.Grammar.IS_WIDE g.G.Grammar.IS_BARE g.G.Grammar.IS_BRIEF c.args.s.now) old c.open_arguments.new.self c.requires (sym c.if-IS_WIDE.ensures) c.in-Type.is
     (byte-there c.args.s.now old.at c.byte_at.result 73 c.if-byte_at-eq73.true (λ e. cc e) c.byte_at.ensures))
 

@@ -11,7 +11,7 @@ returns g c =
     let added = c.in_ok-add_candidate.ensures in
     let opened = c.open_arguments.ensures in
     opened-by (symbol_by g.G.Grammar.IS_WIDE g.G.Grammar.IS_BARE g.G.Grammar.IS_BRIEF c.args.s.now) c.open_arguments.result c.add_candidate.new.self c.open_arguments.new.self (opens.NestArguments c.add_candidate.new.self.nest)
-    opened.step opened.«open» opened.at opened.text opened.candidates
+    opened.step opened.«open» opened.at opened.text opened.candidates opened.scope
     (named-opens (symbol_by g.G.Grammar.IS_WIDE g.G.Grammar.IS_BARE g.G.Grammar.IS_BRIEF c.args.s.now) c.args.self.now c.add_candidate.new.self c.open_arguments.new.self c.requires
     (byte-there c.args.s.now c.args.self.now.at c.byte_at.result 73 c.if-byte_at-ne73.false (λ e. cc e) c.byte_at.ensures)
-    (record { candidates = added.candidates; text = added.text; waiting = added.«open»; nest = added.nest; at = added.at }))
+    (record { candidates = added.candidates; text = added.text; waiting = added.«open»; nest = added.nest; scope = added.scope; at = added.at }))

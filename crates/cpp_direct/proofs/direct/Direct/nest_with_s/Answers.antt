@@ -48,7 +48,7 @@ nest_known-requires g c =
     (reference-begins s old c.repeat.new.self c.args.purpose is.0 k c.requires.awaits c.requires.letter
     (subst (λ n. IsSeqAt s.bytes (old.at + 1) is.0 n) (sym wrote.at) (subst (λ n. IsSeqAt s.bytes n is.0 c.substitution.new.self.at) c.in_ok-self.ensures.1 is.1))
     c.in_ok-candidate.ensures.ordered is.2 c.if-candidate.false c.if-candidate-2.false (wrote.text ∙ ap (λ l. l ++ take (k.to - k.from) (drop k.from l)) plain)
-    (wrote.candidates ∙ same.candidates) (wrote.waiting ∙ same.waiting) c.end-from.result c.end-from.ensures)
+    (wrote.candidates ∙ same.candidates) (wrote.waiting ∙ same.waiting) (wrote.scope ∙ same.scope) c.end-from.result c.end-from.ensures)
 
 pub nest_known-requires-2 : goal.nest_known-requires-2
 nest_known-requires-2 g c =
@@ -60,5 +60,5 @@ nest_known-requires-2 g c =
     (abbreviation-begins (symbol_by g.G.Grammar.IS_WIDE g.G.Grammar.IS_BARE g.G.Grammar.IS_BRIEF c.args.s.now) old c.push.new.self c.args.purpose letter c.requires.awaits c.requires.letter
     (λ some. subst (λ n. StandsAt c.args.s.now n (letter ∷ [])) c.in_ok-self.ensures.1 (c.byte_at-letter.ensures some))
     (λ e. absurd (false≢true (c.if-is_empty.ensures ∙ ap (λ l. length l == 0) (text_is ∙ e))))
-    (wrote.text ∙ ap (λ l. old.text.list.items ++ l) text_is) wrote.candidates wrote.waiting
+    (wrote.text ∙ ap (λ l. old.text.list.items ++ l) text_is) wrote.candidates wrote.waiting wrote.scope
     (wrote.at ∙ c.in_ok-self-2.ensures.1 ∙ ap (λ n. n + 1) c.in_ok-self.ensures.1) c.end-from.result c.end-from.ensures)

@@ -7,11 +7,11 @@ pub operator_ended-requires-clause-read : goal.operator_ended-requires-clause-re
 operator_ended-requires-clause-read g c =
     let read = c.in_ok-operator_name.ensures in
     operator-last (symbol_by g.G.Grammar.IS_WIDE g.G.Grammar.IS_BARE g.G.Grammar.IS_BRIEF c.args.s.now) c.args.self.now c.push_pair.new.self c.operator_name.new.self read.0 read.1 c.requires.writing
-    c.in_ok-push_pair.ensures read.2 read.4
+    c.in_ok-push_pair.ensures read.2 read.4 c.if-self.false
 
 pub nest_named-requires-clause-named : goal.nest_named-requires-clause-named
 nest_named-requires-clause-named g c =
     let read = c.in_ok-operator_name.ensures in
     operator-follows (symbol_by g.G.Grammar.IS_WIDE g.G.Grammar.IS_BARE g.G.Grammar.IS_BRIEF c.args.s.now) c.args.self.now c.push_pair.new.self c.operator_name.new.self _ read.0 read.1 c.requires.writing
-    c.in_ok-push_pair.ensures read.2 (read.3 c.if-not-branch.false) read.4 refl refl refl refl refl refl
+    c.in_ok-push_pair.ensures read.2 (read.3 c.if-not-branch.false) read.4 refl refl refl refl refl refl refl refl
     c.end-class_from.ensures c.end.ensures refl refl refl

@@ -10,7 +10,7 @@ returns-then-byte-eq82 g c =
     reference-comes (symbol_by g.G.Grammar.IS_WIDE g.G.Grammar.IS_BARE g.G.Grammar.IS_BRIEF c.args.s.now) c.args.self.now c.open_type.new.self c.open_type.result c.args._is_pointer true c.end-from.result c.requires
     c.end-from.ensures
     (there c.args.s.now c.args.self.now.at c.byte_at-byte.result 82 c.if-byte-eq82.true (omega arith) c.byte_at-byte.ensures)
-    called.step called.open called.at called.text called.candidates
+    called.step called.open called.at called.text called.candidates called.scope
 
 pub returns-then-byte-eq79 : goal.returns-then-byte-eq79
 returns-then-byte-eq79 g c =
@@ -18,7 +18,7 @@ returns-then-byte-eq79 g c =
     reference-comes (symbol_by g.G.Grammar.IS_WIDE g.G.Grammar.IS_BARE g.G.Grammar.IS_BRIEF c.args.s.now) c.args.self.now c.open_type-then-byte-eq79.new.self c.open_type-then-byte-eq79.result c.args._is_pointer false c.end-from.result c.requires
     c.end-from.ensures
     (there c.args.s.now c.args.self.now.at c.byte_at-byte.result 79 c.if-byte-eq79.true (omega arith) c.byte_at-byte.ensures)
-    called.step called.open called.at called.text called.candidates
+    called.step called.open called.at called.text called.candidates called.scope
 
 pub returns : goal.returns
 returns g c =

@@ -14,7 +14,7 @@ function_ended-requires-clause-ended g c =
     signature-closed s w _ c.args.is_pointer c.args.is_first c.requires.awaits
     (there s.bytes w.at c.byte_at.result 69 c.if-byte_at-eq69.true (omega arith) c.byte_at.ensures)
     (ap (λ l. ends_with nat_eq l (codes "(void")) (sym c.as_slice.ensures) ∙ sym c.ends_with.ensures.value ∙ c.if-ends_with.false)
-    refl refl refl c.in_ok-self.ensures.1
+    refl refl refl refl c.in_ok-self.ensures.1
 
 pub parameter-requires : goal.parameter-requires
 parameter-requires g c = elim c.if-not-is_first.branch [

@@ -1,78 +1,40 @@
-use Rattle.std.proofs.Common.{refl}
+use Rattle.std.proofs.Common.{refl, subst}
 use Rattle.cpp_direct.specs.Symbol.{symbol_by}
-use Rattle.cpp_direct.specs.declared.open.Open.TheVariants as opens
+use Rattle.cpp_direct.specs.declared.open.Step.TheVariants as steps
+use Rattle.cpp_direct.specs.WriterInvariant.{IsWriting}
 use Rattle.cpp_direct.proofs.Listed.{waits-last}
-use Rattle.cpp_direct.proofs.Handed.{value-element, value-front, value-returned, value-signature, value-enumerator, argument-read, parameter-read, special-read, takes-elements}
-use Rattle.cpp_direct.proofs.EnclosingFunctions.{lambda-parameter-read, parameter-read-within}
-use Rattle.cpp_direct.proofs.Arguments.{value-argument, value-in-pack}
-use Rattle.cpp_direct.proofs.Signatures.{value-array}
+use Rattle.cpp_direct.proofs.Handed.{value-front, value-parameter, passed-closed}
 use Rattle.cpp_direct.proofs.direct.Direct.pass.Goals as goal
 
 pub parameter_ended-requires-clause-ended : goal.parameter_ended-requires-clause-ended
 parameter_ended-requires-clause-ended g c =
-    parameter-read (symbol_by g.G.Grammar.IS_WIDE g.G.Grammar.IS_BARE g.G.Grammar.IS_BRIEF c.args.s.now) c.args.self.now c.in-Parameters.mark c.in-Parameters.start c.in-Parameters.argument
-    (value-element (symbol_by g.G.Grammar.IS_WIDE g.G.Grammar.IS_BARE g.G.Grammar.IS_BRIEF c.args.s.now) c.args.self.now c.args.is_reference (opens.Parameters c.in-Parameters.mark c.in-Parameters.start c.in-Parameters.argument) c.requires.writing
-    (waits-last _ _ _ _ c.as_slice.ensures c.in_ok-entry.ensures.value c.in-Parameters.is))
+    value-parameter (symbol_by g.G.Grammar.IS_WIDE g.G.Grammar.IS_BARE g.G.Grammar.IS_BRIEF c.args.s.now) c.args.self.now c.args.is_reference c.args.is_dependent c.in-Parameters.mark c.in-Parameters.start
+    c.in-Parameters.argument c.requires.writing (waits-last _ _ _ _ c.as_slice.ensures c.in_ok-entry.ensures.value c.in-Parameters.is)
 
 pub front_ended-requires-clause-ended : goal.front_ended-requires-clause-ended
 front_ended-requires-clause-ended g c =
-    value-front (symbol_by g.G.Grammar.IS_WIDE g.G.Grammar.IS_BARE g.G.Grammar.IS_BRIEF c.args.s.now) c.args.self.now c.args.is_reference c.in-Front.mark c.in-Front.start c.in-Front.argument
-    c.requires.writing (waits-last _ _ _ _ c.as_slice.ensures c.in_ok-entry.ensures.value c.in-Front.is)
+    value-front (symbol_by g.G.Grammar.IS_WIDE g.G.Grammar.IS_BARE g.G.Grammar.IS_BRIEF c.args.s.now) c.args.self.now c.args.is_reference c.args.is_dependent c.in-Front.mark c.in-Front.start
+    c.in-Front.argument c.requires.writing (waits-last _ _ _ _ c.as_slice.ensures c.in_ok-entry.ensures.value c.in-Front.is)
 
-pub returned-requires-clause-returned : goal.returned-requires-clause-returned
-returned-requires-clause-returned g c =
-    value-returned (symbol_by g.G.Grammar.IS_WIDE g.G.Grammar.IS_BARE g.G.Grammar.IS_BRIEF c.args.s.now) c.args.self.now c.args.is_reference c.in-Returned.is_pointer
-    c.requires.writing (waits-last _ _ _ _ c.as_slice.ensures c.in_ok-entry.ensures.value c.in-Returned.is)
+pub pass_dependent-requires : goal.pass_dependent-requires
+pass_dependent-requires g c =
+    let s = symbol_by g.G.Grammar.IS_WIDE g.G.Grammar.IS_BARE g.G.Grammar.IS_BRIEF c.args.s.now in
+    record {
+      writing = (
+        c.args.is_reference,
+        subst (λ d. IsWriting s c.args.self.now (steps.Value c.args.is_reference d)) c.if-is_dependent.true c.requires.writing,
+      );
+    }
 
-pub parameter_at-requires-clause-awaits : goal.parameter_at-requires-clause-awaits
-parameter_at-requires-clause-awaits g c =
-    value-signature (symbol_by g.G.Grammar.IS_WIDE g.G.Grammar.IS_BARE g.G.Grammar.IS_BRIEF c.args.s.now) c.args.self.now c.args.is_reference c.in-Signature.is_pointer
-    c.requires.writing (waits-last _ _ _ _ c.as_slice.ensures c.in_ok-entry.ensures.value c.in-Signature.is)
+pub pass_closed-requires-clause-writing : goal.pass_closed-requires-clause-writing
+pass_closed-requires-clause-writing g c =
+    let s = symbol_by g.G.Grammar.IS_WIDE g.G.Grammar.IS_BARE g.G.Grammar.IS_BRIEF c.args.s.now in
+    subst (λ d. IsWriting s c.args.self.now (steps.Value c.args.is_reference d)) c.if-is_dependent.false c.requires.writing
 
-pub enclosing_parameter-requires-clause-read : goal.enclosing_parameter-requires-clause-read
-enclosing_parameter-requires-clause-read g c =
-    parameter-read-within (symbol_by g.G.Grammar.IS_WIDE g.G.Grammar.IS_BARE g.G.Grammar.IS_BRIEF c.args.s.now) c.args.self.now c.in-Enclosing.mark c.in-Enclosing.from c.in-Enclosing.to c.in-Enclosing.argument
-    (value-element (symbol_by g.G.Grammar.IS_WIDE g.G.Grammar.IS_BARE g.G.Grammar.IS_BRIEF c.args.s.now) c.args.self.now c.args.is_reference (opens.Enclosing c.in-Enclosing.mark c.in-Enclosing.from c.in-Enclosing.to c.in-Enclosing.argument) c.requires.writing
-    (waits-last _ _ _ _ c.as_slice.ensures c.in_ok-entry.ensures.value c.in-Enclosing.is))
+pub pass_closed-requires-clause-waits : goal.pass_closed-requires-clause-waits
+pass_closed-requires-clause-waits g c = waits-last _ _ _ _ c.as_slice.ensures c.in_ok-entry.ensures.value refl
 
-pub lambda_parameter-requires-clause-read : goal.lambda_parameter-requires-clause-read
-lambda_parameter-requires-clause-read g c =
-    lambda-parameter-read (symbol_by g.G.Grammar.IS_WIDE g.G.Grammar.IS_BARE g.G.Grammar.IS_BRIEF c.args.s.now) c.args.self.now c.in-Lambda.from
-    (value-element (symbol_by g.G.Grammar.IS_WIDE g.G.Grammar.IS_BARE g.G.Grammar.IS_BRIEF c.args.s.now) c.args.self.now c.args.is_reference (opens.Lambda c.in-Lambda.from) c.requires.writing
-    (waits-last _ _ _ _ c.as_slice.ensures c.in_ok-entry.ensures.value c.in-Lambda.is))
-
-pub finish-requires : goal.finish-requires
-finish-requires g c =
-    special-read (symbol_by g.G.Grammar.IS_WIDE g.G.Grammar.IS_BARE g.G.Grammar.IS_BRIEF c.args.s.now) c.args.self.now
-    (value-element (symbol_by g.G.Grammar.IS_WIDE g.G.Grammar.IS_BARE g.G.Grammar.IS_BRIEF c.args.s.now) c.args.self.now c.args.is_reference opens.Special c.requires.writing
-    (waits-last _ _ _ _ c.as_slice.ensures c.in_ok-entry.ensures.value c.in-Special.is))
-
-pub array_ended-requires-clause-read : goal.array_ended-requires-clause-read
-array_ended-requires-clause-read g c =
-    value-array (symbol_by g.G.Grammar.IS_WIDE g.G.Grammar.IS_BARE g.G.Grammar.IS_BRIEF c.args.s.now) c.args.self.now c.args.is_reference c.in-Array.access c.in-Array.from c.in-Array.to
-    c.requires.writing (waits-last _ _ _ _ c.as_slice.ensures c.in_ok-entry.ensures.value c.in-Array.is)
-
-pub enumerator-requires-clause-awaits : goal.enumerator-requires-clause-awaits
-enumerator-requires-clause-awaits g c =
-    value-enumerator (symbol_by g.G.Grammar.IS_WIDE g.G.Grammar.IS_BARE g.G.Grammar.IS_BRIEF c.args.s.now) c.args.self.now c.args.is_reference
-    c.requires.writing (waits-last _ _ _ _ c.as_slice.ensures c.in_ok-entry.ensures.value c.in-Enumerator.is)
-
-pub returns-in_default : goal.returns-in_default
-returns-in_default g c =
-    let o = c.in_ok-entry.field-0.now in
-    argument-read (symbol_by g.G.Grammar.IS_WIDE g.G.Grammar.IS_BARE g.G.Grammar.IS_BRIEF c.args.s.now) c.args.self.now o
-    (value-element (symbol_by g.G.Grammar.IS_WIDE g.G.Grammar.IS_BARE g.G.Grammar.IS_BRIEF c.args.s.now) c.args.self.now c.args.is_reference o c.requires.writing
-    (waits-last _ _ _ _ c.as_slice.ensures c.in_ok-entry.ensures.value refl))
-    (takes-elements o c.in_default.not-Pointer c.in_default.not-Lvalue c.in_default.not-Rvalue c.in_default.not-Const
-    c.in_default.not-Parameters c.in_default.not-Front c.in_default.not-Returned c.in_default.not-Signature c.in_default.not-Special c.in_default.not-Enumerator
-    c.in_default.not-Enclosing c.in_default.not-Argument c.in_default.not-Lambda c.in_default.not-Element c.in_default.not-Array)
-
-pub argument_ended-requires-clause-read : goal.argument_ended-requires-clause-read
-argument_ended-requires-clause-read g c =
-    value-argument (symbol_by g.G.Grammar.IS_WIDE g.G.Grammar.IS_BARE g.G.Grammar.IS_BRIEF c.args.s.now) c.args.self.now c.args.is_reference c.in-Argument.from c.in-Argument.number c.in-Argument.known
-    c.requires.writing (waits-last _ _ _ _ c.as_slice.ensures c.in_ok-entry.ensures.value c.in-Argument.is)
-
-pub element_ended-requires-clause-read : goal.element_ended-requires-clause-read
-element_ended-requires-clause-read g c =
-    value-in-pack (symbol_by g.G.Grammar.IS_WIDE g.G.Grammar.IS_BARE g.G.Grammar.IS_BRIEF c.args.s.now) c.args.self.now c.args.is_reference c.in-Element.from c.in-Element.number c.in-Element.known
-    c.requires.writing (waits-last _ _ _ _ c.as_slice.ensures c.in_ok-entry.ensures.value c.in-Element.is)
+pub pass_closed-requires-clause-others : goal.pass_closed-requires-clause-others
+pass_closed-requires-clause-others g c =
+    passed-closed c.in_ok-entry.field-0.now c.in_default.not-Pointer c.in_default.not-Lvalue c.in_default.not-Rvalue c.in_default.not-Const
+    c.in_default.not-Parameters c.in_default.not-Front

@@ -15,8 +15,8 @@ parameter_ended-requires-clause-ended g c =
 
 pub enclosing_parameter-requires-clause-read : goal.enclosing_parameter-requires-clause-read
 enclosing_parameter-requires-clause-read g c =
-    parameter-read-within (symbol_by g.G.Grammar.IS_WIDE g.G.Grammar.IS_BARE g.G.Grammar.IS_BRIEF c.args.s.now) c.args.self.now c.in-Enclosing.mark c.in-Enclosing.from c.in-Enclosing.to c.in-Enclosing.argument
-    (passed-on (symbol_by g.G.Grammar.IS_WIDE g.G.Grammar.IS_BARE g.G.Grammar.IS_BRIEF c.args.s.now) c.args.self.now (opens.Enclosing c.in-Enclosing.mark c.in-Enclosing.from c.in-Enclosing.to c.in-Enclosing.argument) c.requires.passed
+    parameter-read-within (symbol_by g.G.Grammar.IS_WIDE g.G.Grammar.IS_BARE g.G.Grammar.IS_BRIEF c.args.s.now) c.args.self.now c.in-Enclosing.mark c.in-Enclosing.from c.in-Enclosing.to
+    (passed-on (symbol_by g.G.Grammar.IS_WIDE g.G.Grammar.IS_BARE g.G.Grammar.IS_BRIEF c.args.s.now) c.args.self.now (opens.Enclosing c.in-Enclosing.mark c.in-Enclosing.from c.in-Enclosing.to) c.requires.passed
     (waits-last _ _ _ _ c.as_slice.ensures c.in_ok-mark.ensures.value c.in-Enclosing.is))
 
 pub finish-requires : goal.finish-requires

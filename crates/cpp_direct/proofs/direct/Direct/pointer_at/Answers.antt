@@ -20,6 +20,7 @@ returns g c =
     c.requires.awaits c.end-from.ensures
     c.requires.letter
     c.open_type.ensures.step c.open_type.ensures.open c.open_type.ensures.at c.open_type.ensures.text c.open_type.ensures.candidates
+    c.open_type.ensures.scope
 
 pub begin_array-requires-clause-letters : goal.begin_array-requires-clause-letters
 begin_array-requires-clause-letters g c =

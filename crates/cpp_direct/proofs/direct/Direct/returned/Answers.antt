@@ -20,7 +20,7 @@ first_parameter-requires-clause-awaits g c =
     ] in
     signature-begins s w _ c.args.is_pointer p
     (c.in_ok-push.ensures.text ∙ ap (λ l. w.text.list.items ++ l) opening)
-    c.in_ok-push.ensures.candidates
+    c.in_ok-push.ensures.candidates c.in_ok-push.ensures.scope
     (ap reverse c.in_ok-push-2.ensures.items
     ∙ reverse-last c.push.new.self.waiting.list.items entry
     ∙ ap (λ r. entry ∷ r) (ap (λ v. reverse v.list.items) c.in_ok-push.ensures.waiting

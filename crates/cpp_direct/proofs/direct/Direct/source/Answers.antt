@@ -14,5 +14,5 @@ nest_named-requires-clause-named g c =
           (moves-to c.args.self.now c.if-is_internal.self c.args.self.now.at 0 b.self-is (omega arith))
     ] in
     source-follows (symbol_by g.G.Grammar.IS_WIDE g.G.Grammar.IS_BARE g.G.Grammar.IS_BRIEF c.args.s.now) c.args.self.now c.if-is_internal.self c.push_pair.new.self c.name.new.self _ c.args.is_internal c.requires.writing
-    c.requires.letter moved c.in_ok-push_pair.ensures n.0 n.1 n.2 n.3 refl refl refl refl refl refl
+    c.requires.letter moved c.in_ok-push_pair.ensures n.0 n.1 n.2 n.3 refl refl refl refl refl refl refl refl
     c.end-class_from.ensures c.end.ensures refl refl refl

@@ -20,7 +20,7 @@ returns-else-not-is_plain g c =
     lvalue-opened (symbol_by g.G.Grammar.IS_WIDE g.G.Grammar.IS_BARE g.G.Grammar.IS_BRIEF c.args.s.now) c.args.self.now c.open_type.new.self c.open_type.result c.end-from.result
     (awaits-type (symbol_by g.G.Grammar.IS_WIDE g.G.Grammar.IS_BARE g.G.Grammar.IS_BRIEF c.args.s.now) c.args.self.now c.args.is_plain c.requires.writing) c.end-from.ensures
     (there c.args.s.now c.args.self.now.at c.byte_at.result 82 c.in-82.is (omega arith) c.byte_at.ensures)
-    called.step called.open called.at called.text called.candidates
+    called.step called.open called.at called.text called.candidates called.scope
 
 pub begin_array-requires-clause-letters : goal.begin_array-requires-clause-letters
 begin_array-requires-clause-letters g c =
@@ -35,7 +35,7 @@ returns-in-79 g c =
     rvalue-opened (symbol_by g.G.Grammar.IS_WIDE g.G.Grammar.IS_BARE g.G.Grammar.IS_BRIEF c.args.s.now) c.args.self.now c.open_type-in-79.new.self c.open_type-in-79.result c.end-from.result
     (awaits-type (symbol_by g.G.Grammar.IS_WIDE g.G.Grammar.IS_BARE g.G.Grammar.IS_BRIEF c.args.s.now) c.args.self.now c.args.is_plain c.requires.writing) c.end-from.ensures
     (there c.args.s.now c.args.self.now.at c.byte_at.result 79 c.in-79.is (omega arith) c.byte_at.ensures)
-    called.step called.open called.at called.text called.candidates
+    called.step called.open called.at called.text called.candidates called.scope
 
 pub returns-else-is_plain-3 : goal.returns-else-is_plain-3
 returns-else-is_plain-3 g c =
@@ -43,7 +43,7 @@ returns-else-is_plain-3 g c =
     const-opened (symbol_by g.G.Grammar.IS_WIDE g.G.Grammar.IS_BARE g.G.Grammar.IS_BRIEF c.args.s.now) c.args.self.now c.open_type-in-75.new.self c.open_type-in-75.result c.end-from.result c.args.is_plain
     c.requires.writing c.if-is_plain-3.false c.end-from.ensures
     (there c.args.s.now c.args.self.now.at c.byte_at.result 75 c.in-75.is (omega arith) c.byte_at.ensures)
-    called.step called.open called.at called.text called.candidates
+    called.step called.open called.at called.text called.candidates called.scope
 
 pub template_parameter-requires-clause-awaits : goal.template_parameter-requires-clause-awaits
 template_parameter-requires-clause-awaits g c = awaits-type (symbol_by g.G.Grammar.IS_WIDE g.G.Grammar.IS_BARE g.G.Grammar.IS_BRIEF c.args.s.now) c.args.self.now c.args.is_plain c.requires.writing

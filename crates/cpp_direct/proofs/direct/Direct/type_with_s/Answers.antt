@@ -1,4 +1,4 @@
-use Rattle.std.proofs.Common.{◌≢◌, ◌+◌, ◌-◌, ◌++◌, [], ◌∷◌, length, take, drop, ap, sym, subst, ◌∙◌, arith, append-nil}
+use Rattle.std.proofs.Common.{◌≢◌, ◌+◌, ◌++◌, [], ◌∷◌, length, ap, subst, ◌∙◌, arith, append-nil}
 use Rattle.cpp_direct.specs.Symbol.{symbol_by}
 use Rattle.cpp_direct.specs.Holes.{StandsAt, IsSeqAt}
 use Rattle.cpp_direct.proofs.TypesRead.{there, named-again, some-text, std-named, abbreviation-named, substitution-stands, substitution-named}
@@ -11,7 +11,7 @@ type_named-requires g c =
     (there c.args.s.now (c.args.self.now.at + 1) c.byte_at-letter.result 116 c.if-letter-eq116.true (omega arith)
     (subst (λ k. c.byte_at-letter.result ≢ 0 → StandsAt c.args.s.now k (c.byte_at-letter.result ∷ [])) c.in_ok-self.ensures.1
     c.byte_at-letter.ensures))
-    c.in_ok-push.ensures.text c.in_ok-push.ensures.candidates c.in_ok-push.ensures.waiting
+    c.in_ok-push.ensures.text c.in_ok-push.ensures.candidates c.in_ok-push.ensures.waiting c.in_ok-push.ensures.scope
     (c.in_ok-push.ensures.at ∙ c.in_ok-self-2.ensures.1 ∙ ap (λ k. k + 1) c.in_ok-self.ensures.1)
     got.1 got.2 got.3 c.end-from.ensures
 
@@ -23,17 +23,16 @@ type_named-requires-then-not-is_empty g c =
     c.byte_at-letter.ensures)
     (some-text c.abbreviation_text-text.result.now _ c.abbreviation_text-text.ensures c.if-not-is_empty.ensures)
     (c.in_ok-push-2.ensures.text ∙ ap (λ l. c.args.self.now.text.list.items ++ l) c.abbreviation_text-text.ensures)
-    c.in_ok-push-2.ensures.candidates c.in_ok-push-2.ensures.waiting
+    c.in_ok-push-2.ensures.candidates c.in_ok-push-2.ensures.waiting c.in_ok-push-2.ensures.scope
     (c.in_ok-push-2.ensures.at ∙ c.in_ok-self-3.ensures.1 ∙ ap (λ k. k + 1) c.in_ok-self.ensures.1)
     c.end-from.ensures
 
 pub dependent_again-requires-clause-again : goal.dependent_again-requires-clause-again
 dependent_again-requires-clause-again g c =
     let got = c.in_ok-candidate.ensures.is in
-    let same = c.in_ok-candidate.ensures.same in
-    named-again (symbol_by g.G.Grammar.IS_WIDE g.G.Grammar.IS_BARE g.G.Grammar.IS_BRIEF c.args.s.now) c.args.self.now c.substitution.new.self got.0 c.in_ok-candidate.candidate c.requires.awaits c.requires.letter
+    named-again (symbol_by g.G.Grammar.IS_WIDE g.G.Grammar.IS_BARE g.G.Grammar.IS_BRIEF c.args.s.now) c.args.self.now c.substitution.new.self c.in_ok-self.field-0 got.0 c.in_ok-candidate.candidate c.requires.awaits c.requires.letter
     (subst (λ n. IsSeqAt c.args.s.now n got.0 c.substitution.new.self.at) c.in_ok-self.ensures.1 got.1) c.in_ok-candidate.ensures.ordered got.2
-    (same.text ∙ append-nil c.args.self.now.text.list.items) same.candidates same.waiting c.if-candidate.true
+    c.in_ok-candidate.ensures.same c.if-candidate.true
 
 pub repeat-requires-clause-from : goal.repeat-requires-clause-from
 repeat-requires-clause-from g c =
@@ -55,13 +54,8 @@ repeat-requires-clause-to g c =
 pub type_named-requires-2 : goal.type_named-requires-2
 type_named-requires-2 g c =
     let got = c.in_ok-candidate.ensures.is in
-    let same = c.in_ok-candidate.ensures.same in
-    let wrote = c.in_ok-repeat.ensures in
     let k = c.in_ok-candidate.candidate in
-    substitution-named (symbol_by g.G.Grammar.IS_WIDE g.G.Grammar.IS_BARE g.G.Grammar.IS_BRIEF c.args.s.now) c.args.self.now c.repeat.new.self c.end-from.result got.0 c.in_ok-candidate.candidate c.requires.awaits
+    substitution-named (symbol_by g.G.Grammar.IS_WIDE g.G.Grammar.IS_BARE g.G.Grammar.IS_BRIEF c.args.s.now) c.args.self.now c.substitution.new.self c.repeat.new.self c.in_ok-self.field-0 c.end-from.result got.0 k c.requires.awaits
     c.requires.letter
-    (subst (λ n. IsSeqAt c.args.s.now n got.0 c.repeat.new.self.at) c.in_ok-self.ensures.1
-    (subst (λ n. IsSeqAt c.args.s.now c.in_ok-self.field-0 got.0 n) (sym wrote.at) got.1))
-    c.in_ok-candidate.ensures.ordered got.2
-    (wrote.text ∙ ap (λ l. l ++ take (k.to - k.from) (drop k.from l)) (same.text ∙ append-nil c.args.self.now.text.list.items))
-    (wrote.candidates ∙ same.candidates) (wrote.waiting ∙ same.waiting) c.end-from.ensures c.if-candidate.false
+    (subst (λ n. IsSeqAt c.args.s.now n got.0 c.substitution.new.self.at) c.in_ok-self.ensures.1 got.1) c.in_ok-candidate.ensures.ordered got.2
+    c.in_ok-candidate.ensures.same c.in_ok-repeat.ensures c.end-from.ensures c.if-candidate.false

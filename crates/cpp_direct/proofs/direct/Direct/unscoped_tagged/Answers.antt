@@ -15,4 +15,5 @@ returns g c =
     let opened = c.open_arguments.ensures in
     unscoped-argued s old c.add_candidate.new.self c.open_arguments.new.self c.args.from c.args.takes c.open_arguments.result c.requires.named
     c.if-not-takes.false (there s.bytes old.at c.byte_at.result 73 c.if-byte_at-ne73.false (omega arith) c.byte_at.ensures)
-    c.in_ok-add_candidate.ensures.candidates added.text added.open added.at opened.step opened.open opened.at opened.text opened.candidates
+    c.in_ok-add_candidate.ensures.candidates added.text added.open added.scope added.at opened.step opened.open opened.at opened.text opened.candidates
+    opened.scope

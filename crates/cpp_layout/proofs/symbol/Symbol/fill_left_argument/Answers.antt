@@ -1,6 +1,5 @@
 use Rattle.std.proofs.Common.{ap, append-nil, sym, ◌∙◌, [], ◌∷◌, codes}
 use Rattle.cpp_layout.proofs.Growing.{fills, part-text, starts}
-use Rattle.cpp_layout.proofs.Operating.{few-printed}
 use Rattle.sym_print.specs.Unfold.{text}
 use Rattle.cpp_grammar.specs.Parts.{printed}
 use Rattle.cpp_layout.proofs.Typing.{no-type-flat, boolean-whole}
@@ -50,9 +49,6 @@ returns-in-AddressOf-clause-shows g c = fills c.args.self.now c.args.ctx.detail 
 pub returns-in-Decltype-clause-shows : goal.returns-in-Decltype-clause-shows
 unfolding tree_of left_parts reargued
 returns-in-Decltype-clause-shows g c = fills c.args.self.now c.args.ctx.detail _ _ _ c.fill_decltype.ensures.shows (ap (λ n. left_parts c.args.ctx.detail (context_of c.args.ctx) (node_shown c.args.self.now c.args.ctx n)) (sym c.in-Decltype.is))
-
-pub fill_operation-requires-clause-most : goal.fill_operation-requires-clause-most
-fill_operation-requires-clause-most g c = few-printed c.in-Operation.first c.in-Operation.second c.operation_of.result c.operation_of.ensures.is
 
 pub returns-in-Operation-clause-shows : goal.returns-in-Operation-clause-shows
 unfolding tree_of left_parts reargued

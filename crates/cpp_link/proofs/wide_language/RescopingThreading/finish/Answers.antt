@@ -1,70 +1,45 @@
-use Rattle.std.proofs.Common.{sym, ◌∙◌, ap}
-use Rattle.sym_link.specs.Tally.{tallied_view}
-use Rattle.sym_link.proofs.Tally.{finish_tallied}
-use Rattle.cpp_link.specs.declared.rescoping.Rescoping.{Rescoping}
-use Rattle.cpp_link.specs.LinkRescoping.{is_substitution, is_lambda_production, is_inheriting, wide_view, wide_makes}
-use Rattle.cpp_link.proofs.Rescoped.{apart_closes, apart_end_read, substitution_end_read, substitution_alone, no_substitution, lambda_alone, no_lambda, inheriting_alone, not_inheriting}
-use Rattle.cpp_link.proofs.Within.{closes_within}
+use Rattle.std.proofs.Common.{◌≡◌, sym, ◌∙◌}
+use Rattle.cpp_grammar.specs.declared.production.Production.{Production}
+use Rattle.cpp_link.proofs.Rescoped.{apart_closes, closes_counted, apart_counted, substitution_end_read}
 use Rattle.cpp_link.proofs.wide_language.RescopingThreading.finish.Goals as goal
 
 pub finish_substitution-requires-clause-substitution : goal.finish_substitution-requires-clause-substitution
-finish_substitution-requires-clause-substitution c =
-    substitution_alone _ (ap is_substitution (sym c.production_of-production.ensures) ∙ sym c.is_substitution.ensures ∙ c.if-is_substitution.true)
+finish_substitution-requires-clause-substitution c = sym c.production_of-production.ensures ∙ c.in-Substitution.is
 
-pub returns-then-is_substitution-clause-closes : goal.returns-then-is_substitution-clause-closes
-returns-then-is_substitution-clause-closes c =
+pub returns-in-Substitution-clause-closes : goal.returns-in-Substitution-clause-closes
+returns-in-Substitution-clause-closes c =
     let s = c.args.symbol.now in
-    let old = c.args.self.now in
-    let new : Rescoping = record { linked = c.finish_substitution.new.self } in
+    let new = c.finish_substitution.new.self in
     let frame = c.args.frame.now in
-    let substitution = substitution_alone _ (ap is_substitution (sym c.production_of-production.ensures) ∙ sym c.is_substitution.ensures ∙ c.if-is_substitution.true) in
-    closes_within (tallied_view (wide_view s) wide_makes) s old new frame c.args.parts.now.items c.finish_substitution.new.parts.items c.finish_substitution.result
-    (finish_tallied (wide_view s) wide_makes s old.linked new.linked frame c.args.parts.now.items c.finish_substitution.new.parts.items c.finish_substitution.result
-    (substitution_end_read s old.linked new.linked frame c.args.parts.now.items c.finish_substitution.result c.requires.room.paid.begun substitution c.finish_substitution.ensures.makes)
-    c.finish_substitution.ensures.closes)
+    let parts = c.args.parts.now.items in
+    closes_counted s c.args.self.now new frame parts c.finish_substitution.new.parts.items c.finish_substitution.result
+    (substitution_end_read s c.args.self.now.linked new frame parts c.finish_substitution.result c.requires.room.paid.begun (sym c.production_of-production.ensures ∙ c.in-Substitution.is) c.finish_substitution.ensures.makes)
+    c.finish_substitution.ensures.closes
 
 pub finish_lambda-requires-clause-lambda : goal.finish_lambda-requires-clause-lambda
-finish_lambda-requires-clause-lambda c =
-    lambda_alone _ (ap is_lambda_production (sym c.production_of-production.ensures) ∙ sym c.is_lambda_production.ensures ∙ c.if-is_lambda_production.true)
+finish_lambda-requires-clause-lambda c = sym c.production_of-production.ensures ∙ c.in-Lambda.is
 
-pub returns-then-is_lambda_production-clause-closes : goal.returns-then-is_lambda_production-clause-closes
-returns-then-is_lambda_production-clause-closes c =
-    let s = c.args.symbol.now in
-    let old = c.args.self.now in
-    let new : Rescoping = record { linked = c.finish_lambda.new.self } in
-    let frame = c.args.frame.now in
-    let apart = no_substitution _ (ap is_substitution (sym c.production_of-production.ensures) ∙ sym c.is_substitution.ensures ∙ c.if-is_substitution.false) in
-    closes_within (tallied_view (wide_view s) wide_makes) s old new frame c.args.parts.now.items c.finish_lambda.new.parts.items c.finish_lambda.result
-    (finish_tallied (wide_view s) wide_makes s old.linked new.linked frame c.args.parts.now.items c.finish_lambda.new.parts.items c.finish_lambda.result
-    (apart_end_read s old.linked new.linked frame c.args.parts.now.items c.finish_lambda.result c.requires.room.paid.begun apart c.finish_lambda.ensures.makes)
-    c.finish_lambda.ensures.closes)
+pub returns-in-Lambda-clause-closes : goal.returns-in-Lambda-clause-closes
+returns-in-Lambda-clause-closes c =
+    apart_counted c.args.symbol.now c.args.self.now c.finish_lambda.new.self c.args.frame.now c.args.parts.now.items c.finish_lambda.new.parts.items c.finish_lambda.result c.requires.room.paid.begun
+    (λ e. let clash : Production.Lambda ≡ Production.Substitution = sym c.in-Lambda.is ∙ c.production_of-production.ensures ∙ e in absurd cc) c.finish_lambda.ensures.makes c.finish_lambda.ensures.closes
 
 pub finish_inheriting-requires-clause-inheriting : goal.finish_inheriting-requires-clause-inheriting
-finish_inheriting-requires-clause-inheriting c =
-    inheriting_alone _ (ap is_inheriting (sym c.production_of-production.ensures) ∙ sym c.is_inheriting.ensures ∙ c.if-is_inheriting.true)
+finish_inheriting-requires-clause-inheriting c = sym c.production_of-production.ensures ∙ c.in-Inheriting.is
 
-pub returns-then-is_inheriting-clause-closes : goal.returns-then-is_inheriting-clause-closes
-returns-then-is_inheriting-clause-closes c =
+pub returns-in-Inheriting-clause-closes : goal.returns-in-Inheriting-clause-closes
+returns-in-Inheriting-clause-closes c =
+    apart_counted c.args.symbol.now c.args.self.now c.finish_inheriting.new.self c.args.frame.now c.args.parts.now.items c.finish_inheriting.new.parts.items c.finish_inheriting.result c.requires.room.paid.begun
+    (λ e. let clash : Production.Inheriting ≡ Production.Substitution = sym c.in-Inheriting.is ∙ c.production_of-production.ensures ∙ e in absurd cc) c.finish_inheriting.ensures.makes c.finish_inheriting.ensures.closes
+
+pub returns-in_default-clause-closes : goal.returns-in_default-clause-closes
+returns-in_default-clause-closes c =
     let s = c.args.symbol.now in
     let old = c.args.self.now in
-    let new : Rescoping = record { linked = c.finish_inheriting.new.self } in
+    let new = c.finish_rule.new.self in
     let frame = c.args.frame.now in
-    let apart = no_substitution _ (ap is_substitution (sym c.production_of-production.ensures) ∙ sym c.is_substitution.ensures ∙ c.if-is_substitution.false) in
-    closes_within (tallied_view (wide_view s) wide_makes) s old new frame c.args.parts.now.items c.finish_inheriting.new.parts.items c.finish_inheriting.result
-    (finish_tallied (wide_view s) wide_makes s old.linked new.linked frame c.args.parts.now.items c.finish_inheriting.new.parts.items c.finish_inheriting.result
-    (apart_end_read s old.linked new.linked frame c.args.parts.now.items c.finish_inheriting.result c.requires.room.paid.begun apart c.finish_inheriting.ensures.makes)
-    c.finish_inheriting.ensures.closes)
-
-pub returns-clause-closes : goal.returns-clause-closes
-returns-clause-closes c =
-    let s = c.args.symbol.now in
-    let old = c.args.self.now in
-    let new : Rescoping = record { linked = c.finish_rule.new.self } in
-    let frame = c.args.frame.now in
-    let apart = no_substitution _ (ap is_substitution (sym c.production_of-production.ensures) ∙ sym c.is_substitution.ensures ∙ c.if-is_substitution.false) in
-    closes_within (tallied_view (wide_view s) wide_makes) s old new frame c.args.parts.now.items c.finish_rule.new.parts.items c.finish_rule.result
-    (finish_tallied (wide_view s) wide_makes s old.linked new.linked frame c.args.parts.now.items c.finish_rule.new.parts.items c.finish_rule.result
-    (apart_end_read s old.linked new.linked frame c.args.parts.now.items c.finish_rule.result c.requires.room.paid.begun apart c.finish_rule.ensures.makes)
-    (apart_closes s old.linked new.linked frame c.args.parts.now.items c.finish_rule.new.parts.items c.finish_rule.result apart
-    (no_lambda _ (ap is_lambda_production (sym c.production_of-production.ensures) ∙ sym c.is_lambda_production.ensures ∙ c.if-is_lambda_production.false))
-    (not_inheriting _ (ap is_inheriting (sym c.production_of-production.ensures) ∙ sym c.is_inheriting.ensures ∙ c.if-is_inheriting.false)) c.finish_rule.ensures.closes))
+    let parts = c.args.parts.now.items in
+    let is = c.production_of-production.ensures in
+    apart_counted s old new frame parts c.finish_rule.new.parts.items c.finish_rule.result c.requires.room.paid.begun (λ e. c.in_default.not-Substitution (is ∙ e)) c.finish_rule.ensures.makes
+    (apart_closes s old.linked new frame parts c.finish_rule.new.parts.items c.finish_rule.result (λ e. c.in_default.not-Substitution (is ∙ e)) (λ e. c.in_default.not-Lambda (is ∙ e))
+    (λ e. c.in_default.not-Inheriting (is ∙ e)) c.finish_rule.ensures.closes)
