@@ -657,21 +657,34 @@ def family_answers(family, productions):
         "pub unreachable-requires : goal.unreachable-requires", f"unreachable-requires c = {snake(family)} c.args.production c.requires.family", *[f"    c.in_default.not-{p}" for p in productions]]) + "\n"
 
 # the ABI's reading refuses a constructor that is inherited
-UNREAD_IMPORTS = ["use Rattle.std.proofs.Common.{sym, ◌∙◌}", "use Rattle.cpp_link.proofs.Inherited.{inheriting_unread}"]
+UNREAD_IMPORTS = ["use Rattle.std.proofs.Common.{refl, sym, ◌∙◌, subst}", "use Rattle.cpp_grammar.specs.Rows.{row_of}", "use Rattle.cpp_term.specs.Meant.{meant, gained, state_after}",
+    "use Rattle.cpp_term.specs.Meaning.{meaning}", "use Rattle.cpp_term.specs.Unfolding.{behind}", "use Rattle.cpp_link.specs.Owed.{made_at_end}", "use Rattle.cpp_link.specs.NodeCount.{makes_at_end}",
+    "use Rattle.cpp_link.specs.Making.{IsHandedOn}", "use Rattle.cpp_link.proofs.Inherited.{inheriting_unread}"]
+HANDED_UNFOLDING = "unfolding meaning meant behind state_after gained row_of makes_at_end made_at_end"
 UNREAD_ANSWER = ["", "pub returns-in-Inheriting-clause-closes : goal.returns-in-Inheriting-clause-closes", "returns-in-Inheriting-clause-closes c =",
     "    inheriting_unread c.args.symbol.now c.args.self.now c.args.self.now c.args.frame.now c.args.parts.now.items c.args.parts.now.items (sym c.production_of-production.ensures ∙ c.in-Inheriting.is)"]
 
+def handed_on():
+    """the common productions that stand for one of their parts, and its number; nothing becomes a candidate after these"""
+    found = {p: re.fullmatch(r"handed (\d)", row.form) for p, row in grammar.rows().items() if p in words.COMMON and row.gain == "nothing" and not row.restores_packs}
+    return {p: handed[1] for p, handed in found.items() if handed}
+
 def handed_answers():
-    """what `finish_rule` hands to `finish_as`, and what it has from it, passed on"""
+    """what `finish_rule` hands to `finish_as` and `finish_part`, and what it has from them, passed on"""
     had = " ".join(f"{clause} = had.{clause};" for clause in ("closes", "adds", "few", "makes", "pays", "roomy")).rstrip(";")
     given = "; ".join(f"{clause} = c.requires.{clause}" for clause in ("room", "«open»", "base", "place"))
-    lines = []
+    lines, called = [], set()
     for p in words.COMMON:
-        at = "" if p == words.COMMON[0] else f"-in-{p}"
-        requires, returns = f"finish_as-requires{at}", f"returns-in-{p}"
-        lines += ["", f"pub {requires} : goal.{requires}", f"{requires} c =",
-            f"    record {{ common = λ rare. rare; numbered = sym c.in-{p}.is ∙ c.production_of-production.ensures; {given} }}",
-            "", f"pub {returns} : goal.{returns}", f"{returns} c =", f"    let had = c.finish_as{at}.ensures in", f"    record {{ {had} }}"]
+        number = handed_on().get(p)
+        function = "finish_part" if number else "finish_as"
+        at = f"-in-{p}" if function in called else ""
+        called.add(function)
+        requires, returns, is_production = f"{function}-requires{at}", f"returns-in-{p}", f"sym c.in-{p}.is ∙ c.production_of-production.ensures"
+        if number:
+            asked = f"handed = subst (λ p. IsHandedOn {number} p) ({is_production}) (record {{ common = λ rare. rare; names_no_candidate = tt; means = λ byte around vs. refl; then = λ byte around began vs state. refl; makes = λ vs. refl }})"
+        else: asked = f"common = λ rare. rare; numbered = {is_production}"
+        lines += ["", f"pub {requires} : goal.{requires}", *([HANDED_UNFOLDING] if number else []), f"{requires} c =", f"    record {{ {asked}; {given} }}",
+            "", f"pub {returns} : goal.{returns}", f"{returns} c =", f"    let had = c.{function}{at}.ensures in", f"    record {{ {had} }}"]
     return lines
 
 def arms(function, productions):
@@ -681,9 +694,16 @@ def arms(function, productions):
         if len(line) <= 100: yield line
         else: yield from [f"            Production::{p} => self.{function}(", "                symbol,", f"                Production::{p},", "                frame,", "                parts,", "            ),"]
 
+def finishing_arms():
+    """the arms of `finish_rule`"""
+    handed = handed_on()
+    for p in words.COMMON:
+        if p in handed: yield f"            Production::{p} => self.finish_part(symbol, frame, parts, {handed[p]}),"
+        else: yield from arms("finish_as", [p])
+
 def arms_by_production(found):
     """path, function, and the arms of its match that are written"""
-    yield "cpp_link/src/finish.rt", "finish_rule", list(arms("finish_as", words.COMMON))
+    yield "cpp_link/src/finish.rt", "finish_rule", list(finishing_arms())
     yield "cpp_link/src/between.rt", "before_by_step", list(arms("before_as", words.COMMON_BEFORE))
     yield "cpp_link/src/families.rt", "family_of", [f"        Production::{p} => Family::{family}," for family, productions in found.items() for p in productions]
     yield "cpp_tree/src/node.rt", "Node", list(node_code.variants())

@@ -17,7 +17,7 @@ use Rattle.cpp_tree.specs.Nodes.{tree_at}
 use Rattle.cpp_link.specs.declared.linked.Linked.{Linked}
 use Rattle.cpp_references.specs.declared.around.Surroundings.{Surroundings}
 use Rattle.cpp_link.specs.declared.part.Part.{Part}
-use Rattle.cpp_link.specs.Making.{state_of, IsRare, IsCommon}
+use Rattle.cpp_link.specs.Making.{state_of, IsRare, IsCommon, NamesNoCandidate, IsHandedOn}
 use Rattle.cpp_link.specs.Parts.{trees_in, values_in, around_of, candidates_of, AreThere, IsKeptThere, AreCandidatesThere}
 use Rattle.cpp_link.specs.LinkReading.{link_meaning, link_close}
 use Rattle.cpp_link.specs.Reads.{with_candidate}
@@ -168,3 +168,11 @@ module _ (s : List ℕ) (p : Production) (byte : ℕ) (around : Around) (place :
           other_close s p byte around place began vs state other own
           ∙ ap (λ v. Ok (found v (behind p byte around began vs state))) (sym is) ∙ ap (λ t. Ok (found (value made) t)) (comes began same)
       go (Err e) is comes = tt
+
+-- a production that stands for one of its parts closes to that part
+pub handed_closes : (s : List ℕ) (p : Production) (number byte : ℕ) (around : Around) (place : ℕ) (vs : List Value) (state : State) (value : Value) → IsHandedOn number p → value ≡ part vs number
+    → (began : State) → link_close s p byte around place began vs state ≡ Ok (found value state)
+handed_closes s p number byte around place vs state value handed is began =
+    other_close s p byte around place began vs state (λ is_one. subst (λ q. NamesNoCandidate q) is_one handed.names_no_candidate) (λ own. subst (λ q. IsCommon q) own handed.common tt)
+    ∙ ap (λ v. Ok (found v (behind p byte around began vs state))) (sym (common_meaning s p byte place around vs handed.common) ∙ handed.means byte around vs ∙ sym is)
+    ∙ ap (λ t. Ok (found value t)) (handed.then byte around began vs state)

@@ -1,9 +1,12 @@
 -- What is made where a rule closes.
-use Rattle.std.specs.Prelude.{ℕ, List}
+use Rattle.std.specs.Prelude.{◌≡◌, ℕ, List}
 use Rattle.cpp_grammar.specs.declared.production.Production.{Production}
-use Rattle.cpp_term.specs.Values.{State}
+use Rattle.cpp_term.specs.Values.{State, Value, Around, part}
+use Rattle.cpp_term.specs.Meaning.{meaning}
+use Rattle.cpp_term.specs.Unfolding.{behind}
 use Rattle.cpp_link.specs.declared.linked.Linked.{Linked}
 use Rattle.cpp_link.specs.declared.part.Outcome.{Outcome}
+use Rattle.cpp_link.specs.NodeCount.{makes_at_end}
 use Rattle.cpp_link.specs.Parts.{trees_in, candidates_of}
 
 -- how many nodes are made of what a production stands for
@@ -54,3 +57,16 @@ IsRare _ = Unit {0}
 -- one of the commonest
 abbrev pub IsCommon : Production → Type 0
 IsCommon production = IsRare production → ⊥
+
+-- no substitution
+abbrev pub NamesNoCandidate : Production → Type 0
+NamesNoCandidate Production.Substitution = ⊥
+NamesNoCandidate _ = Unit {0}
+
+-- one of the commonest that stands for its part with this number: it makes no node, and nothing becomes a candidate after it
+pub record IsHandedOn (number : ℕ) (production : Production) : Type 0 where
+  pub common : IsCommon production
+  pub names_no_candidate : NamesNoCandidate production
+  pub means : (byte : ℕ) (around : Around) (vs : List Value) → meaning production byte around vs ≡ part vs number
+  pub then : (byte : ℕ) (around : Around) (began : State) (vs : List Value) (state : State) → behind production byte around began vs state ≡ state
+  pub makes : (vs : List Value) → makes_at_end production vs ≡ 0

@@ -311,6 +311,35 @@ impl Linked {
         }
     }
 
+    /// The same, as a call whose result is zeroed only where it is made.
+    ///
+    /// # Errors
+    ///
+    /// Those of `before_part`.
+    #[inline(always)]
+    fn before_called(
+        &mut self,
+        symbol: &[u8],
+        frame: &Frame<Surroundings>,
+        parts: &mut Vec<Part>,
+    ) -> Result<Surroundings, Refusal>
+        requires room { HasRoom (cpp_view symbol.now) symbol.now self.old (owed_behind (cpp_view symbol.now) frame.now parts.old.items) }
+        requires open { IsOpenAt (cpp_view symbol.now) symbol.now self.old frame.now parts.old.items }
+        requires base { frame.now.base ≤ length parts.old.items }
+        ensures goes { GoesOn (cpp_view symbol.now) symbol.now (Surrounds symbol.now) self.old self.new frame.now parts.old.items parts.new.items result }
+        ensures adds { OnOk result (Adds (cpp_view symbol.now) self.old self.new (owed_behind (cpp_view symbol.now) frame.now parts.old.items) (owed_next (cpp_view symbol.now) frame.now parts.new.items)) }
+        ensures few { AddsBefore (cpp_view symbol.now) self.old self.new frame.now parts.old.items (drop frame.now.base parts.new.items ++ variants.Nothing ∷ []) result }
+        ensures makes { OnOk result (length self.new.nodes.nodes ≡ length self.old.nodes.nodes + makes_before (production_at frame.now.rule) (values_in symbol.now self.old.nodes (drop frame.now.base parts.old.items))) }
+        ensures pays { OnOk result ((at : ℕ) → Pays (cpp_view symbol.now) self.old self.new at at) }
+        ensures count { OnOk result (length parts.new.items ≡ length parts.old.items) }
+        ensures roomy { IsRoomy self.old self.new parts.old parts.new result }
+    {
+        match self.before_by_step(symbol, frame, parts) {
+            Ok(then) => Ok(then),
+            Err(refusal) => Err(refusal),
+        }
+    }
+
     /// What is done before the next part of the frame's rule, and what surrounds that part.
     ///
     /// # Errors
@@ -337,6 +366,6 @@ impl Linked {
         if parts.len() - frame.base < quiet_parts(frame.rule) {
             return Ok(frame.kept);
         }
-        self.before_by_step(symbol, frame, parts)
+        self.before_called(symbol, frame, parts)
     }
 }
