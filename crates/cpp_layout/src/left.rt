@@ -17,6 +17,7 @@ use sym_print::PartList;
 
 impl Symbol {
     /// The parts of the piece that a name has of its own.
+    #[inline(always)]
     pub(crate) fn fill_own_piece<S: PartList<Context>>(
         &self,
         parts: &mut S,
