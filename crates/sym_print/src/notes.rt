@@ -109,7 +109,7 @@ impl<C: Copy> Notes<C> {
         if place < self.known.len() {
             self.known[place] = note;
         } else {
-            let _ = self.known.resize(PLACES, note);
+            let _ = self.known.resize(place + 1, note);
         }
     }
 
