@@ -26,7 +26,7 @@ FAMILIES = {
     "type_meaning": {
         "PlainType": ("A rare type that is no compound one.", """TypeWithD PlainWithD ItemWithD ItemIsType Abbreviation BuiltinWithD SizedFloat ConstrainedAuto Vendor Decltype Expansion ConvertedDecltype
             DestroyedType ConvertedType"""),
-        "CompoundType": ("A rare compound type that isn't a function's.", """Complex RestrictType VolatileType MemberPointer ArrayType AnyArray LengthArray BoundedArray Vector ConvertedConst ConvertedPointer
+        "CompoundType": ("A rare compound type that isn't a function's.", """Complex RestrictType VolatileType MemberPointer SelectedType ArrayType AnyArray LengthArray BoundedArray Vector ConvertedConst ConvertedPointer
             ConvertedReference"""),
         "FunctionType": ("A function's type, and its signature.", "Function NoexceptFunction RefEnd Constraint RestEnd LvalueItem RvalueItem RestItem RestLvalue RestRvalue"),
         "Argument": ("A template's parameter, its declaration, or a rare argument.", """Parameter ParameterArgument PackArgument LiteralArgument LiteralElement AnyElement ArgumentWithT DeclaredArgument

@@ -238,6 +238,8 @@ def build(extended=True, widened=False):
         wide(eats("F", "SizedFloat", DIGITS, "FloatEnd", means="sized_float(d0, l1), listed")),
         # <builtin-type> ::= Dk <type-constraint> | DK <type-constraint>
         wide(eats("kK", "ConstrainedAuto", "Concept", means="constrained(byte, t0), listed")),
+        # <type> ::= Dq <type> <type>, a vendor's: what is selected in a class
+        wide(eats("q", "SelectedType", "Solid", "Type", before="1: list type 0", means="selected(t0, t1)")),
         # <decltype> ::= Dt <expression> E | DT <expression> E
         wide(eats("tT", "Decltype", "Expression", "'E'", means="decltype(t0)")))
     if extended:

@@ -58,6 +58,8 @@ ROWS = [
      "marked-by _ _ behind plain ∙ ap (λ b. marked b (as_item heads.left {c} {ty}) (fixed_text behind) (fixed_text plain)) c.is_function-is_function.ensures"),
     ("fill_member", "The left parts of a pointer to a member.", "", "table", "class:tree member:tree", "member_parts {c} {class} {member}", "left member, LEFT or BLANK if is_function member, left class, COLONS_STAR",
      "member-whole {c} {class} {member} c.is_function-is_function.result (sym c.is_function-is_function.ensures)"),
+    ("fill_selected", "The left parts of what is selected in a class.", "<type> ::= Dq <type> <type>", "", "class:tree ty:tree",
+     "as_item heads.left {c} {class} ∷ text (fixed_text COLONS) ∷ as_item heads.left {c} {ty} ∷ []", "left class, COLONS, left ty", "refl"),
     ("fill_array", "The left parts of an array.", "", "table", "element:tree", "array_left {c} {element}", "left element, BLANK if !is_function element",
      "array-whole {c} {element} c.is_function-is_function.result (sym c.is_function-is_function.ensures)"),
     ("fill_left_text", "The left parts of a type and a text after them.", "", "", "ty:tree number:text", "sub (item_in (trees (table_of self.now)) ty 0 0 ctx) ∷ text (fixed_text number) ∷ []",

@@ -113,6 +113,7 @@ impl Symbol {
                 self.fill_left_text(parts, returned, texts::BLANK, ctx);
             }
             Node::MemberPointer { class, member } => self.fill_member(parts, class, member, ctx),
+            Node::Selected { class, ty } => self.fill_selected(parts, class, ty, ctx),
             Node::Qualified { qualifiers, ty } => {
                 self.fill_qualified_left(parts, qualifiers, ty, ctx);
             }

@@ -274,3 +274,6 @@ pub const OPERATION: u16 = 83;
 
 /// A parameter of the function in whose types it is, as an expression. Texts: the digits of its number.
 pub const FUNCTION_PARAMETER: u16 = 84;
+
+/// What is selected in a class. Parts: the class and the type. Symbols of the wide grammar alone have it.
+pub const SELECTED: u16 = 85;
