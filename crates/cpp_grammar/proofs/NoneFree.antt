@@ -7,7 +7,7 @@ use Rattle.cpp_grammar.specs.Values.{Around, Prefix, outermost, behind, prefix_t
 use Rattle.cpp_grammar.specs.Between.{extended, applied, no_items, with_tag, inherited}
 use Rattle.cpp_grammar.specs.Meaning.{is_void, is_nil, parameters, encoding_of, default_entity, listed_value, with_item, reference_to, signature_or, operator_or_literal, operation_or_address, operation_by, is_code, is_comma, ends_arguments, in_parentheses, enclosed_argument, enclosed_element, meaning}
 use Rattle.cpp_grammar.proofs.ClosedValues.{held, or_no, or_left_no, or_right_no}
-use Rattle.cpp_grammar.specs.Makers.{Maker, new_symbol, new_special, new_of_name, new_construction, new_clone, new_in_std, new_instance, new_local, new_abbreviation, new_source, new_operator, new_literal_operator, new_constructor, new_destructor, new_unnamed, new_string_literal, new_conversion, new_builtin, new_sized_float, new_constrained, new_vendor, new_pointer, new_lvalue, new_rvalue, new_array, new_bounded, new_member_pointer, new_function_type, new_qualified, new_vector, new_complex, new_expansion, new_integer, new_boolean, new_null_pointer, new_decltype, new_encoding_literal, new_operation, new_function_parameter, new_pack}
+use Rattle.cpp_grammar.specs.Makers.{Maker, new_symbol, new_special, new_of_name, new_construction, new_clone, new_in_std, new_instance, new_local, new_abbreviation, new_source, new_operator, new_literal_operator, new_constructor, new_destructor, new_unnamed, new_string_literal, new_conversion, new_builtin, new_sized_float, new_constrained, new_vendor, new_pointer, new_lvalue, new_rvalue, new_array, new_bounded, new_member_pointer, new_function_type, new_qualified, new_vector, new_complex, new_expansion, new_integer, new_boolean, new_null_pointer, new_decltype, new_encoding_literal, new_operation, new_function_parameter, new_pack, new_selected}
 use Rattle.cpp_grammar.specs.Builders.{Argument, argument, built, tree_in}
 use Rattle.cpp_grammar.specs.Row.{Source, tree_at, list_at, parameters_at, piece_at, the_name, qualified_by, Made, of, only, extending, tagging, applying, packing, Own, nested_name, encoding, local_name, in_default, nest_end, closure, inheriting as inheriting_, by_letters, enclosed, elements, first_of_operator, reference, lvalue_signature, rvalue_signature, Form, handed, finished, either, the_byte, makes, a_piece, a_pair, cell, item, a_name, in_place, own}
 use Rattle.cpp_grammar.specs.Own.{own_meaning}
@@ -199,6 +199,7 @@ built_none new_rvalue xs all = all 0
 built_none new_array xs all = all 1
 built_none new_bounded xs all = or_no _ _ (all 0) (all 1)
 built_none new_member_pointer xs all = or_no _ _ (all 0) (all 1)
+built_none new_selected xs all = or_no _ _ (all 0) (all 1)
 built_none new_function_type xs all = or_no _ _ (all 3) (all 4)
 built_none new_qualified xs all = all 1
 built_none new_vector xs all = all 1

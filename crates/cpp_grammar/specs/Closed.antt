@@ -1,6 +1,6 @@
 -- Trees in which the arguments that are a scope have no free parameters.
 use Rattle.std.specs.Prelude.{◌≡◌, false, Option, Some, None}
-use Rattle.cpp_grammar.specs.Term.{Term, symbol, function, object, special, thunk, of_name, construction, clone, alone, in_std, within, instance, local, holder, tagged, of_default, lambda, generic_lambda, conversion, pointer, lvalue, rvalue, array, constrained, bounded, member_pointer, function_type, qualified, vector, complex, expansion, integer, encoding_literal, address_of, pack, list, inheriting, decltype, operation}
+use Rattle.cpp_grammar.specs.Term.{Term, symbol, function, object, special, thunk, of_name, construction, clone, alone, in_std, within, instance, local, holder, tagged, of_default, lambda, generic_lambda, conversion, pointer, lvalue, rvalue, array, constrained, bounded, member_pointer, function_type, qualified, vector, complex, expansion, integer, encoding_literal, address_of, pack, list, inheriting, decltype, operation, selected}
 use Rattle.cpp_grammar.specs.Scope.{arguments_of, is_open}
 
 -- the arguments of a scope, if there are some, have no free parameters
@@ -38,6 +38,7 @@ ScopesAreClosed (rvalue t) = ScopesAreClosed t
 ScopesAreClosed (array digits t) = ScopesAreClosed t
 ScopesAreClosed (bounded bound t) = ScopesAreClosed bound × ScopesAreClosed t
 ScopesAreClosed (member_pointer class t) = ScopesAreClosed class × ScopesAreClosed t
+ScopesAreClosed (selected class t) = ScopesAreClosed class × ScopesAreClosed t
 ScopesAreClosed (function_type c_linkage noexcept ref returned parameters) = ScopesAreClosed returned × ScopesAreClosed parameters
 ScopesAreClosed (qualified q t) = ScopesAreClosed t
 ScopesAreClosed (vector digits t) = ScopesAreClosed t

@@ -6,7 +6,7 @@ abbrev pub KIND_COUNT : ℕ
 KIND_COUNT = 147
 
 abbrev pub PRODUCTION_COUNT : ℕ
-PRODUCTION_COUNT = 222
+PRODUCTION_COUNT = 223
 
 abbrev pub SYMBOL : ℕ
 SYMBOL = 0

@@ -28,6 +28,7 @@ pub data Maker : Type 0 where
   new_array : Maker
   new_bounded : Maker
   new_member_pointer : Maker
+  new_selected : Maker
   new_function_type : Maker
   new_qualified : Maker
   new_vector : Maker

@@ -1,6 +1,6 @@
 -- A rank of items that falls from each item to its parts, so that printing ends.
 use Rattle.std.specs.Prelude.{ℕ, ◌+◌, ◌-◌, Option, Some, None}
-use Rattle.cpp_grammar.specs.Term.{Term, symbol, function, object, special, thunk, of_name, construction, clone, alone, in_std, within, instance, local, holder, tagged, of_default, parameter, lambda, generic_lambda, conversion, pointer, lvalue, rvalue, array, constrained, bounded, member_pointer, function_type, qualified, vector, complex, expansion, integer, encoding_literal, address_of, pack, list, inheriting, decltype, operation}
+use Rattle.cpp_grammar.specs.Term.{Term, symbol, function, object, special, thunk, of_name, construction, clone, alone, in_std, within, instance, local, holder, tagged, of_default, parameter, lambda, generic_lambda, conversion, pointer, lvalue, rvalue, array, constrained, bounded, member_pointer, function_type, qualified, vector, complex, expansion, integer, encoding_literal, address_of, pack, list, inheriting, decltype, operation, selected}
 use Rattle.cpp_grammar.specs.Scope.{arguments_of, pack_length}
 use Rattle.cpp_grammar.specs.Items.{Form, expand, Context, Item}
 
@@ -44,6 +44,7 @@ weight a scope (rvalue t) = 1 + weight a scope t
 weight a scope (array digits t) = 1 + weight a scope t
 weight a scope (bounded bound t) = 1 + weight a scope bound + weight a scope t
 weight a scope (member_pointer class t) = 1 + weight a scope class + weight a scope t
+weight a scope (selected class t) = 1 + weight a scope class + weight a scope t
 weight a scope (function_type c_linkage noexcept ref returned parameters) = 1 + weight a scope returned + weight a scope parameters
 weight a scope (qualified q t) = 1 + weight a scope t
 weight a scope (vector digits t) = 1 + weight a scope t

@@ -1,7 +1,7 @@
 -- What the trees of C++ symbols are like: their arguments, free parameters and packs.
 -- The scope of an encoding is the list of arguments that its own name ends in. It holds for the encoding's types alone.
 use Rattle.std.specs.Prelude.{ℕ, zero, suc, Bool, true, false, not, ◌||◌, nat_eq, max, Option, Some, None}
-use Rattle.cpp_grammar.specs.Term.{Term, alone, in_std, within, instance, local, holder, tagged, of_default, parameter, constructor, destructor, inheriting, lambda, conversion, pointer, lvalue, rvalue, array, constrained, bounded, member_pointer, function_type, qualified, vector, complex, expansion, integer, pack, list, absent, decltype, operation}
+use Rattle.cpp_grammar.specs.Term.{Term, alone, in_std, within, instance, local, holder, tagged, of_default, parameter, constructor, destructor, inheriting, lambda, conversion, pointer, lvalue, rvalue, array, constrained, bounded, member_pointer, function_type, qualified, vector, complex, expansion, integer, pack, list, absent, decltype, operation, selected}
 
 -- the length of a list
 unfoldable pub count : Term → ℕ
@@ -68,6 +68,7 @@ is_open (rvalue type) = is_open type
 is_open (array digits type) = is_open type
 is_open (bounded bound type) = is_open bound || is_open type
 is_open (member_pointer class member) = is_open class || is_open member
+is_open (selected class type) = is_open class || is_open type
 is_open (function_type c_linkage noexcept ref returned parameters) = is_open returned || is_open parameters
 is_open (qualified qualifiers type) = is_open type
 is_open (vector digits type) = is_open type
@@ -116,6 +117,7 @@ free_in (rvalue type) = free_in type
 free_in (array digits type) = free_in type
 free_in (bounded bound type) = both_free (free_in bound) (free_in type)
 free_in (member_pointer class member) = both_free (free_in class) (free_in member)
+free_in (selected class type) = both_free (free_in class) (free_in type)
 free_in (function_type c_linkage noexcept ref returned parameters) = both_free (free_in returned) (free_in parameters)
 free_in (qualified qualifiers type) = free_in type
 free_in (vector digits type) = free_in type
@@ -173,6 +175,7 @@ pack_length scope (rvalue type) = pack_length scope type
 pack_length scope (array digits type) = pack_length scope type
 pack_length scope (bounded bound type) = first_of (pack_length scope bound) (pack_length scope type)
 pack_length scope (member_pointer class member) = first_of (pack_length scope class) (pack_length scope member)
+pack_length scope (selected class type) = first_of (pack_length scope class) (pack_length scope type)
 pack_length scope (function_type c_linkage noexcept ref returned parameters) = first_of (pack_length scope returned) (pack_length scope parameters)
 pack_length scope (qualified qualifiers type) = pack_length scope type
 pack_length scope (vector digits type) = pack_length scope type

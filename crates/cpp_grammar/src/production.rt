@@ -79,6 +79,7 @@ pub enum Production {
     NoexceptFunction,
     SizedFloat,
     ConstrainedAuto,
+    SelectedType,
     Decltype,
     Pointer,
     MemberPointer,

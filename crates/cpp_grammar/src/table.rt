@@ -354,24 +354,24 @@ static LETTERS: [[u8; 87]; 147] = [
     *b"            aaaaaaaaaa       a ae a    _ aa a  aaa^   a      aaaaaaaaaa aaaa  ]aaaaaaaa", // ItemButRef
     *b"                                                             g g     g    ggf  g gg    ", // ItemAfterD
     *b"                                                             h h     h    hj   h hi    ", // AfterD
-    *b"            $$$$$$$$$$       u w  v      oT n  qp#    r      ssssssssss ssss   sstsssss", // Solid
+    *b"            $$$$$$$$$$       v x  w      pT o  rq#    s      tttttttttt tttt   ttuttttt", // Solid
     *b"                                                     !                                 ", // MaybeCLinkage
-    *b"            yyyyyyyyyy       yyyyyyyyyyyyyyyyyyyyyyyyyy    y yy y    y     y   yx      ", // TypeAfterS
+    *b"            zzzzzzzzzz       zzzzzzzzzzzzzzzzzzzzzzzzzz    z zz z    z     z   zy      ", // TypeAfterS
     *b"            ((((((((((                  &        '                                     ", // SourceOrLocal
-    *b"            }}}}}}}}}}       } }}z}    } }}|} {}}}}   }      }}}}}}}}}} }}}}  }}}}}}}}}", // FunctionRest
-    *b"            \x7f\x7f\x7f\x7f\x7f\x7f\x7f\x7f\x7f\x7f       \x7f \x7f\x7f~\x7f    \x7f \x7f\x7f\x7f\x7f \x7f\x7f\x7f\x7f\x7f   \x7f      \x7f\x7f\x7f\x7f\x7f\x7f\x7f\x7f\x7f\x7f \x7f\x7f\x7f\x7f  \x7f\x7f\x7f\x7f\x7f\x7f\x7f\x7f\x7f", // AfterR
-    *b"            \x80\x80\x80\x80\x80\x80\x80\x80\x80\x80       \x80 \x80\x80~\x80    \x80 \x80\x80\x80\x80 \x80\x80\x80\x80\x80   \x80      \x80\x80\x80\x80\x80\x80\x80\x80\x80\x80 \x80\x80\x80\x80  \x80\x80\x80\x80\x80\x80\x80\x80\x80", // AfterO
-    *b"            \x82\x82\x82\x82\x82\x82\x82\x82\x82\x82       \x82 \x82\x82 \x82    \x82 \x82\x82\x82\x82 \x82\x82\x82\x82\x82   \x82      \x82\x82\x82\x82\x82\x82\x82\x82\x82\x82 \x82\x82\x82\x82  \x82\x82\x82\x82\x82\x82\x82\x82\x82", // Items
-    *b"                                     \x83                                                 ", // MaybeArguments
-    *b"                                     \x83                                                 ", // Arguments
-    *b"            \x87\x87\x87\x87\x87\x87\x87\x87\x87\x87       \x87 \x87\x87 \x87   \x85\x87\x86\x87\x87\x87\x87 \x87\x87\x87\x87\x87 \x87 \x87      \x87\x87\x87\x87\x87\x87\x87\x87\x87\x87 \x87\x87\x87\x87  \x87\x87\x87\x87\x87\x87\x87\x87\x87", // ArgumentList
-    *b"            \x89\x89\x89\x89\x89\x89\x89\x89\x89\x89       \x89 \x89\x89 \x89    \x89\x88\x89\x89\x89\x89 \x89\x89\x89\x89\x89 \x89 \x89      \x89\x89\x89\x89\x89\x89\x89\x89\x89\x89 \x89\x89\x89\x89  \x89\x89\x89\x89\x89\x89\x89\x89\x89", // PackList
-    *b"            \x8d\x8d\x8d\x8d\x8d\x8d\x8d\x8d\x8d\x8d          \x8c        \x8d\x8d \x8d  \x8d\x8d\x8d    \x8d    \x8a \x8d\x8b\x8d    \x8d\x8d\x8d \x8d\x8d\x8d\x8d   \x8d\x8d  \x8d\x8d\x8d ", // Literal
+    *b"            ~~~~~~~~~~       ~ ~~{~    ~ ~~}~ |~~~~   ~      ~~~~~~~~~~ ~~~~  ~~~~~~~~~", // FunctionRest
+    *b"            \x80\x80\x80\x80\x80\x80\x80\x80\x80\x80       \x80 \x80\x80\x7f\x80    \x80 \x80\x80\x80\x80 \x80\x80\x80\x80\x80   \x80      \x80\x80\x80\x80\x80\x80\x80\x80\x80\x80 \x80\x80\x80\x80  \x80\x80\x80\x80\x80\x80\x80\x80\x80", // AfterR
+    *b"            \x81\x81\x81\x81\x81\x81\x81\x81\x81\x81       \x81 \x81\x81\x7f\x81    \x81 \x81\x81\x81\x81 \x81\x81\x81\x81\x81   \x81      \x81\x81\x81\x81\x81\x81\x81\x81\x81\x81 \x81\x81\x81\x81  \x81\x81\x81\x81\x81\x81\x81\x81\x81", // AfterO
+    *b"            \x83\x83\x83\x83\x83\x83\x83\x83\x83\x83       \x83 \x83\x83 \x83    \x83 \x83\x83\x83\x83 \x83\x83\x83\x83\x83   \x83      \x83\x83\x83\x83\x83\x83\x83\x83\x83\x83 \x83\x83\x83\x83  \x83\x83\x83\x83\x83\x83\x83\x83\x83", // Items
+    *b"                                     \x84                                                 ", // MaybeArguments
+    *b"                                     \x84                                                 ", // Arguments
+    *b"            \x88\x88\x88\x88\x88\x88\x88\x88\x88\x88       \x88 \x88\x88 \x88   \x86\x88\x87\x88\x88\x88\x88 \x88\x88\x88\x88\x88 \x88 \x88      \x88\x88\x88\x88\x88\x88\x88\x88\x88\x88 \x88\x88\x88\x88  \x88\x88\x88\x88\x88\x88\x88\x88\x88", // ArgumentList
+    *b"            \x8a\x8a\x8a\x8a\x8a\x8a\x8a\x8a\x8a\x8a       \x8a \x8a\x8a \x8a    \x8a\x89\x8a\x8a\x8a\x8a \x8a\x8a\x8a\x8a\x8a \x8a \x8a      \x8a\x8a\x8a\x8a\x8a\x8a\x8a\x8a\x8a\x8a \x8a\x8a\x8a\x8a  \x8a\x8a\x8a\x8a\x8a\x8a\x8a\x8a\x8a", // PackList
+    *b"            \x8e\x8e\x8e\x8e\x8e\x8e\x8e\x8e\x8e\x8e          \x8d        \x8e\x8e \x8e  \x8e\x8e\x8e    \x8e    \x8b \x8e\x8c\x8e    \x8e\x8e\x8e \x8e\x8e\x8e\x8e   \x8e\x8e  \x8e\x8e\x8e ", // Literal
     *b"            !!                                                                         ", // Bit
-    *b"                                                                     \x8f    \x8e    \x8f \x8f     ", // LiteralAfterD
+    *b"                                                                     \x90    \x8f    \x90 \x90     ", // LiteralAfterD
     *b"            !                                                                          ", // MaybeZero
-    *b"            $$$$$$$$$$                   oT n  qp#    r      s s    sss ssss   ss  sss ", // LiteralType
-    *b"                                                             \x92 \x94\x91\x98 \x9c \x9b  \x99\x95\x90\x97\x93 \x96\x9a       ", // Operator
+    *b"            $$$$$$$$$$                   pT o  rq#    s      t t    ttt tttt   tt  ttt ", // LiteralType
+    *b"                                                             \x93 \x95\x92\x99 \x9d \x9c  \x9a\x96\x91\x98\x94 \x97\x9b       ", // Operator
     *b"                                                             !   ! !            !  !   ", // OperatorAfterN
     *b"                                                  !          !   !      !         !    ", // OperatorAfterD
     *b"                                          !    !             !  !         !        !   ", // OperatorAfterA
@@ -381,90 +381,90 @@ static LETTERS: [[u8; 87]; 147] = [
     *b"                                         !     !                         !     !       ", // OperatorAfterR
     *b"                                              !                            !  !        ", // OperatorAfterO
     *b"                                           !                               ! !         ", // OperatorAfterE
-    *b"                                               !                 !   \x9d         !!      ", // OperatorAfterL
+    *b"                                               !                 !   \x9e         !!      ", // OperatorAfterL
     *b"                                                                               !       ", // OperatorAfterS
     *b"                                                                                    !  ", // OperatorAfterI
     *b"                                                                 !              !      ", // OperatorAfterG
-    *b"            GGGGGGGGGG         GG    \x9e  G        G           G GGG G G  GGGGG GG       ", // NestRestOrEnd
-    *b"                                     \x83                                                 ", // ArgumentsAlone
+    *b"            GGGGGGGGGG         GG    \x9f  G        G           G GGG G G  GGGGG GG       ", // NestRestOrEnd
+    *b"                                     \x84                                                 ", // ArgumentsAlone
     *b"            GGGGGGGGGG         GG    F  G        G           G GGG G G  GGGGG GG       ", // NestRestAlone
     *b"                                         !                                             ", // HolderMark
     *b"            $$$$$$$$$$         JK       \"        #           M LMM M M  MMMMM MM       ", // HeldComponent
     *b"                                                           !  !                     !  ", // FloatEnd
-    *b"                                                                        \xa0\xa0 \xa0           ", // ComponentAfterC
-    *b"                                                             \x92  \x91\x98 \x9c \x9b  \x99\x95\x90\x97\x93 \x96\x9a       ", // OtherOperator
-    *b"            \xa4\xa4\xa4\xa4\xa4\xa4\xa4\xa4\xa4\xa4                    \xa2    \xa3      r                                ", // BaseClass
-    *b"            yyyyyyyyyy       yyyyyyyyyyyyyyyyyyyyyyyyyy    y yy y    y     y   y\xa5      ", // BaseAfterS
-    *b"                                     \xa6                                                 ", // BaseArguments
-    *b"                                     \xa1                                                 ", // OwnArguments
-    *b"            \x87\x87\x87\x87\x87\x87\x87\x87\x87\x87       \x87 \x87\x87 \x87   \x85\x87\x86\x87\x87\x87\x87 \x87\x87\x87\x87\x87 \x87 \x87      \x87\x87\x87\x87\x87\x87\x87\x87\x87\x87 \x87\x87\x87\x87  \x87\x87\x87\x87\x87\x87\x87\x87\x87", // ArgumentsFirst
+    *b"                                                                        \xa1\xa1 \xa1           ", // ComponentAfterC
+    *b"                                                             \x93  \x92\x99 \x9d \x9c  \x9a\x96\x91\x98\x94 \x97\x9b       ", // OtherOperator
+    *b"            \xa5\xa5\xa5\xa5\xa5\xa5\xa5\xa5\xa5\xa5                    \xa3    \xa4      s                                ", // BaseClass
+    *b"            zzzzzzzzzz       zzzzzzzzzzzzzzzzzzzzzzzzzz    z zz z    z     z   z\xa6      ", // BaseAfterS
+    *b"                                     \xa7                                                 ", // BaseArguments
+    *b"                                     \xa2                                                 ", // OwnArguments
+    *b"            \x88\x88\x88\x88\x88\x88\x88\x88\x88\x88       \x88 \x88\x88 \x88   \x86\x88\x87\x88\x88\x88\x88 \x88\x88\x88\x88\x88 \x88 \x88      \x88\x88\x88\x88\x88\x88\x88\x88\x88\x88 \x88\x88\x88\x88  \x88\x88\x88\x88\x88\x88\x88\x88\x88", // ArgumentsFirst
     *b"            $$$$$$$$$$                  \" )      #                                     ", // PlainEntity
     *b"            $$$$$$$$$$                  \" T      #                                     ", // PlainTypeEntity
     *b"                                   !                                                   ", // SpecialMark
     *b"                                                  4                                    ", // SpecialAfterG
     *b"                                                                          !     !      ", // CloneLetter
-    *b"                                                                                \xa8      ", // TypeInStd
+    *b"                                                                                \xa9      ", // TypeInStd
     *b"                                                                                       ", // MaybeTags
-    *b"            \xac\xac\xac\xac\xac\xac\xac\xac\xac\xac       \xac \xace \xac    _ \xac\xac`\xac `\xac\xab\xac^ \xaa \xac      \xac\xac\xac\xac\xac\xac\xac\xac\xac\xac \xac\xac\xac\xac  ]\xac\xac\xac\xac\xac\xac\xac\xac", // Argument
-    *b"            \xad\xad\xad\xad\xad\xad\xad\xad\xad\xad                                     \xad                           ", // ArgumentAfterT
-    *b"            \xad\xad\xad\xad\xad\xad\xad\xad\xad\xad                                     \xad                           ", // LeveledParameter
-    *b"            \xac\xac\xac\xac\xac\xac\xac\xac\xac\xac       \xac \xace \xac   \xb1_\xb0\xac\xac`\xac `\xac\xab\xac^ \xaa \xac      \xac\xac\xac\xac\xac\xac\xac\xac\xac\xac \xac\xac\xac\xac  ]\xac\xac\xac\xac\xac\xac\xac\xac", // OneArgument
-    *b"                                                                       \xb4  \xb3 \xb6   \xb5    \xb2 ", // DeclarationAfterT
-    *b"                                                \xb7                                      ", // Declarations
-    *b"            $$$$$$$$$$                    T    q                                       ", // Concept
-    *b"            $$$$$$$$$$       u w  v      oT n  q #    r      ssssssssss ssss   sstsssss", // SolidButT
-    *b"                                                             \xd0                         ", // Expression
-    *b"                                        \xe1                                              ", // AddressedExpression
-    *b"                                                           \x8a                           ", // AddressedLiteral
-    *b"                                                                \xbc                      ", // ExpressionAfterA
-    *b"                                                               \xb8        \xc0\xbd \xbe\xc0     \xc1    ", // ExpressionAfterC
-    *b"                                                  \xbd          \xbe \xb8 \xbe      \xbe \xc2    \xbd\xbd \xbd    ", // ExpressionAfterD
-    *b"                                           \xbd                               \xbd \xbd         ", // ExpressionAfterE
-    *b"                                        \xc3                               \xc4   \xbb \xc5        ", // ExpressionAfterF
-    *b"                                                                 \xbd             \xbe\xbd      ", // ExpressionAfterG
-    *b"                                                                        \xc6           \xbd  ", // ExpressionAfterI
-    *b"                                               \xbd                 \xbd             \xbd\xbd      ", // ExpressionAfterL
-    *b"                                     \xbd  \xbd                            \xbd  \xbd\xc7             ", // ExpressionAfterM
-    *b"                                                             \xc8   \xbd \xbe            \xbe  \xc8\xbe  ", // ExpressionAfterN
-    *b"                                              \xbd                           \xb9\xbd  \xbd        ", // ExpressionAfterO
-    *b"                                        \xbd                               \xbd\xbd  \xc7  \xbe\xbd      ", // ExpressionAfterP
-    *b"                                                                                 \xc9     ", // ExpressionAfterQ
-    *b"                                         \xbd   \xcb \xbd               \xb8         \xbd   \xca \xbd       ", // ExpressionAfterR
-    *b"                                                      \xcd        \xb8            \xcc \xce\xbd\xbf     \xbe", // ExpressionAfterS
-    *b"                                                                 \xbe   \xbf  \xcf          \xbe   ", // ExpressionAfterT
-    *b"                                                             \xe2                         ", // Expressions
+    *b"            \xad\xad\xad\xad\xad\xad\xad\xad\xad\xad       \xad \xade \xad    _ \xad\xad`\xad `\xad\xac\xad^ \xab \xad      \xad\xad\xad\xad\xad\xad\xad\xad\xad\xad \xad\xad\xad\xad  ]\xad\xad\xad\xad\xad\xad\xad\xad", // Argument
+    *b"            \xae\xae\xae\xae\xae\xae\xae\xae\xae\xae                                     \xae                           ", // ArgumentAfterT
+    *b"            \xae\xae\xae\xae\xae\xae\xae\xae\xae\xae                                     \xae                           ", // LeveledParameter
+    *b"            \xad\xad\xad\xad\xad\xad\xad\xad\xad\xad       \xad \xade \xad   \xb2_\xb1\xad\xad`\xad `\xad\xac\xad^ \xab \xad      \xad\xad\xad\xad\xad\xad\xad\xad\xad\xad \xad\xad\xad\xad  ]\xad\xad\xad\xad\xad\xad\xad\xad", // OneArgument
+    *b"                                                                       \xb5  \xb4 \xb7   \xb6    \xb3 ", // DeclarationAfterT
+    *b"                                                \xb8                                      ", // Declarations
+    *b"            $$$$$$$$$$                    T    r                                       ", // Concept
+    *b"            $$$$$$$$$$       v x  w      pT o  r #    s      tttttttttt tttt   ttuttttt", // SolidButT
+    *b"                                                             \xd1                         ", // Expression
+    *b"                                        \xe2                                              ", // AddressedExpression
+    *b"                                                           \x8b                           ", // AddressedLiteral
+    *b"                                                                \xbd                      ", // ExpressionAfterA
+    *b"                                                               \xb9        \xc1\xbe \xbf\xc1     \xc2    ", // ExpressionAfterC
+    *b"                                                  \xbe          \xbf \xb9 \xbf      \xbf \xc3    \xbe\xbe \xbe    ", // ExpressionAfterD
+    *b"                                           \xbe                               \xbe \xbe         ", // ExpressionAfterE
+    *b"                                        \xc4                               \xc5   \xbc \xc6        ", // ExpressionAfterF
+    *b"                                                                 \xbe             \xbf\xbe      ", // ExpressionAfterG
+    *b"                                                                        \xc7           \xbe  ", // ExpressionAfterI
+    *b"                                               \xbe                 \xbe             \xbe\xbe      ", // ExpressionAfterL
+    *b"                                     \xbe  \xbe                            \xbe  \xbe\xc8             ", // ExpressionAfterM
+    *b"                                                             \xc9   \xbe \xbf            \xbf  \xc9\xbf  ", // ExpressionAfterN
+    *b"                                              \xbe                           \xba\xbe  \xbe        ", // ExpressionAfterO
+    *b"                                        \xbe                               \xbe\xbe  \xc8  \xbf\xbe      ", // ExpressionAfterP
+    *b"                                                                                 \xca     ", // ExpressionAfterQ
+    *b"                                         \xbe   \xcc \xbe               \xb9         \xbe   \xcb \xbe       ", // ExpressionAfterR
+    *b"                                                      \xce        \xb9            \xcd \xcf\xbe\xc0     \xbf", // ExpressionAfterS
+    *b"                                                                 \xbf   \xc0  \xd0          \xbf   ", // ExpressionAfterT
+    *b"                                                             \xe3                         ", // Expressions
     *b"                                                           !                           ", // MaybeBefore
-    *b"                                                             \x92 \x94\x91\x98 \x9c \x9b  \xe3\x95\x90\x97\x93 \x96\x9a       ", // FoldOperator
+    *b"                                                             \x93 \x95\x92\x99 \x9d \x9c  \xe4\x96\x91\x98\x94 \x97\x9b       ", // FoldOperator
     *b"                                               !                 !             !!      ", // FoldOperatorAfterL
-    *b"                                                             \xe4                         ", // FoldOperand
-    *b"                                                             \xe5                         ", // FoldPack
-    *b"                                                           ! \xe6                         ", // Placement
-    *b"                                                             \xe2                         ", // SomeExpressions
-    *b"                                 ~                                   \xe8      \xe7          ", // Initializer
-    *b"                                                                     \xc6                 ", // InitializerAfterP
-    *b"                                                                        \xc6              ", // InitializerAfterI
-    *b"                                                                            \xbb          ", // OuterRest
-    *b"            \xea\xea\xea\xea\xea\xea\xea\xea\xea\xea                          \xe9          \xea                           ", // ParameterNumber
-    *b"            \xef\xef\xef\xef\xef\xef\xef\xef\xef\xef          \xeb \xef    \xec  \xef\xee\xed \xee\xef\xef\xef           \xef\xef\xef\xef\xef\xef\xef\xef\xef\xef \xef\xef\xef\xef   \xef\xef \xef\xef\xef\xef\xef", // ConvertedType
-    *b"            $$$$$$$$$$            v       T    qp#           ssssssssss ssss   ss sssss", // ConvertedSolid
-    *b"                                                m                               m      ", // DecltypeAfterD
-    *b"            \xba\xba\xba\xba\xba\xba\xba\xba\xba\xba                  \xb0       \xe0          \xc6 \xd0 \xd1\xd2\xd3\xd4\xd5 \xd6  \xd7\xd8\xd9\xda\xdb\xdc\xdd\xde\xdf      ", // ConvertRest
-    *b"            \xf1\xf1\xf1\xf1\xf1\xf1\xf1\xf1\xf1\xf1          \xf0         \xf0    \xf0\xf0                                      ", // Unresolved
-    *b"                                \xeb         T    qp                                      ", // UnresolvedType
-    *b"            \xba\xba\xba\xba\xba\xba\xba\xba\xba\xba          \xf2         \xf2    \xf2\xf2                                      ", // DestructorName
-    *b"                                             \xf5  \xf4   \xf3                                  ", // Requirements
-    *b"                                          \xf7  \xf5\xf6 \xf4   \xf3                                  ", // AfterExpression
-    *b"                                             \xf5\xf6 \xf4   \xf3                                  ", // AfterNoexcept
-    *b"            \xf8\xf8\xf8\xf8\xf8\xf8\xf8\xf8\xf8\xf8          \xf8 \xf8    \xf8  \xf8\xf8\xf8 \xf8\xf8\xf8\xf8         \xca \xf8\xf8\xf8\xf8\xf8\xf8\xf8\xf8\xf8\xf8 \xf8\xf8\xf8\xf8   \xf8\xf8 \xf8\xf8\xf8\xf8\xf8", // RequiredTypes
-    *b"            \xba\xba\xba\xba\xba\xba\xba\xba\xba\xba                                                                 ", // Level
-    *b"            \xf1\xf1\xf1\xf1\xf1\xf1\xf1\xf1\xf1\xf1           \xf9                                                     ", // MoreLevels
-    *b"            \xba\xba\xba\xba\xba\xba\xba\xba\xba\xba                                                     \xfa           ", // UnresolvedName
-    *b"                                                                          \xb9            ", // OperatorName
-    *b"                             \xfb                                                         ", // AnyArray
-    *b"            \xfd\xfd\xfd\xfd\xfd\xfd\xfd\xfd\xfd\xfd                                     \xfd                           ", // ArrayRest
-    *b"                                        \xb0       \xe0            \xd0 \xd1\xd2\xd3\xd4\xd5 \xd6  \xd7\xd8\xd9\xda\xdb\xdc\xdd\xde\xdf      ", // Bound
+    *b"                                                             \xe5                         ", // FoldOperand
+    *b"                                                             \xe6                         ", // FoldPack
+    *b"                                                           ! \xe7                         ", // Placement
+    *b"                                                             \xe3                         ", // SomeExpressions
+    *b"                                 \x7f                                   \xe9      \xe8          ", // Initializer
+    *b"                                                                     \xc7                 ", // InitializerAfterP
+    *b"                                                                        \xc7              ", // InitializerAfterI
+    *b"                                                                            \xbc          ", // OuterRest
+    *b"            \xeb\xeb\xeb\xeb\xeb\xeb\xeb\xeb\xeb\xeb                          \xea          \xeb                           ", // ParameterNumber
+    *b"            \xf0\xf0\xf0\xf0\xf0\xf0\xf0\xf0\xf0\xf0          \xec \xf0    \xed  \xf0\xef\xee \xef\xf0\xf0\xf0           \xf0\xf0\xf0\xf0\xf0\xf0\xf0\xf0\xf0\xf0 \xf0\xf0\xf0\xf0   \xf0\xf0 \xf0\xf0\xf0\xf0\xf0", // ConvertedType
+    *b"            $$$$$$$$$$            w       T    rq#           tttttttttt tttt   tt ttttt", // ConvertedSolid
+    *b"                                                n                               n      ", // DecltypeAfterD
+    *b"            \xbb\xbb\xbb\xbb\xbb\xbb\xbb\xbb\xbb\xbb                  \xb1       \xe1          \xc7 \xd1 \xd2\xd3\xd4\xd5\xd6 \xd7  \xd8\xd9\xda\xdb\xdc\xdd\xde\xdf\xe0      ", // ConvertRest
+    *b"            \xf2\xf2\xf2\xf2\xf2\xf2\xf2\xf2\xf2\xf2          \xf1         \xf1    \xf1\xf1                                      ", // Unresolved
+    *b"                                \xec         T    rq                                      ", // UnresolvedType
+    *b"            \xbb\xbb\xbb\xbb\xbb\xbb\xbb\xbb\xbb\xbb          \xf3         \xf3    \xf3\xf3                                      ", // DestructorName
+    *b"                                             \xf6  \xf5   \xf4                                  ", // Requirements
+    *b"                                          \xf8  \xf6\xf7 \xf5   \xf4                                  ", // AfterExpression
+    *b"                                             \xf6\xf7 \xf5   \xf4                                  ", // AfterNoexcept
+    *b"            \xf9\xf9\xf9\xf9\xf9\xf9\xf9\xf9\xf9\xf9          \xf9 \xf9    \xf9  \xf9\xf9\xf9 \xf9\xf9\xf9\xf9         \xcb \xf9\xf9\xf9\xf9\xf9\xf9\xf9\xf9\xf9\xf9 \xf9\xf9\xf9\xf9   \xf9\xf9 \xf9\xf9\xf9\xf9\xf9", // RequiredTypes
+    *b"            \xbb\xbb\xbb\xbb\xbb\xbb\xbb\xbb\xbb\xbb                                                                 ", // Level
+    *b"            \xf2\xf2\xf2\xf2\xf2\xf2\xf2\xf2\xf2\xf2           \xfa                                                     ", // MoreLevels
+    *b"            \xbb\xbb\xbb\xbb\xbb\xbb\xbb\xbb\xbb\xbb                                                     \xfb           ", // UnresolvedName
+    *b"                                                                          \xba            ", // OperatorName
+    *b"                             \xfc                                                         ", // AnyArray
+    *b"            \xfe\xfe\xfe\xfe\xfe\xfe\xfe\xfe\xfe\xfe                                     \xfe                           ", // ArrayRest
+    *b"                                        \xb1       \xe1            \xd1 \xd2\xd3\xd4\xd5\xd6 \xd7  \xd8\xd9\xda\xdb\xdc\xdd\xde\xdf\xe0      ", // Bound
     *b"            GGGGGGGGGG         GG       G        G           G GGG G G  GGGGG GG       ", // NestMoreOrEnd
-    *b"            \xfe\xfe\xfe\xfe\xfe\xfe\xfe\xfe\xfe\xfe                                                                 ", // TaggedSource
+    *b"            \xff\xff\xff\xff\xff\xff\xff\xff\xff\xff                                                                 ", // TaggedSource
 ];
 
 /// A rule without its number and its symbols.
@@ -494,7 +494,7 @@ macro_rules! chains {
 }
 
 // The rules of the productions, in the order of their numbers.
-pub static HEADS: [Head; 222] = [
+pub static HEADS: [Head; 223] = [
     takes!(0), // ! Mark
     takes!(2), // \" InternalName
     takes!(2), // # LocalTypeName
@@ -571,156 +571,157 @@ pub static HEADS: [Head; 222] = [
     takes!(4), // j NoexceptFunction
     takes!(2), // k SizedFloat
     takes!(1), // l ConstrainedAuto
-    takes!(2), // m Decltype
-    takes!(1), // n Pointer
-    takes!(2), // o MemberPointer
-    takes!(2), // p Parameter
-    takes!(2), // q TypeWithS
-    takes!(4), // r LocalType
-    takes!(0), // s Builtin
-    takes!(1), // t Vendor
-    chains!(1), // u ArrayType
-    takes!(3), // v Function
-    takes!(1), // w Complex
-    chains!(1), // x TypeInStd
-    chains!(1), // y AbbreviatedType
-    takes!(0), // z RestEnd
-    takes!(1), // { RestLvalue
-    takes!(1), // | RestRvalue
-    chains!(2), // } RestItem
-    takes!(0), // ~ RefEnd
-    chains!(2), // \x7f LvalueItem
-    chains!(2), // \x80 RvalueItem
-    takes!(1), // \x81 Constraint
-    chains!(2), // \x82 Items
-    takes!(2), // \x83 Arguments
-    takes!(2), // \x84 Tag
-    takes!(3), // \x85 PackArgument
-    takes!(3), // \x86 LiteralArgument
-    chains!(2), // \x87 AnyArgument
-    takes!(3), // \x88 LiteralElement
-    chains!(2), // \x89 AnyElement
-    takes!(2), // \x8a EncodingLiteral
-    takes!(1), // \x8b BoolLiteral
-    takes!(1), // \x8c LiteralWithD
-    chains!(2), // \x8d IntegerLiteral
-    takes!(1), // \x8e NullLiteral
-    takes!(1), // \x8f CharLiteral
-    takes!(1), // \x90 OperatorN
-    takes!(1), // \x91 OperatorD
-    takes!(1), // \x92 OperatorA
-    takes!(1), // \x93 OperatorP
-    takes!(1), // \x94 OperatorC
-    takes!(1), // \x95 OperatorM
-    takes!(1), // \x96 OperatorR
-    takes!(1), // \x97 OperatorO
-    takes!(1), // \x98 OperatorE
-    takes!(1), // \x99 OperatorL
-    takes!(1), // \x9a OperatorS
-    takes!(1), // \x9b OperatorI
-    takes!(1), // \x9c OperatorG
-    takes!(1), // \x9d LiteralOperator
-    takes!(3), // \x9e NestInstance
-    takes!(1), // \x9f Conversion
-    chains!(2), // \xa0 OperatorNameWithC
-    takes!(2), // \xa1 OwnArguments
-    takes!(2), // \xa2 NestedBase
-    takes!(1), // \xa3 BaseWithS
-    chains!(2), // \xa4 SourceBase
-    chains!(2), // \xa5 BaseInStd
-    takes!(3), // \xa6 BaseArguments
-    takes!(2), // \xa7 Clone
-    takes!(2), // \xa8 TaggedStdType
-    takes!(2), // \xa9 TypeTag
-    takes!(2), // \xaa Expression
-    takes!(1), // \xab ArgumentWithT
-    chains!(1), // \xac PlainArgument
-    chains!(2), // \xad ParameterArgument
-    chains!(2), // \xae DeclaredArgument
-    takes!(2), // \xaf LeveledParameter
-    takes!(2), // \xb0 OneLiteral
-    takes!(2), // \xb1 OnePack
-    takes!(0), // \xb2 AnyType
-    takes!(1), // \xb3 ValueOf
-    takes!(1), // \xb4 OfConcept
-    takes!(2), // \xb5 TemplateOf
-    takes!(2), // \xb6 PackOf
-    takes!(2), // \xb7 Declarations
-    takes!(2), // \xb8 Cast
-    takes!(2), // \xb9 OperatorReference
-    chains!(2), // \xba SimpleId
-    takes!(4), // \xbb FunctionParameter
-    takes!(1), // \xbc AddressExpression
-    takes!(2), // \xbd Binary
-    takes!(1), // \xbe Unary
-    takes!(1), // \xbf OfType
-    takes!(3), // \xc0 Call
-    takes!(2), // \xc1 Convert
-    takes!(1), // \xc2 DestructorName
-    takes!(2), // \xc3 OuterParameter
-    takes!(2), // \xc4 LeftFold
-    takes!(2), // \xc5 RightFold
-    takes!(2), // \xc6 Braces
-    takes!(2), // \xc7 Step
-    takes!(3), // \xc8 New
-    takes!(3), // \xc9 Conditional
-    takes!(2), // \xca Requires
-    takes!(1), // \xcb RequiresOf
-    takes!(1), // \xcc ExpandExpression
-    takes!(1), // \xcd PackSize
-    takes!(1), // \xce Unresolved
-    takes!(3), // \xcf TypedBraces
-    takes!(1), // \xd0 ExpressionA
-    takes!(1), // \xd1 ExpressionC
-    takes!(1), // \xd2 ExpressionD
-    takes!(1), // \xd3 ExpressionE
-    takes!(1), // \xd4 ExpressionF
-    takes!(1), // \xd5 ExpressionG
-    takes!(1), // \xd6 ExpressionI
-    takes!(1), // \xd7 ExpressionL
-    takes!(1), // \xd8 ExpressionM
-    takes!(1), // \xd9 ExpressionN
-    takes!(1), // \xda ExpressionO
-    takes!(1), // \xdb ExpressionP
-    takes!(1), // \xdc ExpressionQ
-    takes!(1), // \xdd ExpressionR
-    takes!(1), // \xde ExpressionS
-    takes!(1), // \xdf ExpressionT
-    takes!(2), // \xe0 ParameterExpression
-    takes!(2), // \xe1 AddressedLiteral
-    chains!(2), // \xe2 Expressions
-    takes!(1), // \xe3 FoldOperatorL
-    chains!(1), // \xe4 FoldOperand
-    chains!(1), // \xe5 FoldPack
-    chains!(2), // \xe6 Placed
-    takes!(1), // \xe7 Initializer
-    takes!(1), // \xe8 BracedInitializer
-    takes!(0), // \xe9 This
-    chains!(1), // \xea ParameterNumber
-    takes!(1), // \xeb ConvertedDecltype
-    takes!(1), // \xec ConvertedConst
-    takes!(1), // \xed ConvertedPointer
-    takes!(1), // \xee ConvertedReference
-    chains!(1), // \xef ConvertedType
-    chains!(2), // \xf0 UnresolvedInType
-    chains!(2), // \xf1 Levels
-    chains!(1), // \xf2 DestroyedType
-    takes!(2), // \xf3 ExpressionRequirement
-    takes!(2), // \xf4 TypeRequirement
-    takes!(2), // \xf5 NestedRequirement
-    takes!(2), // \xf6 ResultRequirement
-    takes!(1), // \xf7 NoexceptRequirement
-    chains!(2), // \xf8 RequiredType
-    takes!(1), // \xf9 LevelsEnd
-    takes!(1), // \xfa UnresolvedOperator
-    takes!(1), // \xfb AnyArray
-    chains!(3), // \xfc BoundedArray
-    chains!(2), // \xfd LengthArray
-    chains!(2), // \xfe TaggedSource
+    takes!(2), // m SelectedType
+    takes!(2), // n Decltype
+    takes!(1), // o Pointer
+    takes!(2), // p MemberPointer
+    takes!(2), // q Parameter
+    takes!(2), // r TypeWithS
+    takes!(4), // s LocalType
+    takes!(0), // t Builtin
+    takes!(1), // u Vendor
+    chains!(1), // v ArrayType
+    takes!(3), // w Function
+    takes!(1), // x Complex
+    chains!(1), // y TypeInStd
+    chains!(1), // z AbbreviatedType
+    takes!(0), // { RestEnd
+    takes!(1), // | RestLvalue
+    takes!(1), // } RestRvalue
+    chains!(2), // ~ RestItem
+    takes!(0), // \x7f RefEnd
+    chains!(2), // \x80 LvalueItem
+    chains!(2), // \x81 RvalueItem
+    takes!(1), // \x82 Constraint
+    chains!(2), // \x83 Items
+    takes!(2), // \x84 Arguments
+    takes!(2), // \x85 Tag
+    takes!(3), // \x86 PackArgument
+    takes!(3), // \x87 LiteralArgument
+    chains!(2), // \x88 AnyArgument
+    takes!(3), // \x89 LiteralElement
+    chains!(2), // \x8a AnyElement
+    takes!(2), // \x8b EncodingLiteral
+    takes!(1), // \x8c BoolLiteral
+    takes!(1), // \x8d LiteralWithD
+    chains!(2), // \x8e IntegerLiteral
+    takes!(1), // \x8f NullLiteral
+    takes!(1), // \x90 CharLiteral
+    takes!(1), // \x91 OperatorN
+    takes!(1), // \x92 OperatorD
+    takes!(1), // \x93 OperatorA
+    takes!(1), // \x94 OperatorP
+    takes!(1), // \x95 OperatorC
+    takes!(1), // \x96 OperatorM
+    takes!(1), // \x97 OperatorR
+    takes!(1), // \x98 OperatorO
+    takes!(1), // \x99 OperatorE
+    takes!(1), // \x9a OperatorL
+    takes!(1), // \x9b OperatorS
+    takes!(1), // \x9c OperatorI
+    takes!(1), // \x9d OperatorG
+    takes!(1), // \x9e LiteralOperator
+    takes!(3), // \x9f NestInstance
+    takes!(1), // \xa0 Conversion
+    chains!(2), // \xa1 OperatorNameWithC
+    takes!(2), // \xa2 OwnArguments
+    takes!(2), // \xa3 NestedBase
+    takes!(1), // \xa4 BaseWithS
+    chains!(2), // \xa5 SourceBase
+    chains!(2), // \xa6 BaseInStd
+    takes!(3), // \xa7 BaseArguments
+    takes!(2), // \xa8 Clone
+    takes!(2), // \xa9 TaggedStdType
+    takes!(2), // \xaa TypeTag
+    takes!(2), // \xab Expression
+    takes!(1), // \xac ArgumentWithT
+    chains!(1), // \xad PlainArgument
+    chains!(2), // \xae ParameterArgument
+    chains!(2), // \xaf DeclaredArgument
+    takes!(2), // \xb0 LeveledParameter
+    takes!(2), // \xb1 OneLiteral
+    takes!(2), // \xb2 OnePack
+    takes!(0), // \xb3 AnyType
+    takes!(1), // \xb4 ValueOf
+    takes!(1), // \xb5 OfConcept
+    takes!(2), // \xb6 TemplateOf
+    takes!(2), // \xb7 PackOf
+    takes!(2), // \xb8 Declarations
+    takes!(2), // \xb9 Cast
+    takes!(2), // \xba OperatorReference
+    chains!(2), // \xbb SimpleId
+    takes!(4), // \xbc FunctionParameter
+    takes!(1), // \xbd AddressExpression
+    takes!(2), // \xbe Binary
+    takes!(1), // \xbf Unary
+    takes!(1), // \xc0 OfType
+    takes!(3), // \xc1 Call
+    takes!(2), // \xc2 Convert
+    takes!(1), // \xc3 DestructorName
+    takes!(2), // \xc4 OuterParameter
+    takes!(2), // \xc5 LeftFold
+    takes!(2), // \xc6 RightFold
+    takes!(2), // \xc7 Braces
+    takes!(2), // \xc8 Step
+    takes!(3), // \xc9 New
+    takes!(3), // \xca Conditional
+    takes!(2), // \xcb Requires
+    takes!(1), // \xcc RequiresOf
+    takes!(1), // \xcd ExpandExpression
+    takes!(1), // \xce PackSize
+    takes!(1), // \xcf Unresolved
+    takes!(3), // \xd0 TypedBraces
+    takes!(1), // \xd1 ExpressionA
+    takes!(1), // \xd2 ExpressionC
+    takes!(1), // \xd3 ExpressionD
+    takes!(1), // \xd4 ExpressionE
+    takes!(1), // \xd5 ExpressionF
+    takes!(1), // \xd6 ExpressionG
+    takes!(1), // \xd7 ExpressionI
+    takes!(1), // \xd8 ExpressionL
+    takes!(1), // \xd9 ExpressionM
+    takes!(1), // \xda ExpressionN
+    takes!(1), // \xdb ExpressionO
+    takes!(1), // \xdc ExpressionP
+    takes!(1), // \xdd ExpressionQ
+    takes!(1), // \xde ExpressionR
+    takes!(1), // \xdf ExpressionS
+    takes!(1), // \xe0 ExpressionT
+    takes!(2), // \xe1 ParameterExpression
+    takes!(2), // \xe2 AddressedLiteral
+    chains!(2), // \xe3 Expressions
+    takes!(1), // \xe4 FoldOperatorL
+    chains!(1), // \xe5 FoldOperand
+    chains!(1), // \xe6 FoldPack
+    chains!(2), // \xe7 Placed
+    takes!(1), // \xe8 Initializer
+    takes!(1), // \xe9 BracedInitializer
+    takes!(0), // \xea This
+    chains!(1), // \xeb ParameterNumber
+    takes!(1), // \xec ConvertedDecltype
+    takes!(1), // \xed ConvertedConst
+    takes!(1), // \xee ConvertedPointer
+    takes!(1), // \xef ConvertedReference
+    chains!(1), // \xf0 ConvertedType
+    chains!(2), // \xf1 UnresolvedInType
+    chains!(2), // \xf2 Levels
+    chains!(1), // \xf3 DestroyedType
+    takes!(2), // \xf4 ExpressionRequirement
+    takes!(2), // \xf5 TypeRequirement
+    takes!(2), // \xf6 NestedRequirement
+    takes!(2), // \xf7 ResultRequirement
+    takes!(1), // \xf8 NoexceptRequirement
+    chains!(2), // \xf9 RequiredType
+    takes!(1), // \xfa LevelsEnd
+    takes!(1), // \xfb UnresolvedOperator
+    takes!(1), // \xfc AnyArray
+    chains!(3), // \xfd BoundedArray
+    chains!(2), // \xfe LengthArray
+    chains!(2), // \xff TaggedSource
 ];
 
 // The symbols of the rules, in the same order.
-pub static SYMBOLS: [Sym; 1338] = symbols_listed! {
+pub static SYMBOLS: [Sym; 1344] = symbols_listed! {
     [NONE, NONE, NONE, NONE, NONE], // ! Mark
     [NAME, MAYBE_ARGUMENTS, NONE, NONE, NONE], // \" InternalName
     [ANONYMOUS, MAYBE_ARGUMENTS, NONE, NONE, NONE], // # LocalTypeName
@@ -797,156 +798,157 @@ pub static SYMBOLS: [Sym; 1338] = symbols_listed! {
     [Sym::Byte(b'F'), MAYBE_C_LINKAGE, TYPE, FUNCTION_REST, NONE], // j NoexceptFunction
     [DIGITS, FLOAT_END, NONE, NONE, NONE], // k SizedFloat
     [CONCEPT, NONE, NONE, NONE, NONE], // l ConstrainedAuto
-    [EXPRESSION, Sym::Byte(b'E'), NONE, NONE, NONE], // m Decltype
-    [TYPE, NONE, NONE, NONE, NONE], // n Pointer
-    [TYPE, TYPE, NONE, NONE, NONE], // o MemberPointer
-    [DECIMAL, ARGUMENTS_ALONE, NONE, NONE, NONE], // p Parameter
-    [TYPE_AFTER_S, ARGUMENTS_ALONE, NONE, NONE, NONE], // q TypeWithS
-    [ENCODING, Sym::Byte(b'E'), TYPE_ENTITY, MAYBE_DISCRIMINATOR, NONE], // r LocalType
-    [NONE, NONE, NONE, NONE, NONE], // s Builtin
-    [NAME, NONE, NONE, NONE, NONE], // t Vendor
-    [ANY_ARRAY, NONE, NONE, NONE, NONE], // u ArrayType
-    [MAYBE_C_LINKAGE, TYPE, FUNCTION_REST, NONE, NONE], // v Function
-    [TYPE, NONE, NONE, NONE, NONE], // w Complex
-    [TYPE_IN_STD, NONE, NONE, NONE, NONE], // x TypeInStd
-    [ABBREVIATION, NONE, NONE, NONE, NONE], // y AbbreviatedType
-    [NONE, NONE, NONE, NONE, NONE], // z RestEnd
-    [AFTER_R, NONE, NONE, NONE, NONE], // { RestLvalue
-    [AFTER_O, NONE, NONE, NONE, NONE], // | RestRvalue
-    [ITEM_BUT_REF, FUNCTION_REST, NONE, NONE, NONE], // } RestItem
-    [NONE, NONE, NONE, NONE, NONE], // ~ RefEnd
-    [TYPE, FUNCTION_REST, NONE, NONE, NONE], // \x7f LvalueItem
-    [TYPE, FUNCTION_REST, NONE, NONE, NONE], // \x80 RvalueItem
-    [EXPRESSION, NONE, NONE, NONE, NONE], // \x81 Constraint
-    [ITEM, ITEMS, NONE, NONE, NONE], // \x82 Items
-    [ARGUMENTS_FIRST, Sym::Byte(b'E'), NONE, NONE, NONE], // \x83 Arguments
-    [NAME, MAYBE_ARGUMENTS, NONE, NONE, NONE], // \x84 Tag
-    [PACK_LIST, Sym::Byte(b'E'), ARGUMENT_LIST, NONE, NONE], // \x85 PackArgument
-    [LITERAL, Sym::Byte(b'E'), ARGUMENT_LIST, NONE, NONE], // \x86 LiteralArgument
-    [ARGUMENT, ARGUMENT_LIST, NONE, NONE, NONE], // \x87 AnyArgument
-    [LITERAL, Sym::Byte(b'E'), PACK_LIST, NONE, NONE], // \x88 LiteralElement
-    [ARGUMENT, PACK_LIST, NONE, NONE, NONE], // \x89 AnyElement
-    [Sym::Byte(b'Z'), ENCODING, NONE, NONE, NONE], // \x8a EncodingLiteral
-    [BIT, NONE, NONE, NONE, NONE], // \x8b BoolLiteral
-    [LITERAL_AFTER_D, NONE, NONE, NONE, NONE], // \x8c LiteralWithD
-    [LITERAL_TYPE, INTEGER, NONE, NONE, NONE], // \x8d IntegerLiteral
-    [MAYBE_ZERO, NONE, NONE, NONE, NONE], // \x8e NullLiteral
-    [INTEGER, NONE, NONE, NONE, NONE], // \x8f CharLiteral
-    [OPERATOR_AFTER_N, NONE, NONE, NONE, NONE], // \x90 OperatorN
-    [OPERATOR_AFTER_D, NONE, NONE, NONE, NONE], // \x91 OperatorD
-    [OPERATOR_AFTER_A, NONE, NONE, NONE, NONE], // \x92 OperatorA
-    [OPERATOR_AFTER_P, NONE, NONE, NONE, NONE], // \x93 OperatorP
-    [OPERATOR_AFTER_C, NONE, NONE, NONE, NONE], // \x94 OperatorC
-    [OPERATOR_AFTER_M, NONE, NONE, NONE, NONE], // \x95 OperatorM
-    [OPERATOR_AFTER_R, NONE, NONE, NONE, NONE], // \x96 OperatorR
-    [OPERATOR_AFTER_O, NONE, NONE, NONE, NONE], // \x97 OperatorO
-    [OPERATOR_AFTER_E, NONE, NONE, NONE, NONE], // \x98 OperatorE
-    [OPERATOR_AFTER_L, NONE, NONE, NONE, NONE], // \x99 OperatorL
-    [OPERATOR_AFTER_S, NONE, NONE, NONE, NONE], // \x9a OperatorS
-    [OPERATOR_AFTER_I, NONE, NONE, NONE, NONE], // \x9b OperatorI
-    [OPERATOR_AFTER_G, NONE, NONE, NONE, NONE], // \x9c OperatorG
-    [NAME, NONE, NONE, NONE, NONE], // \x9d LiteralOperator
-    [ARGUMENTS_FIRST, Sym::Byte(b'E'), NEST_MORE_OR_END, NONE, NONE], // \x9e NestInstance
-    [TYPE, NONE, NONE, NONE, NONE], // \x9f Conversion
-    [OPERATOR_AFTER_C, MAYBE_ARGUMENTS, NONE, NONE, NONE], // \xa0 OperatorNameWithC
-    [ARGUMENTS_FIRST, Sym::Byte(b'E'), NONE, NONE, NONE], // \xa1 OwnArguments
-    [NEST, OWN_ARGUMENTS, NONE, NONE, NONE], // \xa2 NestedBase
-    [BASE_AFTER_S, NONE, NONE, NONE, NONE], // \xa3 BaseWithS
-    [TAGGED_SOURCE, BASE_ARGUMENTS, NONE, NONE, NONE], // \xa4 SourceBase
-    [TYPE_IN_STD, BASE_ARGUMENTS, NONE, NONE, NONE], // \xa5 BaseInStd
-    [ARGUMENTS_FIRST, Sym::Byte(b'E'), OWN_ARGUMENTS, NONE, NONE], // \xa6 BaseArguments
-    [CLONE_LETTER, ENCODING, NONE, NONE, NONE], // \xa7 Clone
-    [SOURCE_OR_LOCAL, MAYBE_TAGS, NONE, NONE, NONE], // \xa8 TaggedStdType
-    [NAME, MAYBE_TAGS, NONE, NONE, NONE], // \xa9 TypeTag
-    [EXPRESSION, Sym::Byte(b'E'), NONE, NONE, NONE], // \xaa Expression
-    [ARGUMENT_AFTER_T, NONE, NONE, NONE, NONE], // \xab ArgumentWithT
-    [SOLID_BUT_T, NONE, NONE, NONE, NONE], // \xac PlainArgument
-    [DECIMAL, ARGUMENTS_ALONE, NONE, NONE, NONE], // \xad ParameterArgument
-    [DECLARATION_AFTER_T, ONE_ARGUMENT, NONE, NONE, NONE], // \xae DeclaredArgument
-    [DECIMAL, LEVELED_PARAMETER, NONE, NONE, NONE], // \xaf LeveledParameter
-    [LITERAL, Sym::Byte(b'E'), NONE, NONE, NONE], // \xb0 OneLiteral
-    [PACK_LIST, Sym::Byte(b'E'), NONE, NONE, NONE], // \xb1 OnePack
-    [NONE, NONE, NONE, NONE, NONE], // \xb2 AnyType
-    [TYPE, NONE, NONE, NONE, NONE], // \xb3 ValueOf
-    [CONCEPT, NONE, NONE, NONE, NONE], // \xb4 OfConcept
-    [DECLARATIONS, Sym::Byte(b'E'), NONE, NONE, NONE], // \xb5 TemplateOf
-    [Sym::Byte(b'T'), DECLARATION_AFTER_T, NONE, NONE, NONE], // \xb6 PackOf
-    [DECLARATION_AFTER_T, DECLARATIONS, NONE, NONE, NONE], // \xb7 Declarations
-    [TYPE, EXPRESSION, NONE, NONE, NONE], // \xb8 Cast
-    [OPERATOR, ARGUMENTS_ALONE, NONE, NONE, NONE], // \xb9 OperatorReference
-    [NAME, ARGUMENTS_ALONE, NONE, NONE, NONE], // \xba SimpleId
-    [MAYBE_RESTRICT, MAYBE_VOLATILE, MAYBE_CONST, PARAMETER_NUMBER, NONE], // \xbb FunctionParameter
-    [ADDRESSED_EXPRESSION, NONE, NONE, NONE, NONE], // \xbc AddressExpression
-    [EXPRESSION, EXPRESSION, NONE, NONE, NONE], // \xbd Binary
-    [EXPRESSION, NONE, NONE, NONE, NONE], // \xbe Unary
-    [CONVERTED_TYPE, NONE, NONE, NONE, NONE], // \xbf OfType
-    [EXPRESSION, EXPRESSIONS, Sym::Byte(b'E'), NONE, NONE], // \xc0 Call
-    [CONVERTED_TYPE, CONVERT_REST, NONE, NONE, NONE], // \xc1 Convert
-    [DESTRUCTOR_NAME, NONE, NONE, NONE, NONE], // \xc2 DestructorName
-    [DIGITS, OUTER_REST, NONE, NONE, NONE], // \xc3 OuterParameter
-    [FOLD_OPERATOR, FOLD_OPERAND, NONE, NONE, NONE], // \xc4 LeftFold
-    [FOLD_OPERATOR, FOLD_OPERAND, NONE, NONE, NONE], // \xc5 RightFold
-    [EXPRESSIONS, Sym::Byte(b'E'), NONE, NONE, NONE], // \xc6 Braces
-    [MAYBE_BEFORE, EXPRESSION, NONE, NONE, NONE], // \xc7 Step
-    [PLACEMENT, TYPE, INITIALIZER, NONE, NONE], // \xc8 New
-    [EXPRESSION, EXPRESSION, EXPRESSION, NONE, NONE], // \xc9 Conditional
-    [REQUIREMENTS, Sym::Byte(b'E'), NONE, NONE, NONE], // \xca Requires
-    [REQUIRED_TYPES, NONE, NONE, NONE, NONE], // \xcb RequiresOf
-    [EXPRESSION, NONE, NONE, NONE, NONE], // \xcc ExpandExpression
-    [EXPRESSION, NONE, NONE, NONE, NONE], // \xcd PackSize
-    [UNRESOLVED, NONE, NONE, NONE, NONE], // \xce Unresolved
-    [TYPE, EXPRESSIONS, Sym::Byte(b'E'), NONE, NONE], // \xcf TypedBraces
-    [EXPRESSION_AFTER_A, NONE, NONE, NONE, NONE], // \xd0 ExpressionA
-    [EXPRESSION_AFTER_C, NONE, NONE, NONE, NONE], // \xd1 ExpressionC
-    [EXPRESSION_AFTER_D, NONE, NONE, NONE, NONE], // \xd2 ExpressionD
-    [EXPRESSION_AFTER_E, NONE, NONE, NONE, NONE], // \xd3 ExpressionE
-    [EXPRESSION_AFTER_F, NONE, NONE, NONE, NONE], // \xd4 ExpressionF
-    [EXPRESSION_AFTER_G, NONE, NONE, NONE, NONE], // \xd5 ExpressionG
-    [EXPRESSION_AFTER_I, NONE, NONE, NONE, NONE], // \xd6 ExpressionI
-    [EXPRESSION_AFTER_L, NONE, NONE, NONE, NONE], // \xd7 ExpressionL
-    [EXPRESSION_AFTER_M, NONE, NONE, NONE, NONE], // \xd8 ExpressionM
-    [EXPRESSION_AFTER_N, NONE, NONE, NONE, NONE], // \xd9 ExpressionN
-    [EXPRESSION_AFTER_O, NONE, NONE, NONE, NONE], // \xda ExpressionO
-    [EXPRESSION_AFTER_P, NONE, NONE, NONE, NONE], // \xdb ExpressionP
-    [EXPRESSION_AFTER_Q, NONE, NONE, NONE, NONE], // \xdc ExpressionQ
-    [EXPRESSION_AFTER_R, NONE, NONE, NONE, NONE], // \xdd ExpressionR
-    [EXPRESSION_AFTER_S, NONE, NONE, NONE, NONE], // \xde ExpressionS
-    [EXPRESSION_AFTER_T, NONE, NONE, NONE, NONE], // \xdf ExpressionT
-    [DECIMAL, ARGUMENTS_ALONE, NONE, NONE, NONE], // \xe0 ParameterExpression
-    [ADDRESSED_LITERAL, Sym::Byte(b'E'), NONE, NONE, NONE], // \xe1 AddressedLiteral
-    [EXPRESSION, EXPRESSIONS, NONE, NONE, NONE], // \xe2 Expressions
-    [FOLD_OPERATOR_AFTER_L, NONE, NONE, NONE, NONE], // \xe3 FoldOperatorL
-    [FOLD_PACK, NONE, NONE, NONE, NONE], // \xe4 FoldOperand
-    [EXPRESSION, NONE, NONE, NONE, NONE], // \xe5 FoldPack
-    [SOME_EXPRESSIONS, Sym::Byte(b'_'), NONE, NONE, NONE], // \xe6 Placed
-    [INITIALIZER_AFTER_P, NONE, NONE, NONE, NONE], // \xe7 Initializer
-    [INITIALIZER_AFTER_I, NONE, NONE, NONE, NONE], // \xe8 BracedInitializer
-    [NONE, NONE, NONE, NONE, NONE], // \xe9 This
-    [DECIMAL, NONE, NONE, NONE, NONE], // \xea ParameterNumber
-    [DECLTYPE_AFTER_D, NONE, NONE, NONE, NONE], // \xeb ConvertedDecltype
-    [CONVERTED_TYPE, NONE, NONE, NONE, NONE], // \xec ConvertedConst
-    [CONVERTED_TYPE, NONE, NONE, NONE, NONE], // \xed ConvertedPointer
-    [CONVERTED_TYPE, NONE, NONE, NONE, NONE], // \xee ConvertedReference
-    [CONVERTED_SOLID, NONE, NONE, NONE, NONE], // \xef ConvertedType
-    [UNRESOLVED_TYPE, UNRESOLVED_NAME, NONE, NONE, NONE], // \xf0 UnresolvedInType
-    [LEVEL, MORE_LEVELS, NONE, NONE, NONE], // \xf1 Levels
-    [UNRESOLVED_TYPE, NONE, NONE, NONE, NONE], // \xf2 DestroyedType
-    [EXPRESSION, AFTER_EXPRESSION, NONE, NONE, NONE], // \xf3 ExpressionRequirement
-    [TYPE, REQUIREMENTS, NONE, NONE, NONE], // \xf4 TypeRequirement
-    [EXPRESSION, REQUIREMENTS, NONE, NONE, NONE], // \xf5 NestedRequirement
-    [CONCEPT, REQUIREMENTS, NONE, NONE, NONE], // \xf6 ResultRequirement
-    [AFTER_NOEXCEPT, NONE, NONE, NONE, NONE], // \xf7 NoexceptRequirement
-    [CONVERTED_TYPE, REQUIRED_TYPES, NONE, NONE, NONE], // \xf8 RequiredType
-    [UNRESOLVED_NAME, NONE, NONE, NONE, NONE], // \xf9 LevelsEnd
-    [OPERATOR_NAME, NONE, NONE, NONE, NONE], // \xfa UnresolvedOperator
-    [ARRAY_REST, NONE, NONE, NONE, NONE], // \xfb AnyArray
-    [BOUND, Sym::Byte(b'_'), TYPE, NONE, NONE], // \xfc BoundedArray
-    [DECIMAL, TYPE, NONE, NONE, NONE], // \xfd LengthArray
-    [NAME, MAYBE_TAGS, NONE, NONE, NONE], // \xfe TaggedSource
+    [SOLID, TYPE, NONE, NONE, NONE], // m SelectedType
+    [EXPRESSION, Sym::Byte(b'E'), NONE, NONE, NONE], // n Decltype
+    [TYPE, NONE, NONE, NONE, NONE], // o Pointer
+    [TYPE, TYPE, NONE, NONE, NONE], // p MemberPointer
+    [DECIMAL, ARGUMENTS_ALONE, NONE, NONE, NONE], // q Parameter
+    [TYPE_AFTER_S, ARGUMENTS_ALONE, NONE, NONE, NONE], // r TypeWithS
+    [ENCODING, Sym::Byte(b'E'), TYPE_ENTITY, MAYBE_DISCRIMINATOR, NONE], // s LocalType
+    [NONE, NONE, NONE, NONE, NONE], // t Builtin
+    [NAME, NONE, NONE, NONE, NONE], // u Vendor
+    [ANY_ARRAY, NONE, NONE, NONE, NONE], // v ArrayType
+    [MAYBE_C_LINKAGE, TYPE, FUNCTION_REST, NONE, NONE], // w Function
+    [TYPE, NONE, NONE, NONE, NONE], // x Complex
+    [TYPE_IN_STD, NONE, NONE, NONE, NONE], // y TypeInStd
+    [ABBREVIATION, NONE, NONE, NONE, NONE], // z AbbreviatedType
+    [NONE, NONE, NONE, NONE, NONE], // { RestEnd
+    [AFTER_R, NONE, NONE, NONE, NONE], // | RestLvalue
+    [AFTER_O, NONE, NONE, NONE, NONE], // } RestRvalue
+    [ITEM_BUT_REF, FUNCTION_REST, NONE, NONE, NONE], // ~ RestItem
+    [NONE, NONE, NONE, NONE, NONE], // \x7f RefEnd
+    [TYPE, FUNCTION_REST, NONE, NONE, NONE], // \x80 LvalueItem
+    [TYPE, FUNCTION_REST, NONE, NONE, NONE], // \x81 RvalueItem
+    [EXPRESSION, NONE, NONE, NONE, NONE], // \x82 Constraint
+    [ITEM, ITEMS, NONE, NONE, NONE], // \x83 Items
+    [ARGUMENTS_FIRST, Sym::Byte(b'E'), NONE, NONE, NONE], // \x84 Arguments
+    [NAME, MAYBE_ARGUMENTS, NONE, NONE, NONE], // \x85 Tag
+    [PACK_LIST, Sym::Byte(b'E'), ARGUMENT_LIST, NONE, NONE], // \x86 PackArgument
+    [LITERAL, Sym::Byte(b'E'), ARGUMENT_LIST, NONE, NONE], // \x87 LiteralArgument
+    [ARGUMENT, ARGUMENT_LIST, NONE, NONE, NONE], // \x88 AnyArgument
+    [LITERAL, Sym::Byte(b'E'), PACK_LIST, NONE, NONE], // \x89 LiteralElement
+    [ARGUMENT, PACK_LIST, NONE, NONE, NONE], // \x8a AnyElement
+    [Sym::Byte(b'Z'), ENCODING, NONE, NONE, NONE], // \x8b EncodingLiteral
+    [BIT, NONE, NONE, NONE, NONE], // \x8c BoolLiteral
+    [LITERAL_AFTER_D, NONE, NONE, NONE, NONE], // \x8d LiteralWithD
+    [LITERAL_TYPE, INTEGER, NONE, NONE, NONE], // \x8e IntegerLiteral
+    [MAYBE_ZERO, NONE, NONE, NONE, NONE], // \x8f NullLiteral
+    [INTEGER, NONE, NONE, NONE, NONE], // \x90 CharLiteral
+    [OPERATOR_AFTER_N, NONE, NONE, NONE, NONE], // \x91 OperatorN
+    [OPERATOR_AFTER_D, NONE, NONE, NONE, NONE], // \x92 OperatorD
+    [OPERATOR_AFTER_A, NONE, NONE, NONE, NONE], // \x93 OperatorA
+    [OPERATOR_AFTER_P, NONE, NONE, NONE, NONE], // \x94 OperatorP
+    [OPERATOR_AFTER_C, NONE, NONE, NONE, NONE], // \x95 OperatorC
+    [OPERATOR_AFTER_M, NONE, NONE, NONE, NONE], // \x96 OperatorM
+    [OPERATOR_AFTER_R, NONE, NONE, NONE, NONE], // \x97 OperatorR
+    [OPERATOR_AFTER_O, NONE, NONE, NONE, NONE], // \x98 OperatorO
+    [OPERATOR_AFTER_E, NONE, NONE, NONE, NONE], // \x99 OperatorE
+    [OPERATOR_AFTER_L, NONE, NONE, NONE, NONE], // \x9a OperatorL
+    [OPERATOR_AFTER_S, NONE, NONE, NONE, NONE], // \x9b OperatorS
+    [OPERATOR_AFTER_I, NONE, NONE, NONE, NONE], // \x9c OperatorI
+    [OPERATOR_AFTER_G, NONE, NONE, NONE, NONE], // \x9d OperatorG
+    [NAME, NONE, NONE, NONE, NONE], // \x9e LiteralOperator
+    [ARGUMENTS_FIRST, Sym::Byte(b'E'), NEST_MORE_OR_END, NONE, NONE], // \x9f NestInstance
+    [TYPE, NONE, NONE, NONE, NONE], // \xa0 Conversion
+    [OPERATOR_AFTER_C, MAYBE_ARGUMENTS, NONE, NONE, NONE], // \xa1 OperatorNameWithC
+    [ARGUMENTS_FIRST, Sym::Byte(b'E'), NONE, NONE, NONE], // \xa2 OwnArguments
+    [NEST, OWN_ARGUMENTS, NONE, NONE, NONE], // \xa3 NestedBase
+    [BASE_AFTER_S, NONE, NONE, NONE, NONE], // \xa4 BaseWithS
+    [TAGGED_SOURCE, BASE_ARGUMENTS, NONE, NONE, NONE], // \xa5 SourceBase
+    [TYPE_IN_STD, BASE_ARGUMENTS, NONE, NONE, NONE], // \xa6 BaseInStd
+    [ARGUMENTS_FIRST, Sym::Byte(b'E'), OWN_ARGUMENTS, NONE, NONE], // \xa7 BaseArguments
+    [CLONE_LETTER, ENCODING, NONE, NONE, NONE], // \xa8 Clone
+    [SOURCE_OR_LOCAL, MAYBE_TAGS, NONE, NONE, NONE], // \xa9 TaggedStdType
+    [NAME, MAYBE_TAGS, NONE, NONE, NONE], // \xaa TypeTag
+    [EXPRESSION, Sym::Byte(b'E'), NONE, NONE, NONE], // \xab Expression
+    [ARGUMENT_AFTER_T, NONE, NONE, NONE, NONE], // \xac ArgumentWithT
+    [SOLID_BUT_T, NONE, NONE, NONE, NONE], // \xad PlainArgument
+    [DECIMAL, ARGUMENTS_ALONE, NONE, NONE, NONE], // \xae ParameterArgument
+    [DECLARATION_AFTER_T, ONE_ARGUMENT, NONE, NONE, NONE], // \xaf DeclaredArgument
+    [DECIMAL, LEVELED_PARAMETER, NONE, NONE, NONE], // \xb0 LeveledParameter
+    [LITERAL, Sym::Byte(b'E'), NONE, NONE, NONE], // \xb1 OneLiteral
+    [PACK_LIST, Sym::Byte(b'E'), NONE, NONE, NONE], // \xb2 OnePack
+    [NONE, NONE, NONE, NONE, NONE], // \xb3 AnyType
+    [TYPE, NONE, NONE, NONE, NONE], // \xb4 ValueOf
+    [CONCEPT, NONE, NONE, NONE, NONE], // \xb5 OfConcept
+    [DECLARATIONS, Sym::Byte(b'E'), NONE, NONE, NONE], // \xb6 TemplateOf
+    [Sym::Byte(b'T'), DECLARATION_AFTER_T, NONE, NONE, NONE], // \xb7 PackOf
+    [DECLARATION_AFTER_T, DECLARATIONS, NONE, NONE, NONE], // \xb8 Declarations
+    [TYPE, EXPRESSION, NONE, NONE, NONE], // \xb9 Cast
+    [OPERATOR, ARGUMENTS_ALONE, NONE, NONE, NONE], // \xba OperatorReference
+    [NAME, ARGUMENTS_ALONE, NONE, NONE, NONE], // \xbb SimpleId
+    [MAYBE_RESTRICT, MAYBE_VOLATILE, MAYBE_CONST, PARAMETER_NUMBER, NONE], // \xbc FunctionParameter
+    [ADDRESSED_EXPRESSION, NONE, NONE, NONE, NONE], // \xbd AddressExpression
+    [EXPRESSION, EXPRESSION, NONE, NONE, NONE], // \xbe Binary
+    [EXPRESSION, NONE, NONE, NONE, NONE], // \xbf Unary
+    [CONVERTED_TYPE, NONE, NONE, NONE, NONE], // \xc0 OfType
+    [EXPRESSION, EXPRESSIONS, Sym::Byte(b'E'), NONE, NONE], // \xc1 Call
+    [CONVERTED_TYPE, CONVERT_REST, NONE, NONE, NONE], // \xc2 Convert
+    [DESTRUCTOR_NAME, NONE, NONE, NONE, NONE], // \xc3 DestructorName
+    [DIGITS, OUTER_REST, NONE, NONE, NONE], // \xc4 OuterParameter
+    [FOLD_OPERATOR, FOLD_OPERAND, NONE, NONE, NONE], // \xc5 LeftFold
+    [FOLD_OPERATOR, FOLD_OPERAND, NONE, NONE, NONE], // \xc6 RightFold
+    [EXPRESSIONS, Sym::Byte(b'E'), NONE, NONE, NONE], // \xc7 Braces
+    [MAYBE_BEFORE, EXPRESSION, NONE, NONE, NONE], // \xc8 Step
+    [PLACEMENT, TYPE, INITIALIZER, NONE, NONE], // \xc9 New
+    [EXPRESSION, EXPRESSION, EXPRESSION, NONE, NONE], // \xca Conditional
+    [REQUIREMENTS, Sym::Byte(b'E'), NONE, NONE, NONE], // \xcb Requires
+    [REQUIRED_TYPES, NONE, NONE, NONE, NONE], // \xcc RequiresOf
+    [EXPRESSION, NONE, NONE, NONE, NONE], // \xcd ExpandExpression
+    [EXPRESSION, NONE, NONE, NONE, NONE], // \xce PackSize
+    [UNRESOLVED, NONE, NONE, NONE, NONE], // \xcf Unresolved
+    [TYPE, EXPRESSIONS, Sym::Byte(b'E'), NONE, NONE], // \xd0 TypedBraces
+    [EXPRESSION_AFTER_A, NONE, NONE, NONE, NONE], // \xd1 ExpressionA
+    [EXPRESSION_AFTER_C, NONE, NONE, NONE, NONE], // \xd2 ExpressionC
+    [EXPRESSION_AFTER_D, NONE, NONE, NONE, NONE], // \xd3 ExpressionD
+    [EXPRESSION_AFTER_E, NONE, NONE, NONE, NONE], // \xd4 ExpressionE
+    [EXPRESSION_AFTER_F, NONE, NONE, NONE, NONE], // \xd5 ExpressionF
+    [EXPRESSION_AFTER_G, NONE, NONE, NONE, NONE], // \xd6 ExpressionG
+    [EXPRESSION_AFTER_I, NONE, NONE, NONE, NONE], // \xd7 ExpressionI
+    [EXPRESSION_AFTER_L, NONE, NONE, NONE, NONE], // \xd8 ExpressionL
+    [EXPRESSION_AFTER_M, NONE, NONE, NONE, NONE], // \xd9 ExpressionM
+    [EXPRESSION_AFTER_N, NONE, NONE, NONE, NONE], // \xda ExpressionN
+    [EXPRESSION_AFTER_O, NONE, NONE, NONE, NONE], // \xdb ExpressionO
+    [EXPRESSION_AFTER_P, NONE, NONE, NONE, NONE], // \xdc ExpressionP
+    [EXPRESSION_AFTER_Q, NONE, NONE, NONE, NONE], // \xdd ExpressionQ
+    [EXPRESSION_AFTER_R, NONE, NONE, NONE, NONE], // \xde ExpressionR
+    [EXPRESSION_AFTER_S, NONE, NONE, NONE, NONE], // \xdf ExpressionS
+    [EXPRESSION_AFTER_T, NONE, NONE, NONE, NONE], // \xe0 ExpressionT
+    [DECIMAL, ARGUMENTS_ALONE, NONE, NONE, NONE], // \xe1 ParameterExpression
+    [ADDRESSED_LITERAL, Sym::Byte(b'E'), NONE, NONE, NONE], // \xe2 AddressedLiteral
+    [EXPRESSION, EXPRESSIONS, NONE, NONE, NONE], // \xe3 Expressions
+    [FOLD_OPERATOR_AFTER_L, NONE, NONE, NONE, NONE], // \xe4 FoldOperatorL
+    [FOLD_PACK, NONE, NONE, NONE, NONE], // \xe5 FoldOperand
+    [EXPRESSION, NONE, NONE, NONE, NONE], // \xe6 FoldPack
+    [SOME_EXPRESSIONS, Sym::Byte(b'_'), NONE, NONE, NONE], // \xe7 Placed
+    [INITIALIZER_AFTER_P, NONE, NONE, NONE, NONE], // \xe8 Initializer
+    [INITIALIZER_AFTER_I, NONE, NONE, NONE, NONE], // \xe9 BracedInitializer
+    [NONE, NONE, NONE, NONE, NONE], // \xea This
+    [DECIMAL, NONE, NONE, NONE, NONE], // \xeb ParameterNumber
+    [DECLTYPE_AFTER_D, NONE, NONE, NONE, NONE], // \xec ConvertedDecltype
+    [CONVERTED_TYPE, NONE, NONE, NONE, NONE], // \xed ConvertedConst
+    [CONVERTED_TYPE, NONE, NONE, NONE, NONE], // \xee ConvertedPointer
+    [CONVERTED_TYPE, NONE, NONE, NONE, NONE], // \xef ConvertedReference
+    [CONVERTED_SOLID, NONE, NONE, NONE, NONE], // \xf0 ConvertedType
+    [UNRESOLVED_TYPE, UNRESOLVED_NAME, NONE, NONE, NONE], // \xf1 UnresolvedInType
+    [LEVEL, MORE_LEVELS, NONE, NONE, NONE], // \xf2 Levels
+    [UNRESOLVED_TYPE, NONE, NONE, NONE, NONE], // \xf3 DestroyedType
+    [EXPRESSION, AFTER_EXPRESSION, NONE, NONE, NONE], // \xf4 ExpressionRequirement
+    [TYPE, REQUIREMENTS, NONE, NONE, NONE], // \xf5 TypeRequirement
+    [EXPRESSION, REQUIREMENTS, NONE, NONE, NONE], // \xf6 NestedRequirement
+    [CONCEPT, REQUIREMENTS, NONE, NONE, NONE], // \xf7 ResultRequirement
+    [AFTER_NOEXCEPT, NONE, NONE, NONE, NONE], // \xf8 NoexceptRequirement
+    [CONVERTED_TYPE, REQUIRED_TYPES, NONE, NONE, NONE], // \xf9 RequiredType
+    [UNRESOLVED_NAME, NONE, NONE, NONE, NONE], // \xfa LevelsEnd
+    [OPERATOR_NAME, NONE, NONE, NONE, NONE], // \xfb UnresolvedOperator
+    [ARRAY_REST, NONE, NONE, NONE, NONE], // \xfc AnyArray
+    [BOUND, Sym::Byte(b'_'), TYPE, NONE, NONE], // \xfd BoundedArray
+    [DECIMAL, TYPE, NONE, NONE, NONE], // \xfe LengthArray
+    [NAME, MAYBE_TAGS, NONE, NONE, NONE], // \xff TaggedSource
 };
 
 // How many symbols come after each of them, up to an end.
-static AFTER: [u8; 1338] = [
+static AFTER: [u8; 1344] = [
     0, 0, 0, 0, 0, 0, 0, 0, 0, 0, 0, 2, 1, 0, 0, 0, 0, 2, 1, 0, 0, 0, 0, 2, 1, 0, 0, 0, 0, 2, 1, 0,
     0, 0, 0, 1, 0, 0, 0, 0, 0, 1, 0, 0, 0, 0, 0, 1, 0, 0, 0, 0, 0, 5, 4, 3, 2, 1, 0, 3, 2, 1, 0, 0,
     0, 1, 0, 0, 0, 0, 0, 1, 0, 0, 0, 0, 0, 1, 0, 0, 0, 0, 0, 2, 1, 0, 0, 0, 0, 2, 1, 0, 0, 0, 0, 1,
@@ -961,41 +963,41 @@ static AFTER: [u8; 1338] = [
     0, 4, 3, 2, 1, 0, 0, 1, 0, 0, 0, 0, 0, 3, 2, 1, 0, 0, 0, 2, 1, 0, 0, 0, 0, 1, 0, 0, 0, 0, 0, 1,
     0, 0, 0, 0, 0, 1, 0, 0, 0, 0, 0, 1, 0, 0, 0, 0, 0, 1, 0, 0, 0, 0, 0, 1, 0, 0, 0, 0, 0, 1, 0, 0,
     0, 0, 0, 1, 0, 0, 0, 0, 0, 1, 0, 0, 0, 0, 0, 0, 0, 0, 0, 0, 0, 3, 2, 1, 0, 0, 0, 4, 3, 2, 1, 0,
-    0, 2, 1, 0, 0, 0, 0, 1, 0, 0, 0, 0, 0, 2, 1, 0, 0, 0, 0, 1, 0, 0, 0, 0, 0, 2, 1, 0, 0, 0, 0, 2,
-    1, 0, 0, 0, 0, 2, 1, 0, 0, 0, 0, 4, 3, 2, 1, 0, 0, 0, 0, 0, 0, 0, 0, 1, 0, 0, 0, 0, 0, 1, 0, 0,
-    0, 0, 0, 3, 2, 1, 0, 0, 0, 1, 0, 0, 0, 0, 0, 1, 0, 0, 0, 0, 0, 1, 0, 0, 0, 0, 0, 0, 0, 0, 0, 0,
-    0, 1, 0, 0, 0, 0, 0, 1, 0, 0, 0, 0, 0, 2, 1, 0, 0, 0, 0, 0, 0, 0, 0, 0, 0, 2, 1, 0, 0, 0, 0, 2,
-    1, 0, 0, 0, 0, 1, 0, 0, 0, 0, 0, 2, 1, 0, 0, 0, 0, 2, 1, 0, 0, 0, 0, 2, 1, 0, 0, 0, 0, 3, 2, 1,
-    0, 0, 0, 3, 2, 1, 0, 0, 0, 2, 1, 0, 0, 0, 0, 3, 2, 1, 0, 0, 0, 2, 1, 0, 0, 0, 0, 2, 1, 0, 0, 0,
-    0, 1, 0, 0, 0, 0, 0, 1, 0, 0, 0, 0, 0, 2, 1, 0, 0, 0, 0, 1, 0, 0, 0, 0, 0, 1, 0, 0, 0, 0, 0, 1,
-    0, 0, 0, 0, 0, 1, 0, 0, 0, 0, 0, 1, 0, 0, 0, 0, 0, 1, 0, 0, 0, 0, 0, 1, 0, 0, 0, 0, 0, 1, 0, 0,
-    0, 0, 0, 1, 0, 0, 0, 0, 0, 1, 0, 0, 0, 0, 0, 1, 0, 0, 0, 0, 0, 1, 0, 0, 0, 0, 0, 1, 0, 0, 0, 0,
-    0, 1, 0, 0, 0, 0, 0, 1, 0, 0, 0, 0, 0, 1, 0, 0, 0, 0, 0, 3, 2, 1, 0, 0, 0, 1, 0, 0, 0, 0, 0, 2,
-    1, 0, 0, 0, 0, 2, 1, 0, 0, 0, 0, 2, 1, 0, 0, 0, 0, 1, 0, 0, 0, 0, 0, 2, 1, 0, 0, 0, 0, 2, 1, 0,
-    0, 0, 0, 3, 2, 1, 0, 0, 0, 2, 1, 0, 0, 0, 0, 2, 1, 0, 0, 0, 0, 2, 1, 0, 0, 0, 0, 2, 1, 0, 0, 0,
-    0, 1, 0, 0, 0, 0, 0, 1, 0, 0, 0, 0, 0, 2, 1, 0, 0, 0, 0, 2, 1, 0, 0, 0, 0, 2, 1, 0, 0, 0, 0, 2,
-    1, 0, 0, 0, 0, 2, 1, 0, 0, 0, 0, 0, 0, 0, 0, 0, 0, 1, 0, 0, 0, 0, 0, 1, 0, 0, 0, 0, 0, 2, 1, 0,
-    0, 0, 0, 2, 1, 0, 0, 0, 0, 2, 1, 0, 0, 0, 0, 2, 1, 0, 0, 0, 0, 2, 1, 0, 0, 0, 0, 2, 1, 0, 0, 0,
-    0, 4, 3, 2, 1, 0, 0, 1, 0, 0, 0, 0, 0, 2, 1, 0, 0, 0, 0, 1, 0, 0, 0, 0, 0, 1, 0, 0, 0, 0, 0, 3,
-    2, 1, 0, 0, 0, 2, 1, 0, 0, 0, 0, 1, 0, 0, 0, 0, 0, 2, 1, 0, 0, 0, 0, 2, 1, 0, 0, 0, 0, 2, 1, 0,
-    0, 0, 0, 2, 1, 0, 0, 0, 0, 2, 1, 0, 0, 0, 0, 3, 2, 1, 0, 0, 0, 3, 2, 1, 0, 0, 0, 2, 1, 0, 0, 0,
-    0, 1, 0, 0, 0, 0, 0, 1, 0, 0, 0, 0, 0, 1, 0, 0, 0, 0, 0, 1, 0, 0, 0, 0, 0, 3, 2, 1, 0, 0, 0, 1,
-    0, 0, 0, 0, 0, 1, 0, 0, 0, 0, 0, 1, 0, 0, 0, 0, 0, 1, 0, 0, 0, 0, 0, 1, 0, 0, 0, 0, 0, 1, 0, 0,
-    0, 0, 0, 1, 0, 0, 0, 0, 0, 1, 0, 0, 0, 0, 0, 1, 0, 0, 0, 0, 0, 1, 0, 0, 0, 0, 0, 1, 0, 0, 0, 0,
-    0, 1, 0, 0, 0, 0, 0, 1, 0, 0, 0, 0, 0, 1, 0, 0, 0, 0, 0, 1, 0, 0, 0, 0, 0, 1, 0, 0, 0, 0, 0, 2,
-    1, 0, 0, 0, 0, 2, 1, 0, 0, 0, 0, 2, 1, 0, 0, 0, 0, 1, 0, 0, 0, 0, 0, 1, 0, 0, 0, 0, 0, 1, 0, 0,
-    0, 0, 0, 2, 1, 0, 0, 0, 0, 1, 0, 0, 0, 0, 0, 1, 0, 0, 0, 0, 0, 0, 0, 0, 0, 0, 0, 1, 0, 0, 0, 0,
-    0, 1, 0, 0, 0, 0, 0, 1, 0, 0, 0, 0, 0, 1, 0, 0, 0, 0, 0, 1, 0, 0, 0, 0, 0, 1, 0, 0, 0, 0, 0, 2,
+    0, 2, 1, 0, 0, 0, 0, 1, 0, 0, 0, 0, 0, 2, 1, 0, 0, 0, 0, 2, 1, 0, 0, 0, 0, 1, 0, 0, 0, 0, 0, 2,
+    1, 0, 0, 0, 0, 2, 1, 0, 0, 0, 0, 2, 1, 0, 0, 0, 0, 4, 3, 2, 1, 0, 0, 0, 0, 0, 0, 0, 0, 1, 0, 0,
+    0, 0, 0, 1, 0, 0, 0, 0, 0, 3, 2, 1, 0, 0, 0, 1, 0, 0, 0, 0, 0, 1, 0, 0, 0, 0, 0, 1, 0, 0, 0, 0,
+    0, 0, 0, 0, 0, 0, 0, 1, 0, 0, 0, 0, 0, 1, 0, 0, 0, 0, 0, 2, 1, 0, 0, 0, 0, 0, 0, 0, 0, 0, 0, 2,
     1, 0, 0, 0, 0, 2, 1, 0, 0, 0, 0, 1, 0, 0, 0, 0, 0, 2, 1, 0, 0, 0, 0, 2, 1, 0, 0, 0, 0, 2, 1, 0,
-    0, 0, 0, 2, 1, 0, 0, 0, 0, 1, 0, 0, 0, 0, 0, 2, 1, 0, 0, 0, 0, 1, 0, 0, 0, 0, 0, 1, 0, 0, 0, 0,
-    0, 1, 0, 0, 0, 0, 0, 3, 2, 1, 0, 0, 0, 2, 1, 0, 0, 0, 0, 2, 1, 0, 0, 0, 0, 0,
+    0, 0, 0, 3, 2, 1, 0, 0, 0, 3, 2, 1, 0, 0, 0, 2, 1, 0, 0, 0, 0, 3, 2, 1, 0, 0, 0, 2, 1, 0, 0, 0,
+    0, 2, 1, 0, 0, 0, 0, 1, 0, 0, 0, 0, 0, 1, 0, 0, 0, 0, 0, 2, 1, 0, 0, 0, 0, 1, 0, 0, 0, 0, 0, 1,
+    0, 0, 0, 0, 0, 1, 0, 0, 0, 0, 0, 1, 0, 0, 0, 0, 0, 1, 0, 0, 0, 0, 0, 1, 0, 0, 0, 0, 0, 1, 0, 0,
+    0, 0, 0, 1, 0, 0, 0, 0, 0, 1, 0, 0, 0, 0, 0, 1, 0, 0, 0, 0, 0, 1, 0, 0, 0, 0, 0, 1, 0, 0, 0, 0,
+    0, 1, 0, 0, 0, 0, 0, 1, 0, 0, 0, 0, 0, 1, 0, 0, 0, 0, 0, 1, 0, 0, 0, 0, 0, 3, 2, 1, 0, 0, 0, 1,
+    0, 0, 0, 0, 0, 2, 1, 0, 0, 0, 0, 2, 1, 0, 0, 0, 0, 2, 1, 0, 0, 0, 0, 1, 0, 0, 0, 0, 0, 2, 1, 0,
+    0, 0, 0, 2, 1, 0, 0, 0, 0, 3, 2, 1, 0, 0, 0, 2, 1, 0, 0, 0, 0, 2, 1, 0, 0, 0, 0, 2, 1, 0, 0, 0,
+    0, 2, 1, 0, 0, 0, 0, 1, 0, 0, 0, 0, 0, 1, 0, 0, 0, 0, 0, 2, 1, 0, 0, 0, 0, 2, 1, 0, 0, 0, 0, 2,
+    1, 0, 0, 0, 0, 2, 1, 0, 0, 0, 0, 2, 1, 0, 0, 0, 0, 0, 0, 0, 0, 0, 0, 1, 0, 0, 0, 0, 0, 1, 0, 0,
+    0, 0, 0, 2, 1, 0, 0, 0, 0, 2, 1, 0, 0, 0, 0, 2, 1, 0, 0, 0, 0, 2, 1, 0, 0, 0, 0, 2, 1, 0, 0, 0,
+    0, 2, 1, 0, 0, 0, 0, 4, 3, 2, 1, 0, 0, 1, 0, 0, 0, 0, 0, 2, 1, 0, 0, 0, 0, 1, 0, 0, 0, 0, 0, 1,
+    0, 0, 0, 0, 0, 3, 2, 1, 0, 0, 0, 2, 1, 0, 0, 0, 0, 1, 0, 0, 0, 0, 0, 2, 1, 0, 0, 0, 0, 2, 1, 0,
+    0, 0, 0, 2, 1, 0, 0, 0, 0, 2, 1, 0, 0, 0, 0, 2, 1, 0, 0, 0, 0, 3, 2, 1, 0, 0, 0, 3, 2, 1, 0, 0,
+    0, 2, 1, 0, 0, 0, 0, 1, 0, 0, 0, 0, 0, 1, 0, 0, 0, 0, 0, 1, 0, 0, 0, 0, 0, 1, 0, 0, 0, 0, 0, 3,
+    2, 1, 0, 0, 0, 1, 0, 0, 0, 0, 0, 1, 0, 0, 0, 0, 0, 1, 0, 0, 0, 0, 0, 1, 0, 0, 0, 0, 0, 1, 0, 0,
+    0, 0, 0, 1, 0, 0, 0, 0, 0, 1, 0, 0, 0, 0, 0, 1, 0, 0, 0, 0, 0, 1, 0, 0, 0, 0, 0, 1, 0, 0, 0, 0,
+    0, 1, 0, 0, 0, 0, 0, 1, 0, 0, 0, 0, 0, 1, 0, 0, 0, 0, 0, 1, 0, 0, 0, 0, 0, 1, 0, 0, 0, 0, 0, 1,
+    0, 0, 0, 0, 0, 2, 1, 0, 0, 0, 0, 2, 1, 0, 0, 0, 0, 2, 1, 0, 0, 0, 0, 1, 0, 0, 0, 0, 0, 1, 0, 0,
+    0, 0, 0, 1, 0, 0, 0, 0, 0, 2, 1, 0, 0, 0, 0, 1, 0, 0, 0, 0, 0, 1, 0, 0, 0, 0, 0, 0, 0, 0, 0, 0,
+    0, 1, 0, 0, 0, 0, 0, 1, 0, 0, 0, 0, 0, 1, 0, 0, 0, 0, 0, 1, 0, 0, 0, 0, 0, 1, 0, 0, 0, 0, 0, 1,
+    0, 0, 0, 0, 0, 2, 1, 0, 0, 0, 0, 2, 1, 0, 0, 0, 0, 1, 0, 0, 0, 0, 0, 2, 1, 0, 0, 0, 0, 2, 1, 0,
+    0, 0, 0, 2, 1, 0, 0, 0, 0, 2, 1, 0, 0, 0, 0, 1, 0, 0, 0, 0, 0, 2, 1, 0, 0, 0, 0, 1, 0, 0, 0, 0,
+    0, 1, 0, 0, 0, 0, 0, 1, 0, 0, 0, 0, 0, 3, 2, 1, 0, 0, 0, 2, 1, 0, 0, 0, 0, 2, 1, 0, 0, 0, 0, 0,
 ];
 
 /// The number of the rule that a kind takes at a byte, if it takes one.
 #[inline]
 fn number(kind: u16, byte: u8) -> Option<usize>
     requires { kind < abi.kinds }
-    ensures few { IfSome result (λ number. number < 222) }
+    ensures few { IfSome result (λ number. number < 223) }
     ensures rule { (head : Head) → MatchOption result (abi.rule kind byte ≡ None) (λ number. abi.rule kind byte ≡ Some (listed_rule head number)) }
 {
     match letter_in(&LETTERS[kind as usize], byte) {

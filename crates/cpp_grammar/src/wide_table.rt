@@ -44,26 +44,26 @@ static WIDE_LETTERS: [[u8; 87]; 147] = [
     *b"            dddddddddd       d dc d      dd`d `ddd    d      dddddddddd dddd   dddddddd", // Plain
     *b"            aaaaaaaaaa       a ae a    _ aa`a `aaa^   a      aaaaaaaaaa aaaa  ]aaaaaaaa", // Item
     *b"            aaaaaaaaaa       a ae a    _ aa a  aaa^   a      aaaaaaaaaa aaaa  ]aaaaaaaa", // ItemButRef
-    *b"                                  g    g        g            g gggg gg g  ggf  gggg    ", // ItemAfterD
-    *b"                                  k    l        m            h hhhh hh l  hj   hmhi    ", // AfterD
-    *b"            $$$$$$$$$$       u w  v      oT n  qp#    r      ssssssssss ssss   sstsssss", // Solid
+    *b"                                  g    g        g            g gggg gg g  ggfg gggg    ", // ItemAfterD
+    *b"                                  k    l        n            h hhhh hh l  hj m hnhi    ", // AfterD
+    *b"            $$$$$$$$$$       v x  w      pT o  rq#    s      tttttttttt tttt   ttuttttt", // Solid
     *b"                                                     !                                 ", // MaybeCLinkage
-    *b"            yyyyyyyyyy       yyyyyyyyyyyyyyyyyyyyyyyyyy    y yy y    y     y   yx      ", // TypeAfterS
+    *b"            zzzzzzzzzz       zzzzzzzzzzzzzzzzzzzzzzzzzz    z zz z    z     z   zy      ", // TypeAfterS
     *b"            ((((((((((                  &        '                                     ", // SourceOrLocal
-    *b"            }}}}}}}}}}       } }}z}    } }}|} {}}}}   }      }}}}}}}}}} }}}}  }}}}}}}}}", // FunctionRest
-    *b"            \x7f\x7f\x7f\x7f\x7f\x7f\x7f\x7f\x7f\x7f       \x7f \x7f\x7f~\x7f    \x7f \x7f\x7f\x7f\x7f \x7f\x7f\x7f\x7f\x7f   \x7f      \x7f\x7f\x7f\x7f\x7f\x7f\x7f\x7f\x7f\x7f \x7f\x7f\x7f\x7f  \x7f\x7f\x7f\x7f\x7f\x7f\x7f\x7f\x7f", // AfterR
-    *b"            \x80\x80\x80\x80\x80\x80\x80\x80\x80\x80       \x80 \x80\x80~\x80    \x80 \x80\x80\x80\x80 \x80\x80\x80\x80\x80   \x80      \x80\x80\x80\x80\x80\x80\x80\x80\x80\x80 \x80\x80\x80\x80  \x80\x80\x80\x80\x80\x80\x80\x80\x80", // AfterO
-    *b"            \x82\x82\x82\x82\x82\x82\x82\x82\x82\x82       \x82 \x82\x82 \x82    \x82 \x82\x82\x82\x82\x81\x82\x82\x82\x82\x82   \x82      \x82\x82\x82\x82\x82\x82\x82\x82\x82\x82 \x82\x82\x82\x82  \x82\x82\x82\x82\x82\x82\x82\x82\x82", // Items
-    *b"                              \x84      \x83                                                 ", // MaybeArguments
-    *b"                                     \x83                                                 ", // Arguments
-    *b"            \x87\x87\x87\x87\x87\x87\x87\x87\x87\x87       \x87 \x87\x87 \x87   \x85\x87\x86\x87\x87\x87\x87\x81\x87\x87\x87\x87\x87 \x87 \x87      \x87\x87\x87\x87\x87\x87\x87\x87\x87\x87 \x87\x87\x87\x87  \x87\x87\x87\x87\x87\x87\x87\x87\x87", // ArgumentList
-    *b"            \x89\x89\x89\x89\x89\x89\x89\x89\x89\x89       \x89 \x89\x89 \x89    \x89\x88\x89\x89\x89\x89 \x89\x89\x89\x89\x89 \x89 \x89      \x89\x89\x89\x89\x89\x89\x89\x89\x89\x89 \x89\x89\x89\x89  \x89\x89\x89\x89\x89\x89\x89\x89\x89", // PackList
-    *b"            \x8d\x8d\x8d\x8d\x8d\x8d\x8d\x8d\x8d\x8d          \x8c        \x8d\x8d \x8d  \x8d\x8d\x8d    \x8d    \x8a \x8d\x8b\x8d    \x8d\x8d\x8d \x8d\x8d\x8d\x8d   \x8d\x8d  \x8d\x8d\x8d ", // Literal
+    *b"            ~~~~~~~~~~       ~ ~~{~    ~ ~~}~ |~~~~   ~      ~~~~~~~~~~ ~~~~  ~~~~~~~~~", // FunctionRest
+    *b"            \x80\x80\x80\x80\x80\x80\x80\x80\x80\x80       \x80 \x80\x80\x7f\x80    \x80 \x80\x80\x80\x80 \x80\x80\x80\x80\x80   \x80      \x80\x80\x80\x80\x80\x80\x80\x80\x80\x80 \x80\x80\x80\x80  \x80\x80\x80\x80\x80\x80\x80\x80\x80", // AfterR
+    *b"            \x81\x81\x81\x81\x81\x81\x81\x81\x81\x81       \x81 \x81\x81\x7f\x81    \x81 \x81\x81\x81\x81 \x81\x81\x81\x81\x81   \x81      \x81\x81\x81\x81\x81\x81\x81\x81\x81\x81 \x81\x81\x81\x81  \x81\x81\x81\x81\x81\x81\x81\x81\x81", // AfterO
+    *b"            \x83\x83\x83\x83\x83\x83\x83\x83\x83\x83       \x83 \x83\x83 \x83    \x83 \x83\x83\x83\x83\x82\x83\x83\x83\x83\x83   \x83      \x83\x83\x83\x83\x83\x83\x83\x83\x83\x83 \x83\x83\x83\x83  \x83\x83\x83\x83\x83\x83\x83\x83\x83", // Items
+    *b"                              \x85      \x84                                                 ", // MaybeArguments
+    *b"                                     \x84                                                 ", // Arguments
+    *b"            \x88\x88\x88\x88\x88\x88\x88\x88\x88\x88       \x88 \x88\x88 \x88   \x86\x88\x87\x88\x88\x88\x88\x82\x88\x88\x88\x88\x88 \x88 \x88      \x88\x88\x88\x88\x88\x88\x88\x88\x88\x88 \x88\x88\x88\x88  \x88\x88\x88\x88\x88\x88\x88\x88\x88", // ArgumentList
+    *b"            \x8a\x8a\x8a\x8a\x8a\x8a\x8a\x8a\x8a\x8a       \x8a \x8a\x8a \x8a    \x8a\x89\x8a\x8a\x8a\x8a \x8a\x8a\x8a\x8a\x8a \x8a \x8a      \x8a\x8a\x8a\x8a\x8a\x8a\x8a\x8a\x8a\x8a \x8a\x8a\x8a\x8a  \x8a\x8a\x8a\x8a\x8a\x8a\x8a\x8a\x8a", // PackList
+    *b"            \x8e\x8e\x8e\x8e\x8e\x8e\x8e\x8e\x8e\x8e          \x8d        \x8e\x8e \x8e  \x8e\x8e\x8e    \x8e    \x8b \x8e\x8c\x8e    \x8e\x8e\x8e \x8e\x8e\x8e\x8e   \x8e\x8e  \x8e\x8e\x8e ", // Literal
     *b"            !!                                                                         ", // Bit
-    *b"                                                                     \x8f    \x8e    \x8f \x8f     ", // LiteralAfterD
+    *b"                                                                     \x90    \x8f    \x90 \x90     ", // LiteralAfterD
     *b"            !                                                                          ", // MaybeZero
-    *b"            $$$$$$$$$$                   oT n  qp#    r      s s    sss ssss   ss  sss ", // LiteralType
-    *b"                                                             \x92 \x94\x91\x98 \x9c \x9b  \x99\x95\x90\x97\x93 \x96\x9a       ", // Operator
+    *b"            $$$$$$$$$$                   pT o  rq#    s      t t    ttt tttt   tt  ttt ", // LiteralType
+    *b"                                                             \x93 \x95\x92\x99 \x9d \x9c  \x9a\x96\x91\x98\x94 \x97\x9b       ", // Operator
     *b"                                                             !   ! !            !  !   ", // OperatorAfterN
     *b"                                                  !          !   !      !         !    ", // OperatorAfterD
     *b"                                          !    !             !  !         !        !   ", // OperatorAfterA
@@ -73,97 +73,97 @@ static WIDE_LETTERS: [[u8; 87]; 147] = [
     *b"                                         !     !                         !     !       ", // OperatorAfterR
     *b"                                              !                            !  !        ", // OperatorAfterO
     *b"                                           !                               ! !         ", // OperatorAfterE
-    *b"                                               !                 !   \x9d         !!      ", // OperatorAfterL
+    *b"                                               !                 !   \x9e         !!      ", // OperatorAfterL
     *b"                                                                               !       ", // OperatorAfterS
     *b"                                                                                    !  ", // OperatorAfterI
     *b"                                                                 !              !      ", // OperatorAfterG
-    *b"            GGGGGGGGGG         GG G  \x9e  GG       G           G GGG G G  GGGGG GG       ", // NestRestOrEnd
-    *b"                                     \x83                                                 ", // ArgumentsAlone
+    *b"            GGGGGGGGGG         GG G  \x9f  GG       G           G GGG G G  GGGGG GG       ", // NestRestOrEnd
+    *b"                                     \x84                                                 ", // ArgumentsAlone
     *b"            GGGGGGGGGG         GG G  F  GG       G           G GGG G G  GGGGG GG       ", // NestRestAlone
     *b"                                         !                                             ", // HolderMark
     *b"            $$$$$$$$$$         JK       \"        #           M LMM M M  MMMMM MM       ", // HeldComponent
     *b"                                                           !  !                     !  ", // FloatEnd
-    *b"                                                                        \xa0\xa0 \xa0      \x9f    ", // ComponentAfterC
-    *b"                                                             \x92  \x91\x98 \x9c \x9b  \x99\x95\x90\x97\x93 \x96\x9a       ", // OtherOperator
-    *b"            \xa4\xa4\xa4\xa4\xa4\xa4\xa4\xa4\xa4\xa4                    \xa2    \xa3      r                                ", // BaseClass
-    *b"            yyyyyyyyyy       yyyyyyyyyyyyyyyyyyyyyyyyyy    y yy y    y     y   y\xa5      ", // BaseAfterS
-    *b"                                     \xa6                                                 ", // BaseArguments
-    *b"                                     \xa1                                                 ", // OwnArguments
-    *b"            \x87\x87\x87\x87\x87\x87\x87\x87\x87\x87       \x87 \x87\x87 \x87  \x85\x85\x87\x86\x87\x87\x87\x87\x81\x87\x87\x87\x87\x87 \x87 \x87      \x87\x87\x87\x87\x87\x87\x87\x87\x87\x87 \x87\x87\x87\x87  \x87\x87\x87\x87\x87\x87\x87\x87\x87", // ArgumentsFirst
+    *b"                                                                        \xa1\xa1 \xa1      \xa0    ", // ComponentAfterC
+    *b"                                                             \x93  \x92\x99 \x9d \x9c  \x9a\x96\x91\x98\x94 \x97\x9b       ", // OtherOperator
+    *b"            \xa5\xa5\xa5\xa5\xa5\xa5\xa5\xa5\xa5\xa5                    \xa3    \xa4      s                                ", // BaseClass
+    *b"            zzzzzzzzzz       zzzzzzzzzzzzzzzzzzzzzzzzzz    z zz z    z     z   z\xa6      ", // BaseAfterS
+    *b"                                     \xa7                                                 ", // BaseArguments
+    *b"                                     \xa2                                                 ", // OwnArguments
+    *b"            \x88\x88\x88\x88\x88\x88\x88\x88\x88\x88       \x88 \x88\x88 \x88  \x86\x86\x88\x87\x88\x88\x88\x88\x82\x88\x88\x88\x88\x88 \x88 \x88      \x88\x88\x88\x88\x88\x88\x88\x88\x88\x88 \x88\x88\x88\x88  \x88\x88\x88\x88\x88\x88\x88\x88\x88", // ArgumentsFirst
     *b"            $$$$$$$$$$                  \" )      #                                     ", // PlainEntity
     *b"            $$$$$$$$$$                  \" T      #                                     ", // PlainTypeEntity
     *b"                                   !                                                   ", // SpecialMark
-    *b"                                                \xa7 4                                    ", // SpecialAfterG
+    *b"                                                \xa8 4                                    ", // SpecialAfterG
     *b"                                                                          !     !      ", // CloneLetter
-    *b"                                                                                \xa8      ", // TypeInStd
-    *b"                              \xa9                                                        ", // MaybeTags
-    *b"            \xac\xac\xac\xac\xac\xac\xac\xac\xac\xac       \xac \xace \xac    _ \xac\xac`\xac `\xac\xab\xac^ \xaa \xac      \xac\xac\xac\xac\xac\xac\xac\xac\xac\xac \xac\xac\xac\xac  ]\xac\xac\xac\xac\xac\xac\xac\xac", // Argument
-    *b"            \xad\xad\xad\xad\xad\xad\xad\xad\xad\xad                  \xaf                  \xad           \xae  \xae \xae   \xae    \xae ", // ArgumentAfterT
-    *b"            \xad\xad\xad\xad\xad\xad\xad\xad\xad\xad                                     \xad                           ", // LeveledParameter
-    *b"            \xac\xac\xac\xac\xac\xac\xac\xac\xac\xac       \xac \xace \xac   \xb1_\xb0\xac\xac`\xac `\xac\xab\xac^ \xaa \xac      \xac\xac\xac\xac\xac\xac\xac\xac\xac\xac \xac\xac\xac\xac  ]\xac\xac\xac\xac\xac\xac\xac\xac", // OneArgument
-    *b"                                                                       \xb4  \xb3 \xb6   \xb5    \xb2 ", // DeclarationAfterT
-    *b"                                                \xb7                                      ", // Declarations
-    *b"            $$$$$$$$$$                    T    q                                       ", // Concept
-    *b"            $$$$$$$$$$       u w  v      oT n  q #    r      ssssssssss ssss   sstsssss", // SolidButT
-    *b"            \xba\xba\xba\xba\xba\xba\xba\xba\xba\xba                  \xb0       \xe0            \xd0 \xd1\xd2\xd3\xd4\xd5 \xd6  \xd7\xd8\xd9\xda\xdb\xdc\xdd\xde\xdf      ", // Expression
-    *b"            \xba\xba\xba\xba\xba\xba\xba\xba\xba\xba                  \xe1       \xe0            \xd0 \xd1\xd2\xd3\xd4\xd5 \xd6  \xd7\xd8\xd9\xda\xdb\xdc\xdd\xde\xdf      ", // AddressedExpression
-    *b"            \x8d\x8d\x8d\x8d\x8d\x8d\x8d\x8d\x8d\x8d          \x8c        \x8d\x8d \x8d  \x8d\x8d\x8d    \x8d    \x8a \x8d\x8b\x8d    \x8d\x8d\x8d \x8d\x8d\x8d\x8d   \x8d\x8d  \x8d\x8d\x8d ", // AddressedLiteral
-    *b"                                          \xbd    \xbd             \xbd  \xbc         \xbd     \xbf  \xbe  \xbe", // ExpressionAfterA
-    *b"                                                               \xb8        \xc0\xbd \xbe\xc0     \xc1    ", // ExpressionAfterC
-    *b"                                                  \xbd          \xbe \xb8 \xbe      \xbe \xc2    \xbd\xbd \xbd    ", // ExpressionAfterD
-    *b"                                           \xbd                               \xbd \xbd         ", // ExpressionAfterE
-    *b"                                        \xc3                               \xc4   \xbb \xc5        ", // ExpressionAfterF
-    *b"                                                                 \xbd             \xbe\xbd      ", // ExpressionAfterG
-    *b"                                                                        \xc6           \xbd  ", // ExpressionAfterI
-    *b"                                               \xbd                 \xbd             \xbd\xbd      ", // ExpressionAfterL
-    *b"                                     \xbd  \xbd                            \xbd  \xbd\xc7             ", // ExpressionAfterM
-    *b"                                                             \xc8   \xbd \xbe            \xbe  \xc8\xbe  ", // ExpressionAfterN
-    *b"                                              \xbd                           \xb9\xbd  \xbd        ", // ExpressionAfterO
-    *b"                                        \xbd                               \xbd\xbd  \xc7  \xbe\xbd      ", // ExpressionAfterP
-    *b"                                                                                 \xc9     ", // ExpressionAfterQ
-    *b"                                         \xbd   \xcb \xbd               \xb8         \xbd   \xca \xbd       ", // ExpressionAfterR
-    *b"                                                      \xcd        \xb8            \xcc \xce\xbd\xbf     \xbe", // ExpressionAfterS
-    *b"                                                                 \xbe   \xbf  \xcf          \xbe   ", // ExpressionAfterT
-    *b"            \xe2\xe2\xe2\xe2\xe2\xe2\xe2\xe2\xe2\xe2                  \xe2       \xe2            \xe2 \xe2\xe2\xe2\xe2\xe2 \xe2  \xe2\xe2\xe2\xe2\xe2\xe2\xe2\xe2\xe2      ", // Expressions
+    *b"                                                                                \xa9      ", // TypeInStd
+    *b"                              \xaa                                                        ", // MaybeTags
+    *b"            \xad\xad\xad\xad\xad\xad\xad\xad\xad\xad       \xad \xade \xad    _ \xad\xad`\xad `\xad\xac\xad^ \xab \xad      \xad\xad\xad\xad\xad\xad\xad\xad\xad\xad \xad\xad\xad\xad  ]\xad\xad\xad\xad\xad\xad\xad\xad", // Argument
+    *b"            \xae\xae\xae\xae\xae\xae\xae\xae\xae\xae                  \xb0                  \xae           \xaf  \xaf \xaf   \xaf    \xaf ", // ArgumentAfterT
+    *b"            \xae\xae\xae\xae\xae\xae\xae\xae\xae\xae                                     \xae                           ", // LeveledParameter
+    *b"            \xad\xad\xad\xad\xad\xad\xad\xad\xad\xad       \xad \xade \xad   \xb2_\xb1\xad\xad`\xad `\xad\xac\xad^ \xab \xad      \xad\xad\xad\xad\xad\xad\xad\xad\xad\xad \xad\xad\xad\xad  ]\xad\xad\xad\xad\xad\xad\xad\xad", // OneArgument
+    *b"                                                                       \xb5  \xb4 \xb7   \xb6    \xb3 ", // DeclarationAfterT
+    *b"                                                \xb8                                      ", // Declarations
+    *b"            $$$$$$$$$$                    T    r                                       ", // Concept
+    *b"            $$$$$$$$$$       v x  w      pT o  r #    s      tttttttttt tttt   ttuttttt", // SolidButT
+    *b"            \xbb\xbb\xbb\xbb\xbb\xbb\xbb\xbb\xbb\xbb                  \xb1       \xe1            \xd1 \xd2\xd3\xd4\xd5\xd6 \xd7  \xd8\xd9\xda\xdb\xdc\xdd\xde\xdf\xe0      ", // Expression
+    *b"            \xbb\xbb\xbb\xbb\xbb\xbb\xbb\xbb\xbb\xbb                  \xe2       \xe1            \xd1 \xd2\xd3\xd4\xd5\xd6 \xd7  \xd8\xd9\xda\xdb\xdc\xdd\xde\xdf\xe0      ", // AddressedExpression
+    *b"            \x8e\x8e\x8e\x8e\x8e\x8e\x8e\x8e\x8e\x8e          \x8d        \x8e\x8e \x8e  \x8e\x8e\x8e    \x8e    \x8b \x8e\x8c\x8e    \x8e\x8e\x8e \x8e\x8e\x8e\x8e   \x8e\x8e  \x8e\x8e\x8e ", // AddressedLiteral
+    *b"                                          \xbe    \xbe             \xbe  \xbd         \xbe     \xc0  \xbf  \xbf", // ExpressionAfterA
+    *b"                                                               \xb9        \xc1\xbe \xbf\xc1     \xc2    ", // ExpressionAfterC
+    *b"                                                  \xbe          \xbf \xb9 \xbf      \xbf \xc3    \xbe\xbe \xbe    ", // ExpressionAfterD
+    *b"                                           \xbe                               \xbe \xbe         ", // ExpressionAfterE
+    *b"                                        \xc4                               \xc5   \xbc \xc6        ", // ExpressionAfterF
+    *b"                                                                 \xbe             \xbf\xbe      ", // ExpressionAfterG
+    *b"                                                                        \xc7           \xbe  ", // ExpressionAfterI
+    *b"                                               \xbe                 \xbe             \xbe\xbe      ", // ExpressionAfterL
+    *b"                                     \xbe  \xbe                            \xbe  \xbe\xc8             ", // ExpressionAfterM
+    *b"                                                             \xc9   \xbe \xbf            \xbf  \xc9\xbf  ", // ExpressionAfterN
+    *b"                                              \xbe                           \xba\xbe  \xbe        ", // ExpressionAfterO
+    *b"                                        \xbe                               \xbe\xbe  \xc8  \xbf\xbe      ", // ExpressionAfterP
+    *b"                                                                                 \xca     ", // ExpressionAfterQ
+    *b"                                         \xbe   \xcc \xbe               \xb9         \xbe   \xcb \xbe       ", // ExpressionAfterR
+    *b"                                                      \xce        \xb9            \xcd \xcf\xbe\xc0     \xbf", // ExpressionAfterS
+    *b"                                                                 \xbf   \xc0  \xd0          \xbf   ", // ExpressionAfterT
+    *b"            \xe3\xe3\xe3\xe3\xe3\xe3\xe3\xe3\xe3\xe3                  \xe3       \xe3            \xe3 \xe3\xe3\xe3\xe3\xe3 \xe3  \xe3\xe3\xe3\xe3\xe3\xe3\xe3\xe3\xe3      ", // Expressions
     *b"                                                           !                           ", // MaybeBefore
-    *b"                                                             \x92 \x94\x91\x98 \x9c \x9b  \xe3\x95\x90\x97\x93 \x96\x9a       ", // FoldOperator
+    *b"                                                             \x93 \x95\x92\x99 \x9d \x9c  \xe4\x96\x91\x98\x94 \x97\x9b       ", // FoldOperator
     *b"                                               !                 !             !!      ", // FoldOperatorAfterL
-    *b"            \xe4\xe4\xe4\xe4\xe4\xe4\xe4\xe4\xe4\xe4                  \xe4       \xe4            \xe4 \xe4\xe4\xe4\xe4\xe4 \xe4  \xe4\xe4\xe4\xe4\xe4\xe4\xe4\xe4\xe4      ", // FoldOperand
-    *b"            \xe5\xe5\xe5\xe5\xe5\xe5\xe5\xe5\xe5\xe5                  \xe5       \xe5            \xe5 \xe5\xe5\xe5\xe5\xe5 \xe5  \xe5\xe5\xe5\xe5\xe5\xe5\xe5\xe5\xe5      ", // FoldPack
-    *b"            \xe6\xe6\xe6\xe6\xe6\xe6\xe6\xe6\xe6\xe6                  \xe6       \xe6          ! \xe6 \xe6\xe6\xe6\xe6\xe6 \xe6  \xe6\xe6\xe6\xe6\xe6\xe6\xe6\xe6\xe6      ", // Placement
-    *b"            \xe2\xe2\xe2\xe2\xe2\xe2\xe2\xe2\xe2\xe2                  \xe2       \xe2            \xe2 \xe2\xe2\xe2\xe2\xe2 \xe2  \xe2\xe2\xe2\xe2\xe2\xe2\xe2\xe2\xe2      ", // SomeExpressions
-    *b"                                 ~                                   \xe8      \xe7          ", // Initializer
-    *b"                                                                     \xc6                 ", // InitializerAfterP
-    *b"                                                                        \xc6              ", // InitializerAfterI
-    *b"                                                                            \xbb          ", // OuterRest
-    *b"            \xea\xea\xea\xea\xea\xea\xea\xea\xea\xea                          \xe9          \xea                           ", // ParameterNumber
-    *b"            \xef\xef\xef\xef\xef\xef\xef\xef\xef\xef          \xeb \xef    \xec  \xef\xee\xed \xee\xef\xef\xef           \xef\xef\xef\xef\xef\xef\xef\xef\xef\xef \xef\xef\xef\xef   \xef\xef \xef\xef\xef\xef\xef", // ConvertedType
-    *b"            $$$$$$$$$$            v       T    qp#           ssssssssss ssss   ss sssss", // ConvertedSolid
-    *b"                                                m                               m      ", // DecltypeAfterD
-    *b"            \xba\xba\xba\xba\xba\xba\xba\xba\xba\xba                  \xb0       \xe0          \xc6 \xd0 \xd1\xd2\xd3\xd4\xd5 \xd6  \xd7\xd8\xd9\xda\xdb\xdc\xdd\xde\xdf      ", // ConvertRest
-    *b"            \xf1\xf1\xf1\xf1\xf1\xf1\xf1\xf1\xf1\xf1          \xf0         \xf0    \xf0\xf0                                      ", // Unresolved
-    *b"                                \xeb         T    qp                                      ", // UnresolvedType
-    *b"            \xba\xba\xba\xba\xba\xba\xba\xba\xba\xba          \xf2         \xf2    \xf2\xf2                                      ", // DestructorName
-    *b"                                             \xf5  \xf4   \xf3                                  ", // Requirements
-    *b"                                          \xf7  \xf5\xf6 \xf4   \xf3                                  ", // AfterExpression
-    *b"                                             \xf5\xf6 \xf4   \xf3                                  ", // AfterNoexcept
-    *b"            \xf8\xf8\xf8\xf8\xf8\xf8\xf8\xf8\xf8\xf8          \xf8 \xf8    \xf8  \xf8\xf8\xf8 \xf8\xf8\xf8\xf8         \xca \xf8\xf8\xf8\xf8\xf8\xf8\xf8\xf8\xf8\xf8 \xf8\xf8\xf8\xf8   \xf8\xf8 \xf8\xf8\xf8\xf8\xf8", // RequiredTypes
-    *b"            \xba\xba\xba\xba\xba\xba\xba\xba\xba\xba                                                                 ", // Level
-    *b"            \xf1\xf1\xf1\xf1\xf1\xf1\xf1\xf1\xf1\xf1           \xf9                                                     ", // MoreLevels
-    *b"            \xba\xba\xba\xba\xba\xba\xba\xba\xba\xba                                                     \xfa           ", // UnresolvedName
-    *b"                                                                          \xb9            ", // OperatorName
-    *b"                             \xfb                                                         ", // AnyArray
-    *b"            \xfd\xfd\xfd\xfd\xfd\xfd\xfd\xfd\xfd\xfd                  \xfc       \xfc          \xfd \xfc \xfc\xfc\xfc\xfc\xfc \xfc  \xfc\xfc\xfc\xfc\xfc\xfc\xfc\xfc\xfc      ", // ArrayRest
-    *b"                                        \xb0       \xe0            \xd0 \xd1\xd2\xd3\xd4\xd5 \xd6  \xd7\xd8\xd9\xda\xdb\xdc\xdd\xde\xdf      ", // Bound
+    *b"            \xe5\xe5\xe5\xe5\xe5\xe5\xe5\xe5\xe5\xe5                  \xe5       \xe5            \xe5 \xe5\xe5\xe5\xe5\xe5 \xe5  \xe5\xe5\xe5\xe5\xe5\xe5\xe5\xe5\xe5      ", // FoldOperand
+    *b"            \xe6\xe6\xe6\xe6\xe6\xe6\xe6\xe6\xe6\xe6                  \xe6       \xe6            \xe6 \xe6\xe6\xe6\xe6\xe6 \xe6  \xe6\xe6\xe6\xe6\xe6\xe6\xe6\xe6\xe6      ", // FoldPack
+    *b"            \xe7\xe7\xe7\xe7\xe7\xe7\xe7\xe7\xe7\xe7                  \xe7       \xe7          ! \xe7 \xe7\xe7\xe7\xe7\xe7 \xe7  \xe7\xe7\xe7\xe7\xe7\xe7\xe7\xe7\xe7      ", // Placement
+    *b"            \xe3\xe3\xe3\xe3\xe3\xe3\xe3\xe3\xe3\xe3                  \xe3       \xe3            \xe3 \xe3\xe3\xe3\xe3\xe3 \xe3  \xe3\xe3\xe3\xe3\xe3\xe3\xe3\xe3\xe3      ", // SomeExpressions
+    *b"                                 \x7f                                   \xe9      \xe8          ", // Initializer
+    *b"                                                                     \xc7                 ", // InitializerAfterP
+    *b"                                                                        \xc7              ", // InitializerAfterI
+    *b"                                                                            \xbc          ", // OuterRest
+    *b"            \xeb\xeb\xeb\xeb\xeb\xeb\xeb\xeb\xeb\xeb                          \xea          \xeb                           ", // ParameterNumber
+    *b"            \xf0\xf0\xf0\xf0\xf0\xf0\xf0\xf0\xf0\xf0          \xec \xf0    \xed  \xf0\xef\xee \xef\xf0\xf0\xf0           \xf0\xf0\xf0\xf0\xf0\xf0\xf0\xf0\xf0\xf0 \xf0\xf0\xf0\xf0   \xf0\xf0 \xf0\xf0\xf0\xf0\xf0", // ConvertedType
+    *b"            $$$$$$$$$$            w       T    rq#           tttttttttt tttt   tt ttttt", // ConvertedSolid
+    *b"                                                n                               n      ", // DecltypeAfterD
+    *b"            \xbb\xbb\xbb\xbb\xbb\xbb\xbb\xbb\xbb\xbb                  \xb1       \xe1          \xc7 \xd1 \xd2\xd3\xd4\xd5\xd6 \xd7  \xd8\xd9\xda\xdb\xdc\xdd\xde\xdf\xe0      ", // ConvertRest
+    *b"            \xf2\xf2\xf2\xf2\xf2\xf2\xf2\xf2\xf2\xf2          \xf1         \xf1    \xf1\xf1                                      ", // Unresolved
+    *b"                                \xec         T    rq                                      ", // UnresolvedType
+    *b"            \xbb\xbb\xbb\xbb\xbb\xbb\xbb\xbb\xbb\xbb          \xf3         \xf3    \xf3\xf3                                      ", // DestructorName
+    *b"                                             \xf6  \xf5   \xf4                                  ", // Requirements
+    *b"                                          \xf8  \xf6\xf7 \xf5   \xf4                                  ", // AfterExpression
+    *b"                                             \xf6\xf7 \xf5   \xf4                                  ", // AfterNoexcept
+    *b"            \xf9\xf9\xf9\xf9\xf9\xf9\xf9\xf9\xf9\xf9          \xf9 \xf9    \xf9  \xf9\xf9\xf9 \xf9\xf9\xf9\xf9         \xcb \xf9\xf9\xf9\xf9\xf9\xf9\xf9\xf9\xf9\xf9 \xf9\xf9\xf9\xf9   \xf9\xf9 \xf9\xf9\xf9\xf9\xf9", // RequiredTypes
+    *b"            \xbb\xbb\xbb\xbb\xbb\xbb\xbb\xbb\xbb\xbb                                                                 ", // Level
+    *b"            \xf2\xf2\xf2\xf2\xf2\xf2\xf2\xf2\xf2\xf2           \xfa                                                     ", // MoreLevels
+    *b"            \xbb\xbb\xbb\xbb\xbb\xbb\xbb\xbb\xbb\xbb                                                     \xfb           ", // UnresolvedName
+    *b"                                                                          \xba            ", // OperatorName
+    *b"                             \xfc                                                         ", // AnyArray
+    *b"            \xfe\xfe\xfe\xfe\xfe\xfe\xfe\xfe\xfe\xfe                  \xfd       \xfd          \xfe \xfd \xfd\xfd\xfd\xfd\xfd \xfd  \xfd\xfd\xfd\xfd\xfd\xfd\xfd\xfd\xfd      ", // ArrayRest
+    *b"                                        \xb1       \xe1            \xd1 \xd2\xd3\xd4\xd5\xd6 \xd7  \xd8\xd9\xda\xdb\xdc\xdd\xde\xdf\xe0      ", // Bound
     *b"            GGGGGGGGGG         GGIG     GG       G           G GGG G G  GGGGG GG       ", // NestMoreOrEnd
-    *b"            \xfe\xfe\xfe\xfe\xfe\xfe\xfe\xfe\xfe\xfe                                                                 ", // TaggedSource
+    *b"            \xff\xff\xff\xff\xff\xff\xff\xff\xff\xff                                                                 ", // TaggedSource
 ];
 
 /// The number of the rule that a kind takes at a byte, if it takes one.
 #[inline]
 fn number(kind: u16, byte: u8) -> Option<usize>
     requires { kind < wide.kinds }
-    ensures few { IfSome result (λ number. number < 222) }
+    ensures few { IfSome result (λ number. number < 223) }
     ensures rule { (head : Head) → MatchOption result (wide.rule kind byte ≡ None) (λ number. wide.rule kind byte ≡ Some (listed_rule head number)) }
 {
     match letter_in(&WIDE_LETTERS[kind as usize], byte) {

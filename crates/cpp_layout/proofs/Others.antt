@@ -241,6 +241,7 @@ pub record IsOtherLeftType (n : Node) : Type 0 where
   pub not_bounded : (x0 : ℕ) (x1 : ℕ) → n ≡ Node.Bounded x0 x1 → ⊥
   pub not_functiontype : (x0 : Bool) (x1 : Bool) (x2 : Mark) (x3 : ℕ) (x4 : ℕ) → n ≡ Node.FunctionType x0 x1 x2 x3 x4 → ⊥
   pub not_memberpointer : (x0 : ℕ) (x1 : ℕ) → n ≡ Node.MemberPointer x0 x1 → ⊥
+  pub not_selected : (x0 : ℕ) (x1 : ℕ) → n ≡ Node.Selected x0 x1 → ⊥
   pub not_qualified : (x0 : Qualifiers) (x1 : ℕ) → n ≡ Node.Qualified x0 x1 → ⊥
   pub not_vector : (x0 : Span) (x1 : ℕ) → n ≡ Node.Vector x0 x1 → ⊥
   pub not_complex : (x0 : ℕ) → n ≡ Node.Complex x0 → ⊥
@@ -294,6 +295,7 @@ no-type (Node.Array x0 x1) k other = absurd (other.not_array x0 x1 refl)
 no-type (Node.Bounded x0 x1) k other = absurd (other.not_bounded x0 x1 refl)
 no-type (Node.FunctionType x0 x1 x2 x3 x4) k other = absurd (other.not_functiontype x0 x1 x2 x3 x4 refl)
 no-type (Node.MemberPointer x0 x1) k other = absurd (other.not_memberpointer x0 x1 refl)
+no-type (Node.Selected x0 x1) k other = absurd (other.not_selected x0 x1 refl)
 no-type (Node.Qualified x0 x1) k other = absurd (other.not_qualified x0 x1 refl)
 no-type (Node.Vector x0 x1) k other = absurd (other.not_vector x0 x1 refl)
 no-type (Node.Complex x0) k other = absurd (other.not_complex x0 refl)
@@ -323,6 +325,7 @@ left-none s us ts given d c (Node.Array x0 x1) flat k other = elim k [ ]
 left-none s us ts given d c (Node.Bounded x0 x1) flat k other = elim k [ ]
 left-none s us ts given d c (Node.FunctionType x0 x1 x2 x3 x4) flat k other = elim k [ ]
 left-none s us ts given d c (Node.MemberPointer x0 x1) flat k other = elim k [ ]
+left-none s us ts given d c (Node.Selected x0 x1) flat k other = elim k [ ]
 left-none s us ts given d c (Node.Qualified x0 x1) flat k other = elim k [ ]
 left-none s us ts given d c (Node.Vector x0 x1) flat k other = elim k [ ]
 left-none s us ts given d c (Node.Complex x0) flat k other = elim k [ ]

@@ -177,6 +177,7 @@ IsNoType (Node.Array digits t) = ⊥
 IsNoType (Node.Bounded bound t) = ⊥
 IsNoType (Node.FunctionType c n m returned parameters) = ⊥
 IsNoType (Node.MemberPointer class t) = ⊥
+IsNoType (Node.Selected class t) = ⊥
 IsNoType (Node.Qualified q t) = ⊥
 IsNoType (Node.Vector digits t) = ⊥
 IsNoType (Node.Complex t) = ⊥

@@ -339,6 +339,27 @@ impl Symbol {
         self.push_item(parts, member, form::LEFT, 0, ctx);
     }
 
+    /// The left parts of what is selected in a class.
+    // <type> ::= Dq <type> <type>
+    pub(crate) fn fill_selected<S: PartList<Context>>(
+        &self,
+        parts: &mut S,
+        class: u32,
+        ty: u32,
+        ctx: Context,
+    )
+        requires context { IsThereBelow (length self.now.table.nodes) ctx.argument }
+        requires class { class < length self.now.table.nodes }
+        requires ty { ty < length self.now.table.nodes }
+        requires room { 8 ≤ S.room parts.old }
+        ensures shows { Shows self.now ctx.detail (S.held parts.old) (S.held parts.new) (as_item heads.left (context_of ctx) (tree_shown self.now ctx class) ∷ text (fixed_text COLONS) ∷ as_item heads.left (context_of ctx) (tree_shown self.now ctx ty) ∷ []) }
+        ensures few { S.room parts.old ≤ S.room parts.new + 8 }
+    {
+        self.push_item(parts, ty, form::LEFT, 0, ctx);
+        self.push_text(parts, texts::COLONS);
+        self.push_item(parts, class, form::LEFT, 0, ctx);
+    }
+
     /// The left parts of an array.
     pub(crate) fn fill_array<S: PartList<Context>>(&self, parts: &mut S, element: u32, ctx: Context)
         requires context { IsThereBelow (length self.now.table.nodes) ctx.argument }

@@ -114,6 +114,7 @@ may_leave Production.Vector = true
 may_leave Production.NoexceptFunction = true
 may_leave Production.SizedFloat = true
 may_leave Production.ConstrainedAuto = true
+may_leave Production.SelectedType = true
 may_leave Production.Decltype = true
 may_leave Production.Pointer = true
 may_leave Production.MemberPointer = true

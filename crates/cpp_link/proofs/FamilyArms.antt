@@ -271,6 +271,7 @@ pub compound_type : (p : Production) → family_of p ≡ Family.CompoundType
     → (p ≡ Production.RestrictType → ⊥)
     → (p ≡ Production.VolatileType → ⊥)
     → (p ≡ Production.MemberPointer → ⊥)
+    → (p ≡ Production.SelectedType → ⊥)
     → (p ≡ Production.ArrayType → ⊥)
     → (p ≡ Production.AnyArray → ⊥)
     → (p ≡ Production.LengthArray → ⊥)
@@ -281,19 +282,20 @@ pub compound_type : (p : Production) → family_of p ≡ Family.CompoundType
     → (p ≡ Production.ConvertedReference → ⊥)
     → ⊥
 unfolding family_of
-compound_type Production.Complex is n0 n1 n2 n3 n4 n5 n6 n7 n8 n9 n10 n11 = n0 refl
-compound_type Production.RestrictType is n0 n1 n2 n3 n4 n5 n6 n7 n8 n9 n10 n11 = n1 refl
-compound_type Production.VolatileType is n0 n1 n2 n3 n4 n5 n6 n7 n8 n9 n10 n11 = n2 refl
-compound_type Production.MemberPointer is n0 n1 n2 n3 n4 n5 n6 n7 n8 n9 n10 n11 = n3 refl
-compound_type Production.ArrayType is n0 n1 n2 n3 n4 n5 n6 n7 n8 n9 n10 n11 = n4 refl
-compound_type Production.AnyArray is n0 n1 n2 n3 n4 n5 n6 n7 n8 n9 n10 n11 = n5 refl
-compound_type Production.LengthArray is n0 n1 n2 n3 n4 n5 n6 n7 n8 n9 n10 n11 = n6 refl
-compound_type Production.BoundedArray is n0 n1 n2 n3 n4 n5 n6 n7 n8 n9 n10 n11 = n7 refl
-compound_type Production.Vector is n0 n1 n2 n3 n4 n5 n6 n7 n8 n9 n10 n11 = n8 refl
-compound_type Production.ConvertedConst is n0 n1 n2 n3 n4 n5 n6 n7 n8 n9 n10 n11 = n9 refl
-compound_type Production.ConvertedPointer is n0 n1 n2 n3 n4 n5 n6 n7 n8 n9 n10 n11 = n10 refl
-compound_type Production.ConvertedReference is n0 n1 n2 n3 n4 n5 n6 n7 n8 n9 n10 n11 = n11 refl
-compound_type _ is n0 n1 n2 n3 n4 n5 n6 n7 n8 n9 n10 n11 = subst IsCompoundType (sym is) tt
+compound_type Production.Complex is n0 n1 n2 n3 n4 n5 n6 n7 n8 n9 n10 n11 n12 = n0 refl
+compound_type Production.RestrictType is n0 n1 n2 n3 n4 n5 n6 n7 n8 n9 n10 n11 n12 = n1 refl
+compound_type Production.VolatileType is n0 n1 n2 n3 n4 n5 n6 n7 n8 n9 n10 n11 n12 = n2 refl
+compound_type Production.MemberPointer is n0 n1 n2 n3 n4 n5 n6 n7 n8 n9 n10 n11 n12 = n3 refl
+compound_type Production.SelectedType is n0 n1 n2 n3 n4 n5 n6 n7 n8 n9 n10 n11 n12 = n4 refl
+compound_type Production.ArrayType is n0 n1 n2 n3 n4 n5 n6 n7 n8 n9 n10 n11 n12 = n5 refl
+compound_type Production.AnyArray is n0 n1 n2 n3 n4 n5 n6 n7 n8 n9 n10 n11 n12 = n6 refl
+compound_type Production.LengthArray is n0 n1 n2 n3 n4 n5 n6 n7 n8 n9 n10 n11 n12 = n7 refl
+compound_type Production.BoundedArray is n0 n1 n2 n3 n4 n5 n6 n7 n8 n9 n10 n11 n12 = n8 refl
+compound_type Production.Vector is n0 n1 n2 n3 n4 n5 n6 n7 n8 n9 n10 n11 n12 = n9 refl
+compound_type Production.ConvertedConst is n0 n1 n2 n3 n4 n5 n6 n7 n8 n9 n10 n11 n12 = n10 refl
+compound_type Production.ConvertedPointer is n0 n1 n2 n3 n4 n5 n6 n7 n8 n9 n10 n11 n12 = n11 refl
+compound_type Production.ConvertedReference is n0 n1 n2 n3 n4 n5 n6 n7 n8 n9 n10 n11 n12 = n12 refl
+compound_type _ is n0 n1 n2 n3 n4 n5 n6 n7 n8 n9 n10 n11 n12 = subst IsCompoundType (sym is) tt
 
 abbrev IsFunctionType : Family → Type 0
 IsFunctionType Family.FunctionType = Unit {0}

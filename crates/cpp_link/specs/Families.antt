@@ -95,6 +95,7 @@ family_of Production.Complex = Family.CompoundType
 family_of Production.RestrictType = Family.CompoundType
 family_of Production.VolatileType = Family.CompoundType
 family_of Production.MemberPointer = Family.CompoundType
+family_of Production.SelectedType = Family.CompoundType
 family_of Production.ArrayType = Family.CompoundType
 family_of Production.AnyArray = Family.CompoundType
 family_of Production.LengthArray = Family.CompoundType

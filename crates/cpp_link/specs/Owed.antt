@@ -77,6 +77,7 @@ made_at_end Production.Vector = 1
 made_at_end Production.NoexceptFunction = 1
 made_at_end Production.SizedFloat = 1
 made_at_end Production.ConstrainedAuto = 1
+made_at_end Production.SelectedType = 1
 made_at_end Production.Decltype = 1
 made_at_end Production.Pointer = 1
 made_at_end Production.MemberPointer = 1

@@ -144,6 +144,7 @@ pub fn family_of(production: Production) -> Family
         Production::RestrictType => Family::CompoundType,
         Production::VolatileType => Family::CompoundType,
         Production::MemberPointer => Family::CompoundType,
+        Production::SelectedType => Family::CompoundType,
         Production::ArrayType => Family::CompoundType,
         Production::AnyArray => Family::CompoundType,
         Production::LengthArray => Family::CompoundType,

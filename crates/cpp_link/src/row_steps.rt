@@ -127,6 +127,7 @@ impl Linked {
         requires inheriting { production ≡ productions.Inheriting → ⊥ }
         requires lambda { production ≡ productions.Lambda → ⊥ }
         requires expansion { production ≡ productions.Expansion → ⊥ }
+        requires selected_type { production ≡ productions.SelectedType → ⊥ }
         requires type_with_s { production ≡ productions.TypeWithS → ⊥ }
         requires local_type { production ≡ productions.LocalType → ⊥ }
         requires lvalue_item { production ≡ productions.LvalueItem → ⊥ }
@@ -269,6 +270,7 @@ impl Linked {
         requires inheriting { production ≡ productions.Inheriting → ⊥ }
         requires lambda { production ≡ productions.Lambda → ⊥ }
         requires expansion { production ≡ productions.Expansion → ⊥ }
+        requires selected_type { production ≡ productions.SelectedType → ⊥ }
         requires type_with_s { production ≡ productions.TypeWithS → ⊥ }
         requires local_type { production ≡ productions.LocalType → ⊥ }
         requires lvalue_item { production ≡ productions.LvalueItem → ⊥ }
@@ -370,6 +372,11 @@ impl Linked {
                 candidate: None,
                 then: self.under_expansion(kept),
                 packs: None,
+            },
+            Production::SelectedType => Step::Go {
+                candidate: self.type_candidate(symbol, kept, first),
+                then: kept,
+                packs: self.packs,
             },
             Production::TypeWithS => self.go(self.behind_name(
                 kept,

@@ -3,7 +3,7 @@
 use cpp_grammar::production::Production;
 
 /// The productions.
-pub(crate) const PRODUCTIONS: [Production; 222] = [
+pub(crate) const PRODUCTIONS: [Production; 223] = [
     Production::Mark,
     Production::InternalName,
     Production::LocalTypeName,
@@ -80,6 +80,7 @@ pub(crate) const PRODUCTIONS: [Production; 222] = [
     Production::NoexceptFunction,
     Production::SizedFloat,
     Production::ConstrainedAuto,
+    Production::SelectedType,
     Production::Decltype,
     Production::Pointer,
     Production::MemberPointer,
@@ -229,7 +230,7 @@ pub(crate) const PRODUCTIONS: [Production; 222] = [
 ];
 
 /// How many parts each has.
-pub(crate) const PART_COUNTS: [u8; 222] = [
+pub(crate) const PART_COUNTS: [u8; 223] = [
     0, // Mark
     2, // InternalName
     2, // LocalTypeName
@@ -306,6 +307,7 @@ pub(crate) const PART_COUNTS: [u8; 222] = [
     4, // NoexceptFunction
     2, // SizedFloat
     1, // ConstrainedAuto
+    2, // SelectedType
     2, // Decltype
     1, // Pointer
     2, // MemberPointer
@@ -455,7 +457,7 @@ pub(crate) const PART_COUNTS: [u8; 222] = [
 ];
 
 /// Whether some part of each but the last may have no row: a fixed byte, or a kind that may be empty.
-pub(crate) const SKIPS_PARTS: [bool; 222] = [
+pub(crate) const SKIPS_PARTS: [bool; 223] = [
     false, // Mark
     false, // InternalName
     false, // LocalTypeName
@@ -532,6 +534,7 @@ pub(crate) const SKIPS_PARTS: [bool; 222] = [
     true, // NoexceptFunction
     false, // SizedFloat
     false, // ConstrainedAuto
+    false, // SelectedType
     false, // Decltype
     false, // Pointer
     false, // MemberPointer
@@ -681,7 +684,7 @@ pub(crate) const SKIPS_PARTS: [bool; 222] = [
 ];
 
 /// Before how many of its parts nothing is done in each: before none, the first, or all, which are five at most.
-pub(crate) const QUIET_PARTS: [u8; 222] = [
+pub(crate) const QUIET_PARTS: [u8; 223] = [
     5, // Mark
     1, // InternalName
     1, // LocalTypeName
@@ -758,6 +761,7 @@ pub(crate) const QUIET_PARTS: [u8; 222] = [
     5, // NoexceptFunction
     5, // SizedFloat
     5, // ConstrainedAuto
+    1, // SelectedType
     5, // Decltype
     5, // Pointer
     5, // MemberPointer

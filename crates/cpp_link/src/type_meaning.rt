@@ -132,6 +132,14 @@ impl Linked {
                 },
                 false,
             ),
+            // <type> ::= Dq <type> <type>, a vendor's: what is selected in a class
+            Production::SelectedType => made(
+                Node::Selected {
+                    class: self.tree(symbol, parts, 0),
+                    ty: self.tree(symbol, parts, 1),
+                },
+                false,
+            ),
             // <array-type> ::= A <number> _ <element type> | A <expression> _ <element type>
             Production::ArrayType => Outcome::Given(self.given(symbol, parts, 0)),
             // <array-type>, with a length that is a parameter, or a number, or isn't said

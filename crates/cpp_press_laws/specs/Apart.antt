@@ -1,6 +1,6 @@
 -- No two components that are compared and equal are both spelled out.
 use Rattle.std.specs.Prelude.{◌≡◌, ℕ, List, [], ◌∷◌, ◌++◌, ◌⊎◌, true, false}
-use Rattle.cpp_grammar.specs.Term.{Term, symbol, function, object, special, thunk, of_name, construction, clone, alone, in_std, within, instance, local, holder, tagged, of_default, inheriting, lambda, generic_lambda, conversion, pointer, lvalue, rvalue, array, constrained, bounded, member_pointer, function_type, qualified, vector, complex, decltype, expansion, integer, encoding_literal, address_of, operation, pack, list}
+use Rattle.cpp_grammar.specs.Term.{Term, symbol, function, object, special, thunk, of_name, construction, clone, alone, in_std, within, instance, local, holder, tagged, of_default, inheriting, lambda, generic_lambda, conversion, pointer, lvalue, rvalue, array, constrained, bounded, member_pointer, function_type, qualified, vector, complex, decltype, expansion, integer, encoding_literal, address_of, operation, pack, list, selected}
 use Rattle.cpp_press_laws.specs.Texts.{name_letters}
 use Rattle.cpp_press_laws.specs.Components.{Component, is_same}
 use Rattle.cpp_press_laws.specs.Pressing.{ways_of, pressed}
@@ -51,6 +51,7 @@ IsNeverReferred own (rvalue type) = IsNeverReferred own type
 IsNeverReferred own (array digits type) = IsNeverReferred own type
 IsNeverReferred own (bounded bound type) = IsNeverReferred own bound ⊎ IsNeverReferred own type
 IsNeverReferred own (member_pointer class member) = IsNeverReferred own class ⊎ IsNeverReferred own member
+IsNeverReferred own (selected class type) = IsNeverReferred own class ⊎ IsNeverReferred own type
 IsNeverReferred own (function_type c_linkage noexcept ref returned parameters) = IsNeverReferred own returned ⊎ IsNeverReferred own parameters
 IsNeverReferred own (qualified q type) = IsNeverReferred own type
 IsNeverReferred own (vector digits type) = IsNeverReferred own type

@@ -6,7 +6,7 @@ use Rattle.sym_spell.specs.Pressing.{◌and◌, text}
 use Rattle.cpp_grammar.specs.declared.kind.Kind.{Kind}
 use Rattle.cpp_grammar.specs.declared.production.Production.{Production}
 use Rattle.cpp_grammar.specs.Grammar.{choose}
-use Rattle.cpp_grammar.specs.Term.{Qualifiers, RefQualifier, Adjustment, non_virtual, by_table, Thunk, adjusting, covariant, Term, symbol, function, object, special, thunk, of_name, construction, clone, alone, in_std, within, instance, local, holder, tagged, of_default, abbreviation, parameter, source, operator, literal_operator, constructor, destructor, inheriting, lambda, generic_lambda, unnamed, string_literal, conversion, builtin, sized_float, constrained, vendor, pointer, lvalue, rvalue, array, bounded, member_pointer, function_type, qualified, vector, complex, decltype, expansion, integer, boolean, null_pointer, encoding_literal, address_of, operation, function_parameter, pack, nil, list, absent}
+use Rattle.cpp_grammar.specs.Term.{Qualifiers, RefQualifier, Adjustment, non_virtual, by_table, Thunk, adjusting, covariant, Term, symbol, function, object, special, thunk, of_name, construction, clone, alone, in_std, within, instance, local, holder, tagged, of_default, abbreviation, parameter, source, operator, literal_operator, constructor, destructor, inheriting, lambda, generic_lambda, unnamed, string_literal, conversion, builtin, sized_float, constrained, vendor, pointer, lvalue, rvalue, array, bounded, member_pointer, function_type, qualified, vector, complex, decltype, expansion, integer, boolean, null_pointer, encoding_literal, address_of, operation, function_parameter, pack, nil, list, absent, selected}
 use Rattle.cpp_grammar.specs.Scope.{count, element, length_if_pack, has_return_type, is_open}
 use Rattle.cpp_grammar.specs.References.{packs_in}
 use Rattle.cpp_grammar.specs.Values.{Prefix, outermost, behind, Around}
@@ -479,6 +479,7 @@ fits_of (lvalue type) = type_fits (lvalue type) (λ slot around allowed place cs
 fits_of (rvalue type) = type_fits (rvalue type) (λ slot around allowed place cs. (takes_all slot ≡ true) × behind_bytes (codes "O") ((fits_of type).as_type any_type) around allowed place cs)
 fits_of (array digits type) = type_fits (array digits type) (λ slot around allowed place cs. (takes_all slot ≡ true) × AreSpellableDigits Decimal digits × behind_bytes (codes "A" ++ digits ++ codes "_") ((fits_of type).as_type any_type) around allowed place cs)
 fits_of (bounded bound type) = fits_nowhere
+fits_of (selected class type) = fits_nowhere
 fits_of (qualified q type) = type_fits (qualified q type) (λ slot around allowed place cs. (takes_qualified slot ≡ true) × (has_letters q ≡ true) × behind_bytes (qualifier_letters q) ((fits_of type).as_type bare_type) around allowed place cs)
 fits_of (vector digits type) = type_fits (vector digits type) (λ slot around allowed place cs. (takes_all slot ≡ true) × AreSpellableDigits Digits digits × behind_bytes (codes "Dv" ++ digits ++ codes "_") ((fits_of type).as_type any_type) around allowed place cs)
 fits_of (complex type) = type_fits (complex type) (λ slot around allowed place cs. (takes_all slot ≡ true) × behind_bytes (codes "C") ((fits_of type).as_type any_type) around allowed place cs)

@@ -3,7 +3,7 @@
 use Rattle.std.specs.Prelude.{ℕ, ◌-◌, List, [], ◌∷◌, ◌++◌, Bool, true, false, cond, ◌&&◌, codes, Option}
 use Prim.Native.String.{String}
 use Rattle.sym_spell.specs.Pressing.{◌and◌, text, nothing}
-use Rattle.cpp_grammar.specs.Term.{RefQualifier, Term, symbol, function, object, special, thunk, of_name, construction, clone, alone, in_std, within, instance, local, holder, tagged, of_default, abbreviation, parameter, source, operator, literal_operator, constructor, destructor, inheriting, lambda, generic_lambda, unnamed, string_literal, conversion, builtin, sized_float, constrained, vendor, pointer, lvalue, rvalue, array, bounded, member_pointer, function_type, qualified, vector, complex, decltype, expansion, integer, boolean, null_pointer, encoding_literal, address_of, operation, function_parameter, pack, nil, list, absent}
+use Rattle.cpp_grammar.specs.Term.{RefQualifier, Term, symbol, function, object, special, thunk, of_name, construction, clone, alone, in_std, within, instance, local, holder, tagged, of_default, abbreviation, parameter, source, operator, literal_operator, constructor, destructor, inheriting, lambda, generic_lambda, unnamed, string_literal, conversion, builtin, sized_float, constrained, vendor, pointer, lvalue, rvalue, array, bounded, member_pointer, function_type, qualified, vector, complex, decltype, expansion, integer, boolean, null_pointer, encoding_literal, address_of, operation, function_parameter, pack, nil, list, absent, selected}
 use Rattle.cpp_press_laws.specs.Texts.{counted, ordinal, signed_text, qualifier_letters, mark_letter, name_letters, special_code, thunk_text, discriminator_text}
 use Rattle.cpp_press_laws.specs.Components.{Spelling, ended, referred, component}
 
@@ -238,6 +238,7 @@ ways_of n (rvalue type) = type_ways (component n (rvalue type) (says "O" and (wa
 ways_of n (array digits type) = type_ways (component n (array digits type) (text (codes "A" ++ digits ++ codes "_") and (ways_of n type).as_type))
 ways_of n (bounded bound type) = no_ways
 ways_of n (member_pointer class member) = type_ways (component n (member_pointer class member) (says "M" and (ways_of n class).as_type and (ways_of n member).as_type))
+ways_of n (selected class type) = no_ways
 ways_of n (qualified q type) = type_ways (component n (qualified q type) (text (qualifier_letters q) and (ways_of n type).under_qualifiers))
 ways_of n (vector digits type) = type_ways (component n (vector digits type) (text (codes "Dv" ++ digits ++ codes "_") and (ways_of n type).as_type))
 ways_of n (complex type) = type_ways (component n (complex type) (says "C" and (ways_of n type).as_type))

@@ -1,7 +1,7 @@
 -- Whether two trees are the same, in each mark, number and name.
 use Rattle.std.specs.Prelude.{ℕ, List, Bool, true, false, not, ◌&&◌, nat_eq, Option, Some, None}
 use Rattle.cpp_grammar.specs.Texts.{same_bytes}
-use Rattle.cpp_grammar.specs.Term.{Qualifiers, RefQualifier, any_value, lvalue_only, rvalue_only, Signed, Adjustment, non_virtual, by_table, Thunk, adjusting, covariant, Term, symbol, function, object, special, thunk, of_name, construction, clone, alone, in_std, within, instance, local, holder, tagged, of_default, abbreviation, parameter, source, operator, literal_operator, constructor, destructor, inheriting, lambda, generic_lambda, unnamed, string_literal, conversion, builtin, sized_float, constrained, vendor, pointer, lvalue, rvalue, array, bounded, member_pointer, function_type, qualified, vector, complex, decltype, expansion, integer, boolean, null_pointer, encoding_literal, address_of, operation, function_parameter, pack, nil, list, absent}
+use Rattle.cpp_grammar.specs.Term.{Qualifiers, RefQualifier, any_value, lvalue_only, rvalue_only, Signed, Adjustment, non_virtual, by_table, Thunk, adjusting, covariant, Term, symbol, function, object, special, thunk, of_name, construction, clone, alone, in_std, within, instance, local, holder, tagged, of_default, abbreviation, parameter, source, operator, literal_operator, constructor, destructor, inheriting, lambda, generic_lambda, unnamed, string_literal, conversion, builtin, sized_float, constrained, vendor, pointer, lvalue, rvalue, array, bounded, member_pointer, function_type, qualified, vector, complex, decltype, expansion, integer, boolean, null_pointer, encoding_literal, address_of, operation, function_parameter, pack, nil, list, absent, selected}
 
 unfoldable pub same_truth : Bool → Bool → Bool
 same_truth true b = b
@@ -76,6 +76,7 @@ same_tree (rvalue a0) (rvalue b0) = same_tree a0 b0
 same_tree (array a0 a1) (array b0 b1) = same_bytes a0 b0 && same_tree a1 b1
 same_tree (bounded a0 a1) (bounded b0 b1) = same_tree a0 b0 && same_tree a1 b1
 same_tree (member_pointer a0 a1) (member_pointer b0 b1) = same_tree a0 b0 && same_tree a1 b1
+same_tree (selected a0 a1) (selected b0 b1) = same_tree a0 b0 && same_tree a1 b1
 same_tree (function_type a0 a1 a2 a3 a4) (function_type b0 b1 b2 b3 b4) = same_truth a0 b0 && same_truth a1 b1 && same_mark a2 b2 && same_tree a3 b3 && same_tree a4 b4
 same_tree (qualified a0 a1) (qualified b0 b1) = same_qualifiers a0 b0 && same_tree a1 b1
 same_tree (vector a0 a1) (vector b0 b1) = same_bytes a0 b0 && same_tree a1 b1

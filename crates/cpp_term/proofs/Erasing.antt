@@ -8,7 +8,7 @@ use Rattle.sym_link.specs.Driving.{Fails}
 use Rattle.sym_link.specs.Reading.{Found, ◌>>=◌}
 use Rattle.sym_link.specs.Unfold.{unfold_tree}
 use Rattle.cpp_grammar.specs.Table.{wide}
-use Rattle.cpp_grammar.specs.Term.{Term, symbol, function, object, special, thunk, of_name, construction, clone, alone, in_std, within, instance, local, holder, tagged, of_default, lambda, generic_lambda, conversion, pointer, lvalue, rvalue, array, constrained, bounded, member_pointer, function_type, qualified, vector, complex, expansion, integer, encoding_literal, address_of, pack, list, decltype, inheriting, operation}
+use Rattle.cpp_grammar.specs.Term.{Term, symbol, function, object, special, thunk, of_name, construction, clone, alone, in_std, within, instance, local, holder, tagged, of_default, lambda, generic_lambda, conversion, pointer, lvalue, rvalue, array, constrained, bounded, member_pointer, function_type, qualified, vector, complex, expansion, integer, encoding_literal, address_of, pack, list, decltype, inheriting, operation, selected}
 use Rattle.cpp_grammar.specs.Unfolding.{unfold_cpp}
 use Rattle.cpp_grammar.specs.Rescoping.{unfold_wide}
 use Rattle.cpp_term.specs.Term as term_
@@ -54,6 +54,7 @@ erased s (rvalue t) = ap (λ a. rvalue a) (erased s t)
 erased s (array digits t) = ap (λ a. array digits a) (erased s t)
 erased s (bounded bound t) = both (λ a b. bounded a b) (erased s bound) (erased s t)
 erased s (member_pointer class t) = both (λ a b. member_pointer a b) (erased s class) (erased s t)
+erased s (selected class t) = both (λ a b. selected a b) (erased s class) (erased s t)
 erased s (function_type c_linkage noexcept ref returned parameters) = both (λ a b. function_type c_linkage noexcept ref a b) (erased s returned) (erased s parameters)
 erased s (qualified q t) = ap (λ a. qualified q a) (erased s t)
 erased s (vector digits t) = ap (λ a. vector digits a) (erased s t)

@@ -9,7 +9,7 @@ use Rattle.cpp_grammar.specs.Values.{Around, Prefix, prefix_tree, prefix_listed,
 use Rattle.cpp_grammar.specs.Between as going_
 use Rattle.cpp_grammar.specs.Meaning as meaning_
 use Rattle.cpp_grammar.specs.Meaning.{meaning}
-use Rattle.cpp_grammar.specs.Makers.{Maker, new_symbol, new_special, new_of_name, new_construction, new_clone, new_in_std, new_instance, new_local, new_abbreviation, new_source, new_operator, new_literal_operator, new_constructor, new_destructor, new_unnamed, new_string_literal, new_conversion, new_builtin, new_sized_float, new_constrained, new_vendor, new_pointer, new_lvalue, new_rvalue, new_array, new_bounded, new_member_pointer, new_function_type, new_qualified, new_vector, new_complex, new_expansion, new_integer, new_boolean, new_null_pointer, new_decltype, new_encoding_literal, new_operation, new_function_parameter, new_pack}
+use Rattle.cpp_grammar.specs.Makers.{Maker, new_symbol, new_special, new_of_name, new_construction, new_clone, new_in_std, new_instance, new_local, new_abbreviation, new_source, new_operator, new_literal_operator, new_constructor, new_destructor, new_unnamed, new_string_literal, new_conversion, new_builtin, new_sized_float, new_constrained, new_vendor, new_pointer, new_lvalue, new_rvalue, new_array, new_bounded, new_member_pointer, new_function_type, new_qualified, new_vector, new_complex, new_expansion, new_integer, new_boolean, new_null_pointer, new_decltype, new_encoding_literal, new_operation, new_function_parameter, new_pack, new_selected}
 use Rattle.cpp_grammar.specs.Builders.{Argument, a_tree, some_bytes, a_number, a_truth, some_qualifiers, a_mark, a_signed, a_discriminator, tree_in, bytes_in, number_in, truth_in, qualifiers_in, mark_in, signed_in, discriminator_in, argument, built}
 use Rattle.cpp_grammar.specs.Row as row_
 use Rattle.cpp_grammar.specs.Row.{Source, Made, Listing, Own, Form}
@@ -563,6 +563,7 @@ built_noted s new_rvalue xs h = ap term_.rvalue (tree_there s xs 0)
 built_noted s new_array xs h = both term_.array (bytes_there s xs 0) (tree_there s xs 1)
 built_noted s new_bounded xs h = both term_.bounded (tree_there s xs 0) (tree_there s xs 1)
 built_noted s new_member_pointer xs h = both term_.member_pointer (tree_there s xs 0) (tree_there s xs 1)
+built_noted s new_selected xs h = both term_.selected (tree_there s xs 0) (tree_there s xs 1)
 built_noted s new_function_type xs h = five term_.function_type (truth_there s xs 0) (truth_there s xs 1) (mark_there s xs 2) (tree_there s xs 3) (tree_there s xs 4)
 built_noted s new_qualified xs h = both term_.qualified (qualifiers_there s xs 0) (tree_there s xs 1)
 built_noted s new_vector xs h = both term_.vector (bytes_there s xs 0) (tree_there s xs 1)

@@ -1,7 +1,7 @@
 -- What annotating keeps.
 use Rattle.std.proofs.Common.{◌≡◌, refl, ap, sym, ◌∙◌, subst, nat_eq, max, not, ℕ, zero, suc, Bool, true, false, ◌||◌, ◌&&◌, Option, Some, None}
 use Rattle.std.proofs.lemmas.Bool.{true≢false, eqb-true}
-use Rattle.cpp_grammar.specs.Term.{Term, alone, in_std, within, instance, local, holder, tagged, of_default, parameter, lambda, conversion, pointer, lvalue, rvalue, array, constrained, bounded, member_pointer, function_type, qualified, vector, complex, expansion, integer, pack, list, absent, decltype, inheriting, operation}
+use Rattle.cpp_grammar.specs.Term.{Term, alone, in_std, within, instance, local, holder, tagged, of_default, parameter, lambda, conversion, pointer, lvalue, rvalue, array, constrained, bounded, member_pointer, function_type, qualified, vector, complex, expansion, integer, pack, list, absent, decltype, inheriting, operation, selected}
 use Rattle.cpp_grammar.specs.Scope.{count, element, is_list, is_alone, has_pack, arguments_of, is_open, Free, none_free, one_free, several_free, both_free, free_in, first_of, length_if_pack, pack_length}
 use Rattle.cpp_grammar.specs.Items.{Context, auto, indexed, argument, Head, lref, collapsed, head_with, head_closed, head, packs_of, is_none_of, is_empty}
 use Rattle.cpp_grammar.specs.References.{packs_in}
@@ -79,6 +79,7 @@ open_noted s (rvalue t) = open_noted s t
 open_noted s (array digits t) = open_noted s t
 open_noted s (bounded bound t) = both (λ x y. x || y) (open_noted s bound) (open_noted s t)
 open_noted s (member_pointer class t) = both (λ x y. x || y) (open_noted s class) (open_noted s t)
+open_noted s (selected class t) = both (λ x y. x || y) (open_noted s class) (open_noted s t)
 open_noted s (function_type c_linkage noexcept ref returned parameters) = both (λ x y. x || y) (open_noted s returned) (open_noted s parameters)
 open_noted s (qualified q t) = open_noted s t
 open_noted s (vector digits t) = open_noted s t
@@ -121,6 +122,7 @@ closed_noted s r (rvalue t) e = ap term_.rvalue (closed_noted s r t e)
 closed_noted s r (array digits t) e = ap (term_.array digits) (closed_noted s r t e)
 closed_noted s r (bounded bound t) e = both term_.bounded (closed_noted s r bound (or_left (is_open bound) (is_open t) e)) (closed_noted s r t (or_right (is_open bound) (is_open t) e))
 closed_noted s r (member_pointer class t) e = both term_.member_pointer (closed_noted s r class (or_left (is_open class) (is_open t) e)) (closed_noted s r t (or_right (is_open class) (is_open t) e))
+closed_noted s r (selected class t) e = both term_.selected (closed_noted s r class (or_left (is_open class) (is_open t) e)) (closed_noted s r t (or_right (is_open class) (is_open t) e))
 closed_noted s r (function_type c_linkage noexcept ref returned parameters) e = both (term_.function_type c_linkage noexcept ref) (closed_noted s r returned (or_left (is_open returned) (is_open parameters) e)) (closed_noted s r parameters (or_right (is_open returned) (is_open parameters) e))
 closed_noted s r (qualified q t) e = ap (term_.qualified q) (closed_noted s r t e)
 closed_noted s r (vector digits t) e = ap (term_.vector digits) (closed_noted s r t e)
@@ -195,6 +197,7 @@ renoted r s a (rvalue t) e = ap term_.rvalue (renoted r s a t e)
 renoted r s a (array digits t) e = ap (term_.array digits) (renoted r s a t e)
 renoted r s a (bounded bound t) e = both term_.bounded (renoted r s a bound (names_both r a (free_in bound) (free_in t) e).0) (renoted r s a t (names_both r a (free_in bound) (free_in t) e).1)
 renoted r s a (member_pointer class t) e = both term_.member_pointer (renoted r s a class (names_both r a (free_in class) (free_in t) e).0) (renoted r s a t (names_both r a (free_in class) (free_in t) e).1)
+renoted r s a (selected class t) e = both term_.selected (renoted r s a class (names_both r a (free_in class) (free_in t) e).0) (renoted r s a t (names_both r a (free_in class) (free_in t) e).1)
 renoted r s a (function_type c_linkage noexcept ref returned parameters) e = both (term_.function_type c_linkage noexcept ref) (renoted r s a returned (names_both r a (free_in returned) (free_in parameters) e).0) (renoted r s a parameters (names_both r a (free_in returned) (free_in parameters) e).1)
 renoted r s a (qualified q t) e = ap (term_.qualified q) (renoted r s a t e)
 renoted r s a (vector digits t) e = ap (term_.vector digits) (renoted r s a t e)
@@ -228,6 +231,7 @@ free_noted s (rvalue t) = free_noted s t
 free_noted s (array digits t) = free_noted s t
 free_noted s (bounded bound t) = both both_free (free_noted s bound) (free_noted s t)
 free_noted s (member_pointer class t) = both both_free (free_noted s class) (free_noted s t)
+free_noted s (selected class t) = both both_free (free_noted s class) (free_noted s t)
 free_noted s (function_type c_linkage noexcept ref returned parameters) = both both_free (free_noted s returned) (free_noted s parameters)
 free_noted s (qualified q t) = free_noted s t
 free_noted s (vector digits t) = free_noted s t
@@ -269,6 +273,7 @@ pack_none (rvalue t) = pack_none t
 pack_none (array digits t) = pack_none t
 pack_none (bounded bound t) = both first_of (pack_none bound) (pack_none t)
 pack_none (member_pointer class t) = both first_of (pack_none class) (pack_none t)
+pack_none (selected class t) = both first_of (pack_none class) (pack_none t)
 pack_none (function_type c_linkage noexcept ref returned parameters) = both first_of (pack_none returned) (pack_none parameters)
 pack_none (qualified q t) = pack_none t
 pack_none (vector digits t) = pack_none t
@@ -302,6 +307,7 @@ pack_own (rvalue t) = pack_own t
 pack_own (array digits t) = pack_own t
 pack_own (bounded bound t) = both first_of (pack_own bound) (pack_own t)
 pack_own (member_pointer class t) = both first_of (pack_own class) (pack_own t)
+pack_own (selected class t) = both first_of (pack_own class) (pack_own t)
 pack_own (function_type c_linkage noexcept ref returned parameters) = both first_of (pack_own returned) (pack_own parameters)
 pack_own (qualified q t) = pack_own t
 pack_own (vector digits t) = pack_own t
@@ -335,6 +341,7 @@ pack_some all (rvalue t) = pack_some all t
 pack_some all (array digits t) = pack_some all t
 pack_some all (bounded bound t) = both first_of (pack_some all bound) (pack_some all t)
 pack_some all (member_pointer class t) = both first_of (pack_some all class) (pack_some all t)
+pack_some all (selected class t) = both first_of (pack_some all class) (pack_some all t)
 pack_some all (function_type c_linkage noexcept ref returned parameters) = both first_of (pack_some all returned) (pack_some all parameters)
 pack_some all (qualified q t) = pack_some all t
 pack_some all (vector digits t) = pack_some all t

@@ -4,7 +4,7 @@ use Rattle.std.proofs.lemmas.Bool.{true≢false, ltb-true}
 use Rattle.cpp_grammar.specs.Items.{is_none_of, lref, collapsed}
 use Rattle.cpp_grammar.specs.Scope.{Free, none_free, one_free, several_free, both_free, first_of}
 use Rattle.cpp_grammar.specs.Term as term_
-use Rattle.cpp_term.specs.Term.{Term, alone, in_std, within, instance, local, holder, tagged, of_default, parameter, constructor, destructor, lambda, conversion, pointer, lvalue, rvalue, array, constrained, bounded, member_pointer, function_type, qualified, vector, complex, expansion, integer, pack, list, absent, decltype, inheriting, operation}
+use Rattle.cpp_term.specs.Term.{Term, alone, in_std, within, instance, local, holder, tagged, of_default, parameter, constructor, destructor, lambda, conversion, pointer, lvalue, rvalue, array, constrained, bounded, member_pointer, function_type, qualified, vector, complex, expansion, integer, pack, list, absent, decltype, inheriting, operation, selected}
 use Rattle.cpp_term.specs.Scope.{count, element, is_list, is_alone, has_pack, arguments_of, before_arguments, is_structor, without_tags, has_return_type, is_open, free_in, length_if_pack, pack_length}
 use Rattle.cpp_term.specs.Items.{Context, HeadClass, known, of_element, collapsed_of_element, collapsed_class, class_of, packs_of, is_empty}
 use Rattle.cpp_term.specs.Erased.{erase}
@@ -35,6 +35,7 @@ reargued_none (rvalue t) = ap (λ x. rvalue x) (reargued_none t)
 reargued_none (array digits t) = ap (λ x. array digits x) (reargued_none t)
 reargued_none (bounded bound t) = both (λ x y. bounded x y) (reargued_none bound) (reargued_none t)
 reargued_none (member_pointer class t) = both (λ x y. member_pointer x y) (reargued_none class) (reargued_none t)
+reargued_none (selected class t) = both (λ x y. selected x y) (reargued_none class) (reargued_none t)
 reargued_none (function_type c_linkage noexcept ref returned parameters) = both (λ x y. function_type c_linkage noexcept ref x y) (reargued_none returned) (reargued_none parameters)
 reargued_none (qualified q t) = ap (λ x. qualified q x) (reargued_none t)
 reargued_none (vector digits t) = ap (λ x. vector digits x) (reargued_none t)
@@ -69,6 +70,7 @@ reargued_twice c a (rvalue t) = ap (λ x. rvalue x) (reargued_twice c a t)
 reargued_twice c a (array digits t) = ap (λ x. array digits x) (reargued_twice c a t)
 reargued_twice c a (bounded bound t) = both (λ x y. bounded x y) (reargued_twice c a bound) (reargued_twice c a t)
 reargued_twice c a (member_pointer class t) = both (λ x y. member_pointer x y) (reargued_twice c a class) (reargued_twice c a t)
+reargued_twice c a (selected class t) = both (λ x y. selected x y) (reargued_twice c a class) (reargued_twice c a t)
 reargued_twice c a (function_type c_linkage noexcept ref returned parameters) = both (λ x y. function_type c_linkage noexcept ref x y) (reargued_twice c a returned) (reargued_twice c a parameters)
 reargued_twice c a (qualified q t) = ap (λ x. qualified q x) (reargued_twice c a t)
 reargued_twice c a (vector digits t) = ap (λ x. vector digits x) (reargued_twice c a t)
@@ -103,6 +105,7 @@ reargued_closed c (rvalue t) closed = ap (λ x. rvalue x) (reargued_closed c t c
 reargued_closed c (array digits t) closed = ap (λ x. array digits x) (reargued_closed c t closed)
 reargued_closed c (bounded bound t) closed = both (λ x y. bounded x y) (reargued_closed c bound (or_left (is_open bound) (is_open t) closed)) (reargued_closed c t (or_right (is_open bound) (is_open t) closed))
 reargued_closed c (member_pointer class t) closed = both (λ x y. member_pointer x y) (reargued_closed c class (or_left (is_open class) (is_open t) closed)) (reargued_closed c t (or_right (is_open class) (is_open t) closed))
+reargued_closed c (selected class t) closed = both (λ x y. selected x y) (reargued_closed c class (or_left (is_open class) (is_open t) closed)) (reargued_closed c t (or_right (is_open class) (is_open t) closed))
 reargued_closed c (function_type c_linkage noexcept ref returned parameters) closed = both (λ x y. function_type c_linkage noexcept ref x y) (reargued_closed c returned (or_left (is_open returned) (is_open parameters) closed)) (reargued_closed c parameters (or_right (is_open returned) (is_open parameters) closed))
 reargued_closed c (qualified q t) closed = ap (λ x. qualified q x) (reargued_closed c t closed)
 reargued_closed c (vector digits t) closed = ap (λ x. vector digits x) (reargued_closed c t closed)
@@ -138,6 +141,7 @@ open_reargued c (rvalue t) = open_reargued c t
 open_reargued c (array digits t) = open_reargued c t
 open_reargued c (bounded bound t) = both (λ x y. x || y) (open_reargued c bound) (open_reargued c t)
 open_reargued c (member_pointer class t) = both (λ x y. x || y) (open_reargued c class) (open_reargued c t)
+open_reargued c (selected class t) = both (λ x y. x || y) (open_reargued c class) (open_reargued c t)
 open_reargued c (function_type c_linkage noexcept ref returned parameters) = both (λ x y. x || y) (open_reargued c returned) (open_reargued c parameters)
 open_reargued c (qualified q t) = open_reargued c t
 open_reargued c (vector digits t) = open_reargued c t
@@ -171,6 +175,7 @@ free_reargued c (rvalue t) = free_reargued c t
 free_reargued c (array digits t) = free_reargued c t
 free_reargued c (bounded bound t) = both both_free (free_reargued c bound) (free_reargued c t)
 free_reargued c (member_pointer class t) = both both_free (free_reargued c class) (free_reargued c t)
+free_reargued c (selected class t) = both both_free (free_reargued c class) (free_reargued c t)
 free_reargued c (function_type c_linkage noexcept ref returned parameters) = both both_free (free_reargued c returned) (free_reargued c parameters)
 free_reargued c (qualified q t) = free_reargued c t
 free_reargued c (vector digits t) = free_reargued c t
@@ -204,6 +209,7 @@ erase_reargued c (rvalue t) = ap (λ x. term_.rvalue x) (erase_reargued c t)
 erase_reargued c (array digits t) = ap (λ x. term_.array digits x) (erase_reargued c t)
 erase_reargued c (bounded bound t) = both (λ x y. term_.bounded x y) (erase_reargued c bound) (erase_reargued c t)
 erase_reargued c (member_pointer class t) = both (λ x y. term_.member_pointer x y) (erase_reargued c class) (erase_reargued c t)
+erase_reargued c (selected class t) = both (λ x y. term_.selected x y) (erase_reargued c class) (erase_reargued c t)
 erase_reargued c (function_type c_linkage noexcept ref returned parameters) = both (λ x y. term_.function_type c_linkage noexcept ref x y) (erase_reargued c returned) (erase_reargued c parameters)
 erase_reargued c (qualified q t) = ap (λ x. term_.qualified q x) (erase_reargued c t)
 erase_reargued c (vector digits t) = ap (λ x. term_.vector digits x) (erase_reargued c t)
@@ -383,6 +389,7 @@ pack_reargued a (rvalue t) = pack_reargued a t
 pack_reargued a (array digits t) = pack_reargued a t
 pack_reargued a (bounded bound t) = bare_first (bare bound) (bare t) (length_if_pack a) (pack_reargued a bound) (pack_reargued a t)
 pack_reargued a (member_pointer class t) = bare_first (bare class) (bare t) (length_if_pack a) (pack_reargued a class) (pack_reargued a t)
+pack_reargued a (selected class t) = bare_first (bare class) (bare t) (length_if_pack a) (pack_reargued a class) (pack_reargued a t)
 pack_reargued a (function_type c_linkage noexcept ref returned parameters) = bare_first (bare returned) (bare parameters) (length_if_pack a) (pack_reargued a returned) (pack_reargued a parameters)
 pack_reargued a (qualified q t) = pack_reargued a t
 pack_reargued a (vector digits t) = pack_reargued a t
@@ -416,6 +423,7 @@ bare_reargued c (rvalue t) = bare_reargued c t
 bare_reargued c (array digits t) = bare_reargued c t
 bare_reargued c (bounded bound t) = both (λ x y. x || y) (bare_reargued c bound) (bare_reargued c t)
 bare_reargued c (member_pointer class t) = both (λ x y. x || y) (bare_reargued c class) (bare_reargued c t)
+bare_reargued c (selected class t) = both (λ x y. x || y) (bare_reargued c class) (bare_reargued c t)
 bare_reargued c (function_type c_linkage noexcept ref returned parameters) = both (λ x y. x || y) (bare_reargued c returned) (bare_reargued c parameters)
 bare_reargued c (qualified q t) = bare_reargued c t
 bare_reargued c (vector digits t) = bare_reargued c t

@@ -2,7 +2,7 @@
 use Rattle.std.specs.Prelude.{ℕ, List, [], ◌∷◌, Bool, true, false, ◌&&◌, Option, Some, None, Result, Ok, Err}
 use Rattle.sym_core.specs.declared.refusal.Refusal.{Refusal}
 use Rattle.sym_print.specs.Unfold.{PartOf, text, sub}
-use Rattle.cpp_grammar.specs.Term.{Term, symbol, function, object, special, thunk, of_name, construction, clone, alone, in_std, within, instance, local, holder, tagged, of_default, abbreviation, parameter, source, operator, literal_operator, constructor, destructor, lambda, generic_lambda, unnamed, string_literal, conversion, builtin, sized_float, constrained, vendor, pointer, lvalue, rvalue, array, bounded, member_pointer, function_type, qualified, vector, complex, expansion, integer, boolean, null_pointer, encoding_literal, address_of, pack, nil, list, absent, decltype, function_parameter, inheriting, operation}
+use Rattle.cpp_grammar.specs.Term.{Term, symbol, function, object, special, thunk, of_name, construction, clone, alone, in_std, within, instance, local, holder, tagged, of_default, abbreviation, parameter, source, operator, literal_operator, constructor, destructor, lambda, generic_lambda, unnamed, string_literal, conversion, builtin, sized_float, constrained, vendor, pointer, lvalue, rvalue, array, bounded, member_pointer, function_type, qualified, vector, complex, expansion, integer, boolean, null_pointer, encoding_literal, address_of, pack, nil, list, absent, decltype, function_parameter, inheriting, operation, selected}
 use Rattle.cpp_grammar.specs.Values.{Prefix, Around, Value}
 use Rattle.cpp_grammar.specs.Values as leaf_
 use Rattle.cpp_grammar.specs.Items.{Context, Item}
@@ -70,6 +70,7 @@ annotate s (rvalue t) = term_.rvalue (annotate s t)
 annotate s (array digits t) = term_.array digits (annotate s t)
 annotate s (bounded bound t) = term_.bounded (annotate s bound) (annotate s t)
 annotate s (member_pointer class t) = term_.member_pointer (annotate s class) (annotate s t)
+annotate s (selected class t) = term_.selected (annotate s class) (annotate s t)
 annotate s (function_type c_linkage noexcept ref returned parameters) = term_.function_type c_linkage noexcept ref (annotate s returned) (annotate s parameters)
 annotate s (qualified q t) = term_.qualified q (annotate s t)
 annotate s (vector digits t) = term_.vector digits (annotate s t)

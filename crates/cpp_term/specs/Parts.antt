@@ -6,7 +6,7 @@ use Rattle.sym_print.specs.Details.{has_arguments, has_parameters}
 use Rattle.sym_print.specs.Unfold.{PartOf, text, sub}
 use Rattle.cpp_grammar.specs.Texts.{same_bytes, look_up, builtin_texts, operator_texts, abbreviation_texts, special_texts, named_special_texts, literal_endings}
 use Rattle.cpp_grammar.specs.Operations.{UNARY, PRIMARY, Operand, not_printed, as_it_is, as_type, as_list, from_precedence, Operation}
-use Rattle.cpp_term.specs.Term.{Term, symbol, function, object, special, thunk, of_name, construction, clone, alone, in_std, within, instance, local, holder, tagged, of_default, abbreviation, parameter, source, operator, literal_operator, constructor, destructor, inheriting, lambda, generic_lambda, unnamed, string_literal, conversion, builtin, sized_float, constrained, vendor, pointer, lvalue, rvalue, array, bounded, member_pointer, function_type, qualified, vector, complex, decltype, expansion, integer, boolean, null_pointer, encoding_literal, address_of, operation, function_parameter, pack, nil, list, absent}
+use Rattle.cpp_term.specs.Term.{Term, symbol, function, object, special, thunk, of_name, construction, clone, alone, in_std, within, instance, local, holder, tagged, of_default, abbreviation, parameter, source, operator, literal_operator, constructor, destructor, inheriting, lambda, generic_lambda, unnamed, string_literal, conversion, builtin, sized_float, constrained, vendor, pointer, lvalue, rvalue, array, bounded, member_pointer, selected, function_type, qualified, vector, complex, decltype, expansion, integer, boolean, null_pointer, encoding_literal, address_of, operation, function_parameter, pack, nil, list, absent}
 use Rattle.cpp_grammar.specs.Term.{Qualifiers, RefQualifier, Signed}
 use Rattle.cpp_term.specs.Scope.{without_tags}
 use Rattle.cpp_term.specs.Items.{Context, Item, closed, argument, head, packs_of, is_empty}
@@ -192,6 +192,7 @@ left_parts d context (array digits t) = array_left context t
 left_parts d context (bounded bound t) = array_left context t
 left_parts d context (function_type c_linkage noexcept ref returned parameters) = as_item left context returned ∷ says " " ∷ []
 left_parts d context (member_pointer class t) = member_parts context class t
+left_parts d context (selected class t) = as_item left context class ∷ says "::" ∷ as_item left context t ∷ []
 left_parts d context (qualified q t) = qualified_left context q t
 left_parts d context (vector digits t) = as_item left context t ∷ says " __vector(" ∷ text digits ∷ says ")" ∷ []
 left_parts d context (complex t) = as_item left context t ∷ says " _Complex" ∷ []

@@ -1,6 +1,6 @@
 -- A tree whose free parameters carry another argument, and what of it depends on that argument.
 use Rattle.std.specs.Prelude.{ℕ, Bool, true, false, ◌||◌, ◌&&◌, Option, Some, None}
-use Rattle.cpp_term.specs.Term.{Term, alone, in_std, within, instance, local, holder, tagged, of_default, parameter, lambda, conversion, pointer, lvalue, rvalue, array, constrained, bounded, member_pointer, function_type, qualified, vector, complex, expansion, integer, pack, nil, list, absent, decltype, inheriting, operation}
+use Rattle.cpp_term.specs.Term.{Term, alone, in_std, within, instance, local, holder, tagged, of_default, parameter, lambda, conversion, pointer, lvalue, rvalue, array, constrained, bounded, member_pointer, function_type, qualified, vector, complex, expansion, integer, pack, nil, list, absent, decltype, inheriting, operation, selected}
 use Rattle.cpp_grammar.specs.Scope.{Free, one_free}
 use Rattle.cpp_term.specs.Scope.{element, is_alone}
 use Rattle.cpp_term.specs.Items.{HeadClass, collapsed_class}
@@ -45,6 +45,7 @@ reargued c (rvalue t) = rvalue (reargued c t)
 reargued c (array digits t) = array digits (reargued c t)
 reargued c (bounded bound t) = bounded (reargued c bound) (reargued c t)
 reargued c (member_pointer class t) = member_pointer (reargued c class) (reargued c t)
+reargued c (selected class t) = selected (reargued c class) (reargued c t)
 reargued c (function_type c_linkage noexcept ref returned parameters) = function_type c_linkage noexcept ref (reargued c returned) (reargued c parameters)
 reargued c (qualified q t) = qualified q (reargued c t)
 reargued c (vector digits t) = vector digits (reargued c t)
@@ -82,6 +83,7 @@ bare (rvalue t) = bare t
 bare (array digits t) = bare t
 bare (bounded bound t) = bare bound || bare t
 bare (member_pointer class t) = bare class || bare t
+bare (selected class t) = bare class || bare t
 bare (function_type c_linkage noexcept ref returned parameters) = bare returned || bare parameters
 bare (qualified q t) = bare t
 bare (vector digits t) = bare t

@@ -58,6 +58,7 @@ pub data Term : Type 0 where
   array : (digits : List ℕ) → (element : Term) → Term
   -- an array whose length is a parameter
   bounded : (bound element : Term) → Term
+  selected : (class type : Term) → Term
   member_pointer : (class member : Term) → Term
   function_type : (c_linkage noexcept : Bool) → RefQualifier → (returned parameters : Term) → Term
   qualified : Qualifiers → Term → Term

@@ -161,6 +161,7 @@ pub record IsOther (n : Node) : Type 0 where
   pub not_array : (d : Span) (i : ℕ) → n ≡ Node.Array d i → ⊥
   pub not_bounded : (i : ℕ) (j : ℕ) → n ≡ Node.Bounded i j → ⊥
   pub not_memberpointer : (i : ℕ) (j : ℕ) → n ≡ Node.MemberPointer i j → ⊥
+  pub not_selected : (i : ℕ) (j : ℕ) → n ≡ Node.Selected i j → ⊥
   pub not_functiontype : (x : Bool) (y : Bool) (m : Mark) (i : ℕ) (j : ℕ) → n ≡ Node.FunctionType x y m i j → ⊥
   pub not_qualified : (q : Qualifiers) (i : ℕ) → n ≡ Node.Qualified q i → ⊥
   pub not_vector : (d : Span) (i : ℕ) → n ≡ Node.Vector d i → ⊥
@@ -193,6 +194,7 @@ other-node ns (Node.Rvalue i) other = absurd (other.not_rvalue i refl)
 other-node ns (Node.Array d i) other = absurd (other.not_array d i refl)
 other-node ns (Node.Bounded i j) other = absurd (other.not_bounded i j refl)
 other-node ns (Node.MemberPointer i j) other = absurd (other.not_memberpointer i j refl)
+other-node ns (Node.Selected i j) other = absurd (other.not_selected i j refl)
 other-node ns (Node.FunctionType x y m i j) other = absurd (other.not_functiontype x y m i j refl)
 other-node ns (Node.Qualified q i) other = absurd (other.not_qualified q i refl)
 other-node ns (Node.Vector d i) other = absurd (other.not_vector d i refl)

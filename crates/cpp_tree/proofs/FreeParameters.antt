@@ -1,7 +1,7 @@
 -- Whether a tree has free parameters, by which they are.
 use Rattle.std.proofs.Common.{◌≡◌, refl, ap, ◌∙◌, sym, nat_eq, max, ℕ, length, ◌<◌, Bool, true, false, ◌||◌}
 use Rattle.cpp_grammar.specs.Scope.{Free, none_free, one_free, several_free, both_free}
-use Rattle.cpp_term.specs.Term.{Term, alone, in_std, within, instance, local, holder, tagged, of_default, inheriting, lambda, conversion, pointer, lvalue, rvalue, array, constrained, bounded, member_pointer, function_type, qualified, vector, complex, decltype, expansion, integer, operation, pack, list}
+use Rattle.cpp_term.specs.Term.{Term, alone, in_std, within, instance, local, holder, tagged, of_default, inheriting, lambda, conversion, pointer, lvalue, rvalue, array, constrained, bounded, member_pointer, function_type, qualified, vector, complex, decltype, expansion, integer, operation, pack, list, selected}
 use Rattle.cpp_term.specs.Scope.{is_open, free_in}
 use Rattle.cpp_term.proofs.Notes.{both}
 use Rattle.cpp_tree.specs.Nodes.{Table, tree_at, trees, entry_at, free_is, has_free, IsTable}
@@ -44,6 +44,7 @@ open-free (rvalue t) = open-free t
 open-free (array digits t) = open-free t
 open-free (bounded bound t) = either-open (free_in bound) (free_in t) (open-free bound) (open-free t)
 open-free (member_pointer class t) = either-open (free_in class) (free_in t) (open-free class) (open-free t)
+open-free (selected class t) = either-open (free_in class) (free_in t) (open-free class) (open-free t)
 open-free (function_type c_linkage noexcept ref returned parameters) = either-open (free_in returned) (free_in parameters) (open-free returned) (open-free parameters)
 open-free (qualified q t) = open-free t
 open-free (vector digits t) = open-free t

@@ -163,6 +163,7 @@ module _ (y : Table) (table : IsTable y) where
   node-free (Node.Array digits t) b = at t b.1
   node-free (Node.Bounded bound t) b = both-are (free_at y.nodes bound) (free_at y.nodes t) (at bound b.0) (at t b.1)
   node-free (Node.MemberPointer class t) b = both-are (free_at y.nodes class) (free_at y.nodes t) (at class b.0) (at t b.1)
+  node-free (Node.Selected class t) b = both-are (free_at y.nodes class) (free_at y.nodes t) (at class b.0) (at t b.1)
   node-free (Node.FunctionType c n m returned parameters) b = both-are (free_at y.nodes returned) (free_at y.nodes parameters) (at returned b.0) (at parameters b.1)
   node-free (Node.Qualified q t) b = at t b
   node-free (Node.Vector digits t) b = at t b.1
@@ -205,6 +206,7 @@ module _ (y : Table) (table : IsTable y) where
   node-by-argument (Node.Array digits t) b = ap passed (by-argument-at t b.1)
   node-by-argument (Node.Bounded bound t) b = rw (by-argument-at bound b.0, by-argument-at t b.1) refl
   node-by-argument (Node.MemberPointer class t) b = rw (by-argument-at class b.0, by-argument-at t b.1) refl
+  node-by-argument (Node.Selected class t) b = rw (by-argument-at class b.0, by-argument-at t b.1) refl
   node-by-argument (Node.FunctionType c n m returned parameters) b = rw (by-argument-at returned b.0, by-argument-at parameters b.1) refl
   node-by-argument (Node.Qualified q t) b = ap (λ l. of_head l.head l) (by-argument-at t b)
   node-by-argument (Node.Vector digits t) b = ap passed (by-argument-at t b.1)
@@ -523,6 +525,7 @@ module _ (y : Table) (table : IsTable y) where
   node-pack (Node.Array digits t) b = pack-at t b.1
   node-pack (Node.Bounded bound t) b = rw (pack-at bound b.0, pack-at t b.1) refl
   node-pack (Node.MemberPointer class t) b = rw (pack-at class b.0, pack-at t b.1) refl
+  node-pack (Node.Selected class t) b = rw (pack-at class b.0, pack-at t b.1) refl
   node-pack (Node.FunctionType c n m returned parameters) b = rw (pack-at returned b.0, pack-at parameters b.1) refl
   node-pack (Node.Qualified q t) b = pack-at t b
   node-pack (Node.Vector digits t) b = pack-at t b.1

@@ -89,6 +89,7 @@ module _ (s : List ℕ) (us : List Thunk) (ts : List Term) (t : Term) (i : ℕ) 
   node-stays (Node.Array digits x) b = rw (early x b.1) refl
   node-stays (Node.Bounded bound x) b = rw (early bound b.0, early x b.1) refl
   node-stays (Node.MemberPointer class x) b = rw (early class b.0, early x b.1) refl
+  node-stays (Node.Selected class x) b = rw (early class b.0, early x b.1) refl
   node-stays (Node.FunctionType c n m returned parameters) b = rw (early returned b.0, early parameters b.1) refl
   node-stays (Node.Qualified q x) b = rw (early x b) refl
   node-stays (Node.Vector digits x) b = rw (early x b.1) refl

@@ -1,9 +1,9 @@
 -- What a tree has beside its production: numbers, texts and the trees of its parts. The productions are constants of the code.
 use Rattle.std.specs.Prelude.{ℕ, ◌+◌, ◌*◌, List, [], ◌∷◌, ◌-◌, ◌++◌, Bool, true, false, ◌==◌, ◌||◌, nat_lt, if◌then◌else◌, cond, get_or, Option, Some, None}
-use Rattle.cpp_grammar.specs.Term.{Qualifiers, RefQualifier, any_value, lvalue_only, rvalue_only, Signed, non_virtual, by_table, Thunk, adjusting, covariant, Term, symbol, function, object, special, thunk, of_name, construction, clone, alone, in_std, within, instance, local, holder, tagged, of_default, abbreviation, parameter, source, operator, literal_operator, constructor, destructor, inheriting, lambda, generic_lambda, unnamed, string_literal, conversion, builtin, sized_float, constrained, vendor, pointer, lvalue, rvalue, array, bounded, member_pointer, function_type, qualified, vector, complex, decltype, expansion, integer, boolean, null_pointer, encoding_literal, address_of, operation, function_parameter, pack, nil, list, absent}
+use Rattle.cpp_grammar.specs.Term.{Qualifiers, RefQualifier, any_value, lvalue_only, rvalue_only, Signed, non_virtual, by_table, Thunk, adjusting, covariant, Term, symbol, function, object, special, thunk, of_name, construction, clone, alone, in_std, within, instance, local, holder, tagged, of_default, abbreviation, parameter, source, operator, literal_operator, constructor, destructor, inheriting, lambda, generic_lambda, unnamed, string_literal, conversion, builtin, sized_float, constrained, vendor, pointer, lvalue, rvalue, array, bounded, member_pointer, function_type, qualified, vector, complex, decltype, expansion, integer, boolean, null_pointer, encoding_literal, address_of, operation, function_parameter, pack, nil, list, absent, selected}
 use Rattle.cpp_tree.specs.declared.view.Names.{Names}
 use Rattle.cpp_tree.specs.declared.view.TheConstants.{ALONE, IN_STD, NESTED}
-use Rattle.cpp_tree.specs.declared.tree_production.TheConstants.{ABSENT, NIL, LIST, SYMBOL, FUNCTION, OBJECT, SPECIAL, GUARD, OF_NAME, CONSTRUCTION, CLONE, THUNK, TABLE_THUNK, COVARIANT_THUNK, WIDE_THUNK, INSTANCE, LOCAL, NUMBERED_LOCAL, HOLDER, TAGGED, OF_DEFAULT, ABBREVIATION, PARAMETER, BUILTIN, BUILTIN_WITH_D, SIZED_FLOAT, BOUNDED, CONSTRAINED, VENDOR, POINTER, LVALUE, RVALUE, ARRAY, MEMBER_POINTER, FUNCTION_TYPE, QUALIFIED, VECTOR, COMPLEX, DECLTYPE, EXPANSION, INTEGER, BOOLEAN, NULL_POINTER, ENCODING_LITERAL, ADDRESS_OF, OPERATION, FUNCTION_PARAMETER, PACK, NO_NODE}
+use Rattle.cpp_tree.specs.declared.tree_production.TheConstants.{ABSENT, NIL, LIST, SYMBOL, FUNCTION, OBJECT, SPECIAL, GUARD, OF_NAME, CONSTRUCTION, CLONE, THUNK, TABLE_THUNK, COVARIANT_THUNK, WIDE_THUNK, INSTANCE, LOCAL, NUMBERED_LOCAL, HOLDER, TAGGED, OF_DEFAULT, ABBREVIATION, PARAMETER, BUILTIN, BUILTIN_WITH_D, SIZED_FLOAT, BOUNDED, CONSTRAINED, VENDOR, POINTER, LVALUE, RVALUE, ARRAY, MEMBER_POINTER, FUNCTION_TYPE, QUALIFIED, VECTOR, COMPLEX, DECLTYPE, EXPANSION, INTEGER, BOOLEAN, NULL_POINTER, ENCODING_LITERAL, ADDRESS_OF, OPERATION, FUNCTION_PARAMETER, PACK, NO_NODE, SELECTED}
 
 -- a production, its two numbers, the bytes of its two texts, and the trees of its parts
 pub record Fields : Type 0 where
@@ -112,6 +112,7 @@ fields_of (rvalue type) = fields RVALUE 0 0 [] (type ∷ [])
 fields_of (array digits element) = fields ARRAY 0 0 digits (element ∷ [])
 fields_of (bounded bound element) = fields BOUNDED 0 0 [] (bound ∷ element ∷ [])
 fields_of (member_pointer class member) = fields MEMBER_POINTER 0 0 [] (class ∷ member ∷ [])
+fields_of (selected class type) = fields SELECTED 0 0 [] (class ∷ type ∷ [])
 fields_of (function_type c_linkage noexcept mark returned parameters) =
     fields FUNCTION_TYPE (linkage_number c_linkage noexcept) (mark_number mark) [] (returned ∷ parameters ∷ [])
 fields_of (qualified q type) = fields QUALIFIED (qualifiers_number q) 0 [] (type ∷ [])
@@ -247,6 +248,7 @@ narrow_tree_from given = tree_at given.production (
     ∷ (ARRAY, array (text_in given 0) (part_in given 0))
     ∷ (BOUNDED, bounded (part_in given 0) (part_in given 1))
     ∷ (MEMBER_POINTER, member_pointer (part_in given 0) (part_in given 1))
+    ∷ (SELECTED, selected (part_in given 0) (part_in given 1))
     ∷ (FUNCTION_TYPE, function_type (c_linkage_in (number_in given 0)) (noexcept_in (number_in given 0)) (mark_in (number_in given 1)) (part_in given 0) (part_in given 1))
     ∷ (QUALIFIED, qualified (qualifiers_in (number_in given 0)) (part_in given 0))
     ∷ (VECTOR, vector (text_in given 0) (part_in given 0))

@@ -224,6 +224,10 @@ pub enum Node {
         class: u32,
         member: u32,
     },
+    Selected {
+        class: u32,
+        ty: u32,
+    },
     FunctionType {
         c_linkage: bool,
         noexcept: bool,

@@ -811,6 +811,7 @@ impl Nodes {
             Node::MemberPointer { class, member } => {
                 self.noted_types(node, class, member, Words::Plain)
             }
+            Node::Selected { class, ty } => self.noted_types(node, class, ty, Words::Plain),
             Node::FunctionType {
                 returned,
                 parameters,

@@ -2,7 +2,7 @@
 use Rattle.std.proofs.Common.{◌≡◌, ℕ, ◌+◌, ◌-◌, ◌≤◌, inl, inr, length, List, [], ◌∷◌, ◌++◌, Option, Some, None, Bool, true, false, ap, arith, sym, subst}
 use Rattle.std.specs.Prelude.{codes, cond}
 use Rattle.sym_spell.specs.Pressing.{◌and◌, text}
-use Rattle.cpp_grammar.specs.Term.{Qualifiers, RefQualifier, Term, symbol, function, object, special, thunk, of_name, construction, clone, alone, in_std, within, instance, local, holder, tagged, of_default, abbreviation, parameter, source, operator, literal_operator, constructor, destructor, inheriting, lambda, generic_lambda, unnamed, string_literal, conversion, builtin, sized_float, constrained, vendor, pointer, lvalue, rvalue, array, bounded, member_pointer, function_type, qualified, vector, complex, decltype, expansion, integer, boolean, null_pointer, encoding_literal, address_of, operation, function_parameter, pack, nil, list, absent}
+use Rattle.cpp_grammar.specs.Term.{Qualifiers, RefQualifier, Term, symbol, function, object, special, thunk, of_name, construction, clone, alone, in_std, within, instance, local, holder, tagged, of_default, abbreviation, parameter, source, operator, literal_operator, constructor, destructor, inheriting, lambda, generic_lambda, unnamed, string_literal, conversion, builtin, sized_float, constrained, vendor, pointer, lvalue, rvalue, array, bounded, member_pointer, function_type, qualified, vector, complex, decltype, expansion, integer, boolean, null_pointer, encoding_literal, address_of, operation, function_parameter, pack, nil, list, absent, selected}
 use Rattle.cpp_grammar.specs.Scope.{count, has_return_type}
 use Rattle.cpp_grammar.specs.Values.{Around}
 use Rattle.cpp_grammar.specs.Between.{in_name, in_types, in_signature, under_expansion}
@@ -320,6 +320,7 @@ adds (lvalue type) = type-ways-add (lvalue type) _ _ (λ x w. w) (λ slot around
 adds (rvalue type) = type-ways-add (rvalue type) _ _ (λ x w. w) (λ slot around allowed place cs fits. after-bytes 1 2 (codes "O") (omega arith) ((adds type).at fit.as_type any_type around allowed (place + length (codes "O")) cs fits.1))
 adds (array digits type) = type-ways-add (array digits type) _ _ (λ x w. w) (λ slot around allowed place cs fits. after-bytes 1 2 (codes "A" ++ digits ++ codes "_") (omega arith) ((adds type).at fit.as_type any_type around allowed (place + length (codes "A" ++ digits ++ codes "_")) cs fits.2))
 adds (bounded bound type) = nowhere-ways-add (bounded bound type) _
+adds (selected class type) = nowhere-ways-add (selected class type) _
 adds (qualified q type) = type-ways-add (qualified q type) _ _ (λ x w. w) (λ slot around allowed place cs fits. after-bytes 1 2 (qualifier_letters q) (omega (arith, letters-long q fits.1)) ((adds type).at fit.as_type bare_type around allowed (place + length (qualifier_letters q)) cs fits.2))
 adds (vector digits type) = type-ways-add (vector digits type) _ _ (λ x w. w) (λ slot around allowed place cs fits. after-bytes 1 2 (codes "Dv" ++ digits ++ codes "_") (omega arith) ((adds type).at fit.as_type any_type around allowed (place + length (codes "Dv" ++ digits ++ codes "_")) cs fits.2))
 adds (complex type) = type-ways-add (complex type) _ _ (λ x w. w) (λ slot around allowed place cs fits. after-bytes 1 2 (codes "C") (omega arith) ((adds type).at fit.as_type any_type around allowed (place + length (codes "C")) cs fits.1))

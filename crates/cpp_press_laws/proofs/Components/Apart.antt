@@ -2,7 +2,7 @@
 use Rattle.std.proofs.Common.{◌≡◌, ℕ, suc, ◌+◌, ◌-◌, ◌<◌, inl, inr, List, [], ◌∷◌, ◌++◌, Option, Bool, true, false, refl, arith}
 use Rattle.std.specs.Prelude.{cond, ◌&&◌, codes}
 use Rattle.sym_spell.specs.Pressing.{◌and◌, text}
-use Rattle.cpp_grammar.specs.Term.{RefQualifier, Term, symbol, function, object, special, thunk, of_name, construction, clone, alone, in_std, within, instance, local, holder, tagged, of_default, abbreviation, parameter, source, operator, literal_operator, constructor, destructor, inheriting, lambda, generic_lambda, unnamed, string_literal, conversion, builtin, sized_float, constrained, vendor, pointer, lvalue, rvalue, array, bounded, member_pointer, function_type, qualified, vector, complex, decltype, expansion, integer, boolean, null_pointer, encoding_literal, address_of, operation, function_parameter, pack, nil, list, absent}
+use Rattle.cpp_grammar.specs.Term.{RefQualifier, Term, symbol, function, object, special, thunk, of_name, construction, clone, alone, in_std, within, instance, local, holder, tagged, of_default, abbreviation, parameter, source, operator, literal_operator, constructor, destructor, inheriting, lambda, generic_lambda, unnamed, string_literal, conversion, builtin, sized_float, constrained, vendor, pointer, lvalue, rvalue, array, bounded, member_pointer, function_type, qualified, vector, complex, decltype, expansion, integer, boolean, null_pointer, encoding_literal, address_of, operation, function_parameter, pack, nil, list, absent, selected}
 use Rattle.cpp_press_laws.specs.Texts.{counted, ordinal, signed_text, qualifier_letters, mark_letter, name_letters, special_code, thunk_text, discriminator_text}
 use Rattle.cpp_press_laws.specs.Components.{Spelling, component}
 use Rattle.cpp_press_laws.specs.Pressing.{Ways, no_ways, type_ways, function_text, in_N_and_E, with_letters, name_ways, template_before, is_operator, is_one_piece, entity_text, local_text, begun, encoding_ways, piece_ways, argument_ways, ways_of, pressed}
@@ -301,6 +301,7 @@ ways-grow whole (rvalue type) in_whole n = typed whole n (rvalue type) (front (c
 ways-grow whole (array digits type) in_whole n = typed whole n (array digits type) (front (codes "A" ++ digits ++ codes "_") (more-grows (ways-grow whole type in_whole n way.as_type) (omega arith)))
 ways-grow whole (bounded bound type) in_whole n = no-ways-grow whole (bounded bound type)
 ways-grow whole (member_pointer class member) in_whole n = typed whole n (member_pointer class member) (front (codes "M") (and-grows (more-grows (ways-grow whole class (λ x w. in_whole x (inl w)) n way.as_type) (omega arith)) (more-grows (ways-grow whole member (λ x w. in_whole x (inr w)) n way.as_type) (omega arith))))
+ways-grow whole (selected class type) in_whole n = no-ways-grow whole (selected class type)
 ways-grow whole (qualified q type) in_whole n = typed whole n (qualified q type) (front (qualifier_letters q) (more-grows (ways-grow whole type in_whole n way.under_qualifiers) (omega arith)))
 ways-grow whole (vector digits type) in_whole n = typed whole n (vector digits type) (front (codes "Dv" ++ digits ++ codes "_") (more-grows (ways-grow whole type in_whole n way.as_type) (omega arith)))
 ways-grow whole (complex type) in_whole n = typed whole n (complex type) (front (codes "C") (more-grows (ways-grow whole type in_whole n way.as_type) (omega arith)))

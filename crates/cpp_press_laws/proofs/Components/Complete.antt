@@ -2,7 +2,7 @@
 use Rattle.std.proofs.Common.{◌≡◌, ℕ, ◌+◌, ◌<◌, ◌≤◌, ◌⊎◌, inl, inr, length, List, [], ◌∷◌, ◌++◌, Bool, true, false, refl, ap, arith, sym, subst, ◌∙◌, length-append, zero, suc, Option, Some, None}
 use Rattle.std.specs.Prelude.{cond, ◌&&◌, ◌||◌, slice_get}
 use Rattle.std.proofs.lemmas.Bool.{true≢false, or_parts}
-use Rattle.cpp_grammar.specs.Term.{Term, symbol, alone, in_std, within, instance, local, holder, tagged, of_default, inheriting, lambda, conversion, pointer, lvalue, rvalue, array, constrained, bounded, member_pointer, function_type, qualified, vector, complex, decltype, expansion, integer, operation, pack, list}
+use Rattle.cpp_grammar.specs.Term.{Term, symbol, alone, in_std, within, instance, local, holder, tagged, of_default, inheriting, lambda, conversion, pointer, lvalue, rvalue, array, constrained, bounded, member_pointer, function_type, qualified, vector, complex, decltype, expansion, integer, operation, pack, list, selected}
 use Rattle.cpp_grammar.specs.Scope.{is_open}
 use Rattle.cpp_grammar.specs.Values.{Candidate}
 use Rattle.cpp_grammar.specs.References.{is_function_type}
@@ -64,6 +64,10 @@ inside-shut (member_pointer class member) x closed (inl i) =
     itself-shut class x (Inside class x) (or_parts (is_open class) (is_open member) closed).0 (inside-shut class x (or_parts (is_open class) (is_open member) closed).0) i
 inside-shut (member_pointer class member) x closed (inr i) =
     itself-shut member x (Inside member x) (or_parts (is_open class) (is_open member) closed).1 (inside-shut member x (or_parts (is_open class) (is_open member) closed).1) i
+inside-shut (selected class type) x closed (inl i) =
+    itself-shut class x (Inside class x) (or_parts (is_open class) (is_open type) closed).0 (inside-shut class x (or_parts (is_open class) (is_open type) closed).0) i
+inside-shut (selected class type) x closed (inr i) =
+    itself-shut type x (Inside type x) (or_parts (is_open class) (is_open type) closed).1 (inside-shut type x (or_parts (is_open class) (is_open type) closed).1) i
 inside-shut (function_type c_linkage noexcept ref returned parameters) x closed (inl i) =
     itself-shut returned x (Inside returned x) (or_parts (is_open returned) (is_open parameters) closed).0 (inside-shut returned x (or_parts (is_open returned) (is_open parameters) closed).0) i
 inside-shut (function_type c_linkage noexcept ref returned parameters) x closed (inr i) =

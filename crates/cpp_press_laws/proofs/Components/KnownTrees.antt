@@ -3,7 +3,7 @@
 use Rattle.std.proofs.Common.{◌≡◌, ℕ, ◌-◌, ◌<◌, ◌⊎◌, inl, inr, length, List, [], ◌∷◌, ◌++◌, Option, Bool, true, false, refl, arith}
 use Rattle.std.specs.Prelude.{◌&&◌, codes, cond}
 use Rattle.sym_spell.specs.Pressing.{◌and◌, text, nothing}
-use Rattle.cpp_grammar.specs.Term.{Term, symbol, function, object, special, thunk, of_name, construction, clone, alone, in_std, within, instance, local, holder, tagged, of_default, abbreviation, parameter, source, operator, literal_operator, constructor, destructor, inheriting, lambda, generic_lambda, unnamed, string_literal, conversion, builtin, sized_float, constrained, vendor, pointer, lvalue, rvalue, array, bounded, member_pointer, function_type, qualified, vector, complex, decltype, expansion, integer, boolean, null_pointer, encoding_literal, address_of, operation, function_parameter, pack, nil, list, absent, adjusting, covariant, Thunk}
+use Rattle.cpp_grammar.specs.Term.{Term, symbol, function, object, special, thunk, of_name, construction, clone, alone, in_std, within, instance, local, holder, tagged, of_default, abbreviation, parameter, source, operator, literal_operator, constructor, destructor, inheriting, lambda, generic_lambda, unnamed, string_literal, conversion, builtin, sized_float, constrained, vendor, pointer, lvalue, rvalue, array, bounded, member_pointer, function_type, qualified, vector, complex, decltype, expansion, integer, boolean, null_pointer, encoding_literal, address_of, operation, function_parameter, pack, nil, list, absent, adjusting, covariant, Thunk, selected}
 use Rattle.cpp_grammar.specs.Scope.{is_open}
 use Rattle.cpp_press_laws.specs.Texts.{counted, ordinal, signed_text, qualifier_letters, mark_letter, name_letters, special_code, thunk_text, discriminator_text}
 use Rattle.cpp_press_laws.specs.Components.{Spelling, ended, component}
@@ -361,6 +361,7 @@ keeps (rvalue type) open_ n R = typed-keep open_ n R (rvalue type) _ (λ x w. w)
 keeps (array digits type) open_ n R = typed-keep open_ n R (array digits type) _ (λ x w. w) (λ x w. w) (λ h. behind-text-keeps open_ n R (codes "A" ++ digits ++ codes "_") ((ways_of n type).as_type) (keeps type open_ n R way.as_type h))
 keeps (bounded bound type) open_ n R = no-ways-keep open_ n R (bounded bound type)
 keeps (member_pointer class member) open_ n R = typed-keep open_ n R (member_pointer class member) _ (λ x w. w) (λ x w. w) (λ h. behind-text-keeps open_ n R (codes "M") ((ways_of n class).as_type and (ways_of n member).as_type) (and-keeps open_ n R ((ways_of n class).as_type) ((ways_of n member).as_type) (keeps class open_ n R way.as_type (λ x w. h x (inl w))) (keeps member open_ n R way.as_type (λ x w. h x (inr w)))))
+keeps (selected class type) open_ n R = no-ways-keep open_ n R (selected class type)
 keeps (qualified q type) open_ n R = typed-keep open_ n R (qualified q type) _ (λ x w. w) (λ x w. w) (λ h. behind-text-keeps open_ n R (qualifier_letters q) ((ways_of n type).under_qualifiers) (keeps type open_ n R way.under_qualifiers h))
 keeps (vector digits type) open_ n R = typed-keep open_ n R (vector digits type) _ (λ x w. w) (λ x w. w) (λ h. behind-text-keeps open_ n R (codes "Dv" ++ digits ++ codes "_") ((ways_of n type).as_type) (keeps type open_ n R way.as_type h))
 keeps (complex type) open_ n R = typed-keep open_ n R (complex type) _ (λ x w. w) (λ x w. w) (λ h. behind-text-keeps open_ n R (codes "C") ((ways_of n type).as_type) (keeps type open_ n R way.as_type h))

@@ -3,7 +3,7 @@ use Rattle.std.proofs.Common.{◌≡◌, ℕ, ◌+◌, ◌⊎◌, inl, inr, List
 use Rattle.std.specs.Prelude.{not, ◌&&◌, ◌||◌, nat_eq}
 use Rattle.std.proofs.Math.Bool.{and-true}
 use Rattle.std.proofs.lemmas.Bool.{eq-eqb, eqb-true, and_parts, false≢true}
-use Rattle.cpp_grammar.specs.Term.{Term, symbol, function, object, special, thunk, of_name, construction, clone, alone, in_std, within, instance, local, holder, tagged, of_default, parameter, inheriting, lambda, generic_lambda, conversion, vendor, pointer, lvalue, rvalue, array, constrained, bounded, member_pointer, function_type, qualified, vector, complex, decltype, expansion, integer, encoding_literal, address_of, operation, pack, list}
+use Rattle.cpp_grammar.specs.Term.{Term, symbol, function, object, special, thunk, of_name, construction, clone, alone, in_std, within, instance, local, holder, tagged, of_default, parameter, inheriting, lambda, generic_lambda, conversion, vendor, pointer, lvalue, rvalue, array, constrained, bounded, member_pointer, function_type, qualified, vector, complex, decltype, expansion, integer, encoding_literal, address_of, operation, pack, list, selected}
 use Rattle.cpp_grammar.specs.Scope.{is_open}
 use Rattle.cpp_press_laws.specs.Same.{same_tree}
 use Rattle.cpp_press_laws.specs.Components.{Component, is_same, first_equal}
@@ -87,6 +87,7 @@ Inside (rvalue type) x = ItselfOr type (Inside type x) x
 Inside (array digits type) x = ItselfOr type (Inside type x) x
 Inside (bounded bound type) x = ItselfOr bound (Inside bound x) x ⊎ ItselfOr type (Inside type x) x
 Inside (member_pointer class member) x = ItselfOr class (Inside class x) x ⊎ ItselfOr member (Inside member x) x
+Inside (selected class type) x = ItselfOr class (Inside class x) x ⊎ ItselfOr type (Inside type x) x
 Inside (function_type c_linkage noexcept ref returned parameters) x = ItselfOr returned (Inside returned x) x ⊎ Inside parameters x
 Inside (qualified q type) x = UnqualifiedOr type (Inside type x) x
 Inside (vector digits type) x = ItselfOr type (Inside type x) x

@@ -4,7 +4,7 @@ use Rattle.std.proofs.Common.{ap, sym}
 use Rattle.std.proofs.lemmas.Bool.{eqb-true, eq-eqb}
 use Rattle.sym_spell.proofs.Tests.{both, all}
 use Rattle.cpp_grammar.specs.Texts.{same_bytes}
-use Rattle.cpp_grammar.specs.Term.{Qualifiers, RefQualifier, any_value, lvalue_only, rvalue_only, Signed, Adjustment, non_virtual, by_table, Thunk, adjusting, covariant, Term, symbol, function, object, special, thunk, of_name, construction, clone, alone, in_std, within, instance, local, holder, tagged, of_default, abbreviation, parameter, source, operator, literal_operator, constructor, destructor, inheriting, lambda, generic_lambda, unnamed, string_literal, conversion, builtin, sized_float, constrained, vendor, pointer, lvalue, rvalue, array, bounded, member_pointer, function_type, qualified, vector, complex, decltype, expansion, integer, boolean, null_pointer, encoding_literal, address_of, operation, function_parameter, pack, nil, list, absent}
+use Rattle.cpp_grammar.specs.Term.{Qualifiers, RefQualifier, any_value, lvalue_only, rvalue_only, Signed, Adjustment, non_virtual, by_table, Thunk, adjusting, covariant, Term, symbol, function, object, special, thunk, of_name, construction, clone, alone, in_std, within, instance, local, holder, tagged, of_default, abbreviation, parameter, source, operator, literal_operator, constructor, destructor, inheriting, lambda, generic_lambda, unnamed, string_literal, conversion, builtin, sized_float, constrained, vendor, pointer, lvalue, rvalue, array, bounded, member_pointer, function_type, qualified, vector, complex, decltype, expansion, integer, boolean, null_pointer, encoding_literal, address_of, operation, function_parameter, pack, nil, list, absent, selected}
 use Rattle.cpp_press_laws.specs.Same.{same_truth, same_qualifiers, same_mark, same_signed, same_adjustment, same_thunk, same_discriminator, same_tree}
 
 never : false ≡ true → ⊥
@@ -237,6 +237,9 @@ equal-tree (bounded a0 a1) (bounded b0 b1) h =
 equal-tree (member_pointer a0 a1) (member_pointer b0 b1) h =
     let e0 : a0 ≡ b0 = equal-tree a0 b0 (both h).0 in
     let e1 : a1 ≡ b1 = equal-tree a1 b1 (both h).1 in cc
+equal-tree (selected a0 a1) (selected b0 b1) h =
+    let e0 : a0 ≡ b0 = equal-tree a0 b0 (both h).0 in
+    let e1 : a1 ≡ b1 = equal-tree a1 b1 (both h).1 in cc
 equal-tree (function_type a0 a1 a2 a3 a4) (function_type b0 b1 b2 b3 b4) h =
     let p = both_5 h in
     let e0 : a0 ≡ b0 = equal-truth a0 b0 p.0 in
@@ -325,6 +328,7 @@ tree-itself (rvalue t) = tree-itself t
 tree-itself (array digits t) = all (bytes-itself digits) (tree-itself t)
 tree-itself (bounded bound t) = all (tree-itself bound) (tree-itself t)
 tree-itself (member_pointer class t) = all (tree-itself class) (tree-itself t)
+tree-itself (selected class t) = all (tree-itself class) (tree-itself t)
 tree-itself (function_type c_linkage noexcept ref returned parameters) = all (all (all (all (truth-itself c_linkage) (truth-itself noexcept)) (mark-itself ref)) (tree-itself returned)) (tree-itself parameters)
 tree-itself (qualified q t) = all (qualifiers-itself q) (tree-itself t)
 tree-itself (vector digits t) = all (bytes-itself digits) (tree-itself t)

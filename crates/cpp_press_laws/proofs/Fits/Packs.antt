@@ -4,7 +4,7 @@ use Rattle.std.specs.Prelude.{nat_eq}
 use Rattle.std.proofs.lemmas.Bool.{eqb-true, true≢false, or_parts}
 use Rattle.sym_core.specs.declared.refusal.Refusal.{Refusal}
 use Rattle.sym_core.specs.declared.refusal.Refusal.TheVariants.{BadReference}
-use Rattle.cpp_grammar.specs.Term.{Term, symbol, alone, in_std, within, instance, local, holder, tagged, of_default, parameter, inheriting, lambda, conversion, pointer, lvalue, rvalue, array, constrained, bounded, member_pointer, function_type, qualified, vector, complex, decltype, integer, operation, pack, list}
+use Rattle.cpp_grammar.specs.Term.{Term, symbol, alone, in_std, within, instance, local, holder, tagged, of_default, parameter, inheriting, lambda, conversion, pointer, lvalue, rvalue, array, constrained, bounded, member_pointer, function_type, qualified, vector, complex, decltype, integer, operation, pack, list, selected}
 use Rattle.cpp_grammar.specs.Scope.{is_open, first_of, pack_length}
 use Rattle.cpp_grammar.specs.Values.{State}
 use Rattle.cpp_grammar.specs.References.{with_packs}
@@ -48,6 +48,9 @@ closed-packs scope (bounded bound type) closed =
 closed-packs scope (member_pointer class member) closed =
     first-none (pack_length scope class) (pack_length scope member) (closed-packs scope class (or_parts (is_open class) (is_open member) closed).0)
     (closed-packs scope member (or_parts (is_open class) (is_open member) closed).1)
+closed-packs scope (selected class type) closed =
+    first-none (pack_length scope class) (pack_length scope type) (closed-packs scope class (or_parts (is_open class) (is_open type) closed).0)
+    (closed-packs scope type (or_parts (is_open class) (is_open type) closed).1)
 closed-packs scope (function_type c_linkage noexcept ref returned parameters) closed =
     first-none (pack_length scope returned) (pack_length scope parameters) (closed-packs scope returned (or_parts (is_open returned) (is_open parameters) closed).0)
     (closed-packs scope parameters (or_parts (is_open returned) (is_open parameters) closed).1)

@@ -5,7 +5,7 @@ use Rattle.sym_spell.specs.Pressing as spell
 use Rattle.sym_spell.specs.Pressing.{◌and◌, text, nothing}
 use Rattle.sym_spell.specs.Digits.{digit36}
 use Rattle.sym_spell.proofs.DigitValues.{Divides, digits-count}
-use Rattle.cpp_grammar.specs.Term.{RefQualifier, any_value, lvalue_only, rvalue_only, Term, symbol, function, object, special, thunk, of_name, construction, clone, alone, in_std, within, instance, local, holder, tagged, of_default, abbreviation, parameter, source, operator, literal_operator, constructor, destructor, inheriting, lambda, generic_lambda, unnamed, string_literal, conversion, builtin, sized_float, constrained, vendor, pointer, lvalue, rvalue, array, bounded, member_pointer, function_type, qualified, vector, complex, decltype, expansion, integer, boolean, null_pointer, encoding_literal, address_of, operation, function_parameter, pack, nil, list, absent}
+use Rattle.cpp_grammar.specs.Term.{RefQualifier, any_value, lvalue_only, rvalue_only, Term, symbol, function, object, special, thunk, of_name, construction, clone, alone, in_std, within, instance, local, holder, tagged, of_default, abbreviation, parameter, source, operator, literal_operator, constructor, destructor, inheriting, lambda, generic_lambda, unnamed, string_literal, conversion, builtin, sized_float, constrained, vendor, pointer, lvalue, rvalue, array, bounded, member_pointer, function_type, qualified, vector, complex, decltype, expansion, integer, boolean, null_pointer, encoding_literal, address_of, operation, function_parameter, pack, nil, list, absent, selected}
 use Rattle.cpp_grammar.specs.References.{is_function_type}
 use Rattle.cpp_grammar.specs.Meaning.{is_nil}
 use Rattle.cpp_press_laws.specs.Texts.{counted, ordinal, signed_text, qualifier_letters, mark_letter, name_letters, special_code, thunk_text, discriminator_text}
@@ -508,6 +508,7 @@ all-short (rvalue type) n = typed-all n (rvalue type) _ refl refl refl (behind-t
 all-short (array digits type) n = typed-all n (array digits type) _ refl refl refl (behind-text (part_of type (size type)) (size (array digits type)) (codes "A" ++ digits ++ codes "_") ((ways_of n type).as_type) (omega (arith, length-append digits (codes "_"))) (all-short type n way.as_type))
 all-short (bounded bound type) n = none-all (bounded bound type)
 all-short (member_pointer class member) n = typed-all n (member_pointer class member) _ refl refl refl (behind-text (part_of class (size class) + part_of member (size member)) (size (member_pointer class member)) (codes "M") ((ways_of n class).as_type and (ways_of n member).as_type) (omega arith) (and-within (part_of class (size class)) (part_of member (size member)) (part_of class (size class) + part_of member (size member)) (ways_of n class).as_type ((ways_of n member).as_type) (omega arith) (all-short class n way.as_type) (all-short member n way.as_type)))
+all-short (selected class type) n = none-all (selected class type)
 all-short (qualified q type) n = typed-all n (qualified q type) _ refl refl refl (behind-text (bare_of type (size type)) (size (qualified q type)) (qualifier_letters q) ((ways_of n type).under_qualifiers) (omega arith) (all-short type n way.under_qualifiers))
 all-short (vector digits type) n = typed-all n (vector digits type) _ refl refl refl (behind-text (part_of type (size type)) (size (vector digits type)) (codes "Dv" ++ digits ++ codes "_") ((ways_of n type).as_type) (omega (arith, length-append digits (codes "_"))) (all-short type n way.as_type))
 all-short (complex type) n = typed-all n (complex type) _ refl refl refl (behind-text (part_of type (size type)) (size (complex type)) (codes "C") ((ways_of n type).as_type) (omega arith) (all-short type n way.as_type))

@@ -8,6 +8,7 @@ unreachable-requires c = compound_type c.args.production c.requires.family
     c.in_default.not-RestrictType
     c.in_default.not-VolatileType
     c.in_default.not-MemberPointer
+    c.in_default.not-SelectedType
     c.in_default.not-ArrayType
     c.in_default.not-AnyArray
     c.in_default.not-LengthArray

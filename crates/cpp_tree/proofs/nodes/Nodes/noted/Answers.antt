@@ -24,6 +24,7 @@ returns-in_default c =
       not_array = c.in_default.not-Array;
       not_bounded = c.in_default.not-Bounded;
       not_memberpointer = c.in_default.not-MemberPointer;
+      not_selected = c.in_default.not-Selected;
       not_functiontype = c.in_default.not-FunctionType;
       not_qualified = c.in_default.not-Qualified;
       not_vector = c.in_default.not-Vector;
