@@ -844,10 +844,11 @@ def extended(text, name, lines):
     return text[:start] + "".join("\n" + line for line in lines) + text[end:]
 
 def with_imports(text, constants):
-    """the text, with the names of trees, of their makers and of what views call them imported that its declarations name"""
-    trees = [t[0] for t in words.TREES]
+    """the text, with the names of trees, of their makers, of what views call them and of kinds imported that its declarations name"""
+    trees, kinds = [t[0] for t in words.TREES], [snake(kind).upper() for kind in grammar.K]
     for module, names, used in ((r"cpp_(?:grammar|term)\.specs\.Term", trees, r"(?<!\w)\({0} "), (r"cpp_grammar\.specs\.Makers", ["new_" + t for t in trees], r"(?<![\w.]){0}(?!\w)"),
-                                (r"cpp_tree\.specs\.declared\.tree_production\.TheConstants", constants, r"(?<![\w.]){0}(?!\w)")):
+                                (r"cpp_tree\.specs\.declared\.tree_production\.TheConstants", constants, r"(?<![\w.]){0}(?!\w)"),
+                                (r"cpp_grammar\.specs\.KindNumbers", kinds, r"(?<![\w.]){0}(?!\w)")):
         lines = [m for m in re.finditer(rf"^use Rattle\.{module}\.{{(.*)}}$", text, re.M) if len(set(names) & set(m[1].split(", "))) > 1]
         if not lines: continue
         known = {n for line in re.findall(r"^use \S+\.\{(.*)\}$", text, re.M) for n in line.split(", ")}
