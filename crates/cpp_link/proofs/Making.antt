@@ -134,6 +134,14 @@ other_close s Production.Substitution byte around place began vs state other own
 other_close s Production.Inheriting byte around place began vs state other own = absurd (own refl)
 other_close s _ byte around place began vs state other own = refl
 
+-- it closes to what it stands for
+pub stands_closes : (s : List ℕ) (p : Production) (byte : ℕ) (around : Around) (place : ℕ) (vs : List Value) (state then : State) (packs : Option ℕ) (v : Value) → (p ≡ Production.Substitution → ⊥) → (p ≡ Production.Inheriting → ⊥)
+    → v ≡ link_meaning s p byte place around vs → ((began : State) → began.packs ≡ packs → behind p byte around began vs state ≡ then)
+    → (began : State) → began.packs ≡ packs → link_close s p byte around place began vs state ≡ Ok (found v then)
+stands_closes s p byte around place vs state then packs v other own is comes began same =
+    other_close s p byte around place began vs state other own
+    ∙ ap (λ v. Ok (found v (behind p byte around began vs state))) (sym is) ∙ ap (λ t. Ok (found v t)) (comes began same)
+
 module _ (s : List ℕ) (p : Production) (byte : ℕ) (around : Around) (place : ℕ) (vs : List Value) (state then : State) (packs : Option ℕ) (value : Part → Value) (result : Result Part Refusal) where
   abbrev named : Result (Found Value State) Refusal
   named = substituted around (place - 1) (slice_get state.candidates (counted_value Seq36 (text_of (part vs 0)))) state
@@ -164,7 +172,5 @@ module _ (s : List ℕ) (p : Production) (byte : ℕ) (around : Around) (place :
       go : (r : Result Part Refusal) → IfOk r (λ made. value made ≡ link_meaning s p byte place around vs)
           → OnOk r ((began : State) → began.packs ≡ packs → behind p byte around began vs state ≡ then)
           → IfOk r (λ made. (began : State) → began.packs ≡ packs → link_close s p byte around place began vs state ≡ Ok (found (value made) then))
-      go (Ok made) is comes = λ began same.
-          other_close s p byte around place began vs state other own
-          ∙ ap (λ v. Ok (found v (behind p byte around began vs state))) (sym is) ∙ ap (λ t. Ok (found (value made) t)) (comes began same)
+      go (Ok made) is comes = stands_closes s p byte around place vs state then packs (value made) other own is comes
       go (Err e) is comes = tt

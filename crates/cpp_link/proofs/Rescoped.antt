@@ -4,7 +4,6 @@ use Rattle.std.specs.Prelude.{Result, OnOk}
 use Rattle.std.proofs.lemmas.List.{length-drop, take-append-drop}
 use Rattle.std.proofs.lemmas.Bool.{true≢false, false≢true}
 use Rattle.sym_core.specs.declared.refusal.Refusal.{Refusal}
-use Rattle.sym_core.specs.declared.refusal.Refusal.TheVariants.{Memory}
 use Rattle.sym_link.specs.declared.language.Frame.{Frame}
 use Rattle.sym_link.specs.Reading.{Open, Found}
 use Rattle.sym_link.specs.Driving.{Fails}
@@ -255,14 +254,6 @@ lambda_put_right s old new frame parts new_parts own made owned byte done same l
   where
     ok_same : (f g : Found Value State) → ◌≡◌ {A = Result (Found Value State) Refusal} (Ok f) (Ok g) → f ≡ g
     ok_same f g e = cc
-
--- a lambda is refused as in the other reading: never but for want of memory
-pub lambda_refused_as : (s : List ℕ) (old new : Linked) (frame : Frame Surroundings) (parts new_parts own : List Part) (e : Refusal) (byte : ℕ) → own ≡ drop frame.base parts → production_at frame.rule ≡ Production.Lambda
-    → ((began : State) → Fails e (link_close s Production.Lambda byte (around_of (trees_in s old.nodes) frame.kept) frame.place began (values_in s old.nodes own) (state_of s old)))
-    → ClosesAll (wide_view s) s old new frame parts new_parts (Err e)
-unfolding link_close
-lambda_refused_as s old new frame parts new_parts own Memory byte same lambda refused rule known state is = tt
-lambda_refused_as s old new frame parts new_parts own e byte same lambda refused rule known state is = let clash = refused rule.before in absurd cc
 
 -- ## How many nodes are made
 
