@@ -21,18 +21,6 @@ returns-in-ParameterArgument-clause-of c = subst (λ p. IfOk c.parameter-in-Para
 pub returns-in-ParameterExpression-clause-of : goal.returns-in-ParameterExpression-clause-of
 returns-in-ParameterExpression-clause-of c = subst (λ p. IfOk c.parameter_argument.result (λ step. IsStepOf p 1 step)) (sym c.in-ParameterExpression.is) (expression_steps c.parameter_argument.result)
 
-parameter_is_no_pack : Production.Parameter ≡ Production.PackArgument → ⊥
-parameter_is_no_pack h = cc
-
-nest_is_no_pack : Production.NestParameter ≡ Production.PackArgument → ⊥
-nest_is_no_pack h = cc
-
-argument_is_no_pack : Production.ParameterArgument ≡ Production.PackArgument → ⊥
-argument_is_no_pack h = cc
-
-expression_is_no_pack : Production.ParameterExpression ≡ Production.PackArgument → ⊥
-expression_is_no_pack h = cc
-
 pub returns-in-PackArgument-clause-is : goal.returns-in-PackArgument-clause-is
 unfolding between
 returns-in-PackArgument-clause-is c cs = rw c.in-PackArgument.is (sym (c.pack.ensures.is c.args.kept (value_in c.args.symbol.now c.args.self.now.nodes c.args.first) cs))
@@ -41,16 +29,16 @@ pub returns-in-PackArgument-clause-of : goal.returns-in-PackArgument-clause-of
 returns-in-PackArgument-clause-of c = subst (λ p. IsStepOf p 1 c.pack.result) (sym c.in-PackArgument.is) c.pack.ensures.of
 
 pub returns-in-Parameter-clause-pack : goal.returns-in-Parameter-clause-pack
-returns-in-Parameter-clause-pack c is = absurd (parameter_is_no_pack (sym c.in-Parameter.is ∙ is))
+returns-in-Parameter-clause-pack c is = let clash : Production.Parameter ≡ Production.PackArgument = sym c.in-Parameter.is ∙ is in absurd cc
 
 pub returns-in-NestParameter-clause-pack : goal.returns-in-NestParameter-clause-pack
-returns-in-NestParameter-clause-pack c is = absurd (nest_is_no_pack (sym c.in-NestParameter.is ∙ is))
+returns-in-NestParameter-clause-pack c is = let clash : Production.NestParameter ≡ Production.PackArgument = sym c.in-NestParameter.is ∙ is in absurd cc
 
 pub returns-in-ParameterArgument-clause-pack : goal.returns-in-ParameterArgument-clause-pack
-returns-in-ParameterArgument-clause-pack c is = absurd (argument_is_no_pack (sym c.in-ParameterArgument.is ∙ is))
+returns-in-ParameterArgument-clause-pack c is = let clash : Production.ParameterArgument ≡ Production.PackArgument = sym c.in-ParameterArgument.is ∙ is in absurd cc
 
 pub returns-in-ParameterExpression-clause-pack : goal.returns-in-ParameterExpression-clause-pack
-returns-in-ParameterExpression-clause-pack c is = absurd (expression_is_no_pack (sym c.in-ParameterExpression.is ∙ is))
+returns-in-ParameterExpression-clause-pack c is = let clash : Production.ParameterExpression ≡ Production.PackArgument = sym c.in-ParameterExpression.is ∙ is in absurd cc
 
 pub returns-in-PackArgument-clause-pack : goal.returns-in-PackArgument-clause-pack
 returns-in-PackArgument-clause-pack c is = c.pack.ensures.made
