@@ -1,4 +1,4 @@
-use Rattle.std.proofs.Common.{◌≡◌, sym, ◌∙◌, subst, [], ◌∷◌}
+use Rattle.std.proofs.Common.{◌≡◌, sym, ◌∙◌, ap, subst, [], ◌∷◌, get_or}
 use Rattle.std.specs.Prelude.{IfOk}
 use Rattle.cpp_grammar.specs.declared.production.Production.{Production}
 use Rattle.cpp_term.specs.Between.{between}
@@ -6,20 +6,24 @@ use Rattle.cpp_link.specs.Parts.{value_in}
 use Rattle.cpp_link.specs.Owed.{made_before}
 use Rattle.cpp_link.specs.NodeCount.{makes_before}
 use Rattle.cpp_link.specs.Stepping.{IsStepOf, nodes_of_step}
-use Rattle.cpp_link.proofs.Stepping.{parameter_steps, nest_parameter_steps, argument_steps, expression_steps}
+use Rattle.cpp_link.proofs.Stepping.{first_steps}
 use Rattle.cpp_link.proofs.linked.Linked.step_behind_first.Goals as goal
 
 pub returns-in-Parameter-clause-of : goal.returns-in-Parameter-clause-of
-returns-in-Parameter-clause-of c = subst (λ p. IfOk c.parameter.result (λ step. IsStepOf p 1 step)) (sym c.in-Parameter.is) (parameter_steps c.parameter.result)
+unfolding made_before
+returns-in-Parameter-clause-of c = first_steps c.args.production c.parameter.result (ap (λ p. get_or (made_before p) 1 0) c.in-Parameter.is)
 
 pub returns-in-NestParameter-clause-of : goal.returns-in-NestParameter-clause-of
-returns-in-NestParameter-clause-of c = subst (λ p. IfOk c.parameter-in-NestParameter.result (λ step. IsStepOf p 1 step)) (sym c.in-NestParameter.is) (nest_parameter_steps c.parameter-in-NestParameter.result)
+unfolding made_before
+returns-in-NestParameter-clause-of c = first_steps c.args.production c.parameter-in-NestParameter.result (ap (λ p. get_or (made_before p) 1 0) c.in-NestParameter.is)
 
 pub returns-in-ParameterArgument-clause-of : goal.returns-in-ParameterArgument-clause-of
-returns-in-ParameterArgument-clause-of c = subst (λ p. IfOk c.parameter-in-ParameterArgument.result (λ step. IsStepOf p 1 step)) (sym c.in-ParameterArgument.is) (argument_steps c.parameter-in-ParameterArgument.result)
+unfolding made_before
+returns-in-ParameterArgument-clause-of c = first_steps c.args.production c.parameter-in-ParameterArgument.result (ap (λ p. get_or (made_before p) 1 0) c.in-ParameterArgument.is)
 
 pub returns-in-ParameterExpression-clause-of : goal.returns-in-ParameterExpression-clause-of
-returns-in-ParameterExpression-clause-of c = subst (λ p. IfOk c.parameter_argument.result (λ step. IsStepOf p 1 step)) (sym c.in-ParameterExpression.is) (expression_steps c.parameter_argument.result)
+unfolding made_before
+returns-in-ParameterExpression-clause-of c = first_steps c.args.production c.parameter_argument.result (ap (λ p. get_or (made_before p) 1 0) c.in-ParameterExpression.is)
 
 pub returns-in-PackArgument-clause-is : goal.returns-in-PackArgument-clause-is
 unfolding between
