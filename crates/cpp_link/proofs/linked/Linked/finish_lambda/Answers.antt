@@ -3,10 +3,7 @@ use Rattle.std.specs.Prelude.{slice_index}
 use Rattle.sym_link.proofs.Lists.{rest_all}
 use Rattle.cpp_grammar.specs.declared.production.Production.{Production}
 use Rattle.cpp_link.specs.LinkRescoping.{wide_view}
-use Rattle.cpp_link.specs.Making.{state_of}
 use Rattle.cpp_link.specs.NodeCount.{makes_at_end}
-use Rattle.cpp_link.specs.Parts.{trees_in, value_in, packs_of, around_of}
-use Rattle.cpp_link.proofs.Making.{stands_closes}
 use Rattle.cpp_link.proofs.Finishing.{lacking_finishes, put_finishes}
 use Rattle.cpp_link.proofs.Rescoped.{lambda_put_right}
 use Rattle.cpp_link.proofs.linked.Linked.finish_lambda.Goals as goal
@@ -29,8 +26,6 @@ returns c =
     c.deref.ensures.value (sym c.requires.lambda) c.requires.room.paid.begun c.in_ok-made.ensures.few c.make_rare.ensures.keeps c.put.ensures.keeps
     c.put.result c.as_generic_lambda.result c.put.ensures.items c.put.ensures.memory c.put.ensures.rest c.put.ensures.full
     (λ done items. lambda_put_right s old new frame parts c.put.new.parts.items _ c.in_ok-made.made c.as_generic_lambda.result (slice_index s frame.place) done (rw c.deref.ensures.value (rest_all c.args.parts.now.items c.args.frame.now.base)) c.requires.lambda
-    (stands_closes s Production.Lambda (slice_index s frame.place) (around_of (trees_in s old.nodes) frame.kept) frame.place _ (state_of s old) (state_of s new) (packs_of frame.kept) (value_in s new.nodes c.in_ok-made.made)
-    (λ is. cc is) (λ is. cc is) c.in_ok-made.ensures.value c.in_ok-made.ensures.state)
-    c.as_generic_lambda.ensures.value c.as_generic_lambda.ensures.there c.in_ok-made.ensures.whole items)
+    c.in_ok-made.ensures.value c.in_ok-made.ensures.state c.as_generic_lambda.ensures.value c.as_generic_lambda.ensures.there c.in_ok-made.ensures.whole items)
     c.in_ok-made.ensures.grows c.in_ok-made.ensures.makes c.in_ok-made.ensures.paid in
     record { closes = had.closes; adds = had.adds; few = had.few; makes = had.makes; pays = had.pays; roomy = had.roomy }
