@@ -187,7 +187,7 @@ generic_goes : (around : Around) (at : ℕ) (state : State) (k : ℕ) (n : Next 
 unfolding generic_so_far
 generic_goes around at state k n is e =
     let t = parameter (generic_number k) in
-    let good : Good (Bare true around) t = record { closed = λ bare. absurd (true≢false (sym is ∙ bare.1 refl)); scopes = tt } in
+    let good : Good (Bare true around) t = record { closed = λ bare. absurd (true≢false (sym is ∙ bare.1 refl)); scopes = λ n. tt } in
     named_goes around at state (appended around t state) t n good (grows_one true around at t state good) e
 
 here_goes : (around : Around) (place at : ℕ) (state : State) (k : ℕ) (n : Next Value State Around) → GoodPrefix (Bare true around) around.prefix → parameter_here around place k [] state ≡ Ok n → GoesOn true around at state n
@@ -213,7 +213,7 @@ argument_here_goes around place at state k n pre e = go around.in_lambda refl e
     go : (b : Bool) → around.in_lambda ≡ b → ◌≡◌ {A = Going} (elim b [ true ↦ next (tree (parameter (generic_number k)) true ∷ []) around state | false ↦ argument_so_far around place k state ]) (Ok n) →
         GoesOn true around at state n
     go true is h =
-        let good : Good (Bare true around) named = record { closed = λ bare. absurd (true≢false (sym is ∙ bare.1 refl)); scopes = tt } in
+        let good : Good (Bare true around) named = record { closed = λ bare. absurd (true≢false (sym is ∙ bare.1 refl)); scopes = λ n. tt } in
         goes_to true around at state (tree named true ∷ []) around state n (good, tt) (grows_same true around at state state refl) (fits_same true around pre) h
     go false is h = tests_goes true around place at state k false (nothing_there ∷ []) n pre (good_nothing (Bare true around), tt) h
 

@@ -89,7 +89,7 @@ unfolding appended
 grows_one own around end t state good = record {
   more = record { tree = t; encoding = around.encoding; in_lambda = around.in_lambda; is_held = false } ∷ [];
   is = refl;
-  each = (record { scopes = good.scopes; place = inl (refl, λ none outside. good.closed (none, outside)) }, tt);
+  each = (record { scopes = good.scopes tt; place = inl (refl, λ none outside. good.closed (none, outside)) }, tt);
 }
 
 pub grows_held : (own : Bool) (around : Around) (end : ℕ) (t : Term) (state : State) → Good (Bare own around) t → Grows own around end state (with_holder around t state)
@@ -97,7 +97,7 @@ unfolding with_holder
 grows_held own around end t state good = record {
   more = record { tree = t; encoding = around.encoding; in_lambda = around.in_lambda; is_held = true } ∷ [];
   is = refl;
-  each = (record { scopes = good.scopes; place = inl (refl, λ none outside. good.closed (none, outside)) }, tt);
+  each = (record { scopes = good.scopes tt; place = inl (refl, λ none outside. good.closed (none, outside)) }, tt);
 }
 
 pub grows_then : (own : Bool) (around : Around) (a b : ℕ) (x y z : State) → a ≤ b → Grows own around a x y → Grows own around b y z → Grows own around b x z
@@ -201,7 +201,7 @@ named_good own around place at c state r old outside e = go (is_open c.tree) aro
         let b = behind_bind (with_packs place around.in_expansion (packs_in around.scope c.tree) state) (λ s. Ok (found (tree c.tree true) s)) r h in
         let same : found (tree c.tree true) b.value ≡ r = ok_same (found (tree c.tree true) b.value) r b.next in
         subst (λ x. Good (Bare own around) (held x.value) × (x.state.candidates ≡ state.candidates)) same
-        (record { closed = closed; scopes = old.scopes }, packs_keep place around.in_expansion (packs_in around.scope c.tree) state b.value b.is)
+        (record { closed = closed; scopes = λ n. old.scopes }, packs_keep place around.in_expansion (packs_in around.scope c.tree) state b.value b.is)
 
     go : (open_ lambda_ same : Bool) → is_open c.tree ≡ open_ → around.in_lambda ≡ lambda_ → nat_eq c.encoding around.encoding ≡ same →
         ◌≡◌ {A = Result (Found Value State) Refusal} (elim (open_ && (lambda_ || not same)) [
@@ -223,7 +223,7 @@ substituted_good around place at n state r all e = go (slice_get state.candidate
     go (Some c) is h = named_good false around place at c state r (old_get false around at state.candidates n c all is) (λ opens none. absurd (false≢true none)) h
 
 pub parameter_good : (own : Bool) (around : Around) (k : ℕ) → (Bare own around → ⊥) → Good (Bare own around) (parameter k)
-parameter_good own around k named = record { closed = λ bare. absurd (named bare); scopes = tt }
+parameter_good own around k named = record { closed = λ bare. absurd (named bare); scopes = λ n. tt }
 
 -- a parameter that wasn't refused was named in a scope, and is a candidate
 pub record Named (own : Bool) (around : Around) (k end : ℕ) (old new : State) : Type 0 where
@@ -294,7 +294,7 @@ behind_grows own production byte around began vs state end pre all name = go (ro
     v = meaning production byte around vs
 
     gains : Grows own around end state (gained (row_of production).gain around vs v state)
-    gains = gained_grows own (row_of production).gain around vs v state end pre all (good_tree (Bare own around) v (meaning_good (Bare own around) production byte around vs pre all name))
+    gains = gained_grows own (row_of production).gain around vs v state end pre all (good_tree (Bare own around) v (meaning_good (Bare own around) production byte around vs pre all (λ n. name)))
 
     go : (b : Bool) → Grows own around end state (cond b (record (gained (row_of production).gain around vs v state) { packs = began.packs }) (gained (row_of production).gain around vs v state))
     go true = grows_packs own around end state (gained (row_of production).gain around vs v state) began.packs gains
@@ -310,7 +310,7 @@ made_good : (own : Bool) (production : Production) (byte : ℕ) (around : Around
     ◌≡◌ {A = Result (Found Value State) Refusal} (Ok (found (meaning production byte around vs) (unfolding_.behind production byte around began vs state))) (Ok r) → Comes own around end state r
 made_good own production byte around began vs state r end pre all name e =
     subst (λ x. Comes own around end state x) (ok_same (found (meaning production byte around vs) (unfolding_.behind production byte around began vs state)) r e)
-    (record { good = meaning_good (Bare own around) production byte around vs pre all name; grows = behind_grows own production byte around began vs state end pre all name })
+    (record { good = meaning_good (Bare own around) production byte around vs pre all (λ n. name); grows = behind_grows own production byte around began vs state end pre all name })
 
 pub close_good : (production : Production) (byte : ℕ) (around : Around) (place : ℕ) (began : State) (vs : List Value) (state : State) (r : Found Value State) (end : ℕ) →
     AllOld false around end state.candidates → GoodPrefix (Bare false around) around.prefix → AllGood (Within false production around) vs → HasClosedName production vs →
@@ -343,7 +343,7 @@ scope_good around place t k state r scopes e = go around.scope refl e
         let b = behind_bind (with_packs place around.in_expansion (pack_length arguments t) state) (λ s. Ok (found (tree t true) s)) r h in
         let scoped : Bare true around → ⊥ = λ bare. (let clash : None ≡ Some arguments = sym bare.0 ∙ is in cc) in
         subst (λ x. IsNamed around state x) (ok_same (found (tree t true) b.value) r b.next)
-        (record { closed = λ bare. absurd (scoped bare); scopes = scopes }, packs_keep place around.in_expansion (pack_length arguments t) state b.value b.is)
+        (record { closed = λ bare. absurd (scoped bare); scopes = λ n. scopes }, packs_keep place around.in_expansion (pack_length arguments t) state b.value b.is)
 
     go : (o : Option Term) → around.scope ≡ o → ◌≡◌ {A = Result (Found Value State) Refusal} (elim o [
       | None ↦ Err (BadReference place)
@@ -367,7 +367,7 @@ under_good around place t m state r scopes e = go around.scope refl e
     tested arguments true is h =
         let scoped : Bare true around → ⊥ = λ bare. (let clash : None ≡ Some arguments = sym bare.0 ∙ is in cc) in
         subst (λ x. IsNamed around state x) (ok_same (found (tree t true) state) r h)
-        (record { closed = λ bare. absurd (scoped bare); scopes = scopes }, refl)
+        (record { closed = λ bare. absurd (scoped bare); scopes = λ n. scopes }, refl)
 
     go : (o : Option Term) → around.scope ≡ o → ◌≡◌ {A = Result (Found Value State) Refusal} (elim o [
       | None ↦ Err (BadReference place)
@@ -392,7 +392,7 @@ restated_good around place t state r scopes e = go around.in_lambda refl e
     ]) (Ok r) → IsNamed around state r
     go true is h =
         subst (λ x. IsNamed around state x) (ok_same (found (tree t true) state) r h)
-        (record { closed = λ bare. absurd (true≢false (sym is ∙ bare.1 refl)); scopes = scopes }, refl)
+        (record { closed = λ bare. absurd (true≢false (sym is ∙ bare.1 refl)); scopes = λ n. scopes }, refl)
     go false is h = free_good (free_in t) around place t state r scopes h
 
 wide_named_good : (around : Around) (place at : ℕ) (c : Candidate) (state : State) (r : Found Value State) → IsOld true around at c → substituted_wide around place (Some c) state ≡ Ok r → IsNamed around state r
@@ -441,8 +441,8 @@ unfolding lambda_with is_open
 lambda_good s t number scopes = go (is_open t) refl
   where
     go : (b : Bool) → is_open t ≡ b → Good s (elim b [ true ↦ generic_lambda t number | false ↦ lambda t number ])
-    go true is = record { closed = λ h. refl; scopes = scopes }
-    go false is = record { closed = λ h. is; scopes = scopes }
+    go true is = record { closed = λ h. refl; scopes = λ n. scopes }
+    go false is = record { closed = λ h. is; scopes = λ n. scopes }
 
 lambda_comes : (byte : ℕ) (around : Around) (vs : List Value) (state : State) (r : Found Value State) (end : ℕ) → GoodPrefix (Bare true around) around.prefix → AllGood (Within true Production.Lambda around) vs →
     ◌≡◌ {A = Result (Found Value State) Refusal} (Ok (found (as_generic_lambda (meaning Production.Lambda byte around vs)) state)) (Ok r) → Comes true around end state r
@@ -451,21 +451,21 @@ lambda_comes byte around vs state r end pre all e =
     let s = Within true Production.Lambda around in
     let t = parameters (list (tree_of (part vs 0)) (no_items (part vs 1))) in
     let number = local_number (text_of (part vs 3)) in
-    let good = meaning_good s Production.Lambda byte around vs (prefix_where (Bare true around) s around.prefix (λ within. within.0) pre) all tt in
+    let good = meaning_good s Production.Lambda byte around vs (prefix_where (Bare true around) s around.prefix (λ within. within.0) pre) all (λ n. tt) in
     subst (λ x. Comes true around end state x) (ok_same (found (piece (lambda_with t number)) state) r e)
-    (record { good = lambda_good (Bare true around) t number good.scopes; grows = grows_same true around end state state refl })
+    (record { good = lambda_good (Bare true around) t number (good.scopes tt); grows = grows_same true around end state state refl })
 
 -- what is declared of an argument is no tree
 letter_comes : (byte : ℕ) (around : Around) (state : State) (r : Found Value State) (end : ℕ) → ◌≡◌ {A = Result (Found Value State) Refusal} (Ok (found (letter byte) state)) (Ok r) → Comes true around end state r
 unfolding held is_open
 letter_comes byte around state r end e =
-    subst (λ x. Comes true around end state x) (ok_same (found (letter byte) state) r e) (record { good = record { closed = λ h. refl; scopes = tt }; grows = grows_same true around end state state refl })
+    subst (λ x. Comes true around end state x) (ok_same (found (letter byte) state) r e) (record { good = record { closed = λ h. refl; scopes = λ n. tt }; grows = grows_same true around end state state refl })
 
 -- what is asked of arguments stands for nothing
 nothing_comes : (around : Around) (state : State) (r : Found Value State) (end : ℕ) → ◌≡◌ {A = Result (Found Value State) Refusal} (Ok (found nothing_there state)) (Ok r) → Comes true around end state r
 unfolding held is_open
 nothing_comes around state r end e =
-    subst (λ x. Comes true around end state x) (ok_same (found nothing_there state) r e) (record { good = record { closed = λ h. refl; scopes = tt }; grows = grows_same true around end state state refl })
+    subst (λ x. Comes true around end state x) (ok_same (found nothing_there state) r e) (record { good = record { closed = λ h. refl; scopes = λ n. tt }; grows = grows_same true around end state state refl })
 
 -- a base class is counted
 pub base_grows : (around : Around) (end : ℕ) (t : Term) (state : State) → Good (Bare true around) t → Grows true around end state (with_base around t state)
@@ -487,7 +487,7 @@ inheriting_comes : (byte : ℕ) (around : Around) (vs : List Value) (state : Sta
     ◌≡◌ {A = Result (Found Value State) Refusal} (Ok (found (meaning Production.Inheriting byte around vs) (counted_base around (part vs 1) state))) (Ok r) → Comes true around end state r
 inheriting_comes byte around vs state r end pre all e =
     subst (λ x. Comes true around end state x) (ok_same (found (meaning Production.Inheriting byte around vs) (counted_base around (part vs 1) state)) r e)
-    (record { good = meaning_good (Bare true around) Production.Inheriting byte around vs pre all tt; grows = counted_grows around end (part vs 1) state (good_held (Bare true around) vs 1 all) })
+    (record { good = meaning_good (Bare true around) Production.Inheriting byte around vs pre all (λ n. tt); grows = counted_grows around end (part vs 1) state (good_held (Bare true around) vs 1 all) })
 
 pub wide_close_good : (production : Production) (byte : ℕ) (around : Around) (place : ℕ) (began : State) (vs : List Value) (state : State) (r : Found Value State) (end : ℕ) →
     AllOld true around end state.candidates → GoodPrefix (Bare true around) around.prefix → AllGood (Within true production around) vs → HasClosedName production vs →

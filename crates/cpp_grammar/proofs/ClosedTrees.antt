@@ -331,11 +331,11 @@ Whole rule taken at around state = standing rule taken at around state
 
 nothing_good : (own : Bool) (around : Around) → Good (Bare own around) (held nothing_there)
 unfolding held is_open
-nothing_good own around = record { closed = λ h. refl; scopes = tt }
+nothing_good own around = record { closed = λ h. refl; scopes = λ n. tt }
 
 text_good : (own : Bool) (around : Around) (bytes : List ℕ) → Good (Bare own around) (held (text bytes))
 unfolding held is_open
-text_good own around bytes = record { closed = λ h. refl; scopes = tt }
+text_good own around bytes = record { closed = λ h. refl; scopes = λ n. tt }
 
 first_good : (v : Value) (vs : List Value) → vs ≡ v ∷ [] → ScopesAreClosed (tree_of v) → ScopesAreClosed (first_tree vs)
 unfolding first_tree
@@ -482,7 +482,7 @@ module _ (w : Way) (keeps : KeepsClosed w) where
       let end = from + length (spell t ++ (spell u ++ [])) in
       subst (λ x. InnerComes w.own Production.Encoding around end state x) same
       (record {
-        means = λ byte. good_encoding (Bare w.own around) c.value (no_items d.value) (named.closed (refl, λ o. refl)) named.scopes
+        means = λ byte. good_encoding (Bare w.own around) c.value (no_items d.value) (λ n. named.closed (refl, λ o. refl)) named.scopes
             (good_no_items (Bare w.own (in_types at name)) d.value (good_tree (Bare w.own (in_types at name)) d.value d.good)).scopes;
         grows = grows_then w.own around end end state first.part.state second.part.state (omega arith)
             (grows_inner w.own around (in_name at) at end state first.part.state refl lt more
@@ -581,7 +581,7 @@ module _ (w : Way) (keeps : KeepsClosed w) where
       let whole = behind_bind (unfold_tree (reading_by w) first_around 0 shape first_state) (λ whole. Ok (first_tree whole.value)) t e in
       let comes = tree_good_by shape (OfKind SYMBOL) first_around 0 first_state whole.value (known 0 (lit≤ tt)) is (omega arith) (λ opening. absurd (false≢true opening)) tt tt whole.is in
       let same : first_tree whole.value.value ≡ t = ok_same (first_tree whole.value.value) t whole.next in
-      subst (λ x. ScopesAreClosed x) same (first_good comes.value whole.value.value comes.is (good_tree (Bare w.own first_around) comes.value comes.good).scopes)
+      subst (λ x. ScopesAreClosed x) same (first_good comes.value whole.value.value comes.is ((good_tree (Bare w.own first_around) comes.value comes.good).scopes tt))
 
 -- ## Each reading
 
