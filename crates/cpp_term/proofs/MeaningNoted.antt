@@ -25,7 +25,7 @@ use Rattle.cpp_term.specs.Builders as builder_
 use Rattle.cpp_term.specs.Own as code_
 use Rattle.cpp_term.specs.Meant as meant_
 use Rattle.cpp_term.specs.Annotated.{Place, nowhere, around_place, place_of, place_in, annotate, noted_value, noted_values, noted_prefix, noted_around}
-use Rattle.cpp_term.proofs.Notes.{both, arguments_noted, noted_in, types_place, closed_noted}
+use Rattle.cpp_term.proofs.Notes.{both, choose, arguments_noted, noted_in, types_place, closed_noted}
 
 pub three : {A B C D : Type 0} (f : A → B → C → D) {a b : A} {c d : B} {x y : C} → a ≡ b → c ≡ d → x ≡ y → f a c x ≡ f b d y
 three f {a} {b} {c} {d} {x} {y} e g h = ap (λ z. f z c x) e ∙ both (f b) g h
@@ -200,13 +200,8 @@ nil_noted s _ = refl
 
 pub parameters_noted : (s : Place) (t : Term) → noted_.parameters (annotate s t) ≡ annotate s (meaning_.parameters t)
 unfolding noted_.parameters meaning_.parameters annotate
-parameters_noted s (list e rest) = go (meaning_.is_void e && meaning_.is_nil rest) (noted_.is_void (annotate s e) && noted_.is_nil (annotate s rest)) (both (λ x y. x && y) (void_noted s e) (nil_noted s rest))
-  where
-    go : (b c : Bool) → c ≡ b → elim c [ true ↦ term_.nil | false ↦ term_.list (annotate s e) (annotate s rest) ] ≡ annotate s (elim b [ true ↦ nil | false ↦ list e rest ])
-    go true true e = refl
-    go false false e = refl
-    go true false e = absurd cc
-    go false true e = absurd cc
+parameters_noted s (list e rest) =
+    choose (λ t u. u ≡ annotate s t) (meaning_.is_void e && meaning_.is_nil rest) (noted_.is_void (annotate s e) && noted_.is_nil (annotate s rest)) _ _ _ _ (both (λ x y. x && y) (void_noted s e) (nil_noted s rest)) (λ h. refl) (λ h. refl)
 parameters_noted s _ = refl
 
 parameters_part : (s : Place) (vs : List Value) (k : ℕ) → noted_.parameters (value_.tree_of (value_.part (noted_values s vs) k)) ≡ annotate s (meaning_.parameters (tree_of (part vs k)))
@@ -280,24 +275,13 @@ ends_noted s _ = refl
 
 argument_enclosed : (s : Place) (v : Value) → noted_.enclosed_argument (noted_value s v) ≡ noted_value s (meaning_.enclosed_argument v)
 unfolding noted_.enclosed_argument meaning_.enclosed_argument noted_.in_parentheses meaning_.in_parentheses noted_value annotate
-argument_enclosed s v = go (noted_.ends_arguments (value_.tree_of (noted_value s v))) (meaning_.ends_arguments (tree_of v)) (ap noted_.ends_arguments (tree_noted s v) ∙ ends_noted s (tree_of v))
-  where
-    go : (c b : Bool) → c ≡ b → (elim c as (λ _. value_.Value) [ true ↦ value_.tree (noted_.in_parentheses (value_.tree_of (noted_value s v))) true | false ↦ noted_value s v ])
-        ≡ noted_value s (elim b as (λ _. Value) [ true ↦ leaf_.tree (meaning_.in_parentheses (tree_of v)) true | false ↦ v ])
-    go true true e = ap (λ t. value_.tree (noted_.in_parentheses t) true) (tree_noted s v)
-    go false false e = refl
-    go true false e = absurd cc
-    go false true e = absurd cc
+argument_enclosed s v =
+    choose (λ a b. b ≡ noted_value s a) (meaning_.ends_arguments (tree_of v)) (noted_.ends_arguments (value_.tree_of (noted_value s v))) _ _ _ _
+    (ap noted_.ends_arguments (tree_noted s v) ∙ ends_noted s (tree_of v)) (λ h. ap (λ t. value_.tree (noted_.in_parentheses t) true) (tree_noted s v)) (λ h. refl)
 
 element_enclosed : (s : Place) (t : Term) → noted_.enclosed_element (annotate s t) ≡ annotate s (meaning_.enclosed_element t)
 unfolding noted_.enclosed_element meaning_.enclosed_element noted_.in_parentheses meaning_.in_parentheses annotate
-element_enclosed s t = go (noted_.is_comma (annotate s t)) (meaning_.is_comma t) (comma_noted s t)
-  where
-    go : (c b : Bool) → c ≡ b → (elim c as (λ _. term_.Term) [ true ↦ noted_.in_parentheses (annotate s t) | false ↦ annotate s t ]) ≡ annotate s (elim b as (λ _. Term) [ true ↦ meaning_.in_parentheses t | false ↦ t ])
-    go true true e = refl
-    go false false e = refl
-    go true false e = absurd cc
-    go false true e = absurd cc
+element_enclosed s t = choose (λ u w. w ≡ annotate s u) (meaning_.is_comma t) (noted_.is_comma (annotate s t)) _ _ _ _ (comma_noted s t) (λ h. refl) (λ h. refl)
 
 -- ## Encodings
 
@@ -339,25 +323,16 @@ return_noted s t = go (scope_.arguments_of (annotate s t)) (arguments_of t) (arg
 pub encoding_noted : (s : Place) (name : Value) (items : Term) →
     noted_.encoding_of (noted_value nowhere name) (annotate (place_in (arguments_of (tree_of name)) false) items) ≡ annotate s (meaning_.encoding_of name items)
 unfolding noted_.encoding_of meaning_.encoding_of annotate
-encoding_noted s name (list e rest) = go (scope_.has_return_type (value_.tree_of (noted_value nowhere name))) (has_return_type (tree_of name)) (ap scope_.has_return_type (tree_noted nowhere name) ∙ return_noted nowhere (tree_of name))
+encoding_noted s name (list e rest) =
+    choose (λ t u. u ≡ annotate s t) (has_return_type (tree_of name)) (scope_.has_return_type (value_.tree_of (noted_value nowhere name))) _ _ _ _ (ap scope_.has_return_type (tree_noted nowhere name) ∙ return_noted nowhere (tree_of name))
+    (λ h. five term_.function (tree_noted nowhere name) (qualifiers_noted nowhere name) (ref_noted nowhere name) (moved e) (parameters_noted r rest ∙ moved (meaning_.parameters rest)))
+    (λ h. five term_.function (tree_noted nowhere name) (qualifiers_noted nowhere name) (ref_noted nowhere name) refl (parameters_noted r (list e rest) ∙ moved (meaning_.parameters (list e rest))))
   where
     r : Place
     r = place_in (arguments_of (tree_of name)) false
 
     moved : (t : Term) → annotate r t ≡ annotate (place_of (scope_.arguments_of (annotate nowhere (tree_of name)))) t
     moved t = ap (λ o. annotate o t) (sym (types_place (tree_of name)))
-
-    go : (c b : Bool) → c ≡ b → ◌≡◌ {A = term_.Term} (elim c [
-      | true ↦ term_.function (value_.tree_of (noted_value nowhere name)) (value_.qualifiers_of (noted_value nowhere name)) (value_.ref_of (noted_value nowhere name)) (annotate r e) (noted_.parameters (annotate r rest))
-      | false ↦ term_.function (value_.tree_of (noted_value nowhere name)) (value_.qualifiers_of (noted_value nowhere name)) (value_.ref_of (noted_value nowhere name)) term_.absent (noted_.parameters (term_.list (annotate r e) (annotate r rest)))
-    ]) (annotate s (elim b [
-      | true ↦ function (tree_of name) (qualifiers_of name) (ref_of name) e (meaning_.parameters rest)
-      | false ↦ function (tree_of name) (qualifiers_of name) (ref_of name) absent (meaning_.parameters (list e rest))
-    ]))
-    go true true same = five term_.function (tree_noted nowhere name) (qualifiers_noted nowhere name) (ref_noted nowhere name) (moved e) (parameters_noted r rest ∙ moved (meaning_.parameters rest))
-    go false false same = five term_.function (tree_noted nowhere name) (qualifiers_noted nowhere name) (ref_noted nowhere name) refl (parameters_noted r (list e rest) ∙ moved (meaning_.parameters (list e rest)))
-    go true false same = absurd cc
-    go false true same = absurd cc
 encoding_noted s name _ = three term_.object (tree_noted nowhere name) (qualifiers_noted nowhere name) (ref_noted nowhere name)
 
 -- ## Meanings
@@ -739,16 +714,9 @@ meant_noted : (own : Bool) (form : Form) (byte : ℕ) (around : Around) (vs : Li
 unfolding meant_.meant meant noted_.with_item meaning_.with_item noted_value annotate
 meant_noted own (row_.handed k) byte around vs h = part_noted (around_place own around) vs k
 meant_noted own (row_.finished k) byte around vs h = listed_whole (around_place own around) vs k
-meant_noted own (row_.either k n) byte around vs h = go (value_.is_there (value_.part (noted_values (around_place own around) vs) k)) (is_there (part vs k)) (there_part (around_place own around) vs k)
-  where
-    s : Place
-    s = around_place own around
-
-    go : (c b : Bool) → c ≡ b → (elim c as (λ _. value_.Value) [ true ↦ value_.part (noted_values s vs) k | false ↦ value_.part (noted_values s vs) n ]) ≡ noted_value s (elim b as (λ _. Value) [ true ↦ part vs k | false ↦ part vs n ])
-    go true true e = part_noted s vs k
-    go false false e = part_noted s vs n
-    go true false e = absurd cc
-    go false true e = absurd cc
+meant_noted own (row_.either k n) byte around vs h =
+    let s = around_place own around in
+    choose (λ a b. b ≡ noted_value s a) (is_there (part vs k)) (value_.is_there (value_.part (noted_values s vs) k)) _ _ _ _ (there_part s vs k) (λ h. part_noted s vs k) (λ h. part_noted s vs n)
 meant_noted own row_.the_byte byte around vs h = refl
 meant_noted own (row_.makes m listing) byte around vs h = both value_.tree (made_noted own byte around vs m h) (listing_noted (around_place own around) vs listing)
 meant_noted own (row_.a_piece m) byte around vs h = ap value_.piece (made_noted own byte around vs m h)

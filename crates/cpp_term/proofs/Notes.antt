@@ -14,6 +14,13 @@ use Rattle.cpp_term.specs.Annotated.{Place, nowhere, in_arguments, in_own, place
 pub both : {A B C : Type 0} (f : A → B → C) {a b : A} {c d : B} → a ≡ b → c ≡ d → f a c ≡ f b d
 both f {a} {b} {c} {d} e g = ap (λ x. f x c) e ∙ ap (f b) g
 
+-- what two choices come to that are made alike
+pub choose : {A B : Type 0} (R : A → B → Type 0) (b c : Bool) (x z : A) (y w : B) → c ≡ b → (b ≡ true → R x y) → (b ≡ false → R z w) → R (elim b [ true ↦ x | false ↦ z ]) (elim c [ true ↦ y | false ↦ w ])
+choose R true true x z y w e f g = f refl
+choose R false false x z y w e f g = g refl
+choose R true false x z y w e f g = absurd cc
+choose R false true x z y w e f g = absurd cc
+
 -- ## Lists of arguments
 
 pub count_noted : (s : Place) (t : Term) → scope_.count (annotate s t) ≡ count t
