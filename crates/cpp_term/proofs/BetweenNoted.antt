@@ -10,7 +10,7 @@ use Rattle.sym_core.specs.Value.{counted_value}
 use Rattle.cpp_grammar.specs.declared.production.Production.{Production}
 use Rattle.cpp_grammar.specs.Rescoping.{generic_number, generic_so_far, parameter_here, argument_here, lambda_with, as_generic_lambda, with_holder, is_instance, holder_so_far, numbered, with_base, counted_base, between_wide, close_wide}
 use Rattle.cpp_grammar.specs.Scope.{count, element, is_open, length_if_pack}
-use Rattle.cpp_grammar.specs.Term.{Term, lambda, generic_lambda, list, instance, holder, parameter}
+use Rattle.cpp_grammar.specs.Term.{Term, list, instance, holder, parameter}
 use Rattle.cpp_grammar.specs.Values as leaf_
 use Rattle.cpp_grammar.specs.Values.{Around, prefix_tree, Value, State, Candidate, local_number, tree_of, text_of, is_listed, part}
 use Rattle.cpp_grammar.specs.References.{appended, with_type, with_unqualified, with_packs, substituted, parameter_named}

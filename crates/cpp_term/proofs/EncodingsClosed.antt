@@ -18,14 +18,14 @@ use Rattle.cpp_grammar.specs.Grammar.{Alternative, is_in, pick, kinds, number_of
 use Rattle.cpp_grammar.specs.Wide.{wide_alternatives, wide_choose}
 use Rattle.cpp_grammar.specs.Table.{wide, rule_of, rule_taken}
 use Rattle.cpp_grammar.specs.TableLaws.{wide_sound}
-use Rattle.cpp_grammar.specs.Term.{Term, function, list, absent}
-use Rattle.cpp_grammar.specs.Scope.{is_open, has_return_type}
-use Rattle.cpp_grammar.specs.Values.{State, Around, Value, nothing_there, tree_of, part, qualifiers_of, ref_of}
+use Rattle.cpp_grammar.specs.Scope.{is_open}
+use Rattle.cpp_grammar.specs.Values.{State, Around, Value, nothing_there, tree_of, part}
 use Rattle.cpp_grammar.specs.Between.{in_name, no_items, between}
-use Rattle.cpp_grammar.specs.Meaning.{meaning, encoding_of, parameters}
+use Rattle.cpp_grammar.specs.Meaning.{meaning}
 use Rattle.cpp_grammar.specs.Unfolding.{opening, close, production_at, byte_of}
 use Rattle.cpp_grammar.proofs.Choosing.{kinds_numbered, number_at, wide_rule_at, is_wide_kind}
 use Rattle.cpp_grammar.proofs.ClosedValues.{good_where, AllGood, GoodPrefix, held, good_tree, good_part}
+use Rattle.cpp_grammar.proofs.NoneFree.{none_encoding}
 use Rattle.cpp_grammar.proofs.ClosedStates.{Bare, Within, AllOld, old_later, old_grows, ok_same, behind_bind}
 use Rattle.cpp_grammar.proofs.ClosedParts.{StaysInside}
 use Rattle.cpp_grammar.proofs.Ways.{has_signature, Way, reading_by, abi_way, differs}
@@ -102,18 +102,6 @@ special_kind p k rule taken is lt takes h =
 
 -- ## Encodings
 
-closed_encoding : (v : Value) (items : Term) → is_open (encoding_of v items) ≡ false
-unfolding encoding_of is_open
-closed_encoding v (list a b) = go (has_return_type (tree_of v))
-  where
-    go : (r : Bool) → is_open (elim r [
-      | true ↦ function (tree_of v) (qualifiers_of v) (ref_of v) a (parameters b)
-      | false ↦ function (tree_of v) (qualifiers_of v) (ref_of v) absent (parameters (list a b))
-    ]) ≡ false
-    go true = refl
-    go false = refl
-closed_encoding v _ = refl
-
 -- what goes into a part in which nothing is named
 nameless_ : (at : ℕ) → List Value → State → Next Value State Around
 nameless_ at vs state = record { context = in_name at; values = vs; state = state }
@@ -145,23 +133,12 @@ plain_keeps _ h around place vs state n e = absurd (false≢true h)
 encodings_apart : (p : Production) → has_encoding (parts_of p) ≡ true → differs p ≡ false
 unfolding has_encoding is_encoding parts_of number_of_kind differs
 encodings_apart Production.Parameter h = absurd (false≢true h)
-encodings_apart Production.NestParameter h = absurd (false≢true h)
-encodings_apart Production.Lambda h = absurd (false≢true h)
-encodings_apart Production.Substitution h = absurd (false≢true h)
-encodings_apart Production.ParameterArgument h = absurd (false≢true h)
-encodings_apart Production.ParameterExpression h = absurd (false≢true h)
-encodings_apart Production.OwnArguments h = absurd (false≢true h)
-encodings_apart Production.Inheriting h = absurd (false≢true h)
-encodings_apart Production.Holder h = absurd (false≢true h)
-encodings_apart _ h = refl
+encodings_apart _ h = cc
 
 special_apart : (p : Production) → in_special p ≡ true → has_signature p ≡ false
 unfolding in_special has_signature
 special_apart Production.Lambda h = absurd (false≢true h)
-special_apart Production.ValueOf h = absurd (false≢true h)
-special_apart Production.OfConcept h = absurd (false≢true h)
-special_apart Production.Constraint h = absurd (false≢true h)
-special_apart _ h = refl
+special_apart _ h = cc
 
 abbrev Encodings : List Sym → List Value → Type 0
 Encodings [] vs = Unit {0}
@@ -248,7 +225,7 @@ module _ (way : Way) (keeps : KeepsClosed way) where
       rule.context.encoding < rule.place → rule.place ≤ from → AllOld way.own rule.context rule.place state.candidates → unfold_forest (reading_by way) rule [] from f state ≡ Ok r →
       (byte : ℕ) (around : Around) → is_open (tree_of (meaning p byte around r.value)) ≡ false
   unfolding opens meaning tree_of is_open
-  inner_closed Production.Encoding o f rule from state r is trees lt le old e byte around = closed_encoding (part r.value 0) (no_items (part r.value 1))
+  inner_closed Production.Encoding o f rule from state r is trees lt le old e byte around = none_encoding (part r.value 0) (no_items (part r.value 1))
   inner_closed Production.Special o f rule from state r is trees lt le old e byte around = special_closed f rule from state r is trees lt le old e
   inner_closed Production.OtherSpecial o f rule from state r is trees lt le old e byte around = other_special_closed f rule from state r is trees lt le old e
   inner_closed Production.Mark o f rule from state r is trees lt le old e byte around = absurd (false≢true o)

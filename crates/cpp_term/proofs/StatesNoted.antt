@@ -306,7 +306,7 @@ in_scope_noted around place by t k x y one packs =
     with_arguments (Comes true around x y) place around.scope _ _ (λ arguments scope.
     let a : term_.Term = scope_.element (annotate nowhere arguments) k in
     let same : (nat_lt k (scope_.count (annotate nowhere arguments)) && not (scope_.is_list a)) ≡ (nat_lt k (count arguments) && not (is_list (element arguments k))) =
-        both (λ n b. nat_lt k n && not b) (count_noted nowhere arguments) (ap scope_.is_list (element_noted nowhere arguments k) ∙ list_noted nowhere (element arguments k)) in
+    both (λ n b. nat_lt k n && not b) (count_noted nowhere arguments) (ap scope_.is_list (element_noted nowhere arguments k) ∙ list_noted nowhere (element arguments k)) in
     choose (Alike (Comes true around x y)) (nat_lt k (count arguments) && not (is_list (element arguments k))) (nat_lt k (scope_.count (annotate nowhere arguments)) && not (scope_.is_list a)) _ _ _ _ same
     (λ h.
     let is = meant_by around by t k one arguments (not_no (scope_.is_list a) (and_parts (nat_lt k (scope_.count (annotate nowhere arguments))) (not (scope_.is_list a)) (same ∙ h)).1) in
