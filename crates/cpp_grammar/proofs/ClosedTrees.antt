@@ -255,15 +255,7 @@ pub record KeepsClosed (w : Way) : Type 0 where
 pub opens_apart : (p : Production) → opens p ≡ true → differs p ≡ false
 unfolding opens differs
 opens_apart Production.Parameter o = absurd (false≢true o)
-opens_apart Production.NestParameter o = absurd (false≢true o)
-opens_apart Production.Substitution o = absurd (false≢true o)
-opens_apart Production.Lambda o = absurd (false≢true o)
-opens_apart Production.ParameterArgument o = absurd (false≢true o)
-opens_apart Production.ParameterExpression o = absurd (false≢true o)
-opens_apart Production.OwnArguments o = absurd (false≢true o)
-opens_apart Production.Inheriting o = absurd (false≢true o)
-opens_apart Production.Holder o = absurd (false≢true o)
-opens_apart _ o = refl
+opens_apart _ o = cc
 
 -- ## Encodings
 

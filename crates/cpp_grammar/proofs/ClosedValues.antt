@@ -1,5 +1,5 @@
 -- What productions stand for is closed where the values of their parts are.
-use Rattle.std.proofs.Common.{◌≡◌, refl, ℕ, zero, suc, List, [], ◌∷◌, Bool, true, false, ◌||◌, ◌&&◌, cond, nat_eq}
+use Rattle.std.proofs.Common.{◌≡◌, refl, ℕ, zero, suc, List, [], ◌∷◌, Bool, true, false, ◌||◌, ◌&&◌, nat_eq}
 use Rattle.std.proofs.lemmas.Bool.{true≢false}
 use Rattle.cpp_grammar.specs.declared.production.Production.{Production}
 use Rattle.cpp_grammar.specs.Term.{RefQualifier, lvalue_only, rvalue_only, Term, symbol, function, within, instance, local, of_default, inheriting, lvalue, rvalue, encoding_literal, operation, nil, list, absent}
@@ -14,6 +14,7 @@ use Rattle.cpp_grammar.specs.Row.{Source, tree_at, list_at, parameters_at, piece
 use Rattle.cpp_grammar.specs.Own.{own_meaning}
 use Rattle.cpp_grammar.specs.Meant.{all_given, given, made, meant}
 use Rattle.cpp_grammar.specs.Rows.{row_of}
+use Rattle.cpp_grammar.proofs.Chosen as chosen
 
 -- the tree is closed under one condition, and under another one so are the scopes in it
 pub record GoodIf (q s : Type 0) (t : Term) : Type 0 where
@@ -150,11 +151,7 @@ module _ {q : Type 0} where
 
   pub good_parameters : (s : Type 0) (t : Term) → GoodIf q s t → GoodIf q s (parameters t)
   unfolding parameters is_open
-  good_parameters s (list a b) g = go (is_void a && is_nil b)
-    where
-      go : (c : Bool) → GoodIf q s (elim c [ true ↦ nil | false ↦ list a b ])
-      go true = good_nil s
-      go false = g
+  good_parameters s (list a b) g = chosen.either (GoodIf q s) (is_void a && is_nil b) nil (list a b) (λ h. good_nil s) (λ h. g)
   good_parameters s (symbol e suffix) g = g
   good_parameters s t g = g
 
@@ -170,11 +167,8 @@ module _ {q : Type 0} where
 
   good_reference : (s : Type 0) (byte : ℕ) (v : Value) → GoodIf q s (tree_of v) → GoodIf q s (tree_of (reference_to byte v))
   unfolding reference_to tree_of is_open
-  good_reference s byte v g = go (nat_eq byte 82)
-    where
-      go : (b : Bool) → GoodIf q s (cond b (lvalue (tree_of v)) (rvalue (tree_of v)))
-      go true = record { closed = g.closed; scopes = g.scopes }
-      go false = record { closed = g.closed; scopes = g.scopes }
+  good_reference s byte v g =
+      chosen.either_cond (GoodIf q s) (nat_eq byte 82) (lvalue (tree_of v)) (rvalue (tree_of v)) (λ h. record { closed = g.closed; scopes = g.scopes }) (λ h. record { closed = g.closed; scopes = g.scopes })
 
   good_signature_or : (s : Type 0) (ref : RefQualifier) (v : Value) → GoodIf q s (held v) → GoodIf q s (held (signature_or ref v))
   unfolding signature_or held
@@ -222,39 +216,24 @@ module _ {q : Type 0} where
 
   good_argument : (s : Type 0) (v : Value) → GoodIf q s (held v) → GoodIf q s (held (enclosed_argument v))
   unfolding enclosed_argument held in_parentheses tree_of
-  good_argument s v g = go (ends_arguments (tree_of v))
-    where
-      go : (b : Bool) → GoodIf q s (held (elim b as (λ _. Value) [ true ↦ tree (in_parentheses (tree_of v)) true | false ↦ v ]))
-      go true = good_in_parentheses s (tree_of v) (good_tree s v g)
-      go false = g
+  good_argument s v g = chosen.either (λ w. GoodIf q s (held w)) (ends_arguments (tree_of v)) (tree (in_parentheses (tree_of v)) true) v (λ h. good_in_parentheses s (tree_of v) (good_tree s v g)) (λ h. g)
 
   good_element : (s : Type 0) (t : Term) → GoodIf q s t → GoodIf q s (enclosed_element t)
   unfolding enclosed_element
-  good_element s t g = go (is_comma t)
-    where
-      go : (b : Bool) → GoodIf q s (elim b [ true ↦ in_parentheses t | false ↦ t ])
-      go true = good_in_parentheses s t g
-      go false = g
+  good_element s t g = chosen.either (GoodIf q s) (is_comma t) (in_parentheses t) t (λ h. good_in_parentheses s t g) (λ h. g)
 
   pub good_encoding : (s : Type 0) (v : Value) (items : Term) → (q → is_open (tree_of v) ≡ false) → (q → ScopesAreClosed (tree_of v)) → (q → ScopesAreClosed items) → GoodIf q s (encoding_of v items)
   unfolding encoding_of is_open
-  good_encoding s v (list a b) name scopes items = go (has_return_type (tree_of v))
+  good_encoding s v (list a b) name scopes items =
+      chosen.either (GoodIf q s) (has_return_type (tree_of v)) (function (tree_of v) (qualifiers_of v) (ref_of v) a (parameters b)) (function (tree_of v) (qualifiers_of v) (ref_of v) absent (parameters (list a b)))
+      (λ h. record { closed = λ c. refl; scopes = λ n. (none_free (tree_of v) (name n), scopes n, (items n).0, rest_good.scopes n) })
+      (λ h. record { closed = λ c. refl; scopes = λ n. (none_free (tree_of v) (name n), scopes n, tt, all_good.scopes n) })
     where
-      left_good : GoodIf q ⊥ a
-      left_good = record { closed = λ h. absurd h; scopes = λ n. (items n).0 }
-
       rest_good : GoodIf q ⊥ (parameters b)
       rest_good = good_parameters ⊥ b (record { closed = λ h. absurd h; scopes = λ n. (items n).1 })
 
       all_good : GoodIf q ⊥ (parameters (list a b))
       all_good = good_parameters ⊥ (list a b) (record { closed = λ h. absurd h; scopes = items })
-
-      go : (r : Bool) → GoodIf q s (elim r [
-        | true ↦ function (tree_of v) (qualifiers_of v) (ref_of v) a (parameters b)
-        | false ↦ function (tree_of v) (qualifiers_of v) (ref_of v) absent (parameters (list a b))
-      ])
-      go true = record { closed = λ h. refl; scopes = λ n. (none_free (tree_of v) (name n), scopes n, left_good.scopes n, rest_good.scopes n) }
-      go false = record { closed = λ h. refl; scopes = λ n. (none_free (tree_of v) (name n), scopes n, tt, all_good.scopes n) }
   good_encoding s v (symbol e suffix) name scopes items = record { closed = λ h. refl; scopes = scopes }
   good_encoding s v _ name scopes items = record { closed = λ h. refl; scopes = scopes }
 
@@ -360,11 +339,7 @@ module _ {q : Type 0} where
   unfolding meant held is_open listed_value with_item
   meant_good s (handed k) byte around vs other pre all = good_held s vs k all
   meant_good s (finished k) byte around vs other pre all = good_part s vs k all
-  meant_good s (either k n) byte around vs other pre all = go (is_there (part vs k))
-    where
-      go : (b : Bool) → GoodIf q s (held (elim b as (λ _. Value) [ true ↦ part vs k | false ↦ part vs n ]))
-      go true = good_held s vs k all
-      go false = good_held s vs n all
+  meant_good s (either k n) byte around vs other pre all = chosen.either (λ v. GoodIf q s (held v)) (is_there (part vs k)) (part vs k) (part vs n) (λ h. good_held s vs k all) (λ h. good_held s vs n all)
   meant_good s the_byte byte around vs other pre all = good_nothing s
   meant_good s (makes m listing) byte around vs other pre all = made_tree_good s byte around vs m pre all
   meant_good s (a_piece m) byte around vs other pre all = made_tree_good s byte around vs m pre all
