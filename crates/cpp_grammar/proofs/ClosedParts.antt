@@ -143,18 +143,6 @@ done_goes own (tests after_t is_name) around place vs state n at here pre all e 
 done_goes own holds around place vs state n at here pre all e = let clash : ◌≡◌ {A = Going} (Err (BadReference place)) (Ok n) = e in absurd cc
 done_goes own unread around place vs state n at here pre all e = let clash : ◌≡◌ {A = Going} (Err (BadReference place)) (Ok n) = e in absurd cc
 
-between_goes : (own : Bool) (production : Production) (around : Around) (place : ℕ) (vs : List Value) (state : State) (n : Next Value State Around) (at : ℕ) → StaysInside production → has_signature production ≡ false →
-    GoodPrefix (Bare own around) around.prefix → AllGood (Bare own around) vs → between production around place vs state ≡ Ok n → GoesOn own around at state n
-unfolding has_signature between all_pass goes_here is_here
-between_goes own Production.Encoding around place vs state n at stays apart pre all e = absurd stays
-between_goes own Production.Special around place vs state n at stays apart pre all e = absurd stays
-between_goes own Production.OtherSpecial around place vs state n at stays apart pre all e = absurd stays
-between_goes own Production.Lambda around place vs state n at stays apart pre all e = absurd (true≢false apart)
-between_goes own Production.ValueOf around place vs state n at stays apart pre all e = absurd (true≢false apart)
-between_goes own Production.OfConcept around place vs state n at stays apart pre all e = absurd (true≢false apart)
-between_goes own Production.Constraint around place vs state n at stays apart pre all e = absurd (true≢false apart)
-between_goes own p around place vs state n at stays apart pre all e = done_goes own (before_part (row_of p) (length vs)) around place vs state n at (step_passes goes_here (row_of p) refl (length vs)) pre all e
-
 within : (own : Bool) (p : Production) (around : Around) (at : ℕ) (state : State) (n : Next Value State Around) → GoesOn own around at state n → Goes own (Within own p around) around at state n
 within own p around at state n g = record { values = all_where (Bare own around) (Within own p around) n.values (λ w. w.0) g.values; grows = g.grows; fits = g.fits; bare = λ w. g.bare w.0 }
 
@@ -168,13 +156,17 @@ signature_goes own p around at vs state n is all e =
 -- with the values of any production
 pub goes_within : (own : Bool) (production : Production) (around : Around) (place : ℕ) (vs : List Value) (state : State) (n : Next Value State Around) (at : ℕ) → StaysInside production →
     GoodPrefix (Bare own around) around.prefix → AllGood (Within own production around) vs → between production around place vs state ≡ Ok n → Goes own (Within own production around) around at state n
-unfolding between has_signature in_signature
+unfolding between has_signature in_signature all_pass goes_here is_here
+goes_within own Production.Encoding around place vs state n at stays pre all e = absurd stays
+goes_within own Production.Special around place vs state n at stays pre all e = absurd stays
+goes_within own Production.OtherSpecial around place vs state n at stays pre all e = absurd stays
 goes_within own Production.Lambda around place vs state n at stays pre all e = signature_goes own Production.Lambda around at vs state n refl all e
 goes_within own Production.ValueOf around place vs state n at stays pre all e = signature_goes own Production.ValueOf around at vs state n refl all e
 goes_within own Production.OfConcept around place vs state n at stays pre all e = signature_goes own Production.OfConcept around at vs state n refl all e
 goes_within own Production.Constraint around place vs state n at stays pre all e = signature_goes own Production.Constraint around at vs state n refl all e
 goes_within own p around place vs state n at stays pre all e =
-    within own p around at state n (between_goes own p around place vs state n at stays refl pre (all_where (Within own p around) (Bare own around) vs (λ bare. (bare, λ o. refl)) all) e)
+    within own p around at state n (done_goes own (before_part (row_of p) (length vs)) around place vs state n at (step_passes goes_here (row_of p) refl (length vs)) pre
+    (all_where (Within own p around) (Bare own around) vs (λ bare. (bare, λ o. refl)) all) e)
 
 -- ## The reading of the wide grammar
 

@@ -277,12 +277,16 @@ pub record Comes (own : Bool) (around : Around) (end : ℕ) (old : State) (r : F
   pub good : Good (Bare own around) (held r.value)
   pub grows : Grows own around end old r.state
 
+comes_by : (own : Bool) (around : Around) (end : ℕ) (state new : State) (v : Value) (r : Found Value State) → Good (Bare own around) (held v) → Grows own around end state new →
+    ◌≡◌ {A = Result (Found Value State) Refusal} (Ok (found v new)) (Ok r) → Comes own around end state r
+comes_by own around end state new v r good grows e = subst (λ x. Comes own around end state x) (ok_same (found v new) r e) (record { good = good; grows = grows })
+
 made_good : (own : Bool) (production : Production) (byte : ℕ) (around : Around) (began : State) (vs : List Value) (state : State) (r : Found Value State) (end : ℕ) →
     GoodPrefix (Bare own around) around.prefix → AllGood (Bare own around) vs → HasClosedName production vs →
     ◌≡◌ {A = Result (Found Value State) Refusal} (Ok (found (meaning production byte around vs) (unfolding_.behind production byte around began vs state))) (Ok r) → Comes own around end state r
 made_good own production byte around began vs state r end pre all name e =
-    subst (λ x. Comes own around end state x) (ok_same (found (meaning production byte around vs) (unfolding_.behind production byte around began vs state)) r e)
-    (record { good = meaning_good (Bare own around) production byte around vs pre all (λ n. name); grows = behind_grows own production byte around began vs state end pre all name })
+    comes_by own around end state (unfolding_.behind production byte around began vs state) (meaning production byte around vs) r
+    (meaning_good (Bare own around) production byte around vs pre all (λ n. name)) (behind_grows own production byte around began vs state end pre all name) e
 
 pub close_good : (production : Production) (byte : ℕ) (around : Around) (place : ℕ) (began : State) (vs : List Value) (state : State) (r : Found Value State) (end : ℕ) →
     AllOld false around end state.candidates → GoodPrefix (Bare false around) around.prefix → AllGood (Within false production around) vs → HasClosedName production vs →
@@ -374,7 +378,7 @@ lambda_good s t number scopes =
 
 -- what is found, and no candidate
 found_comes : (around : Around) (state : State) (v : Value) (r : Found Value State) (end : ℕ) → Good (Bare true around) (held v) → ◌≡◌ {A = Result (Found Value State) Refusal} (Ok (found v state)) (Ok r) → Comes true around end state r
-found_comes around state v r end good e = subst (λ x. Comes true around end state x) (ok_same (found v state) r e) (record { good = good; grows = grows_same true around end state state refl })
+found_comes around state v r end good e = comes_by true around end state state v r good (grows_same true around end state state refl) e
 
 lambda_comes : (byte : ℕ) (around : Around) (vs : List Value) (state : State) (r : Found Value State) (end : ℕ) → GoodPrefix (Bare true around) around.prefix → AllGood (Within true Production.Lambda around) vs →
     ◌≡◌ {A = Result (Found Value State) Refusal} (Ok (found (as_generic_lambda (meaning Production.Lambda byte around vs)) state)) (Ok r) → Comes true around end state r
@@ -399,12 +403,6 @@ counted_grows around end (pair second base own) state good = grows_same true aro
 counted_grows around end base state good =
     either (Grows true around end state) (is_listed base) _ _ (λ h. grows_same true around end state state refl) (λ h. base_grows around end (tree_of base) state (good_tree (Bare true around) base good))
 
-inheriting_comes : (byte : ℕ) (around : Around) (vs : List Value) (state : State) (r : Found Value State) (end : ℕ) → GoodPrefix (Bare true around) around.prefix → AllGood (Bare true around) vs →
-    ◌≡◌ {A = Result (Found Value State) Refusal} (Ok (found (meaning Production.Inheriting byte around vs) (counted_base around (part vs 1) state))) (Ok r) → Comes true around end state r
-inheriting_comes byte around vs state r end pre all e =
-    subst (λ x. Comes true around end state x) (ok_same (found (meaning Production.Inheriting byte around vs) (counted_base around (part vs 1) state)) r e)
-    (record { good = meaning_good (Bare true around) Production.Inheriting byte around vs pre all (λ n. tt); grows = counted_grows around end (part vs 1) state (good_held (Bare true around) vs 1 all) })
-
 pub wide_close_good : (production : Production) (byte : ℕ) (around : Around) (place : ℕ) (began : State) (vs : List Value) (state : State) (r : Found Value State) (end : ℕ) →
     AllOld true around end state.candidates → GoodPrefix (Bare true around) around.prefix → AllGood (Within true production around) vs → HasClosedName production vs →
     close_wide production byte around place began vs state ≡ Ok r → Comes true around end state r
@@ -414,7 +412,9 @@ wide_close_good Production.Substitution byte around place began vs state r end o
     record { good = both.0; grows = grows_same true around end state r.state both.1 }
 wide_close_good Production.Lambda byte around place began vs state r end old pre all name e = lambda_comes byte around vs state r end pre all e
 wide_close_good Production.Inheriting byte around place began vs state r end old pre all name e =
-    inheriting_comes byte around vs state r end pre (all_where (Within true Production.Inheriting around) (Bare true around) vs (λ bare. (bare, λ own. refl)) all) e
+    let inside = all_where (Within true Production.Inheriting around) (Bare true around) vs (λ bare. (bare, λ own. refl)) all in
+    comes_by true around end state (counted_base around (part vs 1) state) (meaning Production.Inheriting byte around vs) r (meaning_good (Bare true around) Production.Inheriting byte around vs pre inside (λ n. tt))
+    (counted_grows around end (part vs 1) state (good_held (Bare true around) vs 1 inside)) e
 wide_close_good Production.ValueOf byte around place began vs state r end old pre all name e = found_comes around state (letter byte) r end (good_nothing (Bare true around)) e
 wide_close_good Production.OfConcept byte around place began vs state r end old pre all name e = found_comes around state (letter byte) r end (good_nothing (Bare true around)) e
 wide_close_good Production.Constraint byte around place began vs state r end old pre all name e = found_comes around state nothing_there r end (good_nothing (Bare true around)) e

@@ -1,6 +1,6 @@
 -- What the reading of the ABI's grammar doesn't refuse is the same in that of the wide grammar: no parameters are free in what it reads in
 -- a lambda's signature.
-use Rattle.std.proofs.Common.{◌≡◌, refl, ap, sym, ◌∙◌, subst, ℕ, zero, suc, ◌+◌, ◌-◌, List, [], ◌∷◌, ◌++◌, length, Bool, true, false, not, ◌||◌, ◌&&◌, cond, nat_eq, nat_lt, ◌<◌, slice_get, Option, Some, None, Result, Ok, Err, lit≤, arith}
+use Rattle.std.proofs.Common.{◌≡◌, refl, ap, sym, ◌∙◌, subst, ℕ, zero, suc, ◌+◌, ◌-◌, List, [], ◌∷◌, ◌++◌, length, Bool, true, false, not, ◌||◌, ◌&&◌, cond, nat_eq, nat_lt, ◌<◌, slice_get, Option, Some, None, Result, Ok, Err, lit≤}
 use Rattle.std.proofs.lemmas.Bool.{true≢false, false≢true}
 use Rattle.std.specs.Result.{IfOk}
 use Rattle.sym_core.specs.declared.refusal.Refusal.{Refusal}
@@ -18,9 +18,9 @@ use Rattle.sym_link.specs.Unfold.{found, alone, standing, unfold_tree, unfold_fo
 use Rattle.cpp_grammar.specs.declared.kind.Kind.{Kind}
 use Rattle.cpp_grammar.specs.declared.production.Production.{Production}
 use Rattle.cpp_grammar.specs.KindNumbers.{SYMBOL, SPECIAL, SPECIAL_MARK, SPECIAL_AFTER_G}
-use Rattle.cpp_grammar.specs.Grammar.{Alternative, is_in, pick, kinds, number_of_kind, parts_of}
-use Rattle.cpp_grammar.specs.Wide.{wide_alternatives, wide_choose}
-use Rattle.cpp_grammar.specs.Table.{wide, rule_of, rule_taken}
+use Rattle.cpp_grammar.specs.Grammar.{is_in, number_of_kind, parts_of}
+use Rattle.cpp_grammar.specs.Wide.{wide_alternatives}
+use Rattle.cpp_grammar.specs.Table.{wide}
 use Rattle.cpp_grammar.specs.Term.{Term, parameter, lambda, generic_lambda, list}
 use Rattle.cpp_grammar.specs.Scope.{count, element, is_open, length_if_pack}
 use Rattle.cpp_grammar.specs.Values.{Candidate, State, Around, prefix_tree, prefix_listed, Value, nothing_there, text, tree, piece, tree_of, is_listed, text_of, local_number, part}
@@ -34,11 +34,11 @@ use Rattle.cpp_grammar.specs.Unfolding as unfolding_
 use Rattle.cpp_grammar.specs.Unfolding.{opening, close, production_at, byte_of, cpp, first_around, first_state, first_tree, unfold_cpp}
 use Rattle.cpp_grammar.specs.Rescoping.{generic_so_far, parameter_here, lambda_with, as_generic_lambda, has_held, is_counted_alike, is_foreign, restated, substituted_wide, numbered, between_wide, close_wide, cpp_wide, unfold_wide, argument_here, generic_number}
 use Rattle.cpp_grammar.specs.TableLaws.{wide_sound}
-use Rattle.cpp_grammar.proofs.Choosing.{kinds_numbered, number_at, wide_rule_at, is_wide_kind}
+use Rattle.cpp_grammar.proofs.Choosing.{each_passes, chosen_rule, taken_passes, implied}
 use Rattle.cpp_grammar.proofs.Chosen.{either, if_there}
 use Rattle.cpp_grammar.proofs.ClosedValues.{held}
 use Rattle.cpp_grammar.proofs.ClosedStates.{ok_same, behind_bind}
-use Rattle.cpp_grammar.proofs.ClosedTrees.{opens, at_number, its_symbols, taken_rule, same_rule, opening_keeps, known}
+use Rattle.cpp_grammar.proofs.ClosedTrees.{opens, at_number, its_symbols, taken_rule, opening_keeps, known}
 use Rattle.cpp_grammar.proofs.NoneFree.{HasNone, AllNone, none_tree, none_part, PrefixHasNone, none_prefix, none_encoding, none_signature, made_none, meaning_none}
 use Rattle.cpp_grammar.proofs.Steps.{first_of_both, second_of_both, all_pass, step_passes, is_here, goes_here}
 
@@ -401,12 +401,8 @@ makes_special Production.Clone = true
 makes_special Production.Mark = true
 makes_special _ = false
 
-unfoldable make_special : List Alternative → Bool
-make_special [] = true
-make_special (a ∷ rest) = makes_special a.production && make_special rest
-
-only_special : (kind : Kind) → not (is_special (OfKind (number_of_kind kind))) || make_special (wide_alternatives kind) ≡ true
-unfolding is_special number_of_kind wide_alternatives make_special makes_special
+only_special : (kind : Kind) → each_passes (λ p. not (is_special (OfKind (number_of_kind kind))) || makes_special p) (wide_alternatives kind) ≡ true
+unfolding is_special number_of_kind wide_alternatives each_passes makes_special
 only_special Kind.Symbol = refl
 only_special _ = refl
 
@@ -424,35 +420,12 @@ special_or p true l f h = refl
 special_or true false l f h = absurd (false≢true (f refl))
 special_or false false l f h = h
 
-picked_special : (all : List Alternative) (byte : ℕ) (p : Production) → make_special all ≡ true → pick all byte ≡ Some p → makes_special p ≡ true
-unfolding pick make_special
-picked_special [] byte p h e = absurd cc
-picked_special (a ∷ rest) byte p h e = go (λ i. picked_special rest byte p (second_of_both (makes_special a.production) (make_special rest) h) i) (is_in a byte) e
-  where
-    go : (pick rest byte ≡ Some p → makes_special p ≡ true) → (b : Bool) → cond b (Some a.production) (pick rest byte) ≡ Some p → makes_special p ≡ true
-    go later true i = let same : a.production ≡ p = cc in sym (ap makes_special same) ∙ first_of_both (makes_special a.production) (make_special rest) h
-    go later false i = later i
-
-implied : (a b : Bool) → not a || b ≡ true → a ≡ true → b ≡ true
-implied true b h k = h
-implied false b h k = absurd (false≢true k)
-
 -- the production of a tree of such a kind
 special_taken : (k : ℕ) (rule : Rule) (taken : List ℕ) → k < wide.kinds → TakesRule wide k rule taken → is_special (OfKind k) ≡ true → makes_special (production_at rule.number) ≡ true
-unfolding rule_taken wide_choose
-special_taken k rule taken lt takes special = go (slice_get kinds k) refl
-  where
-    chosen : (kind : Kind) → slice_get kinds k ≡ Some kind → (o : Option Production) → wide_choose kind takes.byte ≡ o → rule_taken o ≡ Some rule → makes_special (production_at rule.number) ≡ true
-    chosen kind at None is h = let clash : ◌≡◌ {A = Option Rule} None (Some rule) = h in absurd cc
-    chosen kind at (Some p) is h =
-        let number : k ≡ number_of_kind kind = omega (arith, number_at 0 kinds k kind kinds_numbered at) in
-        let made = picked_special (wide_alternatives kind) takes.byte p (implied (is_special (OfKind (number_of_kind kind))) (make_special (wide_alternatives kind)) (only_special kind) (sym (ap (λ n. is_special (OfKind n)) number) ∙ special)) is in
-        let same : rule_of p ≡ rule = same_rule p rule h in
-        ap makes_special (sym (ap (λ x. production_at x.number) same) ∙ at_number p) ∙ made
-
-    go : (o : Option Kind) → slice_get kinds k ≡ o → makes_special (production_at rule.number) ≡ true
-    go None none = absurd (is_wide_kind k lt none)
-    go (Some kind) at = chosen kind at (wide_choose kind takes.byte) refl (sym (wide_rule_at k kind takes.byte at) ∙ takes.found)
+special_taken k rule taken lt takes special =
+    let c = chosen_rule k rule taken lt takes in
+    ap makes_special (ap (λ x. production_at x.number) c.is ∙ at_number c.production)
+    ∙ implied (is_special (OfKind k)) (makes_special c.production) (taken_passes (λ n p. not (is_special (OfKind n)) || makes_special p) only_special k rule c) special
 
 special_closes : (p : Production) (byte : ℕ) (around : Around) (place : ℕ) (began : State) (vs : List Value) (state : State) (one : Found Value State) → makes_special p ≡ true →
     close p byte around place began vs state ≡ Ok one → HasNone (held one.value)
