@@ -41,13 +41,15 @@ unfolding substituted
 substituted_bad around place None state = tt
 substituted_bad around place (Some c) state =
     either IsBad (is_open c.tree && (around.in_lambda || not (nat_eq c.encoding around.encoding))) _ _ (λ h. tt)
-    (λ h. bad_bind (with_packs place around.in_expansion (packs_in around.scope c.tree) state) (λ s. Ok (found (tree c.tree true) s)) (packs_bad place around.in_expansion (packs_in around.scope c.tree) state) (λ s. tt))
+    (λ h. bad_bind (with_packs place around.in_expansion (packs_in around.scope c.tree) state) (λ s. Ok (found (tree c.tree true) s))
+    (packs_bad place around.in_expansion (packs_in around.scope c.tree) state) (λ s. tt))
 
 named_bad : (around : Around) (place k : ℕ) (state : State) → IsBad (parameter_named around place k state)
 unfolding parameter_named
 named_bad around place k state =
     if_there IsBad around.scope _ _ tt (λ arguments is. either IsBad (nat_lt k (count arguments)) _ _
-    (λ h. bad_bind (with_packs place around.in_expansion (length_if_pack (element arguments k)) state) (λ s. Ok (appended around (parameter k) s)) (packs_bad place around.in_expansion (length_if_pack (element arguments k)) state) (λ s. tt))
+    (λ h. bad_bind (with_packs place around.in_expansion (length_if_pack (element arguments k)) state) (λ s. Ok (appended around (parameter k) s))
+    (packs_bad place around.in_expansion (length_if_pack (element arguments k)) state) (λ s. tt))
     (λ h. tt))
 
 parameter_bad : (around : Around) (place k : ℕ) (vs : List Value) (state : State) → IsBad (parameter_so_far around place k vs state)
@@ -105,7 +107,8 @@ scope_bad : (around : Around) (place : ℕ) (t : Term) (k : ℕ) (state : State)
 unfolding in_scope
 scope_bad around place t k state =
     if_there IsBad around.scope _ _ tt (λ arguments is. either IsBad (nat_lt k (count arguments) && not (is_list (element arguments k))) _ _
-    (λ h. bad_bind (with_packs place around.in_expansion (pack_length arguments t) state) (λ s. Ok (found (tree t true) s)) (packs_bad place around.in_expansion (pack_length arguments t) state) (λ s. tt)) (λ h. tt))
+    (λ h. bad_bind (with_packs place around.in_expansion (pack_length arguments t) state) (λ s. Ok (found (tree t true) s)) (packs_bad place around.in_expansion (pack_length arguments t) state)
+    (λ s. tt)) (λ h. tt))
 
 under_bad : (around : Around) (place : ℕ) (t : Term) (m : ℕ) (state : State) → IsBad (under_scope around place t m state)
 unfolding under_scope

@@ -158,7 +158,8 @@ chosen_rule k rule taken lt takes = go (slice_get kinds k) refl
     go (Some kind) at = by kind at (wide_choose kind takes.byte) refl (sym (wide_rule_at k kind takes.byte at) ∙ takes.found)
 
 -- what passes for each production that a kind has passes for that of its trees
-pub taken_passes : (passes : ℕ → Production → Bool) → ((kind : Kind) → each_passes (passes (number_of_kind kind)) (wide_alternatives kind) ≡ true) → (k : ℕ) (rule : Rule) (c : Chosen k rule) → passes k c.production ≡ true
+pub taken_passes : (passes : ℕ → Production → Bool) → ((kind : Kind) → each_passes (passes (number_of_kind kind)) (wide_alternatives kind) ≡ true) → (k : ℕ) (rule : Rule) (c : Chosen k rule) →
+    passes k c.production ≡ true
 unfolding wide_choose
 taken_passes passes each k rule c =
     ap (λ n. passes n c.production) c.number ∙ picked_passes (passes (number_of_kind c.kind)) (wide_alternatives c.kind) c.byte c.production (each c.kind) c.chosen

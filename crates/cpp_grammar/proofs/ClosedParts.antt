@@ -151,7 +151,8 @@ signature_goes : (own : Bool) (p : Production) (around : Around) (at : ℕ) (vs 
     ◌≡◌ {A = Going} (next vs (in_signature around) state) (Ok n) → Goes own (Within own p around) around at state n
 unfolding in_signature
 signature_goes own p around at vs state n is all e =
-    goes_by own (Within own p around) around at state vs (in_signature around) state n all (grows_same own around at state state refl) (fits_signature own around) (λ within. (refl, λ o. absurd (true≢false (sym is ∙ within.1 o)))) e
+    goes_by own (Within own p around) around at state vs (in_signature around) state n all (grows_same own around at state state refl) (fits_signature own around)
+    (λ within. (refl, λ o. absurd (true≢false (sym is ∙ within.1 o)))) e
 
 -- with the values of any production
 pub goes_within : (own : Bool) (production : Production) (around : Around) (place : ℕ) (vs : List Value) (state : State) (n : Next Value State Around) (at : ℕ) → StaysInside production →

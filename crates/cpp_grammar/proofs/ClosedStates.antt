@@ -345,7 +345,8 @@ restated_good around place t state r scopes e =
 wide_named_good : (around : Around) (place at : ℕ) (c : Candidate) (state : State) (r : Found Value State) → IsOld true around at c → substituted_wide around place (Some c) state ≡ Ok r → IsNamed around state r
 unfolding substituted_wide is_foreign
 wide_named_good around place at c state r old e =
-    either (λ x. x ≡ Ok r → IsNamed around state r) (is_open c.tree && (around.in_lambda || (c.in_lambda || not (nat_eq c.encoding around.encoding)))) _ _ (λ is h. restated_good around place c.tree state r old.scopes h)
+    either (λ x. x ≡ Ok r → IsNamed around state r) (is_open c.tree && (around.in_lambda || (c.in_lambda || not (nat_eq c.encoding around.encoding)))) _ _
+    (λ is h. restated_good around place c.tree state r old.scopes h)
     (λ is h. named_good true around place at c state r old (λ opens own. outside (is_open c.tree) c.in_lambda (not (nat_eq c.encoding around.encoding)) is opens) h) e
   where
     outside : (open_ first second : Bool) → (open_ && (around.in_lambda || (first || second))) ≡ false → open_ ≡ true → first ≡ false
@@ -377,7 +378,8 @@ lambda_good s t number scopes =
     either (Good s) (is_open t) (generic_lambda t number) (lambda t number) (λ is. record { closed = λ h. refl; scopes = λ n. scopes }) (λ is. record { closed = λ h. is; scopes = λ n. scopes })
 
 -- what is found, and no candidate
-found_comes : (around : Around) (state : State) (v : Value) (r : Found Value State) (end : ℕ) → Good (Bare true around) (held v) → ◌≡◌ {A = Result (Found Value State) Refusal} (Ok (found v state)) (Ok r) → Comes true around end state r
+found_comes : (around : Around) (state : State) (v : Value) (r : Found Value State) (end : ℕ) → Good (Bare true around) (held v) →
+    ◌≡◌ {A = Result (Found Value State) Refusal} (Ok (found v state)) (Ok r) → Comes true around end state r
 found_comes around state v r end good e = comes_by true around end state state v r good (grows_same true around end state state refl) e
 
 lambda_comes : (byte : ℕ) (around : Around) (vs : List Value) (state : State) (r : Found Value State) (end : ℕ) → GoodPrefix (Bare true around) around.prefix → AllGood (Within true Production.Lambda around) vs →
@@ -401,7 +403,8 @@ counted_grows : (around : Around) (end : ℕ) (base : Value) (state : State) →
 unfolding counted_base
 counted_grows around end (pair second base own) state good = grows_same true around end state state refl
 counted_grows around end base state good =
-    either (Grows true around end state) (is_listed base) _ _ (λ h. grows_same true around end state state refl) (λ h. base_grows around end (tree_of base) state (good_tree (Bare true around) base good))
+    either (Grows true around end state) (is_listed base) _ _ (λ h. grows_same true around end state state refl)
+    (λ h. base_grows around end (tree_of base) state (good_tree (Bare true around) base good))
 
 pub wide_close_good : (production : Production) (byte : ℕ) (around : Around) (place : ℕ) (began : State) (vs : List Value) (state : State) (r : Found Value State) (end : ℕ) →
     AllOld true around end state.candidates → GoodPrefix (Bare true around) around.prefix → AllGood (Within true production around) vs → HasClosedName production vs →
@@ -413,7 +416,8 @@ wide_close_good Production.Substitution byte around place began vs state r end o
 wide_close_good Production.Lambda byte around place began vs state r end old pre all name e = lambda_comes byte around vs state r end pre all e
 wide_close_good Production.Inheriting byte around place began vs state r end old pre all name e =
     let inside = all_where (Within true Production.Inheriting around) (Bare true around) vs (λ bare. (bare, λ own. refl)) all in
-    comes_by true around end state (counted_base around (part vs 1) state) (meaning Production.Inheriting byte around vs) r (meaning_good (Bare true around) Production.Inheriting byte around vs pre inside (λ n. tt))
+    comes_by true around end state (counted_base around (part vs 1) state) (meaning Production.Inheriting byte around vs) r
+    (meaning_good (Bare true around) Production.Inheriting byte around vs pre inside (λ n. tt))
     (counted_grows around end (part vs 1) state (good_held (Bare true around) vs 1 inside)) e
 wide_close_good Production.ValueOf byte around place began vs state r end old pre all name e = found_comes around state (letter byte) r end (good_nothing (Bare true around)) e
 wide_close_good Production.OfConcept byte around place began vs state r end old pre all name e = found_comes around state (letter byte) r end (good_nothing (Bare true around)) e

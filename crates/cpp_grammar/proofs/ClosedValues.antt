@@ -168,7 +168,8 @@ module _ {q : Type 0} where
   good_reference : (s : Type 0) (byte : ℕ) (v : Value) → GoodIf q s (tree_of v) → GoodIf q s (tree_of (reference_to byte v))
   unfolding reference_to tree_of is_open
   good_reference s byte v g =
-      chosen.either_cond (GoodIf q s) (nat_eq byte 82) (lvalue (tree_of v)) (rvalue (tree_of v)) (λ h. record { closed = g.closed; scopes = g.scopes }) (λ h. record { closed = g.closed; scopes = g.scopes })
+      chosen.either_cond (GoodIf q s) (nat_eq byte 82) (lvalue (tree_of v)) (rvalue (tree_of v)) (λ h. record { closed = g.closed; scopes = g.scopes })
+      (λ h. record { closed = g.closed; scopes = g.scopes })
 
   good_signature_or : (s : Type 0) (ref : RefQualifier) (v : Value) → GoodIf q s (held v) → GoodIf q s (held (signature_or ref v))
   unfolding signature_or held
@@ -216,7 +217,8 @@ module _ {q : Type 0} where
 
   good_argument : (s : Type 0) (v : Value) → GoodIf q s (held v) → GoodIf q s (held (enclosed_argument v))
   unfolding enclosed_argument held in_parentheses tree_of
-  good_argument s v g = chosen.either (λ w. GoodIf q s (held w)) (ends_arguments (tree_of v)) (tree (in_parentheses (tree_of v)) true) v (λ h. good_in_parentheses s (tree_of v) (good_tree s v g)) (λ h. g)
+  good_argument s v g =
+      chosen.either (λ w. GoodIf q s (held w)) (ends_arguments (tree_of v)) (tree (in_parentheses (tree_of v)) true) v (λ h. good_in_parentheses s (tree_of v) (good_tree s v g)) (λ h. g)
 
   good_element : (s : Type 0) (t : Term) → GoodIf q s t → GoodIf q s (enclosed_element t)
   unfolding enclosed_element
@@ -225,7 +227,8 @@ module _ {q : Type 0} where
   pub good_encoding : (s : Type 0) (v : Value) (items : Term) → (q → is_open (tree_of v) ≡ false) → (q → ScopesAreClosed (tree_of v)) → (q → ScopesAreClosed items) → GoodIf q s (encoding_of v items)
   unfolding encoding_of is_open
   good_encoding s v (list a b) name scopes items =
-      chosen.either (GoodIf q s) (has_return_type (tree_of v)) (function (tree_of v) (qualifiers_of v) (ref_of v) a (parameters b)) (function (tree_of v) (qualifiers_of v) (ref_of v) absent (parameters (list a b)))
+      chosen.either (GoodIf q s) (has_return_type (tree_of v)) (function (tree_of v) (qualifiers_of v) (ref_of v) a (parameters b))
+      (function (tree_of v) (qualifiers_of v) (ref_of v) absent (parameters (list a b)))
       (λ h. record { closed = λ c. refl; scopes = λ n. (none_free (tree_of v) (name n), scopes n, (items n).0, rest_good.scopes n) })
       (λ h. record { closed = λ c. refl; scopes = λ n. (none_free (tree_of v) (name n), scopes n, tt, all_good.scopes n) })
     where
@@ -298,7 +301,8 @@ module _ {q : Type 0} where
   given_good s byte around vs (qualified_by r v c) pre all = good_nothing s
   given_good s byte around vs _ pre all = good_nothing s
 
-  all_given_good : (s : Type 0) (byte : ℕ) (around : Around) (vs : List Value) (ss : List Source) → PrefixIf q s around.prefix → AllIf q s vs → (k : ℕ) → GoodIf q s (tree_in (argument (all_given byte around vs ss) k))
+  all_given_good : (s : Type 0) (byte : ℕ) (around : Around) (vs : List Value) (ss : List Source) → PrefixIf q s around.prefix → AllIf q s vs → (k : ℕ) →
+      GoodIf q s (tree_in (argument (all_given byte around vs ss) k))
   unfolding all_given argument tree_in
   all_given_good s byte around vs [] pre all k = good_nothing s
   all_given_good s byte around vs (source ∷ ss) pre all zero = given_good s byte around vs source pre all
@@ -313,7 +317,8 @@ module _ {q : Type 0} where
   made_tree_good s byte around vs (applying m k) pre all = good_applied s _ (part vs k) (made_tree_good s byte around vs m pre all) (good_part s vs k all)
   made_tree_good s byte around vs (packing k) pre all = let g = good_no_items s (part vs k) (good_part s vs k all) in record { closed = g.closed; scopes = g.scopes }
 
-  own_good : (s : Type 0) (o : Own) (most byte : ℕ) (around : Around) (vs : List Value) → IsOther (own o most) → PrefixIf q s around.prefix → AllIf q s vs → GoodIf q s (held (own_meaning o byte around vs))
+  own_good : (s : Type 0) (o : Own) (most byte : ℕ) (around : Around) (vs : List Value) → IsOther (own o most) → PrefixIf q s around.prefix → AllIf q s vs →
+      GoodIf q s (held (own_meaning o byte around vs))
   unfolding own_meaning held is_open default_entity listed_value
   own_good s encoding most byte around vs other pre all = absurd other
   own_good s non_virtual_thunk most byte around vs other pre all = let g = good_part s vs 2 all in record { closed = λ h. refl; scopes = g.scopes }
@@ -339,7 +344,8 @@ module _ {q : Type 0} where
   unfolding meant held is_open listed_value with_item
   meant_good s (handed k) byte around vs other pre all = good_held s vs k all
   meant_good s (finished k) byte around vs other pre all = good_part s vs k all
-  meant_good s (either k n) byte around vs other pre all = chosen.either (λ v. GoodIf q s (held v)) (is_there (part vs k)) (part vs k) (part vs n) (λ h. good_held s vs k all) (λ h. good_held s vs n all)
+  meant_good s (either k n) byte around vs other pre all =
+      chosen.either (λ v. GoodIf q s (held v)) (is_there (part vs k)) (part vs k) (part vs n) (λ h. good_held s vs k all) (λ h. good_held s vs n all)
   meant_good s the_byte byte around vs other pre all = good_nothing s
   meant_good s (makes m listing) byte around vs other pre all = made_tree_good s byte around vs m pre all
   meant_good s (a_piece m) byte around vs other pre all = made_tree_good s byte around vs m pre all

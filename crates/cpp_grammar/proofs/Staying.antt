@@ -103,7 +103,8 @@ appended_none around t state g all = one_more state.candidates (record { tree = 
 prefixed_none : (around : Around) (state : State) → Settled around → AllHaveNone state.candidates → AllHaveNone (with_prefix around state).candidates
 unfolding with_prefix
 prefixed_none around state settled all =
-    either (λ s. AllHaveNone s.candidates) (prefix_listed around.prefix) state (appended around (prefix_tree around.prefix) state) (λ h. all) (λ h. appended_none around (prefix_tree around.prefix) state (λ l. none_prefix around.prefix (settled.prefix l)) all)
+    either (λ s. AllHaveNone s.candidates) (prefix_listed around.prefix) state (appended around (prefix_tree around.prefix) state) (λ h. all)
+    (λ h. appended_none around (prefix_tree around.prefix) state (λ l. none_prefix around.prefix (settled.prefix l)) all)
 
 typed_none : (around : Around) (v : Value) (state : State) → (around.in_lambda ≡ true → HasNone (tree_of v)) → AllHaveNone state.candidates → AllHaveNone (with_type around v state).candidates
 unfolding with_type
@@ -277,7 +278,8 @@ here_stays around place k state n settled e = named_here around place k state (�
 argument_stays : (around : Around) (place k : ℕ) (state : State) (n : Next Value State Around) → Settled around → argument_so_far around place k state ≡ Ok n → argument_here around place k state ≡ Ok n
 unfolding argument_here argument_so_far
 argument_stays around place k state n settled e =
-    named_here around place k state (λ s. next (tree (parameter k) true ∷ []) around (record s { candidates = state.candidates })) (next (tree (parameter (generic_number k)) true ∷ []) around state) n settled e
+    named_here around place k state (λ s. next (tree (parameter k) true ∷ []) around (record s { candidates = state.candidates }))
+    (next (tree (parameter (generic_number k)) true ∷ []) around state) n settled e
 
 between_stays : (p : Production) (around : Around) (place : ℕ) (vs : List Value) (state : State) (n : Next Value State Around) → Settled around → between p around place vs state ≡ Ok n → between_wide p around place vs state ≡ Ok n
 unfolding between between_wide parameter_so_far parameter_named listed_so_far argument_so_far
@@ -341,7 +343,8 @@ substituted_stays : (around : Around) (place n : ℕ) (state : State) (r : Found
     Closes around (numbered around place n state) r
 unfolding substituted substituted_wide numbered is_counted_alike
 substituted_stays around place n state r cs e =
-    either (λ x. Closes around x r) (not (has_held state.candidates (n + 2))) _ _ (λ is. go (slice_get state.candidates n) refl e) (λ is. absurd (true≢false (sym (ap not (none_held state.candidates (n + 2) cs)) ∙ is)))
+    either (λ x. Closes around x r) (not (has_held state.candidates (n + 2))) _ _ (λ is. go (slice_get state.candidates n) refl e)
+    (λ is. absurd (true≢false (sym (ap not (none_held state.candidates (n + 2) cs)) ∙ is)))
   where
     go : (o : Option Candidate) → slice_get state.candidates n ≡ o → substituted around place o state ≡ Ok r → Closes around (substituted_wide around place o state) r
     go None is h = let clash : ◌≡◌ {A = Result (Found Value State) Refusal} (Err (BadReference place)) (Ok r) = h in absurd cc

@@ -299,7 +299,8 @@ unfolding parameter_here wide_.parameter_here parameter_so_far between_.paramete
 here_goes around x y place v settled packs =
     let s = around_place true around in
     choose (Alike (Goes true s around x y)) around.in_lambda around.in_lambda _ _ _ _ refl
-    (λ is. subst (λ k. Alike (Goes true s around x y) (generic_so_far around (index_of v) [] x) (wide_.generic_so_far (noted_around true around) k [] y)) (sym (index_noted s v)) (generic_goes around x y (index_of v) is settled packs))
+    (λ is. subst (λ k. Alike (Goes true s around x y) (generic_so_far around (index_of v) [] x) (wide_.generic_so_far (noted_around true around) k [] y)) (sym (index_noted s v))
+    (generic_goes around x y (index_of v) is settled packs))
     (λ is. done_noted true (tests false true) around place (v ∷ []) x y refl packs)
 
 own_argument_goes : (around : Around) (x : State) (y : value_.State) (k : ℕ) → around.in_lambda ≡ true → Settled around → y.packs ≡ x.packs →
@@ -318,7 +319,8 @@ unfolding argument_here wide_.argument_here argument_so_far between_.argument_so
 argument_here_goes around x y place v settled packs =
     let s = around_place true around in
     choose (Alike (Goes true s around x y)) around.in_lambda around.in_lambda _ _ _ _ refl
-    (λ is. subst (λ k. Alike (Goes true s around x y) (next (leaf_.tree (parameter (generic_number (index_of v))) true ∷ []) around x) (between_.next (value_.tree (term_.parameter (generic_number k) item_.auto) true ∷ []) (noted_around true around) y))
+    (λ is. subst (λ k. Alike (Goes true s around x y) (next (leaf_.tree (parameter (generic_number (index_of v))) true ∷ []) around x)
+    (between_.next (value_.tree (term_.parameter (generic_number k) item_.auto) true ∷ []) (noted_around true around) y))
     (sym (index_noted s v)) (own_argument_goes around x y (index_of v) is settled packs))
     (λ is. done_noted true (tests false false) around place (v ∷ []) x y refl packs)
 

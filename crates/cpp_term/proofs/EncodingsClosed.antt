@@ -37,7 +37,8 @@ one_production p q rule is so = sym (at_number q) ∙ ap (λ x. production_at x.
 special_kind : (p : Production) (k : ℕ) (rule : Rule) (taken : List ℕ) → rule ≡ rule_of p → k < wide.kinds → TakesRule wide k rule taken → in_special p ≡ true → is_special_kind k ≡ true
 special_kind p k rule taken is lt takes h =
     let c = chosen_rule k rule taken lt takes in
-    implied (in_special c.production) (is_special_kind k) (taken_passes (λ n q. not (in_special q) || is_special_kind n) special_types k rule c) (ap in_special (one_production p c.production rule is c.is) ∙ h)
+    implied (in_special c.production) (is_special_kind k) (taken_passes (λ n q. not (in_special q) || is_special_kind n) special_types k rule c)
+    (ap in_special (one_production p c.production rule is c.is) ∙ h)
 
 -- ## Encodings
 

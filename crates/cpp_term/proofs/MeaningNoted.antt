@@ -201,7 +201,8 @@ nil_noted s _ = refl
 pub parameters_noted : (s : Place) (t : Term) → noted_.parameters (annotate s t) ≡ annotate s (meaning_.parameters t)
 unfolding noted_.parameters meaning_.parameters annotate
 parameters_noted s (list e rest) =
-    choose (λ t u. u ≡ annotate s t) (meaning_.is_void e && meaning_.is_nil rest) (noted_.is_void (annotate s e) && noted_.is_nil (annotate s rest)) _ _ _ _ (both (λ x y. x && y) (void_noted s e) (nil_noted s rest)) (λ h. refl) (λ h. refl)
+    choose (λ t u. u ≡ annotate s t) (meaning_.is_void e && meaning_.is_nil rest) (noted_.is_void (annotate s e) && noted_.is_nil (annotate s rest)) _ _ _ _
+    (both (λ x y. x && y) (void_noted s e) (nil_noted s rest)) (λ h. refl) (λ h. refl)
 parameters_noted s _ = refl
 
 parameters_part : (s : Place) (vs : List Value) (k : ℕ) → noted_.parameters (value_.tree_of (value_.part (noted_values s vs) k)) ≡ annotate s (meaning_.parameters (tree_of (part vs k)))
@@ -324,7 +325,8 @@ pub encoding_noted : (s : Place) (name : Value) (items : Term) →
     noted_.encoding_of (noted_value nowhere name) (annotate (place_in (arguments_of (tree_of name)) false) items) ≡ annotate s (meaning_.encoding_of name items)
 unfolding noted_.encoding_of meaning_.encoding_of annotate
 encoding_noted s name (list e rest) =
-    choose (λ t u. u ≡ annotate s t) (has_return_type (tree_of name)) (scope_.has_return_type (value_.tree_of (noted_value nowhere name))) _ _ _ _ (ap scope_.has_return_type (tree_noted nowhere name) ∙ return_noted nowhere (tree_of name))
+    choose (λ t u. u ≡ annotate s t) (has_return_type (tree_of name)) (scope_.has_return_type (value_.tree_of (noted_value nowhere name))) _ _ _ _
+    (ap scope_.has_return_type (tree_noted nowhere name) ∙ return_noted nowhere (tree_of name))
     (λ h. five term_.function (tree_noted nowhere name) (qualifiers_noted nowhere name) (ref_noted nowhere name) (moved e) (parameters_noted r rest ∙ moved (meaning_.parameters rest)))
     (λ h. five term_.function (tree_noted nowhere name) (qualifiers_noted nowhere name) (ref_noted nowhere name) refl (parameters_noted r (list e rest) ∙ moved (meaning_.parameters (list e rest))))
   where

@@ -15,7 +15,8 @@ pub both : {A B C : Type 0} (f : A → B → C) {a b : A} {c d : B} → a ≡ b 
 both f {a} {b} {c} {d} e g = ap (λ x. f x c) e ∙ ap (f b) g
 
 -- what two choices come to that are made alike
-pub choose : {A B : Type 0} (R : A → B → Type 0) (b c : Bool) (x z : A) (y w : B) → c ≡ b → (b ≡ true → R x y) → (b ≡ false → R z w) → R (elim b [ true ↦ x | false ↦ z ]) (elim c [ true ↦ y | false ↦ w ])
+pub choose : {A B : Type 0} (R : A → B → Type 0) (b c : Bool) (x z : A) (y w : B) → c ≡ b → (b ≡ true → R x y) → (b ≡ false → R z w) →
+    R (elim b [ true ↦ x | false ↦ z ]) (elim c [ true ↦ y | false ↦ w ])
 choose R true true x z y w e f g = f refl
 choose R false false x z y w e f g = g refl
 choose R true false x z y w e f g = absurd cc

@@ -140,7 +140,8 @@ pub unqualified_moves : (own : Bool) (around : Around) (v : Value) (x : State) (
 unfolding with_unqualified noted_.with_unqualified
 unqualified_moves own around v x y packs =
     let s = around_place own around in
-    choose (Moves own around x y) (is_function_type (tree_of v)) (noted_.is_function_type (value_.tree_of (noted_value s v))) _ _ _ _ (ap noted_.is_function_type (tree_noted s v) ∙ function_type_noted s (tree_of v))
+    choose (Moves own around x y) (is_function_type (tree_of v)) (noted_.is_function_type (value_.tree_of (noted_value s v))) _ _ _ _
+    (ap noted_.is_function_type (tree_noted s v) ∙ function_type_noted s (tree_of v))
     (λ h. moves_none own around x x y y refl refl packs) (λ h. type_moves own around v x y packs)
 
 pub prefix_moves : (own : Bool) (around : Around) (x : State) (y : value_.State) → y.packs ≡ x.packs → Moves own around x y (with_prefix around x) (noted_.with_prefix (noted_around own around) y)
@@ -210,12 +211,14 @@ noted_here own around c d n outside e = go (is_open c.tree) around.in_lambda (na
     go true false true is-open is-lambda is-same h = n.here (eqb-true c.encoding around.encoding is-same) is-lambda (outside is-open)
 
 -- a tree that is found, once its packs are as long as the others
-found_noted : (own : Bool) (around : Around) (place : ℕ) (t : Term) (u : term_.Term) (m n : Option ℕ) (x : State) (y : value_.State) → u ≡ annotate (around_place own around) t → n ≡ m → y.packs ≡ x.packs → Alike (Comes own around x y)
+found_noted : (own : Bool) (around : Around) (place : ℕ) (t : Term) (u : term_.Term) (m n : Option ℕ) (x : State) (y : value_.State) → u ≡ annotate (around_place own around) t → n ≡ m →
+    y.packs ≡ x.packs → Alike (Comes own around x y)
     (with_packs place around.in_expansion m x >>= λ z. Ok (found (leaf_.tree t true) z)) (noted_.with_packs place around.in_expansion n y >>= λ z. Ok (found (value_.tree u true) z))
 unfolding noted_value
 found_noted own around place t u m n x y is e packs = subst (λ n. Alike (Comes own around x y)
     (with_packs place around.in_expansion m x >>= λ z. Ok (found (leaf_.tree t true) z)) (noted_.with_packs place around.in_expansion n y >>= λ z. Ok (found (value_.tree u true) z))) (sym e)
-    (alike_bind (Kept x y) (Comes own around x y) (with_packs place around.in_expansion m x) (noted_.with_packs place around.in_expansion m y) (λ z. Ok (found (leaf_.tree t true) z)) (λ z. Ok (found (value_.tree u true) z))
+    (alike_bind (Kept x y) (Comes own around x y) (with_packs place around.in_expansion m x) (noted_.with_packs place around.in_expansion m y) (λ z. Ok (found (leaf_.tree t true) z))
+    (λ z. Ok (found (value_.tree u true) z))
     (packs_kept place around.in_expansion m x y packs) (λ a b h kept. record { value = ap (λ v. value_.tree v true) is; moves = moves_none own around x a y b kept.is kept.so kept.packs }))
 
 -- what is done with the arguments of the scope, where there are some
@@ -233,11 +236,13 @@ substituted_noted own around place None None x y packs n outside = refl
 substituted_noted own around place None (Some d) x y packs n outside = absurd n
 substituted_noted own around place (Some c) None x y packs n outside = absurd n
 substituted_noted own around place (Some c) (Some d) x y packs n outside =
-    choose (Alike (Comes own around x y)) (is_open c.tree && (around.in_lambda || not (nat_eq c.encoding around.encoding))) (scope_.is_open d.tree && (around.in_lambda || not (nat_eq d.encoding around.encoding))) _ _ _ _
+    choose (Alike (Comes own around x y)) (is_open c.tree && (around.in_lambda || not (nat_eq c.encoding around.encoding)))
+    (scope_.is_open d.tree && (around.in_lambda || not (nat_eq d.encoding around.encoding))) _ _ _ _
     (both (λ a k. a && (around.in_lambda || not (nat_eq k around.encoding))) (ap scope_.is_open n.like ∙ open_noted n.by c.tree) n.encoding) (λ h. refl)
     (λ h.
     let is = noted_here own around c d n outside h in
-    found_noted own around place c.tree d.tree (packs_in around.scope c.tree) (scope_.pack_length d.tree) x y is (ap scope_.pack_length is ∙ packs_noted around.scope (own && around.in_lambda) c.tree) packs)
+    found_noted own around place c.tree d.tree (packs_in around.scope c.tree) (scope_.pack_length d.tree) x y is
+    (ap scope_.pack_length is ∙ packs_noted around.scope (own && around.in_lambda) c.tree) packs)
 
 pub named_here : (own : Bool) (around : Around) (k : ℕ) (arguments : Term) → around.scope ≡ Some arguments → term_.parameter k (scope_.element (annotate nowhere arguments) k) ≡ annotate (around_place own around) (parameter k)
 unfolding annotate argument_in place_in
@@ -251,7 +256,8 @@ parameter_noted own around place k x y packs =
     with_arguments (Moves own around x y) place around.scope _ _ (λ arguments scope.
     choose (Alike (Moves own around x y)) (nat_lt k (count arguments)) (nat_lt k (scope_.count (annotate nowhere arguments))) _ _ _ _ (ap (nat_lt k) (count_noted nowhere arguments))
     (λ h. onward (length_if_pack (element arguments k)) (scope_.length_if_pack (scope_.element (annotate nowhere arguments) k))
-    (ap scope_.length_if_pack (element_noted nowhere arguments k) ∙ length_noted nowhere (element arguments k)) (term_.parameter k (scope_.element (annotate nowhere arguments) k)) (named_here own around k arguments scope)) (λ h. refl))
+    (ap scope_.length_if_pack (element_noted nowhere arguments k) ∙ length_noted nowhere (element arguments k)) (term_.parameter k (scope_.element (annotate nowhere arguments) k))
+    (named_here own around k arguments scope)) (λ h. refl))
   where
     onward : (m n : Option ℕ) → n ≡ m → (u : term_.Term) → u ≡ annotate (around_place own around) (parameter k) → Alike (Moves own around x y)
         (with_packs place around.in_expansion m x >>= λ z. Ok (appended around (parameter k) z)) (noted_.with_packs place around.in_expansion n y >>= λ z. Ok (noted_.appended (noted_around own around) u z))
@@ -307,7 +313,8 @@ in_scope_noted around place by t k x y one packs =
     let a : term_.Term = scope_.element (annotate nowhere arguments) k in
     let same : (nat_lt k (scope_.count (annotate nowhere arguments)) && not (scope_.is_list a)) ≡ (nat_lt k (count arguments) && not (is_list (element arguments k))) =
     both (λ n b. nat_lt k n && not b) (count_noted nowhere arguments) (ap scope_.is_list (element_noted nowhere arguments k) ∙ list_noted nowhere (element arguments k)) in
-    choose (Alike (Comes true around x y)) (nat_lt k (count arguments) && not (is_list (element arguments k))) (nat_lt k (scope_.count (annotate nowhere arguments)) && not (scope_.is_list a)) _ _ _ _ same
+    choose (Alike (Comes true around x y)) (nat_lt k (count arguments) && not (is_list (element arguments k)))
+    (nat_lt k (scope_.count (annotate nowhere arguments)) && not (scope_.is_list a)) _ _ _ _ same
     (λ h.
     let is = meant_by around by t k one arguments (not_no (scope_.is_list a) (and_parts (nat_lt k (scope_.count (annotate nowhere arguments))) (not (scope_.is_list a)) (same ∙ h)).1) in
     found_noted true around place t (reargued (Some a) (annotate by t)) (pack_length arguments t) (scope_.pack_length (reargued (Some a) (annotate by t))) x y
@@ -319,7 +326,8 @@ unfolding under_scope wide_.under_scope noted_around noted_scope noted_value
 under_scope_noted around place by t m x y several packs =
     with_arguments (Comes true around x y) place around.scope _ _ (λ arguments scope.
     let given : term_.Term = annotate nowhere arguments in
-    let same : (nat_lt m (scope_.count given) && not (scope_.has_pack given)) ≡ (nat_lt m (count arguments) && not (has_pack arguments)) = both (λ n b. nat_lt m n && not b) (count_noted nowhere arguments) (pack_noted nowhere arguments) in
+    let same : (nat_lt m (scope_.count given) && not (scope_.has_pack given)) ≡ (nat_lt m (count arguments) && not (has_pack arguments)) =
+    both (λ n b. nat_lt m n && not b) (count_noted nowhere arguments) (pack_noted nowhere arguments) in
     choose (Alike (Comes true around x y)) (nat_lt m (count arguments) && not (has_pack arguments)) (nat_lt m (scope_.count given) && not (scope_.has_pack given)) _ _ _ _ same
     (λ h.
     let parts = and_parts (nat_lt m (scope_.count given)) (not (scope_.has_pack given)) (same ∙ h) in
@@ -364,7 +372,8 @@ wide_substituted_noted around place None (Some d) x y settled packs n = absurd n
 wide_substituted_noted around place (Some c) None x y settled packs n = absurd n
 wide_substituted_noted around place (Some c) (Some d) x y settled packs n =
     choose (Alike (Comes true around x y)) (is_foreign around c) (wide_.is_foreign (noted_around true around) d) _ _ _ _ (foreign_noted around c d n)
-    (λ is. subst (λ u. Alike (Comes true around x y) (restated around place c.tree x) (wide_.restated (noted_around true around) place u y)) (sym n.like) (restated_noted around place n.by c.tree x y settled packs))
+    (λ is. subst (λ u. Alike (Comes true around x y) (restated around place c.tree x) (wide_.restated (noted_around true around) place u y)) (sym n.like)
+    (restated_noted around place n.by c.tree x y settled packs))
     (λ is. substituted_noted true around place (Some c) (Some d) x y packs n (λ opens o. outside (is_open c.tree) around.in_lambda c.in_lambda (not (nat_eq c.encoding around.encoding)) is opens))
   where
     outside : (o l m other : Bool) → (o && (l || (m || other))) ≡ false → o ≡ true → m ≡ false
@@ -386,5 +395,7 @@ pub wide_numbered_noted : (around : Around) (place number : ℕ) (x : State) (y 
     Alike (Comes true around x y) (numbered around place number x) (wide_.numbered (noted_around true around) place number y)
 unfolding numbered wide_.numbered is_counted_alike wide_.is_counted_alike
 wide_numbered_noted around place number x y settled same =
-    choose (Alike (Comes true around x y)) (not (has_held x.candidates (number + 2))) (not (wide_.has_held y.candidates (number + 2))) _ _ _ _ (ap not (held_noted true around x.candidates y.candidates (number + 2) same.all))
-    (λ h. wide_substituted_noted around place (slice_get x.candidates number) (slice_get y.candidates number) x y settled same.packs (get_noted true around x.candidates y.candidates number same.all)) (λ h. refl)
+    choose (Alike (Comes true around x y)) (not (has_held x.candidates (number + 2))) (not (wide_.has_held y.candidates (number + 2))) _ _ _ _
+    (ap not (held_noted true around x.candidates y.candidates (number + 2) same.all))
+    (λ h. wide_substituted_noted around place (slice_get x.candidates number) (slice_get y.candidates number) x y settled same.packs (get_noted true around x.candidates y.candidates number same.all))
+    (λ h. refl)

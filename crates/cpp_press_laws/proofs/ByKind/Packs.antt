@@ -37,15 +37,20 @@ packs-kept place (Some m) state new e = absurd cc
 
 type-kept : (around : Around) (v : Value) (state : State) → (with_type around v state).packs ≡ state.packs
 unfolding with_type appended
-type-kept around v state = either (λ s. s.packs ≡ state.packs) (is_listed v) state (appended around (tree_of v) state) (λ h. refl) (λ h. refl)
+type-kept around v state =
+    either (λ s. s.packs ≡ state.packs) (is_listed v) state (appended around (tree_of v) state) (λ h. refl) (λ h. refl)
 
 unqualified-kept : (around : Around) (v : Value) (state : State) → (with_unqualified around v state).packs ≡ state.packs
 unfolding with_unqualified
-unqualified-kept around v state = either (λ s. s.packs ≡ state.packs) (is_function_type (tree_of v)) state (with_type around v state) (λ h. refl) (λ h. type-kept around v state)
+unqualified-kept around v state =
+    either (λ s. s.packs ≡ state.packs) (is_function_type (tree_of v)) state (with_type around v state) (λ h. refl)
+    (λ h. type-kept around v state)
 
 prefix-kept : (around : Around) (state : State) → (with_prefix around state).packs ≡ state.packs
 unfolding with_prefix appended
-prefix-kept around state = either (λ s. s.packs ≡ state.packs) (prefix_listed around.prefix) state (appended around (prefix_tree around.prefix) state) (λ h. refl) (λ h. refl)
+prefix-kept around state =
+    either (λ s. s.packs ≡ state.packs) (prefix_listed around.prefix) state (appended around (prefix_tree around.prefix) state) (λ h. refl)
+    (λ h. refl)
 
 -- ## References
 
@@ -61,8 +66,10 @@ substituted-kept : (around : Around) (place : ℕ) (o : Option Candidate) (state
 unfolding substituted
 substituted-kept around place None state r outside e = absurd cc
 substituted-kept around place (Some c) state r outside e =
-    either (λ x. x ≡ Ok r → r.state.packs ≡ state.packs) (is_open c.tree && (around.in_lambda || not (nat_eq c.encoding around.encoding))) _ _ (λ is h. absurd cc)
-    (λ is h. bound-kept place around.in_expansion (packs_in around.scope c.tree) state (λ s. Ok (found (tree c.tree true) s)) r (λ x. x.state.packs) outside
+    either (λ x. x ≡ Ok r → r.state.packs ≡ state.packs)
+    (is_open c.tree && (around.in_lambda || not (nat_eq c.encoding around.encoding))) _ _ (λ is h. absurd cc)
+    (λ is h. bound-kept place around.in_expansion (packs_in around.scope c.tree) state (λ s. Ok (found (tree c.tree true) s)) r
+    (λ x. x.state.packs) outside
     (λ s x is. ap (λ y. y.state.packs) (sym (ok_same (found (tree c.tree true) s) x is))) h) e
 
 parameter-kept : (around : Around) (place k : ℕ) (state new : State) → around.in_expansion ≡ false → parameter_named around place k state ≡ Ok new
@@ -195,7 +202,8 @@ after-kept : (does : Row) (around : Around) (began : State) (v : Value) (vs : Li
     → (does.restores_packs ≡ false → state.packs ≡ began.packs) → (state_after does around began v vs state).packs ≡ began.packs
 unfolding state_after
 after-kept does around began v vs state same =
-    either_cond (λ s. s.packs ≡ began.packs) does.restores_packs (record (gained does.gain around vs v state) { packs = began.packs }) (gained does.gain around vs v state)
+    either_cond (λ s. s.packs ≡ began.packs) does.restores_packs (record (gained does.gain around vs v state) { packs = began.packs })
+    (gained does.gain around vs v state)
     (λ h. refl) (λ h. gained-kept does.gain around vs v state ∙ same h)
 
 close-kept : (p : Production) (byte : ℕ) (around : Around) (place : ℕ) (began : State) (vs : List Value) (state : State) (r : Found Value State)

@@ -228,8 +228,11 @@ c-operator-fits around second old small marked =
 tested-number : (place : ℕ) (digits : List ℕ) (state : State) → number_tested place digits state ≡ Ok state
     → IsLocalNumber (local_number digits)
 unfolding number_tested local_number
-tested-number place digits state e =
-    (omega arith, either (λ x. x ≡ Ok state → nat_lt (local_number digits) (2 ^ 64) ≡ true) (nat_lt (local_number digits) (2 ^ 64)) (Ok state) (Err (BadValue place)) (λ is h. is) (λ is h. absurd cc) e)
+tested-number place digits state e = (
+  omega arith,
+  either (λ x. x ≡ Ok state → nat_lt (local_number digits) (2 ^ 64) ≡ true) (nat_lt (local_number digits) (2 ^ 64))
+      (Ok state) (Err (BadValue place)) (λ is h. is) (λ is h. absurd cc) e,
+)
 
 -- it is that of the last token
 last-digits : (t : Shape) (f : Forest) (around : Around) (at : ℕ) (state : State) (v : Value) (new : State) → IsTree abi (Number Decimal) t

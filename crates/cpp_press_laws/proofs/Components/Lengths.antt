@@ -12,7 +12,8 @@ use Rattle.cpp_press_laws.specs.Fits.{Slot, literal_type, IsBuiltin, has_letters
 
 digits-long : (most n : ℕ) → 0 < length (digits_in 10 decimal_digit (suc most) n)
 digits-long most n =
-    either (λ ds. 0 < length ds) (nat_lt n 10) (decimal_digit n ∷ []) (digits_in 10 decimal_digit most (n / 10) ++ decimal_digit (n % 10) ∷ []) (λ h. omega arith)
+    either (λ ds. 0 < length ds) (nat_lt n 10) (decimal_digit n ∷ [])
+    (digits_in 10 decimal_digit most (n / 10) ++ decimal_digit (n % 10) ∷ []) (λ h. omega arith)
     (λ h. omega (arith, length-append (digits_in 10 decimal_digit most (n / 10)) (decimal_digit (n % 10) ∷ [])))
 
 pub counted-long : (name : List ℕ) → 0 < length (counted name)

@@ -89,7 +89,8 @@ parameters-fit around slot nil old new is one =
     old new (λ n place cs. refl) one
 parameters-fit around slot (list a b) old new is one =
     either (λ t. ParametersFit around slot t old new) (is_void a && is_nil b) nil (list a b)
-    (λ void. no-parameters-fit around slot (list a b) (λ n. (ways_of n (list a b)).as_more_parameters) ((fits_of (list a b)).as_more_parameters slot) old new (void-adds-none a b void) one)
+    (λ void. no-parameters-fit around slot (list a b) (λ n. (ways_of n (list a b)).as_more_parameters)
+    ((fits_of (list a b)).as_more_parameters slot) old new (void-adds-none a b void) one)
     (λ others. refitted one (λ n allowed place cs fits. (others, fits)))
 parameters-fit around slot (symbol e suffix) old new is one = absurd is
 parameters-fit around slot _ old new is one = absurd is

@@ -108,7 +108,8 @@ pub reference-solid : (around : Around) (byte : ℕ) (v : Value) (old new : Stat
     → SolidFits takes_all around (reference_to byte v) old new
 unfolding reference_to
 reference-solid around byte v old new one =
-    either_cond (λ t. SolidFits takes_all around (tree t false) old new) (nat_eq byte 82) (lvalue (tree_of v)) (rvalue (tree_of v)) (λ h. lvalue-fits around (tree_of v) old new one)
+    either_cond (λ t. SolidFits takes_all around (tree t false) old new) (nat_eq byte 82) (lvalue (tree_of v)) (rvalue (tree_of v))
+    (λ h. lvalue-fits around (tree_of v) old new one)
     (λ h. rvalue-fits around (tree_of v) old new one)
 
 -- a reference right under qualifiers
@@ -117,7 +118,8 @@ pub reference-plain : (around : Around) (byte : ℕ) (began : State) (v : Value)
     (Later Production.ReferenceType byte around began (v ∷ []) new)
 unfolding meaning listed_value reference_to tree_of is_listed part unfolding_.behind with_type with_unqualified is_function_type takes_all
 reference-plain around byte began v old new one =
-    either_cond (λ t. BareFits around t old (appended around t new)) (nat_eq byte 82) (lvalue (tree_of v)) (rvalue (tree_of v)) (λ h. (lvalue-fits around (tree_of v) old new one).bare refl)
+    either_cond (λ t. BareFits around t old (appended around t new)) (nat_eq byte 82) (lvalue (tree_of v)) (rvalue (tree_of v))
+    (λ h. (lvalue-fits around (tree_of v) old new one).bare refl)
     (λ h. (rvalue-fits around (tree_of v) old new one).bare refl)
 
 -- ## Types of types

@@ -88,7 +88,8 @@ parameters-standing : (slot : Slot) (t : Term) (around : Around) (allowed : Opti
 unfolding fits_of type_fits piece_fits argument_fits encoding_fits fits_nowhere parameters
 parameters-standing slot nil around allowed place cs fits = tt
 parameters-standing slot (list a b) around allowed place cs fits =
-    chosen.either (λ t. (fits_of t).as_parameters slot around allowed place cs) (is_void a && is_nil b) nil (list a b) (λ void. tt) (λ others. (others, fits))
+    chosen.either (λ t. (fits_of t).as_parameters slot around allowed place cs) (is_void a && is_nil b) nil (list a b) (λ void. tt)
+    (λ others. (others, fits))
 parameters-standing slot (symbol e suffix) around allowed place cs fits = absurd fits
 parameters-standing slot _ around allowed place cs fits = absurd fits
 
@@ -97,7 +98,8 @@ parameters-components : (t : Term) (n place : ℕ) (cs : List Component)
 unfolding ways_of type_ways name_ways encoding_ways piece_ways argument_ways no_ways parameters
 parameters-components nil n place cs = refl
 parameters-components (list a b) n place cs =
-    chosen.either (λ t. ((ways_of n (list a b)).as_more_parameters place cs).components ≡ ((ways_of n t).as_parameters place cs).components) (is_void a && is_nil b) nil (list a b)
+    chosen.either (λ t. ((ways_of n (list a b)).as_more_parameters place cs).components ≡ ((ways_of n t).as_parameters place cs).components)
+    (is_void a && is_nil b) nil (list a b)
     (λ void. void-adds-none a b void n place cs) (λ others. refl)
 parameters-components (symbol e suffix) n place cs = refl
 parameters-components _ n place cs = refl

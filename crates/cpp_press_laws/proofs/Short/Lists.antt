@@ -39,7 +39,8 @@ back-one n = omega arith
 signed-short : (negative : Bool) (ds : List ℕ) → length (signed_text (signed_digits negative ds)) ≤ 1 + length ds
 unfolding signed_text signed_digits
 signed-short negative ds =
-    either_cond (λ front. length (front ++ normal ds) ≤ 1 + length ds) (negative && not (is_zero (normal ds))) (codes "n") [] (λ h. omega (arith, normal-short ds)) (λ h. omega (arith, normal-short ds))
+    either_cond (λ front. length (front ++ normal ds) ≤ 1 + length ds) (negative && not (is_zero (normal ds))) (codes "n") []
+    (λ h. omega (arith, normal-short ds)) (λ h. omega (arith, normal-short ds))
 
 plain-offset : (n : Signed) → length (offset_text (non_virtual n)) ≡ 2 + length (signed_text n)
 unfolding offset_text
@@ -281,9 +282,13 @@ given-gains around at old v new b ready small all o =
 encoding-most : (v : Value) (t : Term) → size (encoding_of v t) + front (encoding_of v t) ≤ size (tree_of v) + letters_in v + 9 + (size t - 1)
 unfolding encoding_of size front_of is_encoding letters_in part_of is_component
 encoding-most v (list first others) =
-    either (λ t. size t + front t ≤ size (tree_of v) + lettered (name_letters (qualifiers_of v) (ref_of v)) + 9 + (cond (is_component first) 8 (size first) + size others - 1)) (has_return_type (tree_of v))
-    (function (tree_of v) (qualifiers_of v) (ref_of v) first (parameters others)) (function (tree_of v) (qualifiers_of v) (ref_of v) absent (parameters (list first others)))
-    (λ h. omega (arith, parameters-most others, size-some others)) (λ h. omega (arith, parameters-most (list first others), size-some others))
+    either (λ t. size t + front t
+    ≤ size (tree_of v) + lettered (name_letters (qualifiers_of v) (ref_of v)) + 9 + (cond (is_component first) 8 (size first) + size others - 1))
+    (has_return_type (tree_of v))
+    (function (tree_of v) (qualifiers_of v) (ref_of v) first (parameters others))
+    (function (tree_of v) (qualifiers_of v) (ref_of v) absent (parameters (list first others)))
+    (λ h. omega (arith, parameters-most others, size-some others))
+    (λ h. omega (arith, parameters-most (list first others), size-some others))
 encoding-most v nil = omega arith
 encoding-most v (symbol e suffix) = omega arith
 encoding-most v t = omega arith

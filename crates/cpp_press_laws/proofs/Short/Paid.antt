@@ -47,8 +47,15 @@ above n h = grind (arith, nat_tests)
 digits-few : (fuel n : ℕ) → length (digits_in 10 decimal_digit fuel n) ≤ n + 1
 digits-few zero n = omega arith
 digits-few (suc fuel) n =
-    either (λ ds. length ds ≤ n + 1) (nat_lt n 10) (decimal_digit n ∷ []) (digits_in 10 decimal_digit fuel (n / 10) ++ decimal_digit (n % 10) ∷ []) (λ below. omega arith)
-    (λ over. omega (arith, digits-few fuel (n / 10), above n over, length-append (digits_in 10 decimal_digit fuel (n / 10)) (decimal_digit (n % 10) ∷ [])))
+    either (λ ds. length ds ≤ n + 1) (nat_lt n 10) (decimal_digit n ∷ [])
+    (digits_in 10 decimal_digit fuel (n / 10) ++ decimal_digit (n % 10) ∷ []) (λ below. omega arith)
+    (λ over. omega (
+      arith,
+      digits-few fuel (n / 10),
+      above n over,
+      length-append (digits_in 10 decimal_digit fuel (n / 10))
+          (decimal_digit (n % 10) ∷ []),
+    ))
 
 lone-separator : (separator own : List ℕ) → IsSeparator Cpp separator own → IsSeparator Cpp [] own
 lone-separator [] own is = is

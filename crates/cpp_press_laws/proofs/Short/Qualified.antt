@@ -129,7 +129,8 @@ as-bare {around} {v} {old} {new} other g = record {
 
 reference-other : (b : ℕ) (v : Value) → is_function_type (tree_of (listed_value (reference_to b v))) ≡ false
 unfolding listed_value reference_to tree_of is_function_type
-reference-other b v = either_cond (λ t. is_function_type t ≡ false) (nat_eq b 82) (lvalue (tree_of v)) (rvalue (tree_of v)) (λ h. refl) (λ h. refl)
+reference-other b v =
+    either_cond (λ t. is_function_type t ≡ false) (nat_eq b 82) (lvalue (tree_of v)) (rvalue (tree_of v)) (λ h. refl) (λ h. refl)
 
 pub bare-reference-gains : Idle Production.ReferenceType bare
 unfolding parts_of between is_chain close unfolding_.behind meaning values.part class_of grant Gained Ready ready_for need typed loan returned IsKnown IsKept

@@ -112,7 +112,8 @@ name-part _ own = omega arith
 bare-some : (t : Term) (own : ℕ) → 1 ≤ own → 1 ≤ bare_of t own
 unfolding bare_of part_of
 bare-some t own some =
-    either_cond (λ n. 1 ≤ n) (is_function_type t) own (cond (is_component t) 8 own) (λ h. some) (λ h. either_cond (λ n. 1 ≤ n) (is_component t) 8 own (λ h. omega arith) (λ h. some))
+    either_cond (λ n. 1 ≤ n) (is_function_type t) own (cond (is_component t) 8 own) (λ h. some)
+    (λ h. either_cond (λ n. 1 ≤ n) (is_component t) 8 own (λ h. omega arith) (λ h. some))
 
 pub size-some : (t : Term) → 1 ≤ size t
 unfolding size

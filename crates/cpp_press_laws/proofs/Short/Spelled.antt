@@ -299,7 +299,8 @@ entity-short : (k : ℕ) (entity : Term) (letters : List ℕ) (between : Spellin
     → Short (2 + length letters + k) (entity_text entity letters between)
 unfolding entity_text
 entity-short k entity letters between one =
-    either (Short (2 + length letters + k)) (is_one_piece entity) between (in_N_and_E letters between) (λ h. less k (2 + length letters + k) between (omega arith) one)
+    either (Short (2 + length letters + k)) (is_one_piece entity) between (in_N_and_E letters between)
+    (λ h. less k (2 + length letters + k) between (omega arith) one)
     (λ h. nested-short k (2 + length letters + k) letters between (omega arith) one)
 
 local-short : (a b c : ℕ) (around : Spelling) (entity : Term) (between : Spelling) (discriminator : Option (List ℕ)) (letters : List ℕ)
@@ -386,7 +387,8 @@ std-all n p one =
     let most : Short (4 + size p) s = less (2 + size p) (4 + size p) s (omega arith) spelled in
     named-all n (in_std p) (elim (is_operator p) as (λ _. Spelling) [ true ↦ in_N_and_E [] s | false ↦ s ]) s s s
     (λ in_type arguments. template_before n (in_std p) (in_type && is_operator p) s arguments) refl refl refl refl
-    (either (Short (4 + size p)) (is_operator p) (in_N_and_E [] s) s (λ h. nested-short (2 + size p) (4 + size p) [] s (omega arith) spelled) (λ h. most)) most most most
+    (either (Short (4 + size p)) (is_operator p) (in_N_and_E [] s) s
+    (λ h. nested-short (2 + size p) (4 + size p) [] s (omega arith) spelled) (λ h. most)) most most most
     (λ in_type arguments k two. template-short n k (in_std p) (in_type && is_operator p) s arguments most two)
 
 within-all : (n : ℕ) (prefix p : Term) → AllShort prefix (ways_of n prefix) → AllShort p (ways_of n p)

@@ -61,13 +61,16 @@ pub normal-short : (ds : List ℕ) → length (normal ds) ≤ length ds
 unfolding normal
 normal-short [] = omega arith
 normal-short (d ∷ []) = omega arith
-normal-short (d ∷ e ∷ ds) = either (λ x. length x ≤ suc (suc (length ds))) (nat_eq d 48) (normal (e ∷ ds)) (d ∷ e ∷ ds) (λ h. omega (arith, normal-short (e ∷ ds))) (λ h. omega arith)
+normal-short (d ∷ e ∷ ds) =
+    either (λ x. length x ≤ suc (suc (length ds))) (nat_eq d 48) (normal (e ∷ ds)) (d ∷ e ∷ ds) (λ h. omega (arith, normal-short (e ∷ ds)))
+    (λ h. omega arith)
 
 -- a lone void is no parameters
 pub parameters-most : (t : Term) → with_void (parameters t) (size (parameters t)) ≤ size t
 unfolding parameters with_void is_nil size
 parameters-most (list first others) =
-    either (λ t. cond (is_nil t) 1 (size t) ≤ part_of first (size first) + size others) (is_void first && is_nil others) nil (list first others) (λ h. omega (arith, size-some others)) (λ h. omega arith)
+    either (λ t. cond (is_nil t) 1 (size t) ≤ part_of first (size first) + size others) (is_void first && is_nil others) nil
+    (list first others) (λ h. omega (arith, size-some others)) (λ h. omega arith)
 parameters-most nil = omega arith
 parameters-most (symbol e suffix) = omega arith
 parameters-most t = omega arith
@@ -109,7 +112,8 @@ enclosed-listed : (around : Around) (v : Value) (s old : State) (b : ℕ) → Al
 unfolding enclosed_argument in_parentheses need typed loan returned IsKept size part_of is_component is_function_type is_encoding
 enclosed-listed around v s old b all known few =
     either (λ w. Gains type 0 around w old s b) (ends_arguments (tree_of v)) (tree (in_parentheses (tree_of v)) true) v
-    (λ h. listed around (in_parentheses (tree_of v)) s old b refl refl all (omega (arith, few, part-some (tree_of v)))) (λ h. record { few = omega (arith, few); known = known; kept = tt; small = all })
+    (λ h. listed around (in_parentheses (tree_of v)) s old b refl refl all (omega (arith, few, part-some (tree_of v))))
+    (λ h. record { few = omega (arith, few); known = known; kept = tt; small = all })
 
 -- what an E ends is known of the state before it
 pub addressed-gains : Idle Production.AddressedLiteral type

@@ -56,7 +56,9 @@ full-some t = either_cond (λ n. 1 ≤ n) (is_function_type t) (1 + size t) (1 +
 
 pub full-most : (t : Term) → full t ≤ 1 + size t
 unfolding full
-full-most t = either_cond (λ n. n ≤ 1 + size t) (is_function_type t) (1 + size t) (1 + over (size t)) (λ h. omega arith) (λ h. omega (arith, over-most (size t)))
+full-most t =
+    either_cond (λ n. n ≤ 1 + size t) (is_function_type t) (1 + size t) (1 + over (size t)) (λ h. omega arith)
+    (λ h. omega (arith, over-most (size t)))
 
 pub worth-full : (before : List Component) (n : ℕ) (t : Term) → worth before n t ≤ full t
 unfolding worth
