@@ -1,6 +1,6 @@
 -- What productions stand for, annotated.
 use Rattle.std.proofs.Common.{◌≡◌, refl, ap, sym, ◌∙◌, ℕ, zero, suc, List, [], ◌∷◌, Bool, true, false, not, ◌&&◌, cond, nat_eq, Option, Some, None}
-use Rattle.std.proofs.lemmas.Bool.{true≢false, false≢true}
+use Rattle.std.proofs.lemmas.Bool.{true≢false, false≢true, and_parts}
 use Rattle.cpp_grammar.specs.declared.production.Production.{Production}
 use Rattle.cpp_grammar.specs.Term.{RefQualifier, any_value, lvalue_only, rvalue_only, non_virtual, by_table, adjusting, covariant, Term, within, instance, local, tagged, of_default, constructor, destructor, inheriting, operator, builtin, lvalue, rvalue, encoding_literal, operation, nil, list, lambda}
 use Rattle.cpp_grammar.specs.Scope.{arguments_of, before_arguments, is_structor, has_return_type, is_open}
@@ -691,24 +691,17 @@ own_noted own row_.positive byte around vs h = ap (λ x. value_.signed (signed_d
 own_noted own row_.one_digit byte around vs h = refl
 own_noted own row_.many_digits byte around vs h = ap (λ x. value_.text (normal x)) (text_part (around_place own around) vs 0)
 
--- the trees of a pair are made of no encodings
-abbrev OfNone : Bool → Type 0
-OfNone true = Unit {0}
-OfNone false = ⊥
-
-both_inside : (byte : ℕ) (around : Around) (vs : List Value) (left right : Made) → OfNone (is_of_none left && is_of_none right) → MadeInside byte around vs left × MadeInside byte around vs right
-both_inside byte around vs left right h = go (is_of_none left) (is_of_none right) refl refl h
-  where
-    go : (a b : Bool) → is_of_none left ≡ a → is_of_none right ≡ b → OfNone (a && b) → MadeInside byte around vs left × MadeInside byte around vs right
-    go true true e f k = (made_inside byte around vs left e, made_inside byte around vs right f)
-    go true false e f k = absurd k
-    go false b e f k = absurd k
+both_inside : (byte : ℕ) (around : Around) (vs : List Value) (left right : Made) → (is_of_none left && is_of_none right) ≡ true → MadeInside byte around vs left × MadeInside byte around vs right
+both_inside byte around vs left right h =
+    let both_ = and_parts (is_of_none left) (is_of_none right) h in
+    (made_inside byte around vs left both_.0, made_inside byte around vs right both_.1)
 
 abbrev FormInside : Form → (byte : ℕ) → Around → List Value → Type 0
 FormInside (row_.makes m listing) byte around vs = MadeInside byte around vs m
 FormInside (row_.a_piece m) byte around vs = MadeInside byte around vs m
 FormInside (row_.own o most) byte around vs = OwnInside o vs
-FormInside (row_.a_pair letter left right) byte around vs = OfNone (is_of_none left && is_of_none right)
+-- the trees of a pair are made of no encodings
+FormInside (row_.a_pair letter left right) byte around vs = (is_of_none left && is_of_none right) ≡ true
 FormInside _ byte around vs = Unit {0}
 
 meant_noted : (own : Bool) (form : Form) (byte : ℕ) (around : Around) (vs : List Value) → FormInside form byte around vs →
@@ -735,4 +728,4 @@ pub meaning_noted : (own : Bool) (production : Production) (byte : ℕ) (around 
     noted_.meaning production byte (noted_around own around) (noted_values (around_place own around) vs) ≡ noted_value (around_place own around) (meaning production byte around vs)
 unfolding noted_.meaning meaning all_given given argument tree_in is_of_none takes_encodings
 meaning_noted own Production.Encoding byte around vs h = absurd h
-meaning_noted own production byte around vs h = meant_noted own (row_of production).form byte around vs h
+meaning_noted own production byte around vs h = meant_noted own (row_of production).form byte around vs (first_of (assumption h, cc))
