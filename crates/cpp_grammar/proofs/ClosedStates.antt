@@ -1,5 +1,5 @@
 -- The candidates that a part appends are closed where no parameters are named around it.
-use Rattle.std.proofs.Common.{◌≡◌, refl, ap, sym, ◌∙◌, subst, ℕ, zero, suc, ◌-◌, ◌<◌, ◌≤◌, List, [], ◌∷◌, ◌++◌, Bool, true, false, not, ◌||◌, ◌&&◌, cond, nat_eq, nat_lt, slice_get, Option, Some, None, Result, Ok, Err, ◌⊎◌, inl, inr, arith}
+use Rattle.std.proofs.Common.{◌≡◌, refl, ap, sym, ◌∙◌, subst, ℕ, zero, suc, ◌-◌, ◌<◌, ◌≤◌, List, [], ◌∷◌, ◌++◌, Bool, true, false, not, ◌||◌, ◌&&◌, nat_eq, nat_lt, slice_get, Option, Some, None, Result, Ok, Err, ◌⊎◌, inl, inr, arith}
 use Rattle.std.proofs.lemmas.Bool.{eqb-true, true≢false, false≢true}
 use Rattle.std.proofs.lemmas.List.{append_assoc, append-nil}
 use Rattle.sym_core.specs.declared.refusal.Refusal.{Refusal}
@@ -23,7 +23,7 @@ use Rattle.cpp_grammar.specs.Row.{Gain, nothing, the_prefix, type_of, unqualifie
 use Rattle.cpp_grammar.specs.Meant.{gained}
 use Rattle.cpp_grammar.specs.Rows.{row_of}
 use Rattle.cpp_grammar.proofs.Ways.{has_signature}
-use Rattle.cpp_grammar.proofs.Chosen.{either, if_there}
+use Rattle.cpp_grammar.proofs.Chosen.{either, either_cond, if_there}
 use Rattle.cpp_grammar.proofs.ClosedValues.{all_where, prefix_where, Good, AllGood, GoodPrefix, HasClosedName, held, good_nothing, good_tree, good_held, good_part, good_prefix, meaning_good}
 
 -- No parameters are named here. Where those in a lambda's signature are its own, they are named in none.
@@ -260,17 +260,12 @@ grows_packs own around end old new packs grows = record { more = grows.more; is 
 behind_grows : (own : Bool) (production : Production) (byte : ℕ) (around : Around) (began : State) (vs : List Value) (state : State) (end : ℕ) → GoodPrefix (Bare own around) around.prefix → AllGood (Bare own around) vs →
     HasClosedName production vs → Grows own around end state (unfolding_.behind production byte around began vs state)
 unfolding unfolding_.behind
-behind_grows own production byte around began vs state end pre all name = go (row_of production).restores_packs
-  where
-    v : Value
-    v = meaning production byte around vs
-
-    gains : Grows own around end state (gained (row_of production).gain around vs v state)
-    gains = gained_grows own (row_of production).gain around vs v state end pre all (good_tree (Bare own around) v (meaning_good (Bare own around) production byte around vs pre all (λ n. name)))
-
-    go : (b : Bool) → Grows own around end state (cond b (record (gained (row_of production).gain around vs v state) { packs = began.packs }) (gained (row_of production).gain around vs v state))
-    go true = grows_packs own around end state (gained (row_of production).gain around vs v state) began.packs gains
-    go false = gains
+behind_grows own production byte around began vs state end pre all name =
+    let v = meaning production byte around vs in
+    let new = gained (row_of production).gain around vs v state in
+    let gains : Grows own around end state new =
+    gained_grows own (row_of production).gain around vs v state end pre all (good_tree (Bare own around) v (meaning_good (Bare own around) production byte around vs pre all (λ n. name))) in
+    either_cond (Grows own around end state) (row_of production).restores_packs (record new { packs = began.packs }) new (λ h. grows_packs own around end state new began.packs gains) (λ h. gains)
 
 -- what a part comes to is good, and the candidates grow
 pub record Comes (own : Bool) (around : Around) (end : ℕ) (old : State) (r : Found Value State) : Type 0 where

@@ -13,7 +13,7 @@ use Rattle.cpp_grammar.specs.Scope.{without_tags}
 use Rattle.std.proofs.lemmas.Bool.{leb-true}
 use Rattle.cpp_grammar.specs.Operations.{Operand, not_printed, as_it_is, as_type, as_list, from_precedence, Operation, operations, operation_of_code}
 use Rattle.cpp_grammar.specs.Texts.{look_up, same_bytes, literal_endings}
-use Rattle.cpp_grammar.proofs.Chosen.{either}
+use Rattle.cpp_grammar.proofs.Chosen.{either, either_cond}
 use Rattle.cpp_grammar.proofs.Steps.{first_of_both, second_of_both}
 
 -- at most so many parts
@@ -41,11 +41,7 @@ choice_few n b xs ys f g = either (HasFew n) b xs ys (λ is. f) (λ is. g)
 
 sign_few : (n : Signed) → HasFew 1 (sign_part n)
 unfolding sign_part
-sign_few n = go n.negative
-  where
-    go : (b : Bool) → HasFew 1 (cond b (says "-" ∷ []) [])
-    go true = omega arith
-    go false = omega arith
+sign_few n = either_cond (HasFew 1) n.negative (says "-" ∷ []) [] (λ h. omega arith) (λ h. omega arith)
 
 comma_few : (i : ℕ) → HasFew 1 (comma_before i)
 unfolding comma_before

@@ -35,7 +35,7 @@ use Rattle.cpp_term.specs.Meant as meant_
 use Rattle.cpp_term.specs.Unfolding as unfolded_
 use Rattle.cpp_term.specs.Rescoping as wide_
 use Rattle.cpp_term.specs.Annotated.{Place, around_place, place_in, in_own, argument_in, annotate, noted_scope, noted_value, noted_values, noted_prefix, noted_around}
-use Rattle.cpp_term.proofs.Notes.{both, choose, open_noted, closed_noted}
+use Rattle.cpp_term.proofs.Notes.{both, choose, choose_cond, open_noted, closed_noted}
 use Rattle.cpp_term.proofs.MeaningNoted.{part_noted, tree_part, tree_noted, text_noted, text_part, prefix_tree_noted, Inside, lambda_noted, takes_encodings, is_of_none, made_inside, made_noted, listing_noted, listed_noted, meaning_noted}
 use Rattle.cpp_term.proofs.StatesNoted.{IsOutside, Settled, own_place, Alike, alike_bind, Same, Moves, moves_none, moves_then, one_moves, type_moves, unqualified_moves, prefix_moves, Comes, get_noted, substituted_noted, wide_numbered_noted, held_moves, parameter_noted}
 
@@ -238,26 +238,16 @@ behind_noted : (own : Bool) (production : Production) (byte : ℕ) (around : Aro
     y.packs ≡ x.packs → first.packs ≡ began.packs →
     Moves own around x y (unfolding_.behind production byte around began vs x) (unfolded_.behind production byte (noted_around own around) first (noted_values (around_place own around) vs) y)
 unfolding unfolding_.behind unfolded_.behind
-behind_noted own production byte around began first vs x y h packs e = go (row_of production).restores_packs
-  where
-    v : Value
-    v = meaning production byte around vs
-
-    w : value_.Value
-    w = noted_.meaning production byte (noted_around own around) (noted_values (around_place own around) vs)
-
-    new : State
-    new = gained (row_of production).gain around vs v x
-
-    other : value_.State
-    other = meant_.gained (row_of production).gain (noted_around own around) (noted_values (around_place own around) vs) w y
-
-    moves_ : Moves own around x y new other
-    moves_ = gained_moves own (row_of production).gain around vs v w x y (ap value_.tree_of (meaning_noted own production byte around vs h) ∙ tree_noted (around_place own around) v) packs
-
-    go : (b : Bool) → Moves own around x y (cond b (record new { packs = began.packs }) new) (cond b (record other { packs = first.packs }) other)
-    go true = packs_move own around x new y other began.packs first.packs e moves_
-    go false = moves_
+behind_noted own production byte around began first vs x y h packs e =
+    let s = around_place own around in
+    let gain = (row_of production).gain in
+    let v = meaning production byte around vs in
+    let w = noted_.meaning production byte (noted_around own around) (noted_values s vs) in
+    let new = gained gain around vs v x in
+    let other = meant_.gained gain (noted_around own around) (noted_values s vs) w y in
+    let moves_ : Moves own around x y new other = gained_moves own gain around vs v w x y (ap value_.tree_of (meaning_noted own production byte around vs h) ∙ tree_noted s v) packs in
+    choose_cond (Moves own around x y) (row_of production).restores_packs (record new { packs = began.packs }) new (record other { packs = first.packs }) other
+    (packs_move own around x new y other began.packs first.packs e moves_) moves_
 
 -- what a production comes to, both ways
 made_close : (own : Bool) (production : Production) (byte : ℕ) (around : Around) (began : State) (first : value_.State) (vs : List Value) (x : State) (y : value_.State) → Inside production vs → Same own around x y → first.packs ≡ began.packs →

@@ -25,7 +25,7 @@ use Rattle.cpp_term.specs.Builders as builder_
 use Rattle.cpp_term.specs.Own as code_
 use Rattle.cpp_term.specs.Meant as meant_
 use Rattle.cpp_term.specs.Annotated.{Place, nowhere, around_place, place_of, place_in, annotate, noted_value, noted_values, noted_prefix, noted_around}
-use Rattle.cpp_term.proofs.Notes.{both, choose, arguments_noted, noted_in, types_place, closed_noted}
+use Rattle.cpp_term.proofs.Notes.{both, choose, choose_cond, arguments_noted, noted_in, types_place, closed_noted}
 
 pub three : {A B C D : Type 0} (f : A → B → C → D) {a b : A} {c d : B} {x y : C} → a ≡ b → c ≡ d → x ≡ y → f a c x ≡ f b d y
 three f {a} {b} {c} {d} {x} {y} e g h = ap (λ z. f z c x) e ∙ both (f b) g h
@@ -214,11 +214,9 @@ listed_value_noted s v = ap (λ t. value_.tree t true) (tree_noted s v)
 
 pub reference_to_noted : (s : Place) (byte : ℕ) (v : Value) → noted_.reference_to byte (noted_value s v) ≡ noted_value s (meaning_.reference_to byte v)
 unfolding noted_.reference_to meaning_.reference_to noted_value annotate
-reference_to_noted s byte v = ap (λ t. value_.tree (cond (nat_eq byte 82) (term_.lvalue t) (term_.rvalue t)) false) (tree_noted s v) ∙ go (nat_eq byte 82)
-  where
-    go : (b : Bool) → value_.tree (cond b (term_.lvalue (annotate s (tree_of v))) (term_.rvalue (annotate s (tree_of v)))) false ≡ value_.tree (annotate s (cond b (lvalue (tree_of v)) (rvalue (tree_of v)))) false
-    go true = refl
-    go false = refl
+reference_to_noted s byte v =
+    ap (λ t. value_.tree (cond (nat_eq byte 82) (term_.lvalue t) (term_.rvalue t)) false) (tree_noted s v)
+    ∙ ap (λ t. value_.tree t false) (choose_cond (λ t u. u ≡ annotate s t) (nat_eq byte 82) (lvalue (tree_of v)) (rvalue (tree_of v)) (term_.lvalue (annotate s (tree_of v))) (term_.rvalue (annotate s (tree_of v))) refl refl)
 
 signature_or_noted : (s : Place) (ref : RefQualifier) (v : Value) → noted_.signature_or ref (noted_value s v) ≡ noted_value s (meaning_.signature_or ref v)
 unfolding noted_.signature_or meaning_.signature_or noted_value annotate

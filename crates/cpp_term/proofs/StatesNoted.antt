@@ -352,17 +352,13 @@ free_noted_bad (several_free m) around place by t x y e packs = under_scope_note
 restated_noted : (around : Around) (place : ℕ) (by : Place) (t : Term) (x : State) (y : value_.State) → Settled around → y.packs ≡ x.packs →
     Alike (Comes true around x y) (restated around place t x) (wide_.restated (noted_around true around) place (annotate by t) y)
 unfolding restated wide_.restated noted_around noted_value
-restated_noted around place by t x y settled packs = go around.in_lambda refl
+restated_noted around place by t x y settled packs =
+    choose (Alike (Comes true around x y)) around.in_lambda around.in_lambda _ _ _ _ refl (λ is. record { value = ap (λ u. value_.tree u true) (inside_ is); moves = moves_none true around x x y y refl refl packs })
+    (λ is. subst (λ f. Alike (Comes true around x y) (with_free (free_in t) around place t x) (wide_.with_free f (noted_around true around) place (annotate by t) y)) (sym (free_noted by t))
+    (free_noted_bad (free_in t) around place by t x y refl packs))
   where
     inside_ : around.in_lambda ≡ true → reargued (Some item_.auto) (annotate by t) ≡ annotate (around_place true around) t
     inside_ l = renoted in_own by item_.auto t (own_names (free_in t)) ∙ ap (λ s. annotate s t) (sym (own_place around (settled l) l))
-
-    go : (b : Bool) → around.in_lambda ≡ b → Alike (Comes true around x y)
-        (elim b [ true ↦ Ok (found (leaf_.tree t true) x) | false ↦ with_free (free_in t) around place t x ])
-        (elim b [ true ↦ Ok (found (value_.tree (reargued (Some item_.auto) (annotate by t)) true) y) | false ↦ wide_.with_free (scope_.free_in (annotate by t)) (noted_around true around) place (annotate by t) y ])
-    go true is = record { value = ap (λ u. value_.tree u true) (inside_ is); moves = moves_none true around x x y y refl refl packs }
-    go false is = subst (λ f. Alike (Comes true around x y) (with_free (free_in t) around place t x) (wide_.with_free f (noted_around true around) place (annotate by t) y)) (sym (free_noted by t))
-        (free_noted_bad (free_in t) around place by t x y refl packs)
 
 wide_substituted_noted : (around : Around) (place : ℕ) (o : Option Candidate) (p : Option value_.Candidate) (x : State) (y : value_.State) → Settled around → y.packs ≡ x.packs → AreNoted true around o p →
     Alike (Comes true around x y) (substituted_wide around place o x) (wide_.substituted_wide (noted_around true around) place p y)
