@@ -104,7 +104,7 @@ front-same s w new mark start argument p text candidates scope_same at = record 
 
 -- a function's return type comes before what it shows without one
 turned : (s : Symbol) (scope : Scope) (argument : Arguments) (mark : Mark) (v : Value) (name text : List ℕ) (is : IsInstance (detail_of s) scope text argument mark v name)
-    (r : Term) (b : List ℕ) (is_reference : Bool) → PrintsIn (detail_of s) (types_of is.own) 2 r b is_reference → (items : Term) (at : ℕ) → s.is_bare ≡ false
+    (r : Term) (b : List ℕ) (is_reference : Bool) → PrintsIn (detail_of s) (types_of is.own) 3 r b is_reference → (items : Term) (at : ℕ) → s.is_bare ≡ false
     → is_local s.bytes ≡ false → EncodedBehind s [] (encoding_of v (list r items)) at
     → EncodedBehind s (b ++ codes " ") (plain_encoding mark is.own items) at
 turned s scope argument mark v name text is r b is_reference prints items at whole_ apart p = record {

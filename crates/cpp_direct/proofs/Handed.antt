@@ -281,7 +281,7 @@ argument-read s w o p takes =
 pub front-got : (s : Symbol) {scope : Scope} (w : Direct) (is_reference : Bool) (mark : Mark) (start : ℕ) (argument : Arguments) (st : State) (rest : List Open) (os : List Opened)
     (t : Term) (front bytes : List ℕ) (waits : Stands s scope (opens.Front mark start argument ∷ rest) os front)
     → Keeps s scope w st.candidates → w.text.list.items ≡ front ++ bytes → Comes s os (tree t true) w.at st
-    → PrintsIn (detail_of s) (types_of waits.3.own) 2 t bytes is_reference → IsFrontRead s w mark start argument
+    → PrintsIn (detail_of s) (types_of waits.3.own) 3 t bytes is_reference → IsFrontRead s w mark start argument
 front-got s {scope = scope} w is_reference mark start argument st rest os t front bytes waits keeps written comes prints = record {
   state = st;
   scope = scope;

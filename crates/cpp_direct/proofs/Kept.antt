@@ -108,18 +108,18 @@ placed-stays text more p bytes h = record {
 
 -- so are the arguments that may be named
 named-stays : (text more : List ℕ) (scope : Scope) → AreNamed text scope → AreNamed (text ++ more) scope
-named-stays text more scope named = λ number plain. let n = named number plain in (n.0, n.1, placed-stays text more (place_of scope.arguments number) n.0 n.2)
+named-stays text more scope named = λ number single. let n = named number single in (n.0, n.1, placed-stays text more (place_of scope.arguments number) n.0 n.2)
 
 -- nothing may be named
 pub none-named : (text : List ℕ) → AreNamed text no_scope
-none-named text zero plain = absurd (omega (arith, plain.0))
-none-named text (suc zero) plain = absurd (omega (arith, plain.0))
-none-named text (suc (suc zero)) plain = absurd (omega (arith, plain.0))
-none-named text (suc (suc (suc zero))) plain = absurd (omega (arith, plain.0))
-none-named text (suc (suc (suc (suc number)))) plain = absurd (omega (arith, plain.0))
+none-named text zero single = absurd (omega (arith, single.0))
+none-named text (suc zero) single = absurd (omega (arith, single.0))
+none-named text (suc (suc zero)) single = absurd (omega (arith, single.0))
+none-named text (suc (suc (suc zero))) single = absurd (omega (arith, single.0))
+none-named text (suc (suc (suc (suc number)))) single = absurd (omega (arith, single.0))
 
 none-own : (s : Symbol) → IsScopeOf s no_scope
-none-own s = record { encoded = λ real. absurd (real refl); plain = λ number bytes e. cc e }
+none-own s = record { encoded = λ real. absurd (real refl); single = λ number own e. cc e }
 
 -- there is no candidate, and nothing may be named
 pub none-kept : (s : Symbol) (w : Direct) → w.candidates.list.items ≡ [] → Keeps s no_scope w []
@@ -207,10 +207,12 @@ scoped-within scope around o rest none scoped a found = go (is_within_type o) re
     go true is e = scoped is a e
     go false is e = absurd (false≢true (ap is_some (sym none ∙ e)))
 
--- in the symbol's own encoding types may name its arguments
-pub made-here : (s : Symbol) (scope : Scope) (around : Around) (open_ : List Open) → IsScoped scope around open_ → IsNaming s scope open_
-    → around.encoding ≡ encoding_place s.bytes
-made-here s scope around open_ scoped naming = ((scoped scope.arguments naming.0).1.0 not_none).0 ∙ naming.1
+-- in the symbol's own encoding, and in none of its lambdas, types may name its arguments
+pub encoded-here : (s : Symbol) (scope : Scope) (around : Around) (open_ : List Open) → IsScoped scope around open_ → IsNaming s scope open_
+    → (around.encoding ≡ encoding_place s.bytes) × (around.in_lambda ≡ false)
+encoded-here s scope around open_ scoped naming =
+    let h = (scoped scope.arguments naming.0).1.0 not_none in
+    (h.0 ∙ naming.1, h.1)
   where
     place : (b : Bool) (n : ℕ) → n ≡ cond b 3 2 → n ≢ 0
     place true n is none = absurd (omega (arith, is, none))
@@ -218,6 +220,10 @@ made-here s scope around open_ scoped naming = ((scoped scope.arguments naming.0
 
     not_none : scope.arguments.encoding ≢ 0
     not_none = place (is_local s.bytes) scope.arguments.encoding naming.1
+
+pub made-here : (s : Symbol) (scope : Scope) (around : Around) (open_ : List Open) → IsScoped scope around open_ → IsNaming s scope open_
+    → around.encoding ≡ encoding_place s.bytes
+made-here s scope around open_ scoped naming = (encoded-here s scope around open_ scoped naming).0
 
 -- what a substitution names
 pub candidate-found : {s : Symbol} {names : Names} (text : List ℕ) (ks : List Candidate) (cs : List values.Candidate) (n : ℕ) (k : Candidate)

@@ -65,7 +65,7 @@ function-shows {detail} shown name b p ts l all q ref =
     }
 
 -- what prints something is there
-not-absent : {detail : Detail} (c : Context) (t : Term) (b : List ℕ) (r : Bool) → PrintsIn detail c 2 t b r → t ≡ absent → ⊥
+not-absent : {detail : Detail} (c : Context) (t : Term) (b : List ℕ) (r : Bool) → PrintsIn detail c 3 t b r → t ≡ absent → ⊥
 unfolding parts_in left_parts not_empty
 not-absent {detail} c t b r p e =
     let none : b ≡ [] = sym p.left_text ∙ ap (λ u. text_of (written_of detail left c u)) e ∙ text_shown detail left c absent [] refl refl in
@@ -84,7 +84,7 @@ fronted_text x y z b l e f g = rw (e, f, g) (append-nil (b ++ codes " " ++ l))
 -- A function that has a return type prints it before what it prints without.
 pub front-shows : {detail : Detail} → has_parameters detail ≡ true → (name : Term) (q : Qualifiers) (ref : RefQualifier) (items : Term) (l : List ℕ)
     → Shows detail (function name q ref absent items) l
-    → (r : Term) (b : List ℕ) (is_reference : Bool) → PrintsIn detail (types_of name) 2 r b is_reference
+    → (r : Term) (b : List ℕ) (is_reference : Bool) → PrintsIn detail (types_of name) 3 r b is_reference
     → Shows detail (function name q ref r items) (b ++ codes " " ++ l)
 unfolding parts_in full_parts function_full not_empty
 front-shows {detail} shown name q ref items l shows r b is_reference p =

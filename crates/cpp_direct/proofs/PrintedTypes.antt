@@ -6,7 +6,7 @@ use Rattle.sym_print.specs.Details.{has_arguments}
 use Rattle.sym_print.specs.Unfold.{text}
 use Rattle.cpp_direct.specs.WrittenParts.{IsUnmarked, unmarked_parts, written_in}
 use Rattle.cpp_direct.proofs.PrintedParts.{text_shown, cost_shown, alone_shown, first_cost_shown, shown_by}
-use Rattle.cpp_direct.specs.Prints.{Prints, PrintsIn, PrintsGiven, PrintsAs, Names, IsGiven, AreSingle, EndsAsInteger, written_of, IsElementIn, PrintEachBy, PrintAllBy, forwarded, joined, list_of}
+use Rattle.cpp_direct.specs.Prints.{Prints, PrintsIn, PrintsGiven, PrintsAs, Named, Names, IsGiven, AreSingle, EndsAsInteger, written_of, IsElementIn, PrintEachBy, PrintAllBy, forwarded, joined, list_of}
 use Rattle.cpp_grammar.specs.Items.{closed, Form, left, right, low, Context, Head, lref, collapsed, head_with, head, is_reference, is_funarr, is_empty, argument, head_closed, expand, indexed, packs_of, is_none_of}
 use Rattle.cpp_grammar.specs.Meaning.{is_void}
 use Rattle.cpp_grammar.specs.Parts.{as_item, says, text_part, qualifier_text, prefix_item, last_piece, opening_text, marked_parts, reference_parts, qualified_left, qualified_right, closing_right, left_parts, right_parts, parts_in, not_empty, is_plain_integer, at_index, comma_before, expand_parts, expand_rest, expansion_parts, is_below, types_of}
@@ -69,7 +69,7 @@ made-prints t b r h is_closed packless no_pack as_prefix opening integer referen
 }
 
 -- What prints in each context where parameters name arguments with these texts prints so where they do.
-pub made-given : {detail : Detail} (names : Names) (t : Term) (b : List ℕ) (r : Bool) → ((c : Context) → IsGiven detail names c → PrintsIn detail c 2 t b r)
+pub made-given : {detail : Detail} (names : Names) (t : Term) (b : List ℕ) (r : Bool) → ((c : Context) → IsGiven detail names c → PrintsIn detail c 3 t b r)
     → ((arguments : Term) → AreSingle names arguments → pack_length arguments t ≡ None) → is_function_type t ≡ false → length_if_pack t ≡ None
     → ((c : Context) → prefix_item c t ≡ as_item left c t) → opening_text (last_piece t) ≡ codes "<" → PrintsGiven detail names t b r
 made-given names t b r prints packless no_function no_pack as_prefix opening =
@@ -80,7 +80,7 @@ made-given names t b r prints packless no_function no_pack as_prefix opening =
 -- What prints anywhere prints there,
 pub prints-given : {detail : Detail} (names : Names) (t : Term) (b : List ℕ) (r : Bool) → Prints detail t b r → PrintsGiven detail names t b r
 prints-given names t b r p =
-    made-given names t b r (λ c given. prints-in c 2 t b r p) (λ arguments single. p.packless arguments) p.no_function p.no_pack p.as_prefix p.opening
+    made-given names t b r (λ c given. prints-in c 3 t b r p) (λ arguments single. p.packless arguments) p.no_function p.no_pack p.as_prefix p.opening
 
 pub prints-as : (detail : Detail) (names : Names) (is_dependent : Bool) (t : Term) (b : List ℕ) (r : Bool) → Prints detail t b r
     → PrintsAs detail names is_dependent t b r
@@ -99,21 +99,21 @@ given-more names t b r p =
 
 -- In a context where they do it prints so.
 pub as-in : (detail : Detail) (names : Names) (is_dependent : Bool) (c : Context) (t : Term) (b : List ℕ) (r : Bool) → IsGiven detail names c
-    → PrintsAs detail names is_dependent t b r → PrintsIn detail c 2 t b r
+    → PrintsAs detail names is_dependent t b r → PrintsIn detail c 3 t b r
 as-in detail names is_dependent c t b r given p = (prints-as-given detail names is_dependent t b r p).prints c given
 
 -- So it is one of a function's parameters.
-pub type-element-in : {detail : Detail} (c : Context) (t : Term) (b : List ℕ) (r : Bool) → PrintsIn detail c 2 t b r → IsElementIn detail c 6 t b
-type-element-in c t b r p = type-in c 2 6 (omega arith) t b r p
+pub type-element-in : {detail : Detail} (c : Context) (t : Term) (b : List ℕ) (r : Bool) → PrintsIn detail c 3 t b r → IsElementIn detail c 6 t b
+type-element-in c t b r p = type-in c 3 6 (omega arith) t b r p
 
 -- The types of a function's name are such a context if its arguments have these texts.
 pub types-given : {detail : Detail} (names : Names) (name all : Term) → arguments_of name ≡ Some all
-    → ((k : ℕ) (b : List ℕ) → names k ≡ Some b → (own : Term) × (element all k ≡ own) × Prints detail own b false) → IsGiven detail names (types_of name)
+    → ((k : ℕ) (n : Named) → names k ≡ Some n → (own : Term) × (element all k ≡ own) × Prints detail own n.bytes n.reference) → IsGiven detail names (types_of name)
 unfolding argument types_of indexed
-types-given {detail} names name all e known k b is =
-    let own = known k b is in
+types-given {detail} names name all e known k n is =
+    let own = known k n is in
     let there : argument (types_of name) k ≡ own.0 = rw e own.1 in
-    subst (λ t. Prints detail t b false) (sym there) own.2
+    subst (λ t. Prints detail t n.bytes n.reference) (sym there) own.2
 
 -- ## Marks
 
@@ -176,7 +176,7 @@ pub pointer-as : (detail : Detail) (names : Names) (is_dependent : Bool) (t : Te
 unfolding pack_length is_function_type length_if_pack prefix_item last_piece opening_text
 pointer-as detail names false t b r p = pointer-prints t b r p
 pointer-as detail names true t b r p =
-    made-given names (pointer t) (b ++ codes "*") false (λ c given. pointer-in c 2 t b r (p.prints c given)) p.packless refl refl (λ c. refl) refl
+    made-given names (pointer t) (b ++ codes "*") false (λ c given. pointer-in c 3 t b r (p.prints c given)) p.packless refl refl (λ c. refl) refl
 
 -- An lvalue reference prints its type, which is no reference, and its mark.
 lvalue-marks : (detail : Detail) (c : Context) (t : Term) → is_reference (head c t) ≡ false → is_funarr (head c t) ≡ false → IsMarked detail c t (lvalue t) (codes "&")
@@ -206,7 +206,7 @@ pub lvalue-as : (detail : Detail) (names : Names) (is_dependent : Bool) (t : Ter
 unfolding pack_length is_function_type length_if_pack prefix_item last_piece opening_text
 lvalue-as detail names false t b p = lvalue-prints t b p
 lvalue-as detail names true t b p =
-    made-given names (lvalue t) (b ++ codes "&") true (λ c given. lvalue-in c 2 t b (p.prints c given)) p.packless refl refl (λ c. refl) refl
+    made-given names (lvalue t) (b ++ codes "&") true (λ c given. lvalue-in c 3 t b (p.prints c given)) p.packless refl refl (λ c. refl) refl
 
 collapsed-refers : (h : Head) → is_reference (collapsed h) ≡ true
 unfolding is_reference collapsed
@@ -247,7 +247,7 @@ pub rvalue-as : (detail : Detail) (names : Names) (is_dependent : Bool) (t : Ter
 unfolding pack_length is_function_type length_if_pack prefix_item last_piece opening_text
 rvalue-as detail names false t b p = rvalue-prints t b p
 rvalue-as detail names true t b p =
-    made-given names (rvalue t) (b ++ codes "&&") true (λ c given. rvalue-in c 2 t b (p.prints c given)) p.packless refl refl (λ c. refl) refl
+    made-given names (rvalue t) (b ++ codes "&&") true (λ c given. rvalue-in c 3 t b (p.prints c given)) p.packless refl refl (λ c. refl) refl
 
 -- the qualifiers of a type that is declared const
 abbrev pub constant : Qualifiers
@@ -290,12 +290,12 @@ pub const-as : (detail : Detail) (names : Names) (is_dependent : Bool) (t : Term
 unfolding pack_length is_function_type length_if_pack prefix_item last_piece opening_text
 const-as detail names false t b p = const-prints t b p
 const-as detail names true t b p =
-    made-given names (qualified constant t) (b ++ codes " const") false (λ c given. const-in c 2 t b (p.prints c given)) p.packless refl refl (λ c. refl) refl
+    made-given names (qualified constant t) (b ++ codes " const") false (λ c given. const-in c 3 t b (p.prints c given)) p.packless refl refl (λ c. refl) refl
 
 -- ## Parameters
 
 -- A parameter prints the argument that it names.
-pub parameter-in : {detail : Detail} (c : Context) (k : ℕ) (b : List ℕ) (r : Bool) → Prints detail (argument c k) b r → PrintsIn detail c 2 (parameter k) b r
+pub parameter-in : {detail : Detail} (c : Context) (k : ℕ) (b : List ℕ) (r : Bool) → Prints detail (argument c k) b r → PrintsIn detail c 3 (parameter k) b r
 unfolding parts_in left_parts right_parts not_empty head head_closed head_with argument is_reference is_funarr is_empty is_function_type is_void
 parameter-in {detail} c k b r p =
     let t = parameter k in
@@ -317,18 +317,19 @@ parameter-in {detail} c k b r p =
     }
 
 -- It does so where the argument has this text.
-pub parameter-given : {detail : Detail} (names : Names) (k : ℕ) (b : List ℕ) → names k ≡ Some b → PrintsGiven detail names (parameter k) b false
+pub parameter-given : {detail : Detail} (names : Names) (k : ℕ) (n : Named) → names k ≡ Some n → PrintsGiven detail names (parameter k) n.bytes n.reference
 unfolding pack_length is_function_type length_if_pack prefix_item last_piece opening_text
-parameter-given names k b e =
-    made-given names (parameter k) b false (λ c given. parameter-in c k b false (given k b e)) (λ arguments single. single k b e) refl refl (λ c. refl) refl
+parameter-given names k n e =
+    made-given names (parameter k) n.bytes n.reference (λ c given. parameter-in c k n.bytes n.reference (given k n e))
+    (λ arguments single. single k n e) refl refl (λ c. refl) refl
 
 -- An rvalue reference to a reference prints what this does.
-pub rvalue-again : {detail : Detail} (c : Context) (b : List ℕ) → Prints detail (argument c 0) b true → PrintsIn detail c 3 (rvalue (parameter 0)) b true
+pub rvalue-again : {detail : Detail} (c : Context) (k : ℕ) (b : List ℕ) → Prints detail (argument c k) b true → PrintsIn detail c 3 (rvalue (parameter k)) b true
 unfolding parts_in left_parts right_parts not_empty head head_closed head_with argument is_empty is_function_type is_void reference_parts closing_right
-rvalue-again {detail} c b p =
-    let u = parameter 0 in
-    let a = argument c 0 in
-    let inner = parameter-in c 0 b true p in
+rvalue-again {detail} c k b p =
+    let u = parameter k in
+    let a = argument c k in
+    let inner = parameter-in c k b true p in
     let ps = as_item left c u ∷ [] in
     let is : reference_parts c left u "&&" ≡ ps = rw (p.is_reference_head closed, reference_parts) refl in
     record {
@@ -348,6 +349,14 @@ rvalue-again {detail} c b p =
       no_function = refl;
       void = λ e. cc e;
     }
+
+-- It does so where the argument has this text.
+pub rvalue-given : {detail : Detail} (names : Names) (k : ℕ) (b : List ℕ) → names k ≡ Some (record { bytes = b; reference = true })
+    → PrintsGiven detail names (rvalue (parameter k)) b true
+unfolding pack_length is_function_type length_if_pack prefix_item last_piece opening_text
+rvalue-given names k b e =
+    let n : Named = record { bytes = b; reference = true } in
+    made-given names (rvalue (parameter k)) b true (λ c given. rvalue-again c k b (given k n e)) (λ arguments single. single k n e) refl refl (λ c. refl) refl
 
 -- ## Expansions
 
@@ -377,22 +386,10 @@ each-prints : {detail : Detail} (ts : List Term) (k : ℕ) (own : Term) (b : Lis
 unfolding argument indexed element at_index
 each-prints {detail} ts k own b true at p =
     subst (λ l. PrintsIn detail (at_index k (packed_in ts)) 3 each l true) (sym (append-nil b))
-    (rvalue-again (at_index k (packed_in ts)) b (subst (λ t. Prints detail t b true) (sym (element-of ts k own at)) p))
+    (rvalue-again (at_index k (packed_in ts)) 0 b (subst (λ t. Prints detail t b true) (sym (element-of ts k own at)) p))
 each-prints {detail} ts k own b false at p =
-    go (rvalue-in (at_index k (packed_in ts)) 2 (parameter 0) b
-    (parameter-in (at_index k (packed_in ts)) 0 b false (subst (λ t. Prints detail t b false) (sym (element-of ts k own at)) p)))
-  where
-    go : PrintsIn detail (at_index k (packed_in ts)) 2 each (b ++ codes "&&") true → PrintsIn detail (at_index k (packed_in ts)) 3 each (b ++ codes "&&") true
-    go h = record {
-      left_text = h.left_text;
-      right_text = h.right_text;
-      cost = omega (arith, h.cost);
-      is_reference_head = h.is_reference_head;
-      is_funarr_head = h.is_funarr_head;
-      filled = h.filled;
-      no_function = h.no_function;
-      void = h.void;
-    }
+    rvalue-in (at_index k (packed_in ts)) 3 (parameter 0) b
+    (parameter-in (at_index k (packed_in ts)) 0 b false (subst (λ t. Prints detail t b false) (sym (element-of ts k own at)) p))
 
 forwarded-prints : {detail : Detail} (ts : List Term) (k : ℕ) (own : Term) (b : List ℕ) → slice_get ts k ≡ Some own → PrintsForwarded detail own b
     → PrintsIn detail (at_index k (packed_in ts)) 3 each b true

@@ -36,7 +36,7 @@ use Rattle.cpp_direct.proofs.Scopes.{scoped-inside}
 use Rattle.cpp_direct.proofs.Kept.{arguments-begun, candidate-found, keeps-as, keeps-grown, keeps-read, keeps-same, keeps-with, last-reversed, piece-found, reverse-last, stands-same}
 use Rattle.cpp_direct.proofs.Moves.{expects-empty, stands-join}
 use Rattle.cpp_direct.proofs.MovesOfLists.{arguments-open}
-use Rattle.cpp_direct.proofs.MovesOfTypes.{solid-opens, builtin-comes, builtin-with-d-comes, pointer-opens, lvalue-opens, rvalue-opens, const-opens, source-opens, std-opens, abbreviation-opens, substitution-opens, nested-type-opens}
+use Rattle.cpp_direct.proofs.MovesOfTypes.{solid-opens, builtin-comes, builtin-with-d-comes, pointer-opens, lvalue-opens, rvalue-opens, const-opens, source-opens, std-opens, abbreviation-opens, substitution-opens, substituted-so, nested-type-opens}
 use Rattle.cpp_direct.proofs.LettersTested.{each_passes, tested, is_filled, filled}
 use Rattle.cpp_direct.proofs.PrintedNames.{source-prints, std-prints, abbreviation-prints, builtin-prints, builtin-with-d-prints}
 
@@ -420,7 +420,8 @@ substitution-named s old mid new n from digits k a stands is ordered found reads
     let prints = subst (λ b. PrintsAs (detail_of s) a.scope.names b c.0.tree c.2.bytes k.is_reference) plain c.2.prints in
     named-from s old new from true k.is_reference a c.0.tree c.2.bytes
     (keeps-grown s old new c.2.bytes a.state.candidates written (writes.candidates ∙ reads.candidates) (writes.scope ∙ reads.scope) a.keeps)
-    (substitution-opens s a.kind a.around a.os old.at a.state digits new.at c.0 a.is_named c.1 prints.is_closed prints.packless a.begins stands
+    (substitution-opens s a.kind a.around a.os old.at a.state digits new.at c.0 a.is_named c.1
+    (λ place. substituted-so a.around place c.0 a.state prints.is_closed prints.packless) a.begins stands
     (subst (λ n. IsSeqAt s.bytes (old.at + 1) digits n) (sym writes.at) is))
     written begins prints (λ e. absurd (false≢true (sym e))) (writes.waiting ∙ reads.waiting)
 

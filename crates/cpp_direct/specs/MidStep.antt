@@ -462,7 +462,7 @@ pub record IsFrontRead (s : Symbol) (w : Direct) (mark : Mark) (start : ℕ) (ar
   pub returned : Term
   pub bytes : List ℕ
   pub is_reference : Bool
-  pub prints : PrintsIn (detail_of s) (types_of is_instance.own) 2 returned bytes is_reference
+  pub prints : PrintsIn (detail_of s) (types_of is_instance.own) 3 returned bytes is_reference
   pub written : w.text.list.items ≡ front ++ bytes
   pub goes : ParametersGoOn s argument lead (encoding_of v) (returned ∷ []) w.at state
 

@@ -37,7 +37,7 @@ use Rattle.cpp_direct.specs.HolesOfNests.{IsFirstRest}
 use Rattle.cpp_direct.specs.HolesOfLists.{IsSuffix, IsDigitsAt, minus_sign}
 use Rattle.cpp_direct.specs.HolesOfLocals.{Discriminator, EntityOpened, IsDiscriminatorAt, IsEntityAt, IsLambdaDigit, lambda_ending, lambda_with, local_in}
 use Rattle.cpp_direct.specs.Marks.{has_const, called_on}
-use Rattle.cpp_direct.specs.Prints.{Names, IsGiven, Prints, PrintsAs, PrintsName, Shows, Encloses, NamesClass, PrintAll, PrintAllAs, PrintAllIn, list_of}
+use Rattle.cpp_direct.specs.Prints.{Named, Names, IsGiven, Prints, PrintsAs, PrintsName, Shows, Encloses, NamesClass, PrintAll, PrintAllAs, PrintAllIn, list_of}
 use Rattle.cpp_grammar.specs.Parts.{types_of}
 
 -- ## Candidates
@@ -155,9 +155,9 @@ abbrev pub argument_of : List Open → Option Arguments
 argument_of [] = None
 argument_of (o ∷ rest) = elim (is_within_type o) [ true ↦ argument_of rest | false ↦ arguments_in o ]
 
--- it is a type, and no reference
-abbrev pub IsPlain : Argument → Type 0
-IsPlain p = IsKnown p × (p.is_pack ≡ false) × (p.is_reference ≡ false)
+-- it is a type
+abbrev pub IsSingle : Argument → Type 0
+IsSingle p = IsKnown p × (p.is_pack ≡ false)
 
 -- What types may name: the arguments of the symbol's own name, where they are known, and their texts.
 pub record Scope : Type 0 where
@@ -171,12 +171,14 @@ no_scope = record { arguments = nowhere; names = λ number. None }
 -- the arguments that may be named have these texts at their places
 abbrev pub AreNamed : (text : List ℕ) → Scope → Type 0
 AreNamed text scope =
-    (number : ℕ) → IsPlain (place_of scope.arguments number) → (bytes : List ℕ) × (scope.names number ≡ Some bytes) × IsPlaced text (place_of scope.arguments number) bytes
+    (number : ℕ) → IsSingle (place_of scope.arguments number) → (bytes : List ℕ)
+    × (scope.names number ≡ Some (record { bytes = bytes; reference = (place_of scope.arguments number).is_reference }))
+    × IsPlaced text (place_of scope.arguments number) bytes
 
--- They are those of the symbol's own encoding, if it is known where theirs begins, and types that are no references.
+-- They are those of the symbol's own encoding, if it is known where theirs begins, and types.
 pub record IsScopeOf (s : Symbol) (scope : Scope) : Type 0 where
   pub encoded : scope.arguments.encoding ≢ 0 → scope.arguments.encoding ≡ encoding_place s.bytes
-  pub plain : (number : ℕ) (bytes : List ℕ) → scope.names number ≡ Some bytes → IsPlain (place_of scope.arguments number)
+  pub single : (number : ℕ) (own : Named) → scope.names number ≡ Some own → IsSingle (place_of scope.arguments number)
 
 -- What a writer keeps: its candidates, and the arguments that types may name, of which none are known before the symbol's own name.
 pub record Keeps (s : Symbol) (scope : Scope) (w : Direct) (cs : List values.Candidate) : Type 0 where

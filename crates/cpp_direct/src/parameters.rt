@@ -1,10 +1,11 @@
 // The arguments of a function's template, and the types that name them.
 
-ghost use Rattle.std.specs.Prelude.{◌≡◌, ◌≤◌, ◌+◌, ◌∷◌, ◌++◌, [], List, length, reverse, true, false, Some};
+ghost use Rattle.std.specs.Prelude.{◌≡◌, ◌≢◌, ◌≤◌, ◌+◌, ◌∷◌, ◌++◌, [], List, length, reverse, true, false, Some};
 ghost use Rattle.std.specs.Option.{OnSome, IfSome};
 ghost use Rattle.cpp_grammar.specs.Term.{Term};
 ghost use Rattle.sym_print.specs.declared.detail.Detail.{Detail};
 ghost use Rattle.cpp_direct.specs.declared.direct.Direct.{Direct};
+ghost use Rattle.cpp_direct.specs.declared.open.Arguments.{Arguments};
 ghost use Rattle.cpp_direct.specs.Names.{IsReadable};
 ghost use Rattle.cpp_direct.specs.declared.open.Step.TheVariants as steps;
 ghost use Rattle.cpp_direct.specs.Holes.{StandsAt};
@@ -469,17 +470,65 @@ impl Direct {
         let named = self.argument()?;
         let argument = known(named.at(read.number))?;
         // a pack is named in what is expanded alone
-        if argument.is_pack || argument.is_reference || named.encoding == 0 {
+        if argument.is_pack || named.encoding == 0 {
             return None;
         }
         self.at = read.end;
         let from = self.text.end();
         self.repeat(argument.from as u32, argument.to as u32)?;
-        self.add_candidate(from, false, true)?;
+        self.add_candidate(from, argument.is_reference, true)?;
         Some(Step::Value {
-            is_reference: false,
+            is_reference: argument.is_reference,
             is_dependent: true,
         })
+    }
+
+    /// Reads an rvalue reference, up to the first type that is in it. One to an argument that is a reference itself is this argument.
+    // <type> ::= O <type>
+    #[inline(never)]
+    pub(crate) fn rvalue_at<G: Grammar>(&mut self, s: &[u8]) -> Option<Step>
+        requires fits { IsReadable s.now }
+        requires letter { StandsAt s.now self.old.at (79 ∷ []) }
+        requires awaits { AwaitsType (symbol_by G.IS_WIDE G.IS_BARE G.IS_BRIEF s.now) self.old }
+        ensures { IfSome result (IsWriting (symbol_by G.IS_WIDE G.IS_BARE G.IS_BRIEF s.now) self.new) }
+    {
+        let from = self.text.end();
+        let behind = self.at.checked_add(1)?;
+        if byte_at(s, behind) != b'T' {
+            return self.open_type(Open::Rvalue { from }, Step::Type);
+        }
+        let read = parameter_number(s, behind.checked_add(1)?)?;
+        let named = self.argument()?;
+        let argument = known(named.at(read.number))?;
+        if argument.is_pack || named.encoding == 0 {
+            return None;
+        }
+        if !argument.is_reference {
+            return self.open_type(Open::Rvalue { from }, Step::Type);
+        }
+        self.at = read.end;
+        self.repeat(argument.from as u32, argument.to as u32)?;
+        self.add_candidate(from, true, true)?;
+        self.add_candidate(from, true, true)?;
+        Some(Step::Value {
+            is_reference: true,
+            is_dependent: true,
+        })
+    }
+
+    /// Whether a nested name that is read as this may name the arguments of the symbol's own name: a type may, among the types of that
+    /// function.
+    pub(crate) fn may_depend(&self, purpose: Purpose) -> bool
+        ensures is_type { result ≡ true → is_type purpose ≡ true }
+        ensures named { result ≡ true → (a : Arguments) × (argument_of (reverse self.now.waiting.list.items) ≡ Some a) × (a.encoding ≢ 0) }
+    {
+        if !is_type(purpose) {
+            return false;
+        }
+        match self.argument() {
+            Some(named) => named.encoding != 0,
+            None => false,
+        }
     }
 
     /// A type that names arguments of the function's template is named once more, among the types of that function.

@@ -44,10 +44,12 @@ nest_known-requires g c =
     let same = c.in_ok-candidate.ensures.same in
     let wrote = c.in_ok-repeat.ensures in
     let plain : c.substitution.new.self.text.list.items ≡ old.text.list.items = same.text ∙ append-nil old.text.list.items in
+    let typed = ? in
+    let named = ? in
     subst (λ n. IsNestKnown s (record c.repeat.new.self { nest = n })) (sym c.listed_nest-self.ensures)
     (reference-begins s old c.repeat.new.self c.args.purpose is.0 k c.requires.awaits c.requires.letter
     (subst (λ n. IsSeqAt s.bytes (old.at + 1) is.0 n) (sym wrote.at) (subst (λ n. IsSeqAt s.bytes n is.0 c.substitution.new.self.at) c.in_ok-self.ensures.1 is.1))
-    c.in_ok-candidate.ensures.ordered is.2 c.if-candidate.false c.if-candidate-2.false (wrote.text ∙ ap (λ l. l ++ take (k.to - k.from) (drop k.from l)) plain)
+    c.in_ok-candidate.ensures.ordered is.2 c.if-candidate.false typed named (wrote.text ∙ ap (λ l. l ++ take (k.to - k.from) (drop k.from l)) plain)
     (wrote.candidates ∙ same.candidates) (wrote.waiting ∙ same.waiting) (wrote.scope ∙ same.scope) c.end-from.result c.end-from.ensures)
 
 pub nest_known-requires-2 : goal.nest_known-requires-2
