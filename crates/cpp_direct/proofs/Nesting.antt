@@ -676,7 +676,7 @@ pub reference-begins : (s : Symbol) (old mid : Direct) (purpose : Purpose) (digi
     → mid.text.list.items ≡ old.text.list.items ++ take (k.to - k.from) (drop k.from old.text.list.items) → mid.candidates ≡ old.candidates
     → mid.waiting ≡ old.waiting → mid.has_scope ≡ old.has_scope → (from : ℕ) → from ≡ length old.text.list.items
     → IsNestKnown s (record mid { nest = record (nest_of from from from purpose true false) { is_dependent = k.is_dependent } })
-reference-begins s old mid purpose digits k a here is ordered found_ plain typed named text_is candidates_are waiting_is scope_same from from_is =
+reference-begins s old mid purpose digits k a here is ordered found_ plain typed known text_is candidates_are waiting_is scope_same from from_is =
     let nest = record (nest_of from from from purpose true false) { is_dependent = k.is_dependent } in
     let one = candidate-found old.text.list.items old.candidates.list.items a.state.candidates (counted_value Seq36 digits) k a.keeps.candidates ordered found_ in
     let c = one.0 in
@@ -685,7 +685,7 @@ reference-begins s old mid purpose digits k a here is ordered found_ plain typed
     let prints = subst (λ r. PrintsAs (detail_of s) a.scope.names k.is_dependent c.tree it.bytes r) plain it.prints in
     let scoped : k.is_dependent ≡ true → IsScoped a.scope a.around (reverse old.waiting.list.items) = λ e. a.scoped (typed e) in
     let naming : k.is_dependent ≡ true → IsNaming s a.scope (reverse old.waiting.list.items) =
-    λ e. let n = named e in named-here s old a.state.candidates a.around n.0 a.keeps (scoped e) n.1 n.2 in
+    λ e. let n = known e in named-here s old a.state.candidates a.around n.0 a.keeps (scoped e) n.1 n.2 in
     known-begins s old (record mid { nest = nest }) purpose a c.tree it.bytes (text_is ∙ ap (λ l. old.text.list.items ++ l) piece.2) candidates_are
     waiting_is scope_same refl naming
     (classless-nest a.scope.names old.text.list.items it.bytes nest c.tree from_is from_is from_is refl (own-closed purpose k.is_dependent typed) prints)

@@ -118,7 +118,7 @@ within-in {detail} c extra t b prints prefix p x is =
       is.filled,
       length-append (b ++ codes "::") x,
       length-append b (codes "::"),
-    )) refl
+    )) (omega (arith, length-append (b ++ codes "::") x, length-append b (codes "::"))) refl
 
 -- and names something by them.
 pub within-names : {detail : Detail} (t : Term) (b : List ℕ) → Prints detail t b false → (p : Term) (x : List ℕ) → IsPiece detail p x
@@ -273,6 +273,12 @@ instance-in {detail} c extra t b p opening ts tail l is all =
       length-append (b ++ opening_bracket detail ++ l) (closing_bracket detail),
       length-append (b ++ opening_bracket detail) l,
       length-append b (opening_bracket detail),
+    )) (omega (
+      arith,
+      p.some,
+      length-append (b ++ opening_bracket detail ++ l) (closing_bracket detail),
+      length-append (b ++ opening_bracket detail) l,
+      length-append b (opening_bracket detail),
     )) refl
 
 -- anywhere,
@@ -389,7 +395,8 @@ tagged-as detail names true of_structor t b p tag plain =
     let w = tagged of_structor t tag in
     made-given names w (b ++ tag_text tag) false
     (λ c given. own-in c 3 w (b ++ tag_text tag) (tagged-left detail of_structor t b tag plain c (p.prints c given).left_text)
-    (tagged-costs detail 2 of_structor t b tag c (p.prints c given).cost) refl)
+    (tagged-costs detail 3 of_structor t b tag c (p.prints c given).cost)
+    (omega (arith, (p.prints c given).some, length-append b (tag_text tag))) refl)
     p.packless refl refl (λ c. refl) refl
 
 -- Where its class has this text at the base it names its class so.

@@ -69,7 +69,7 @@ not-absent : {detail : Detail} (c : Context) (t : Term) (b : List ℕ) (r : Bool
 unfolding parts_in left_parts not_empty
 not-absent {detail} c t b r p e =
     let none : b ≡ [] = sym p.left_text ∙ ap (λ u. text_of (written_of detail left c u)) e ∙ text_shown detail left c absent [] refl refl in
-    omega (arith, p.cost, ap length none)
+    omega (arith, p.some, ap length none)
 
 returned_parts : (detail : Detail) → has_parameters detail ≡ true → (name : Term) (q : Qualifiers) (ref : RefQualifier) (r items : Term) → (r ≡ absent → ⊥)
     → parts_in detail closed full (function name q ref r items)

@@ -42,6 +42,7 @@ prints-in c extra t b r p = record {
   filled = p.filled c;
   no_function = p.no_function;
   void = p.void;
+  some = omega (arith, p.cost c);
 }
 
 -- What prints in each context prints anywhere, if it is closed and names no packs.
@@ -151,6 +152,7 @@ marked-in {detail} c extra t made mark b r q p m reference_is no_function_head f
   filled = filled;
   no_function = no_function;
   void = λ e. absurd (false≢true (sym no_void ∙ e));
+  some = omega (arith, m.some, length-append b mark);
 }
 
 -- A pointer prints its type and a star.
@@ -314,6 +316,7 @@ parameter-in {detail} c k b r p =
       filled = refl;
       no_function = refl;
       void = λ e. cc e;
+      some = omega (arith, p.cost closed);
     }
 
 -- It does so where the argument has this text.
@@ -348,6 +351,7 @@ rvalue-again {detail} c k b p =
       filled = refl;
       no_function = refl;
       void = λ e. cc e;
+      some = inner.some;
     }
 
 -- It does so where the argument has this text.

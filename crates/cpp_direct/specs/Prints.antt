@@ -52,6 +52,7 @@ pub record PrintsIn (detail : Detail) (context : Context) (extra : ℕ) (t : Ter
   pub filled : is_empty context t ≡ false
   pub no_function : is_function_type t ≡ false
   pub void : is_void t ≡ true → bytes ≡ codes "void"
+  pub some : 1 ≤ length bytes
 
 -- ## Types that name arguments of a function's template
 
