@@ -24,7 +24,7 @@ use Rattle.cpp_direct.specs.declared.direct.Direct.{Direct}
 use Rattle.cpp_direct.specs.Holes.{Opened, Comes, Expects, IsListKind, ListGoesOn, StandsAt, AwaitsComponent, with_candidate}
 use Rattle.cpp_direct.specs.HolesOfLists.{IsArgumentKind}
 use Rattle.cpp_direct.specs.Prints.{Names, PrintAllAs, PrintsAs, list_of}
-use Rattle.cpp_direct.specs.WriterInvariant.{HasArguments, arguments_in, below, IsListing, IsNaming, IsScoped, IsOwn, Keeps, Scope, scoped_in, is_noted, is_type, may_name, IsNest, IsTail, IsTemplate, IsWriting, Owns, Serves, ArgumentsGoOn, AwaitsElementOf, AwaitsEnumerator, Belongs, Closes, ElementsGoOn, EnumeratorGoesOn, GoesOn, Listing, of_template, of_pack, Stands, element_kind, extra_of, led_by, list_with, in_front_of_next, nowhere}
+use Rattle.cpp_direct.specs.WriterInvariant.{Below, HasArguments, arguments_in, below, IsListing, IsNaming, IsScoped, IsOwn, Keeps, Scope, scoped_in, is_noted, is_type, may_name, IsNest, IsTail, IsTemplate, IsWriting, Owns, Serves, ArgumentsGoOn, AwaitsElementOf, AwaitsEnumerator, Belongs, Closes, ElementsGoOn, EnumeratorGoesOn, GoesOn, Listing, of_template, of_pack, Stands, element_kind, extra_of, led_by, list_with, in_front_of_next, nowhere}
 use Rattle.cpp_direct.specs.MidStep.{AreKnown, IsListEnded, AwaitsNextArgument, IsNameEnded}
 use Rattle.cpp_direct.specs.Written.{Writes, added}
 use Rattle.cpp_direct.proofs.Moves.{expects-empty, stands-split}
@@ -534,6 +534,21 @@ first-expected s w self first p is same =
     subst (λ d. AwaitsNextArgument s d) (sym same)
     (argument-expected s w w true (subst (λ f. IsWriting s w (steps.List f)) is p) (sym (append-nil w.text.list.items)) refl refl refl refl)
 
+-- a pack goes on after its J
+pub pack-goes-on : (s : Symbol) (owner : Open) (below_ : Below) (front : List ℕ) (template : Term) (ts : List Term) (texts : List ℕ) (at : ℕ) (st : State)
+    → ArgumentsGoOn s owner below_ front template ts at st → StandsAt s.bytes at (74 ∷ []) → GoesOn s (of_pack ts texts) owner below_ front template [] (at + 1) st
+pack-goes-on s owner below_ front template ts texts at st goes stands =
+    let opened = pack-opens s goes.1 goes.0 at st goes.4 stands in (
+      goes.0,
+      opened.inner,
+      goes.2,
+      goes.3,
+      opened.awaits,
+      λ l here now comes ended.
+          element-goes-on s Kind.ArgumentList (scoped_in owner below_) (λ u there later. Owns s owner below_ front (instance template u) there later)
+          ts (pack (no_items l)) at (here + 1) st now goes (opened.onward l here now comes ended),
+    )
+
 -- a pack begins
 pub pack-begins : (s : Symbol) (old new : Direct) (owner : Open) → AwaitsNextArgument s old → StandsAt s.bytes old.at (74 ∷ [])
     → slice_get old.waiting.list.items (length old.waiting.list.items - 1) ≡ Some owner → (owner ≡ opens.Pack → ⊥)
@@ -550,7 +565,6 @@ pack-begins s old new owner a stands found other waits at text candidates scope_
     go of_template is =
         let p = a.place in
         let goes = subst (λ l. GoesOn s l p.owner (below s a.scope p.rest) p.front p.template a.ts old.at a.state) is a.goes in
-        let opened = pack-opens s goes.1 goes.0 old.at a.state goes.4 stands in
         let belongs = subst (λ l. Belongs (detail_of s) a.scope.names l (reverse old.waiting.list.items) p.owner p.rest) is p.belongs in
         let elements = subst (λ l. PrintAllAs (detail_of s) a.scope.names (may_name l p.owner) (extra_of l) a.ts a.texts) is a.elements in
         let written = subst (λ l. old.text.list.items ≡ led_by (detail_of s) l p.front p.name ++ in_front_of_next a.ts a.texts) is a.written in
@@ -578,17 +592,8 @@ pack-begins s old new owner a stands found other waits at text candidates scope_
             ap (λ v. v.list.items) text ∙ written ∙ sym (append-nil (p.front ++ p.name ++ opening_bracket (detail_of s) ++ in_front_of_next a.ts a.texts)),
             (λ e. refl),
             (λ e. absurd (false≢true (sym e))),
-            (
-              goes.0,
-              opened.inner,
-              goes.2,
-              goes.3,
-              subst (λ n. Expects s Kind.PackList goes.0 opened.inner n a.state) (sym at) opened.awaits,
-              λ l here now comes ended.
-                  element-goes-on s Kind.ArgumentList (scoped_in p.owner (below s a.scope p.rest))
-                  (λ u there later. Owns s p.owner (below s a.scope p.rest) p.front (instance p.template u) there later)
-                  a.ts (pack (no_items l)) old.at (here + 1) a.state now goes (opened.onward l here now comes ended),
-            ),
+            subst (λ n. GoesOn s (of_pack a.ts a.texts) p.owner (below s a.scope p.rest) p.front p.template [] n a.state) (sym at)
+                (pack-goes-on s p.owner (below s a.scope p.rest) p.front p.template a.ts a.texts old.at a.state goes stands),
           );
         }
 

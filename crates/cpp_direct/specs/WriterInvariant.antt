@@ -487,6 +487,21 @@ AwaitsElementOf s names listing owner below os text =
     × (text ≡ led_by (detail_of s) listing front name ++ in_front_of_next ts elements)
     × ((t : Term) (at : ℕ) (st : State) → Comes s os (tree t true) at st → GoesOn s listing owner below front template (ts ++ t ∷ []) at st)
 
+-- the arguments of a name, or a pack that is the only one of them
+abbrev pub arguments_or_pack : (is_pack : Bool) → Listing
+arguments_or_pack false = of_template
+arguments_or_pack true = of_pack [] []
+
+-- a type comes as an argument of a name with this number, or as an element of such a pack
+abbrev pub AwaitsArgument : (s : Symbol) → Names → (is_pack : Bool) → (from number : ℕ) → (known : Arguments) → (owner : Open) → Below → List Opened
+    → (text : List ℕ) → Type 0
+AwaitsArgument s names is_pack from number known owner below os text =
+    (front : List ℕ) × (template : Term) × (name : List ℕ) × (ts : List Term) × (elements : List ℕ) × IsTemplate (detail_of s) names owner front template name text
+    × PrintAll (detail_of s) (extra_of (arguments_or_pack is_pack)) ts elements
+    × (text ≡ front ++ name ++ opening_bracket (detail_of s) ++ in_front_of_next ts elements) × (from ≡ length text) × (number ≡ length ts)
+    × AreAmong (detail_of s) text is_pack known ts
+    × ((t : Term) (at : ℕ) (st : State) → Comes s os (tree t true) at st → GoesOn s (arguments_or_pack is_pack) owner below front template (ts ++ t ∷ []) at st)
+
 -- a list goes on after an enumerator of this type, once its number and an E are read
 abbrev pub EnumeratorGoesOn : (s : Symbol) → Listing → Open → Below → (front : List ℕ) → (template : Term) → List Term → Term → (at : ℕ) → State → Type 0
 EnumeratorGoesOn s listing owner below front template ts t at st =
@@ -594,17 +609,9 @@ Stands s scope (opens.Special ∷ rest) os text =
     × ((t : Term) (at : ℕ) (st : State) → Comes s os (tree t true) at st → Encoded s (special letter t) at)
 Stands s scope (opens.Argument from number known ∷ []) os text = ⊥
 Stands s scope (opens.Argument from number known ∷ owner ∷ rest) os text =
-    (front : List ℕ) × (template : Term) × (name : List ℕ) × (ts : List Term) × (elements : List ℕ) × IsTemplate (detail_of s) scope.names owner front template name text
-    × PrintAll (detail_of s) 3 ts elements × (text ≡ front ++ name ++ opening_bracket (detail_of s) ++ in_front_of_next ts elements) × (from ≡ length text) × (number ≡ length ts)
-    × AreAmong (detail_of s) text false known ts
-    × ((t : Term) (at : ℕ) (st : State) → Comes s os (tree t true) at st
-    → ArgumentsGoOn s owner (outside s scope rest (Stands s scope rest)) front template (ts ++ t ∷ []) at st)
+    AwaitsArgument s scope.names false from number known owner (outside s scope rest (Stands s scope rest)) os text
 Stands s scope (opens.Element from number known ∷ opens.Pack ∷ owner ∷ rest) os text =
-    (front : List ℕ) × (template : Term) × (name : List ℕ) × (ts : List Term) × (elements : List ℕ) × IsTemplate (detail_of s) scope.names owner front template name text
-    × PrintAll (detail_of s) 0 ts elements × (text ≡ front ++ name ++ opening_bracket (detail_of s) ++ in_front_of_next ts elements) × (from ≡ length text) × (number ≡ length ts)
-    × AreAmong (detail_of s) text true known ts
-    × ((t : Term) (at : ℕ) (st : State) → Comes s os (tree t true) at st
-    → GoesOn s (of_pack [] []) owner (outside s scope rest (Stands s scope rest)) front template (ts ++ t ∷ []) at st)
+    AwaitsArgument s scope.names true from number known owner (outside s scope rest (Stands s scope rest)) os text
 Stands s scope (opens.Element from number known ∷ rest) os text = ⊥
 Stands s scope (opens.Enumerator ∷ []) os text = ⊥
 Stands s scope (opens.Enumerator ∷ opens.Pack ∷ []) os text = ⊥
