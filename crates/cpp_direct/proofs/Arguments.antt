@@ -448,8 +448,7 @@ pack-closes s old new from to number size place known more is_reference p ends s
     let here = goes.5 nothing_there (old.at + 1) p.state (expects-empty s Kind.ArgumentList goes.0 goes.1 (old.at + 1) p.state goes.4 refl) stands in
     let owns : Owns s p.owner (below s p.scope p.rest) p.front (instance p.template (list own nil)) (old.at + 1 + 1) p.state =
     subst (λ l. Owns s p.owner (below s p.scope p.rest) p.front (instance p.template (list (pack l) nil)) (old.at + 1 + 1) p.state) (list-with-none es) here in
-    arguments-end s old new true from number known (record more { elements = size }) is_reference p (own ∷ []) waits text candidates scope_same
-    (
+    arguments-end s old new true from number known (record more { elements = size }) is_reference p (own ∷ []) waits text candidates scope_same (
       texts ∷ [],
       (
         element-as (detail_of s) p.scope.names (is_noted p.owner) 3 own texts (pack-element es texts (some-elements p.ts p.t)
@@ -460,12 +459,12 @@ pack-closes s old new from to number size place known more is_reference p ends s
     )
     (subst (λ n. Owns s p.owner (below s p.scope p.rest) p.front (instance p.template (list own nil)) n p.state) (sym at) owns)
     (λ k o.
-        let there = elements-there size more k in
-        let h = among k (subst IsKnown there o) in
-        inr (
-          ap (λ (q : Argument). q.is_pack) there ∙ h.1,
-          es,
-          refl,
-          omega (arith, p.number_is, size_is, length-append p.ts (p.t ∷ [])),
-          subst (λ (q : Argument). IsAmong (detail_of s) old.text.list.items q k es) (sym there) h.0,
-        ))
+    let there = elements-there size more k in
+    let h = among k (subst IsKnown there o) in
+    inr (
+      ap (λ (q : Argument). q.is_pack) there ∙ h.1,
+      es,
+      refl,
+      omega (arith, p.number_is, size_is, length-append p.ts (p.t ∷ [])),
+      subst (λ (q : Argument). IsAmong (detail_of s) old.text.list.items q k es) (sym there) h.0,
+    ))
