@@ -20,7 +20,7 @@ use Rattle.cpp_direct.specs.WriterInvariant.{AwaitsArgument, Keeps, Scope, argum
 use Rattle.cpp_direct.specs.MidStep.{AreKnown, AwaitsKnownArgument, IsArgumentRead, IsListEnded, KnowsMore, argument_around, argument_entry}
 use Rattle.cpp_direct.specs.Written.{Writes}
 use Rattle.cpp_direct.proofs.Ending.{next-written}
-use Rattle.cpp_direct.proofs.Kept.{keeps-same, keeps-written, stands-same, reverse-last, template-stays}
+use Rattle.cpp_direct.proofs.Kept.{keeps-same, keeps-written, reverse-last, template-stays, type-comes}
 use Rattle.cpp_direct.proofs.Listed.{last-found, element-goes-on, list-kind, pack-goes-on, some-elements}
 use Rattle.cpp_direct.proofs.Moves.{expects-empty}
 use Rattle.cpp_direct.proofs.MovesOfLists.{element-awaits}
@@ -124,19 +124,9 @@ argument-next s {scope = scope} old new is_pack from number place known st owner
           (λ l there later. Closes s listing owner (below s scope rest) front template l there later)
           ts t place here st now goes (element.onward t here now comes),
     ) in
-    record {
-      state = st;
-      scope = scope;
-      keeps = keeps-same s old new st.candidates text candidates scope_same keeps;
-      is_before = (
-        element.inner,
-        goes.0,
-        goes.2,
-        inr (inl (subst (λ n. Expects s Kind.Item goes.0 element.inner n st) (sym at) element.awaits)),
-        stands-same s scope old new element.inner text opened stands,
-        subst (λ ws. IsScoped scope goes.0 ws) (sym opened) (argument-scoped scope goes.0 is_pack from number known (argument_around is_pack owner rest)),
-      );
-    }
+    type-comes s old new st goes.0 element.inner keeps text candidates scope_same opened goes.2
+    (inr (inl (subst (λ n. Expects s Kind.Item goes.0 element.inner n st) (sym at) element.awaits))) stands
+    (argument-scoped scope goes.0 is_pack from number known (argument_around is_pack owner rest))
 
 -- the first argument does
 pub argument-begins : (s : Symbol) (old new : Direct) (from : ℕ) → IsWriting s old (steps.List true)

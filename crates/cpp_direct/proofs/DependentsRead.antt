@@ -3,7 +3,7 @@ use Rattle.sym_print.specs.declared.detail.Detail.{Detail}
 use Rattle.cpp_grammar.specs.Unfolding.{byte_of, close}
 use Rattle.cpp_grammar.specs.Meaning.{meaning, listed_value}
 use Rattle.cpp_direct.specs.Symbol.{detail_of, Symbol}
-use Rattle.cpp_direct.proofs.Kept.{candidate-found, keeps-as, keeps-grown, keeps-same, keeps-with, keeps-written, made-here, piece-found, placed-stays}
+use Rattle.cpp_direct.proofs.Kept.{candidate-found, keeps-as, keeps-grown, keeps-same, keeps-with, keeps-written, made-here, piece-found, placed-stays, value-added, value-comes}
 use Rattle.cpp_direct.proofs.Listed.{some-elements}
 use Rattle.cpp_direct.proofs.Moves.{hole, eats, byte-opens, next-part, closes, none-fills, number-fills, is_eaten, stands-join, stands-split, expects-empty, open_at, fill, filled-at}
 use Rattle.cpp_direct.proofs.MovesOfTypes.{open-substitution-opens, solid-opens, rvalue-opens}
@@ -153,27 +153,14 @@ parameter-done s old mid new all k p n from a few letter line found is plain rea
     let known : IsKnown (place_of all k) = subst (λ (q : Argument). IsKnown q) is plain.0 in
     let single : (place_of all k).is_pack ≡ false = ap (λ (q : Argument). q.is_pack) (sym is) ∙ plain.1 in
     let later = with_candidate a.around (parameter k) a.state in
-    record {
-      state = later;
-      scope = a.scope;
-      keeps = keeps-with s mid new a.state text bytes from (parameter k) a.around false true
-          (keeps-grown s old mid bytes a.state.candidates grown writes.candidates writes.scope a.keeps) grown from_is
-          prints (λ e. made-here s a.scope a.around (reverse old.waiting.list.items) a.scoped naming) same_text more same_scope;
-      is_before = (
-        a.os,
-        parameter k,
-        text,
-        bytes,
-        ap (λ v. v.list.items) same_text ∙ grown,
-        prints,
-        λ e. subst (λ v. IsNaming s a.scope (reverse v.list.items)) (sym open_is) naming,
-        subst (λ n. Comes s a.os (tree (parameter k) true) n later) (sym (same_at ∙ writes.at ∙ at))
-            (parameter-comes s a.kind a.around a.os k old.at a.state a.typed few
-            (subst (λ j. IsScope k j a.around) single ((a.scoped all found).1.1 k known)) a.awaits
-            (stands-join s.bytes old.at (84 ∷ []) (parameter_digits k ++ 95 ∷ []) letter line)),
-        subst (λ v. Stands s a.scope (reverse v.list.items) a.os text) (sym open_is) a.stands,
-      );
-    }
+    value-added s mid new a.state a.os a.around (parameter k) text bytes from false true
+    (keeps-grown s old mid bytes a.state.candidates grown writes.candidates writes.scope a.keeps) grown from_is
+    prints (λ e. made-here s a.scope a.around (reverse old.waiting.list.items) a.scoped naming) same_text more same_scope (ap (λ v. reverse v.list.items) open_is)
+    (λ e. naming)
+    (subst (λ n. Comes s a.os (tree (parameter k) true) n later) (sym (same_at ∙ writes.at ∙ at))
+    (parameter-comes s a.kind a.around a.os k old.at a.state a.typed few
+    (subst (λ j. IsScope k j a.around) single ((a.scoped all found).1.1 k known)) a.awaits
+    (stands-join s.bytes old.at (84 ∷ []) (parameter_digits k ++ 95 ∷ []) letter line))) a.stands
 
 -- ## The same once more
 
@@ -224,22 +211,8 @@ dependent-again s w new k all p found real writes =
     ((a.scoped all found).1.0 real).1 none a.begins p.letter p.number in
     let comes : Comes s a.os (tree t true) w.at a.state = named.bare w.at a.state prints.no_function
     (expects-empty s Kind.ArgumentsAlone (after t true a.around) named.inner w.at a.state named.awaits refl) in
-    record {
-      state = a.state;
-      scope = a.scope;
-      keeps = keeps-written s w new _ a.state.candidates writes keeps;
-      is_before = (
-        a.os,
-        t,
-        text,
-        bytes,
-        written,
-        prints,
-        λ e. subst (λ v. IsNaming s a.scope (reverse v.list.items)) (sym writes.waiting) naming,
-        subst (λ n. Comes s a.os (tree t true) n a.state) (sym writes.at) comes,
-        subst (λ v. Stands s a.scope (reverse v.list.items) a.os text) (sym writes.waiting) a.stands,
-      );
-    }
+    value-comes s new a.state a.os t text bytes k.is_reference true (keeps-written s w new _ a.state.candidates writes keeps) written prints
+    (ap (λ v. reverse v.list.items) writes.waiting) (λ e. naming) (subst (λ n. Comes s a.os (tree t true) n a.state) (sym writes.at) comes) a.stands
 
 -- ## A reference to each type of a pack
 

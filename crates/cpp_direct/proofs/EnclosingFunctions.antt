@@ -36,7 +36,7 @@ use Rattle.cpp_direct.specs.MidStepOfLocals.{AwaitsEnclosingParameters, AwaitsTy
 use Rattle.cpp_direct.specs.Written.{AreKeptTo, Writes, Reads, added}
 use Rattle.cpp_direct.proofs.Ending.{behind-two, behind-three, behind-five, next-written, parameter-goes_on, plain-text, qualifiers-text, void-read}
 use Rattle.cpp_direct.proofs.NamePlaces.{reads-of, reads-then}
-use Rattle.cpp_direct.proofs.Kept.{candidates-kept, keeps-grown, keeps-read, keeps-same, keeps-with, keeps-written, none-named, reverse-last}
+use Rattle.cpp_direct.proofs.Kept.{candidates-kept, keeps-grown, keeps-read, keeps-same, keeps-with, keeps-written, none-named, reverse-last, type-comes, value-added}
 use Rattle.cpp_direct.proofs.Listed.{some-elements}
 use Rattle.cpp_direct.proofs.Moves.{expects-empty, stands-join}
 use Rattle.cpp_direct.proofs.MovesOfEncodings.{encoding-opens, name-nested, name-source}
@@ -295,19 +295,8 @@ parameter-expected s scope w st mark from to rest front make ts name texts keeps
           parameter-goes_on s nowhere (TypeWithin s (below s scope rest) front) make ts w.at st p t here now (element.onward t here now comes),
       to_is,
     ) in
-    record {
-      state = st;
-      scope = scope;
-      keeps = keeps;
-      is_before = (
-        element.inner,
-        p.around,
-        p.outside,
-        inr (inl element.awaits),
-        subst (λ os. Stands s scope os element.inner w.text.list.items) (sym open_is) stands,
-        subst (λ os. IsScoped scope p.around os) (sym open_is) (none-scoped scope p.around (opens.Enclosing mark from to ∷ rest) refl),
-      );
-    }
+    type-comes s w w st p.around element.inner keeps refl refl refl open_is p.outside (inr (inl element.awaits)) stands
+    (none-scoped scope p.around (opens.Enclosing mark from to ∷ rest) refl)
 
 -- the first one comes next
 pub first-within : (s : Symbol) (w first last : Direct) (mark : Mark) (from to : ℕ) → AwaitsEnclosingParameters s w mark from
@@ -652,20 +641,10 @@ lambda-begun s old new from a short stands text candidates scope at waiting =
             );
           },
     ) in
-    record {
-      state = r.state;
-      scope = r.scope;
-      keeps = keeps-grown s old new lambda_front r.state.candidates text candidates scope
-          (keeps-same s (record old { at = a.before }) old r.state.candidates refl refl refl r.keeps);
-      is_before = (
-        first.inner,
-        first.around,
-        first.outside,
-        inr (inl (subst (λ k. Expects s Kind.Item first.around first.inner k r.state) (omega (arith, at, a.at_is)) first.awaits)),
-        subst (λ ws. Stands s r.scope ws first.inner new.text.list.items) (sym opened_) stands_,
-        subst (λ ws. IsScoped r.scope first.around ws) (sym opened_) (none-scoped r.scope first.around (opens.Lambda from ∷ rest) refl),
-      );
-    }
+    type-comes s new new r.state first.around first.inner (keeps-grown s old new lambda_front r.state.candidates text candidates scope
+    (keeps-same s (record old { at = a.before }) old r.state.candidates refl refl refl r.keeps)) refl refl refl opened_ first.outside
+    (inr (inl (subst (λ k. Expects s Kind.Item first.around first.inner k r.state) (omega (arith, at, a.at_is)) first.awaits))) stands_
+    (none-scoped r.scope first.around (opens.Lambda from ∷ rest) refl)
 
 -- a parameter of one is read
 pub lambda-parameter-read : (s : Symbol) (w : Direct) (from : ℕ) → IsElementRead s w (opens.Lambda from) → IsLambdaParameterRead s w from
@@ -712,19 +691,8 @@ lambda-next s w last from p one =
       one.text ∙ ap (λ l. l ++ codes ", ") p.written ∙ append_assoc led p.texts (codes ", ") ∙ ap (λ l. led ++ l) (sym (next-written p.ts p.texts p.some)),
       λ t here now comes. parameter-goes_on s nowhere (LambdaWithin s below_ p.front p.e) (λ l. l) p.ts last.at p.state goes t here now (element.onward t here now comes),
     ) in
-    record {
-      state = p.state;
-      scope = p.scope;
-      keeps = keeps-written s w last (codes ", ") p.state.candidates one p.keeps;
-      is_before = (
-        element.inner,
-        goes.around,
-        goes.outside,
-        inr (inl element.awaits),
-        subst (λ ws. Stands s p.scope ws element.inner last.text.list.items) (sym opened_) stands_,
-        subst (λ ws. IsScoped p.scope goes.around ws) (sym opened_) (none-scoped p.scope goes.around (opens.Lambda from ∷ p.rest) refl),
-      );
-    }
+    type-comes s last last p.state goes.around element.inner (keeps-written s w last (codes ", ") p.state.candidates one p.keeps) refl refl refl opened_ goes.outside
+    (inr (inl element.awaits)) stands_ (none-scoped p.scope goes.around (opens.Lambda from ∷ p.rest) refl)
 
 whole-text : (f b l n : List ℕ) → ((f ++ (b ++ lambda_front)) ++ l) ++ codes ")#" ++ (n ++ codes "}")
     ≡ f ++ (b ++ codes "::" ++ (codes "{lambda(" ++ l ++ codes ")#" ++ n ++ codes "}"))
@@ -774,27 +742,14 @@ lambda-done s w begun pushed numbered popped_ last new from p apart ends same_te
     three.text ∙ append-nil popped_.text.list.items ∙ ap (λ v. v.list.items) popped_text ∙ two.text
     ∙ ap (λ l. l ++ (num ++ codes "}")) (one.text ∙ ap (λ v. v.list.items ++ codes ")#") same_text ∙ ap (λ l. l ++ codes ")#") p.written)
     ∙ whole-text p.front p.bytes p.texts num in
-    let st = with_candidate ends_with.1 own p.state in
     let begun_ = keeps-same s w begun p.state.candidates same_text same_candidates same_scope p.keeps in
     let numbered_ = keeps-read s pushed numbered (num ++ codes "}") p.state.candidates two (keeps-written s begun pushed (codes ")#") p.state.candidates one begun_) in
     let read = keeps-read s popped_ last [] p.state.candidates three
     (keeps-same s numbered popped_ p.state.candidates popped_text popped_candidates popped_scope numbered_) in
-    record {
-      state = st;
-      scope = p.scope;
-      keeps = keeps-with s last new p.state p.front bytes from own ends_with.1 false false read written p.from_is shown (λ e. absurd (false≢true e)) text candidates scope;
-      is_before = (
-        ends_with.0,
-        own,
-        p.front,
-        bytes,
-        ap (λ v. v.list.items) text ∙ written,
-        shown,
-        (λ e. absurd (false≢true e)),
-        subst (λ k. Comes s ends_with.0 (tree own true) k st) (sym here) (ends_with.2 number popped_.at digit last.at is ending middle told),
-        subst (λ ws. Stands s p.scope ws ends_with.0 p.front) (sym (ap (λ v. reverse v.list.items) (waiting ∙ three.waiting) ∙ waits)) ends_with.3,
-      );
-    }
+    value-added s last new p.state ends_with.0 ends_with.1 own p.front bytes from false false read written p.from_is shown (λ e. absurd (false≢true e)) text candidates
+    scope (ap (λ v. reverse v.list.items) (waiting ∙ three.waiting) ∙ waits) (λ e. absurd (false≢true e))
+    (subst (λ k. Comes s ends_with.0 (tree own true) k (with_candidate ends_with.1 own p.state)) (sym here)
+    (ends_with.2 number popped_.at digit last.at is ending middle told)) ends_with.3
 
 -- ## The type
 
@@ -815,25 +770,11 @@ type-within s old pushed read last new from awaits one p n is prints two digit t
     let written : last.text.list.items ≡ a.front ++ bytes =
     whole.text ∙ ap (λ l. old.text.list.items ++ l) (append-nil (codes "::" ++ n)) ∙ sym (append_assoc old.text.list.items (codes "::") n)
     ∙ ap (λ l. l ++ codes "::" ++ n) old_written ∙ behind-three a.front a.bytes (codes "::") n in
-    let st = with_candidate w.1 t a.state in
     let shown = local-prints a.e a.bytes a.encloses p n prints digit in
     let kept = keeps-read s old last (codes "::" ++ n ++ []) a.state.candidates whole
     (keeps-same s (record old { at = awaits.before }) old a.state.candidates refl refl refl a.keeps) in
     let named_ = subst (λ k. IsPieceAt s k p read.at) (one.at ∙ awaits.at_is) is in
-    record {
-      state = st;
-      scope = a.scope;
-      keeps = keeps-with s last new a.state a.front bytes from t w.1 false false kept written a.from_is shown (λ e. absurd (false≢true e)) text candidates scope;
-      is_before = (
-        w.0,
-        t,
-        a.front,
-        bytes,
-        ap (λ v. v.list.items) text ∙ written,
-        shown,
-        (λ e. absurd (false≢true e)),
-        subst (λ k. Comes s w.0 (tree t true) k st) (sym here)
-            (entity.onward p read.at a.state (named_ entity.inner entity.around a.e a.state entity.awaits) digit last.at told),
-        subst (λ v. Stands s a.scope (reverse v.list.items) w.0 a.front) (sym (waiting ∙ whole.waiting)) w.3,
-      );
-    }
+    value-added s last new a.state w.0 w.1 t a.front bytes from false false kept written a.from_is shown (λ e. absurd (false≢true e)) text candidates scope
+    (ap (λ v. reverse v.list.items) (waiting ∙ whole.waiting)) (λ e. absurd (false≢true e))
+    (subst (λ k. Comes s w.0 (tree t true) k (with_candidate w.1 t a.state)) (sym here)
+    (entity.onward p read.at a.state (named_ entity.inner entity.around a.e a.state entity.awaits) digit last.at told)) w.3

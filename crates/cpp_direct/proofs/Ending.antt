@@ -30,7 +30,7 @@ use Rattle.cpp_direct.specs.WriterInvariant.{AwaitsItems, Encoded, EndsBehind, E
 use Rattle.cpp_direct.specs.MidStep.{AwaitsNextParameter, IsNameEnded, IsNameScoped, AwaitsParameters, IsParameterEnded, IsFunctionEnded, IsEncodingEnded, IsSymbolEnded}
 use Rattle.cpp_direct.specs.Written.{Writes, Cuts}
 use Rattle.cpp_direct.proofs.Unmarked.{suffix-unmarked}
-use Rattle.cpp_direct.proofs.Kept.{keeps-as, keeps-same, keeps-written, none-kept, reverse-last}
+use Rattle.cpp_direct.proofs.Kept.{keeps-as, keeps-same, keeps-written, none-kept, reverse-last, type-comes}
 use Rattle.cpp_direct.proofs.Moves.{expects-empty}
 use Rattle.cpp_direct.proofs.MovesOfLists.{element-awaits}
 use Rattle.cpp_direct.proofs.MovesOfTypes.{builtin-comes}
@@ -225,20 +225,8 @@ parameter-expected s w mark start argument a =
       λ t here now comes. parameter-goes_on s argument (λ e there then_. EncodedBehind s a.lead e there) a.make a.ts w.at a.state p t here now
           (element.onward t here now comes),
     ) in
-    record {
-      state = a.state;
-      scope = a.scope;
-      keeps = a.keeps;
-      is_before = (
-        element.inner,
-        p.around,
-        p.outside,
-        inr (inl element.awaits),
-        subst (λ os. Stands s a.scope os element.inner w.text.list.items) (sym a.open_is) stands,
-        subst (λ os. IsScoped a.scope p.around os) (sym a.open_is)
-            (parameters-scoped a.scope p.around mark start argument a.rest a.is_function.named p.scoped),
-      );
-    }
+    type-comes s w w a.state p.around element.inner a.keeps refl refl refl a.open_is p.outside (inr (inl element.awaits)) stands
+    (parameters-scoped a.scope p.around mark start argument a.rest a.is_function.named p.scoped)
 
 pub no-text : (l : List ℕ) (from : ℕ) → from ≡ length l → from ≡ 0 → l ≡ []
 no-text [] from is none = refl

@@ -24,7 +24,7 @@ use Rattle.cpp_direct.specs.WriterInvariant.{EncodedBehind, Fronts, HasArguments
 use Rattle.cpp_direct.specs.MidStep.{IsNameScoped, IsFrontRead, AwaitsParameters}
 use Rattle.cpp_direct.specs.Written.{Writes}
 use Rattle.cpp_direct.proofs.Ending.{name-scoped, no-text, none-go_on, parameter-goes_on}
-use Rattle.cpp_direct.proofs.Kept.{keeps-same, keeps-written, reverse-last}
+use Rattle.cpp_direct.proofs.Kept.{keeps-same, keeps-written, reverse-last, type-comes}
 use Rattle.cpp_direct.proofs.MovesOfLists.{element-awaits}
 use Rattle.cpp_direct.proofs.PrintedLists.{none-print-in}
 use Rattle.cpp_direct.proofs.Scopes.{arguments-stay, front-scoped}
@@ -63,21 +63,9 @@ front-begins s w new mark argument from start scoped apart start_is text candida
           t here now (element.onward t here now comes),
     ) in
     let open_is = ap reverse waiting ∙ reverse-last w.waiting.list.items (opens.Front mark start argument) in
-    record {
-      state = p.state;
-      scope = p.scope;
-      keeps = keeps-same s w new p.state.candidates text candidates scope_same p.keeps;
-      is_before = (
-        element.inner,
-        goes.around,
-        goes.outside,
-        inr (inl (subst (λ n. Expects s Kind.Item goes.around element.inner n p.state) (sym at) element.awaits)),
-        subst (λ v. Stands s p.scope (reverse new.waiting.list.items) element.inner v.list.items) (sym text)
-            (subst (λ ws. Stands s p.scope ws element.inner w.text.list.items) (sym open_is) stands),
-        subst (λ ws. IsScoped p.scope goes.around ws) (sym open_is)
-            (front-scoped p.scope goes.around mark start argument (reverse w.waiting.list.items) scoped.named goes.scoped),
-      );
-    }
+    type-comes s w new p.state goes.around element.inner p.keeps text candidates scope_same open_is goes.outside
+    (inr (inl (subst (λ n. Expects s Kind.Item goes.around element.inner n p.state) (sym at) element.awaits))) stands
+    (front-scoped p.scope goes.around mark start argument (reverse w.waiting.list.items) scoped.named goes.scoped)
 
 -- it is read still where something else changes
 pub front-same : (s : Symbol) (w new : Direct) (mark : Mark) (start : ℕ) (argument : Arguments) → IsFrontRead s w mark start argument

@@ -34,7 +34,7 @@ use Rattle.cpp_direct.proofs.PrintedNames.{as-name}
 use Rattle.cpp_direct.proofs.PrintedNests.{instance-as, instance-prints, instance-class}
 use Rattle.cpp_direct.proofs.PrintedTypes.{prints-as}
 use Rattle.cpp_direct.proofs.Scopes.{element-there, instance-returns, known-stay, none-known, none-scoped, structor-returns}
-use Rattle.cpp_direct.proofs.Kept.{keeps-grown, keeps-same, keeps-with, made-here, scoped-within, template-stays, reverse-last, last-reversed}
+use Rattle.cpp_direct.proofs.Kept.{keeps-grown, keeps-same, keeps-with, made-here, scoped-within, template-stays, type-comes, value-added, reverse-last, last-reversed}
 
 -- ## What is open
 
@@ -219,28 +219,13 @@ type-closed s w new from is_dependent p candidates text waiting scope_same at =
     let scope = p.scope in
     let t = instance p.template (list_with p.ts p.tail) in
     let bytes = p.name ++ opening_bracket (detail_of s) ++ p.arguments ++ closing_bracket (detail_of s) in
-    let outer = p.owns.0 in
     let around = p.owns.1 in
-    let state = with_candidate around t p.state in
     let prints = instance-as (detail_of s) scope.names is_dependent p.template p.name
     (prints-as (detail_of s) scope.names is_dependent p.template p.name false p.is_template.1) p.ts p.tail p.arguments p.is_tail p.elements in
-    record {
-      state = state;
-      scope = scope;
-      keeps = keeps-with s w new p.state p.front bytes from t around false is_dependent p.keeps p.written p.is_template.0 prints
-          (λ named. made-here s scope around (reverse w.waiting.list.items) p.owns.3 (p.owns.4 named)) text candidates scope_same;
-      is_before = (
-        outer,
-        t,
-        p.front,
-        bytes,
-        subst (λ v. v.list.items ≡ p.front ++ bytes) (sym text) p.written,
-        prints,
-        λ named. subst (λ v. IsNaming s scope (reverse v.list.items)) (sym waiting) (p.owns.4 named),
-        subst (λ n. Comes s outer (tree t true) n state) (sym at) p.owns.2,
-        subst (λ v. Stands s scope (reverse v.list.items) outer p.front) (sym waiting) p.owns.5,
-      );
-    }
+    value-added s w new p.state p.owns.0 around t p.front bytes from false is_dependent p.keeps p.written p.is_template.0 prints
+    (λ named. made-here s scope around (reverse w.waiting.list.items) p.owns.3 (p.owns.4 named)) text candidates scope_same
+    (ap (λ v. reverse v.list.items) waiting) p.owns.4
+    (subst (λ n. Comes s p.owns.0 (tree t true) n (with_candidate around t p.state)) (sym at) p.owns.2) p.owns.5
 
 instance-nest : {detail : Detail} (names : Names) (front name text : List ℕ) (nest : Nest) (is_listed is_instance : Bool) (t : Term) (ts : List Term) (tail : Term) (l : List ℕ)
     → IsTail tail → IsNest detail names front name text nest t → PrintAllAs detail names nest.is_dependent 3 ts l
@@ -742,29 +727,19 @@ type-expected s w a =
     let scope = a.scope in
     let kind = element_kind p.listing in
     let element = element-awaits s kind a.goes.1 a.goes.0 w.at a.state (list-kind p.listing) a.goes.4 in
-    record {
-      state = a.state;
-      scope = scope;
-      keeps = a.keeps;
-      is_before = (
-        element.inner,
-        a.goes.0,
-        a.goes.2,
-        inr (inl element.awaits),
-        list-stands s scope (reverse w.waiting.list.items) element.inner w.text.list.items (record {
-          place = p;
-          ts = a.ts;
-          texts = a.texts;
-          elements = a.elements;
-          written = a.written;
-          onward = λ t here now comes.
-              element-goes-on s kind (scoped_in p.owner (below s scope p.rest))
-              (λ l there later. Closes s p.listing p.owner (below s scope p.rest) p.front p.template l there later)
-              a.ts t w.at here a.state now a.goes (element.onward t here now comes);
-        }),
-        list-scoped s scope a.goes.0 (reverse w.waiting.list.items) w.text.list.items p a.goes.3,
-      );
-    }
+    type-comes s w w a.state a.goes.0 element.inner a.keeps refl refl refl refl a.goes.2 (inr (inl element.awaits))
+    (list-stands s scope (reverse w.waiting.list.items) element.inner w.text.list.items (record {
+      place = p;
+      ts = a.ts;
+      texts = a.texts;
+      elements = a.elements;
+      written = a.written;
+      onward = λ t here now comes.
+          element-goes-on s kind (scoped_in p.owner (below s scope p.rest))
+          (λ l there later. Closes s p.listing p.owner (below s scope p.rest) p.front p.template l there later)
+          a.ts t w.at here a.state now a.goes (element.onward t here now comes);
+    }))
+    (list-scoped s scope a.goes.0 (reverse w.waiting.list.items) w.text.list.items p a.goes.3)
 
 -- ## Enumerators
 

@@ -38,7 +38,7 @@ use Rattle.cpp_direct.specs.WriterInvariant.{HasArguments, IsNaming, IsNest, IsN
 use Rattle.cpp_direct.specs.MidStep.{AwaitsNest, IsNestKnown, IsNestNamed, IsNameEnded, IsOperatorRead}
 use Rattle.cpp_direct.specs.Written.{Reads, added, added_unless}
 use Rattle.cpp_direct.proofs.Moves.{alone-arguments, any-tail, expects-empty, stands-join, comes-moved}
-use Rattle.cpp_direct.proofs.Kept.{arguments-begun, keeps-grown, keeps-read, keeps-same, keeps-with, keeps-unless, made-here, candidate-found, piece-found, nest-stays, reverse-last}
+use Rattle.cpp_direct.proofs.Kept.{arguments-begun, keeps-grown, keeps-read, keeps-same, keeps-with, keeps-unless, made-here, candidate-found, piece-found, nest-stays, reverse-last, value-comes}
 use Rattle.cpp_direct.proofs.MovesOfComponents.{component-awaits, component-outside, any-arguments, instance-arguments, nest-end, tag-follows}
 use Rattle.cpp_direct.proofs.MovesOfLists.{arguments-open}
 use Rattle.cpp_direct.proofs.MovesOfNests.{nest-source, nest-abbreviation, nest-substitution, nest-std}
@@ -404,24 +404,12 @@ type-ended s scope old new st t keeps n here is_type lists =
     let text_is : new.text.list.items ≡ old.text.list.items = cc (lists.text) in
     let waiting_is : new.waiting.list.items ≡ old.waiting.list.items = cc (lists.waiting) in
     let later = unless_listed listed serves.1 t st in
-    record {
-      state = later;
-      scope = scope;
-      keeps = keeps-unless s old new st listed n.front n.bytes old.nest.from t serves.1 d keeps n.written n.is_nest.from_is n.is_nest.prints
-          (λ e. made-here s scope serves.1 open_ serves.3 (n.scoped.naming e)) lists.text lists.candidates lists.scope;
-      is_before = (
-        serves.0,
-        t,
-        n.front,
-        n.bytes,
-        text_is ∙ n.written,
-        n.is_nest.prints,
-        (λ e. subst (λ l. IsNaming s scope (reverse l)) (sym waiting_is) (n.scoped.naming e)),
-        comes-moved s serves.0 (tree t true) (old.at + 1) new.at later (sym lists.at)
-            (serves.2 t listed (old.at + 1) st (no-function (detail_of s) scope.names d t n.bytes n.is_nest.prints) (nest-comes s old st t n here)),
-        subst (λ l. Stands s scope (reverse l) serves.0 n.front) (sym waiting_is) serves.4,
-      );
-    }
+    value-comes s new later serves.0 t n.front n.bytes false d
+    (keeps-unless s old new st listed n.front n.bytes old.nest.from t serves.1 d keeps n.written n.is_nest.from_is n.is_nest.prints
+    (λ e. made-here s scope serves.1 open_ serves.3 (n.scoped.naming e)) lists.text lists.candidates lists.scope) (text_is ∙ n.written) n.is_nest.prints
+    (ap reverse waiting_is) n.scoped.naming
+    (comes-moved s serves.0 (tree t true) (old.at + 1) new.at later (sym lists.at)
+    (serves.2 t listed (old.at + 1) st (no-function (detail_of s) scope.names d t n.bytes n.is_nest.prints) (nest-comes s old st t n here))) serves.4
 
 -- the arguments that it ends in were noted, or none are known
 pub arguments-noted : {detail : Detail} (b : Bool) (text : List ℕ) (a r : Arguments) (t : Term) → (b ≡ true → r ≡ a) → (b ≡ false → r ≡ nowhere)

@@ -648,12 +648,16 @@ pub record IsNesting (s : Symbol) (scope : Scope) (kind : Kind) (w : Direct) (t 
   pub scoped : IsNestScoped s scope w around
   pub serves : Serves s w.nest.purpose (below s scope (reverse w.waiting.list.items)) outer front
 
+-- a type is expected, an item of a list, or one that is no reference
+abbrev pub ExpectsType : (s : Symbol) → Around → List Opened → (at : ℕ) → State → Type 0
+ExpectsType s around os at st =
+    Expects s Kind.Type around os at st ⊎ Expects s Kind.Item around os at st ⊎ (Expects s Kind.ItemButRef around os at st × NoReference s.bytes at)
+
 -- where a writer is, before it takes a step
 abbrev pub IsBefore : (s : Symbol) → Scope → Direct → State → Step → Type 0
 IsBefore s scope w st steps.Type =
     (os : List Opened) × (around : Around) × (around.prefix ≡ outermost)
-    × (Expects s Kind.Type around os w.at st ⊎ Expects s Kind.Item around os w.at st
-    ⊎ (Expects s Kind.ItemButRef around os w.at st × NoReference s.bytes w.at)) × Stands s scope (reverse w.waiting.list.items) os w.text.list.items
+    × ExpectsType s around os w.at st × Stands s scope (reverse w.waiting.list.items) os w.text.list.items
     × IsScoped scope around (reverse w.waiting.list.items)
 IsBefore s scope w st steps.Plain =
     (os : List Opened) × (around : Around) × (around.prefix ≡ outermost)
