@@ -3,7 +3,7 @@ use Rattle.sym_print.specs.declared.detail.Detail.{Detail}
 use Rattle.cpp_grammar.specs.Unfolding.{byte_of, close}
 use Rattle.cpp_grammar.specs.Meaning.{meaning, listed_value}
 use Rattle.cpp_direct.specs.Symbol.{detail_of, Symbol}
-use Rattle.cpp_direct.proofs.Kept.{candidate-found, keeps-as, keeps-grown, keeps-same, keeps-with, keeps-written, made-here, piece-found, placed-stays, value-added, value-comes}
+use Rattle.cpp_direct.proofs.Kept.{candidate-found, keeps-as, keeps-grown, keeps-same, keeps-written, made-here, piece-found, placed-stays, value-added, value-comes}
 use Rattle.cpp_direct.proofs.Listed.{some-elements}
 use Rattle.cpp_direct.proofs.Moves.{hole, eats, byte-opens, next-part, closes, none-fills, number-fills, is_eaten, stands-join, stands-split, expects-empty, open_at, fill, filled-at}
 use Rattle.cpp_direct.proofs.MovesOfTypes.{open-substitution-opens, solid-opens, rvalue-opens}
@@ -11,7 +11,7 @@ use Rattle.cpp_direct.proofs.PrintedTypes.{parameter-given, expansion-element}
 use Rattle.cpp_direct.specs.declared.open.Mark.{Mark}
 use Rattle.cpp_direct.specs.Holes.{Opened, StandsAt, Comes, candidate, with_candidate, Expects, IsTyped}
 use Rattle.cpp_direct.specs.Prints.{AreSingle, PrintsAs, PrintsGiven, forwarded, PrintAllBy, list_of}
-use Rattle.cpp_direct.specs.WriterInvariant.{AreCandidates, EncodedBehind, HasArguments, IsAmong, IsKnown, IsNaming, IsPlaced, IsPlain, IsScope, IsScopeOf, IsScoped, IsWriting, Keeps, ParametersGoOn, Scope, Stands, argument_of, in_front_of_next, place_of}
+use Rattle.cpp_direct.specs.WriterInvariant.{AreCandidates, EncodedBehind, HasArguments, IsAmong, IsKnown, IsNaming, IsPlaced, IsPlain, IsScope, IsScopeOf, IsScoped, IsWriting, Keeps, ParametersGoOn, Scope, argument_of, in_front_of_next, place_of}
 use Rattle.cpp_direct.specs.MidStep.{AwaitsType, IsNamedAgain, IsParameterEnded, parameter_digits, AwaitsNextParameter, AreForwarded, IsPackOf, PrintsForwarded, comma_text}
 use Rattle.cpp_direct.specs.Written.{Writes, added, hidden}
 use Rattle.cpp_direct.specs.declared.direct.Direct.{Direct}

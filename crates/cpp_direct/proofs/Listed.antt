@@ -9,7 +9,7 @@ use Rattle.cpp_grammar.specs.declared.kind.Kind.{Kind}
 use Rattle.cpp_grammar.specs.Grammar.{may_be_empty}
 use Rattle.cpp_grammar.specs.Term.{Term, nil, list, instance, pack}
 use Rattle.cpp_grammar.specs.Scope.{arguments_of}
-use Rattle.cpp_grammar.specs.Values.{Around, State, tree, nothing_there, tree_of, qualifiers_of, ref_of}
+use Rattle.cpp_grammar.specs.Values.{Around, State, tree, nothing_there, tree_of}
 use Rattle.cpp_grammar.specs.Between.{no_items}
 use Rattle.cpp_direct.specs.WrittenParts.{opening_bracket, closing_bracket}
 use Rattle.cpp_direct.specs.Symbol.{detail_of, Symbol}
@@ -21,7 +21,7 @@ use Rattle.cpp_direct.specs.declared.open.Open.{Open}
 use Rattle.cpp_direct.specs.declared.open.Open.TheVariants as opens
 use Rattle.cpp_direct.specs.declared.open.Step.TheVariants as steps
 use Rattle.cpp_direct.specs.declared.direct.Direct.{Direct}
-use Rattle.cpp_direct.specs.Holes.{Opened, Comes, Expects, IsListKind, ListGoesOn, StandsAt, AwaitsComponent, with_candidate}
+use Rattle.cpp_direct.specs.Holes.{Opened, Comes, IsListKind, ListGoesOn, StandsAt, AwaitsComponent, with_candidate}
 use Rattle.cpp_direct.specs.HolesOfLists.{IsArgumentKind}
 use Rattle.cpp_direct.specs.Prints.{Names, PrintAllAs, PrintsAs, list_of}
 use Rattle.cpp_direct.specs.WriterInvariant.{Below, HasArguments, arguments_in, below, IsListing, IsNaming, IsScoped, IsOwn, Keeps, Scope, scoped_in, is_noted, is_type, may_name, IsNest, IsTail, IsTemplate, IsWriting, Owns, Serves, ArgumentsGoOn, AwaitsElementOf, AwaitsEnumerator, Belongs, Closes, ElementsGoOn, EnumeratorGoesOn, GoesOn, Listing, of_template, of_pack, Stands, element_kind, extra_of, led_by, list_with, in_front_of_next, nowhere}
@@ -33,7 +33,7 @@ use Rattle.cpp_direct.proofs.PrintedLists.{element-as, list-more, list-with-none
 use Rattle.cpp_direct.proofs.PrintedNames.{as-name}
 use Rattle.cpp_direct.proofs.PrintedNests.{instance-as, instance-prints, instance-class}
 use Rattle.cpp_direct.proofs.PrintedTypes.{prints-as}
-use Rattle.cpp_direct.proofs.Scopes.{element-there, instance-returns, known-stay, none-known, none-scoped, structor-returns}
+use Rattle.cpp_direct.proofs.Scopes.{element-there, instance-returns, known-stay, none-known, none-scoped, structor-returns, plain-named}
 use Rattle.cpp_direct.proofs.Kept.{keeps-grown, keeps-same, keeps-with, made-here, scoped-within, template-stays, type-comes, value-added, reverse-last, last-reversed}
 
 -- ## What is open
@@ -94,18 +94,19 @@ element-goes-on s kind scoped closes ts t before at earlier st goes g = (
       (goes.5 (tree (list t (no_items l)) true) there now (g.passes l there now comes) ended),
 )
 
--- a list is open still where something else is
-abbrev pub listing-at : {detail : Detail} {names : Names} (opened : List Open) (text : List ℕ) (now : List Open) (later : List ℕ) (p : IsListing detail names opened text)
-    → Belongs detail names p.listing now p.owner p.rest → IsTemplate detail names p.owner p.front p.template p.name later → IsListing detail names now later
-listing-at opened text now later p belongs is_template = record {
+-- a list is open still where more is written
+abbrev pub listing-stays : {detail : Detail} {names : Names} {opened : List Open} {text : List ℕ} (now : List Open) (more later : List ℕ) (p : IsListing detail names opened text)
+    → now ≡ opened → later ≡ text ++ more → IsListing detail names now later
+listing-stays {detail} {names} {text = text} now more later p open_is is = record {
   listing = p.listing;
   owner = p.owner;
   rest = p.rest;
-  belongs = belongs;
+  belongs = subst (λ ws. Belongs detail names p.listing ws p.owner p.rest) (sym open_is) p.belongs;
   front = p.front;
   template = p.template;
   name = p.name;
-  is_template = is_template;
+  is_template = subst (λ l. IsTemplate detail names p.owner p.front p.template p.name l) (sym is)
+      (template-stays detail names p.owner p.front p.template p.name text more p.is_template);
 }
 
 -- what is written between two arguments
@@ -324,7 +325,6 @@ first-closed s w new nest p candidates text waiting scope_same at =
 
 -- the arguments of the name of an encoding
 pub name-closed : (s : Symbol) (w : Direct) (from : ℕ) → IsClosed s w (opens.NameArguments from) → IsNameEnded s w marks.Plain true w.argument from
-unfolding tree_of qualifiers_of ref_of
 name-closed s w from p =
     let t = instance p.template (list_with p.ts p.tail) in
     let bytes = p.name ++ opening_bracket (detail_of s) ++ p.arguments ++ closing_bracket (detail_of s) in
@@ -334,9 +334,7 @@ name-closed s w from p =
       keeps = p.keeps;
       own = t;
       v = tree t false;
-      tree_is = refl;
-      qualifiers_are = refl;
-      mark_is = refl;
+      named_so = plain-named t;
       lead = p.front;
       name = bytes;
       written = p.written;
@@ -492,10 +490,7 @@ argument-expected s w new first p text candidates waiting scope_same at =
       state = p.state;
       scope = p.scope;
       keeps = keeps-grown s w new (comma first) p.state.candidates text candidates scope_same p.keeps;
-      place = listing-at (reverse w.waiting.list.items) w.text.list.items (reverse new.waiting.list.items) new.text.list.items place
-          (subst (λ v. Belongs (detail_of s) p.scope.names place.listing (reverse v.list.items) place.owner place.rest) (sym waiting) place.belongs)
-          (subst (λ l. IsTemplate (detail_of s) p.scope.names place.owner place.front place.template place.name l) (sym text)
-          (template-stays (detail_of s) p.scope.names place.owner place.front place.template place.name w.text.list.items (comma first) place.is_template));
+      place = listing-stays (reverse new.waiting.list.items) (comma first) new.text.list.items place (ap (λ v. reverse v.list.items) waiting) text;
       ts = ts;
       texts = texts;
       elements = p.is_before.3;

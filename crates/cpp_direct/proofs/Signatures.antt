@@ -1,6 +1,6 @@
 -- A writer within a function type: where it begins, after its return type, between its parameters, and after it; and within an array.
 use Rattle.sym_print.specs.declared.detail.Detail.{Detail}
-use Rattle.std.proofs.Common.{◌≡◌, ◌≢◌, inl, inr, ℕ, ◌+◌, ◌-◌, length, List, [], ◌∷◌, ◌++◌, reverse, Bool, true, false, Option, refl, ap, sym, take, ◌∙◌, subst, arith, codes, append_assoc, append-nil, nat_eq, ◌⊎◌, if◌then◌else◌, ◌≤◌, drop, slice_get, Some}
+use Rattle.std.proofs.Common.{◌≡◌, ◌≢◌, inl, inr, ℕ, ◌+◌, ◌-◌, length, List, [], ◌∷◌, ◌++◌, reverse, Bool, true, false, Option, refl, ap, sym, take, ◌∙◌, subst, arith, codes, append_assoc, append-nil, nat_eq, if◌then◌else◌, ◌≤◌, drop, slice_get, Some}
 use Rattle.std.specs.List.{ends_with}
 use Rattle.std.specs.Option.{OnSome, IfSome}
 use Rattle.std.proofs.lemmas.Bool.{false≢true}
@@ -20,7 +20,7 @@ use Rattle.cpp_direct.specs.Holes.{Opened, StandsAt, Comes, Expects, candidate, 
 use Rattle.cpp_direct.specs.HolesOfFunctions.{SignatureGoesOn, plain_function, pointed, with_pointed, reference, reference_letter, FunctionOpened}
 use Rattle.cpp_direct.specs.HolesOfTypes.{NoReference, IsQualifiable}
 use Rattle.cpp_direct.specs.Prints.{Names, PrintEach, PrintAll, joined}
-use Rattle.cpp_direct.specs.WriterInvariant.{below, IsScoped, AreCandidates, IsWriting, Marks, Scope, Stands, TakesFunction, opening_text, list_with, in_front_of_next, ExpectsType}
+use Rattle.cpp_direct.specs.WriterInvariant.{below, IsScoped, AreCandidates, IsWriting, Marks, Scope, Stands, TakesFunction, opening_text, list_with, in_front_of_next}
 use Rattle.cpp_direct.specs.MidStep.{AwaitsParameter, AwaitsSignature, IsElementPassed, IsFunctionRead, IsReturned, IsArrayRead, IsElementRead}
 use Rattle.cpp_direct.specs.Written.{Writes, hidden, with_hidden}
 use Rattle.cpp_direct.proofs.Ending.{no-void, next-written}
@@ -31,7 +31,7 @@ use Rattle.cpp_direct.proofs.MovesOfTypes.{parameter-opens, reference-opens, sig
 use Rattle.cpp_direct.proofs.PrintedFunctions.{function-element, void-function-element, array-element}
 use Rattle.cpp_direct.proofs.PrintedLists.{list-more, none-print}
 use Rattle.cpp_direct.proofs.Scopes.{none-scoped}
-use Rattle.cpp_direct.proofs.TypesRead.{by-step, given, popped}
+use Rattle.cpp_direct.proofs.TypesRead.{by-step, given, popped, whole-awaited}
 use Rattle.cpp_direct.specs.declared.open.Access.{Access}
 use Rattle.cpp_direct.specs.HolesOfArrays.{IsSizeAt, access_letters, accessed, array_opening, is_marked, with_accessed}
 use Rattle.sym_core.specs.declared.NameClass.TheVariants.{Cpp}
@@ -59,26 +59,14 @@ return-opens s false kind os around at st whole outside expects stands = functio
 pub function-begins : (s : Symbol) (old new : Direct) (is_pointer : Bool) → IsWriting s old steps.Type
     → StandsAt s.bytes old.at (if is_pointer then 80 ∷ 70 ∷ [] else 70 ∷ []) → TakesFunction (reverse old.waiting.list.items) → new.waiting.list.items ≡ old.waiting.list.items ++ opens.Returned is_pointer ∷ []
     → new.at ≡ old.at + (if is_pointer then 2 else 1) → new.text ≡ old.text → new.candidates ≡ old.candidates → new.has_scope ≡ old.has_scope → IsWriting s new steps.Type
-function-begins s old new is_pointer p letters takes waits at text candidates scope_same = go p.is_before.3
-  where
-    os : List Opened
-    os = p.is_before.0
-
-    around : Around
-    around = p.is_before.1
-
-    begun : (kind : Kind) → IsQualifiable kind → Expects s kind around os old.at p.state → IsWriting s new steps.Type
-    begun kind whole expects =
-        let f = return-opens s is_pointer kind os around old.at p.state whole p.is_before.2 expects letters in
-        type-comes s old new p.state around f.inner p.keeps text candidates scope_same
-        (ap reverse waits ∙ reverse-last old.waiting.list.items (opens.Returned is_pointer)) p.is_before.2
-        (inl (subst (λ k. Expects s Kind.Type around f.inner k p.state) (sym at) f.awaits)) (os, around, f.onward, takes, p.is_before.4)
-        (none-scoped p.scope around (opens.Returned is_pointer ∷ reverse old.waiting.list.items) refl)
-
-    go : ExpectsType s around os old.at p.state → IsWriting s new steps.Type
-    go (inl expects) = begun Kind.Type tt expects
-    go (inr (inl expects)) = begun Kind.Item tt expects
-    go (inr (inr expects)) = begun Kind.ItemButRef tt expects.0
+function-begins s old new is_pointer p letters takes waits at text candidates scope_same =
+    let whole = whole-awaited s old p in
+    let a = whole.0 in
+    let f = return-opens s is_pointer a.kind a.os a.around old.at a.state whole.1 a.outside a.awaits letters in
+    type-comes s old new a.state a.around f.inner a.keeps text candidates scope_same
+    (ap reverse waits ∙ reverse-last old.waiting.list.items (opens.Returned is_pointer)) a.outside
+    (inl (subst (λ k. Expects s Kind.Type a.around f.inner k a.state) (sym at) f.awaits)) (a.os, a.around, f.onward, takes, a.stands)
+    (none-scoped a.scope a.around (opens.Returned is_pointer ∷ reverse old.waiting.list.items) refl)
 
 -- ## After the return type
 
@@ -428,27 +416,16 @@ pub array-begins : (s : Symbol) (old new : Direct) (access : Access) (digits : L
     → from ≤ to → to ≤ length s.bytes → take (to - from) (drop from s.bytes) ≡ digits
     → new.waiting.list.items ≡ old.waiting.list.items ++ opens.Array access from to ∷ [] → new.text ≡ old.text → new.candidates ≡ old.candidates → new.has_scope ≡ old.has_scope
     → IsWriting s new steps.Type
-array-begins s old new access digits from to p letters takes is ordered inside size waits text candidates scope_same = go p.is_before.3
-  where
-    os : List Opened
-    os = p.is_before.0
-
-    around : Around
-    around = p.is_before.1
-
-    begun : (kind : Kind) → IsQualifiable kind → (access ≡ accesses.Lvalue → IsReferable kind) → Expects s kind around os old.at p.state
-        → IsWriting s new steps.Type
-    begun kind whole referable expects =
-        let f = array-opens s access kind os around old.at p.state digits new.at whole referable expects letters is in
-        let entry = opens.Array access from to in
-        type-comes s old new p.state around f.inner p.keeps text candidates scope_same (ap reverse waits ∙ reverse-last old.waiting.list.items entry) p.is_before.2
-        (inl f.awaits) (os, around, digits, ordered, inside, size, f.onward, takes, p.is_before.4)
-        (none-scoped p.scope around (entry ∷ reverse old.waiting.list.items) refl)
-
-    go : ExpectsType s around os old.at p.state → IsWriting s new steps.Type
-    go (inl expects) = begun Kind.Type tt (λ e. tt) expects
-    go (inr (inl expects)) = begun Kind.Item tt (λ e. tt) expects
-    go (inr (inr expects)) = begun Kind.ItemButRef tt (λ e. absurd (expects.1.0 (referred s access old.at e letters))) expects.0
+array-begins s old new access digits from to p letters takes is ordered inside size waits text candidates scope_same =
+    let whole = whole-awaited s old p in
+    let a = whole.0 in
+    let referable : access ≡ accesses.Lvalue → IsReferable a.kind =
+    λ e. elim a.referable [ inl may ↦ may | inr none ↦ absurd (none.0 (referred s access old.at e letters)) ] in
+    let f = array-opens s access a.kind a.os a.around old.at a.state digits new.at whole.1 referable a.awaits letters is in
+    let entry = opens.Array access from to in
+    type-comes s old new a.state a.around f.inner a.keeps text candidates scope_same (ap reverse waits ∙ reverse-last old.waiting.list.items entry) a.outside
+    (inl f.awaits) (a.os, a.around, digits, ordered, inside, size, f.onward, takes, a.stands)
+    (none-scoped a.scope a.around (entry ∷ reverse old.waiting.list.items) refl)
 
 -- ## The end of an array
 

@@ -28,7 +28,7 @@ use Rattle.cpp_direct.specs.declared.direct.Direct.{Direct}
 use Rattle.cpp_direct.specs.Holes.{Opened, StandsAt, Comes, Expects, IsTyped, IsReferable, IsNameAt, IsSeqAt, TypeNamed, with_candidate, unless_listed}
 use Rattle.cpp_direct.specs.HolesOfTypes.{NoReference, IsQualifiable, TypeOpens}
 use Rattle.cpp_direct.specs.Prints.{Prints, PrintsAs}
-use Rattle.cpp_direct.specs.WriterInvariant.{IsNaming, IsScoped, IsWriting, Keeps, Marks, Scope, Stands, below, ExpectsType}
+use Rattle.cpp_direct.specs.WriterInvariant.{IsScoped, IsWriting, Keeps, Marks, Scope, Stands, below}
 use Rattle.cpp_direct.specs.MidStep.{AwaitsType, AwaitsNamedType, AwaitsNest, IsNamedAgain, IsTypeNamed, AwaitsMark}
 use Rattle.cpp_direct.specs.Written.{Reads, Writes, added, added_unless}
 use Rattle.cpp_direct.proofs.Unmarked.{name-unmarked}
@@ -227,16 +227,23 @@ expected-as s {scope = scope} w st keeps kind typed referable os around outside 
   scoped = scoped;
 }
 
+-- where a type is, it may have a qualifier
+pub whole-awaited : (s : Symbol) (w : Direct) → IsWriting s w steps.Type → (a : AwaitsType s w) × IsQualifiable a.kind
+unfolding expected-as
+whole-awaited s w p = elim p.is_before.3 [
+  | inl awaits ↦ (expected-as s w p.state p.keeps Kind.Type tt (inl tt) p.is_before.0 p.is_before.1 p.is_before.2 awaits p.is_before.4 p.is_before.5, tt)
+  | inr (inl awaits) ↦ (expected-as s w p.state p.keeps Kind.Item tt (inl tt) p.is_before.0 p.is_before.1 p.is_before.2 awaits p.is_before.4 p.is_before.5, tt)
+  | inr (inr awaits) ↦ (
+    expected-as s w p.state p.keeps Kind.ItemButRef tt (inr awaits.1) p.is_before.0 p.is_before.1 p.is_before.2 awaits.0 p.is_before.4 p.is_before.5,
+    tt,
+  )
+]
+
 -- what is expected where a type is
 pub awaits-type : (s : Symbol) (w : Direct) (is_plain : Bool) → IsWriting s w (if is_plain then steps.Plain else steps.Type) → AwaitsType s w
 awaits-type s w true p =
     expected-as s w p.state p.keeps Kind.Plain tt (inl tt) p.is_before.0 p.is_before.1 p.is_before.2 p.is_before.3 p.is_before.4 p.is_before.5
-awaits-type s w false p = elim p.is_before.3 [
-  | inl awaits ↦ expected-as s w p.state p.keeps Kind.Type tt (inl tt) p.is_before.0 p.is_before.1 p.is_before.2 awaits p.is_before.4 p.is_before.5
-  | inr (inl awaits) ↦ expected-as s w p.state p.keeps Kind.Item tt (inl tt) p.is_before.0 p.is_before.1 p.is_before.2 awaits p.is_before.4 p.is_before.5
-  | inr (inr awaits) ↦
-      expected-as s w p.state p.keeps Kind.ItemButRef tt (inr awaits.1) p.is_before.0 p.is_before.1 p.is_before.2 awaits.0 p.is_before.4 p.is_before.5
-]
+awaits-type s w false p = (whole-awaited s w p).0
 
 -- a type is read that is no candidate
 value-done : (s : Symbol) (old new : Direct) (a : AwaitsType s old) (t : Term) (bytes : List ℕ) → Prints (detail_of s) t bytes false
@@ -490,20 +497,10 @@ pub const-opened : (s : Symbol) (old new : Direct) (o : Option Step) (from : ℕ
     → IsWriting s old (if is_plain then steps.Plain else steps.Type) → is_plain ≡ false → from ≡ length old.text.list.items
     → StandsAt s.bytes old.at (75 ∷ []) → IfSome o (λ next. next ≡ steps.Plain) → OnSome o (new.waiting.list.items ≡ old.waiting.list.items ++ opens.Const from ∷ [])
     → OnSome o (new.at ≡ old.at + 1) → new.text ≡ old.text → new.candidates ≡ old.candidates → new.has_scope ≡ old.has_scope → IfSome o (IsWriting s new)
-unfolding expected-as
 const-opened s old new o from true p plain begins stands is waits at text candidates scope = absurd (false≢true (sym plain))
-const-opened s old new o from false p plain begins stands is waits at text candidates scope = go p.is_before.3
-  where
-    go : ExpectsType s p.is_before.1 p.is_before.0 old.at p.state → IfSome o (IsWriting s new)
-    go (inl awaits) = plain-opened s old new o from
-        (expected-as s old p.state p.keeps Kind.Type tt (inl tt) p.is_before.0 p.is_before.1 p.is_before.2 awaits p.is_before.4 p.is_before.5)
-        tt begins stands is waits at text candidates scope
-    go (inr (inl awaits)) = plain-opened s old new o from
-        (expected-as s old p.state p.keeps Kind.Item tt (inl tt) p.is_before.0 p.is_before.1 p.is_before.2 awaits p.is_before.4 p.is_before.5)
-        tt begins stands is waits at text candidates scope
-    go (inr (inr awaits)) = plain-opened s old new o from
-        (expected-as s old p.state p.keeps Kind.ItemButRef tt (inr awaits.1) p.is_before.0 p.is_before.1 p.is_before.2 awaits.0 p.is_before.4 p.is_before.5)
-        tt begins stands is waits at text candidates scope
+const-opened s old new o from false p plain begins stands is waits at text candidates scope =
+    let whole = whole-awaited s old p in
+    plain-opened s old new o from whole.0 whole.1 begins stands is waits at text candidates scope
 
 -- a nested name is expected after an N
 pub nest-awaited : (s : Symbol) (old : Direct) (n : ℕ) → AwaitsNamedType s old → n ≡ old.at + 1 → StandsAt s.bytes old.at (78 ∷ [])

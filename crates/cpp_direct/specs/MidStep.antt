@@ -24,7 +24,7 @@ use Rattle.cpp_direct.specs.declared.open.Arguments.{Arguments}
 use Rattle.cpp_direct.specs.declared.open.Open.TheVariants as opens
 use Rattle.cpp_direct.specs.declared.direct.Direct.{Direct}
 use Rattle.cpp_direct.specs.Bytes.{is_local}
-use Rattle.cpp_direct.specs.Holes.{Opened, StandsAt, Comes, Expects, IsReferable, IsTyped, TypeNamed, NestGoesOn, NestNamed, bare_name, with_candidate, IsSeqAt}
+use Rattle.cpp_direct.specs.Holes.{Opened, StandsAt, Comes, Expects, IsReferable, IsTyped, TypeNamed, NestNamed, bare_name, with_candidate, IsSeqAt}
 use Rattle.sym_core.specs.Value.{counted_value}
 use Rattle.sym_core.specs.declared.NumberKind.TheVariants.{Seq36}
 use Rattle.cpp_direct.specs.HolesOfFunctions.{SignatureGoesOn, plain_function, pointed, with_pointed}
@@ -32,7 +32,7 @@ use Rattle.cpp_direct.specs.HolesOfArrays.{accessed, with_accessed}
 use Rattle.cpp_direct.specs.HolesOfTypes.{IsNamedKind, NoReference, TreeOpens}
 use Rattle.cpp_direct.specs.Marks.{has_const, called_on, mark_text}
 use Rattle.cpp_direct.specs.Prints.{NamesClass, Prints, PrintsName, IsElement, PrintAll, Shows, Encloses, sign_text, PrintsAs, PrintsIn, PrintAllAs, IsGiven, list_of, PrintAllBy, forwarded}
-use Rattle.cpp_direct.specs.WriterInvariant.{AwaitsItems, Encoded, EncodedBehind, Fronts, IsFunction, IsInstance, IsListing, IsNest, IsTail, IsTemplate, GoesOn, EnumeratorGoesOn, Owns, ParametersGoOn, Serves, Stands, TakesFunction, opening_text, qualifiers, arguments_or_pack, extra_of, led_by, list_with, in_front_of_next, IsPlaced, IsAmong, AreAmong, HasArguments, IsKnown, IsScoped, is_type, place_of, IsNaming, IsNestScoped, Keeps, Scope, below, is_noted, may_name, ArgumentsGoOn, encoding_place}
+use Rattle.cpp_direct.specs.WriterInvariant.{AwaitsItems, Encoded, EncodedBehind, Fronts, IsFunction, IsInstance, IsListing, IsNest, IsTail, IsTemplate, GoesOn, EnumeratorGoesOn, Owns, ParametersGoOn, Serves, Stands, TakesFunction, opening_text, qualifiers, arguments_or_pack, extra_of, led_by, list_with, in_front_of_next, IsAmong, AreAmong, HasArguments, IsKnown, IsScoped, is_type, place_of, IsNaming, IsNestScoped, Keeps, Scope, below, is_noted, may_name, encoding_place, IsNamedSo, IsNesting}
 
 -- the digits after the T of a parameter with this number
 abbrev pub parameter_digits : (number : ℕ) → List ℕ
@@ -247,18 +247,10 @@ pub record IsNestKnown (s : Symbol) (w : Direct) : Type 0 where
   pub state : State
   pub scope : Scope
   pub keeps : Keeps s scope w state.candidates
-  pub around : Around
-  pub outer : List Opened
   pub own : Term
-  pub known : NestGoesOn s Kind.NestRestOrEnd outer around own true w.at state
-  pub front : List ℕ
-  pub bytes : List ℕ
-  pub written : w.text.list.items ≡ front ++ bytes
-  pub is_nest : IsNest (detail_of s) scope.names front bytes w.text.list.items w.nest own
-  pub scoped : IsNestScoped s scope w around
+  pub nesting : IsNesting s scope Kind.NestRestOrEnd w own state
   pub listed : w.nest.is_listed ≡ true
   pub classless : w.nest.has_class ≡ false
-  pub serves : Serves s w.nest.purpose (below s scope (reverse w.waiting.list.items)) outer front
 
 -- A component of a nested name was read, or a name in std. Arguments may come after it, or tags.
 pub record IsNestNamed (s : Symbol) (w : Direct) : Type 0 where
@@ -391,9 +383,7 @@ pub record IsNameEnded (s : Symbol) (w : Direct) (mark : Mark) (is_instance : Bo
   pub keeps : Keeps s scope w state.candidates
   pub own : Term
   pub v : Value
-  pub tree_is : tree_of v ≡ own
-  pub qualifiers_are : qualifiers_of v ≡ qualifiers (has_const mark)
-  pub mark_is : ref_of v ≡ called_on mark
+  pub named_so : IsNamedSo v own mark
   pub lead : List ℕ
   pub name : List ℕ
   pub written : w.text.list.items ≡ lead ++ name

@@ -250,6 +250,12 @@ pub record IsShown (s : Symbol) (most : ℕ) (text : List ℕ) : Type 0 where
 abbrev pub qualifiers : (is_const : Bool) → Qualifiers
 qualifiers is_const = record { restrict = false; volatile = false; const = is_const }
 
+-- a name is read as this tree, and as that of a member function with these qualifiers
+pub record IsNamedSo (v : Value) (own : Term) (mark : Mark) : Type 0 where
+  pub tree_is : tree_of v ≡ own
+  pub qualifiers_are : qualifiers_of v ≡ qualifiers (has_const mark)
+  pub mark_is : ref_of v ≡ called_on mark
+
 -- a nested name is that of a function or of data
 abbrev pub IsOwn : Purpose → Type 0
 IsOwn purposes.Type = ⊥
@@ -332,9 +338,7 @@ pub record IsEnclosing (detail : Detail) (mark : Mark) (make : Term → Term) (t
 -- the name of a function that has a return type, and its text, and where the arguments of its template are
 pub record IsInstance (detail : Detail) (scope : Scope) (text : List ℕ) (argument : Arguments) (mark : Mark) (v : Value) (name : List ℕ) : Type 0 where
   pub own : Term
-  pub tree_is : tree_of v ≡ own
-  pub qualifiers_are : qualifiers_of v ≡ qualifiers (has_const mark)
-  pub mark_is : ref_of v ≡ called_on mark
+  pub named_so : IsNamedSo v own mark
   pub prints : PrintsName detail own name
   pub returns : has_return_type own ≡ true
   pub names : HasArguments detail text argument own
