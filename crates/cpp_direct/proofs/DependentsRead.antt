@@ -3,7 +3,7 @@ use Rattle.sym_print.specs.declared.detail.Detail.{Detail}
 use Rattle.cpp_grammar.specs.Unfolding.{byte_of, close}
 use Rattle.cpp_grammar.specs.Meaning.{meaning, listed_value}
 use Rattle.cpp_direct.specs.Symbol.{detail_of, Symbol}
-use Rattle.cpp_direct.proofs.Kept.{candidate-found, keeps-as, keeps-grown, keeps-same, keeps-with, keeps-written, made-here, piece-found, placed-stays}
+use Rattle.cpp_direct.proofs.Kept.{candidate-found, keeps-as, keeps-grown, keeps-same, keeps-with, keeps-written, made-here, piece-found, placed-stays, value-added, value-comes}
 use Rattle.cpp_direct.proofs.Listed.{some-elements}
 use Rattle.cpp_direct.proofs.Moves.{hole, eats, byte-opens, next-part, closes, none-fills, number-fills, is_eaten, stands-join, stands-split, expects-empty, open_at, fill, filled-at}
 use Rattle.cpp_direct.proofs.MovesOfTypes.{substitution-opens, solid-opens, rvalue-opens}
@@ -12,7 +12,7 @@ use Rattle.cpp_direct.proofs.PrintedTypes.{parameter-given, rvalue-given, expans
 use Rattle.cpp_direct.specs.declared.open.Mark.{Mark}
 use Rattle.cpp_direct.specs.Holes.{Opened, StandsAt, Comes, candidate, with_candidate, Expects, IsReferable, IsTyped}
 use Rattle.cpp_direct.specs.Prints.{AreSingle, PrintsAs, PrintsGiven, forwarded, PrintAllBy, list_of}
-use Rattle.cpp_direct.specs.WriterInvariant.{AreCandidates, EncodedBehind, HasArguments, IsAmong, IsKnown, IsNaming, IsPlaced, IsScope, IsScopeOf, IsScoped, IsSingle, IsWriting, Keeps, ParametersGoOn, Scope, Stands, argument_of, in_front_of_next, place_of}
+use Rattle.cpp_direct.specs.WriterInvariant.{AreCandidates, EncodedBehind, HasArguments, IsAmong, IsKnown, IsNaming, IsPlaced, IsScope, IsScopeOf, IsScoped, IsSingle, IsWriting, Keeps, ParametersGoOn, Scope, argument_of, in_front_of_next, place_of}
 use Rattle.cpp_direct.specs.MidStep.{AwaitsType, IsNamedAgain, IsParameterEnded, parameter_digits, AwaitsNextParameter, AreForwarded, IsPackOf, PrintsForwarded, comma_text}
 use Rattle.cpp_direct.specs.Written.{Writes, added, hidden}
 use Rattle.cpp_direct.specs.declared.direct.Direct.{Direct}
@@ -155,26 +155,13 @@ parameter-done s old mid new all k p n from a few letter line found is single re
     let naming = named-here s old a.state.candidates a.around all a.keeps a.scoped found real in
     let open_is : new.waiting ≡ old.waiting = same_waits ∙ writes.waiting in
     let later = with_candidate a.around (parameter k) a.state in
-    record {
-      state = later;
-      scope = a.scope;
-      keeps = keeps-with s mid new a.state text bytes from (parameter k) a.around p.is_reference true
-          (keeps-grown s old mid bytes a.state.candidates grown writes.candidates writes.scope a.keeps) grown from_is
-          prints (λ e. made-here s a.scope a.around (reverse old.waiting.list.items) a.scoped naming) same_text more same_scope;
-      is_before = (
-        a.os,
-        parameter k,
-        text,
-        bytes,
-        ap (λ v. v.list.items) same_text ∙ grown,
-        prints,
-        λ e. subst (λ v. IsNaming s a.scope (reverse v.list.items)) (sym open_is) naming,
-        subst (λ n. Comes s a.os (tree (parameter k) true) n later) (sym (same_at ∙ writes.at ∙ at))
-            (parameter-comes s a.kind a.around a.os k old.at a.state a.typed few (scope-named s old all k p a found is single) a.awaits
-            (stands-join s.bytes old.at (84 ∷ []) (parameter_digits k ++ 95 ∷ []) letter line)),
-        subst (λ v. Stands s a.scope (reverse v.list.items) a.os text) (sym open_is) a.stands,
-      );
-    }
+    value-added s mid new a.state a.os a.around (parameter k) text bytes from p.is_reference true
+    (keeps-grown s old mid bytes a.state.candidates grown writes.candidates writes.scope a.keeps) grown from_is
+    prints (λ e. made-here s a.scope a.around (reverse old.waiting.list.items) a.scoped naming) same_text more same_scope (ap (λ v. reverse v.list.items) open_is)
+    (λ e. naming)
+    (subst (λ n. Comes s a.os (tree (parameter k) true) n later) (sym (same_at ∙ writes.at ∙ at))
+    (parameter-comes s a.kind a.around a.os k old.at a.state a.typed few (scope-named s old all k p a found is single) a.awaits
+    (stands-join s.bytes old.at (84 ∷ []) (parameter_digits k ++ 95 ∷ []) letter line))) a.stands
 
 -- what is written from a place on became a candidate, which is a reference and names arguments
 pub record IsListed (old new : Direct) (from : ℕ) : Type 0 where
@@ -206,29 +193,15 @@ forwarded-there s old mid one new all k p n from a few referable mark letter lin
     let later = with_candidate a.around (rvalue (parameter k)) own in
     let reference = rvalue-opens s a.kind a.around a.os old.at a.state referable a.awaits mark in
     let prints = rvalue-given a.scope.names k bytes named in
-    record {
-      state = later;
-      scope = a.scope;
-      keeps = keeps-with s one new own text bytes from (rvalue (parameter k)) a.around true true
-          (keeps-with s mid one a.state text bytes from (parameter k) a.around true true
-          (keeps-grown s old mid bytes a.state.candidates grown writes.candidates writes.scope a.keeps) grown from_is
-          (parameter-given a.scope.names k (record { bytes = bytes; reference = true }) named) (λ e. here) first.text first.more first.scope)
-          listed from_is prints (λ e. here) second.text second.more second.scope;
-      is_before = (
-        a.os,
-        rvalue (parameter k),
-        text,
-        bytes,
-        ap (λ v. v.list.items) second.text ∙ listed,
-        prints,
-        λ e. subst (λ v. IsNaming s a.scope (reverse v.list.items)) (sym open_is) naming,
-        subst (λ n. Comes s a.os (tree (rvalue (parameter k)) true) n later) (sym (second.at ∙ first.at ∙ writes.at ∙ at))
-            (reference.passes (parameter k) (old.at + 1 + 1 + length (parameter_digits k ++ 95 ∷ [])) own
-            (parameter-comes s Kind.Type a.around reference.inner k (old.at + 1) a.state tt few (scope-named s old all k p a found is single) reference.awaits
-            (stands-join s.bytes (old.at + 1) (84 ∷ []) (parameter_digits k ++ 95 ∷ []) letter line))),
-        subst (λ v. Stands s a.scope (reverse v.list.items) a.os text) (sym open_is) a.stands,
-      );
-    }
+    value-added s one new own a.os a.around (rvalue (parameter k)) text bytes from true true
+    (keeps-with s mid one a.state text bytes from (parameter k) a.around true true
+    (keeps-grown s old mid bytes a.state.candidates grown writes.candidates writes.scope a.keeps) grown from_is
+    (parameter-given a.scope.names k (record { bytes = bytes; reference = true }) named) (λ e. here) first.text first.more first.scope)
+    listed from_is prints (λ e. here) second.text second.more second.scope (ap (λ v. reverse v.list.items) open_is) (λ e. naming)
+    (subst (λ n. Comes s a.os (tree (rvalue (parameter k)) true) n later) (sym (second.at ∙ first.at ∙ writes.at ∙ at))
+    (reference.passes (parameter k) (old.at + 1 + 1 + length (parameter_digits k ++ 95 ∷ [])) own
+    (parameter-comes s Kind.Type a.around reference.inner k (old.at + 1) a.state tt few (scope-named s old all k p a found is single) reference.awaits
+    (stands-join s.bytes (old.at + 1) (84 ∷ []) (parameter_digits k ++ 95 ∷ []) letter line)))) a.stands
 
 -- An rvalue reference to it is read, which is this argument itself where that is a reference.
 pub forwarded-done : (s : Symbol) (old mid one new : Direct) (all : Arguments) (k : ℕ) (p : Argument) (n from : ℕ) (a : AwaitsType s old) → k ≤ 3
@@ -274,22 +247,8 @@ dependent-again s w new k all p found real writes =
     (again-substituted s a.around open_ c.0 a.state bytes k.is_reference a.keeps.own a.scoped naming (c.2.made_in p.is) prints) a.begins p.letter p.number in
     let comes : Comes s a.os (tree t true) w.at a.state = named.bare w.at a.state prints.no_function
     (expects-empty s Kind.ArgumentsAlone (after t true a.around) named.inner w.at a.state named.awaits refl) in
-    record {
-      state = a.state;
-      scope = a.scope;
-      keeps = keeps-written s w new _ a.state.candidates writes keeps;
-      is_before = (
-        a.os,
-        t,
-        text,
-        bytes,
-        written,
-        prints,
-        λ e. subst (λ v. IsNaming s a.scope (reverse v.list.items)) (sym writes.waiting) naming,
-        subst (λ n. Comes s a.os (tree t true) n a.state) (sym writes.at) comes,
-        subst (λ v. Stands s a.scope (reverse v.list.items) a.os text) (sym writes.waiting) a.stands,
-      );
-    }
+    value-comes s new a.state a.os t text bytes k.is_reference true (keeps-written s w new _ a.state.candidates writes keeps) written prints
+    (ap (λ v. reverse v.list.items) writes.waiting) (λ e. naming) (subst (λ n. Comes s a.os (tree t true) n a.state) (sym writes.at) comes) a.stands
 
 -- ## A reference to each type of a pack
 

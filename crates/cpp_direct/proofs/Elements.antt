@@ -12,18 +12,18 @@ use Rattle.cpp_grammar.specs.Parts.{is_plain_integer}
 use Rattle.cpp_grammar.specs.Term.{Term, builtin, boolean, integer, Signed}
 use Rattle.cpp_grammar.specs.Texts.{look_up, builtin_texts, literal_endings}
 use Rattle.cpp_grammar.specs.Grammar.{among}
-use Rattle.cpp_grammar.specs.Values.{normal, signed_digits, is_zero}
+use Rattle.cpp_grammar.specs.Values.{normal, signed_digits, is_zero, State}
 use Rattle.cpp_direct.specs.declared.direct.Direct.{Direct}
 use Rattle.cpp_direct.specs.Holes.{StandsAt, ListGoesOn}
 use Rattle.cpp_direct.specs.HolesOfLists.{IsDigitsAt, minus_sign, IsOffsetAt}
 use Rattle.cpp_direct.specs.ItemBytes.{is_integer_letter}
-use Rattle.cpp_direct.specs.Prints.{Prints, sign_text, EndsAsInteger}
-use Rattle.cpp_direct.specs.WriterInvariant.{below, scoped_in, may_name, Belongs, Closes, GoesOn, IsTemplate, IsWriting, Stands, element_kind, extra_of, led_by, in_front_of_next, IsScoped}
+use Rattle.cpp_direct.specs.Prints.{Prints, sign_text, EndsAsInteger, IsElement, PrintAllAs}
+use Rattle.cpp_direct.specs.WriterInvariant.{below, scoped_in, may_name, Closes, GoesOn, IsWriting, Stands, element_kind, extra_of, led_by, in_front_of_next, IsScoped, IsListing, Keeps, Scope}
 use Rattle.cpp_direct.specs.MidStep.{AwaitsNextArgument, truth_text, number_text, integer_text, AwaitsNumber, AwaitsNamedType}
 use Rattle.cpp_direct.specs.Written.{Reads, Writes}
 use Rattle.cpp_direct.proofs.Scopes.{none-scoped}
-use Rattle.cpp_direct.proofs.Kept.{keeps-grown, keeps-read, template-stays, reverse-last}
-use Rattle.cpp_direct.proofs.Listed.{element-kind, element-goes-on, enumerator-stands, listing-at, some-elements}
+use Rattle.cpp_direct.proofs.Kept.{keeps-grown, keeps-read, reverse-last}
+use Rattle.cpp_direct.proofs.Listed.{element-kind, element-goes-on, enumerator-stands, some-elements, listing-stays}
 use Rattle.cpp_direct.proofs.Moves.{stands-join}
 use Rattle.cpp_direct.proofs.MovesOfLists.{bool-element, integer-element, enumerator-opens}
 use Rattle.cpp_direct.proofs.LettersTested.{integer-there}
@@ -33,6 +33,7 @@ use Rattle.cpp_direct.proofs.Unmarked.{digits-unmarked}
 use Rattle.cpp_direct.proofs.PrintedNames.{boolean-prints, plain-integer-prints, cast-integer-prints, normal-filled, enumerator-prints, not-integer, normal-unmarked}
 use Rattle.cpp_direct.proofs.NamePlaces.{reads-then}
 use Rattle.std.proofs.lemmas.List.{length-drop, drop_more}
+use Rattle.cpp_direct.specs.declared.open.Open.{Open}
 use Rattle.cpp_direct.specs.declared.open.Open.TheVariants as opens
 use Rattle.cpp_direct.specs.declared.open.Step.TheVariants as steps
 
@@ -194,33 +195,42 @@ cast-integer-read s old middle new letter first is cast next begun read =
 
 -- ## Elements
 
--- an element was read and written that is no type
+-- one more was read and written
+pub element-added : (s : Symbol) {scope : Scope} (w : Direct) (st : State) {opened : List Open} {text : List ℕ} (p : IsListing (detail_of s) scope.names opened text)
+    (more : List ℕ) (ts : List Term) (texts : List ℕ) (t : Term) (bytes : List ℕ) → Keeps s scope w st.candidates
+    → PrintAllAs (detail_of s) scope.names (may_name p.listing p.owner) (extra_of p.listing) ts texts → IsElement (detail_of s) (extra_of p.listing) t bytes
+    → reverse w.waiting.list.items ≡ opened → w.text.list.items ≡ text ++ more
+    → text ++ more ≡ led_by (detail_of s) p.listing p.front p.name ++ (in_front_of_next ts texts ++ bytes)
+    → GoesOn s p.listing p.owner (below s scope p.rest) p.front p.template (ts ++ t ∷ []) w.at st → IsWriting s w (steps.List false)
+element-added s {scope = scope} w st p more ts texts t bytes keeps elements element open_is is written goes =
+    let extra = extra_of p.listing in
+    let noted = may_name p.listing p.owner in
+    record {
+      state = st;
+      scope = scope;
+      keeps = keeps;
+      is_before = (
+        listing-stays (reverse w.waiting.list.items) more w.text.list.items p open_is is,
+        ts ++ t ∷ [],
+        in_front_of_next ts texts ++ bytes,
+        next-prints-as (detail_of s) scope.names noted extra ts texts t bytes elements (element-as (detail_of s) scope.names noted extra t bytes element),
+        is ∙ written,
+        λ first. absurd (false≢true first),
+        λ further. some-elements ts t,
+        goes,
+      );
+    }
+
+-- one that is no type
 pub element-read : (s : Symbol) (old new : Direct) (t : Term) (bytes : List ℕ) (a : AwaitsNextArgument s old) → Prints (detail_of s) t bytes false
     → Reads old new bytes → ListGoesOn s (element_kind a.place.listing) a.goes.1 a.goes.0 t new.at a.state → IsWriting s new (steps.List false)
 element-read s old new t bytes a prints reads g =
     let p = a.place in
-    let extra = extra_of p.listing in
-    let noted = may_name p.listing p.owner in
-    record {
-      state = a.state;
-      scope = a.scope;
-      keeps = keeps-read s old new bytes a.state.candidates reads a.keeps;
-      is_before = (
-        listing-at (reverse old.waiting.list.items) old.text.list.items (reverse new.waiting.list.items) new.text.list.items p
-            (subst (λ v. Belongs (detail_of s) a.scope.names p.listing (reverse v.list.items) p.owner p.rest) (sym reads.waiting) p.belongs)
-            (subst (λ l. IsTemplate (detail_of s) a.scope.names p.owner p.front p.template p.name l) (sym reads.text)
-            (template-stays (detail_of s) a.scope.names p.owner p.front p.template p.name old.text.list.items bytes p.is_template)),
-        a.ts ++ t ∷ [],
-        in_front_of_next a.ts a.texts ++ bytes,
-        next-prints-as (detail_of s) a.scope.names noted extra a.ts a.texts t bytes a.elements
-            (element-as (detail_of s) a.scope.names noted extra t bytes (type-element extra t bytes false prints)),
-        reads.text ∙ ap (λ l. l ++ bytes) a.written ∙ append_assoc (led_by (detail_of s) p.listing p.front p.name) (in_front_of_next a.ts a.texts) bytes,
-        λ first. absurd (false≢true first),
-        λ further. some-elements a.ts t,
-        element-goes-on s (element_kind p.listing) (scoped_in p.owner (below s a.scope p.rest))
-            (λ l now then. Closes s p.listing p.owner (below s a.scope p.rest) p.front p.template l now then) a.ts t old.at new.at a.state a.state a.goes g,
-      );
-    }
+    element-added s new a.state p bytes a.ts a.texts t bytes (keeps-read s old new bytes a.state.candidates reads a.keeps) a.elements
+    (type-element (extra_of p.listing) t bytes false prints) (ap (λ v. reverse v.list.items) reads.waiting) reads.text
+    (ap (λ l. l ++ bytes) a.written ∙ append_assoc (led_by (detail_of s) p.listing p.front p.name) (in_front_of_next a.ts a.texts) bytes)
+    (element-goes-on s (element_kind p.listing) (scoped_in p.owner (below s a.scope p.rest))
+    (λ l now then. Closes s p.listing p.owner (below s a.scope p.rest) p.front p.template l now then) a.ts t old.at new.at a.state a.state a.goes g)
 
 -- ## Literals
 
@@ -318,9 +328,7 @@ enumerator-expected s old begun pushed new a stands next nothing writes text can
       stands = subst (λ ws. Stands s a.scope ws e.inner new.text.list.items)
           (sym (ap reverse waiting ∙ reverse-last old.waiting.list.items opens.Enumerator))
           (enumerator-stands s a.scope (reverse old.waiting.list.items) new.text.list.items e.inner
-          (listing-at (reverse old.waiting.list.items) old.text.list.items (reverse old.waiting.list.items) new.text.list.items p p.belongs
-          (subst (λ l. IsTemplate (detail_of s) a.scope.names p.owner p.front p.template p.name l) (sym written)
-          (template-stays (detail_of s) a.scope.names p.owner p.front p.template p.name old.text.list.items (codes "(") p.is_template)))
+          (listing-stays (reverse old.waiting.list.items) (codes "(") new.text.list.items p refl written)
           a.ts a.texts a.elements (written ∙ ap (λ l. l ++ codes "(") a.written)
           (λ t here now comes negative digits end minus digits_there ended.
           element-goes-on s (element_kind p.listing) (scoped_in p.owner (below s a.scope p.rest))
@@ -375,8 +383,6 @@ enumerator-read s old begun pushed middle new a other text candidates scope_same
     let t = integer a.type n in
     let here : pushed.at ≡ old.at = writes.at ∙ at in
     let p = a.place in
-    let extra = extra_of p.listing in
-    let noted = may_name p.listing p.owner in
     let front = led_by (detail_of s) p.listing p.front p.name in
     let before = in_front_of_next a.ts a.texts in
     let more = codes ")" ++ number_text n in
@@ -387,29 +393,14 @@ enumerator-read s old begun pushed middle new a other text candidates scope_same
     let filled : ds ≢ [] = λ none. absurd (omega (arith, read.3.is_number.digits.1, ap length read.3.own, ap (λ (l : List ℕ). length l) none)) in
     let prints = enumerator-prints a.type a.bytes a.is_reference a.prints (not-integer a.type a.bytes a.is_reference a.prints
     (no-integer-type old.text.list.items (front ++ before) a.bytes a.written other)) n (normal-filled ds filled) (normal-unmarked ds (number-unmarked s.bytes _ ds _ read.3)) in
-    record {
-      state = a.state;
-      scope = a.scope;
-      keeps = keeps-grown s old new more a.state.candidates wrote (ended.2.candidates ∙ read.4.candidates ∙ writes.candidates ∙ candidates)
-          (ended.2.scope ∙ read.4.scope ∙ writes.scope ∙ scope_same) a.keeps;
-      is_before = (
-        listing-at a.opened old.text.list.items (reverse new.waiting.list.items) new.text.list.items p
-            (subst (λ ws. Belongs (detail_of s) a.scope.names p.listing ws p.owner p.rest)
-            (sym (ap (λ v. reverse v.list.items) (ended.2.waiting ∙ read.4.waiting ∙ writes.waiting) ∙ waits)) p.belongs)
-            (subst (λ l. IsTemplate (detail_of s) a.scope.names p.owner p.front p.template p.name l) (sym wrote)
-            (template-stays (detail_of s) a.scope.names p.owner p.front p.template p.name old.text.list.items more p.is_template)),
-        a.ts ++ t ∷ [],
-        before ++ own,
-        next-prints-as (detail_of s) a.scope.names noted extra a.ts a.texts t own a.elements
-            (element-as (detail_of s) a.scope.names noted extra t own (type-element extra t own false prints)),
-        wrote ∙ ap (λ l. l ++ more) a.written ∙ rejoined front before a.bytes (sign_text n) n.digits,
-        λ first. absurd (false≢true first),
-        λ further. some-elements a.ts t,
-        subst (λ k. GoesOn s p.listing p.owner (below s a.scope p.rest) p.front p.template (a.ts ++ t ∷ []) k a.state) (sym ended.1)
-            (a.goes negative ds middle.at (subst (λ k. StandsAt s.bytes k (minus_sign negative)) here read.2)
-            (subst (λ k. IsDigitsAt s.bytes (k + length (minus_sign negative)) ds middle.at) here read.3) ended.0),
-      );
-    }
+    element-added s new a.state p more a.ts a.texts t own
+    (keeps-grown s old new more a.state.candidates wrote (ended.2.candidates ∙ read.4.candidates ∙ writes.candidates ∙ candidates)
+    (ended.2.scope ∙ read.4.scope ∙ writes.scope ∙ scope_same) a.keeps) a.elements (type-element (extra_of p.listing) t own false prints)
+    (ap (λ v. reverse v.list.items) (ended.2.waiting ∙ read.4.waiting ∙ writes.waiting) ∙ waits) wrote
+    (ap (λ l. l ++ more) a.written ∙ rejoined front before a.bytes (sign_text n) n.digits)
+    (subst (λ k. GoesOn s p.listing p.owner (below s a.scope p.rest) p.front p.template (a.ts ++ t ∷ []) k a.state) (sym ended.1)
+    (a.goes negative ds middle.at (subst (λ k. StandsAt s.bytes k (minus_sign negative)) here read.2)
+    (subst (λ k. IsDigitsAt s.bytes (k + length (minus_sign negative)) ds middle.at) here read.3) ended.0))
   where
     rejoined : (f b t s d : List ℕ)
         → (f ++ b ++ codes "(" ++ t) ++ (codes ")" ++ (s ++ d)) ≡ f ++ (b ++ (codes "(" ++ t ++ codes ")" ++ s ++ d))

@@ -5,7 +5,7 @@ use Rattle.std.proofs.lemmas.Bool.{false≢true}
 use Rattle.std.proofs.lemmas.List.{reverse-append, reverse-reverse}
 use Rattle.std.proofs.Math.Seq.{drop-append_seam, take-append_seam}
 use Rattle.cpp_grammar.specs.Term.{Term}
-use Rattle.cpp_grammar.specs.Values.{State, Around}
+use Rattle.cpp_grammar.specs.Values.{State, Around, tree, outermost}
 use Rattle.cpp_direct.specs.Bytes.{is_local}
 use Rattle.cpp_direct.specs.WrittenParts.{opening_bracket}
 use Rattle.cpp_direct.specs.Symbol.{detail_of, Symbol}
@@ -14,9 +14,9 @@ use Rattle.cpp_direct.specs.declared.open.Argument.{Argument}
 use Rattle.cpp_direct.specs.declared.open.Nest.{Nest}
 use Rattle.cpp_direct.specs.declared.open.Open.{Open}
 use Rattle.cpp_direct.specs.declared.direct.Direct.{Direct}
-use Rattle.cpp_direct.specs.Holes.{Opened, candidate, with_candidate, unless_listed}
+use Rattle.cpp_direct.specs.Holes.{Comes, Opened, candidate, with_candidate, unless_listed}
 use Rattle.cpp_direct.specs.Prints.{Names, PrintsAs}
-use Rattle.cpp_direct.specs.WriterInvariant.{AreCandidates, AreNamed, ArgumentsGoOn, HasScope, IsBefore, IsCandidate, IsNaming, IsNest, IsPlaced, IsScopeOf, IsScoped, IsTemplate, Keeps, Scope, Stands, argument_of, arguments_in, below, encoding_place, is_within_type, no_scope, of_template, place_of}
+use Rattle.cpp_direct.specs.WriterInvariant.{AreCandidates, AreNamed, ArgumentsGoOn, ExpectsType, HasScope, IsBefore, IsCandidate, IsNaming, IsNest, IsPlaced, IsScopeOf, IsScoped, IsTemplate, IsWriting, Keeps, Scope, Stands, argument_of, arguments_in, below, encoding_place, is_within_type, no_scope, of_template, place_of}
 use Rattle.cpp_direct.specs.Written.{Writes, Reads, added, added_unless, IsKeptTo, AreKeptTo}
 use Rattle.std.specs.Prelude.{slice_set}
 use Rattle.cpp_grammar.specs.Values as values
@@ -197,6 +197,57 @@ pub stands-same : (s : Symbol) (scope : Scope) (old new : Direct) (os : List Ope
     → Stands s scope ws os old.text.list.items → Stands s scope (reverse new.waiting.list.items) os new.text.list.items
 stands-same s scope old new os {ws = ws} text waits stands =
     subst (λ v. Stands s scope (reverse new.waiting.list.items) os v.list.items) (sym text) (subst (λ ws. Stands s scope ws os old.text.list.items) (sym waits) stands)
+
+-- a type comes next, for what was opened last
+pub type-comes : (s : Symbol) {scope : Scope} (old new : Direct) (st : State) (around : Around) (os : List Opened) {ws : List Open} → Keeps s scope old st.candidates
+    → new.text ≡ old.text → new.candidates ≡ old.candidates → new.has_scope ≡ old.has_scope → reverse new.waiting.list.items ≡ ws
+    → around.prefix ≡ outermost → ExpectsType s around os new.at st → Stands s scope ws os old.text.list.items → IsScoped scope around ws
+    → IsWriting s new steps.Type
+type-comes s {scope = scope} old new st around os keeps text candidates scope_same waits outside expects stands scoped = record {
+  state = st;
+  scope = scope;
+  keeps = keeps-same s old new st.candidates text candidates scope_same keeps;
+  is_before = (
+    os,
+    around,
+    outside,
+    expects,
+    stands-same s scope old new os text waits stands,
+    subst (λ ws. IsScoped scope around ws) (sym waits) scoped,
+  );
+}
+
+-- a type was read
+pub value-comes : (s : Symbol) {scope : Scope} (w : Direct) (st : State) (os : List Opened) (t : Term) (front bytes : List ℕ) (r d : Bool) {ws : List Open}
+    → Keeps s scope w st.candidates → w.text.list.items ≡ front ++ bytes → PrintsAs (detail_of s) scope.names d t bytes r → reverse w.waiting.list.items ≡ ws
+    → (d ≡ true → IsNaming s scope ws) → Comes s os (tree t true) w.at st → Stands s scope ws os front → IsWriting s w (steps.Value r d)
+value-comes s {scope = scope} w st os t front bytes r d keeps written prints waits naming comes stands = record {
+  state = st;
+  scope = scope;
+  keeps = keeps;
+  is_before = (
+    os,
+    t,
+    front,
+    bytes,
+    written,
+    prints,
+    λ e. subst (λ ws. IsNaming s scope ws) (sym waits) (naming e),
+    comes,
+    subst (λ ws. Stands s scope ws os front) (sym waits) stands,
+  );
+}
+
+-- it became a candidate
+pub value-added : (s : Symbol) {scope : Scope} (old new : Direct) (st : State) (os : List Opened) (around : Around) (t : Term) (front bytes : List ℕ) (from : ℕ) (r d : Bool)
+    {ws : List Open} → Keeps s scope old st.candidates → old.text.list.items ≡ front ++ bytes → from ≡ length front → PrintsAs (detail_of s) scope.names d t bytes r
+    → (d ≡ true → around.encoding ≡ encoding_place s.bytes) → new.text ≡ old.text → new.candidates.list.items ≡ added old from r d → new.has_scope ≡ old.has_scope
+    → reverse new.waiting.list.items ≡ ws → (d ≡ true → IsNaming s scope ws) → Comes s os (tree t true) new.at (with_candidate around t st)
+    → Stands s scope ws os front → IsWriting s new (steps.Value r d)
+value-added s old new st os around t front bytes from r d keeps written from_is prints made_in text_same added_is scope_same waits naming comes stands =
+    value-comes s new (with_candidate around t st) os t front bytes r d
+    (keeps-with s old new st front bytes from t around r d keeps written from_is prints made_in text_same added_is scope_same)
+    (ap (λ v. v.list.items) text_same ∙ written) prints waits naming comes stands
 
 -- what may be named within a type may be named in what is open in it
 pub scoped-within : (scope : Scope) (around : Around) (o : Open) (rest : List Open) → arguments_in o ≡ None

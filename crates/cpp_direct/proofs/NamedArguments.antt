@@ -1,6 +1,6 @@
 -- The arguments of the symbol's own name, which its types may name from there on, and their texts.
 use Rattle.sym_print.specs.declared.detail.Detail.{Detail}
-use Rattle.std.proofs.Common.{◌≡◌, ◌≢◌, ℕ, ◌-◌, ◌≤◌, List, [], ◌∷◌, take, drop, reverse, Bool, Ok, true, false, Option, Some, None, is_some, nat_le, refl, ap, sym, ◌∙◌, subst}
+use Rattle.std.proofs.Common.{◌≡◌, ◌≢◌, ℕ, ◌-◌, List, [], ◌∷◌, take, drop, reverse, Bool, Ok, true, false, Option, Some, None, is_some, nat_le, refl, ap, sym, ◌∙◌, subst}
 use Rattle.std.proofs.lemmas.Bool.{false≢true, le-leb, leb-true}
 use Rattle.cpp_grammar.specs.Parts.{types_of}
 use Rattle.sym_link.specs.Unfold.{found}
@@ -17,7 +17,7 @@ use Rattle.cpp_direct.specs.declared.open.Candidate.{Candidate}
 use Rattle.cpp_direct.specs.declared.open.Mark.{Mark}
 use Rattle.cpp_direct.specs.declared.open.Open.{Open}
 use Rattle.cpp_direct.specs.Prints.{AreSingle, IsGiven, Named, Names, Prints, PrintsAs, PrintsGiven}
-use Rattle.cpp_direct.specs.WriterInvariant.{AreCandidates, HasArguments, IsCandidate, IsKnown, IsNaming, IsPlaced, IsScopeOf, IsScoped, IsSingle, Keeps, Scope, argument_of, encoding_place, place_of}
+use Rattle.cpp_direct.specs.WriterInvariant.{AreCandidates, HasArguments, IsCandidate, IsNaming, IsPlaced, IsScopeOf, IsScoped, IsSingle, Keeps, Scope, argument_of, encoding_place, place_of}
 use Rattle.cpp_direct.specs.MidStep.{IsNameEnded, IsNameScoped}
 use Rattle.cpp_direct.proofs.Kept.{encoded-here, piece-found}
 use Rattle.cpp_direct.proofs.MovesOfTypes.{substituted-open}
@@ -134,9 +134,7 @@ scope-begins s old new mark is_instance argument a from p same encoded first new
         };
         own = p.own;
         v = p.v;
-        tree_is = p.tree_is;
-        qualifiers_are = p.qualifiers_are;
-        mark_is = p.mark_is;
+        named_so = p.named_so;
         lead = p.lead;
         name = p.name;
         written = p.written;

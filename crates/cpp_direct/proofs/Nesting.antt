@@ -3,7 +3,7 @@ use Rattle.sym_print.specs.declared.detail.Detail.{Detail}
 use Rattle.cpp_direct.specs.WrittenParts.{opening_bracket}
 use Rattle.cpp_direct.specs.declared.open.Arguments.{Arguments}
 use Rattle.cpp_direct.proofs.Unmarked.{name-unmarked}
-use Rattle.cpp_direct.proofs.Scopes.{none-known, scoped-inside}
+use Rattle.cpp_direct.proofs.Scopes.{none-known, scoped-inside, member-named}
 use Rattle.std.proofs.Common.{◌≡◌, ◌≢◌, ℕ, ◌+◌, ◌-◌, ◌≤◌, List, [], ◌∷◌, ◌++◌, length, take, drop, reverse, slice_get, Bool, true, false, Option, Ok, Some, None, refl, ap, sym, ◌∙◌, subst, arith, codes, append-nil, append_assoc, ◌&&◌, length-append}
 use Rattle.std.specs.Option.{IfSome, OnSome}
 use Rattle.std.proofs.lemmas.Bool.{false≢true}
@@ -18,7 +18,7 @@ use Rattle.sym_link.specs.Unfold.{found}
 use Rattle.cpp_grammar.specs.Values as values
 use Rattle.cpp_grammar.specs.References.{is_function_type, substituted}
 use Rattle.cpp_grammar.specs.Scope.{has_return_type, arguments_of, is_structor}
-use Rattle.cpp_grammar.specs.Values.{State, Around, tree, named, tree_of, qualifiers_of, ref_of}
+use Rattle.cpp_grammar.specs.Values.{State, Around, tree, named}
 use Rattle.cpp_grammar.specs.Between.{with_tag, after, inside, no_items}
 use Rattle.cpp_direct.specs.Symbol.{detail_of, Symbol}
 use Rattle.cpp_direct.specs.declared.open.Mark.{Mark}
@@ -36,11 +36,11 @@ use Rattle.cpp_direct.specs.Holes.{Opened, Comes, StandsAt, IsNameAt, IsSeqAt, S
 use Rattle.cpp_direct.specs.HolesOfNests.{IsRest, IsFirstRest}
 use Rattle.cpp_direct.specs.Names.{tag_text}
 use Rattle.cpp_direct.specs.Prints.{Names, Prints, PrintsAs, NamesClass}
-use Rattle.cpp_direct.specs.WriterInvariant.{HasArguments, IsNaming, IsNest, IsNestScoped, IsNesting, IsOwn, IsScopeOf, IsScoped, IsTemplate, ArgumentsGoOn, Keeps, Scope, Serves, Stands, IsWriting, argument_of, below, encoding_place, is_type, qualifiers, IsKnown, nowhere, place_of}
+use Rattle.cpp_direct.specs.WriterInvariant.{HasArguments, IsNaming, IsNest, IsNestScoped, IsNesting, IsOwn, IsScopeOf, IsScoped, IsTemplate, ArgumentsGoOn, Keeps, Scope, Serves, IsWriting, argument_of, below, encoding_place, is_type, qualifiers, IsKnown, nowhere, place_of}
 use Rattle.cpp_direct.specs.MidStep.{AwaitsNest, IsNestKnown, IsNestNamed, IsNameEnded, IsOperatorRead}
 use Rattle.cpp_direct.specs.Written.{Reads, added, added_unless}
 use Rattle.cpp_direct.proofs.Moves.{alone-arguments, any-tail, expects-empty, stands-join, comes-moved}
-use Rattle.cpp_direct.proofs.Kept.{arguments-begun, keeps-grown, keeps-read, keeps-same, keeps-with, keeps-unless, made-here, candidate-found, piece-found, nest-stays, reverse-last}
+use Rattle.cpp_direct.proofs.Kept.{arguments-begun, keeps-grown, keeps-read, keeps-same, keeps-with, keeps-unless, made-here, candidate-found, piece-found, nest-stays, reverse-last, value-comes}
 use Rattle.cpp_direct.proofs.MovesOfComponents.{component-awaits, component-outside, any-arguments, instance-arguments, nest-end, tag-follows}
 use Rattle.cpp_direct.proofs.MovesOfLists.{arguments-open}
 use Rattle.cpp_direct.proofs.MovesOfTypes.{substituted-so}
@@ -88,13 +88,6 @@ nest-placed s {scope} old new around purpose scoped waiting_is purpose_is naming
   scoped = λ e. subst (λ o. IsScoped scope around (reverse o.list.items)) (sym waiting_is) (scoped (ap is_type (sym purpose_is) ∙ e));
   naming = λ e. subst (λ o. IsNaming s scope (reverse o.list.items)) (sym waiting_is) (naming e);
 }
-
--- a name names none
-nest-closed : (s : Symbol) {scope : Scope} (old new : Direct) (around : Around) (purpose : Purpose)
-    → (is_type purpose ≡ true → IsScoped scope around (reverse old.waiting.list.items)) → new.waiting ≡ old.waiting → new.nest.purpose ≡ purpose
-    → new.nest.is_dependent ≡ false → IsNestScoped s scope new around
-nest-closed s old new around purpose scoped waiting_is purpose_is closed =
-    nest-placed s old new around purpose scoped waiting_is purpose_is (λ e. absurd (false≢true (sym closed ∙ e)))
 
 -- the name of a function or of data names none
 type-named : (purpose : Purpose) (d : Bool) → (IsOwn purpose → d ≡ false) → d ≡ true → is_type purpose ≡ true
@@ -265,27 +258,7 @@ named-opens s old mid new n here lists opening_ =
 
 -- what follows it is read
 pub known-goes-on : (s : Symbol) (w : Direct) → IsNestKnown s w → IsWriting s w steps.Rest
-known-goes-on s w n = record {
-  state = n.state;
-  scope = n.scope;
-  keeps = n.keeps;
-  is_before = (
-    n.own,
-    Kind.NestRestOrEnd,
-    tt,
-    record {
-      front = n.front;
-      around = n.around;
-      outer = n.outer;
-      bytes = n.bytes;
-      written = n.written;
-      is_nest = n.is_nest;
-      goes = subst (λ b. NestGoesOn s Kind.NestRestOrEnd n.outer n.around n.own b w.at n.state) (sym n.listed) n.known;
-      scoped = n.scoped;
-      serves = n.serves;
-    },
-  );
-}
+known-goes-on s w n = record { state = n.state; scope = n.scope; keeps = n.keeps; is_before = (n.own, Kind.NestRestOrEnd, tt, n.nesting) }
 
 -- what comes inside comes outside
 nest-outside : (s : Symbol) (kind : Kind) (inner outer : List Opened) (around : Around) (t : Term) (listed : Bool) (at : ℕ) (st : State)
@@ -304,28 +277,29 @@ pub known-opens : (s : Symbol) (old new : Direct) → IsNestKnown s old → s.is
     → OpensArguments (detail_of s) old new (opens.NestArguments old.nest) → IsWriting s new (steps.List true)
 unfolding inside
 known-opens s old new n wide is_type here opening_ =
-    let g = n.known in
-    let begun = instance-arguments s g.inner n.around n.own true old.at n.state g.awaits here in
+    let m = n.nesting in
+    let g = subst (λ b. NestGoesOn s Kind.NestRestOrEnd m.outer m.around n.own b old.at n.state) n.listed m.goes in
+    let begun = instance-arguments s g.inner m.around n.own true old.at n.state g.awaits here in
     let not_own : IsOwn old.nest.purpose → ⊥ = λ own. subst IsOwn is_type own in
-    list-begins s n.scope old old new old.candidates.list.items n.state (opens.NestArguments old.nest) n.front n.bytes n.own
+    list-begins s n.scope old old new old.candidates.list.items n.state (opens.NestArguments old.nest) m.front m.bytes n.own
     (record { candidates = refl; text = refl; waiting = refl; nest = refl; scope = refl; at = refl }) opening_ n.keeps (
-      nest-stays n.front n.bytes old.text.list.items (opening_bracket (detail_of s)) old.nest n.own n.is_nest,
+      nest-stays m.front m.bytes old.text.list.items (opening_bracket (detail_of s)) old.nest n.own m.is_nest,
       (λ own. absurd (not_own own)),
       (λ e. absurd (false≢true (sym n.classless ∙ e))),
-    ) n.written (
-      inside n.around,
+    ) m.written (
+      inside m.around,
       begun.inner,
       refl,
-      (λ within. scoped-inside n.scope n.around (reverse old.waiting.list.items) (n.scoped.scoped within)),
+      (λ within. scoped-inside n.scope m.around (reverse old.waiting.list.items) (m.scoped.scoped within)),
       begun.awaits,
       (λ l at st comes ended. (
-        n.around,
-        n.outer,
-        nest-outside s Kind.NestTail g.inner n.outer n.around (instance n.own (no_items l)) false (at + 1) st g.passes
-            (may-end s g.inner n.around (instance n.own (no_items l)) false (at + 1) st wide (begun.onward l at st comes ended)),
-        n.scoped.scoped,
-        n.scoped.naming,
-        n.serves,
+        m.around,
+        m.outer,
+        nest-outside s Kind.NestTail g.inner m.outer m.around (instance n.own (no_items l)) false (at + 1) st g.passes
+            (may-end s g.inner m.around (instance n.own (no_items l)) false (at + 1) st wide (begun.onward l at st comes ended)),
+        m.scoped.scoped,
+        m.scoped.naming,
+        m.serves,
       )),
     )
 
@@ -415,24 +389,12 @@ type-ended s scope old new st t keeps n here is_type lists =
     let text_is : new.text.list.items ≡ old.text.list.items = cc (lists.text) in
     let waiting_is : new.waiting.list.items ≡ old.waiting.list.items = cc (lists.waiting) in
     let later = unless_listed listed serves.1 t st in
-    record {
-      state = later;
-      scope = scope;
-      keeps = keeps-unless s old new st listed n.front n.bytes old.nest.from t serves.1 d keeps n.written n.is_nest.from_is n.is_nest.prints
-          (λ e. made-here s scope serves.1 open_ serves.3 (n.scoped.naming e)) lists.text lists.candidates lists.scope;
-      is_before = (
-        serves.0,
-        t,
-        n.front,
-        n.bytes,
-        text_is ∙ n.written,
-        n.is_nest.prints,
-        (λ e. subst (λ l. IsNaming s scope (reverse l)) (sym waiting_is) (n.scoped.naming e)),
-        comes-moved s serves.0 (tree t true) (old.at + 1) new.at later (sym lists.at)
-            (serves.2 t listed (old.at + 1) st (no-function (detail_of s) scope.names d t n.bytes n.is_nest.prints) (nest-comes s old st t n here)),
-        subst (λ l. Stands s scope (reverse l) serves.0 n.front) (sym waiting_is) serves.4,
-      );
-    }
+    value-comes s new later serves.0 t n.front n.bytes false d
+    (keeps-unless s old new st listed n.front n.bytes old.nest.from t serves.1 d keeps n.written n.is_nest.from_is n.is_nest.prints
+    (λ e. made-here s scope serves.1 open_ serves.3 (n.scoped.naming e)) lists.text lists.candidates lists.scope) (text_is ∙ n.written) n.is_nest.prints
+    (ap reverse waiting_is) n.scoped.naming
+    (comes-moved s serves.0 (tree t true) (old.at + 1) new.at later (sym lists.at)
+    (serves.2 t listed (old.at + 1) st (no-function (detail_of s) scope.names d t n.bytes n.is_nest.prints) (nest-comes s old st t n here))) serves.4
 
 -- the arguments that it ends in were noted, or none are known
 pub arguments-noted : {detail : Detail} (b : Bool) (text : List ℕ) (a r : Arguments) (t : Term) → (b ≡ true → r ≡ a) → (b ≡ false → r ≡ nowhere)
@@ -447,7 +409,6 @@ pub name-comes : (s : Symbol) (scope : Scope) (old : Direct) (st : State) (t : T
     → HasArguments (detail_of s) old.text.list.items argument_ t
     → StandsAt s.bytes old.at (69 ∷ [])
     → old.nest.purpose ≡ purposes.Name mark → IsNameEnded s (record old { at = old.at + 1 }) mark is_function argument_ old.nest.from
-unfolding tree_of qualifiers_of ref_of
 name-comes s scope old st t mark is_function argument_ keeps n no_return returns names here is_name =
     let serves = subst (λ p. Serves s p (below s scope (reverse old.waiting.list.items)) n.outer n.front) is_name n.serves in
     record {
@@ -456,9 +417,7 @@ name-comes s scope old st t mark is_function argument_ keeps n no_return returns
       keeps = keeps-same s old (record old { at = old.at + 1 }) st.candidates refl refl refl keeps;
       own = t;
       v = named t (qualifiers (has_const mark)) (called_on mark);
-      tree_is = refl;
-      qualifiers_are = refl;
-      mark_is = refl;
+      named_so = member-named t mark;
       lead = n.front;
       name = n.bytes;
       written = n.written;
@@ -473,7 +432,7 @@ name-comes s scope old st t mark is_function argument_ keeps n no_return returns
 -- the E of one that an operator ends
 pub operator-ends : (s : Symbol) (w : Direct) (mark : Mark) → IsOperatorRead s w → StandsAt s.bytes w.at (69 ∷ [])
     → w.nest.purpose ≡ purposes.Name mark → IsNameEnded s (record w { at = w.at + 1 }) mark false nowhere w.nest.from
-unfolding may_be_empty tree_of qualifiers_of ref_of
+unfolding may_be_empty
 operator-ends s w mark p here is_name =
     let t = p.own in
     let st = p.state in
@@ -485,9 +444,7 @@ operator-ends s w mark p here is_name =
       keeps = keeps-same s w (record w { at = w.at + 1 }) st.candidates refl refl refl p.keeps;
       own = t;
       v = named t (qualifiers (has_const mark)) (called_on mark);
-      tree_is = refl;
-      qualifiers_are = refl;
-      mark_is = refl;
+      named_so = member-named t mark;
       lead = p.front;
       name = p.bytes;
       written = p.written;
@@ -541,7 +498,26 @@ classless-nest {detail} names front bytes nest t from_is class_from class_to non
   names_class = λ e closed. absurd (false≢true (sym none ∙ e));
 }
 
--- the rest is expected after a first piece
+-- a first piece was read
+first-nesting : (s : Symbol) (old new : Direct) (purpose : Purpose) (a : AwaitsNest s old purpose) (kind : Kind) (t : Term) (bytes : List ℕ)
+    → new.text.list.items ≡ old.text.list.items ++ bytes → new.waiting ≡ old.waiting → new.nest.purpose ≡ purpose
+    → (new.nest.is_dependent ≡ true → IsNaming s a.scope (reverse old.waiting.list.items))
+    → IsNest (detail_of s) a.scope.names old.text.list.items bytes (old.text.list.items ++ bytes) new.nest t
+    → NestGoesOn s kind a.outer a.around t new.nest.is_listed new.at a.state → IsNesting s a.scope kind new t a.state
+first-nesting s old new purpose a kind t bytes text_is waiting_is purpose_is naming is_nest goes = record {
+  front = old.text.list.items;
+  around = a.around;
+  outer = a.outer;
+  bytes = bytes;
+  written = text_is;
+  is_nest = subst (λ l. IsNest (detail_of s) a.scope.names old.text.list.items bytes l new.nest t) (sym text_is) is_nest;
+  goes = goes;
+  scoped = nest-placed s old new a.around purpose a.scoped waiting_is purpose_is naming;
+  serves = subst (λ p. Serves s p (below s a.scope (reverse new.waiting.list.items)) a.outer old.text.list.items) (sym purpose_is)
+      (subst (λ o. Serves s purpose (below s a.scope (reverse o.list.items)) a.outer old.text.list.items) (sym waiting_is) a.serves);
+}
+
+-- the rest is expected after it
 nest-begins : (s : Symbol) (old new : Direct) (purpose : Purpose) (a : AwaitsNest s old purpose) (t : Term) (bytes : List ℕ)
     → new.text.list.items ≡ old.text.list.items ++ bytes → new.candidates ≡ old.candidates → new.waiting ≡ old.waiting → new.has_scope ≡ old.has_scope
     → new.nest.purpose ≡ purpose → new.nest.is_dependent ≡ false
@@ -556,18 +532,7 @@ nest-begins s old new purpose a t bytes text_is candidates_are waiting_is scope_
     t,
     Kind.NestRestAlone,
     tt,
-    record {
-      front = old.text.list.items;
-      around = a.around;
-      outer = a.outer;
-      bytes = bytes;
-      written = text_is;
-      is_nest = subst (λ l. IsNest (detail_of s) a.scope.names old.text.list.items bytes l new.nest t) (sym text_is) is_nest;
-      goes = goes;
-      scoped = nest-closed s old new a.around purpose a.scoped waiting_is purpose_is closed;
-      serves = subst (λ p. Serves s p (below s a.scope (reverse new.waiting.list.items)) a.outer old.text.list.items) (sym purpose_is)
-          (subst (λ o. Serves s purpose (below s a.scope (reverse o.list.items)) a.outer old.text.list.items) (sym waiting_is) a.serves);
-    },
+    first-nesting s old new purpose a Kind.NestRestAlone t bytes text_is waiting_is purpose_is (λ e. absurd (false≢true (sym closed ∙ e))) is_nest goes,
   );
 }
 
@@ -577,24 +542,15 @@ known-begins : (s : Symbol) (old new : Direct) (purpose : Purpose) (a : AwaitsNe
     → new.nest.purpose ≡ purpose → (new.nest.is_dependent ≡ true → IsNaming s a.scope (reverse old.waiting.list.items))
     → IsNest (detail_of s) a.scope.names old.text.list.items bytes (old.text.list.items ++ bytes) new.nest t → new.nest.is_listed ≡ true
     → new.nest.has_class ≡ false
-    → NestGoesOn s Kind.NestRestOrEnd a.outer a.around t true new.at a.state → IsNestKnown s new
-known-begins s old new purpose a t bytes text_is candidates_are waiting_is scope_same purpose_is naming is_nest listed classless known = record {
+    → NestGoesOn s Kind.NestRestOrEnd a.outer a.around t new.nest.is_listed new.at a.state → IsNestKnown s new
+known-begins s old new purpose a t bytes text_is candidates_are waiting_is scope_same purpose_is naming is_nest listed classless goes = record {
   state = a.state;
   scope = a.scope;
   keeps = keeps-grown s old new bytes a.state.candidates text_is candidates_are scope_same a.keeps;
-  around = a.around;
-  outer = a.outer;
   own = t;
-  known = known;
-  front = old.text.list.items;
-  bytes = bytes;
-  written = text_is;
-  is_nest = subst (λ l. IsNest (detail_of s) a.scope.names old.text.list.items bytes l new.nest t) (sym text_is) is_nest;
-  scoped = nest-placed s old new a.around purpose a.scoped waiting_is purpose_is naming;
+  nesting = first-nesting s old new purpose a Kind.NestRestOrEnd t bytes text_is waiting_is purpose_is naming is_nest goes;
   listed = listed;
   classless = classless;
-  serves = subst (λ p. Serves s p (below s a.scope (reverse new.waiting.list.items)) a.outer old.text.list.items) (sym purpose_is)
-      (subst (λ o. Serves s purpose (below s a.scope (reverse o.list.items)) a.outer old.text.list.items) (sym waiting_is) a.serves);
 }
 
 -- a nest whose class is written at these places
@@ -729,7 +685,7 @@ std-begins s old mid purpose before name a here is filled text_is candidates_are
         class_to = omega (arith, to_is, ap length text_is, length-append (old.text.list.items ++ codes "std::") (source_text name));
         names_class = λ e none. std-class false name filled (name-unmarked s.bytes (before + 2) name mid.at is);
       };
-      scoped = nest-closed s old (record mid { nest = nest }) a.around purpose a.scoped waiting_is refl refl;
+      scoped = nest-placed s old (record mid { nest = nest }) a.around purpose a.scoped waiting_is refl (λ e. absurd (false≢true e));
       names_tagged = λ e none tag plain. std-tagged false name filled (name-unmarked s.bytes (before + 2) name mid.at is) tag plain;
       unlisted = refl;
       no_instance = refl;

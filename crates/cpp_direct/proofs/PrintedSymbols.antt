@@ -15,7 +15,7 @@ use Rattle.cpp_grammar.specs.Answer.{shown, root_item}
 use Rattle.cpp_direct.specs.declared.open.Mark.{Mark}
 use Rattle.cpp_direct.specs.Marks.{has_const, called_on}
 use Rattle.cpp_direct.specs.Prints.{written_of, PrintsName, PrintsIn, IsElement, Shows, list_of, joined, PrintEachIn, PrintAllIn}
-use Rattle.cpp_direct.specs.WriterInvariant.{qualifiers, plain_encoding}
+use Rattle.cpp_direct.specs.WriterInvariant.{qualifiers, plain_encoding, IsNamedSo}
 use Rattle.cpp_direct.specs.WrittenParts.{IsUnmarked, written}
 use Rattle.cpp_direct.proofs.Unmarked.{length-unmarked, qualifiers-unmarked, special-unmarked, thunk-unmarked, unmarked-same}
 use Rattle.cpp_direct.proofs.PrintedParts.{shown_by, text_shown, cost_shown, first_shown, first_cost_shown, text_append, cost_append, part-text, part-cost, length-filled}
@@ -216,14 +216,14 @@ unfolding encoding_of
 returned-items v e r items = rw (e, encoding_of) refl
 
 -- A name that has no return type makes a function without one of its items.
-pub encoding-plain : (v : Value) (mark : Mark) (own : Term) → tree_of v ≡ own → qualifiers_of v ≡ qualifiers (has_const mark) → ref_of v ≡ called_on mark
-    → has_return_type own ≡ false → (t rest : Term) → encoding_of v (list t rest) ≡ plain_encoding mark own (list t rest)
-encoding-plain v mark own e f g none t rest = plain-items v (ap has_return_type e ∙ none) t rest ∙ rw (e, f, g) refl
+pub encoding-plain : (v : Value) (mark : Mark) (own : Term) → IsNamedSo v own mark → has_return_type own ≡ false → (t rest : Term) → encoding_of v (list t rest) ≡ plain_encoding mark own (list t rest)
+encoding-plain v mark own is none t rest = plain-items v (ap has_return_type is.tree_is ∙ none) t rest ∙ rw (is.tree_is, is.qualifiers_are, is.mark_is) refl
 
 -- Of a name that has one the first item is the return type.
-pub encoding-returned : (v : Value) (mark : Mark) (own : Term) → tree_of v ≡ own → qualifiers_of v ≡ qualifiers (has_const mark) → ref_of v ≡ called_on mark
-    → has_return_type own ≡ true → (r items : Term) → encoding_of v (list r items) ≡ function own (qualifiers (has_const mark)) (called_on mark) r (parameters items)
-encoding-returned v mark own e f g returns r items = returned-items v (ap has_return_type e ∙ returns) r items ∙ rw (e, f, g) refl
+pub encoding-returned : (v : Value) (mark : Mark) (own : Term) → IsNamedSo v own mark → has_return_type own ≡ true → (r items : Term)
+    → encoding_of v (list r items) ≡ function own (qualifiers (has_const mark)) (called_on mark) r (parameters items)
+encoding-returned v mark own is returns r items =
+    returned-items v (ap has_return_type is.tree_is ∙ returns) r items ∙ rw (is.tree_is, is.qualifiers_are, is.mark_is) refl
 
 -- Parameters that aren't a lone void are those of the function that they make.
 pub made-with : (mark : Mark) (own : Term) (make : Term → Term) → ((t rest : Term) → make (list t rest) ≡ plain_encoding mark own (list t rest))

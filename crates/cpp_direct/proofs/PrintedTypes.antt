@@ -155,60 +155,52 @@ marked-in {detail} c extra t made mark b r q p m reference_is no_function_head f
   some = omega (arith, m.some, length-append b mark);
 }
 
+-- and, so, wherever the type does
+marked-as : (detail : Detail) (names : Names) (is_dependent : Bool) (t made : Term) (mark b : List ℕ) (r q : Bool)
+    → ((c : Context) (extra : ℕ) → PrintsIn detail c extra t b r → IsMarked detail c t made mark)
+    → ((c : Context) (extra : ℕ) → PrintsIn detail c extra t b r → (is_reference (head c made) ≡ q) × (is_funarr (head c made) ≡ false))
+    → ((c : Context) → is_empty c made ≡ false) → is_function_type made ≡ false → is_void made ≡ false → is_open made ≡ is_open t
+    → ((arguments : Term) → pack_length arguments made ≡ pack_length arguments t) → length_if_pack made ≡ None
+    → ((c : Context) → prefix_item c made ≡ as_item left c made) → opening_text (last_piece made) ≡ codes "<" → is_plain_integer made ≡ false
+    → PrintsAs detail names is_dependent t b r → PrintsAs detail names is_dependent made (b ++ mark) q
+marked-as detail names is_dependent t made mark b r q marks heads filled no_function no_void open_is packs_are no_pack as_prefix opening no_integer p = go is_dependent p
+  where
+    marked_in : (c : Context) (extra : ℕ) → PrintsIn detail c extra t b r → PrintsIn detail c extra made (b ++ mark) q
+    marked_in c extra h =
+        marked-in c extra t made mark b r q h (marks c extra h) (heads c extra h).0 (heads c extra h).1 (filled c) no_function no_void
+
+    go : (d : Bool) → PrintsAs detail names d t b r → PrintsAs detail names d made (b ++ mark) q
+    go false p =
+        made-prints made (b ++ mark) q (λ c. marked_in c 0 (prints-in c 0 t b r p)) (open_is ∙ p.is_closed) (λ arguments. packs_are arguments ∙ p.packless arguments)
+        no_pack as_prefix opening (λ e. absurd (false≢true (sym no_integer ∙ e)))
+        (λ e c. let m = marks c 0 (prints-in c 0 t b r p) in omega (arith, p.cost c, m.some, length-append b mark, marked-cost c t made mark m))
+    go true p =
+        made-given names made (b ++ mark) q (λ c given. marked_in c 3 (p.prints c given)) (λ arguments single. packs_are arguments ∙ p.packless arguments single)
+        no_function no_pack as_prefix opening
+
 -- A pointer prints its type and a star.
 pointer-marks : (detail : Detail) (c : Context) (t : Term) → is_funarr (head c t) ≡ false → IsMarked detail c t (pointer t) (codes "*")
 unfolding parts_in left_parts right_parts
 pointer-marks detail c t e = record { left_is = marked c t "*" e; right_is = closing c t e; written = refl; plain = refl; some = omega arith }
 
-pub pointer-in : {detail : Detail} (c : Context) (extra : ℕ) (t : Term) (b : List ℕ) (r : Bool) → PrintsIn detail c extra t b r
-    → PrintsIn detail c extra (pointer t) (b ++ codes "*") false
-unfolding head head_with is_reference is_funarr is_empty is_function_type is_void
-pointer-in {detail} c extra t b r p =
-    marked-in c extra t (pointer t) (codes "*") b r false p (pointer-marks detail c t p.is_funarr_head) refl refl refl refl refl
-
--- It does so anywhere.
-pub pointer-prints : {detail : Detail} (t : Term) (b : List ℕ) (r : Bool) → Prints detail t b r → Prints detail (pointer t) (b ++ codes "*") false
-unfolding is_open pack_length length_if_pack prefix_item last_piece opening_text is_plain_integer
-pointer-prints t b r p =
-    made-prints (pointer t) (b ++ codes "*") false (λ c. pointer-in c 0 t b r (prints-in c 0 t b r p)) p.is_closed p.packless refl (λ c. refl) refl (λ e. cc e)
-    (λ e. cc e)
-
 pub pointer-as : (detail : Detail) (names : Names) (is_dependent : Bool) (t : Term) (b : List ℕ) (r : Bool) → PrintsAs detail names is_dependent t b r
     → PrintsAs detail names is_dependent (pointer t) (b ++ codes "*") false
-unfolding pack_length is_function_type length_if_pack prefix_item last_piece opening_text
-pointer-as detail names false t b r p = pointer-prints t b r p
-pointer-as detail names true t b r p =
-    made-given names (pointer t) (b ++ codes "*") false (λ c given. pointer-in c 3 t b r (p.prints c given)) p.packless refl refl (λ c. refl) refl
+unfolding head head_with is_reference is_funarr is_empty is_function_type is_void is_open pack_length length_if_pack prefix_item last_piece opening_text is_plain_integer
+pointer-as detail names is_dependent t b r p =
+    marked-as detail names is_dependent t (pointer t) (codes "*") b r false (λ c extra h. pointer-marks detail c t h.is_funarr_head) (λ c extra h. (refl, refl)) (λ c. refl)
+    refl refl refl (λ arguments. refl) refl (λ c. refl) refl refl p
 
 -- An lvalue reference prints its type, which is no reference, and its mark.
 lvalue-marks : (detail : Detail) (c : Context) (t : Term) → is_reference (head c t) ≡ false → is_funarr (head c t) ≡ false → IsMarked detail c t (lvalue t) (codes "&")
 unfolding parts_in left_parts right_parts
 lvalue-marks detail c t e f = record { left_is = reference c low t "&" e f; right_is = closing c t f; written = refl; plain = refl; some = omega arith }
 
-pub lvalue-in : {detail : Detail} (c : Context) (extra : ℕ) (t : Term) (b : List ℕ) → PrintsIn detail c extra t b false
-    → PrintsIn detail c extra (lvalue t) (b ++ codes "&") true
-unfolding head head_with is_reference is_funarr is_empty is_function_type is_void
-lvalue-in {detail} c extra t b p =
-    marked-in c extra t (lvalue t) (codes "&") b false true p (lvalue-marks detail c t p.is_reference_head p.is_funarr_head) refl refl refl refl refl
-
--- It does so anywhere.
-pub lvalue-prints : {detail : Detail} (t : Term) (b : List ℕ) → Prints detail t b false → Prints detail (lvalue t) (b ++ codes "&") true
-unfolding is_open pack_length length_if_pack prefix_item last_piece opening_text is_plain_integer
-lvalue-prints {detail} t b p =
-    made-prints (lvalue t) (b ++ codes "&") true (λ c. lvalue-in c 0 t b (prints-in c 0 t b false p)) p.is_closed p.packless refl (λ c. refl) refl (λ e. cc e)
-    (λ e c. omega (
-      arith,
-      p.cost c,
-      length-append b (codes "&"),
-      marked-cost c t (lvalue t) (codes "&") (lvalue-marks detail c t (p.is_reference_head c) (p.is_funarr_head c)),
-    ))
-
 pub lvalue-as : (detail : Detail) (names : Names) (is_dependent : Bool) (t : Term) (b : List ℕ) → PrintsAs detail names is_dependent t b false
     → PrintsAs detail names is_dependent (lvalue t) (b ++ codes "&") true
-unfolding pack_length is_function_type length_if_pack prefix_item last_piece opening_text
-lvalue-as detail names false t b p = lvalue-prints t b p
-lvalue-as detail names true t b p =
-    made-given names (lvalue t) (b ++ codes "&") true (λ c given. lvalue-in c 3 t b (p.prints c given)) p.packless refl refl (λ c. refl) refl
+unfolding head head_with is_reference is_funarr is_empty is_function_type is_void is_open pack_length length_if_pack prefix_item last_piece opening_text is_plain_integer
+lvalue-as detail names is_dependent t b p =
+    marked-as detail names is_dependent t (lvalue t) (codes "&") b false true (λ c extra h. lvalue-marks detail c t h.is_reference_head h.is_funarr_head) (λ c extra h. (refl, refl)) (λ c. refl)
+    refl refl refl (λ arguments. refl) refl (λ c. refl) refl refl p
 
 collapsed-refers : (h : Head) → is_reference (collapsed h) ≡ true
 unfolding is_reference collapsed
@@ -232,24 +224,12 @@ rvalue-in {detail} c extra t b p =
     marked-in c extra t (rvalue t) (codes "&&") b false true p (rvalue-marks detail c t p.is_reference_head p.is_funarr_head)
     (collapsed-refers (head c t)) (collapsed-no_function (head c t)) refl refl refl
 
--- It does so anywhere.
-pub rvalue-prints : {detail : Detail} (t : Term) (b : List ℕ) → Prints detail t b false → Prints detail (rvalue t) (b ++ codes "&&") true
-unfolding is_open pack_length length_if_pack prefix_item last_piece opening_text is_plain_integer
-rvalue-prints {detail} t b p =
-    made-prints (rvalue t) (b ++ codes "&&") true (λ c. rvalue-in c 0 t b (prints-in c 0 t b false p)) p.is_closed p.packless refl (λ c. refl) refl (λ e. cc e)
-    (λ e c. omega (
-      arith,
-      p.cost c,
-      length-append b (codes "&&"),
-      marked-cost c t (rvalue t) (codes "&&") (rvalue-marks detail c t (p.is_reference_head c) (p.is_funarr_head c)),
-    ))
-
 pub rvalue-as : (detail : Detail) (names : Names) (is_dependent : Bool) (t : Term) (b : List ℕ) → PrintsAs detail names is_dependent t b false
     → PrintsAs detail names is_dependent (rvalue t) (b ++ codes "&&") true
-unfolding pack_length is_function_type length_if_pack prefix_item last_piece opening_text
-rvalue-as detail names false t b p = rvalue-prints t b p
-rvalue-as detail names true t b p =
-    made-given names (rvalue t) (b ++ codes "&&") true (λ c given. rvalue-in c 3 t b (p.prints c given)) p.packless refl refl (λ c. refl) refl
+unfolding head head_with is_empty is_function_type is_void is_open pack_length length_if_pack prefix_item last_piece opening_text is_plain_integer
+rvalue-as detail names is_dependent t b p =
+    marked-as detail names is_dependent t (rvalue t) (codes "&&") b false true (λ c extra h. rvalue-marks detail c t h.is_reference_head h.is_funarr_head) (λ c extra h. (collapsed-refers (head c t), collapsed-no_function (head c t))) (λ c. refl)
+    refl refl refl (λ arguments. refl) refl (λ c. refl) refl refl p
 
 -- the qualifiers of a type that is declared const
 abbrev pub constant : Qualifiers
@@ -273,26 +253,12 @@ unfolding parts_in left_parts right_parts
 const-marks detail c t d e f =
     record { left_is = qualified_left-is c t d e f; right_is = qualified_right-is c t d; written = refl; plain = refl; some = omega arith }
 
-pub const-in : {detail : Detail} (c : Context) (extra : ℕ) (t : Term) (b : List ℕ) → PrintsIn detail c extra t b false
-    → PrintsIn detail c extra (qualified constant t) (b ++ codes " const") false
-unfolding head head_with is_empty is_function_type is_void
-const-in {detail} c extra t b p =
-    marked-in c extra t (qualified constant t) (codes " const") b false false p
-    (const-marks detail c t p.no_function p.is_reference_head p.is_funarr_head) p.is_reference_head p.is_funarr_head refl refl refl
-
--- It does so anywhere.
-pub const-prints : {detail : Detail} (t : Term) (b : List ℕ) → Prints detail t b false → Prints detail (qualified constant t) (b ++ codes " const") false
-unfolding is_open pack_length length_if_pack prefix_item last_piece opening_text is_plain_integer
-const-prints t b p =
-    made-prints (qualified constant t) (b ++ codes " const") false (λ c. const-in c 0 t b (prints-in c 0 t b false p)) p.is_closed p.packless refl (λ c. refl) refl (λ e. cc e)
-    (λ e. cc e)
-
 pub const-as : (detail : Detail) (names : Names) (is_dependent : Bool) (t : Term) (b : List ℕ) → PrintsAs detail names is_dependent t b false
     → PrintsAs detail names is_dependent (qualified constant t) (b ++ codes " const") false
-unfolding pack_length is_function_type length_if_pack prefix_item last_piece opening_text
-const-as detail names false t b p = const-prints t b p
-const-as detail names true t b p =
-    made-given names (qualified constant t) (b ++ codes " const") false (λ c given. const-in c 3 t b (p.prints c given)) p.packless refl refl (λ c. refl) refl
+unfolding head head_with is_empty is_function_type is_void is_open pack_length length_if_pack prefix_item last_piece opening_text is_plain_integer
+const-as detail names is_dependent t b p =
+    marked-as detail names is_dependent t (qualified constant t) (codes " const") b false false (λ c extra h. const-marks detail c t h.no_function h.is_reference_head h.is_funarr_head) (λ c extra h. (h.is_reference_head, h.is_funarr_head)) (λ c. refl)
+    refl refl refl (λ arguments. refl) refl (λ c. refl) refl refl p
 
 -- ## Parameters
 

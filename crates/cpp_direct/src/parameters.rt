@@ -10,7 +10,7 @@ ghost use Rattle.cpp_direct.specs.Names.{IsReadable};
 ghost use Rattle.cpp_direct.specs.declared.open.Step.TheVariants as steps;
 ghost use Rattle.cpp_direct.specs.Holes.{StandsAt};
 ghost use Rattle.cpp_direct.specs.WriterInvariant.{EndsNamed, IsWriting, argument_of, arguments_in, is_type, is_within_type, place_of};
-ghost use Rattle.cpp_direct.specs.MidStep.{AwaitsType, AwaitsKnownArgument, AwaitsNextParameter, IsArgumentRead, IsNamedAgain, IsPackElementRead, AwaitsPackElement, AreForwarded, IsPackOf, comma_text, KnowsMore, parameter_digits};
+ghost use Rattle.cpp_direct.specs.MidStep.{AwaitsType, AwaitsKnownArgument, AwaitsNextParameter, IsArgumentRead, IsNamedAgain, AreForwarded, IsPackOf, comma_text, KnowsMore, parameter_digits};
 ghost use Rattle.cpp_direct.specs.Symbol.{symbol_by};
 ghost use Rattle.cpp_direct.specs.Written.{Writes};
 
@@ -269,7 +269,7 @@ impl Direct {
         is_reference: bool,
     ) -> Option<Step>
         requires fits { IsReadable s.now }
-        requires read { IsPackElementRead (symbol_by G.IS_WIDE G.IS_BARE G.IS_BRIEF s.now) self.old from number known is_reference }
+        requires read { IsArgumentRead (symbol_by G.IS_WIDE G.IS_BARE G.IS_BRIEF s.now) self.old true from number known is_reference }
         ensures { IfSome result (IsWriting (symbol_by G.IS_WIDE G.IS_BARE G.IS_BRIEF s.now) self.new) }
     {
         let _element = self.waiting.pop();
@@ -297,7 +297,7 @@ impl Direct {
     // <template-arg> ::= J <template-arg>* E
     fn next_element<G: Grammar>(&mut self, s: &[u8], before: u16, known: Arguments) -> Option<Step>
         requires fits { IsReadable s.now }
-        requires awaits { AwaitsPackElement (symbol_by G.IS_WIDE G.IS_BARE G.IS_BRIEF s.now) self.old before known }
+        requires awaits { AwaitsKnownArgument (symbol_by G.IS_WIDE G.IS_BARE G.IS_BRIEF s.now) self.old true before known }
         ensures { IfSome result (IsWriting (symbol_by G.IS_WIDE G.IS_BARE G.IS_BRIEF s.now) self.new) }
     {
         self.push_pair(b',', b' ')?;
@@ -405,7 +405,7 @@ impl Direct {
         is_reference: bool,
     ) -> Option<Step>
         requires fits { IsReadable s.now }
-        requires read { IsArgumentRead (symbol_by G.IS_WIDE G.IS_BARE G.IS_BRIEF s.now) self.old from number known is_reference }
+        requires read { IsArgumentRead (symbol_by G.IS_WIDE G.IS_BARE G.IS_BRIEF s.now) self.old false from number known is_reference }
         ensures { IfSome result (IsWriting (symbol_by G.IS_WIDE G.IS_BARE G.IS_BRIEF s.now) self.new) }
     {
         let _open = self.waiting.pop();
@@ -427,7 +427,7 @@ impl Direct {
     // <template-args> ::= I <template-arg>* E
     fn next_argument<G: Grammar>(&mut self, s: &[u8], before: u16, known: Arguments) -> Option<Step>
         requires fits { IsReadable s.now }
-        requires awaits { AwaitsKnownArgument (symbol_by G.IS_WIDE G.IS_BARE G.IS_BRIEF s.now) self.old before known }
+        requires awaits { AwaitsKnownArgument (symbol_by G.IS_WIDE G.IS_BARE G.IS_BRIEF s.now) self.old false before known }
         ensures { IfSome result (IsWriting (symbol_by G.IS_WIDE G.IS_BARE G.IS_BRIEF s.now) self.new) }
     {
         self.push_pair(b',', b' ')?;
