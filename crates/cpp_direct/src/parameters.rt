@@ -16,6 +16,7 @@ ghost use Rattle.cpp_direct.specs.Written.{Writes};
 
 use crate::direct::Direct;
 use crate::grammar::Grammar;
+use crate::lists::is_enumerator_at;
 use crate::open::{Argument, Arguments, Candidate, Mark, Open, Purpose, Step};
 use crate::symbols::{NO_PLACE, NOWHERE};
 use crate::tokens::{byte_at, may_end};
@@ -228,6 +229,31 @@ impl Direct {
             known: NOWHERE,
         })?;
         Some(Step::Type)
+    }
+
+    /// The first element of a list, which is a literal. Where it is an argument of a name, those after it are known.
+    // <template-args> ::= I <template-arg>* E
+    #[inline(never)]
+    pub(crate) fn first_literal<G: Grammar>(&mut self, s: &[u8]) -> Option<Step>
+        requires fits { IsReadable s.now }
+        requires letter { StandsAt s.now self.old.at (76 ∷ []) }
+        requires writing { IsWriting (symbol_by G.IS_WIDE G.IS_BARE G.IS_BRIEF s.now) self.old (steps.List true) }
+        ensures { IfSome result (IsWriting (symbol_by G.IS_WIDE G.IS_BARE G.IS_BRIEF s.now) self.new) }
+    {
+        if !self.is_named() {
+            return self.literal::<G>(s);
+        }
+        if is_enumerator_at(s, self.at) {
+            return self.literal::<G>(s);
+        }
+        let from = self.text.end();
+        self.waiting.push(Open::Argument {
+            from,
+            number: 0,
+            known: NOWHERE,
+        })?;
+        self.plain_literal::<G>(s)?;
+        self.argument_ended::<G>(s, from, 0, NOWHERE, false)
     }
 
     /// The first argument of a list, which is a pack of something. Where it is an argument of a name, it may be the only one.
