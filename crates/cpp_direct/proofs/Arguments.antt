@@ -17,10 +17,10 @@ use Rattle.cpp_direct.specs.declared.direct.Direct.{Direct}
 use Rattle.cpp_direct.specs.Holes.{Opened, Expects, StandsAt}
 use Rattle.cpp_direct.specs.Prints.{Names, Prints, PrintAll, PrintAllAs, IsElementAs, PrintEachBy, PrintAllBy, joined, list_of}
 use Rattle.cpp_direct.specs.WriterInvariant.{AwaitsArgument, Keeps, Scope, arguments_or_pack, element_kind, below, scoped_in, is_noted, may_name, AreAmong, ArgumentsGoOn, Belongs, EndsNamed, GoesOn, IsAmong, IsKnown, IsScoped, IsTemplate, IsWriting, Listing, of_template, of_pack, Owns, Stands, extra_of, in_front_of_next, led_by, list_with, nowhere, place_of, Closes}
-use Rattle.cpp_direct.specs.MidStep.{AreKnown, AwaitsKnownArgument, IsArgumentRead, IsListEnded, KnowsMore, argument_around, argument_entry}
+use Rattle.cpp_direct.specs.MidStep.{AreKnown, AwaitsKnownArgument, IsArgumentRead, IsListEnded, IsLiteralRead, KnowsMore, argument_around, argument_entry}
 use Rattle.cpp_direct.specs.Written.{Writes}
 use Rattle.cpp_direct.proofs.Ending.{next-written}
-use Rattle.cpp_direct.proofs.Kept.{keeps-same, keeps-written, reverse-last, template-stays, type-comes}
+use Rattle.cpp_direct.proofs.Kept.{keeps-same, keeps-written, reverse-last, template-stays, type-comes, keeps-read}
 use Rattle.cpp_direct.proofs.Listed.{last-found, element-goes-on, list-kind, pack-goes-on, some-elements}
 use Rattle.cpp_direct.proofs.Moves.{expects-empty}
 use Rattle.cpp_direct.proofs.MovesOfLists.{element-awaits}
@@ -217,6 +217,43 @@ value-argument s w is_pack is_reference from number known p found =
     go false (owner ∷ rest) is waits = read false owner rest is waits
     go true (opens.Pack ∷ owner ∷ rest) is waits = read true owner rest is waits
     go true _ is waits = absurd waits
+
+-- or a literal that is the first argument
+pub literal-argument : (s : Symbol) (old begun new : Direct) (from : ℕ) → IsWriting s old (steps.List true) → EndsNamed (reverse old.waiting.list.items)
+    → from ≡ length old.text.list.items → begun.waiting.list.items ≡ old.waiting.list.items ++ opens.Argument from 0 nowhere ∷ [] → begun.text ≡ old.text
+    → begun.candidates ≡ old.candidates → begun.has_scope ≡ old.has_scope → begun.at ≡ old.at → IsLiteralRead s begun new
+    → IsArgumentRead s new false from 0 nowhere false
+literal-argument s old begun new from p named from_is waits text candidates scope_same at l =
+    let b = none-read s old p named in
+    let entry = opens.Argument from 0 nowhere in
+    let outer = below s b.scope b.rest in
+    let grown : new.text.list.items ≡ old.text.list.items ++ l.bytes = l.reads.text ∙ ap (λ v. v.list.items ++ l.bytes) text in
+    record {
+      state = b.state;
+      scope = b.scope;
+      keeps = keeps-read s begun new l.bytes b.state.candidates l.reads (keeps-same s old begun b.state.candidates text candidates scope_same b.keeps);
+      owner = b.owner;
+      rest = b.rest;
+      open_is = ap (λ v. reverse v.list.items) l.reads.waiting ∙ ap reverse waits ∙ reverse-last old.waiting.list.items entry ∙ ap (λ ws. entry ∷ ws) b.open_is;
+      front = b.front;
+      template = b.template;
+      name = b.name;
+      ts = [];
+      texts = [];
+      t = l.own;
+      bytes = l.bytes;
+      is_template = subst (λ t. IsTemplate (detail_of s) b.scope.names b.owner b.front b.template b.name t) (sym grown)
+          (template-stays (detail_of s) b.scope.names b.owner b.front b.template b.name old.text.list.items l.bytes b.is_template);
+      elements = none-print (detail_of s) 3;
+      written = grown ∙ ap (λ t. t ++ l.bytes) b.written;
+      from_is = from_is ∙ ap length b.written;
+      number_is = refl;
+      among = λ k known. absurd (none-known k known);
+      prints = l.prints;
+      goes = element-goes-on s Kind.ArgumentList (scoped_in b.owner outer) (λ u now then. Closes s of_template b.owner outer b.front b.template u now then)
+          [] l.own old.at new.at b.state b.state b.goes (l.goes_on Kind.ArgumentList b.goes.0 b.goes.1 b.state tt
+          (subst (λ n. Expects s Kind.ArgumentList b.goes.0 b.goes.1 n b.state) (sym at) b.goes.4));
+    }
 
 -- with it all print
 read-prints : (s : Symbol) (w : Direct) (is_pack : Bool) (from number : ℕ) (known : Arguments) (is_reference : Bool)

@@ -19,7 +19,7 @@ use Rattle.cpp_direct.specs.HolesOfLists.{IsDigitsAt, minus_sign, IsOffsetAt}
 use Rattle.cpp_direct.specs.ItemBytes.{is_integer_letter}
 use Rattle.cpp_direct.specs.Prints.{Prints, sign_text, EndsAsInteger, IsElement, PrintAllAs}
 use Rattle.cpp_direct.specs.WriterInvariant.{below, scoped_in, may_name, Closes, GoesOn, IsWriting, Stands, element_kind, extra_of, led_by, in_front_of_next, IsScoped, IsListing, Keeps, Scope}
-use Rattle.cpp_direct.specs.MidStep.{AwaitsNextArgument, truth_text, number_text, integer_text, AwaitsNumber, AwaitsNamedType}
+use Rattle.cpp_direct.specs.MidStep.{AwaitsNextArgument, IsLiteralRead, truth_text, number_text, integer_text, AwaitsNumber, AwaitsNamedType}
 use Rattle.cpp_direct.specs.Written.{Reads, Writes}
 use Rattle.cpp_direct.proofs.Scopes.{none-scoped}
 use Rattle.cpp_direct.proofs.Kept.{keeps-grown, keeps-read, reverse-last}
@@ -221,16 +221,16 @@ element-added s {scope = scope} w st p more ts texts t bytes keeps elements elem
       );
     }
 
--- one that is no type
-pub element-read : (s : Symbol) (old new : Direct) (t : Term) (bytes : List ℕ) (a : AwaitsNextArgument s old) → Prints (detail_of s) t bytes false
-    → Reads old new bytes → ListGoesOn s (element_kind a.place.listing) a.goes.1 a.goes.0 t new.at a.state → IsWriting s new (steps.List false)
-element-read s old new t bytes a prints reads g =
+-- one that is a literal
+pub literal-added : (s : Symbol) (old new : Direct) → AwaitsNextArgument s old → IsLiteralRead s old new → IsWriting s new (steps.List false)
+literal-added s old new a l =
     let p = a.place in
-    element-added s new a.state p bytes a.ts a.texts t bytes (keeps-read s old new bytes a.state.candidates reads a.keeps) a.elements
-    (type-element (extra_of p.listing) t bytes false prints) (ap (λ v. reverse v.list.items) reads.waiting) reads.text
-    (ap (λ l. l ++ bytes) a.written ∙ append_assoc (led_by (detail_of s) p.listing p.front p.name) (in_front_of_next a.ts a.texts) bytes)
+    element-added s new a.state p l.bytes a.ts a.texts l.own l.bytes (keeps-read s old new l.bytes a.state.candidates l.reads a.keeps) a.elements
+    (type-element (extra_of p.listing) l.own l.bytes false l.prints) (ap (λ v. reverse v.list.items) l.reads.waiting) l.reads.text
+    (ap (λ t. t ++ l.bytes) a.written ∙ append_assoc (led_by (detail_of s) p.listing p.front p.name) (in_front_of_next a.ts a.texts) l.bytes)
     (element-goes-on s (element_kind p.listing) (scoped_in p.owner (below s a.scope p.rest))
-    (λ l now then. Closes s p.listing p.owner (below s a.scope p.rest) p.front p.template l now then) a.ts t old.at new.at a.state a.state a.goes g)
+    (λ u now then. Closes s p.listing p.owner (below s a.scope p.rest) p.front p.template u now then) a.ts l.own old.at new.at a.state a.state a.goes
+    (l.goes_on (element_kind p.listing) a.goes.0 a.goes.1 a.state (element-kind p.listing) a.goes.4))
 
 -- ## Literals
 
@@ -239,14 +239,11 @@ truth-is true = refl
 truth-is false = refl
 
 -- a truth value was read, and an E
-pub boolean-element-read : (s : Symbol) (old begun middle new : Direct) (a : AwaitsNextArgument s old) → StandsAt s.bytes old.at (76 ∷ [])
-    → begun.at ≡ old.at + 1
-    → Reads old begun []
+pub boolean-literal-read : (s : Symbol) (old begun middle new : Direct) → StandsAt s.bytes old.at (76 ∷ []) → begun.at ≡ old.at + 1 → Reads old begun []
     → (read : (digit : ℕ) × ((digit ≡ 48) ⊎ (digit ≡ 49)) × StandsAt s.bytes begun.at (98 ∷ digit ∷ []) × (middle.at ≡ begun.at + 2)
     × Reads begun middle (truth_text (nat_eq digit 49)))
-    → StandsAt s.bytes middle.at (69 ∷ []) × (new.at ≡ middle.at + 1) × Reads middle new []
-    → IsWriting s new (steps.List false)
-boolean-element-read s old begun middle new a first next nothing read ended =
+    → StandsAt s.bytes middle.at (69 ∷ []) × (new.at ≡ middle.at + 1) × Reads middle new [] → IsLiteralRead s old new
+boolean-literal-read s old begun middle new first next nothing read ended =
     let d = read.0 in
     let written = truth_text (nat_eq d 49) in
     let second = subst (λ n. StandsAt s.bytes n (98 ∷ d ∷ [])) next read.2 in
@@ -254,11 +251,14 @@ boolean-element-read s old begun middle new a first next nothing read ended =
     let last = subst (λ n. StandsAt s.bytes n (69 ∷ [])) third ended.0 in
     let whole = stands-join s.bytes old.at (76 ∷ 98 ∷ d ∷ []) (69 ∷ []) (stands-join s.bytes old.at (76 ∷ []) (98 ∷ d ∷ []) first second) last in
     let behind : old.at + 4 ≡ new.at = omega (arith, next, read.3, ended.1) in
-    element-read s old new (boolean (nat_eq d 49)) (written ++ []) a
-    (subst (λ l. Prints (detail_of s) (boolean (nat_eq d 49)) l false) (truth-is (nat_eq d 49) ∙ sym (append-nil written)) (boolean-prints (nat_eq d 49)))
-    (reads-then old middle new written [] (reads-then old begun middle [] written nothing read.4) ended.2)
-    (subst (λ n. ListGoesOn s (element_kind a.place.listing) a.goes.1 a.goes.0 (boolean (nat_eq d 49)) n a.state) behind
-    (bool-element s (element_kind a.place.listing) a.goes.1 a.goes.0 d old.at a.state (element-kind a.place.listing) read.1 a.goes.4 whole))
+    record {
+      own = boolean (nat_eq d 49);
+      bytes = written ++ [];
+      prints = subst (λ l. Prints (detail_of s) (boolean (nat_eq d 49)) l false) (truth-is (nat_eq d 49) ∙ sym (append-nil written)) (boolean-prints (nat_eq d 49));
+      reads = reads-then old middle new written [] (reads-then old begun middle [] written nothing read.4) ended.2;
+      goes_on = λ kind around os st is expects. subst (λ n. ListGoesOn s kind os around (boolean (nat_eq d 49)) n st) behind
+          (bool-element s kind os around d old.at st is read.1 expects whole);
+    }
 
 number-unmarked : (s : List ℕ) (at : ℕ) (digits : List ℕ) (end : ℕ) → IsDigitsAt s at digits end → IsUnmarked digits
 number-unmarked s at digits end is = subst IsUnmarked is.own (digits-unmarked is.token.own is.is_number.digits.0)
@@ -279,11 +279,10 @@ integer-prints {detail} letter n ds is filled plain = go (is_plain_integer (buil
         (cast-integer-prints letter e (integer-there letter is) (signed_digits n ds) (normal-filled ds filled) (normal-unmarked ds plain))
 
 -- an integer was read, and an E
-pub integer-element-read : (s : Symbol) (old begun middle new : Direct) (a : AwaitsNextArgument s old) → StandsAt s.bytes old.at (76 ∷ [])
-    → begun.at ≡ old.at + 1
-    → Reads old begun [] → (read : IsIntegerRead s.bytes begun middle) → StandsAt s.bytes middle.at (69 ∷ []) × (new.at ≡ middle.at + 1) × Reads middle new []
-    → IsWriting s new (steps.List false)
-integer-element-read s old begun middle new a first next nothing read ended =
+pub integer-literal-read : (s : Symbol) (old begun middle new : Direct) → StandsAt s.bytes old.at (76 ∷ []) → begun.at ≡ old.at + 1 → Reads old begun []
+    → (read : IsIntegerRead s.bytes begun middle) → StandsAt s.bytes middle.at (69 ∷ []) × (new.at ≡ middle.at + 1) × Reads middle new []
+    → IsLiteralRead s old new
+integer-literal-read s old begun middle new first next nothing read ended =
     let letter = read.0 in
     let negative = read.1 in
     let ds = read.2 in
@@ -293,12 +292,15 @@ integer-element-read s old begun middle new a first next nothing read ended =
     let whole = stands-join s.bytes old.at (76 ∷ []) (letter ∷ minus_sign negative) first second in
     let there : begun.at + 1 + length (minus_sign negative) ≡ old.at + length (76 ∷ letter ∷ minus_sign negative) = omega (arith, next) in
     let filled : ds ≢ [] = λ none. absurd (omega (arith, read.5.is_number.digits.1, ap length read.5.own, ap (λ (l : List ℕ). length l) none)) in
-    element-read s old new t (written ++ []) a
-    (subst (λ l. Prints (detail_of s) t l false) (sym (append-nil written)) (integer-prints letter negative ds read.3 filled (number-unmarked s.bytes _ ds _ read.5)))
-    (reads-then old middle new written [] (reads-then old begun middle [] written nothing read.6) ended.2)
-    (subst (λ n. ListGoesOn s (element_kind a.place.listing) a.goes.1 a.goes.0 t n a.state) (sym ended.1)
-    (integer-element s (element_kind a.place.listing) a.goes.1 a.goes.0 letter negative ds old.at middle.at a.state (element-kind a.place.listing) read.3 a.goes.4 whole
-    (subst (λ n. IsDigitsAt s.bytes n ds middle.at) there read.5) ended.0))
+    record {
+      own = t;
+      bytes = written ++ [];
+      prints = subst (λ l. Prints (detail_of s) t l false) (sym (append-nil written)) (integer-prints letter negative ds read.3 filled (number-unmarked s.bytes _ ds _ read.5));
+      reads = reads-then old middle new written [] (reads-then old begun middle [] written nothing read.6) ended.2;
+      goes_on = λ kind around os st is expects. subst (λ n. ListGoesOn s kind os around t n st) (sym ended.1)
+          (integer-element s kind os around letter negative ds old.at middle.at st is read.3 expects whole
+          (subst (λ n. IsDigitsAt s.bytes n ds middle.at) there read.5) ended.0);
+    }
 
 -- ## Enumerators
 

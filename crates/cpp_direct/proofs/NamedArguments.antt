@@ -34,7 +34,7 @@ single_text _ _ own = None
 abbrev own_at : (text : List ℕ) → Argument → Named
 own_at text p = record { bytes = take (p.to - p.from) (drop p.from text); reference = p.is_reference }
 
--- the same, if that is known and it is a type
+-- the same, if that is known and it is no pack
 abbrev text_at : (text : List ℕ) → Argument → Option Named
 text_at text p = single_text (nat_le p.from p.to) p.is_pack (own_at text p)
 
@@ -55,7 +55,7 @@ text-there text p bytes single placed =
     ap (λ b. single_text b p.is_pack (own_at text p)) (le-leb p.from p.to single.0) ∙ ap (λ b. single_text true b (own_at text p)) single.1
     ∙ ap named found.2
 
--- what has one is a type
+-- what has one is known, and no pack
 text-single : (text : List ℕ) (p : Argument) (n : Named) → text_at text p ≡ Some n → IsSingle p × (own_at text p ≡ n)
 text-single text p n e =
     let h = single-some (nat_le p.from p.to) p.is_pack (own_at text p) n e in

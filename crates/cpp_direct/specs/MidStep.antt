@@ -1,6 +1,7 @@
 -- Where a writer is between two of its functions, within a step.
 use Rattle.std.specs.Prelude.{◌≡◌, ◌≢◌, ◌⊎◌, ℕ, zero, suc, ◌+◌, List, [], ◌∷◌, ◌++◌, length, reverse, ◌≤◌, Bool, true, false, cond, Some, codes, ◌-◌, take, drop, slice_get}
-use Rattle.cpp_direct.specs.Written.{Writes}
+use Rattle.cpp_direct.specs.Written.{Reads, Writes}
+use Rattle.cpp_direct.specs.HolesOfLists.{IsArgumentKind}
 use Rattle.cpp_direct.specs.WrittenParts.{IsUnmarked, opening_bracket}
 use Rattle.sym_print.specs.declared.detail.Detail.{Detail}
 use Rattle.cpp_grammar.specs.declared.kind.Kind.{Kind}
@@ -24,7 +25,7 @@ use Rattle.cpp_direct.specs.declared.open.Arguments.{Arguments}
 use Rattle.cpp_direct.specs.declared.open.Open.TheVariants as opens
 use Rattle.cpp_direct.specs.declared.direct.Direct.{Direct}
 use Rattle.cpp_direct.specs.Bytes.{is_local}
-use Rattle.cpp_direct.specs.Holes.{Opened, StandsAt, Comes, Expects, IsReferable, IsTyped, TypeNamed, NestNamed, bare_name, with_candidate, IsSeqAt}
+use Rattle.cpp_direct.specs.Holes.{Opened, StandsAt, Comes, Expects, ListGoesOn, IsReferable, IsTyped, TypeNamed, NestNamed, bare_name, with_candidate, IsSeqAt}
 use Rattle.sym_core.specs.Value.{counted_value}
 use Rattle.sym_core.specs.declared.NumberKind.TheVariants.{Seq36}
 use Rattle.cpp_direct.specs.HolesOfFunctions.{SignatureGoesOn, plain_function, pointed, with_pointed}
@@ -185,7 +186,8 @@ abbrev pub argument_around : (is_pack : Bool) → (owner : Open) → (rest : Lis
 argument_around false owner rest = owner ∷ rest
 argument_around true owner rest = opens.Pack ∷ owner ∷ rest
 
--- An argument of a name was read, or an element of a pack that is the only one. It is a type, after so many others.
+-- An argument of a name was read, or an element of a pack that is the only one, after so many others. It is a type, or the
+-- first argument and a literal.
 pub record IsArgumentRead (s : Symbol) (w : Direct) (is_pack : Bool) (from number : ℕ) (known : Arguments) (is_reference : Bool) : Type 0 where
   pub state : State
   pub scope : Scope
@@ -356,6 +358,15 @@ pub record AwaitsNextArgument (s : Symbol) (w : Direct) : Type 0 where
   pub elements : PrintAllAs (detail_of s) scope.names (may_name place.listing place.owner) (extra_of place.listing) ts texts
   pub written : w.text.list.items ≡ led_by (detail_of s) place.listing place.front place.name ++ in_front_of_next ts texts
   pub goes : GoesOn s place.listing place.owner (below s scope place.rest) place.front place.template ts w.at state
+
+-- A literal of a builtin type was read and written, which is an element of a list.
+pub record IsLiteralRead (s : Symbol) (old new : Direct) : Type 0 where
+  pub own : Term
+  pub bytes : List ℕ
+  pub prints : Prints (detail_of s) own bytes false
+  pub reads : Reads old new bytes
+  pub goes_on : (kind : Kind) (around : Around) (os : List Opened) (st : State) → IsArgumentKind kind → Expects s kind around os old.at st
+      → ListGoesOn s kind os around own new.at st
 
 -- The type of an enumerator was read, which is an element. Its number is expected.
 pub record AwaitsNumber (s : Symbol) (w : Direct) : Type 0 where

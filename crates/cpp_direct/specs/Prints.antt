@@ -61,7 +61,7 @@ pub record Named : Type 0 where
   pub bytes : List ℕ
   pub reference : Bool
 
--- the arguments of a function's template, by their numbers: those that are types and may be named
+-- the arguments of a function's template, by their numbers: those that may be named
 abbrev pub Names : Type 0
 Names = (number : ℕ) → Option Named
 

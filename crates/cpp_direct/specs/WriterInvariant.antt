@@ -155,7 +155,7 @@ abbrev pub argument_of : List Open → Option Arguments
 argument_of [] = None
 argument_of (o ∷ rest) = elim (is_within_type o) [ true ↦ argument_of rest | false ↦ arguments_in o ]
 
--- it is a type
+-- it is known, and no pack
 abbrev pub IsSingle : Argument → Type 0
 IsSingle p = IsKnown p × (p.is_pack ≡ false)
 
@@ -175,7 +175,7 @@ AreNamed text scope =
     × (scope.names number ≡ Some (record { bytes = bytes; reference = (place_of scope.arguments number).is_reference }))
     × IsPlaced text (place_of scope.arguments number) bytes
 
--- They are those of the symbol's own encoding, if it is known where theirs begins, and types.
+-- They are those of the symbol's own encoding, if it is known where theirs begins, and those that have texts are no packs.
 pub record IsScopeOf (s : Symbol) (scope : Scope) : Type 0 where
   pub encoded : scope.arguments.encoding ≢ 0 → scope.arguments.encoding ≡ encoding_place s.bytes
   pub single : (number : ℕ) (own : Named) → scope.names number ≡ Some own → IsSingle (place_of scope.arguments number)

@@ -237,10 +237,12 @@ impl Direct {
         self.at = self.at.checked_add(1)?;
         if byte_at(s, self.at) == b'b' {
             self.boolean(s)?;
-            return self.literal_ended(s);
+            self.literal_ended(s)?;
+            return Some(());
         }
         self.integer(s)?;
-        self.literal_ended(s)
+        self.literal_ended(s)?;
+        Some(())
     }
 
     /// Reads the number of an enumerator, after its type.
