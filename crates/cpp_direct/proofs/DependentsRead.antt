@@ -11,20 +11,19 @@ use Rattle.cpp_direct.proofs.NamedArguments.{again-substituted, named-here}
 use Rattle.cpp_direct.proofs.PrintedTypes.{parameter-given, rvalue-given, expansion-element}
 use Rattle.cpp_direct.specs.declared.open.Mark.{Mark}
 use Rattle.cpp_direct.specs.Holes.{Opened, StandsAt, Comes, candidate, with_candidate, Expects, IsReferable, IsTyped}
-use Rattle.cpp_direct.specs.Prints.{AreSingle, PrintsAs, PrintsGiven, forwarded, PrintAllBy, list_of}
-use Rattle.cpp_direct.specs.WriterInvariant.{AreCandidates, EncodedBehind, HasArguments, IsAmong, IsKnown, IsNaming, IsPlaced, IsScope, IsScopeOf, IsScoped, IsSingle, IsWriting, Keeps, ParametersGoOn, Scope, argument_of, in_front_of_next, place_of}
+use Rattle.cpp_direct.specs.Prints.{PrintsAs, PrintsGiven, forwarded, PrintAllBy, list_of}
+use Rattle.cpp_direct.specs.WriterInvariant.{AreCandidates, EncodedBehind, HasArguments, IsAmong, IsKnown, IsPlaced, IsScope, IsSingle, IsWriting, Keeps, ParametersGoOn, argument_of, in_front_of_next, place_of}
 use Rattle.cpp_direct.specs.MidStep.{AwaitsType, IsNamedAgain, IsParameterEnded, parameter_digits, AwaitsNextParameter, AreForwarded, IsPackOf, PrintsForwarded, comma_text}
 use Rattle.cpp_direct.specs.Written.{Writes, added, hidden}
 use Rattle.cpp_direct.specs.declared.direct.Direct.{Direct}
-use Rattle.cpp_direct.specs.declared.open.Open.{Open}
 use Rattle.cpp_direct.specs.declared.open.Argument.{Argument}
 use Rattle.cpp_direct.specs.declared.open.Candidate.{Candidate}
 use Rattle.cpp_direct.specs.declared.open.Arguments.{Arguments}
 use Rattle.cpp_grammar.specs.Between.{Going, between, after, applied, listed_so_far, parameter_so_far, index_of, under_expansion}
 use Rattle.cpp_grammar.specs.Grammar.{may_be_empty, number_of_kind, parts_of}
 use Rattle.cpp_grammar.specs.Parts.{types_of}
-use Rattle.cpp_grammar.specs.References.{appended, is_function_type, packs_in, with_packs, parameter_named, with_type}
-use Rattle.cpp_grammar.specs.Scope.{arguments_of, element, count, length_if_pack, pack_length}
+use Rattle.cpp_grammar.specs.References.{appended, is_function_type, with_packs, parameter_named, with_type}
+use Rattle.cpp_grammar.specs.Scope.{arguments_of, element, count, length_if_pack}
 use Rattle.cpp_grammar.specs.Term.{Term, parameter, expansion, rvalue, list, nil, pack}
 use Rattle.cpp_grammar.specs.Values.{tree, State, Around, text_of, is_there, letter_of, part, piece_of, tree_of, is_listed}
 use Rattle.cpp_grammar.specs.declared.kind.Kind.{Kind}
