@@ -1,6 +1,7 @@
 -- What a writer keeps while its text and its lists grow.
 use Rattle.sym_print.specs.declared.detail.Detail.{Detail}
 use Rattle.std.proofs.Common.{◌≡◌, ◌≢◌, ℕ, zero, suc, ◌+◌, ◌-◌, ◌≤◌, length, List, [], ◌∷◌, ◌++◌, take, drop, reverse, slice_get, Bool, true, false, Option, Some, None, is_some, refl, ap, sym, ◌∙◌, subst, arith, append_assoc, append-nil, ◌<◌, inl, inr, get_or, length-append, cond}
+use Rattle.std.specs.Option.{IfSome, OnSome}
 use Rattle.std.proofs.lemmas.Bool.{false≢true}
 use Rattle.std.proofs.lemmas.List.{reverse-append, reverse-reverse}
 use Rattle.std.proofs.Math.Seq.{drop-append_seam, take-append_seam}
@@ -13,6 +14,7 @@ use Rattle.cpp_direct.specs.declared.open.Candidate.{Candidate}
 use Rattle.cpp_direct.specs.declared.open.Argument.{Argument}
 use Rattle.cpp_direct.specs.declared.open.Nest.{Nest}
 use Rattle.cpp_direct.specs.declared.open.Open.{Open}
+use Rattle.cpp_direct.specs.declared.open.Step.{Step}
 use Rattle.cpp_direct.specs.declared.direct.Direct.{Direct}
 use Rattle.cpp_direct.specs.Holes.{Comes, Opened, candidate, with_candidate, unless_listed}
 use Rattle.cpp_direct.specs.Prints.{Names, PrintsAs}
@@ -323,30 +325,67 @@ template-stays detail names _ front t name text more p = p
 
 -- ## Lists
 
--- arguments begin
-pub arguments-begun : (s : Symbol) {scope : Scope} (w : Direct) (st : State) (owner : Open) (rest : List Open) (front name : List ℕ) (t : Term)
-    → reverse w.waiting.list.items ≡ owner ∷ rest → IsTemplate (detail_of s) scope.names owner front t name w.text.list.items
-    → w.text.list.items ≡ front ++ name ++ opening_bracket (detail_of s)
-    → ArgumentsGoOn s owner (below s scope rest) front t [] w.at st → IsBefore s scope w st (steps.List true)
-arguments-begun s {scope = scope} w st owner rest front name t open_is is_template written goes = (
-  record {
-    listing = of_template;
-    owner = owner;
-    rest = rest;
-    belongs = open_is;
-    front = front;
-    template = t;
-    name = name;
-    is_template = is_template;
-  },
-  [],
-  [],
-  ([], tt, refl),
-  written ∙ sym (append-nil (front ++ name ++ opening_bracket (detail_of s))),
-  (λ e. refl),
-  (λ e. absurd (false≢true (sym e))),
-  goes,
-)
+-- the candidates are these, and nothing else changed
+pub record Lists (old new : Direct) (ks : List Candidate) : Type 0 where
+  pub candidates : new.candidates.list.items ≡ ks
+  pub text : new.text ≡ old.text
+  pub waiting : new.waiting ≡ old.waiting
+  pub nest : new.nest ≡ old.nest
+  pub scope : new.has_scope ≡ old.has_scope
+  pub at : new.at ≡ old.at
+
+-- arguments were opened
+pub record OpensArguments (detail : Detail) (old new : Direct) (owner : Open) : Type 0 where
+  pub text : new.text.list.items ≡ old.text.list.items ++ opening_bracket detail
+  pub waiting : new.waiting.list.items ≡ old.waiting.list.items ++ owner ∷ []
+  pub at : new.at ≡ old.at + 1
+  pub candidates : new.candidates ≡ old.candidates
+  pub scope : new.has_scope ≡ old.has_scope
+
+-- arguments begin after a name
+pub list-begins : (s : Symbol) (scope : Scope) (old mid new : Direct) (ks : List Candidate) (st : State) (owner : Open) (front name : List ℕ) (t : Term)
+    → Lists old mid ks → OpensArguments (detail_of s) mid new owner → Keeps s scope mid st.candidates
+    → IsTemplate (detail_of s) scope.names owner front t name (old.text.list.items ++ opening_bracket (detail_of s)) → old.text.list.items ≡ front ++ name
+    → ArgumentsGoOn s owner (below s scope (reverse old.waiting.list.items)) front t [] (old.at + 1) st
+    → IsWriting s new (steps.List true)
+list-begins s scope old mid new ks st owner front name t lists opening_ keeps template written goes =
+    let bracket = opening_bracket (detail_of s) in
+    let text_is : new.text.list.items ≡ old.text.list.items ++ bracket = cc (opening_.text, lists.text) in
+    let waiting_is : new.waiting.list.items ≡ old.waiting.list.items ++ owner ∷ [] = cc (opening_.waiting, lists.waiting) in
+    let at_is : new.at ≡ old.at + 1 = cc (opening_.at, lists.at) in
+    record {
+      state = st;
+      scope = scope;
+      keeps = keeps-grown s mid new bracket st.candidates opening_.text opening_.candidates opening_.scope keeps;
+      is_before = (
+        record {
+          listing = of_template;
+          owner = owner;
+          rest = reverse old.waiting.list.items;
+          belongs = ap reverse waiting_is ∙ reverse-last old.waiting.list.items owner;
+          front = front;
+          template = t;
+          name = name;
+          is_template = subst (λ l. IsTemplate (detail_of s) scope.names owner front t name l) (sym text_is) template;
+        },
+        [],
+        [],
+        ([], tt, refl),
+        text_is ∙ ap (λ l. l ++ bracket) written ∙ sym (append-nil (front ++ name ++ bracket)),
+        (λ e. refl),
+        (λ e. absurd (false≢true (sym e))),
+        subst (λ n. ArgumentsGoOn s owner (below s scope (reverse old.waiting.list.items)) front t [] n st) (sym at_is) goes,
+      );
+    }
+
+-- what opening arguments says where there was memory
+pub opened-by : (s : Symbol) (r : Option Step) (old new : Direct) (owner : Open) → IfSome r (λ next. next ≡ steps.List true)
+    → OnSome r (new.waiting.list.items ≡ old.waiting.list.items ++ owner ∷ []) → OnSome r (new.at ≡ old.at + 1)
+    → OnSome r (new.text.list.items ≡ old.text.list.items ++ opening_bracket (detail_of s)) → OnSome r (new.candidates ≡ old.candidates)
+    → OnSome r (new.has_scope ≡ old.has_scope) → (OpensArguments (detail_of s) old new owner → IsWriting s new (steps.List true)) → IfSome r (IsWriting s new)
+opened-by s None old new owner step waiting at text candidates scope_same goes = tt
+opened-by s (Some next) old new owner step waiting at text candidates scope_same goes =
+    subst (λ x. IsWriting s new x) (sym step) (goes (record { text = text; waiting = waiting; at = at; candidates = candidates; scope = scope_same }))
 
 -- ## Where what was written after a place is taken away
 

@@ -38,7 +38,7 @@ use Rattle.cpp_direct.specs.WriterInvariant.{HasArguments, IsNaming, IsNest, IsN
 use Rattle.cpp_direct.specs.MidStep.{AwaitsNest, IsNestKnown, IsNestNamed, IsNameEnded, IsOperatorRead}
 use Rattle.cpp_direct.specs.Written.{Reads, added, added_unless}
 use Rattle.cpp_direct.proofs.Moves.{alone-arguments, any-tail, expects-empty, stands-join, comes-moved}
-use Rattle.cpp_direct.proofs.Kept.{arguments-begun, keeps-grown, keeps-read, keeps-same, keeps-with, keeps-unless, made-here, candidate-found, piece-found, nest-stays, reverse-last, value-comes}
+use Rattle.cpp_direct.proofs.Kept.{keeps-grown, keeps-read, keeps-same, keeps-with, keeps-unless, made-here, candidate-found, piece-found, nest-stays, reverse-last, value-comes, Lists, OpensArguments, list-begins}
 use Rattle.cpp_direct.proofs.MovesOfComponents.{component-awaits, component-outside, any-arguments, instance-arguments, nest-end, tag-follows}
 use Rattle.cpp_direct.proofs.MovesOfLists.{arguments-open}
 use Rattle.cpp_direct.proofs.MovesOfNests.{nest-source, nest-abbreviation, nest-substitution, nest-std}
@@ -46,25 +46,6 @@ use Rattle.cpp_direct.proofs.PrintedNames.{as-name, source-prints, source-class,
 use Rattle.cpp_direct.proofs.PrintedNests.{tagged-as, std-tagged, again-tagged}
 use Rattle.cpp_direct.proofs.PrintedTypes.{prints-as}
 use Rattle.cpp_direct.proofs.TypesRead.{abbreviation-listed}
-
--- ## What small functions did
-
--- the candidates are these, and nothing else changed
-pub record Lists (old new : Direct) (ks : List Candidate) : Type 0 where
-  pub candidates : new.candidates.list.items ≡ ks
-  pub text : new.text ≡ old.text
-  pub waiting : new.waiting ≡ old.waiting
-  pub nest : new.nest ≡ old.nest
-  pub scope : new.has_scope ≡ old.has_scope
-  pub at : new.at ≡ old.at
-
--- arguments were opened
-pub record OpensArguments (detail : Detail) (old new : Direct) (owner : Open) : Type 0 where
-  pub text : new.text.list.items ≡ old.text.list.items ++ opening_bracket detail
-  pub waiting : new.waiting.list.items ≡ old.waiting.list.items ++ owner ∷ []
-  pub at : new.at ≡ old.at + 1
-  pub candidates : new.candidates ≡ old.candidates
-  pub scope : new.has_scope ≡ old.has_scope
 
 -- ## What types may name
 
@@ -106,31 +87,9 @@ no-function : (detail : Detail) (names : Names) (d : Bool) (t : Term) (bytes : L
 no-function detail names true t bytes prints = prints.no_function
 no-function detail names false t bytes prints = prints.no_function
 
--- ## Arguments are opened
-
 -- what a byte says of the symbol, where it isn't after its end
 pub byte-there : (s : List ℕ) (at byte known : ℕ) → byte ≡ known → known ≢ 0 → (byte ≢ 0 → StandsAt s at (byte ∷ [])) → StandsAt s at (known ∷ [])
 byte-there s at byte known is some there = subst (λ b. StandsAt s at (b ∷ [])) is (there (λ e. some (sym is ∙ e)))
-
--- arguments begin after a name
-list-begins : (s : Symbol) (scope : Scope) (old mid new : Direct) (ks : List Candidate) (st : State) (owner : Open) (front name : List ℕ) (t : Term)
-    → Lists old mid ks → OpensArguments (detail_of s) mid new owner → Keeps s scope mid st.candidates
-    → IsTemplate (detail_of s) scope.names owner front t name (old.text.list.items ++ opening_bracket (detail_of s)) → old.text.list.items ≡ front ++ name
-    → ArgumentsGoOn s owner (below s scope (reverse old.waiting.list.items)) front t [] (old.at + 1) st
-    → IsWriting s new (steps.List true)
-list-begins s scope old mid new ks st owner front name t lists opening_ keeps template written goes =
-    let text_is : new.text.list.items ≡ old.text.list.items ++ opening_bracket (detail_of s) = cc (opening_.text, lists.text) in
-    let waiting_is : new.waiting.list.items ≡ old.waiting.list.items ++ owner ∷ [] = cc (opening_.waiting, lists.waiting) in
-    let at_is : new.at ≡ old.at + 1 = cc (opening_.at, lists.at) in
-    record {
-      state = st;
-      scope = scope;
-      keeps = keeps-grown s mid new (opening_bracket (detail_of s)) st.candidates opening_.text opening_.candidates opening_.scope keeps;
-      is_before = arguments-begun s new st owner (reverse old.waiting.list.items) front name t
-          (ap reverse waiting_is ∙ reverse-last old.waiting.list.items owner)
-          (subst (λ l. IsTemplate (detail_of s) scope.names owner front t name l) (sym text_is) template) (text_is ∙ ap (λ l. l ++ opening_bracket (detail_of s)) written)
-          (subst (λ n. ArgumentsGoOn s owner (below s scope (reverse old.waiting.list.items)) front t [] n st) (sym at_is) goes);
-    }
 
 -- ## A name with or without arguments
 
@@ -667,12 +626,3 @@ std-begins s old mid purpose before name a here is filled text_is candidates_are
       no_structor = λ e. refl;
       serves = subst (λ o. Serves s purpose (below s a.scope (reverse o.list.items)) a.outer old.text.list.items) (sym waiting_is) a.serves;
     }
-
--- what opening arguments says where there was memory
-pub opened-by : (s : Symbol) (r : Option Step) (old new : Direct) (owner : Open) → IfSome r (λ next. next ≡ steps.List true)
-    → OnSome r (new.waiting.list.items ≡ old.waiting.list.items ++ owner ∷ []) → OnSome r (new.at ≡ old.at + 1)
-    → OnSome r (new.text.list.items ≡ old.text.list.items ++ opening_bracket (detail_of s)) → OnSome r (new.candidates ≡ old.candidates)
-    → OnSome r (new.has_scope ≡ old.has_scope) → (OpensArguments (detail_of s) old new owner → IsWriting s new (steps.List true)) → IfSome r (IsWriting s new)
-opened-by s None old new owner step waiting at text candidates scope_same goes = tt
-opened-by s (Some next) old new owner step waiting at text candidates scope_same goes =
-    subst (λ x. IsWriting s new x) (sym step) (goes (record { text = text; waiting = waiting; at = at; candidates = candidates; scope = scope_same }))

@@ -19,7 +19,7 @@ use Rattle.cpp_direct.specs.Bytes.{is_builtin}
 use Rattle.cpp_direct.specs.Holes.{Opened, StandsAt, Comes, Expects, candidate, with_candidate, IsReferable}
 use Rattle.cpp_direct.specs.HolesOfFunctions.{SignatureGoesOn, plain_function, pointed, with_pointed, reference, reference_letter, FunctionOpened}
 use Rattle.cpp_direct.specs.HolesOfTypes.{NoReference, IsQualifiable}
-use Rattle.cpp_direct.specs.Prints.{Names, PrintEach, PrintAll, joined}
+use Rattle.cpp_direct.specs.Prints.{Names, PrintEach, PrintAll, joined, IsElement}
 use Rattle.cpp_direct.specs.WriterInvariant.{below, IsScoped, AreCandidates, IsWriting, Marks, Scope, Stands, TakesFunction, opening_text, list_with, in_front_of_next}
 use Rattle.cpp_direct.specs.MidStep.{AwaitsParameter, AwaitsSignature, IsElementPassed, IsFunctionRead, IsReturned, IsArrayRead, IsElementRead}
 use Rattle.cpp_direct.specs.Written.{Writes, hidden, with_hidden}
@@ -29,7 +29,7 @@ use Rattle.cpp_direct.proofs.Listed.{TakesElements, last-found}
 use Rattle.cpp_direct.proofs.Moves.{stands-split}
 use Rattle.cpp_direct.proofs.MovesOfTypes.{parameter-opens, reference-opens, signature-ends, builtin-comes, function-opens, pointed-function-opens, array-opens}
 use Rattle.cpp_direct.proofs.PrintedFunctions.{function-element, void-function-element, array-element}
-use Rattle.cpp_direct.proofs.PrintedLists.{list-more, none-print}
+use Rattle.cpp_direct.proofs.PrintedLists.{list-more, none-print, none-text}
 use Rattle.cpp_direct.proofs.Scopes.{none-scoped}
 use Rattle.cpp_direct.proofs.TypesRead.{by-step, given, popped, whole-awaited}
 use Rattle.cpp_direct.specs.declared.open.Access.{Access}
@@ -288,13 +288,6 @@ signature-closed s old new is_pointer is_first a ends apart text candidates scop
     kept-apart true e = apart-behind (codes " (*)") (subst (λ b. old.text.list.items ≡ a.front ++ (a.bytes ++ opening_text b) ++ a.texts) e a.written)
     kept-apart false e = apart-behind (codes " ") (subst (λ b. old.text.list.items ≡ a.front ++ (a.bytes ++ opening_text b) ++ a.texts) e a.written)
 
-none-written : (detail : Detail) (l : List ℕ) → PrintAll detail 0 [] l → l ≡ []
-none-written detail l all = go all.0 all.1 all.2
-  where
-    go : (texts : List (List ℕ)) → PrintEach detail 0 [] texts → joined texts ≡ l → l ≡ []
-    go [] each is = sym is
-    go (b ∷ bs) each is = absurd each
-
 -- and a lone void is no parameter
 pub void-closed : (s : Symbol) (old new : Direct) (is_pointer : Bool) (a : AwaitsSignature s old is_pointer true)
     → StandsAt s.bytes old.at (118 ∷ 69 ∷ []) → new.text ≡ old.text → new.candidates ≡ old.candidates → new.has_scope ≡ old.has_scope → new.waiting ≡ old.waiting
@@ -322,7 +315,7 @@ void-closed s old new is_pointer a stands text candidates scope_same waits at =
       front = a.front;
       bytes = a.bytes ++ opening;
       written = ap (λ x. x.list.items) text ∙ a.written
-          ∙ ap (λ l. a.front ++ (a.bytes ++ opening) ++ l) (none-written (detail_of s) a.texts (subst (λ ts. PrintAll (detail_of s) 0 ts a.texts) none a.elements))
+          ∙ ap (λ l. a.front ++ (a.bytes ++ opening) ++ l) (none-text (IsElement (detail_of s) 0) a.texts (subst (λ ts. PrintAll (detail_of s) 0 ts a.texts) none a.elements))
           ∙ append-nil (a.front ++ (a.bytes ++ opening));
       element = λ extra. void-function-element extra is_pointer a.returned a.bytes a.is_reference a.prints;
       comes = subst (λ n. Comes s a.outer (tree (pointed is_pointer made) true) n (with_pointed is_pointer a.made_in made a.state)) (omega (arith, at))

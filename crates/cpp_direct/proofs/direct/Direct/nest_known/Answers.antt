@@ -1,7 +1,8 @@
 use Rattle.std.proofs.Common.{sym}
 use Rattle.cpp_direct.specs.Symbol.{symbol_by}
 use Rattle.cpp_direct.specs.declared.open.Open.TheVariants as opens
-use Rattle.cpp_direct.proofs.Nesting.{known-goes-on, known-opens, byte-there, opened-by}
+use Rattle.cpp_direct.proofs.Kept.{opened-by}
+use Rattle.cpp_direct.proofs.Nesting.{known-goes-on, known-opens, byte-there}
 use Rattle.cpp_direct.proofs.direct.Direct.nest_known.Goals as goal
 
 pub returns : goal.returns

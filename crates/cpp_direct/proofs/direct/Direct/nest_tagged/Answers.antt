@@ -1,6 +1,7 @@
 use Rattle.cpp_direct.specs.Symbol.{symbol_by}
 use Rattle.cpp_direct.specs.declared.open.Open.TheVariants as opens
-use Rattle.cpp_direct.proofs.Nesting.{named-goes-on, named-opens, byte-there, opened-by}
+use Rattle.cpp_direct.proofs.Kept.{opened-by}
+use Rattle.cpp_direct.proofs.Nesting.{named-goes-on, named-opens, byte-there}
 use Rattle.cpp_direct.proofs.direct.Direct.nest_tagged.Goals as goal
 
 pub returns-then-byte_at-ne73 : goal.returns-then-byte_at-ne73

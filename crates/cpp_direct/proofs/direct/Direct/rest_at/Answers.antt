@@ -3,7 +3,8 @@ use Rattle.cpp_direct.specs.Symbol.{symbol_by}
 use Rattle.cpp_direct.specs.declared.open.Open.TheVariants as opens
 use Rattle.cpp_direct.specs.Holes.{StandsAt}
 use Rattle.cpp_direct.proofs.MovesOfComponents.{first-is-rest}
-use Rattle.cpp_direct.proofs.Nesting.{component-next, first-opens, byte-there, opened-by}
+use Rattle.cpp_direct.proofs.Kept.{opened-by}
+use Rattle.cpp_direct.proofs.Nesting.{component-next, first-opens, byte-there}
 use Rattle.cpp_direct.proofs.direct.Direct.rest_at.Goals as goal
 
 pub returns-then-byte_at-eq73 : goal.returns-then-byte_at-eq73
