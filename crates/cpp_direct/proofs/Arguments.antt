@@ -15,17 +15,17 @@ use Rattle.cpp_direct.specs.declared.open.Arguments.{Arguments}
 use Rattle.cpp_direct.specs.declared.open.Open.{Open}
 use Rattle.cpp_direct.specs.declared.direct.Direct.{Direct}
 use Rattle.cpp_direct.specs.Holes.{Opened, Expects, StandsAt}
-use Rattle.cpp_direct.specs.Prints.{Names, Prints, PrintAll, PrintAllAs, IsElementAs, PrintEachBy, PrintAllBy, joined, list_of}
-use Rattle.cpp_direct.specs.WriterInvariant.{AwaitsArgument, Keeps, Scope, arguments_or_pack, element_kind, below, scoped_in, is_noted, may_name, AreAmong, ArgumentsGoOn, Belongs, EndsNamed, GoesOn, IsAmong, IsKnown, IsScoped, IsTemplate, IsWriting, Listing, of_template, of_pack, Owns, Stands, extra_of, in_front_of_next, led_by, list_with, nowhere, place_of, Closes}
+use Rattle.cpp_direct.specs.Prints.{Names, Prints, PrintAll, PrintAllAs, IsElementAs, PrintAllBy, list_of}
+use Rattle.cpp_direct.specs.WriterInvariant.{AwaitsArgument, Keeps, Scope, arguments_or_pack, element_kind, below, scoped_in, is_noted, may_name, AreAmong, ArgumentsGoOn, Belongs, EndsNamed, GoesOn, IsAmong, IsKnown, IsScoped, IsTemplate, IsWriting, Owns, Stands, extra_of, in_front_of_next, led_by, list_with, nowhere, place_of, Closes}
 use Rattle.cpp_direct.specs.MidStep.{AreKnown, AwaitsKnownArgument, IsArgumentRead, IsListEnded, KnowsMore, argument_around, argument_entry}
 use Rattle.cpp_direct.specs.Written.{Writes}
 use Rattle.cpp_direct.proofs.Ending.{next-written}
-use Rattle.cpp_direct.proofs.Kept.{keeps-same, keeps-written, reverse-last, template-stays, type-comes}
+use Rattle.cpp_direct.proofs.Kept.{keeps-same, keeps-written, reverse-last, template-stays, type-comes, none-known}
 use Rattle.cpp_direct.proofs.Listed.{last-found, element-goes-on, list-kind, pack-goes-on, some-elements, template-listed}
 use Rattle.cpp_direct.proofs.Moves.{expects-empty}
 use Rattle.cpp_direct.proofs.MovesOfLists.{element-awaits}
 use Rattle.cpp_direct.proofs.PrintedLists.{all-as, element-as, next-prints, none-print, none-print-as, type-element, pack-element, list-with-none, none-text}
-use Rattle.cpp_direct.proofs.Scopes.{among-stay, none-known, none-scoped, elements-there}
+use Rattle.cpp_direct.proofs.Scopes.{among-stay, none-scoped, there-still}
 use Rattle.cpp_direct.specs.declared.open.Open.TheVariants as opens
 use Rattle.cpp_direct.specs.declared.open.Step.TheVariants as steps
 
@@ -434,7 +434,7 @@ pack-closes s old new from to number size place known more is_reference p ends s
     )
     (subst (λ n. Owns s p.owner (below s p.scope p.rest) p.front (instance p.template (list own nil)) n p.state) (sym at) owns)
     (λ k o.
-    let there = elements-there size more k in
+    let there = there-still more.encoding size more k in
     let h = among k (subst IsKnown there o) in
     inr (
       ap (λ (q : Argument). q.is_pack) there ∙ h.1,

@@ -3,10 +3,10 @@ use Rattle.sym_print.specs.declared.detail.Detail.{Detail}
 use Rattle.cpp_grammar.specs.Unfolding.{byte_of, close}
 use Rattle.cpp_grammar.specs.Meaning.{meaning, listed_value}
 use Rattle.cpp_direct.specs.Symbol.{detail_of, Symbol}
-use Rattle.cpp_direct.proofs.Kept.{candidate-found, keeps-as, keeps-grown, keeps-same, keeps-written, made-here, piece-found, placed-stays, value-added, value-comes}
+use Rattle.cpp_direct.proofs.Kept.{candidate-found, keeps-as, keeps-grown, keeps-same, keeps-written, made-here, piece-found, placed-stays, value-added, value-comes, candidate-inside}
 use Rattle.cpp_direct.proofs.Listed.{some-elements}
 use Rattle.cpp_direct.proofs.Moves.{hole, eats, byte-opens, next-part, closes, none-fills, number-fills, is_eaten, stands-join, stands-split, expects-empty, open_at, fill, filled-at}
-use Rattle.cpp_direct.proofs.MovesOfTypes.{open-substitution-opens, solid-opens, rvalue-opens}
+use Rattle.cpp_direct.proofs.MovesOfTypes.{open-substitution-opens, solid-opens, rvalue-opens, no-pack-named}
 use Rattle.cpp_direct.proofs.PrintedTypes.{parameter-given, expansion-element}
 use Rattle.cpp_direct.specs.declared.open.Mark.{Mark}
 use Rattle.cpp_direct.specs.Holes.{Opened, StandsAt, Comes, candidate, with_candidate, Expects, IsTyped}
@@ -22,8 +22,8 @@ use Rattle.cpp_direct.specs.declared.open.Arguments.{Arguments}
 use Rattle.cpp_grammar.specs.Between.{Going, between, after, applied, listed_so_far, parameter_so_far, index_of, under_expansion}
 use Rattle.cpp_grammar.specs.Grammar.{may_be_empty, number_of_kind, parts_of}
 use Rattle.cpp_grammar.specs.Parts.{types_of}
-use Rattle.cpp_grammar.specs.References.{appended, is_function_type, packs_in, with_packs, parameter_named, with_type}
-use Rattle.cpp_grammar.specs.Scope.{arguments_of, element, count, length_if_pack, pack_length}
+use Rattle.cpp_grammar.specs.References.{appended, is_function_type, with_packs, parameter_named, with_type}
+use Rattle.cpp_grammar.specs.Scope.{arguments_of, element, count, length_if_pack}
 use Rattle.cpp_grammar.specs.Term.{Term, parameter, expansion, rvalue, list, nil, pack}
 use Rattle.cpp_grammar.specs.Values.{tree, State, Around, text_of, is_there, letter_of, part, piece_of, tree_of, is_listed}
 use Rattle.cpp_grammar.specs.declared.kind.Kind.{Kind}
@@ -173,19 +173,10 @@ named-single s scope around open_ arguments own scoped found is k bytes e =
     let same : here.all ≡ arguments = cc (sym here.scope_is ∙ is) in
     subst (λ l. length_if_pack (element l k) ≡ None) same (ap length_if_pack (here.there plain.1).0 ∙ here.no_pack)
 
--- so a type that names them names no pack
-no-pack-named : (scope : Option Term) (t : Term) → ((arguments : Term) → scope ≡ Some arguments → pack_length arguments t ≡ None) → packs_in scope t ≡ None
-unfolding packs_in
-no-pack-named None t none = refl
-no-pack-named (Some arguments) t none = none arguments refl
-
 -- it is written once more
 pub again-inside : (s : Symbol) (w : Direct) (k : Candidate) → IsNamedAgain s w k → (k.from ≤ k.to) × (k.to ≤ length w.text.list.items)
 again-inside s w k p =
-    let text = w.text.list.items in
-    let c = candidate-found text w.candidates.list.items p.awaits.state.candidates (counted_value Seq36 p.digits) k p.awaits.keeps.candidates p.ordered p.found in
-    let h = piece-found text c.2.front c.2.bytes c.2.back k.from k.to c.2.written c.2.from_is c.2.to_is in
-    (h.0, h.1)
+    candidate-inside s (record w { at = p.before }) p.awaits.state.candidates (counted_value Seq36 p.digits) k p.awaits.keeps p.ordered p.found
 
 pub dependent-again : (s : Symbol) (w new : Direct) (k : Candidate) (all : Arguments) → IsNamedAgain s w k
     → argument_of (reverse w.waiting.list.items) ≡ Some all → all.encoding ≢ 0 → Writes w new (take (k.to - k.from) (drop k.from w.text.list.items))

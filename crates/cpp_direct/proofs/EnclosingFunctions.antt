@@ -14,7 +14,7 @@ use Rattle.cpp_grammar.specs.Scope.{has_return_type, arguments_of}
 use Rattle.cpp_grammar.specs.References.{is_function_type}
 use Rattle.cpp_grammar.specs.Values.{State, Value, local_number, nothing_there, tree, named, tree_of}
 use Rattle.cpp_grammar.specs.Between.{after, in_name, in_types, no_items}
-use Rattle.cpp_grammar.specs.Meaning.{encoding_of, is_nil, is_void, parameters}
+use Rattle.cpp_grammar.specs.Meaning.{encoding_of}
 use Rattle.cpp_direct.specs.declared.marks.MarkPlace.{MarkPlace}
 use Rattle.cpp_direct.specs.declared.open.Mark.{Mark}
 use Rattle.cpp_direct.specs.declared.open.Mark.TheVariants as marks
@@ -47,7 +47,7 @@ use Rattle.cpp_direct.proofs.PrintedLists.{list-with-none, all-in, element-in, n
 use Rattle.cpp_direct.proofs.PrintedParts.{has-none, has-parameters}
 use Rattle.cpp_direct.proofs.PrintedLocals.{function-encloses, name-encloses, object-enclosing, returned-enclosing, lambda-prints, lambda-list-prints, local-prints}
 use Rattle.cpp_direct.proofs.PrintedNames.{as-name, source-prints}
-use Rattle.cpp_direct.proofs.PrintedSymbols.{encoding-plain, function-shows, encoding-returned, object-encoded, parameters-kept, void-shows}
+use Rattle.cpp_direct.proofs.PrintedSymbols.{encoding-plain, function-shows, encoding-returned, object-encoded, parameters-kept, void-shows, made-void, made-with}
 use Rattle.cpp_direct.proofs.Scopes.{member-named, none-scoped, plain-named}
 use Rattle.cpp_direct.specs.WrittenParts.{IsUnmarked}
 use Rattle.cpp_direct.proofs.Unmarked.{name-unmarked, is-no-mark, more-unmarked}
@@ -364,22 +364,6 @@ object-within s w mark from p =
       within = p.goes.onward nothing_there w.at p.state (expects-empty s Kind.Items p.goes.around p.goes.inner w.at p.state p.goes.awaits refl);
     }
 
--- a lone void makes a function without parameters
-enclosed-void : (own returned : Term) (mark : Mark) (make : Term → Term)
-    → ((t rest : Term) → make (list t rest) ≡ function own (qualifiers (has_const mark)) (called_on mark) returned (parameters (list t rest)))
-    → make (list_of (builtin (118 ∷ []) ∷ [])) ≡ function own (qualifiers (has_const mark)) (called_on mark) returned nil
-unfolding parameters is_void is_nil
-enclosed-void own returned mark make makes = makes (builtin (118 ∷ [])) nil
-
--- parameters that aren't a lone void are those of the function that they make
-enclosed-with : (own returned : Term) (mark : Mark) (make : Term → Term)
-    → ((t rest : Term) → make (list t rest) ≡ function own (qualifiers (has_const mark)) (called_on mark) returned (parameters (list t rest)))
-    → (ts : List Term) → ts ≢ [] → parameters (list_of ts) ≡ list_of ts
-    → make (list_of ts) ≡ function own (qualifiers (has_const mark)) (called_on mark) returned (list_of ts)
-enclosed-with own returned mark make makes [] some kept = absurd (some refl)
-enclosed-with own returned mark make makes (t ∷ ts) some kept =
-    makes t (list_of ts) ∙ ap (function own (qualifiers (has_const mark)) (called_on mark) returned) kept
-
 -- a function with a lone void is read
 pub void-within : (s : Symbol) (w here new : Direct) (mark : Mark) (from : ℕ) → AwaitsEnclosingParameters s w mark from
     → StandsAt s.bytes w.at (118 ∷ []) → here.text ≡ w.text → here.candidates ≡ w.candidates → here.waiting ≡ w.waiting
@@ -395,7 +379,7 @@ void-within s w here new mark from p stands text candidates waiting scope at one
     enclosing-read s new mark from (w.at + 1) p.state e p.front (b ++ codes "()" ++ q)
     (keeps-written s here new (codes "()") p.state.candidates one (keeps-same s w here p.state.candidates text candidates scope p.keeps))
     (ap (λ l. l ++ q) (one.text ∙ ap (λ v. v.list.items ++ codes "()") text ∙ ap (λ l. l ++ codes "()") p.written) ∙ behind-three p.front b (codes "()") q) p.from_is
-    (subst (λ t. Encloses (detail_of s) t (b ++ codes "()" ++ q)) (sym (enclosed-void f.own f.returned mark p.make f.makes))
+    (subst (λ t. Encloses (detail_of s) t (b ++ codes "()" ++ q)) (sym (made-void f.own f.returned mark p.make f.makes))
     (returned-enclosing (detail_of s) f.own (qualifiers (has_const mark)) (called_on mark) f.returned nil (b ++ codes "()" ++ q)
     (function-encloses (detail_of s) f.own (qualifiers (has_const mark)) (called_on mark) nil (b ++ codes "()" ++ q) shows)))
     (ap (λ v. reverse v.list.items) (one.waiting ∙ waiting)) (one.at ∙ at)
@@ -409,7 +393,7 @@ void-unwritten s w here mark from p stands text candidates waiting scope at bare
     let f = p.is_enclosing in
     enclosing-read s here marks.Plain from (w.at + 1) p.state (p.make (list_of (builtin (118 ∷ []) ∷ []))) p.front p.name
     (keeps-same s w here p.state.candidates text candidates scope p.keeps) (append-nil here.text.list.items ∙ ap (λ v. v.list.items) text ∙ p.written) p.from_is
-    (subst (λ t. Encloses (detail_of s) t p.name) (sym (enclosed-void f.own f.returned mark p.make f.makes))
+    (subst (λ t. Encloses (detail_of s) t p.name) (sym (made-void f.own f.returned mark p.make f.makes))
     (name-encloses (has-none s bare) f.own p.name f.prints (qualifiers (has_const mark)) (called_on mark) f.returned nil))
     (ap (λ v. reverse v.list.items) waiting) at
     (void-read s nowhere (TypeWithin s (below s p.scope (reverse w.waiting.list.items)) p.front) p.make w.at p.state p.goes stands)
@@ -420,7 +404,7 @@ parameters-end : (s : Symbol) (w : Direct) (mark : Mark) (from to : ℕ) (p : Is
     × TypeWithin s (below s p.scope p.rest) p.front (p.make (list_of p.ts)) w.at p.state
 unfolding no_items may_be_empty
 parameters-end s w mark from to p apart = let f = p.is_enclosing in (
-  enclosed-with f.own f.returned mark p.make f.makes p.ts p.some (parameters-kept (detail_of s) (types_of f.own) 6 p.ts p.texts f.elements apart),
+  made-with f.own f.returned mark p.make f.makes p.ts p.some (parameters-kept (detail_of s) (types_of f.own) 6 p.ts p.texts f.elements apart),
   subst (λ u. TypeWithin s (below s p.scope p.rest) p.front (p.make u) w.at p.state) (list-with-none p.ts)
       (p.goes.onward nothing_there w.at p.state (expects-empty s Kind.Items p.goes.around p.goes.inner w.at p.state p.goes.awaits refl)),
 )

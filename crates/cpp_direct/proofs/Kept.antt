@@ -13,12 +13,14 @@ use Rattle.cpp_direct.specs.Symbol.{detail_of, Symbol}
 use Rattle.cpp_direct.specs.declared.open.Candidate.{Candidate}
 use Rattle.cpp_direct.specs.declared.open.Argument.{Argument}
 use Rattle.cpp_direct.specs.declared.open.Nest.{Nest}
+use Rattle.cpp_direct.specs.declared.open.Purpose.{Purpose}
+use Rattle.cpp_direct.specs.declared.open.Purpose.TheVariants as purposes
 use Rattle.cpp_direct.specs.declared.open.Open.{Open}
 use Rattle.cpp_direct.specs.declared.open.Step.{Step}
 use Rattle.cpp_direct.specs.declared.direct.Direct.{Direct}
 use Rattle.cpp_direct.specs.Holes.{Comes, Opened, candidate, with_candidate, unless_listed}
 use Rattle.cpp_direct.specs.Prints.{Names, PrintsAs}
-use Rattle.cpp_direct.specs.WriterInvariant.{AreCandidates, AreNamed, ArgumentsGoOn, ExpectsType, HasScope, IsBefore, IsCandidate, IsNaming, IsNest, IsPlaced, IsScopeOf, IsScoped, IsTemplate, IsWriting, Keeps, Scope, Stands, argument_of, arguments_in, below, encoding_place, is_within_type, no_scope, of_template, place_of}
+use Rattle.cpp_direct.specs.WriterInvariant.{AreCandidates, AreNamed, ArgumentsGoOn, ExpectsType, HasScope, IsCandidate, IsNaming, IsNest, IsPlaced, IsScopeOf, IsScoped, IsTemplate, IsWriting, Keeps, Scope, Stands, argument_of, arguments_in, below, encoding_place, is_within_type, no_scope, of_template, place_of, IsOwn, is_type, IsKnown, nowhere}
 use Rattle.cpp_direct.specs.Written.{Writes, Reads, added, added_unless, IsKeptTo, AreKeptTo}
 use Rattle.std.specs.Prelude.{slice_set}
 use Rattle.cpp_grammar.specs.Values as values
@@ -112,13 +114,17 @@ placed-stays text more p bytes h = record {
 named-stays : (text more : List ℕ) (scope : Scope) → AreNamed text scope → AreNamed (text ++ more) scope
 named-stays text more scope named = λ number plain. let n = named number plain in (n.0, n.1, placed-stays text more (place_of scope.arguments number) n.0 n.2)
 
--- nothing may be named
+-- none is known
+pub none-known : (k : ℕ) → IsKnown (place_of nowhere k) → ⊥
+none-known zero o = absurd (omega (arith, o))
+none-known (suc zero) o = absurd (omega (arith, o))
+none-known (suc (suc zero)) o = absurd (omega (arith, o))
+none-known (suc (suc (suc zero))) o = absurd (omega (arith, o))
+none-known (suc (suc (suc (suc k)))) o = absurd (omega (arith, o))
+
+-- and nothing may be named
 pub none-named : (text : List ℕ) → AreNamed text no_scope
-none-named text zero plain = absurd (omega (arith, plain.0))
-none-named text (suc zero) plain = absurd (omega (arith, plain.0))
-none-named text (suc (suc zero)) plain = absurd (omega (arith, plain.0))
-none-named text (suc (suc (suc zero))) plain = absurd (omega (arith, plain.0))
-none-named text (suc (suc (suc (suc number)))) plain = absurd (omega (arith, plain.0))
+none-named text number plain = absurd (none-known number plain.0)
 
 none-own : (s : Symbol) → IsScopeOf s no_scope
 none-own s = record { encoded = λ real. absurd (real refl); plain = λ number bytes e. cc e }
@@ -284,6 +290,14 @@ candidate-found {s} {names} text (x ∷ ks) (y ∷ cs) zero k p ordered found = 
     Named None = ⊥
 candidate-found text (x ∷ ks) (y ∷ cs) (suc n) k p ordered found = candidate-found text ks cs n k p.1 ordered found
 
+-- so its text can be written once more
+pub candidate-inside : (s : Symbol) {scope : Scope} (w : Direct) (cs : List values.Candidate) (n : ℕ) (k : Candidate) → Keeps s scope w cs → k.from ≤ k.to
+    → slice_get w.candidates.list.items n ≡ Some k → (k.from ≤ k.to) × (k.to ≤ length w.text.list.items)
+candidate-inside s w cs n k keeps ordered found =
+    let c = candidate-found w.text.list.items w.candidates.list.items cs n k keeps.candidates ordered found in
+    let piece = piece-found w.text.list.items c.2.front c.2.bytes c.2.back k.from k.to c.2.written c.2.from_is c.2.to_is in
+    (piece.0, piece.1)
+
 -- ## What is open
 
 -- the last of a list is the first of it turned
@@ -295,6 +309,12 @@ pub last-reversed : {X : Type 0} (xs rest : List X) (x : X) → reverse xs ≡ x
 last-reversed xs rest x e = sym (reverse-reverse xs) ∙ ap reverse e ∙ reverse-append (x ∷ []) rest
 
 -- ## Nested names
+
+-- the name of a function or of data names none
+pub type-named : (purpose : Purpose) (d : Bool) → (IsOwn purpose → d ≡ false) → d ≡ true → is_type purpose ≡ true
+type-named purposes.Type d closed e = refl
+type-named (purposes.Name mark) d closed e = absurd (false≢true (sym (closed tt) ∙ e))
+type-named (purposes.Enclosing mark) d closed e = absurd (false≢true (sym (closed tt) ∙ e))
 
 -- a nested name stays one where more is written
 pub nest-stays : {detail : Detail} {names : Names} (front bytes text more : List ℕ) (nest : Nest) (t : Term) → IsNest detail names front bytes text nest t

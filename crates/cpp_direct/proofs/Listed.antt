@@ -15,8 +15,6 @@ use Rattle.cpp_direct.specs.WrittenParts.{opening_bracket, closing_bracket}
 use Rattle.cpp_direct.specs.Symbol.{detail_of, Symbol}
 use Rattle.cpp_direct.specs.declared.open.Mark.TheVariants as marks
 use Rattle.cpp_direct.specs.declared.open.Nest.{Nest}
-use Rattle.cpp_direct.specs.declared.open.Purpose.{Purpose}
-use Rattle.cpp_direct.specs.declared.open.Purpose.TheVariants as purposes
 use Rattle.cpp_direct.specs.declared.open.Open.{Open}
 use Rattle.cpp_direct.specs.declared.open.Open.TheVariants as opens
 use Rattle.cpp_direct.specs.declared.open.Step.TheVariants as steps
@@ -24,7 +22,7 @@ use Rattle.cpp_direct.specs.declared.direct.Direct.{Direct}
 use Rattle.cpp_direct.specs.Holes.{Opened, Comes, IsListKind, ListGoesOn, StandsAt, AwaitsComponent, with_candidate}
 use Rattle.cpp_direct.specs.HolesOfLists.{IsArgumentKind}
 use Rattle.cpp_direct.specs.Prints.{Names, PrintAllAs, PrintsAs, list_of}
-use Rattle.cpp_direct.specs.WriterInvariant.{Below, HasArguments, arguments_in, below, IsListing, IsNaming, IsScoped, IsOwn, Keeps, Scope, scoped_in, is_noted, is_type, may_name, IsNest, IsTail, IsTemplate, IsWriting, Owns, Serves, ArgumentsGoOn, AwaitsElementOf, AwaitsEnumerator, Belongs, Closes, ElementsGoOn, EnumeratorGoesOn, GoesOn, Listing, of_template, of_pack, Stands, element_kind, extra_of, led_by, list_with, in_front_of_next, nowhere}
+use Rattle.cpp_direct.specs.WriterInvariant.{Below, HasArguments, arguments_in, below, IsListing, IsNaming, IsScoped, Keeps, Scope, scoped_in, is_noted, may_name, IsNest, IsTail, IsTemplate, IsWriting, Owns, Serves, ArgumentsGoOn, AwaitsElementOf, AwaitsEnumerator, Belongs, Closes, ElementsGoOn, EnumeratorGoesOn, GoesOn, Listing, of_template, of_pack, Stands, element_kind, extra_of, led_by, list_with, in_front_of_next, nowhere}
 use Rattle.cpp_direct.specs.MidStep.{AreKnown, IsListEnded, AwaitsNextArgument, IsNameEnded}
 use Rattle.cpp_direct.specs.Written.{Writes, added}
 use Rattle.cpp_direct.proofs.Moves.{expects-empty, stands-split}
@@ -33,8 +31,8 @@ use Rattle.cpp_direct.proofs.PrintedLists.{element-as, list-more, list-with-none
 use Rattle.cpp_direct.proofs.PrintedNames.{as-name}
 use Rattle.cpp_direct.proofs.PrintedNests.{instance-as, instance-prints, instance-class}
 use Rattle.cpp_direct.proofs.PrintedTypes.{prints-as}
-use Rattle.cpp_direct.proofs.Scopes.{element-there, instance-returns, known-stay, none-known, none-scoped, structor-returns, plain-named}
-use Rattle.cpp_direct.proofs.Kept.{keeps-grown, keeps-same, keeps-with, made-here, scoped-within, template-stays, type-comes, value-added, reverse-last, last-reversed}
+use Rattle.cpp_direct.proofs.Scopes.{element-there, instance-returns, known-stay, none-scoped, structor-returns, plain-named}
+use Rattle.cpp_direct.proofs.Kept.{keeps-grown, keeps-same, keeps-with, made-here, scoped-within, template-stays, type-comes, value-added, reverse-last, last-reversed, type-named, none-known}
 
 -- ## What is open
 
@@ -114,7 +112,7 @@ abbrev pub comma : (is_first : Bool) → List ℕ
 comma true = []
 comma false = codes ", "
 
-in-front : (ts : List Term) (l : List ℕ) (first : Bool) → (first ≡ true → ts ≡ []) → (first ≡ false → ts ≢ [])
+pub in-front : (ts : List Term) (l : List ℕ) (first : Bool) → (first ≡ true → ts ≡ []) → (first ≡ false → ts ≢ [])
     → in_front_of_next ts l ≡ l ++ comma first
 in-front [] l true none some = sym (append-nil l)
 in-front [] l false none some = absurd (some refl refl)
@@ -279,12 +277,6 @@ nest-closed s w nest p =
       );
     }
 
--- a nested name that names arguments is a type
-in-type : (purpose : Purpose) (is_dependent : Bool) → (IsOwn purpose → is_dependent ≡ false) → is_dependent ≡ true → is_type purpose ≡ true
-in-type purposes.Type is_dependent closed named = refl
-in-type (purposes.Name mark) is_dependent closed named = absurd (false≢true (sym (closed tt) ∙ named))
-in-type (purposes.Enclosing mark) is_dependent closed named = absurd (false≢true (sym (closed tt) ∙ named))
-
 -- the arguments of the first piece of a nested name
 pub first-closed : (s : Symbol) (w new : Direct) (nest : Nest) → IsClosed s w (opens.FirstArguments nest)
     → new.candidates.list.items ≡ added w nest.from false nest.is_dependent → new.text ≡ w.text → new.waiting ≡ w.waiting → new.has_scope ≡ w.has_scope
@@ -304,7 +296,7 @@ first-closed s w new nest p candidates text waiting scope_same at =
       state = state;
       scope = scope;
       keeps = keeps-with s w now p.state p.front bytes nest.from t around false nest.is_dependent p.keeps p.written p.is_template.from_is is_nest.prints
-          (λ named. made-here s scope around (reverse w.waiting.list.items) (p.owns.3 (in-type nest.purpose nest.is_dependent p.is_template.closed named))
+          (λ named. made-here s scope around (reverse w.waiting.list.items) (p.owns.3 (type-named nest.purpose nest.is_dependent p.is_template.closed named))
           (p.owns.4 named)) text candidates scope_same;
       is_before = (
         t,

@@ -3,9 +3,8 @@ use Rattle.sym_print.specs.declared.detail.Detail.{Detail}
 use Rattle.cpp_direct.specs.WrittenParts.{opening_bracket}
 use Rattle.cpp_direct.specs.declared.open.Arguments.{Arguments}
 use Rattle.cpp_direct.proofs.Unmarked.{name-unmarked}
-use Rattle.cpp_direct.proofs.Scopes.{none-known, scoped-inside, member-named}
-use Rattle.std.proofs.Common.{◌≡◌, ◌≢◌, ℕ, ◌+◌, ◌-◌, ◌≤◌, List, [], ◌∷◌, ◌++◌, length, take, drop, reverse, slice_get, Bool, true, false, Option, Some, None, refl, ap, sym, ◌∙◌, subst, arith, codes, append-nil, append_assoc, ◌&&◌, length-append}
-use Rattle.std.specs.Option.{IfSome, OnSome}
+use Rattle.cpp_direct.proofs.Scopes.{scoped-inside, member-named}
+use Rattle.std.proofs.Common.{◌≡◌, ◌≢◌, ℕ, ◌+◌, ◌-◌, ◌≤◌, List, [], ◌∷◌, ◌++◌, length, take, drop, reverse, slice_get, Bool, true, false, Some, refl, ap, sym, ◌∙◌, subst, arith, codes, append-nil, append_assoc, ◌&&◌, length-append}
 use Rattle.std.proofs.lemmas.Bool.{false≢true}
 use Rattle.sym_core.specs.declared.NumberKind.TheVariants.{Seq36}
 use Rattle.sym_core.specs.Value.{counted_value}
@@ -27,18 +26,17 @@ use Rattle.cpp_direct.specs.declared.open.Purpose.{Purpose}
 use Rattle.cpp_direct.specs.declared.open.Purpose.TheVariants as purposes
 use Rattle.cpp_direct.specs.declared.open.Open.{Open}
 use Rattle.cpp_direct.specs.declared.open.Open.TheVariants as opens
-use Rattle.cpp_direct.specs.declared.open.Step.{Step}
 use Rattle.cpp_direct.specs.declared.open.Step.TheVariants as steps
 use Rattle.cpp_direct.specs.declared.direct.Direct.{Direct}
 use Rattle.cpp_direct.specs.Holes.{Opened, Comes, StandsAt, IsNameAt, IsSeqAt, SamePasses, NestGoesOn, AwaitsComponent, with_candidate, unless_listed, IsTagAt}
 use Rattle.cpp_direct.specs.HolesOfNests.{IsRest, IsFirstRest}
 use Rattle.cpp_direct.specs.Names.{tag_text}
 use Rattle.cpp_direct.specs.Prints.{Names, Prints, PrintsAs, NamesClass}
-use Rattle.cpp_direct.specs.WriterInvariant.{HasArguments, IsNaming, IsNest, IsNestScoped, IsNesting, IsOwn, IsScoped, IsTemplate, ArgumentsGoOn, Keeps, Scope, Serves, IsWriting, below, encoding_place, is_type, qualifiers, IsKnown, nowhere, place_of}
+use Rattle.cpp_direct.specs.WriterInvariant.{HasArguments, IsNaming, IsNest, IsNestScoped, IsNesting, IsOwn, IsScoped, Keeps, Scope, Serves, IsWriting, below, encoding_place, is_type, qualifiers, IsKnown, nowhere, place_of}
 use Rattle.cpp_direct.specs.MidStep.{AwaitsNest, IsNestKnown, IsNestNamed, IsNameEnded, IsOperatorRead}
 use Rattle.cpp_direct.specs.Written.{Reads, added, added_unless}
 use Rattle.cpp_direct.proofs.Moves.{alone-arguments, any-tail, expects-empty, stands-join, comes-moved}
-use Rattle.cpp_direct.proofs.Kept.{keeps-grown, keeps-read, keeps-same, keeps-with, keeps-unless, made-here, candidate-found, piece-found, nest-stays, reverse-last, value-comes, Lists, OpensArguments, list-begins}
+use Rattle.cpp_direct.proofs.Kept.{keeps-grown, keeps-read, keeps-same, keeps-with, keeps-unless, made-here, candidate-found, piece-found, nest-stays, value-comes, Lists, OpensArguments, list-begins, type-named, none-known}
 use Rattle.cpp_direct.proofs.MovesOfComponents.{component-awaits, component-outside, any-arguments, instance-arguments, nest-end, tag-follows}
 use Rattle.cpp_direct.proofs.MovesOfLists.{arguments-open}
 use Rattle.cpp_direct.proofs.MovesOfNests.{nest-source, nest-abbreviation, nest-substitution, nest-std}
@@ -66,12 +64,6 @@ nest-closed s {scope} old new around purpose scoped waiting_is purpose_is closed
   naming = λ e. absurd (false≢true (sym closed ∙ e));
 }
 
--- the name of a function or of data names none
-type-named : (purpose : Purpose) (d : Bool) → (IsOwn purpose → d ≡ false) → d ≡ true → is_type purpose ≡ true
-type-named purposes.Type d closed e = refl
-type-named (purposes.Name mark) d closed e = absurd (false≢true (sym (closed tt) ∙ e))
-type-named (purposes.Enclosing mark) d closed e = absurd (false≢true (sym (closed tt) ∙ e))
-
 -- one that names any is in the symbol's own encoding
 nest-here : (s : Symbol) {scope : Scope} (w : Direct) (around : Around) → IsNestScoped s scope w around → (IsOwn w.nest.purpose → w.nest.is_dependent ≡ false)
     → w.nest.is_dependent ≡ true → around.encoding ≡ encoding_place s.bytes
@@ -86,10 +78,6 @@ closed-prints {detail} names {t = t} {bytes = bytes} closed prints = subst (λ b
 no-function : (detail : Detail) (names : Names) (d : Bool) (t : Term) (bytes : List ℕ) → PrintsAs detail names d t bytes false → is_function_type t ≡ false
 no-function detail names true t bytes prints = prints.no_function
 no-function detail names false t bytes prints = prints.no_function
-
--- what a byte says of the symbol, where it isn't after its end
-pub byte-there : (s : List ℕ) (at byte known : ℕ) → byte ≡ known → known ≢ 0 → (byte ≢ 0 → StandsAt s at (byte ∷ [])) → StandsAt s at (known ∷ [])
-byte-there s at byte known is some there = subst (λ b. StandsAt s at (b ∷ [])) is (there (λ e. some (sym is ∙ e)))
 
 -- ## A name with or without arguments
 
@@ -551,15 +539,6 @@ abbreviation-begins s old mid purpose letter a here behind there text_is candida
     refl refl (subst (λ n. NestGoesOn s Kind.NestRestOrEnd a.outer a.around t true n a.state) (omega (arith, at_is))
     (nest-abbreviation s a.outer a.around old.at a.state letter a.awaits (stands-join s.bytes old.at (83 ∷ []) (letter ∷ []) here (behind some))
     (abbreviation-listed letter there)))
-
--- what a candidate says of the text
-pub candidate-text : (s : Symbol) (w : Direct) (purpose : Purpose) (a : AwaitsNest s w purpose) (n : ℕ) (k : Candidate)
-    → k.from ≤ k.to → slice_get w.candidates.list.items n ≡ Some k → (k.from ≤ k.to) × (k.to ≤ length w.text.list.items)
-candidate-text s w purpose a n k ordered found =
-    let one = candidate-found w.text.list.items w.candidates.list.items a.state.candidates n k a.keeps.candidates ordered found in
-    let is = one.2 in
-    let piece = piece-found w.text.list.items is.front is.bytes is.back k.from k.to is.written is.from_is is.to_is in
-    (piece.0, piece.1)
 
 -- a reference begins a nested name
 pub reference-begins : (s : Symbol) (old mid : Direct) (purpose : Purpose) (digits : List ℕ) (k : Candidate) → AwaitsNest s old purpose

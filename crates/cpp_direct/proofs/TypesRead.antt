@@ -14,7 +14,6 @@ use Rattle.cpp_grammar.specs.Texts.{Naming, look_up, builtin_texts, abbreviation
 use Rattle.cpp_grammar.specs.Parts.{source_text}
 use Rattle.cpp_grammar.specs.Values.{State, Around, outermost, tree}
 use Rattle.cpp_grammar.specs.Between.{after, inside, no_items}
-use Rattle.cpp_direct.specs.WrittenParts.{opening_bracket}
 use Rattle.cpp_direct.specs.Symbol.{detail_of, Symbol}
 use Rattle.cpp_direct.specs.Bytes.{is_builtin, is_builtin_with_d, is_abbreviated}
 use Rattle.cpp_direct.specs.Letters.{builtin_letters, builtin_letters_with_d, abbreviation_letters}
@@ -131,15 +130,15 @@ argued-done s old mid new from listed r named none stands lists opening_ =
 
 -- ## Letters of tables
 
-code_in : List ℕ → List ℕ → Bool
+unfoldable pub code_in : List ℕ → List ℕ → Bool
 code_in (c ∷ []) cs = among cs c
 code_in _ cs = true
 
-codes_in : List Naming → List ℕ → Bool
+unfoldable pub codes_in : List Naming → List ℕ → Bool
 codes_in [] cs = true
 codes_in (n ∷ rest) cs = code_in n.code cs && codes_in rest cs
 
-letter-listed : (table : List Naming) (cs : List ℕ) (letter : ℕ) → codes_in table cs ≡ true → look_up (letter ∷ []) table ≢ []
+pub letter-listed : (table : List Naming) (cs : List ℕ) (letter : ℕ) → codes_in table cs ≡ true → look_up (letter ∷ []) table ≢ []
     → among cs letter ≡ true
 unfolding look_up same_bytes code_in codes_in
 letter-listed [] cs letter all has = absurd (has refl)
@@ -339,14 +338,6 @@ abbreviation-named s old new from letter a s_stands stands has text candidates w
     (abbreviation-opens s a.kind a.around a.os old.at a.state letter a.is_named is a.begins
     (stands-join s.bytes old.at (83 ∷ []) (letter ∷ []) s_stands (stands (no-abbreviation letter is)))))
     text begins (abbreviation-prints letter has) (λ e. refl) waits
-
--- where a substitution's text is
-pub substitution-stands : (s : Symbol) (old : Direct) (n : ℕ) (k : Candidate) → AwaitsNamedType s old → k.from ≤ k.to → slice_get old.candidates.list.items n ≡ Some k
-    → (k.from ≤ k.to) × (k.to ≤ length old.text.list.items)
-substitution-stands s old n k a ordered found =
-    let c = candidate-found old.text.list.items old.candidates.list.items a.state.candidates n k a.keeps.candidates ordered found in
-    let piece = piece-found old.text.list.items c.2.front c.2.bytes c.2.back k.from k.to c.2.written c.2.from_is c.2.to_is in
-    (piece.0, piece.1)
 
 -- a substitution
 pub substitution-named : (s : Symbol) (old mid new : Direct) (n from : ℕ) (digits : List ℕ) (k : Candidate) → AwaitsNamedType s old → StandsAt s.bytes old.at (83 ∷ [])

@@ -1,9 +1,7 @@
 -- Names of encodings that are in no class, and of local entities: where a writer is after them.
-use Rattle.cpp_direct.specs.WrittenParts.{opening_bracket}
 use Rattle.cpp_direct.proofs.Unmarked.{name-unmarked}
-use Rattle.cpp_direct.proofs.Scopes.{none-known, plain-named}
-use Rattle.std.proofs.Common.{◌≡◌, ◌≢◌, ℕ, ◌+◌, length, List, [], ◌∷◌, ◌++◌, reverse, Bool, true, false, not, cond, Option, Some, None, refl, ap, sym, subst, ◌∙◌, arith, append_assoc, codes, ◌≤◌, append-nil}
-use Rattle.std.specs.Option.{IfSome, OnSome}
+use Rattle.cpp_direct.proofs.Scopes.{plain-named}
+use Rattle.std.proofs.Common.{◌≡◌, ◌≢◌, ℕ, ◌+◌, length, List, [], ◌∷◌, ◌++◌, Bool, true, false, not, cond, refl, ap, sym, subst, ◌∙◌, arith, append_assoc, codes, ◌≤◌, append-nil}
 use Rattle.std.proofs.lemmas.Bool.{false≢true}
 use Rattle.cpp_grammar.specs.declared.kind.Kind.{Kind}
 use Rattle.cpp_grammar.specs.Grammar.{may_be_empty}
@@ -13,9 +11,8 @@ use Rattle.cpp_grammar.specs.Scope.{has_return_type, arguments_of, is_structor}
 use Rattle.cpp_grammar.specs.Values.{State, piece, tree, tree_of, qualifiers_of, ref_of, Value, nothing_there, named, unqualified}
 use Rattle.cpp_grammar.specs.Between.{after, in_name, inside, no_items, with_tag, in_types}
 use Rattle.cpp_direct.specs.Symbol.{detail_of, Symbol}
-use Rattle.cpp_direct.specs.declared.open.Step.{Step}
 use Rattle.cpp_direct.specs.declared.direct.Direct.{Direct}
-use Rattle.cpp_direct.specs.Holes.{StandsAt, Comes, Expects, IsNameAt, Named, with_candidate, IsTagAt}
+use Rattle.cpp_direct.specs.Holes.{StandsAt, Comes, IsNameAt, Named, with_candidate, IsTagAt}
 use Rattle.cpp_direct.specs.Names.{IsOperatorAt, is_angle, operator_text, tag_text}
 use Rattle.cpp_direct.specs.Prints.{Prints, PrintsName, Shows}
 use Rattle.cpp_direct.specs.WriterInvariant.{IsWriting, Keeps, Scope, no_scope, nowhere, EntityBehind}
@@ -25,7 +22,7 @@ use Rattle.cpp_direct.proofs.Begins.{encoding-expected, items-await, encoded-who
 use Rattle.cpp_direct.proofs.Moves.{alone-arguments, expects-empty, stands-join}
 use Rattle.cpp_direct.proofs.MovesOfComponents.{tag-follows}
 use Rattle.cpp_direct.proofs.PrintedNests.{tagged-names, tagged-prints}
-use Rattle.cpp_direct.proofs.Kept.{keeps-grown, keeps-read, keeps-same, keeps-with, none-kept, reverse-last, Lists, OpensArguments, list-begins}
+use Rattle.cpp_direct.proofs.Kept.{keeps-grown, keeps-read, keeps-same, keeps-with, none-kept, Lists, OpensArguments, list-begins, none-known}
 use Rattle.cpp_direct.proofs.NamePlaces.{reads-then, reads-of, reads-begun}
 use Rattle.cpp_direct.proofs.MovesOfEncodings.{name-source, name-internal, name-operator, name-std, operator-piece-comes, symbol-starts, encoding-opens}
 use Rattle.cpp_direct.proofs.MovesOfLists.{arguments-open}
