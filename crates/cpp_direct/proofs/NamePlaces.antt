@@ -13,16 +13,16 @@ use Rattle.cpp_grammar.specs.Parts.{source_text}
 use Rattle.cpp_direct.specs.declared.direct.Direct.{Direct}
 use Rattle.cpp_direct.specs.declared.names.NamePlace.{NamePlace}
 use Rattle.sym_direct.proofs.Moves.{stands-join}
-use Rattle.cpp_direct.specs.Holes.{StandsAt, IsNameAt, IsTagAt, IsSeqAt}
+use Rattle.cpp_direct.specs.Holes.{StandsAt, IsNameAt, IsTagAt, IsNumberAt}
 use Rattle.cpp_direct.specs.Names.{IsLengthRead, IsNamePlace, tag_text}
 use Rattle.cpp_direct.specs.Written.{Writes, Reads}
 use Rattle.cpp_direct.specs.Marks.{IsMarkPlace}
 use Rattle.std.proofs.lemmas.Option.{slice_get_read}
 use Rattle.std.specs.Option.{OnSome}
 use Rattle.std.specs.Result.{result_ok}
-use Rattle.sym_core.specs.declared.NumberKind.TheVariants.{Decimal, Seq36, Digits}
+use Rattle.sym_core.specs.declared.NumberKind.{NumberKind}
+use Rattle.sym_core.specs.declared.NumberKind.TheVariants.{Digits}
 use Rattle.cpp_grammar.specs.Values.{signed_digits}
-use Rattle.cpp_direct.specs.HolesOfArrays.{IsSizeAt}
 use Rattle.cpp_direct.specs.HolesOfLists.{IsDigitsAt}
 use Rattle.cpp_direct.specs.MidStep.{number_text}
 use Rattle.cpp_direct.specs.declared.open.Mark.TheVariants as marks
@@ -92,36 +92,18 @@ name-found s at place h le = (
   (own-found (IsName Cpp) s at place h le).2,
 )
 
--- the number of a substitution that was found
-pub seq-found : (s : List ℕ) (at : ℕ) (place : TokenPlace) → HasToken (IsNumberToken Seq36) (drop at s) at place → at ≤ length s
-    → (digits : List ℕ) × IsSeqAt s at digits place.end × (take (place.to - place.from) (drop place.from s) ≡ digits)
-seq-found s at place h le = (
-  h.token.own,
-  record { token = h.token; is_number = h.is; own = refl; stands = (h.rest, h.split); ends = h.end },
-  (own-found (IsNumberToken Seq36) s at place h le).2,
-)
-
--- the size of an array that was found
-pub size-found : (s : List ℕ) (at : ℕ) (place : TokenPlace) → HasToken (IsNumberToken Decimal) (drop at s) at place → at ≤ length s
-    → (digits : List ℕ) × IsSizeAt s at digits place.end × (place.from ≤ place.to) × (place.to ≤ length s)
+-- a number that was found
+pub number-found : (kind : NumberKind) (s : List ℕ) (at : ℕ) (place : TokenPlace) → HasToken (IsNumberToken kind) (drop at s) at place → at ≤ length s
+    → (digits : List ℕ) × IsNumberAt kind s at digits place.end × (place.from ≤ place.to) × (place.to ≤ length s)
     × (take (place.to - place.from) (drop place.from s) ≡ digits)
-size-found s at place h le =
-    let own = own-found (IsNumberToken Decimal) s at place h le in (
+number-found kind s at place h le =
+    let own = own-found (IsNumberToken kind) s at place h le in (
       h.token.own,
       record { token = h.token; is_number = h.is; own = refl; stands = (h.rest, h.split); ends = h.end },
       own.0,
       own.1,
       own.2,
     )
-
--- the digits of an integer that were found
-pub digits-found : (s : List ℕ) (at : ℕ) (place : TokenPlace) → HasToken (IsNumberToken Digits) (drop at s) at place → at ≤ length s
-    → (digits : List ℕ) × IsDigitsAt s at digits place.end × (take (place.to - place.from) (drop place.from s) ≡ digits)
-digits-found s at place h le = (
-  h.token.own,
-  record { token = h.token; is_number = h.is; own = refl; stands = (h.rest, h.split); ends = h.end },
-  (own-found (IsNumberToken Digits) s at place h le).2,
-)
 
 -- ## What is written
 
@@ -174,10 +156,10 @@ pub digits-read : (s : List ℕ) (old new : Direct) (place : TokenPlace) (is_neg
     → written ≡ number_text (signed_digits is_negative (take (place.to - place.from) (drop place.from s)))
     → (digits : List ℕ) × IsDigitsAt s old.at digits new.at × Reads old new (number_text (signed_digits is_negative digits))
 digits-read s old new place is_negative written h le there reads is =
-    let n = digits-found s old.at place h le in (
+    let n = number-found Digits s old.at place h le in (
       n.0,
       subst (λ e. IsDigitsAt s old.at n.0 e) (sym there) n.1,
-      subst (λ l. Reads old new l) (is ∙ ap (λ d. number_text (signed_digits is_negative d)) n.2) reads,
+      subst (λ l. Reads old new l) (is ∙ ap (λ d. number_text (signed_digits is_negative d)) n.4) reads,
     )
 
 -- nothing was written yet
