@@ -143,17 +143,20 @@ closing : (o e a b d : List ℕ) → (a ++ b ++ o ++ d) ++ e ≡ a ++ (b ++ o ++
 closing o e a b d = ap (λ l. l ++ d ++ e) (append_assoc a b o) ∙ ap (λ l. l ++ e) (append_assoc a (b ++ o) d) ∙ append_assoc a (b ++ o ++ d) e
 
 -- the last bracket is written, and what was opened last is taken away
-pub closes : (s : Symbol) (old new : Direct) (owner : Open) → IsListEnded s old new.argument → new.text.list.items ≡ old.text.list.items ++ closing_bracket (detail_of s)
-    → new.candidates ≡ old.candidates → new.has_scope ≡ old.has_scope → new.at ≡ old.at → old.waiting.list.items ≡ new.waiting.list.items ++ owner ∷ []
-    → IsClosed s new owner
-closes s old new owner p text candidates scope_same at opened =
+pub closed-by : (s : Symbol) (old mid new : Direct) (x owner : Open) → IsListEnded s old new.argument → Writes old mid (closing_bracket (detail_of s))
+    → new.text ≡ mid.text → new.candidates ≡ mid.candidates → new.has_scope ≡ mid.has_scope → new.at ≡ mid.at
+    → mid.waiting.list.items ≡ new.waiting.list.items ++ x ∷ [] → x ≡ owner → IsClosed s new owner
+closed-by s old mid new x owner p writes same candidates scope_same at items is =
     let scope = p.scope in
+    let text : new.text.list.items ≡ old.text.list.items ++ closing_bracket (detail_of s) = ap (λ v. v.list.items) same ∙ writes.text in
+    let opened : old.waiting.list.items ≡ new.waiting.list.items ++ owner ∷ [] =
+    ap (λ v. v.list.items) (sym writes.waiting) ∙ items ∙ ap (λ o. new.waiting.list.items ++ o ∷ []) is in
     let last = opened-last old.waiting.list.items new.waiting.list.items owner p.owner p.rest p.open_is opened in
     let made = instance p.template (list_with p.ts p.tail) in
     record {
       state = p.state;
       scope = scope;
-      keeps = keeps-grown s old new (closing_bracket (detail_of s)) p.state.candidates text candidates scope_same p.keeps;
+      keeps = keeps-grown s old new (closing_bracket (detail_of s)) p.state.candidates text (candidates ∙ writes.candidates) (scope_same ∙ writes.scope) p.keeps;
       front = p.front;
       template = p.template;
       name = p.name;
@@ -166,20 +169,11 @@ closes s old new owner p text candidates scope_same at opened =
           (template-stays (detail_of s) scope.names p.owner p.front p.template p.name old.text.list.items (closing_bracket (detail_of s)) p.is_template));
       elements = subst (λ o. PrintAllAs (detail_of s) scope.names (is_noted o) 3 p.ts p.arguments) last.0 p.elements;
       written = text ∙ ap (λ l. l ++ closing_bracket (detail_of s)) p.written ∙ closing (opening_bracket (detail_of s)) (closing_bracket (detail_of s)) p.front p.name p.arguments;
-      owns = subst (λ n. Owns s owner (below s scope (reverse new.waiting.list.items)) p.front made n p.state) (sym at)
+      owns = subst (λ n. Owns s owner (below s scope (reverse new.waiting.list.items)) p.front made n p.state) (sym (at ∙ writes.at))
           (subst (λ r. Owns s owner (below s scope r) p.front made old.at p.state) last.1
           (subst (λ o. Owns s o (below s scope p.rest) p.front made old.at p.state) last.0 p.owns));
       known = subst (λ l. AreKnown (detail_of s) l new.argument p.ts p.tail) (sym text) (known-stay old.text.list.items (closing_bracket (detail_of s)) new.argument p.ts p.tail p.known);
     }
-
--- the same by what was written and taken away
-pub closed-by : (s : Symbol) (old mid new : Direct) (x owner : Open) → IsListEnded s old new.argument → Writes old mid (closing_bracket (detail_of s))
-    → new.text ≡ mid.text → new.candidates ≡ mid.candidates → new.has_scope ≡ mid.has_scope → new.at ≡ mid.at
-    → mid.waiting.list.items ≡ new.waiting.list.items ++ x ∷ [] → x ≡ owner → IsClosed s new owner
-closed-by s old mid new x owner p writes text candidates scope_same at items is =
-    closes s old new owner p (subst (λ v. v.list.items ≡ old.text.list.items ++ closing_bracket (detail_of s)) (sym text) writes.text)
-    (candidates ∙ writes.candidates) (scope_same ∙ writes.scope) (at ∙ writes.at)
-    (subst (λ v. v.list.items ≡ new.waiting.list.items ++ owner ∷ []) writes.waiting (items ∙ ap (λ o. new.waiting.list.items ++ o ∷ []) is))
 
 -- what is known of them is known of the arguments of what they make
 closed-arguments : (s : Symbol) (w : Direct) (owner : Open) (p : IsClosed s w owner)
