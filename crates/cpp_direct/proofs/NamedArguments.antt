@@ -5,7 +5,7 @@ use Rattle.std.proofs.lemmas.Bool.{false≢true, le-leb, leb-true}
 use Rattle.cpp_grammar.specs.Parts.{types_of}
 use Rattle.sym_link.specs.Unfold.{found}
 use Rattle.cpp_grammar.specs.References.{substituted}
-use Rattle.cpp_grammar.specs.Scope.{arguments_of, element, length_if_pack, pack_length}
+use Rattle.cpp_grammar.specs.Scope.{arguments_of, element, length_if_pack}
 use Rattle.cpp_grammar.specs.Term.{Term}
 use Rattle.cpp_grammar.specs.Values as values
 use Rattle.cpp_grammar.specs.Values.{Around, State, tree}
