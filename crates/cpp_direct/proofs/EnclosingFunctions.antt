@@ -1,5 +1,5 @@
 -- Types that are in functions, from their Z to their end.
-use Rattle.std.proofs.Common.{◌≡◌, ◌≢◌, refl, ap, sym, ◌∙◌, subst, inl, inr, ℕ, ◌+◌, List, [], ◌∷◌, ◌++◌, length, reverse, take, ◌≤◌, true, false, Option, None, Some, arith, codes, length-append, append-nil, append_assoc}
+use Rattle.std.proofs.Common.{◌≡◌, ◌≢◌, refl, ap, sym, ◌∙◌, subst, inl, inr, ℕ, ◌+◌, List, [], ◌∷◌, ◌++◌, length, reverse, take, ◌≤◌, true, false, Option, None, Some, arith, codes, length-append, append-nil, append_assoc, Bool}
 use Rattle.std.specs.Prelude.{decimal}
 use Rattle.std.proofs.lemmas.Bool.{false≢true}
 use Rattle.std.proofs.Math.Seq.{take-append_seam}
@@ -12,9 +12,9 @@ use Rattle.cpp_grammar.specs.Parts.{source_text, types_of}
 use Rattle.cpp_grammar.specs.Texts.{builtin_texts, look_up}
 use Rattle.cpp_grammar.specs.Scope.{has_return_type, arguments_of}
 use Rattle.cpp_grammar.specs.References.{is_function_type}
-use Rattle.cpp_grammar.specs.Values.{State, Value, local_number, nothing_there, tree, named, tree_of, qualifiers_of, ref_of}
+use Rattle.cpp_grammar.specs.Values.{State, Value, local_number, nothing_there, tree, named, tree_of}
 use Rattle.cpp_grammar.specs.Between.{after, in_name, in_types, no_items}
-use Rattle.cpp_grammar.specs.Meaning.{encoding_of, is_nil, is_void, parameters}
+use Rattle.cpp_grammar.specs.Meaning.{encoding_of}
 use Rattle.cpp_direct.specs.declared.marks.MarkPlace.{MarkPlace}
 use Rattle.cpp_direct.specs.declared.open.Mark.{Mark}
 use Rattle.cpp_direct.specs.declared.open.Mark.TheVariants as marks
@@ -29,30 +29,30 @@ use Rattle.cpp_direct.specs.HolesOfLists.{mark_letters, nest_marks}
 use Rattle.cpp_direct.specs.HolesOfLocals.{Discriminator, IsDiscriminatorAt, IsLambdaDigit, IsPieceAt, lambda_digits, lambda_ending, lambda_number, lambda_with, local_in}
 use Rattle.cpp_direct.specs.Bytes.{short_numbers}
 use Rattle.cpp_direct.specs.Marks.{IsMarkPlace, has_const, called_on, mark_text}
-use Rattle.cpp_direct.specs.Prints.{Prints, PrintsAs, PrintsName, PrintsPiece, Shows, Encloses, list_of}
-use Rattle.cpp_direct.specs.WriterInvariant.{AreCandidates, AreNamed, Below, IsEnclosing, IsNesting, IsOwn, IsScoped, IsWriting, ItemsGoOn, Keeps, LambdaWithin, Scope, Serves, Stands, TypeWithin, below, in_front_of_next, no_scope, nowhere, qualifiers}
+use Rattle.cpp_direct.specs.Prints.{Prints, PrintsName, PrintsPiece, Shows, Encloses, list_of}
+use Rattle.cpp_direct.specs.WriterInvariant.{AreCandidates, AreNamed, Below, IsEnclosing, IsNesting, IsOwn, IsWriting, ItemsGoOn, Keeps, LambdaWithin, Scope, Serves, Stands, TypeWithin, below, in_front_of_next, no_scope, nowhere, qualifiers}
 use Rattle.cpp_direct.specs.MidStep.{AwaitsNamedType, AwaitsNest, IsElementRead}
-use Rattle.cpp_direct.specs.MidStepOfLocals.{AwaitsEnclosingParameters, AwaitsTypeName, IsEnclosingInstance, IsEnclosingNamed, IsEnclosingParameterRead, IsEnclosingRead, IsLambdaParameterRead}
+use Rattle.cpp_direct.specs.MidStepOfLocals.{AwaitsEnclosingParameters, AwaitsTypeName, IsEnclosingNamed, IsEnclosingParameterRead, IsEnclosingRead, IsLambdaParameterRead}
 use Rattle.cpp_direct.specs.Written.{AreKeptTo, Writes, Reads, added}
 use Rattle.cpp_direct.proofs.Ending.{behind-two, behind-three, behind-five, next-written, parameter-goes_on, plain-text, qualifiers-text, void-read}
 use Rattle.cpp_direct.proofs.NamePlaces.{reads-of, reads-then}
-use Rattle.cpp_direct.proofs.Kept.{candidates-kept, keeps-grown, keeps-read, keeps-same, keeps-with, keeps-written, none-named, reverse-last}
+use Rattle.cpp_direct.proofs.Kept.{candidates-kept, keeps-grown, keeps-read, keeps-same, keeps-written, none-named, reverse-last, type-comes, value-added}
 use Rattle.cpp_direct.proofs.Listed.{some-elements}
 use Rattle.cpp_direct.proofs.Moves.{expects-empty, stands-join}
 use Rattle.cpp_direct.proofs.MovesOfEncodings.{encoding-opens, name-nested, name-source}
 use Rattle.cpp_direct.proofs.MovesOfLists.{element-awaits}
 use Rattle.cpp_direct.proofs.MovesOfLocals.{lambda-opens, lambda-piece, lambda_bytes, local-type-opens, nowhere-scoped, number-is}
-use Rattle.cpp_direct.proofs.Nesting.{nest-comes}
+use Rattle.cpp_direct.proofs.Nesting.{nest-comes, closed-prints}
 use Rattle.cpp_direct.proofs.PrintedLists.{list-with-none, all-in, element-in, next-prints, next-prints-in, none-print, none-print-in}
 use Rattle.cpp_direct.proofs.PrintedParts.{has-none, has-parameters}
 use Rattle.cpp_direct.proofs.PrintedLocals.{function-encloses, name-encloses, object-enclosing, returned-enclosing, lambda-prints, lambda-list-prints, local-prints}
 use Rattle.cpp_direct.proofs.PrintedNames.{as-name, source-prints}
-use Rattle.cpp_direct.proofs.PrintedSymbols.{encoding-plain, function-shows, encoding-returned, object-encoded, parameters-kept, void-shows}
+use Rattle.cpp_direct.proofs.PrintedSymbols.{encoding-plain, function-shows, encoding-returned, object-encoded, parameters-kept, void-shows, made-void, made-with}
+use Rattle.cpp_direct.proofs.Scopes.{member-named, none-scoped, plain-named}
 use Rattle.cpp_direct.specs.WrittenParts.{IsUnmarked}
 use Rattle.cpp_direct.proofs.Unmarked.{name-unmarked, is-no-mark, more-unmarked}
 use Rattle.cpp_direct.proofs.TypesRead.{builtin-listed, no-builtin}
 use Rattle.cpp_direct.proofs.MovesOfTypes.{builtin-comes}
-use Rattle.cpp_direct.proofs.Scopes.{none-scoped}
 
 -- ## Names
 
@@ -130,8 +130,8 @@ nest-within s old first second place a letter next nested then_ is =
 pub source-within : (s : Symbol) (old start new : Direct) (name : List ℕ) (from : ℕ) → AwaitsNamedType s old → StandsAt s.bytes old.at (90 ∷ [])
     → start.text ≡ old.text → start.candidates ≡ old.candidates → start.waiting ≡ old.waiting → start.has_scope ≡ old.has_scope
     → start.at ≡ old.at + 1 → IsNameAt s.bytes start.at name new.at → name ≢ [] → Reads start new (source_text name) → from ≡ length start.text.list.items
-    → IsEnclosingNamed s new marks.Plain from
-unfolding may_be_empty tree_of qualifiers_of ref_of has_return_type arguments_of in_name
+    → IsEnclosingNamed s new marks.Plain false from
+unfolding may_be_empty has_return_type arguments_of in_name
 source-within s old start new name from a letter same_text same_candidates same_waiting same_scope at_is is filled reads from_is =
     let own = alone (source false name) in
     let e = name-opens s old a letter in
@@ -145,34 +145,24 @@ source-within s old start new name from a letter same_text same_candidates same_
           (keeps-same s old start a.state.candidates same_text same_candidates same_scope a.keeps);
       own = own;
       v = tree own false;
-      tree_is = refl;
-      qualifiers_are = refl;
-      mark_is = refl;
+      named_so = plain-named own;
       front = front;
       name = source_text name;
       written = reads.text ∙ ap (λ v. v.list.items ++ source_text name) same_text;
       from_is = from_is ∙ ap (λ v. length v.list.items) same_text;
       prints = as-name own (source_text name) false (source-prints false name filled (name-unmarked s.bytes start.at name new.at is));
-      no_return = refl;
+      returns = refl;
       goes = subst (λ v. ItemsGoOn s nowhere (TypeWithin s (below s a.scope (reverse v.list.items)) front) (λ l. encoding_of (tree own false) l) [] new.at a.state)
           (sym (reads.waiting ∙ same_waiting))
           (e.onward (tree own false) new.at a.state
           (named_.bare new.at a.state (expects-empty s Kind.MaybeArguments (after own false here) named_.inner new.at a.state named_.awaits refl)));
     }
 
--- a nested one names no arguments
-enclosing-closed : (s : Symbol) (scope : Scope) (w : Direct) (st : State) (t : Term) (mark : Mark) (n : IsNesting s scope Kind.NestTail w t st)
-    → w.nest.purpose ≡ purposes.Enclosing mark → Prints (detail_of s) t n.bytes false
-enclosing-closed s scope w st t mark n is_name =
-    let own : IsOwn w.nest.purpose = subst (λ p. IsOwn p) (sym is_name) tt in
-    subst (λ d. PrintsAs (detail_of s) scope.names d t n.bytes false) (n.is_nest.closed own) n.is_nest.prints
-
 -- a nested one is read
-pub name-within : (s : Symbol) {scope : Scope} (old : Direct) (st : State) (t : Term) (mark : Mark)
-    → Keeps s scope old st.candidates → IsNesting s scope Kind.NestTail old t st → has_return_type t ≡ false → StandsAt s.bytes old.at (69 ∷ [])
-    → old.nest.purpose ≡ purposes.Enclosing mark → IsEnclosingNamed s (record old { at = old.at + 1 }) mark old.nest.from
-unfolding tree_of qualifiers_of ref_of
-name-within s {scope = scope} old st t mark keeps n no_return here is_name =
+pub name-within : (s : Symbol) {scope : Scope} (old : Direct) (st : State) (t : Term) (mark : Mark) (is_instance : Bool)
+    → Keeps s scope old st.candidates → IsNesting s scope Kind.NestTail old t st → has_return_type t ≡ is_instance → StandsAt s.bytes old.at (69 ∷ [])
+    → old.nest.purpose ≡ purposes.Enclosing mark → IsEnclosingNamed s (record old { at = old.at + 1 }) mark is_instance old.nest.from
+name-within s {scope = scope} old st t mark is_instance keeps n returns here is_name =
     let serves = subst (λ p. Serves s p (below s scope (reverse old.waiting.list.items)) n.outer n.front) is_name n.serves in
     record {
       state = st;
@@ -180,39 +170,12 @@ name-within s {scope = scope} old st t mark keeps n no_return here is_name =
       keeps = keeps-same s old (record old { at = old.at + 1 }) st.candidates refl refl refl keeps;
       own = t;
       v = named t (qualifiers (has_const mark)) (called_on mark);
-      tree_is = refl;
-      qualifiers_are = refl;
-      mark_is = refl;
+      named_so = member-named t mark;
       front = n.front;
       name = n.bytes;
       written = n.written;
       from_is = n.is_nest.from_is;
-      prints = as-name t n.bytes false (enclosing-closed s scope old st t mark n is_name);
-      no_return = no_return;
-      goes = serves t old.nest.is_listed (old.at + 1) st (nest-comes s old st t n here);
-    }
-
--- an instance is read, whose return type is expected
-pub instance-within : (s : Symbol) {scope : Scope} (old : Direct) (st : State) (t : Term) (mark : Mark)
-    → Keeps s scope old st.candidates → IsNesting s scope Kind.NestTail old t st → has_return_type t ≡ true → StandsAt s.bytes old.at (69 ∷ [])
-    → old.nest.purpose ≡ purposes.Enclosing mark → IsEnclosingInstance s (record old { at = old.at + 1 }) mark old.nest.from
-unfolding tree_of qualifiers_of ref_of
-instance-within s {scope = scope} old st t mark keeps n returns here is_name =
-    let serves = subst (λ p. Serves s p (below s scope (reverse old.waiting.list.items)) n.outer n.front) is_name n.serves in
-    record {
-      state = st;
-      scope = scope;
-      keeps = keeps-same s old (record old { at = old.at + 1 }) st.candidates refl refl refl keeps;
-      own = t;
-      v = named t (qualifiers (has_const mark)) (called_on mark);
-      tree_is = refl;
-      qualifiers_are = refl;
-      mark_is = refl;
-      front = n.front;
-      name = n.bytes;
-      written = n.written;
-      from_is = n.is_nest.from_is;
-      prints = as-name t n.bytes false (enclosing-closed s scope old st t mark n is_name);
+      prints = as-name t n.bytes false (closed-prints scope.names (n.is_nest.closed (subst IsOwn (sym is_name) tt)) n.is_nest.prints);
       returns = returns;
       goes = serves t old.nest.is_listed (old.at + 1) st (nest-comes s old st t n here);
     }
@@ -220,7 +183,7 @@ instance-within s {scope = scope} old st t mark keeps n returns here is_name =
 -- ## Parameters
 
 -- a function without a return type awaits its parameters
-pub plain-awaits : (s : Symbol) (w : Direct) (mark : Mark) (from : ℕ) → IsEnclosingNamed s w mark from → AwaitsEnclosingParameters s w mark from
+pub plain-awaits : (s : Symbol) (w : Direct) (mark : Mark) (from : ℕ) → IsEnclosingNamed s w mark false from → AwaitsEnclosingParameters s w mark from
 plain-awaits s w mark from p = record {
   state = p.state;
   scope = p.scope;
@@ -231,7 +194,7 @@ plain-awaits s w mark from p = record {
   is_enclosing = record {
     own = p.own;
     returned = absent;
-    makes = encoding-plain p.v mark p.own p.tree_is p.qualifiers_are p.mark_is p.no_return;
+    makes = encoding-plain p.v mark p.own p.named_so p.returns;
     prints = p.prints;
     elements = none-print-in (detail_of s) (types_of p.own) 6;
   };
@@ -241,7 +204,7 @@ plain-awaits s w mark from p = record {
 }
 
 -- and so does one after its return type, which is a builtin one
-pub returned-awaits : (s : Symbol) (w : Direct) (n : ℕ) (mark : Mark) (from letter : ℕ) → IsEnclosingInstance s w mark from
+pub returned-awaits : (s : Symbol) (w : Direct) (n : ℕ) (mark : Mark) (from letter : ℕ) → IsEnclosingNamed s w mark true from
     → look_up (letter ∷ []) builtin_texts ≢ [] → (letter ≢ 0 → StandsAt s.bytes w.at (letter ∷ [])) → n ≡ w.at + 1
     → AwaitsEnclosingParameters s (record w { at = n }) mark from
 returned-awaits s w n mark from letter p has stands at_is =
@@ -263,7 +226,7 @@ returned-awaits s w n mark from letter p has stands at_is =
       is_enclosing = record {
         own = p.own;
         returned = r;
-        makes = λ t rest. encoding-returned p.v mark p.own p.tree_is p.qualifiers_are p.mark_is p.returns r (list t rest);
+        makes = λ t rest. encoding-returned p.v mark p.own p.named_so p.returns r (list t rest);
         prints = p.prints;
         elements = none-print-in (detail_of s) (types_of p.own) 6;
       };
@@ -295,19 +258,8 @@ parameter-expected s scope w st mark from to rest front make ts name texts keeps
           parameter-goes_on s nowhere (TypeWithin s (below s scope rest) front) make ts w.at st p t here now (element.onward t here now comes),
       to_is,
     ) in
-    record {
-      state = st;
-      scope = scope;
-      keeps = keeps;
-      is_before = (
-        element.inner,
-        p.around,
-        p.outside,
-        inr (inl element.awaits),
-        subst (λ os. Stands s scope os element.inner w.text.list.items) (sym open_is) stands,
-        subst (λ os. IsScoped scope p.around os) (sym open_is) (none-scoped scope p.around (opens.Enclosing mark from to ∷ rest) refl),
-      );
-    }
+    type-comes s w w st p.around element.inner keeps refl refl refl open_is p.outside (inr (inl element.awaits)) stands
+    (none-scoped scope p.around (opens.Enclosing mark from to ∷ rest) refl)
 
 -- the first one comes next
 pub first-within : (s : Symbol) (w first last : Direct) (mark : Mark) (from to : ℕ) → AwaitsEnclosingParameters s w mark from
@@ -373,15 +325,32 @@ parameter-read-within s w mark from to p =
 
 -- ## Ends
 
+-- a function in which a type is was read, and the type is within it
+enclosing-read : (s : Symbol) {scope : Scope} (w : Direct) (mark : Mark) (from place : ℕ) (st : State) (e : Term) (front bytes : List ℕ) {rest : List Open}
+    → Keeps s scope w st.candidates → w.text.list.items ++ mark_text mark ≡ front ++ bytes → from ≡ length front → Encloses (detail_of s) e bytes
+    → reverse w.waiting.list.items ≡ rest → w.at ≡ place → TypeWithin s (below s scope rest) front e place st → IsEnclosingRead s w mark from
+enclosing-read s {scope = scope} w mark from place st e front bytes {rest = rest} keeps written from_is encloses waits at within = record {
+  state = st;
+  scope = scope;
+  keeps = keeps;
+  e = e;
+  front = front;
+  bytes = bytes;
+  written = written;
+  from_is = from_is;
+  encloses = encloses;
+  within = subst (λ ws. TypeWithin s (below s scope ws) front e w.at st) (sym waits) (subst (λ n. TypeWithin s (below s scope rest) front e n st) (sym at) within);
+}
+
 -- a name without items is read
-pub object-within : (s : Symbol) (w : Direct) (mark : Mark) (from : ℕ) → IsEnclosingNamed s w mark from → IsEnclosingRead s w mark from
+pub object-within : (s : Symbol) (w : Direct) (mark : Mark) (from : ℕ) → IsEnclosingNamed s w mark false from → IsEnclosingRead s w mark from
 unfolding no_items may_be_empty
 object-within s w mark from p =
     let b = p.name in
     let q = mark_text mark in
     let shows : Shows (detail_of s) (encoding_of p.v nil) (b ++ q) =
-    subst (λ l. Shows (detail_of s) (encoding_of p.v nil) (b ++ l)) (qualifiers-text p.v mark p.qualifiers_are p.mark_is)
-    (object-encoded p.v b (subst (λ t. PrintsName (detail_of s) t b) (sym p.tree_is) p.prints)) in
+    subst (λ l. Shows (detail_of s) (encoding_of p.v nil) (b ++ l)) (qualifiers-text p.v mark p.own p.named_so)
+    (object-encoded p.v b (subst (λ t. PrintsName (detail_of s) t b) (sym p.named_so.tree_is) p.prints)) in
     record {
       state = p.state;
       scope = p.scope;
@@ -395,22 +364,6 @@ object-within s w mark from p =
       within = p.goes.onward nothing_there w.at p.state (expects-empty s Kind.Items p.goes.around p.goes.inner w.at p.state p.goes.awaits refl);
     }
 
--- a lone void makes a function without parameters
-enclosed-void : (own returned : Term) (mark : Mark) (make : Term → Term)
-    → ((t rest : Term) → make (list t rest) ≡ function own (qualifiers (has_const mark)) (called_on mark) returned (parameters (list t rest)))
-    → make (list_of (builtin (118 ∷ []) ∷ [])) ≡ function own (qualifiers (has_const mark)) (called_on mark) returned nil
-unfolding parameters is_void is_nil
-enclosed-void own returned mark make makes = makes (builtin (118 ∷ [])) nil
-
--- parameters that aren't a lone void are those of the function that they make
-enclosed-with : (own returned : Term) (mark : Mark) (make : Term → Term)
-    → ((t rest : Term) → make (list t rest) ≡ function own (qualifiers (has_const mark)) (called_on mark) returned (parameters (list t rest)))
-    → (ts : List Term) → ts ≢ [] → parameters (list_of ts) ≡ list_of ts
-    → make (list_of ts) ≡ function own (qualifiers (has_const mark)) (called_on mark) returned (list_of ts)
-enclosed-with own returned mark make makes [] some kept = absurd (some refl)
-enclosed-with own returned mark make makes (t ∷ ts) some kept =
-    makes t (list_of ts) ∙ ap (function own (qualifiers (has_const mark)) (called_on mark) returned) kept
-
 -- a function with a lone void is read
 pub void-within : (s : Symbol) (w here new : Direct) (mark : Mark) (from : ℕ) → AwaitsEnclosingParameters s w mark from
     → StandsAt s.bytes w.at (118 ∷ []) → here.text ≡ w.text → here.candidates ≡ w.candidates → here.waiting ≡ w.waiting
@@ -420,27 +373,17 @@ void-within s w here new mark from p stands text candidates waiting scope at one
     let b = p.name in
     let q = mark_text mark in
     let e = p.make (list_of (builtin (118 ∷ []) ∷ [])) in
-    let below_ = below s p.scope (reverse w.waiting.list.items) in
     let shows : Shows (detail_of s) (function f.own (qualifiers (has_const mark)) (called_on mark) absent nil) (b ++ codes "()" ++ q) =
     subst (λ l. Shows (detail_of s) (function f.own (qualifiers (has_const mark)) (called_on mark) absent nil) (b ++ codes "()" ++ l)) (plain-text mark)
     (void-shows (has-parameters s whole) f.own b f.prints (qualifiers (has_const mark)) (called_on mark)) in
-    record {
-      state = p.state;
-      scope = p.scope;
-      keeps = keeps-written s here new (codes "()") p.state.candidates one (keeps-same s w here p.state.candidates text candidates scope p.keeps);
-      e = e;
-      front = p.front;
-      bytes = b ++ codes "()" ++ q;
-      written = ap (λ l. l ++ q) (one.text ∙ ap (λ v. v.list.items ++ codes "()") text ∙ ap (λ l. l ++ codes "()") p.written)
-          ∙ behind-three p.front b (codes "()") q;
-      from_is = p.from_is;
-      encloses = subst (λ t. Encloses (detail_of s) t (b ++ codes "()" ++ q)) (sym (enclosed-void f.own f.returned mark p.make f.makes))
-          (returned-enclosing (detail_of s) f.own (qualifiers (has_const mark)) (called_on mark) f.returned nil (b ++ codes "()" ++ q)
-          (function-encloses (detail_of s) f.own (qualifiers (has_const mark)) (called_on mark) nil (b ++ codes "()" ++ q) shows));
-      within = subst (λ v. TypeWithin s (below s p.scope (reverse v.list.items)) p.front e new.at p.state) (sym (one.waiting ∙ waiting))
-          (subst (λ n. TypeWithin s below_ p.front e n p.state) (sym (one.at ∙ at))
-          (void-read s nowhere (TypeWithin s below_ p.front) p.make w.at p.state p.goes stands));
-    }
+    enclosing-read s new mark from (w.at + 1) p.state e p.front (b ++ codes "()" ++ q)
+    (keeps-written s here new (codes "()") p.state.candidates one (keeps-same s w here p.state.candidates text candidates scope p.keeps))
+    (ap (λ l. l ++ q) (one.text ∙ ap (λ v. v.list.items ++ codes "()") text ∙ ap (λ l. l ++ codes "()") p.written) ∙ behind-three p.front b (codes "()") q) p.from_is
+    (subst (λ t. Encloses (detail_of s) t (b ++ codes "()" ++ q)) (sym (made-void f.own f.returned mark p.make f.makes))
+    (returned-enclosing (detail_of s) f.own (qualifiers (has_const mark)) (called_on mark) f.returned nil (b ++ codes "()" ++ q)
+    (function-encloses (detail_of s) f.own (qualifiers (has_const mark)) (called_on mark) nil (b ++ codes "()" ++ q) shows)))
+    (ap (λ v. reverse v.list.items) (one.waiting ∙ waiting)) (one.at ∙ at)
+    (void-read s nowhere (TypeWithin s (below s p.scope (reverse w.waiting.list.items)) p.front) p.make w.at p.state p.goes stands)
 
 -- where functions are shown by their names alone, nothing more is written of it
 pub void-unwritten : (s : Symbol) (w here : Direct) (mark : Mark) (from : ℕ) → AwaitsEnclosingParameters s w mark from
@@ -448,76 +391,55 @@ pub void-unwritten : (s : Symbol) (w here : Direct) (mark : Mark) (from : ℕ) �
     → here.has_scope ≡ w.has_scope → here.at ≡ w.at + 1 → s.is_bare ≡ true → IsEnclosingRead s here marks.Plain from
 void-unwritten s w here mark from p stands text candidates waiting scope at bare =
     let f = p.is_enclosing in
-    let e = p.make (list_of (builtin (118 ∷ []) ∷ [])) in
-    let below_ = below s p.scope (reverse w.waiting.list.items) in
-    record {
-      state = p.state;
-      scope = p.scope;
-      keeps = keeps-same s w here p.state.candidates text candidates scope p.keeps;
-      e = e;
-      front = p.front;
-      bytes = p.name;
-      written = append-nil here.text.list.items ∙ ap (λ v. v.list.items) text ∙ p.written;
-      from_is = p.from_is;
-      encloses = subst (λ t. Encloses (detail_of s) t p.name) (sym (enclosed-void f.own f.returned mark p.make f.makes))
-          (name-encloses (has-none s bare) f.own p.name f.prints (qualifiers (has_const mark)) (called_on mark) f.returned nil);
-      within = subst (λ v. TypeWithin s (below s p.scope (reverse v.list.items)) p.front e here.at p.state) (sym waiting)
-          (subst (λ n. TypeWithin s below_ p.front e n p.state) (sym at)
-          (void-read s nowhere (TypeWithin s below_ p.front) p.make w.at p.state p.goes stands));
-    }
+    enclosing-read s here marks.Plain from (w.at + 1) p.state (p.make (list_of (builtin (118 ∷ []) ∷ []))) p.front p.name
+    (keeps-same s w here p.state.candidates text candidates scope p.keeps) (append-nil here.text.list.items ∙ ap (λ v. v.list.items) text ∙ p.written) p.from_is
+    (subst (λ t. Encloses (detail_of s) t p.name) (sym (made-void f.own f.returned mark p.make f.makes))
+    (name-encloses (has-none s bare) f.own p.name f.prints (qualifiers (has_const mark)) (called_on mark) f.returned nil))
+    (ap (λ v. reverse v.list.items) waiting) at
+    (void-read s nowhere (TypeWithin s (below s p.scope (reverse w.waiting.list.items)) p.front) p.make w.at p.state p.goes stands)
+
+-- parameters that aren't a lone void make a function, and the type is within that
+parameters-end : (s : Symbol) (w : Direct) (mark : Mark) (from to : ℕ) (p : IsEnclosingParameterRead s w mark from to) → p.texts ≢ codes "void"
+    → (p.make (list_of p.ts) ≡ function p.is_enclosing.own (qualifiers (has_const mark)) (called_on mark) p.is_enclosing.returned (list_of p.ts))
+    × TypeWithin s (below s p.scope p.rest) p.front (p.make (list_of p.ts)) w.at p.state
+unfolding no_items may_be_empty
+parameters-end s w mark from to p apart = let f = p.is_enclosing in (
+  made-with f.own f.returned mark p.make f.makes p.ts p.some (parameters-kept (detail_of s) (types_of f.own) 6 p.ts p.texts f.elements apart),
+  subst (λ u. TypeWithin s (below s p.scope p.rest) p.front (p.make u) w.at p.state) (list-with-none p.ts)
+      (p.goes.onward nothing_there w.at p.state (expects-empty s Kind.Items p.goes.around p.goes.inner w.at p.state p.goes.awaits refl)),
+)
 
 -- a function with its parameters is read, unless they are a lone void
 pub function-within : (s : Symbol) (w last new : Direct) (mark : Mark) (from to : ℕ) (p : IsEnclosingParameterRead s w mark from to)
     → p.texts ≢ codes "void" → Writes w last (codes ")") → new.text ≡ last.text → new.candidates ≡ last.candidates
     → new.has_scope ≡ last.has_scope → new.at ≡ last.at → reverse new.waiting.list.items ≡ p.rest → s.is_bare ≡ false → IsEnclosingRead s new mark from
-unfolding no_items may_be_empty
 function-within s w last new mark from to p apart one text candidates scope at waits whole =
     let f = p.is_enclosing in
-    let e = p.make (list_of p.ts) in
     let b = p.name in
     let l = p.texts in
     let q = mark_text mark in
-    let made = function f.own (qualifiers (has_const mark)) (called_on mark) f.returned (list_of p.ts) in
-    let is : e ≡ made = enclosed-with f.own f.returned mark p.make f.makes p.ts p.some (parameters-kept (detail_of s) (types_of f.own) 6 p.ts l f.elements apart) in
-    let below_ = below s p.scope p.rest in
-    let within_ : TypeWithin s below_ p.front e w.at p.state = subst (λ u. TypeWithin s below_ p.front (p.make u) w.at p.state) (list-with-none p.ts)
-    (p.goes.onward nothing_there w.at p.state (expects-empty s Kind.Items p.goes.around p.goes.inner w.at p.state p.goes.awaits refl)) in
-    let shows : Shows (detail_of s) (function f.own (qualifiers (has_const mark)) (called_on mark) absent (list_of p.ts)) (b ++ codes "(" ++ l ++ codes ")" ++ q) =
+    let bytes = b ++ codes "(" ++ l ++ codes ")" ++ q in
+    let end = parameters-end s w mark from to p apart in
+    let shows : Shows (detail_of s) (function f.own (qualifiers (has_const mark)) (called_on mark) absent (list_of p.ts)) bytes =
     subst (λ x. Shows (detail_of s) (function f.own (qualifiers (has_const mark)) (called_on mark) absent (list_of p.ts)) (b ++ codes "(" ++ l ++ codes ")" ++ x))
     (plain-text mark)
     (function-shows (has-parameters s whole) f.own b f.prints p.ts l f.elements (qualifiers (has_const mark)) (called_on mark)) in
-    record {
-      state = p.state;
-      scope = p.scope;
-      keeps = keeps-same s last new p.state.candidates text candidates scope (keeps-written s w last (codes ")") p.state.candidates one p.keeps);
-      e = e;
-      front = p.front;
-      bytes = b ++ codes "(" ++ l ++ codes ")" ++ q;
-      written = ap (λ x. x ++ q) (ap (λ v. v.list.items) text ∙ one.text ∙ ap (λ x. x ++ codes ")") p.written)
-          ∙ behind-five p.front b (codes "(") l (codes ")") q;
-      from_is = p.from_is;
-      encloses = subst (λ t. Encloses (detail_of s) t (b ++ codes "(" ++ l ++ codes ")" ++ q)) (sym is)
-          (returned-enclosing (detail_of s) f.own (qualifiers (has_const mark)) (called_on mark) f.returned (list_of p.ts) (b ++ codes "(" ++ l ++ codes ")" ++ q)
-          (function-encloses (detail_of s) f.own (qualifiers (has_const mark)) (called_on mark) (list_of p.ts) (b ++ codes "(" ++ l ++ codes ")" ++ q) shows));
-      within = subst (λ ws. TypeWithin s (below s p.scope ws) p.front e new.at p.state) (sym waits)
-          (subst (λ n. TypeWithin s below_ p.front e n p.state) (sym (at ∙ one.at)) within_);
-    }
+    enclosing-read s new mark from w.at p.state (p.make (list_of p.ts)) p.front bytes
+    (keeps-same s last new p.state.candidates text candidates scope (keeps-written s w last (codes ")") p.state.candidates one p.keeps))
+    (ap (λ x. x ++ q) (ap (λ v. v.list.items) text ∙ one.text ∙ ap (λ x. x ++ codes ")") p.written) ∙ behind-five p.front b (codes "(") l (codes ")") q) p.from_is
+    (subst (λ t. Encloses (detail_of s) t bytes) (sym end.0)
+    (returned-enclosing (detail_of s) f.own (qualifiers (has_const mark)) (called_on mark) f.returned (list_of p.ts) bytes
+    (function-encloses (detail_of s) f.own (qualifiers (has_const mark)) (called_on mark) (list_of p.ts) bytes shows)))
+    waits (at ∙ one.at) end.1
 
 -- what was written after its name is taken away, where functions are shown by their names alone
 pub function-unwritten : (s : Symbol) (w shut new : Direct) (mark : Mark) (from to : ℕ) (p : IsEnclosingParameterRead s w mark from to)
     → p.texts ≢ codes "void" → w.has_scope ≡ false → shut.text ≡ w.text → shut.candidates ≡ w.candidates → shut.at ≡ w.at
     → reverse shut.waiting.list.items ≡ p.rest → new.text.list.items ≡ take to shut.text.list.items → AreKeptTo to shut.candidates.list.items new.candidates.list.items
     → new.waiting ≡ shut.waiting → new.at ≡ shut.at → s.is_bare ≡ true → IsEnclosingRead s new marks.Plain from
-unfolding no_items may_be_empty
 function-unwritten s w shut new mark from to p apart unknown same_text same_candidates same_at waits text kept waiting at bare =
     let f = p.is_enclosing in
-    let e = p.make (list_of p.ts) in
-    let made = function f.own (qualifiers (has_const mark)) (called_on mark) f.returned (list_of p.ts) in
-    let is : e ≡ made = enclosed-with f.own f.returned mark p.make f.makes p.ts p.some
-    (parameters-kept (detail_of s) (types_of f.own) 6 p.ts p.texts f.elements apart) in
-    let below_ = below s p.scope p.rest in
-    let within_ : TypeWithin s below_ p.front e w.at p.state = subst (λ u. TypeWithin s below_ p.front (p.make u) w.at p.state) (list-with-none p.ts)
-    (p.goes.onward nothing_there w.at p.state (expects-empty s Kind.Items p.goes.around p.goes.inner w.at p.state p.goes.awaits refl)) in
+    let end = parameters-end s w mark from to p apart in
     let left = p.front ++ p.name in
     let behind = codes "(" ++ p.texts in
     let whole_ : w.text.list.items ≡ left ++ behind = p.written ∙ append_assoc left (codes "(") p.texts in
@@ -525,27 +447,17 @@ function-unwritten s w shut new mark from to p apart unknown same_text same_cand
     text ∙ ap (λ n. take n shut.text.list.items) p.to_is ∙ ap (λ l. take (length left) l) (ap (λ v. v.list.items) same_text ∙ whole_)
     ∙ take-append_seam left behind in
     let none : p.scope ≡ no_scope = p.keeps.unknown unknown in
-    record {
-      state = p.state;
-      scope = p.scope;
-      keeps = record {
-        candidates = subst (λ l. AreCandidates s p.scope.names l new.candidates.list.items p.state.candidates) (sym left_is)
-            (candidates-kept s p.scope.names w.text.list.items left behind to w.candidates.list.items new.candidates.list.items p.state.candidates whole_ p.to_is
-            (subst (λ v. AreKeptTo to v.list.items new.candidates.list.items) same_candidates kept) p.keeps.candidates);
-        own = p.keeps.own;
-        named = subst (λ (k : Scope). AreNamed new.text.list.items k) (sym none) (none-named new.text.list.items);
-        unknown = λ e. none;
-      };
-      e = e;
-      front = p.front;
-      bytes = p.name;
-      written = append-nil new.text.list.items ∙ left_is;
-      from_is = p.from_is;
-      encloses = subst (λ t. Encloses (detail_of s) t p.name) (sym is)
-          (name-encloses (has-none s bare) f.own p.name f.prints (qualifiers (has_const mark)) (called_on mark) f.returned (list_of p.ts));
-      within = subst (λ ws. TypeWithin s (below s p.scope ws) p.front e new.at p.state) (sym (ap (λ v. reverse v.list.items) waiting ∙ waits))
-          (subst (λ n. TypeWithin s below_ p.front e n p.state) (sym (at ∙ same_at)) within_);
-    }
+    enclosing-read s {scope = p.scope} new marks.Plain from w.at p.state (p.make (list_of p.ts)) p.front p.name (record {
+      candidates = subst (λ l. AreCandidates s p.scope.names l new.candidates.list.items p.state.candidates) (sym left_is)
+          (candidates-kept s p.scope.names w.text.list.items left behind to w.candidates.list.items new.candidates.list.items p.state.candidates whole_ p.to_is
+          (subst (λ v. AreKeptTo to v.list.items new.candidates.list.items) same_candidates kept) p.keeps.candidates);
+      own = p.keeps.own;
+      named = subst (λ (k : Scope). AreNamed new.text.list.items k) (sym none) (none-named new.text.list.items);
+      unknown = λ e. none;
+    }) (append-nil new.text.list.items ∙ left_is) p.from_is
+    (subst (λ t. Encloses (detail_of s) t p.name) (sym end.0)
+    (name-encloses (has-none s bare) f.own p.name f.prints (qualifiers (has_const mark)) (called_on mark) f.returned (list_of p.ts)))
+    (ap (λ v. reverse v.list.items) waiting ∙ waits) (at ∙ same_at) end.1
 
 -- the name is within what is written
 pub name-inside : (s : Symbol) (w : Direct) (mark : Mark) (from to : ℕ) → IsEnclosingParameterRead s w mark from to → to ≤ length w.text.list.items
@@ -555,19 +467,9 @@ name-inside s w mark from to p =
 -- its qualifiers are written
 pub marks-written-within : (s : Symbol) (old new : Direct) (mark : Mark) (from : ℕ) → IsEnclosingRead s old mark from → Writes old new (mark_text mark)
     → IsEnclosingRead s new marks.Plain from
-marks-written-within s old new mark from p writes = record {
-  state = p.state;
-  scope = p.scope;
-  keeps = keeps-written s old new (mark_text mark) p.state.candidates writes p.keeps;
-  e = p.e;
-  front = p.front;
-  bytes = p.bytes;
-  written = append-nil new.text.list.items ∙ writes.text ∙ p.written;
-  from_is = p.from_is;
-  encloses = p.encloses;
-  within = subst (λ v. TypeWithin s (below s p.scope (reverse v.list.items)) p.front p.e new.at p.state) (sym writes.waiting)
-      (subst (λ n. TypeWithin s (below s p.scope (reverse old.waiting.list.items)) p.front p.e n p.state) (sym writes.at) p.within);
-}
+marks-written-within s old new mark from p writes =
+    enclosing-read s new marks.Plain from old.at p.state p.e p.front p.bytes (keeps-written s old new (mark_text mark) p.state.candidates writes p.keeps)
+    (append-nil new.text.list.items ∙ writes.text ∙ p.written) p.from_is p.encloses (ap (λ v. reverse v.list.items) writes.waiting) writes.at p.within
 
 -- ## Lambdas
 
@@ -652,20 +554,10 @@ lambda-begun s old new from a short stands text candidates scope at waiting =
             );
           },
     ) in
-    record {
-      state = r.state;
-      scope = r.scope;
-      keeps = keeps-grown s old new lambda_front r.state.candidates text candidates scope
-          (keeps-same s (record old { at = a.before }) old r.state.candidates refl refl refl r.keeps);
-      is_before = (
-        first.inner,
-        first.around,
-        first.outside,
-        inr (inl (subst (λ k. Expects s Kind.Item first.around first.inner k r.state) (omega (arith, at, a.at_is)) first.awaits)),
-        subst (λ ws. Stands s r.scope ws first.inner new.text.list.items) (sym opened_) stands_,
-        subst (λ ws. IsScoped r.scope first.around ws) (sym opened_) (none-scoped r.scope first.around (opens.Lambda from ∷ rest) refl),
-      );
-    }
+    type-comes s new new r.state first.around first.inner (keeps-grown s old new lambda_front r.state.candidates text candidates scope
+    (keeps-same s (record old { at = a.before }) old r.state.candidates refl refl refl r.keeps)) refl refl refl opened_ first.outside
+    (inr (inl (subst (λ k. Expects s Kind.Item first.around first.inner k r.state) (omega (arith, at, a.at_is)) first.awaits))) stands_
+    (none-scoped r.scope first.around (opens.Lambda from ∷ rest) refl)
 
 -- a parameter of one is read
 pub lambda-parameter-read : (s : Symbol) (w : Direct) (from : ℕ) → IsElementRead s w (opens.Lambda from) → IsLambdaParameterRead s w from
@@ -712,19 +604,8 @@ lambda-next s w last from p one =
       one.text ∙ ap (λ l. l ++ codes ", ") p.written ∙ append_assoc led p.texts (codes ", ") ∙ ap (λ l. led ++ l) (sym (next-written p.ts p.texts p.some)),
       λ t here now comes. parameter-goes_on s nowhere (LambdaWithin s below_ p.front p.e) (λ l. l) p.ts last.at p.state goes t here now (element.onward t here now comes),
     ) in
-    record {
-      state = p.state;
-      scope = p.scope;
-      keeps = keeps-written s w last (codes ", ") p.state.candidates one p.keeps;
-      is_before = (
-        element.inner,
-        goes.around,
-        goes.outside,
-        inr (inl element.awaits),
-        subst (λ ws. Stands s p.scope ws element.inner last.text.list.items) (sym opened_) stands_,
-        subst (λ ws. IsScoped p.scope goes.around ws) (sym opened_) (none-scoped p.scope goes.around (opens.Lambda from ∷ p.rest) refl),
-      );
-    }
+    type-comes s last last p.state goes.around element.inner (keeps-written s w last (codes ", ") p.state.candidates one p.keeps) refl refl refl opened_ goes.outside
+    (inr (inl element.awaits)) stands_ (none-scoped p.scope goes.around (opens.Lambda from ∷ p.rest) refl)
 
 whole-text : (f b l n : List ℕ) → ((f ++ (b ++ lambda_front)) ++ l) ++ codes ")#" ++ (n ++ codes "}")
     ≡ f ++ (b ++ codes "::" ++ (codes "{lambda(" ++ l ++ codes ")#" ++ n ++ codes "}"))
@@ -774,27 +655,14 @@ lambda-done s w begun pushed numbered popped_ last new from p apart ends same_te
     three.text ∙ append-nil popped_.text.list.items ∙ ap (λ v. v.list.items) popped_text ∙ two.text
     ∙ ap (λ l. l ++ (num ++ codes "}")) (one.text ∙ ap (λ v. v.list.items ++ codes ")#") same_text ∙ ap (λ l. l ++ codes ")#") p.written)
     ∙ whole-text p.front p.bytes p.texts num in
-    let st = with_candidate ends_with.1 own p.state in
     let begun_ = keeps-same s w begun p.state.candidates same_text same_candidates same_scope p.keeps in
     let numbered_ = keeps-read s pushed numbered (num ++ codes "}") p.state.candidates two (keeps-written s begun pushed (codes ")#") p.state.candidates one begun_) in
     let read = keeps-read s popped_ last [] p.state.candidates three
     (keeps-same s numbered popped_ p.state.candidates popped_text popped_candidates popped_scope numbered_) in
-    record {
-      state = st;
-      scope = p.scope;
-      keeps = keeps-with s last new p.state p.front bytes from own ends_with.1 false false read written p.from_is shown (λ e. absurd (false≢true e)) text candidates scope;
-      is_before = (
-        ends_with.0,
-        own,
-        p.front,
-        bytes,
-        ap (λ v. v.list.items) text ∙ written,
-        shown,
-        (λ e. absurd (false≢true e)),
-        subst (λ k. Comes s ends_with.0 (tree own true) k st) (sym here) (ends_with.2 number popped_.at digit last.at is ending middle told),
-        subst (λ ws. Stands s p.scope ws ends_with.0 p.front) (sym (ap (λ v. reverse v.list.items) (waiting ∙ three.waiting) ∙ waits)) ends_with.3,
-      );
-    }
+    value-added s last new p.state ends_with.0 ends_with.1 own p.front bytes from false false read written p.from_is shown (λ e. absurd (false≢true e)) text candidates
+    scope (ap (λ v. reverse v.list.items) (waiting ∙ three.waiting) ∙ waits) (λ e. absurd (false≢true e))
+    (subst (λ k. Comes s ends_with.0 (tree own true) k (with_candidate ends_with.1 own p.state)) (sym here)
+    (ends_with.2 number popped_.at digit last.at is ending middle told)) ends_with.3
 
 -- ## The type
 
@@ -815,25 +683,11 @@ type-within s old pushed read last new from awaits one p n is prints two digit t
     let written : last.text.list.items ≡ a.front ++ bytes =
     whole.text ∙ ap (λ l. old.text.list.items ++ l) (append-nil (codes "::" ++ n)) ∙ sym (append_assoc old.text.list.items (codes "::") n)
     ∙ ap (λ l. l ++ codes "::" ++ n) old_written ∙ behind-three a.front a.bytes (codes "::") n in
-    let st = with_candidate w.1 t a.state in
     let shown = local-prints a.e a.bytes a.encloses p n prints digit in
     let kept = keeps-read s old last (codes "::" ++ n ++ []) a.state.candidates whole
     (keeps-same s (record old { at = awaits.before }) old a.state.candidates refl refl refl a.keeps) in
     let named_ = subst (λ k. IsPieceAt s k p read.at) (one.at ∙ awaits.at_is) is in
-    record {
-      state = st;
-      scope = a.scope;
-      keeps = keeps-with s last new a.state a.front bytes from t w.1 false false kept written a.from_is shown (λ e. absurd (false≢true e)) text candidates scope;
-      is_before = (
-        w.0,
-        t,
-        a.front,
-        bytes,
-        ap (λ v. v.list.items) text ∙ written,
-        shown,
-        (λ e. absurd (false≢true e)),
-        subst (λ k. Comes s w.0 (tree t true) k st) (sym here)
-            (entity.onward p read.at a.state (named_ entity.inner entity.around a.e a.state entity.awaits) digit last.at told),
-        subst (λ v. Stands s a.scope (reverse v.list.items) w.0 a.front) (sym (waiting ∙ whole.waiting)) w.3,
-      );
-    }
+    value-added s last new a.state w.0 w.1 t a.front bytes from false false kept written a.from_is shown (λ e. absurd (false≢true e)) text candidates scope
+    (ap (λ v. reverse v.list.items) (waiting ∙ whole.waiting)) (λ e. absurd (false≢true e))
+    (subst (λ k. Comes s w.0 (tree t true) k (with_candidate w.1 t a.state)) (sym here)
+    (entity.onward p read.at a.state (named_ entity.inner entity.around a.e a.state entity.awaits) digit last.at told)) w.3

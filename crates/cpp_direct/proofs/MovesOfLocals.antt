@@ -13,7 +13,7 @@ use Rattle.cpp_grammar.specs.declared.production.Production.{Production}
 use Rattle.cpp_grammar.specs.Grammar.{in_ranges, among, is_in, pick, number_of_kind, alternatives, choose, parts_of, is_chain, may_be_empty}
 use Rattle.cpp_grammar.specs.Table.{rule_of, padded}
 use Rattle.cpp_grammar.specs.Term.{Term, source, within, lambda, builtin, nil}
-use Rattle.cpp_grammar.specs.Values.{State, Around, outermost, nothing_there, letter, text, tree, piece, tree_of, text_of, is_listed, qualifiers_of, ref_of, local_number, part, is_there, letter_of, piece_of}
+use Rattle.cpp_grammar.specs.Values.{State, Around, outermost, nothing_there, text, tree, piece, tree_of, text_of, is_listed, qualifiers_of, ref_of, local_number, part, is_there, letter_of, piece_of}
 use Rattle.cpp_grammar.specs.References.{with_type}
 use Rattle.cpp_grammar.specs.Between.{between, no_items, after, in_signature, extended, applied, named_so_far}
 use Rattle.cpp_grammar.specs.Meaning.{meaning, parameters, is_void, is_nil, listed_value}
@@ -26,12 +26,11 @@ use Rattle.sym_direct.proofs.Moves as moves
 use Rattle.cpp_direct.specs.HolesOfLocals.{Discriminator, unnumbered, by_digit, by_digits, discriminator_value, IsDiscriminatorAt, IsLambdaDigit, IsPieceAt, LocalOpened, LocalTypeOpened, GuardOpened, lambda_digits, lambda_ending, lambda_with}
 use Rattle.cpp_direct.specs.Bytes.{short_numbers}
 use Rattle.cpp_direct.specs.WriterInvariant.{HasScope, ItemsGoOn, nowhere}
-use Rattle.cpp_direct.proofs.Scopes.{none-known}
+use Rattle.cpp_direct.proofs.Kept.{none-known}
 use Rattle.cpp_direct.proofs.ShortNumbers.{lambda-begins}
 use Rattle.cpp_direct.specs.HolesOfTypes.{IsNamedKind}
-use Rattle.cpp_direct.proofs.MovesOfLists.{digits-fill}
 use Rattle.cpp_direct.proofs.MovesOfTypes.{named-taken}
-use Rattle.cpp_direct.proofs.Moves.{stands-split, kind-at, reads-rule, joins, none-left, opens-where, needs-next, hole, open_at, fill, filled-at, hole-at, eats, leaves, chosen-byte, is_left, byte-opens, chain-opens, byte-fills, next-part, closes, none-fills, fixed-fills, name-fills, number-fills, is_eaten}
+use Rattle.cpp_direct.proofs.Moves.{stands-split, kind-at, reads-rule, joins, none-left, opens-where, needs-next, hole, open_at, fill, filled-at, hole-at, eats, leaves, chosen-byte, is_left, byte-opens, chain-opens, byte-fills, next-part, closes, none-fills, fixed-fills, name-fills, number-fills, is_eaten, digits-fill}
 use Rattle.cpp_direct.proofs.Tables.{empty-by, names-by}
 
 -- ## Discriminators

@@ -14,7 +14,6 @@ use Rattle.cpp_grammar.specs.Texts.{Naming, look_up, builtin_texts, abbreviation
 use Rattle.cpp_grammar.specs.Parts.{source_text}
 use Rattle.cpp_grammar.specs.Values.{State, Around, outermost, tree}
 use Rattle.cpp_grammar.specs.Between.{after, inside, no_items}
-use Rattle.cpp_direct.specs.WrittenParts.{opening_bracket}
 use Rattle.cpp_direct.specs.Symbol.{detail_of, Symbol}
 use Rattle.cpp_direct.specs.Bytes.{is_builtin, is_builtin_with_d, is_abbreviated}
 use Rattle.cpp_direct.specs.Letters.{builtin_letters, builtin_letters_with_d, abbreviation_letters}
@@ -28,15 +27,15 @@ use Rattle.cpp_direct.specs.declared.direct.Direct.{Direct}
 use Rattle.cpp_direct.specs.Holes.{Opened, StandsAt, Comes, Expects, IsTyped, IsReferable, IsNameAt, IsSeqAt, TypeNamed, with_candidate, unless_listed}
 use Rattle.cpp_direct.specs.HolesOfTypes.{NoReference, IsQualifiable, TypeOpens}
 use Rattle.cpp_direct.specs.Prints.{Prints, PrintsAs}
-use Rattle.cpp_direct.specs.WriterInvariant.{IsNaming, IsScoped, IsWriting, Keeps, Marks, Scope, Stands, below}
+use Rattle.cpp_direct.specs.WriterInvariant.{IsScoped, IsWriting, Keeps, Marks, Scope, Stands, below}
 use Rattle.cpp_direct.specs.MidStep.{AwaitsType, AwaitsNamedType, AwaitsNest, IsNamedAgain, IsTypeNamed, AwaitsMark}
 use Rattle.cpp_direct.specs.Written.{Reads, Writes, added, added_unless}
 use Rattle.cpp_direct.proofs.Unmarked.{name-unmarked}
 use Rattle.cpp_direct.proofs.Scopes.{scoped-inside}
-use Rattle.cpp_direct.proofs.Kept.{arguments-begun, candidate-found, keeps-as, keeps-grown, keeps-read, keeps-same, keeps-with, last-reversed, piece-found, reverse-last, stands-same}
+use Rattle.cpp_direct.proofs.Kept.{candidate-found, keeps-as, keeps-grown, keeps-read, keeps-same, keeps-with, last-reversed, piece-found, reverse-last, stands-same, type-comes, value-added, value-comes, Lists, OpensArguments, list-begins}
 use Rattle.cpp_direct.proofs.Moves.{expects-empty, stands-join}
 use Rattle.cpp_direct.proofs.MovesOfLists.{arguments-open}
-use Rattle.cpp_direct.proofs.MovesOfTypes.{solid-opens, builtin-comes, builtin-with-d-comes, pointer-opens, lvalue-opens, rvalue-opens, const-opens, source-opens, std-opens, abbreviation-opens, substitution-opens, nested-type-opens}
+use Rattle.cpp_direct.proofs.MovesOfTypes.{solid-opens, builtin-comes, builtin-with-d-comes, pointer-opens, lvalue-opens, rvalue-opens, const-opens, source-opens, std-opens, abbreviation-opens, substitution-opens, substituted-so, nested-type-opens}
 use Rattle.cpp_direct.proofs.LettersTested.{each_passes, tested, is_filled, filled}
 use Rattle.cpp_direct.proofs.PrintedNames.{source-prints, std-prints, abbreviation-prints, builtin-prints, builtin-with-d-prints}
 
@@ -78,24 +77,9 @@ pub mark-answer : (s : Symbol) (old mid new : Direct) (mark : List ℕ) (from : 
 mark-answer s old mid new mark from r d a waits text candidates scope at more same_text same_waits same_scope same_at =
     let marked : mid.text.list.items ≡ a.front ++ (a.bytes ++ mark) = text ∙ ap (λ l. l ++ mark) a.written ∙ append_assoc a.front a.bytes mark in
     let open_is : reverse new.waiting.list.items ≡ a.rest = ap (λ v. reverse v.list.items) same_waits ∙ waits in
-    let state : State = with_candidate a.made_in a.made a.state in
-    record {
-      state = state;
-      scope = a.scope;
-      keeps = keeps-with s mid new a.state a.front (a.bytes ++ mark) from a.made a.made_in r d
-          (keeps-grown s old mid mark a.state.candidates text candidates scope a.keeps) marked a.from_is a.prints a.made_here same_text more same_scope;
-      is_before = (
-        a.outer,
-        a.made,
-        a.front,
-        a.bytes ++ mark,
-        ap (λ v. v.list.items) same_text ∙ marked,
-        a.prints,
-        λ e. subst (λ ws. IsNaming s a.scope ws) (sym open_is) (a.naming e),
-        subst (λ k. Comes s a.outer (tree a.made true) k state) (sym (same_at ∙ at)) a.comes,
-        subst (λ l. Stands s a.scope l a.outer a.front) (sym open_is) a.stands,
-      );
-    }
+    value-added s mid new a.state a.outer a.made_in a.made a.front (a.bytes ++ mark) from r d
+    (keeps-grown s old mid mark a.state.candidates text candidates scope a.keeps) marked a.from_is a.prints a.made_here same_text more same_scope open_is a.naming
+    (subst (λ k. Comes s a.outer (tree a.made true) k (with_candidate a.made_in a.made a.state)) (sym (same_at ∙ at)) a.comes) a.stands
 
 -- ## Names of types
 
@@ -115,83 +99,46 @@ pub bare-done : (s : Symbol) (old new : Direct) (from : ℕ) (listed r : Bool) �
 unfolding may_be_empty
 bare-done s old new from listed r a waits text candidates scope at =
     let state : State = unless_listed listed a.around a.own a.state in
-    record {
-      state = state;
-      scope = a.scope;
-      keeps = named-keeps s old new from listed r a text candidates scope;
-      is_before = (
-        a.outer,
-        a.own,
-        a.front,
-        a.bytes,
-        ap (λ v. v.list.items) text ∙ a.written,
-        a.prints,
-        λ e. absurd (false≢true e),
-        subst (λ k. Comes s a.outer (tree a.own true) k state) (sym at) (a.named.bare old.at a.state a.prints.no_function
-            (expects-empty s Kind.ArgumentsAlone (after a.own listed a.around) a.named.inner old.at a.state a.named.awaits refl)),
-        subst (λ v. Stands s a.scope (reverse v.list.items) a.outer a.front) (sym waits) a.stands,
-      );
-    }
+    value-comes s new state a.outer a.own a.front a.bytes r false (named-keeps s old new from listed r a text candidates scope)
+    (ap (λ v. v.list.items) text ∙ a.written) a.prints (ap (λ v. reverse v.list.items) waits) (λ e. absurd (false≢true e))
+    (subst (λ k. Comes s a.outer (tree a.own true) k state) (sym at) (a.named.bare old.at a.state a.prints.no_function
+    (expects-empty s Kind.ArgumentsAlone (after a.own listed a.around) a.named.inner old.at a.state a.named.awaits refl))) a.stands
 
 -- and arguments do
-argued-done : (s : Symbol) (old mid new : Direct) (from : ℕ) (listed : Bool) → IsTypeNamed s old from listed false → StandsAt s.bytes old.at (73 ∷ [])
-    → mid.candidates.list.items ≡ added_unless old listed from false → mid.text ≡ old.text → mid.waiting ≡ old.waiting → mid.has_scope ≡ old.has_scope
-    → mid.at ≡ old.at → new.waiting.list.items ≡ mid.waiting.list.items ++ opens.TypeArguments from false ∷ []
-    → new.text.list.items ≡ mid.text.list.items ++ opening_bracket (detail_of s) → new.candidates ≡ mid.candidates → new.has_scope ≡ mid.has_scope
-    → new.at ≡ mid.at + 1 → IsWriting s new (steps.List true)
+pub argued-done : (s : Symbol) (old mid new : Direct) (from : ℕ) (listed r : Bool) → IsTypeNamed s old from listed r → r ≡ false → StandsAt s.bytes mid.at (73 ∷ [])
+    → Lists old mid (added_unless old listed from false) → OpensArguments (detail_of s) mid new (opens.TypeArguments from false) → IsWriting s new (steps.List true)
 unfolding inside
-argued-done s old mid new from listed a stands mid_candidates mid_text mid_waits mid_scope mid_at waits text candidates scope at =
-    let state : State = unless_listed listed a.around a.own a.state in
-    let opened : Open = opens.TypeArguments from false in
-    let o = arguments-open s a.named.inner a.around a.own listed old.at a.state a.named.awaits stands in
-    record {
-      state = state;
-      scope = a.scope;
-      keeps = keeps-grown s mid new (opening_bracket (detail_of s)) state.candidates text candidates scope
-          (named-keeps s old mid from listed false a mid_text mid_candidates mid_scope);
-      is_before = arguments-begun s new state opened (reverse old.waiting.list.items) a.front a.bytes a.own
-          (ap reverse waits ∙ reverse-last mid.waiting.list.items opened ∙ ap (λ v. opened ∷ reverse v.list.items) mid_waits) (a.from_is, a.prints)
-          (text ∙ ap (λ v. v.list.items ++ opening_bracket (detail_of s)) mid_text ∙ ap (λ l. l ++ opening_bracket (detail_of s)) a.written) (
-            inside a.around,
-            o.inner,
-            refl,
-            λ within. scoped-inside a.scope a.around (reverse old.waiting.list.items) a.scoped,
-            subst (λ k. Expects s Kind.ArgumentList (inside a.around) o.inner k state) (sym (at ∙ ap (λ k. k + 1) mid_at)) o.awaits,
-            λ l here now comes ended. (
-              a.outer,
-              a.around,
-              a.named.argued (no_items l) (here + 1) now (o.onward l here now comes ended),
-              a.scoped,
-              λ e. absurd (false≢true e),
-              a.stands,
-            ),
-          );
-    }
-
--- the same, if the calls give something
-pub argued-answer : (s : Symbol) (old mid new : Direct) (from : ℕ) (listed r : Bool) (o : Option Step) → IsTypeNamed s old from listed r → r ≡ false
-    → mid.candidates.list.items ≡ added_unless old listed from false → mid.text ≡ old.text → mid.waiting ≡ old.waiting → mid.has_scope ≡ old.has_scope
-    → mid.at ≡ old.at → StandsAt s.bytes mid.at (73 ∷ []) → IfSome o (λ next. next ≡ steps.List true)
-    → OnSome o (new.waiting.list.items ≡ mid.waiting.list.items ++ opens.TypeArguments from false ∷ []) → OnSome o (new.at ≡ mid.at + 1)
-    → OnSome o (new.text.list.items ≡ mid.text.list.items ++ opening_bracket (detail_of s)) → OnSome o (new.candidates ≡ mid.candidates)
-    → OnSome o (new.has_scope ≡ mid.has_scope) → IfSome o (IsWriting s new)
-argued-answer s old mid new from listed r o a none candidates text waits scope at stands is new_waits new_at new_text new_candidates new_scope =
-    by-step o (steps.List true) (IsWriting s new) is
-    (λ e. argued-done s old mid new from listed (subst (λ b. IsTypeNamed s old from listed b) none a) (subst (λ k. StandsAt s.bytes k (73 ∷ [])) at stands)
-    candidates text waits scope at (given _ o (steps.List true) e new_waits) (given _ o (steps.List true) e new_text)
-    (given _ o (steps.List true) e new_candidates) (given _ o (steps.List true) e new_scope) (given _ o (steps.List true) e new_at))
+argued-done s old mid new from listed r named none stands lists opening_ =
+    let a = subst (λ b. IsTypeNamed s old from listed b) none named in
+    let o = arguments-open s a.named.inner a.around a.own listed old.at a.state a.named.awaits (subst (λ n. StandsAt s.bytes n (73 ∷ [])) lists.at stands) in
+    list-begins s a.scope old mid new (added_unless old listed from false) (unless_listed listed a.around a.own a.state) (opens.TypeArguments from false) a.front a.bytes
+    a.own lists opening_ (named-keeps s old mid from listed false a lists.text lists.candidates lists.scope) (a.from_is, a.prints) a.written (
+      inside a.around,
+      o.inner,
+      refl,
+      (λ within. scoped-inside a.scope a.around (reverse old.waiting.list.items) a.scoped),
+      o.awaits,
+      (λ l here now comes ended. (
+        a.outer,
+        a.around,
+        a.named.argued (no_items l) (here + 1) now (o.onward l here now comes ended),
+        a.scoped,
+        λ e. absurd (false≢true e),
+        a.stands,
+      )),
+    )
 
 -- ## Letters of tables
 
-code_in : List ℕ → List ℕ → Bool
+unfoldable pub code_in : List ℕ → List ℕ → Bool
 code_in (c ∷ []) cs = among cs c
 code_in _ cs = true
 
-codes_in : List Naming → List ℕ → Bool
+unfoldable pub codes_in : List Naming → List ℕ → Bool
 codes_in [] cs = true
 codes_in (n ∷ rest) cs = code_in n.code cs && codes_in rest cs
 
-letter-listed : (table : List Naming) (cs : List ℕ) (letter : ℕ) → codes_in table cs ≡ true → look_up (letter ∷ []) table ≢ []
+pub letter-listed : (table : List Naming) (cs : List ℕ) (letter : ℕ) → codes_in table cs ≡ true → look_up (letter ∷ []) table ≢ []
     → among cs letter ≡ true
 unfolding look_up same_bytes code_in codes_in
 letter-listed [] cs letter all has = absurd (has refl)
@@ -255,37 +202,31 @@ expected-as s {scope = scope} w st keeps kind typed referable os around outside 
   scoped = scoped;
 }
 
+-- where a type is, it may have a qualifier
+pub whole-awaited : (s : Symbol) (w : Direct) → IsWriting s w steps.Type → (a : AwaitsType s w) × IsQualifiable a.kind
+unfolding expected-as
+whole-awaited s w p = elim p.is_before.3 [
+  | inl awaits ↦ (expected-as s w p.state p.keeps Kind.Type tt (inl tt) p.is_before.0 p.is_before.1 p.is_before.2 awaits p.is_before.4 p.is_before.5, tt)
+  | inr (inl awaits) ↦ (expected-as s w p.state p.keeps Kind.Item tt (inl tt) p.is_before.0 p.is_before.1 p.is_before.2 awaits p.is_before.4 p.is_before.5, tt)
+  | inr (inr awaits) ↦ (
+    expected-as s w p.state p.keeps Kind.ItemButRef tt (inr awaits.1) p.is_before.0 p.is_before.1 p.is_before.2 awaits.0 p.is_before.4 p.is_before.5,
+    tt,
+  )
+]
+
 -- what is expected where a type is
 pub awaits-type : (s : Symbol) (w : Direct) (is_plain : Bool) → IsWriting s w (if is_plain then steps.Plain else steps.Type) → AwaitsType s w
 awaits-type s w true p =
     expected-as s w p.state p.keeps Kind.Plain tt (inl tt) p.is_before.0 p.is_before.1 p.is_before.2 p.is_before.3 p.is_before.4 p.is_before.5
-awaits-type s w false p = elim p.is_before.3 [
-  | inl awaits ↦ expected-as s w p.state p.keeps Kind.Type tt (inl tt) p.is_before.0 p.is_before.1 p.is_before.2 awaits p.is_before.4 p.is_before.5
-  | inr (inl awaits) ↦ expected-as s w p.state p.keeps Kind.Item tt (inl tt) p.is_before.0 p.is_before.1 p.is_before.2 awaits p.is_before.4 p.is_before.5
-  | inr (inr awaits) ↦
-      expected-as s w p.state p.keeps Kind.ItemButRef tt (inr awaits.1) p.is_before.0 p.is_before.1 p.is_before.2 awaits.0 p.is_before.4 p.is_before.5
-]
+awaits-type s w false p = (whole-awaited s w p).0
 
 -- a type is read that is no candidate
 value-done : (s : Symbol) (old new : Direct) (a : AwaitsType s old) (t : Term) (bytes : List ℕ) → Prints (detail_of s) t bytes false
     → new.text.list.items ≡ old.text.list.items ++ bytes → new.candidates ≡ old.candidates → new.waiting ≡ old.waiting → new.has_scope ≡ old.has_scope
     → Comes s a.os (tree t true) new.at a.state → IsWriting s new (steps.Value false false)
-value-done s old new a t bytes prints text candidates waits scope comes = record {
-  state = a.state;
-  scope = a.scope;
-  keeps = keeps-grown s old new bytes a.state.candidates text candidates scope a.keeps;
-  is_before = (
-    a.os,
-    t,
-    old.text.list.items,
-    bytes,
-    text,
-    prints,
-    λ e. absurd (false≢true e),
-    comes,
-    subst (λ v. Stands s a.scope (reverse v.list.items) a.os old.text.list.items) (sym waits) a.stands,
-  );
-}
+value-done s old new a t bytes prints text candidates waits scope comes =
+    value-comes s new a.state a.os t old.text.list.items bytes false false (keeps-grown s old new bytes a.state.candidates text candidates scope a.keeps) text prints
+    (ap (λ v. reverse v.list.items) waits) (λ e. absurd (false≢true e)) comes a.stands
 
 -- a builtin type is read
 pub builtin-done : (s : Symbol) (old new : Direct) (letter : ℕ) → AwaitsType s old → (letter ≢ 0 → StandsAt s.bytes old.at (letter ∷ []))
@@ -398,14 +339,6 @@ abbreviation-named s old new from letter a s_stands stands has text candidates w
     (stands-join s.bytes old.at (83 ∷ []) (letter ∷ []) s_stands (stands (no-abbreviation letter is)))))
     text begins (abbreviation-prints letter has) (λ e. refl) waits
 
--- where a substitution's text is
-pub substitution-stands : (s : Symbol) (old : Direct) (n : ℕ) (k : Candidate) → AwaitsNamedType s old → k.from ≤ k.to → slice_get old.candidates.list.items n ≡ Some k
-    → (k.from ≤ k.to) × (k.to ≤ length old.text.list.items)
-substitution-stands s old n k a ordered found =
-    let c = candidate-found old.text.list.items old.candidates.list.items a.state.candidates n k a.keeps.candidates ordered found in
-    let piece = piece-found old.text.list.items c.2.front c.2.bytes c.2.back k.from k.to c.2.written c.2.from_is c.2.to_is in
-    (piece.0, piece.1)
-
 -- a substitution
 pub substitution-named : (s : Symbol) (old mid new : Direct) (n from : ℕ) (digits : List ℕ) (k : Candidate) → AwaitsNamedType s old → StandsAt s.bytes old.at (83 ∷ [])
     → IsSeqAt s.bytes (old.at + 1) digits mid.at → k.from ≤ k.to → slice_get old.candidates.list.items (counted_value Seq36 digits) ≡ Some k
@@ -420,7 +353,8 @@ substitution-named s old mid new n from digits k a stands is ordered found reads
     let prints = subst (λ b. PrintsAs (detail_of s) a.scope.names b c.0.tree c.2.bytes k.is_reference) plain c.2.prints in
     named-from s old new from true k.is_reference a c.0.tree c.2.bytes
     (keeps-grown s old new c.2.bytes a.state.candidates written (writes.candidates ∙ reads.candidates) (writes.scope ∙ reads.scope) a.keeps)
-    (substitution-opens s a.kind a.around a.os old.at a.state digits new.at c.0 a.is_named c.1 prints.is_closed prints.packless a.begins stands
+    (substitution-opens s a.kind a.around a.os old.at a.state digits new.at c.0 a.is_named c.1
+    (λ place. substituted-so a.around place c.0 a.state prints.is_closed prints.packless) a.begins stands
     (subst (λ n. IsSeqAt s.bytes (old.at + 1) digits n) (sym writes.at) is))
     written begins prints (λ e. absurd (false≢true (sym e))) (writes.waiting ∙ reads.waiting)
 
@@ -463,21 +397,10 @@ pub type-opened : (s : Symbol) (old new : Direct) (o : Option Step) (entry : Ope
     → IfSome o (λ next. next ≡ steps.Type) → OnSome o (new.waiting.list.items ≡ old.waiting.list.items ++ entry ∷ []) → OnSome o (new.at ≡ old.at + 1)
     → new.text ≡ old.text → new.candidates ≡ old.candidates → new.has_scope ≡ old.has_scope → IfSome o (IsWriting s new)
 type-opened s old new o entry from made a t begins stands scoped is waits at text candidates scope = by-step o steps.Type (IsWriting s new) is (λ e.
-    let open_is : reverse new.waiting.list.items ≡ entry ∷ reverse old.waiting.list.items
-    = ap reverse (given _ o steps.Type e waits) ∙ reverse-last old.waiting.list.items entry in
-    record {
-      state = a.state;
-      scope = a.scope;
-      keeps = keeps-same s old new a.state.candidates text candidates scope a.keeps;
-      is_before = (
-        t.inner,
-        a.around,
-        a.outside,
-        inl (subst (λ k. Expects s Kind.Type a.around t.inner k a.state) (sym (given _ o steps.Type e at)) t.awaits),
-        stands-same s a.scope old new t.inner text open_is (stands (a.os, a.around, begins, t.passes, a.scoped, a.stands)),
-        subst (λ l. IsScoped a.scope a.around l) (sym open_is) scoped,
-      );
-    })
+    type-comes s old new a.state a.around t.inner a.keeps text candidates scope
+    (ap reverse (given _ o steps.Type e waits) ∙ reverse-last old.waiting.list.items entry) a.outside
+    (inl (subst (λ k. Expects s Kind.Type a.around t.inner k a.state) (sym (given _ o steps.Type e at)) t.awaits))
+    (stands (a.os, a.around, begins, t.passes, a.scoped, a.stands)) scoped)
 
 -- after a P
 pub pointer-opened : (s : Symbol) (old new : Direct) (o : Option Step) (from : ℕ) → AwaitsType s old → from ≡ length old.text.list.items
@@ -492,26 +415,18 @@ pub lvalue-opened : (s : Symbol) (old new : Direct) (o : Option Step) (from : �
     → StandsAt s.bytes old.at (82 ∷ []) → IfSome o (λ next. next ≡ steps.Type) → OnSome o (new.waiting.list.items ≡ old.waiting.list.items ++ opens.Lvalue from ∷ [])
     → OnSome o (new.at ≡ old.at + 1) → new.text ≡ old.text → new.candidates ≡ old.candidates → new.has_scope ≡ old.has_scope → IfSome o (IsWriting s new)
 lvalue-opened s old new o from a begins stands is waits at text candidates scope =
-    go a.referable
-  where
-    go : IsReferable a.kind ⊎ NoReference s.bytes old.at → IfSome o (IsWriting s new)
-    go (inr none) = absurd (none.0 stands)
-    go (inl referable) =
-        type-opened s old new o (opens.Lvalue from) from lvalue a (lvalue-opens s a.kind a.around a.os old.at a.state referable a.awaits stands) begins
-        (λ m. m) a.scoped is waits at text candidates scope
+    let referable : IsReferable a.kind = elim a.referable [ inl may ↦ may | inr none ↦ absurd (none.0 stands) ] in
+    type-opened s old new o (opens.Lvalue from) from lvalue a (lvalue-opens s a.kind a.around a.os old.at a.state referable a.awaits stands) begins
+    (λ m. m) a.scoped is waits at text candidates scope
 
 -- and after an O
 pub rvalue-opened : (s : Symbol) (old new : Direct) (o : Option Step) (from : ℕ) → AwaitsType s old → from ≡ length old.text.list.items
     → StandsAt s.bytes old.at (79 ∷ []) → IfSome o (λ next. next ≡ steps.Type) → OnSome o (new.waiting.list.items ≡ old.waiting.list.items ++ opens.Rvalue from ∷ [])
     → OnSome o (new.at ≡ old.at + 1) → new.text ≡ old.text → new.candidates ≡ old.candidates → new.has_scope ≡ old.has_scope → IfSome o (IsWriting s new)
 rvalue-opened s old new o from a begins stands is waits at text candidates scope =
-    go a.referable
-  where
-    go : IsReferable a.kind ⊎ NoReference s.bytes old.at → IfSome o (IsWriting s new)
-    go (inr none) = absurd (none.1 stands)
-    go (inl referable) =
-        type-opened s old new o (opens.Rvalue from) from rvalue a (rvalue-opens s a.kind a.around a.os old.at a.state referable a.awaits stands) begins
-        (λ m. m) a.scoped is waits at text candidates scope
+    let referable : IsReferable a.kind = elim a.referable [ inl may ↦ may | inr none ↦ absurd (none.1 stands) ] in
+    type-opened s old new o (opens.Rvalue from) from rvalue a (rvalue-opens s a.kind a.around a.os old.at a.state referable a.awaits stands) begins
+    (λ m. m) a.scoped is waits at text candidates scope
 
 -- a plain type is expected, where one with a qualifier may be
 plain-opened : (s : Symbol) (old new : Direct) (o : Option Step) (from : ℕ) (a : AwaitsType s old) → IsQualifiable a.kind
@@ -542,21 +457,10 @@ pub const-opened : (s : Symbol) (old new : Direct) (o : Option Step) (from : ℕ
     → IsWriting s old (if is_plain then steps.Plain else steps.Type) → is_plain ≡ false → from ≡ length old.text.list.items
     → StandsAt s.bytes old.at (75 ∷ []) → IfSome o (λ next. next ≡ steps.Plain) → OnSome o (new.waiting.list.items ≡ old.waiting.list.items ++ opens.Const from ∷ [])
     → OnSome o (new.at ≡ old.at + 1) → new.text ≡ old.text → new.candidates ≡ old.candidates → new.has_scope ≡ old.has_scope → IfSome o (IsWriting s new)
-unfolding expected-as
 const-opened s old new o from true p plain begins stands is waits at text candidates scope = absurd (false≢true (sym plain))
-const-opened s old new o from false p plain begins stands is waits at text candidates scope = go p.is_before.3
-  where
-    go : Expects s Kind.Type p.is_before.1 p.is_before.0 old.at p.state ⊎ Expects s Kind.Item p.is_before.1 p.is_before.0 old.at p.state
-        ⊎ (Expects s Kind.ItemButRef p.is_before.1 p.is_before.0 old.at p.state × NoReference s.bytes old.at) → IfSome o (IsWriting s new)
-    go (inl awaits) = plain-opened s old new o from
-        (expected-as s old p.state p.keeps Kind.Type tt (inl tt) p.is_before.0 p.is_before.1 p.is_before.2 awaits p.is_before.4 p.is_before.5)
-        tt begins stands is waits at text candidates scope
-    go (inr (inl awaits)) = plain-opened s old new o from
-        (expected-as s old p.state p.keeps Kind.Item tt (inl tt) p.is_before.0 p.is_before.1 p.is_before.2 awaits p.is_before.4 p.is_before.5)
-        tt begins stands is waits at text candidates scope
-    go (inr (inr awaits)) = plain-opened s old new o from
-        (expected-as s old p.state p.keeps Kind.ItemButRef tt (inr awaits.1) p.is_before.0 p.is_before.1 p.is_before.2 awaits.0 p.is_before.4 p.is_before.5)
-        tt begins stands is waits at text candidates scope
+const-opened s old new o from false p plain begins stands is waits at text candidates scope =
+    let whole = whole-awaited s old p in
+    plain-opened s old new o from whole.0 whole.1 begins stands is waits at text candidates scope
 
 -- a nested name is expected after an N
 pub nest-awaited : (s : Symbol) (old : Direct) (n : ℕ) → AwaitsNamedType s old → n ≡ old.at + 1 → StandsAt s.bytes old.at (78 ∷ [])

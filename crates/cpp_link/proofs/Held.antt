@@ -1,6 +1,6 @@
 -- What is done with a name with its M, and with numbers of candidates, is what the wide reading says.
 use Rattle.std.proofs.Common.{◌≡◌, refl, sym, ◌∙◌, ap, subst, arith, ℕ, ◌-◌, List, [], ◌∷◌, ◌++◌, ◌+◌, ◌<◌, ◌≤◌, length, drop, Bool, true, false, not, ◌||◌, Option, Some, None, Result, Ok, Err, slice_get}
-use Rattle.std.proofs.lemmas.List.{take-append-drop}
+use Rattle.std.proofs.lemmas.List.{length-drop, take-append-drop}
 use Rattle.std.proofs.lemmas.Bool.{true≢false, false≢true}
 use Rattle.sym_core.specs.declared.refusal.Refusal.{Refusal}
 use Rattle.sym_core.specs.declared.refusal.Refusal.TheVariants.{BadReference}
@@ -47,10 +47,17 @@ holder_alone Production.Holder is = refl
 holder_alone _ is = absurd (false≢true is)
 
 -- its step makes a node
-pub holder_step : (p : Production) (name : ℕ) (packs : Option ℕ) → is_holder p ≡ true → IsStepOf p 1 (Step.Made (Node.Holder name) true true false packs)
+holder_step : (p : Production) (name : ℕ) (packs : Option ℕ) → is_holder p ≡ true → IsStepOf p 1 (Step.Made (Node.Holder name) true true false packs)
 unfolding is_holder made_before
 holder_step Production.Holder name packs is = (omega arith, refl)
 holder_step _ name packs is = absurd (false≢true is)
+
+-- the step before the second part of the frame's rule
+pub held_step : (frame : Frame Surroundings) (parts : List Part) (name : ℕ) (packs : Option ℕ) → is_holder (production_at frame.rule) ≡ true → length parts ≡ frame.base + 1
+    → IsStepOf (production_at frame.rule) (length (drop frame.base parts)) (Step.Made (Node.Holder name) true true false packs)
+held_step frame parts name packs is second =
+    let one : length (drop frame.base parts) ≡ 1 = omega (arith, length-drop frame.base parts, second) in
+    subst (λ n. IsStepOf (production_at frame.rule) n (Step.Made (Node.Holder name) true true false packs)) (sym one) (holder_step (production_at frame.rule) name packs is)
 
 pub holder_makes : (p : Production) (known : List Value) → is_holder p ≡ true → length known ≡ 1 → 1 ≡ makes_before p known
 unfolding is_holder makes_before made_before

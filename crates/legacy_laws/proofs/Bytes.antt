@@ -9,6 +9,7 @@ use Rattle.sym_core.specs.Token.{Token, is_name_byte, AreNameBytes, IsSeparator}
 use Rattle.sym_core.specs.Value.{value_of}
 use Rattle.sym_core.specs.declared.NameClass.TheVariants.{Cpp}
 use Rattle.sym_core.specs.declared.NumberKind.TheVariants.{Length}
+use Rattle.cpp_grammar.specs.Grammar.{among}
 use Rattle.rust_legacy.specs.Path.{Name, begins_with, is_legacy_byte, is_suffix, name_in}
 use Rattle.rust_legacy.proofs.Digits.{digits-front}
 use Rattle.cpp_direct.specs.Holes.{IsNameAt, StandsAt}
@@ -148,7 +149,7 @@ front_here s is =
     ((78 ∷ rest.0, rest.1), (rest.0, ap (drop 2) rest.1))
 
 suffix_byte : (b : ℕ) → is_legacy_byte b ≡ true → is_suffix_byte b ≡ true
-unfolding is_suffix_byte
+unfolding is_suffix_byte among
 suffix_byte b is = grind (arith, nat_tests, is)
 
 suffix_bytes : (xs : List ℕ) → list_all is_legacy_byte xs ≡ true → AllByRecursion (λ c. is_suffix_byte c ≡ true) xs

@@ -1,6 +1,5 @@
 use Rattle.std.proofs.Common.{◌≡◌, refl, sym, ◌∙◌, ap, subst, arith, ◌-◌, Bool, List, [], ◌∷◌, length, take, drop}
 use Rattle.std.proofs.lemmas.List.{length-drop}
-use Rattle.std.proofs.lemmas.Result.{err_from_is_err_and}
 use Rattle.sym_link.proofs.Lists.{rest_all}
 use Rattle.sym_core.specs.Value.{counted_value}
 use Rattle.sym_core.specs.declared.NumberKind.TheVariants.{Decimal}
@@ -8,10 +7,10 @@ use Rattle.cpp_grammar.specs.Unfolding.{production_at}
 use Rattle.cpp_term.specs.Values.{Candidate, Value, part, text_of}
 use Rattle.cpp_tree.specs.Nodes.{bytes_at}
 use Rattle.cpp_link.specs.Parts.{trees_in, values_in, around_of}
-use Rattle.cpp_link.specs.LinkRescoping.{is_parameter_argument, generic_read}
+use Rattle.cpp_link.specs.LinkRescoping.{is_parameter_argument, generic_read, wide_view}
 use Rattle.cpp_link.specs.Reads.{goes_on}
 use Rattle.cpp_link.specs.Stepping.{IsStepOf}
-use Rattle.cpp_link.proofs.GoingOn.{adds_right, steps_few, refused_few}
+use Rattle.cpp_link.proofs.GoingOn.{refused_few, lacking_advances, taken_advances}
 use Rattle.cpp_link.proofs.Places.{values_length}
 use Rattle.cpp_link.proofs.Rescoped.{generic_is, wide_goes_right, no_pack}
 use Rattle.cpp_link.proofs.Viewing.{open_there}
@@ -30,8 +29,21 @@ take_step-requires-clause-of c =
 pub take_step-requires-clause-parts : goal.take_step-requires-clause-parts
 take_step-requires-clause-parts c = open_there c.args.symbol.now c.args.self.now c.args.frame.now c.args.parts.now.items (drop c.args.frame.now.base c.args.parts.now.items) c.requires.open refl
 
-pub returns-clause-goes : goal.returns-clause-goes
-returns-clause-goes c =
+pub returns-in_err-then : goal.returns-in_err-then
+returns-in_err-then c =
+    let s = c.args.symbol.now in
+    let frame = c.args.frame.now in
+    let one : length (drop frame.base c.args.parts.now.items) ≡ 1 = omega (arith, length-drop frame.base c.args.parts.now.items, c.requires.second) in
+    let of = subst (λ n. IsStepOf (production_at frame.rule) n c.generic-step.result) (sym one) (c.generic-step.ensures.of (production_at frame.rule) c.requires.parameter) in
+    let had = lacking_advances (wide_view s) s c.args.self.now c.take_step.new.self frame c.args.parts.now c.take_step.new.parts c.take_step.ensures.keeps c.take_step.ensures.capacity c.from_residual.result _ c.from_residual.ensures.1
+    c.in_err-then.ensures.memory
+    (refused_few s c.args.self.now c.take_step.new.self frame c.args.parts.now.items c.requires.room.paid
+    (c.in_err-then.ensures.few (production_at frame.rule) of (λ pack none. absurd (no_pack (production_at frame.rule) c.requires.parameter pack))))
+    c.in_err-then.ensures.full in
+    record { goes = had.goes; adds = had.adds; few = had.few; makes = had.makes; pays = had.pays; count = had.count; roomy = had.roomy }
+
+pub returns : goal.returns
+returns c =
     let s = c.args.symbol.now in
     let frame = c.args.frame.now in
     let own = drop frame.base c.args.parts.now.items in
@@ -42,41 +54,13 @@ returns-clause-goes c =
     let Reads : Bool → Value → List Candidate → Type 0 = λ b v cs.
     generic_read b (around_of (trees_in s c.args.self.now.nodes) frame.kept) (counted_value Decimal (bytes_at s c.text-digits.result)) (record { candidates = cs; packs = c.args.self.now.packs })
     ≡ goes_on s c.args.self.now.nodes frame.kept (v ∷ []) cs c.args.self.now.packs c.generic-step.result in
-    wide_goes_right s c.args.self.now c.take_step.new.self frame c.args.parts.now.items c.take_step.new.parts.items c.generic-step.result c.in_ok-then.then
+    let of = subst (λ n. IsStepOf (production_at frame.rule) n c.generic-step.result) (sym one) (c.generic-step.ensures.of (production_at frame.rule) c.requires.parameter) in
+    let had = taken_advances (wide_view s) s c.args.self.now c.take_step.new.self frame c.args.parts.now c.take_step.new.parts c.take_step.ensures.keeps c.take_step.ensures.capacity c.generic-step.result c.in_ok-then.then
+    of c.requires.room.paid c.in_ok-then.ensures.takes
+    (c.in_ok-then.ensures.few (production_at frame.rule) of (λ pack none. absurd (no_pack (production_at frame.rule) c.requires.parameter pack))) c.in_ok-then.ensures.more
+    (c.generic-step.ensures.makes (production_at frame.rule) (values_in s c.args.self.now.nodes own) c.requires.parameter (omega (arith, one, values_length s (trees_in s c.args.self.now.nodes) own)))
+    (wide_goes_right s c.args.self.now c.take_step.new.self frame c.args.parts.now.items c.take_step.new.parts.items c.generic-step.result c.in_ok-then.then
     (λ cs. generic_is s c.args.self.now.nodes frame.kept (production_at frame.rule) frame.place own (bytes_at s c.text-digits.result) cs c.args.self.now.packs c.generic-step.result
     c.requires.parameter c.requires.signature one digits (λ v. subst (λ b. Reads b v cs) kind (c.generic-step.ensures.is v cs)))
-    c.in_ok-then.ensures.takes
-
-pub returns-clause-adds : goal.returns-clause-adds
-returns-clause-adds c =
-    let frame = c.args.frame.now in
-    let own = drop frame.base c.args.parts.now.items in
-    let one : length own ≡ 1 = omega (arith, length-drop frame.base c.args.parts.now.items, c.requires.second) in
-    adds_right c.args.symbol.now c.args.self.now c.take_step.new.self frame c.args.parts.now.items c.take_step.new.parts.items own (production_at frame.rule) c.generic-step.result c.in_ok-then.then
-    refl refl c.requires.room.paid (subst (λ n. IsStepOf (production_at frame.rule) n c.generic-step.result) (sym one) (c.generic-step.ensures.of (production_at frame.rule) c.requires.parameter)) c.in_ok-then.ensures.takes
-
-pub returns-in_err-then-clause-few : goal.returns-in_err-then-clause-few
-returns-in_err-then-clause-few c =
-    let p = err_from_is_err_and c.from_residual.result c.from_residual.ensures.1 in
-    let frame = c.args.frame.now in
-    let one : length (drop frame.base c.args.parts.now.items) ≡ 1 = omega (arith, length-drop frame.base c.args.parts.now.items, c.requires.second) in
-    let of = subst (λ n. IsStepOf (production_at frame.rule) n c.generic-step.result) (sym one) (c.generic-step.ensures.of (production_at frame.rule) c.requires.parameter) in
-    rw p.1 (refused_few c.args.symbol.now c.args.self.now c.take_step.new.self frame c.args.parts.now.items c.requires.room.paid
-    (c.in_err-then.ensures.few (production_at frame.rule) of (λ pack none. absurd (no_pack (production_at frame.rule) c.requires.parameter pack))))
-
-pub returns-clause-few : goal.returns-clause-few
-returns-clause-few c =
-    let frame = c.args.frame.now in
-    let one : length (drop frame.base c.args.parts.now.items) ≡ 1 = omega (arith, length-drop frame.base c.args.parts.now.items, c.requires.second) in
-    let of = subst (λ n. IsStepOf (production_at frame.rule) n c.generic-step.result) (sym one) (c.generic-step.ensures.of (production_at frame.rule) c.requires.parameter) in
-    steps_few c.args.symbol.now c.args.self.now c.take_step.new.self frame c.args.parts.now.items c.take_step.new.parts.items c.in_ok-then.then c.requires.room.paid
-    c.in_ok-then.ensures.takes.grows.least (c.in_ok-then.ensures.few (production_at frame.rule) of (λ pack none. absurd (no_pack (production_at frame.rule) c.requires.parameter pack)))
-
-pub returns-clause-makes : goal.returns-clause-makes
-returns-clause-makes c =
-    let s = c.args.symbol.now in
-    let frame = c.args.frame.now in
-    let own = drop frame.base c.args.parts.now.items in
-    let known = values_in s c.args.self.now.nodes own in
-    let one : length known ≡ 1 = omega (arith, values_length s (trees_in s c.args.self.now.nodes) own, length-drop frame.base c.args.parts.now.items, c.requires.second) in
-    omega (arith, c.in_ok-then.ensures.more, c.generic-step.ensures.makes (production_at frame.rule) known c.requires.parameter one)
+    c.in_ok-then.ensures.takes) in
+    record { goes = had.goes; adds = had.adds; few = had.few; makes = had.makes; pays = had.pays; count = had.count; roomy = had.roomy }
